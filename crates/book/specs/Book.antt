@@ -1,0 +1,116 @@
+-- The plain book: n, a sheet, and the pile of earlier sheets; what each call answers, and the book after it.
+--   Link            from, label, to
+--   Sheet           the set of links and the set of locked records, each a list in which every member stands once
+--   Book            n, the sheet as it stands, and the pile of earlier sheets, the latest on top
+--   Edit, Call      add, remove, lock and unlock with any arguments; and undo
+--   present, isLocked
+--                   whether a link is in the sheet, and whether a record is locked
+--   causes n s e    the causes against the edit e of the sheet s, in their order
+--   edited e s      the sheet s with the link or lock put in or taken out
+--   answer b c      the book's answer to a call: 0 if it is accepted, else the number of the first cause
+--   next b c        the book after a call
+--   freshAnswer n   the answer to asking for a register of n records
+--   fresh n         the book at the start
+--   answers b cs, after b cs
+--                   a whole history: the answer to each call, and the book at the end
+-- Assumes nothing: these are definitions.
+use mathlib.Core.List.{List, [], _∷_}
+use mathlib.Core.Bool.{Bool, not, _||_, _&&_}
+use Prim.Native.Nat.{ℕ, zero, suc}
+use lib.ListN.{length, take}
+use lib.Dec.{leb, ltb, eqb}
+use Rattle.book.specs.Basics.{pick, has, without}
+use Rattle.book.specs.Causes.{Cause, bad-size, no-record, bad-label, locked-end, already, missing, full, none-held, number, firstNumber, maxRecords, labels, maxLinks, maxHeld}
+
+pub record Link : Type 0 where
+  pub from : ℕ
+  pub label : ℕ
+  pub to : ℕ
+
+pub record Sheet : Type 0 where
+  pub links : List Link
+  pub locks : List ℕ
+
+pub record Book : Type 0 where
+  pub n : ℕ
+  pub sheet : Sheet
+  pub pile : List Sheet
+
+pub data Edit : Type 0 where
+  add remove : Link → Edit
+  lock unlock : ℕ → Edit
+
+pub data Call : Type 0 where
+  edit : Edit → Call
+  undo : Call
+
+abbrev pub sameLink : Link → Link → Bool
+sameLink j k = eqb (j .from) (k .from) && (eqb (j .label) (k .label) && eqb (j .to) (k .to))
+
+abbrev pub present : Sheet → Link → Bool
+present s k = has sameLink k (s .links)
+
+abbrev pub isLocked : Sheet → ℕ → Bool
+isLocked s r = has eqb r (s .locks)
+
+-- the causes against an edit, each with whether it is there, in the order of 01
+unfoldable pub causes : ℕ → Sheet → Edit → List (Cause × Bool)
+causes n s (add k) =
+    (no-record, leb n (k .from) || leb n (k .to)) ∷
+    (bad-label, leb labels (k .label)) ∷
+    (locked-end, isLocked s (k .from) || isLocked s (k .to)) ∷
+    (already, present s k) ∷
+    (full, leb maxLinks (length (s .links))) ∷ []
+causes n s (remove k) =
+    (no-record, leb n (k .from) || leb n (k .to)) ∷
+    (bad-label, leb labels (k .label)) ∷
+    (locked-end, isLocked s (k .from) || isLocked s (k .to)) ∷
+    (missing, not (present s k)) ∷ []
+causes n s (lock r) = (no-record, leb n r) ∷ (already, isLocked s r) ∷ []
+causes n s (unlock r) = (no-record, leb n r) ∷ (missing, not (isLocked s r)) ∷ []
+
+unfoldable pub editAnswer : ℕ → Sheet → Edit → ℕ
+editAnswer n s e = firstNumber (causes n s e)
+
+unfoldable pub edited : Edit → Sheet → Sheet
+edited (add k) s = record { links = k ∷ s .links; locks = s .locks }
+edited (remove k) s = record { links = without sameLink k (s .links); locks = s .locks }
+edited (lock r) s = record { links = s .links; locks = r ∷ s .locks }
+edited (unlock r) s = record { links = s .links; locks = without eqb r (s .locks) }
+
+-- with the answer 0 the sheet goes on top of the pile, of which the latest 256 are kept, and the edited one takes its place; else nothing changes
+unfoldable pub turned : ℕ → Book → Sheet → Book
+turned zero b s = record { n = b .n; sheet = s; pile = take maxHeld (b .sheet ∷ b .pile) }
+turned (suc k) b s = b
+
+-- undo: 8 with an empty pile; else the top of the pile becomes the sheet
+unfoldable pub undoAnswer : List Sheet → ℕ
+undoAnswer [] = number none-held
+undoAnswer (s ∷ ss) = 0
+
+unfoldable pub undone : Book → List Sheet → Book
+undone b [] = b
+undone b (s ∷ ss) = record { n = b .n; sheet = s; pile = ss }
+
+unfoldable pub answer : Book → Call → ℕ
+answer b (edit e) = editAnswer (b .n) (b .sheet) e
+answer b undo = undoAnswer (b .pile)
+
+unfoldable pub next : Book → Call → Book
+next b (edit e) = turned (editAnswer (b .n) (b .sheet) e) b (edited e (b .sheet))
+next b undo = undone b (b .pile)
+
+-- n is 1 to 1,024
+unfoldable pub freshAnswer : ℕ → ℕ
+freshAnswer n = pick (ltb n 1 || ltb maxRecords n) (number bad-size) 0
+
+unfoldable pub fresh : ℕ → Book
+fresh n = record { n = n; sheet = record { links = []; locks = [] }; pile = [] }
+
+unfoldable pub answers : Book → List Call → List ℕ
+answers b [] = []
+answers b (c ∷ cs) = answer b c ∷ answers (next b c) cs
+
+unfoldable pub after : Book → List Call → Book
+after b [] = b
+after b (c ∷ cs) = after (next b c) cs

@@ -1,0 +1,117 @@
+-- The causes of a refusal, their numbers, and the order in which they are looked for.
+--   Cause           a row of 01's table of causes; the row of number 10 is two, since its two halves stand at different places in an order
+--   number c        the number of a cause
+--   editOrder, questionOrder, treeOrder
+--                   the causes of each kind of call, in the order in which they are looked for
+--   firstNumber cs  of causes, each with whether it is there: the number of the first that is there, or 0 if none is
+--   IsFirst Holds cs k
+--                   the same for causes that are facts: k is the number of the first cause of cs that holds, or 0 if none does
+--   InOrder cs os   the causes cs are some of the order os, in that order
+--   maxRecords, labels, maxLinks, maxHeld, maxBytes, maxLetters, maxDepth
+--                   the limits
+-- Assumes nothing: these are definitions.
+use mathlib.Core.List.{List, [], _∷_}
+use mathlib.Core.Bool.{Bool}
+use Prim.Native.Nat.{ℕ}
+use Rattle.book.specs.Basics.{pick}
+
+pub data Cause : Type 0 where
+  -- n outside 1 to 1,024 (above 64 in the program)
+  bad-size : Cause
+  -- record not below n
+  no-record : Cause
+  -- label above 25
+  bad-label : Cause
+  -- add or remove where either end, or both, is locked
+  locked-end : Cause
+  -- link present already; record locked already
+  already : Cause
+  -- link absent; record not locked
+  missing : Cause
+  -- 4,096 links present at an add
+  full : Cause
+  -- undo with none held
+  none-held : Cause
+  -- expression outside the grammar
+  no-expression : Cause
+  -- expression over 256 bytes
+  too-many-bytes : Cause
+  -- expression over 63 letters or 8 deep
+  too-large : Cause
+  -- lent tree not well formed
+  bad-tree : Cause
+  -- work shorter than stated
+  short-work : Cause
+  -- answer longer than its list
+  short-list : Cause
+  -- frame broken
+  broken-frame : Cause
+  -- kind unknown
+  unknown-kind : Cause
+  -- no register opened
+  not-open : Cause
+
+unfoldable pub number : Cause → ℕ
+number bad-size = 1
+number no-record = 2
+number bad-label = 3
+number locked-end = 4
+number already = 5
+number missing = 6
+number full = 7
+number none-held = 8
+number no-expression = 9
+number too-many-bytes = 10
+number too-large = 10
+number bad-tree = 11
+number short-work = 12
+number short-list = 13
+number broken-frame = 14
+number unknown-kind = 15
+number not-open = 16
+
+-- the orders: edits 2, 3, 4, 5, 6, 7; questions 2, 10 for bytes, 9, 10 for letters and depth, 12, 13; trees 1, 2, 11, 12, 13
+unfoldable pub editOrder : List Cause
+editOrder = no-record ∷ bad-label ∷ locked-end ∷ already ∷ missing ∷ full ∷ []
+
+unfoldable pub questionOrder : List Cause
+questionOrder = no-record ∷ too-many-bytes ∷ no-expression ∷ too-large ∷ short-work ∷ short-list ∷ []
+
+unfoldable pub treeOrder : List Cause
+treeOrder = bad-size ∷ no-record ∷ bad-tree ∷ short-work ∷ short-list ∷ []
+
+unfoldable pub firstNumber : List (Cause × Bool) → ℕ
+firstNumber [] = 0
+firstNumber (c ∷ cs) = pick (c .1) (number (c .0)) (firstNumber cs)
+
+pub data IsFirst (Holds : Cause → Type 0) : List Cause → ℕ → Type 0 where
+  no-cause : IsFirst Holds [] 0
+  this : {c : Cause} {cs : List Cause} → Holds c → IsFirst Holds (c ∷ cs) (number c)
+  later : {c : Cause} {cs : List Cause} {k : ℕ} → (Holds c → ⊥) → IsFirst Holds cs k → IsFirst Holds (c ∷ cs) k
+
+pub data InOrder : List (Cause × Bool) → List Cause → Type 0 where
+  none-left : {os : List Cause} → InOrder [] os
+  same-cause : {c : Cause} {t : Bool} {cs : List (Cause × Bool)} {os : List Cause} → InOrder cs os → InOrder ((c, t) ∷ cs) (c ∷ os)
+  passed-over : {o : Cause} {cs : List (Cause × Bool)} {os : List Cause} → InOrder cs os → InOrder cs (o ∷ os)
+
+-- the limits
+abbrev pub maxRecords : ℕ
+maxRecords = 1024
+
+abbrev pub labels : ℕ
+labels = 26
+
+abbrev pub maxLinks : ℕ
+maxLinks = 4096
+
+abbrev pub maxHeld : ℕ
+maxHeld = 256
+
+abbrev pub maxBytes : ℕ
+maxBytes = 256
+
+abbrev pub maxLetters : ℕ
+maxLetters = 63
+
+abbrev pub maxDepth : ℕ
+maxDepth = 8

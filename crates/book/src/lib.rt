@@ -1,0 +1,1 @@
+// The plain book, as definitions under specs/. No code.

@@ -1,0 +1,5 @@
+pub mod Expressions
+pub mod Grammar
+pub mod Words
+pub mod Chains
+pub mod Relations

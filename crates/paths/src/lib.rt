@@ -1,0 +1,1 @@
+// Expressions, chains and relations, as definitions and laws under specs/. No code.
