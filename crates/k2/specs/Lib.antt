@@ -1,3 +1,4 @@
 pub mod Bits
 pub mod PairSets
 pub mod Trees
+pub mod DigitLaws
