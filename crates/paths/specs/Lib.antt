@@ -3,3 +3,5 @@ pub mod Grammar
 pub mod Words
 pub mod Chains
 pub mod Relations
+pub mod ChainLaws
+pub mod ChainOrder
