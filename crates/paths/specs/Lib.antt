@@ -5,3 +5,4 @@ pub mod Chains
 pub mod Relations
 pub mod ChainLaws
 pub mod ChainOrder
+pub mod Questions

@@ -1,0 +1,85 @@
+-- The answers of the two questions, refusals included, as functions of the book, the text's verdict and the lengths that are lent.
+--   Outcome         refused with a number; the pair words of a pair question; or the reply to a chain question
+--   pairsWork n, chainWork n
+--                   the words of work that a question needs
+--   pairsOf b v     the pairs of a pair question, if the text is an expression
+--   pairsCauses, chainCauses
+--                   the causes against a question, in their order
+--   pairsAnswer b v work room
+--                   the outcome of a pair question with so many words of work and room for so many in the list
+--   ReplyTo g v x y t
+--                   t is the reply to a chain question from x to y, if the text is an expression
+--   chainAnswer b x y v t work room
+--                   the outcome of a chain question to which t is the reply
+--   listAfter o l   what a result list that held l holds then: the answer, and the words past it as they were
+-- Assumes nothing: these are definitions.
+use mathlib.Core.Path.{_≡_}
+use mathlib.Core.List.{List, [], _∷_, _++_}
+use mathlib.Core.Bool.{Bool, _||_}
+use Prim.Native.Nat.{ℕ, zero, suc, _*_}
+use lib.ListN.{length, drop}
+use lib.Dec.{leb, ltb}
+use Rattle.book.specs.Causes.{Cause, no-record, short-work, short-list, firstNumber}
+use Rattle.book.specs.Book.{Book}
+use Rattle.k2.specs.Trees.{treeUnit}
+use Rattle.paths.specs.Expressions.{Expr}
+use Rattle.paths.specs.Grammar.{Verdict, accepted, long, outside, large, verdictCause}
+use Rattle.paths.specs.Chains.{Graph, asked, Reply, none, chain, ChainIs}
+use Rattle.paths.specs.Relations.{pairs}
+
+pub data Outcome : Type 0 where
+  refused : ℕ → Outcome
+  paired : List ℕ → Outcome
+  replied : Reply → Outcome
+
+-- the number of a cause if there is one, else the outcome
+abbrev pub unless : ℕ → Outcome → Outcome
+unless zero o = o
+unless (suc k) o = refused (suc k)
+
+abbrev pub pairsWork : ℕ → ℕ
+pairsWork n = 32 * treeUnit n
+
+abbrev pub chainWork : ℕ → ℕ
+chainWork n = 64 * n
+
+unfoldable pub pairsOf : Book → Verdict → List ℕ
+pairsOf b (accepted e) = pairs (asked b) e
+pairsOf b long = []
+pairsOf b outside = []
+pairsOf b large = []
+
+unfoldable pub pairsCauses : Book → Verdict → ℕ → ℕ → List (Cause × Bool)
+pairsCauses b v work room =
+    verdictCause v ++ (
+    (short-work, ltb work (pairsWork (b .n))) ∷
+    (short-list, ltb room (length (pairsOf b v))) ∷ [])
+
+unfoldable pub pairsAnswer : Book → Verdict → ℕ → ℕ → Outcome
+pairsAnswer b v work room = unless (firstNumber (pairsCauses b v work room)) (paired (pairsOf b v))
+
+abbrev pub ReplyTo : Graph → Verdict → ℕ → ℕ → Reply → Type 0
+ReplyTo g v x y t = (e : Expr) → v ≡ accepted e → ChainIs g e x y t
+
+unfoldable pub steps : Reply → List ℕ
+steps none = []
+steps (chain ws) = ws
+
+unfoldable pub chainCauses : Book → ℕ → ℕ → Verdict → Reply → ℕ → ℕ → List (Cause × Bool)
+chainCauses b x y v t work room =
+    (no-record, leb (b .n) x || leb (b .n) y) ∷
+    (verdictCause v ++ (
+    (short-work, ltb work (chainWork (b .n))) ∷
+    (short-list, ltb room (length (steps t))) ∷ []))
+
+unfoldable pub chainAnswer : Book → ℕ → ℕ → Verdict → Reply → ℕ → ℕ → Outcome
+chainAnswer b x y v t work room = unless (firstNumber (chainCauses b x y v t work room)) (replied t)
+
+-- the list l with the words ws written over its front
+abbrev pub over : List ℕ → List ℕ → List ℕ
+over ws l = ws ++ drop (length ws) l
+
+unfoldable pub listAfter : Outcome → List ℕ → List ℕ
+listAfter (refused k) l = l
+listAfter (paired ws) l = over ws l
+listAfter (replied t) l = over (steps t) l
