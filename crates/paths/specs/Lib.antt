@@ -6,3 +6,7 @@ pub mod Relations
 pub mod ChainLaws
 pub mod ChainOrder
 pub mod Questions
+pub mod RelationLaws
+pub mod PairLaws
+pub mod Acceptance
+pub mod FirstChain
