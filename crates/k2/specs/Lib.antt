@@ -3,3 +3,4 @@ pub mod PairSets
 pub mod Trees
 pub mod DigitLaws
 pub mod BitLaws
+pub mod PairSetLaws
