@@ -5,16 +5,17 @@
 -- Assumes nothing.
 use mathlib.Core.Path.{_≡_, refl, sym, ap, _∙_, fun-ext, subst}
 use mathlib.Core.Logic.{_⊎_, inl, inr, ⊎-elim}
-use mathlib.Core.Bool.{Bool, true, false, _||_, false≢true}
+use mathlib.Core.Bool.{Bool, true, false}
 use mathlib.Core.List.{List, [], _∷_, _++_}
 use Prim.Native.Nat.{ℕ, zero, suc, _+_, _-_, _*_, _/_, _%_, _≤_, _<_, min, max}
 use native.Mathlib.Omega.{arith}
 use native.Mathlib.Decide.{decLt}
 use lib.Dec.{ltb, eqb}
-use lib.ListN.{length, length-append}
-use borrow.Author.Tests.{eq-eqb, eqb-true, lt-ltb, le-ltb}
-use Rattle.book.specs.Basics.{pick, bit, has, In, here, there, Rises, ended, rises}
+use lib.ListN.{length}
+use borrow.Author.Tests.{eqb-true, lt-ltb, le-ltb}
+use Rattle.book.specs.Basics.{bit, has, In, here, there, Rises, ended, rises}
 use Rattle.book.specs.ListLaws.{in-left, in-right, in-either, in-none, in-one}
+use Rattle.book.specs.SetLaws.{eqb-test, has-in, in-has}
 use Rattle.k2.specs.PairSets.{Cells, IsSet, pairWord, ifSet, rowPairs, rowsPairs, listed, setOf, union, intersection, difference, transpose, most, serves, product, OneOrMore, once, more, over, closure, diagonal}
 
 -- ---- numbers that are not 0
@@ -210,32 +211,14 @@ module _ (n : ℕ) (a : Cells) (A : IsSet n a) where
       inside (no l) = absurd (omega (arith, A .column x z (omega arith)))
 
 -- ---- the set of a list of pair words
-pub has-in : (w : ℕ) (ps : List ℕ) → has eqb w ps ≡ true → In w ps
-unfolding has
-has-in w [] e = absurd (false≢true e)
-has-in w (v ∷ ps) e = go (eqb v w) refl e (has-in w ps)
-  where
-    go : (t : Bool) → eqb v w ≡ t → (t || has eqb w ps) ≡ true → (has eqb w ps ≡ true → In w ps) → In w (v ∷ ps)
-    go true s e ih = subst (λ (u : ℕ). In u (v ∷ ps)) (eqb-true v w s) here
-    go false s e ih = there (ih e)
-
-pub in-has : {w : ℕ} {ps : List ℕ} → In w ps → has eqb w ps ≡ true
-unfolding has
-in-has {w} here = rw (eq-eqb w w refl)
-in-has {w} (there {v = v} h) = rw (in-has h) (go (eqb v w))
-  where
-    go : (t : Bool) → (t || true) ≡ true
-    go true = refl
-    go false = refl
-
 module _ (ps : List ℕ) (x y : ℕ) where
   pub set-in : 1 ≤ setOf ps x y → In (pairWord x y) ps
   unfolding setOf
-  set-in h = has-in (pairWord x y) ps (bit-on (has eqb (pairWord x y) ps) (omega arith))
+  set-in h = has-in eqb-test (pairWord x y) ps (bit-on (has eqb (pairWord x y) ps) (omega arith))
 
   pub in-set : y < 1024 → In (pairWord x y) ps → setOf ps x y ≡ 1
   unfolding setOf
-  in-set l h = rw (lt-ltb y 1024 l, in-has h)
+  in-set l h = rw (lt-ltb y 1024 l, in-has eqb-test (pairWord x y) ps h)
 
   pub set-bit : setOf ps x y < 2
   unfolding setOf
