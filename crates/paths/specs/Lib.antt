@@ -3,3 +3,8 @@ pub mod Grammar
 pub mod Words
 pub mod Chains
 pub mod Relations
+pub mod Descent
+pub mod DescentSound
+pub mod DescentWhole
+pub mod DescentComplete
+pub mod Verdicts
