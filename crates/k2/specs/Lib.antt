@@ -1,8 +1,9 @@
 pub mod Bits
 pub mod PairSets
 pub mod Trees
-pub mod DigitLaws
-pub mod HeightLaws
-pub mod KeepLaws
 pub mod Nodes
+pub mod DigitLaws
+pub mod BitLaws
+pub mod HeightLaws
+pub mod NodeLaws
 pub mod TreeLaws
