@@ -15,7 +15,8 @@ use native.Mathlib.Omega.{arith}
 use lib.ListN.{length}
 use lib.Dec.{ltb, eqb}
 use borrow.Author.Tests.{ltb-true, ltb-false, eqb-true, eqb-false}
-use Rattle.book.specs.Basics.{pick, bit}
+use Rattle.book.specs.Basics.{pick}
+use Rattle.k2.specs.PairSetLaws.{bit-small}
 use Rattle.paths.specs.Expressions.{Expr}
 use Rattle.paths.specs.Chains.{Graph, Step, stepWord, stepWords, Answers, Before, same, smaller, alike, NotAfter, shorter, as-long, First}
 
@@ -72,10 +73,6 @@ not-after-then {v} {w} {u} (as-long e h) (shorter q) = shorter (omega arith)
 not-after-then (as-long e h) (as-long f q) = as-long (e ∙ f) (before-then h q)
 
 -- ---- step words
-bit-small : (b : Bool) → bit b ≤ 1
-bit-small true = omega arith
-bit-small false = omega arith
-
 pub label-first : (s t : Step) → s .reached < 1024 → t .reached < 1024 → s .spelt .label < t .spelt .label → stepWord s < stepWord t
 label-first s t p q h = omega (arith, bit-small (s .spelt .inverted), bit-small (t .spelt .inverted))
 

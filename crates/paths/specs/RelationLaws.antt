@@ -17,7 +17,7 @@ use borrow.Author.Tests.{eq-eqb, eqb-true}
 use Rattle.book.specs.Basics.{pick, bit}
 use Rattle.book.specs.SetLaws.{and-both}
 use Rattle.k2.specs.PairSets.{Cells, IsSet, union, transpose, most, serves, product, OneOrMore, once as once-more, more, closure, diagonal}
-use Rattle.k2.specs.PairSetLaws.{one-of, bit-lt, bit-on, on-bit, most-some, some-most, most-bit, most-none, union-set, product-set, transpose-set, closure-set, diagonal-set, product-middle, middle-product, closure-leads, leads-closure}
+use Rattle.k2.specs.PairSetLaws.{one-of, bit-small, bit-on, on-bit, most-some, some-most, most-bit, most-none, union-set, product-set, transpose-set, closure-set, diagonal-set, product-middle, middle-product, closure-leads, leads-closure}
 use Rattle.paths.specs.Expressions.{Letter, Symbol, letter, standsFor, Expr, symbol, group, inverse, star, plus, optional, alternative, sequence}
 use Rattle.paths.specs.Chains.{Graph, crossing, Has}
 use Rattle.paths.specs.Relations.{Rel, link, inside, swapped, left, right, joined, once, again, star-none, star-some, optional-none, optional-once, joins, crossed, zeroSteps, cells}
@@ -25,7 +25,7 @@ use Rattle.paths.specs.ChainLaws.{Inside, crossing-in, crossing-label, r
 
 -- ---- one step
 joins-lt : (t p : Bool) → pick t (bit p) 0 < 2
-joins-lt true p = bit-lt p
+joins-lt true p = bit-small p
 joins-lt false p = omega arith
 
 joins-on : (t p : Bool) → 1 ≤ pick t (bit p) 0 → (t ≡ true) × (p ≡ true)
@@ -145,7 +145,7 @@ module _ (g : Graph) where
   module _ (I : Inside g) where
     pub zero-steps-set : IsSet (g .n) (zeroSteps g)
     unfolding zeroSteps
-    zero-steps-set = diagonal-set (g .n) (λ x. bit (g .inUse x)) (λ x. bit-lt (g .inUse x)) (λ x h. none x h (g .inUse x) refl)
+    zero-steps-set = diagonal-set (g .n) (λ x. bit (g .inUse x)) (λ x. bit-small (g .inUse x)) (λ x h. none x h (g .inUse x) refl)
       where
         none : (x : ℕ) → g .n ≤ x → (b : Bool) → g .inUse x ≡ b → bit b ≡ 0
         none x h true e = absurd (omega (arith, I .below x e))
