@@ -36,11 +36,12 @@ pub fn compare<'a>(peers: &'a [Peer], sheet: &'a Sheet, stored: Option<&Answers>
     };
     let mut systems = Vec::new();
     for peer in peers {
-        let held = memory::held();
+        let before = memory::held();
         let (system, time) = timed(true, || (peer.load)(sheet.n, &sheet.links));
-        systems.push(system.map_err(|number| format!("{}: {} refuses to load it: {number}", sheet.name, peer.name))?);
+        let loaded = memory::held() - before;
+        result.memory.push((loaded, 0));
         result.load.push(microseconds(time));
-        result.memory.push((memory::held() - held, 0));
+        systems.push(system.map_err(|number| format!("{}: {} refuses to load it: {number}", sheet.name, peer.name))?);
     }
     let mut list = vec![0; LIST];
     for (index, question) in sheet.questions.iter().enumerate() {
@@ -193,7 +194,7 @@ impl Display for Growth<'_> {
 }
 
 fn median(ascending: &[f64]) -> f64 {
-    ascending[ascending.len() / 2]
+    (ascending[(ascending.len() - 1) / 2] + ascending[ascending.len() / 2]) / 2.0
 }
 
 fn total(times: &[f64]) -> f64 {
