@@ -1,11 +1,9 @@
 -- The laws of the loop over alternatives and of that over parts, as one: what was read first, an operator's byte, and what was read next.
---   starts, ends             what is read before the loop is all that is read so far; where no operator's byte comes next, it is all
---   onward                   where one comes next, what the next reader asks
+--   starts, ends             what is read before the loop is what is read so far; where no operator's byte comes next, it is all
 --   joins, joins-no-first, joins-no-next
 --                            the two as one expression; or one of them is missing
---   room-to-join, has-room-to-join
---                            there is room for the operator's number
---   fewer-left               the next reading leaves less of the text
+--   Turn                     a turn of the loop, with its laws: where the next reader starts (ahead, asks-next), that there is room for the
+--                            operator's number (room), that the bytes left fall (falls), and what is read so far after it (again)
 -- Assumes nothing.
 use mathlib.Core.Path.{_≡_, refl, sym, ap, _∙_, subst}
 use mathlib.Core.List.{List, [], _∷_, _++_}
@@ -24,7 +22,7 @@ use Rattle.reader.specs.CodeLaws.{letters-code}
 use Rattle.reader.specs.declared.Spot.{Spot}
 use Rattle.reader.specs.declared.Parsed.{Parsed}
 use Rattle.reader.specs.declared.Parsed.the-variants.{Got, Fault}
-use Rattle.reader.specs.Progress.{Found, Done, none, some, Infix, of-alternatives, of-parts, byteOf, numberOf, joinOf, readOf, wholeOf, moreOf, comesNext, spotOf, bytesLeft, RoomToJoin, Joins}
+use Rattle.reader.specs.Progress.{Found, Done, none, some, Infix, of-alternatives, of-parts, byteOf, numberOf, joinOf, readOf, wholeOf, moreOf, comesNext, spotOf, bytesLeft, Asks, RoomToJoin, Joins}
 use Rattle.reader.proofs.Steps.{rest-drop, there, sets-append, code-some, on, missed}
 
 -- each operator
@@ -69,7 +67,7 @@ pub record Onward (s : List ℕ) (at : ℕ) (q : Spot) : Type 0 where
   pub inside : q .at < length s
   pub behind : q .end ≤ q .at
 
-pub onward : (o : Infix) {s : List ℕ} {at n : ℕ} {b a : List ℕ} {x : Parse} {r : Parsed} → Done (moreOf o) s at n b a x r → comesNext s r (byteOf o) ≡ true → n ≤ at → Onward s at (spotOf r)
+onward : (o : Infix) {s : List ℕ} {at n : ℕ} {b a : List ℕ} {x : Parse} {r : Parsed} → Done (moreOf o) s at n b a x r → comesNext s r (byteOf o) ≡ true → n ≤ at → Onward s at (spotOf r)
 onward o (none h) v k = absurd (let z : _≡_ {A = ℕ} 0 1 = cc in omega arith)
 onward o {s} (some {q} e h f) v k =
     let i = there s (q .at) (byteOf o) (eqb-true _ _ v) (byte-some o) in
@@ -122,17 +120,45 @@ no-next x p c c′ = record { joins = λ o s at n b m y h v d k. go o s at n b m
 pub joins-no-next : (x : ℕ) {first next : Parsed} {p : Spot} (c c′ : List ℕ) → first ≡ Got p → next ≡ Fault → Joins x first next c c′ Fault
 joins-no-next x {p = p} c c′ h k = rw (h, k) (no-next x p c c′)
 
-pub room-to-join : (o : Infix) {s : List ℕ} {at n space : ℕ} {b m c : List ℕ} {x y : Parse} {first next : Parsed} → Done (moreOf o) s at n b m x first → Done got s (spotOf first .at + 1) (spotOf first .end) m c y next → n ≤ at → length s ≤ space → RoomToJoin space first next
+pub has-room : {space : ℕ} {first next : Parsed} {p q : Spot} → first ≡ Got p → next ≡ Got q → RoomToJoin space first next → (q .end < space) × (p .letters + q .letters ≤ space)
+has-room {space} {next = next} {p = p} h k g = subst (RoomToJoin space (Got p)) k (subst (λ (r : Parsed). RoomToJoin space r next) h g)
+
+room-to-join : (o : Infix) {s : List ℕ} {at n space : ℕ} {b m c : List ℕ} {x y : Parse} {first next : Parsed} → Done (moreOf o) s at n b m x first → Done got s (spotOf first .at + 1) (spotOf first .end) m c y next → n ≤ at → length s ≤ space → RoomToJoin space first next
 room-to-join o (none h) k u g = tt
 room-to-join o (some e h f) (none i) u g = tt
 room-to-join o (some e h f) (some e′ i f′) u g =
     (omega (arith, f .end-is, f .short, f′ .end-is, f′ .short, f′ .inside), omega (arith, f .letters-are, letters-code e, f .short, f′ .letters-are, letters-code e′, f′ .short, f′ .inside))
 
-pub has-room-to-join : {space : ℕ} {first next : Parsed} {p q : Spot} → first ≡ Got p → next ≡ Got q → RoomToJoin space first next → (q .end < space) × (p .letters + q .letters ≤ space)
-has-room-to-join {space} {next = next} {p = p} h k g = subst (RoomToJoin space (Got p)) k (subst (λ (r : Parsed). RoomToJoin space r next) h g)
-
--- the next reading leaves less of the text
-pub fewer-left : (o : Infix) {s : List ℕ} {at n : ℕ} {b m c : List ℕ} {x y : Parse} {first next : Parsed} → Done (moreOf o) s at n b m x first → comesNext s first (byteOf o) ≡ true → Done got s (spotOf first .at + 1) (spotOf first .end) m c y next → bytesLeft s next < bytesLeft s first
+fewer-left : (o : Infix) {s : List ℕ} {at n : ℕ} {b m c : List ℕ} {x y : Parse} {first next : Parsed} → Done (moreOf o) s at n b m x first → comesNext s first (byteOf o) ≡ true → Done got s (spotOf first .at + 1) (spotOf first .end) m c y next → bytesLeft s next < bytesLeft s first
 fewer-left o (none h) v k = absurd (let z : _≡_ {A = ℕ} 0 1 = cc in omega arith)
 fewer-left o (some e h f) v (none i) = omega arith
 fewer-left o (some e h f) v (some e′ i f′) = omega (arith, f′ .short, f′ .inside)
+
+-- a turn of the loop: `first` is read so far, an operator's byte comes next, and q is where `first` ends
+pub record Turn (o : Infix) (s : List ℕ) (at n : ℕ) (before code : List ℕ) (first : Parsed) (q : Spot) : Type 0 where
+  pub so-far : Done (moreOf o) s at n before code (wholeOf o (drop at s)) first
+  pub comes : comesNext s first (byteOf o) ≡ true
+  pub spot : q ≡ spotOf first
+  pub asks : Asks s at n code
+
+module _ {o : Infix} {s : List ℕ} {at n : ℕ} {before code : List ℕ} {first : Parsed} {q : Spot} (turn : Turn o s at n before code first q) where
+  pub ahead : Onward s at q
+  ahead = rw (turn .spot) (onward o (turn .so-far) (turn .comes) (turn .asks .behind))
+
+  pub asks-next : Asks s (q .at + 1) (q .end) code
+  asks-next = let h = ahead in record { inside = omega arith; behind = omega arith; space = turn .asks .space }
+
+  -- what is read next
+  module _ {code′ : List ℕ} {next : Parsed} (d : Done got s (q .at + 1) (q .end) code code′ (readOf o (drop (q .at + 1) s)) next) where
+    from-first : Done got s (spotOf first .at + 1) (spotOf first .end) code code′ (readOf o (drop (spotOf first .at + 1) s)) next
+    from-first = subst (λ (p : Spot). Done got s (p .at + 1) (p .end) code code′ (readOf o (drop (p .at + 1) s)) next) (turn .spot) d
+
+    pub room : (space : ℕ) → length s ≤ space → RoomToJoin space first next
+    room space h = room-to-join o (turn .so-far) from-first (turn .asks .behind) h
+
+    module _ {x : ℕ} {code″ : List ℕ} {r : Parsed} (j : Joins x first next code′ code″ r) where
+      pub falls : bytesLeft s r < bytesLeft s first
+      falls = omega (arith, fewer-left o (turn .so-far) (turn .comes) from-first, j .left s)
+
+      pub again : x ≡ numberOf o → Done (moreOf o) s at n before code″ (wholeOf o (drop at s)) r
+      again h = j .joins o s at n before code _ h (turn .comes) (turn .so-far) from-first

@@ -242,6 +242,13 @@ plain-is s at v = part-plain (drop at s) (ne-eqb _ _ v)
 pub read-as : {k : Expr → List ℕ → Parse} {s : List ℕ} {at n : ℕ} {b a : List ℕ} {x y : Parse} {r : Parsed} → x ≡ y → Done k s at n b a y r → Done k s at n b a x r
 read-as h d = rw h d
 
+-- what a reader asks, of a code as long, and from the next byte on
+pub asks-kept : {s : List ℕ} {at n : ℕ} {a a′ : List ℕ} → length a′ ≡ length a → Asks s at n a → Asks s at n a′
+asks-kept h k = record { inside = k .inside; behind = k .behind; space = omega (arith, h, k .space) }
+
+pub asks-next-byte : {s : List ℕ} {at n : ℕ} {a : List ℕ} → at < length s → Asks s at n a → Asks s (at + 1) n a
+asks-next-byte h k = record { inside = omega arith; behind = omega (arith, k .behind); space = k .space }
+
 -- what the steps after a reading ask
 pub fits-after : {k : Expr → List ℕ → Parse} {s : List ℕ} {at n space : ℕ} {b a : List ℕ} {x : Parse} {r : Parsed} → Done k s at n b a x r → n ≤ at → length s ≤ space → Fits s space r
 fits-after (none h) u g = tt

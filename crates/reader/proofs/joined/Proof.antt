@@ -3,7 +3,7 @@ use Prim.Native.Nat.{_+_, _<_, _≤_}
 use native.Mathlib.Omega.{arith}
 use lib.ListN.{length}
 use borrow.Author.Needs.{needs}
-use Rattle.reader.proofs.Joining.{joins, joins-no-first, joins-no-next, has-room-to-join}
+use Rattle.reader.proofs.Joining.{joins, joins-no-first, joins-no-next, has-room}
 use Rattle.reader.proofs.joined.Statement.{statement}
 use Rattle.reader.proofs.joined.Tie as tie
 
@@ -27,7 +27,7 @@ returns-2 c = joins-no-next _ _ _ (c .before .before .before .first .given .1) (
 
 -- there is room for the number, and the letters fit
 room : (c : tie.After-next) → (c .next .given .0 .0 .end < length (c .before .before .before .before .before .before .args .code .now)) × (c .before .before .before .first .given .0 .0 .letters + c .next .given .0 .0 .letters ≤ length (c .before .before .before .before .before .before .args .code .now))
-room c = has-room-to-join (c .before .before .before .first .given .1) (c .next .given .1) (c .before .before .before .before .before .before .pre)
+room c = has-room (c .before .before .before .first .given .1) (c .next .given .1) (c .before .before .before .before .before .before .pre)
 
 push-requires : tie.Need-push-requires
 push-requires c κs = room (c .before .before) .0
