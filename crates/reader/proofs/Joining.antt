@@ -87,7 +87,8 @@ both-found x {s} {at} {n} {b} {m} {c} {e} {f} {g} {p} {q} made h k =
       letters-are = let z = made .letters-add in omega (arith, h .letters-are, k .letters-are);
       depth-is = let z = made .depth-max in omega (arith, h .depth-is, k .depth-is);
       end-is = omega (arith, h .end-is, k .end-is);
-      written = ap (λ (l : List ℕ). set l (q .end) x) front ∙ ap (λ (j : ℕ). set (sets b n (code e ++ code f)) j x) end ∙ sets-append (code e ++ code f) (x ∷ []) b n ∙ ap (sets b n) (sym (made .code-both)) }
+      written = ap (λ (l : List ℕ). set l (q .end) x) front ∙ ap (λ (j : ℕ). set (sets b n (code e ++ code f)) j x) end ∙ sets-append (code e ++ code f) (x ∷ []) b n ∙ ap (sets b n) (sym (made .code-both));
+    }
 
 -- what comes after an operator's byte
 after-byte : (o : Infix) (s : List ℕ) {y : Parse} (e : Expr) (p : ℕ) → eqb (firstByte (drop p s)) (byteOf o) ≡ true → y ≡ moreOf o e (drop p s) → y ≡ then (readOf o (drop (p + 1) s)) (λ g r. moreOf o (joinOf o e g) r)

@@ -121,10 +121,14 @@ one-more {n = n} {b = b} {a = a} {e = e} {q = q} x at′ p′ e′ f w h g =
     let long : length (code e′) ≡ length (code e) + 1 = ap length (w .code-more) ∙ length-append (code e) (x ∷ []) in
     let deep = w .depth-same in
     record {
-      inside = h; short = omega (arith, f .short); flat = omega (arith, f .flat);
-      letters-are = f .letters-are ∙ sym (w .letters-same); depth-is = f .depth-is ∙ sym (w .depth-same);
+      inside = h;
+      short = omega (arith, f .short);
+      flat = omega (arith, f .flat);
+      letters-are = f .letters-are ∙ sym (w .letters-same);
+      depth-is = f .depth-is ∙ sym (w .depth-same);
       end-is = omega (arith, f .end-is);
-      written = ap (λ (c : List ℕ). set c (q .end) x) (f .written) ∙ ap (λ (k : ℕ). set (sets b n (code e)) k x) (f .end-is) ∙ sets-append (code e) (x ∷ []) b n ∙ ap (sets b n) (sym (w .code-more)) }
+      written = ap (λ (c : List ℕ). set c (q .end) x) (f .written) ∙ ap (λ (k : ℕ). set (sets b n (code e)) k x) (f .end-is) ∙ sets-append (code e) (x ∷ []) b n ∙ ap (sets b n) (sym (w .code-more));
+    }
 
 -- a mark
 data MarkIs (c : ℕ) : ℕ → Type 0 where
@@ -192,8 +196,14 @@ inverts {q = q} is s at n b x d =
 grouped : {s : List ℕ} {at n : ℕ} {b a : List ℕ} {e : Expr} {q : Spot} → Found s (at + 1) n b a e q → q .at < length s → Found s at n b a (group e) (record { at = q .at + 1; end = q .end; letters = q .letters; depth = q .depth + 1 })
 unfolding letters depth code
 grouped f i = record {
-  inside = omega arith; short = omega (arith, f .short); flat = omega (arith, f .flat);
-  letters-are = f .letters-are; depth-is = ap (λ (k : ℕ). k + 1) (f .depth-is); end-is = f .end-is; written = f .written }
+  inside = omega arith;
+  short = omega (arith, f .short);
+  flat = omega (arith, f .flat);
+  letters-are = f .letters-are;
+  depth-is = ap (λ (k : ℕ). k + 1) (f .depth-is);
+  end-is = f .end-is;
+  written = f .written;
+}
 
 pub closes : {s a : List ℕ} {r : Parsed} {q : Spot} → r ≡ Got q → firstByte (drop (q .at) s) ≡ close-group → Around readClose s a a r (Got (record { at = q .at + 1; end = q .end; letters = q .letters; depth = q .depth + 1 }))
 closes {s} {q = q} is v at n b x d =

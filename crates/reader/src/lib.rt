@@ -311,3 +311,39 @@ pub fn read_at(src: &[u8], at: usize) -> Reading
         refused(9)
     }
 }
+
+// The caller's bytes and a place in them. Its functions are thin: the work is done by `read_at`, on the slice and the number.
+pub struct Reader<'a> {
+    pub src: &'a [u8],
+    pub at: usize,
+}
+
+impl<'a> Reader<'a> {
+    // At the first byte.
+    pub fn new(src: &'a [u8]) -> Reader<'a>
+        ensures { λ r. ⌜ (r .src ≡ src .entry) × (r .at ≡ 0) ⌝ }
+    {
+        Reader { src, at: 0 }
+    }
+
+    // The same bytes, at another place.
+    pub fn moved(self, at: usize) -> Reader<'a>
+        ensures { λ r. ⌜ (r .src ≡ self .entry .src) × (r .at ≡ at) ⌝ }
+    {
+        Reader { src: self.src, at }
+    }
+
+    // The expression that starts at the place, which may be in the middle of the slice, and ends with it.
+    pub fn expression(self) -> Reading
+        ensures { λ r. ⌜ Reads (drop (self .entry .at) (now (self .entry .src))) r ⌝ }
+    {
+        read_at(self.src, self.at)
+    }
+}
+
+// A whole text: for callers that hold no reader.
+pub fn read(text: &[u8]) -> Reading
+    ensures { λ r. ⌜ Reads (now (text .entry)) r ⌝ }
+{
+    Reader::new(text).expression()
+}

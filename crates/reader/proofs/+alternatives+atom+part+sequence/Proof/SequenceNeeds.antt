@@ -65,7 +65,8 @@ module _ (t : ℕ) where
     so-far = head c .loop .inv .0 before d;
     comes = sym (c .before .before .comes-next .ensures) ∙ c .before .if1 .taken;
     spot = c .ends-at .ensures;
-    asks = asks-kept (kept (head c)) (entry c .pre .1) }
+    asks = asks-kept (kept (head c)) (entry c .pre .1);
+  }
 
   turn : (c : Ahead) → Turn of-parts (entry c .args .s .now) (entry c .args .at) (entry c .args .n) (entry c .args .code .now) (head c .loop .code) (head c .loop .first) (c .ends-at .result)
   turn c = turn-from c _ (first (head c) .part .ensures)
