@@ -28,7 +28,14 @@ const MAX_LETTERS: usize = 63;
 
 const MAX_DEPTH: usize = 8;
 
-// Where an expression that was read ends in the text and its code in the code; its letters, and how deep its groups are nested.
+// The numbers of the causes.
+const NO_EXPRESSION: u8 = 9;
+
+const TOO_MANY_BYTES: u8 = 10;
+
+const TOO_LARGE: u8 = 10;
+
+// An expression that was read: where it ends in the text and in the code, how many letters it has, and how deep its groups are nested.
 struct Spot {
     at: usize,
     end: usize,
@@ -74,7 +81,7 @@ fn comes_next(s: &[u8], r: Parsed, b: u8) -> bool
     peek(s, q.at) == b
 }
 
-// Where what was read ends.
+// The expression that was read, or zeros if none was.
 fn ends_at(r: Parsed) -> Spot
     ensures { λ q. ⌜ q ≡ spotOf r ⌝ }
 {
@@ -199,7 +206,7 @@ fn mark_after(s: &[u8], r: Parsed) -> u8
     0
 }
 
-// What was read with the operator of number x on it, and the bytes after it passed; as it is if x is 0.
+// What was read with the operator of number x on it, its text `passed` bytes longer; as it is if x is 0.
 fn wrapped(code: &mut [u8], r: Parsed, x: u8, passed: usize) -> Parsed
     requires { ⌜ RoomToWrap (length (now code)) x passed r ⌝ }
     ensures { λ q. ⌜ (q ≡ wrap x passed r) × (now (code .exit) ≡ wrapCode x r (now (code .entry))) ⌝ }
@@ -251,6 +258,7 @@ pub struct Reading {
     pub code: [u8; 256],
 }
 
+// A refusal, with no code.
 fn refused(number: u8) -> Reading
     ensures { λ r. ⌜ (r .answer ≡ Refused number) × (r .code ≡ replicate 256 0) ⌝ }
 {
@@ -265,21 +273,21 @@ fn whole(s: &[u8]) -> Reading
     ensures { λ r. ⌜ Reads (now (s .entry)) r ⌝ }
 {
     if MAX_BYTES < s.len() {
-        return refused(10);
+        return refused(TOO_MANY_BYTES);
     }
     let mut code = [0u8; 256];
     let r = alternatives(s, 0, &mut code, 0);
     let Parsed::Got(q) = r else {
-        return refused(9);
+        return refused(NO_EXPRESSION);
     };
     if q.at < s.len() {
-        return refused(9);
+        return refused(NO_EXPRESSION);
     }
     if MAX_LETTERS < q.letters {
-        return refused(10);
+        return refused(TOO_LARGE);
     }
     if MAX_DEPTH < q.depth {
-        return refused(10);
+        return refused(TOO_LARGE);
     }
     Reading {
         answer: Answer::Accepted(q.end),
@@ -295,7 +303,7 @@ pub fn read_at(src: &[u8], at: usize) -> Reading
         let text = &src[at..];
         whole(text)
     } else {
-        refused(9)
+        refused(NO_EXPRESSION)
     }
 }
 
