@@ -1,0 +1,54 @@
+-- How a pair question is evaluated: the operands still waiting, as trees one after another at the front of the lent work.
+--   relations g     the algebra of sets of pairs in a graph: running an expression's code in it gives the expression's set
+--   Sets n st       every set of the stack st is one of pairs below n
+--   laid n st       the words of the stack's trees, the one that was put on first in front
+--   Sizes n ls k st of the k sets of the stack st, the numbers of words of their trees stand in the list ls, the first put on in front
+--   Waiting g e c work ls k at
+--                   the code c is left to run; k operands wait, whose trees fill the first words of work up to at
+-- Assumes nothing: these are definitions.
+use mathlib.Core.Path.{_≡_}
+use mathlib.Core.List.{List, [], _∷_, _++_}
+use Prim.Native.Nat.{ℕ, suc}
+use lib.ListN.{length, take, getD}
+use Rattle.k2.specs.PairSets.{Cells, IsSet, union, transpose, product, closure}
+use Rattle.k2.specs.Trees.{treeWords}
+use Rattle.paths.specs.Expressions.{Expr, letter}
+use Rattle.paths.specs.Chains.{Graph}
+use Rattle.paths.specs.Relations.{crossed, zeroSteps, cells}
+use Rattle.reader.specs.Code.{Algebra, run}
+use Rattle.reader.specs.Running.{Runs}
+
+unfoldable pub relations : Graph → Algebra Cells
+relations g = record {
+  of = λ k. crossed g (letter k);
+  inverted = transpose;
+  starred = λ a. union (closure (g .n) a) (zeroSteps g);
+  repeated = closure (g .n);
+  maybe = λ a. union a (zeroSteps g);
+  either = union;
+  followed = product (g .n);
+}
+
+pub data Sets (n : ℕ) : List Cells → Type 0 where
+  no-set : Sets n []
+  one-more : {a : Cells} {st : List Cells} → IsSet n a → Sets n st → Sets n (a ∷ st)
+
+unfoldable pub laid : ℕ → List Cells → List ℕ
+laid n [] = []
+laid n (a ∷ st) = laid n st ++ treeWords n a
+
+pub data Sizes (n : ℕ) (ls : List ℕ) : ℕ → List Cells → Type 0 where
+  empty : Sizes n ls 0 []
+  sized : {k : ℕ} {a : Cells} {st : List Cells} → Sizes n ls k st → getD ls k 0 ≡ length (treeWords n a) → Sizes n ls (suc k) (a ∷ st)
+
+-- at most 19 operands wait at once
+abbrev pub most-waiting : ℕ
+most-waiting = 19
+
+pub record Waiting (g : Graph) (e : Expr) (c work ls : List ℕ) (k at : ℕ) (st : List Cells) : Type 0 where
+  pub rest : run (relations g) c st ≡ cells g e ∷ []
+  pub runs : Runs (relations g) most-waiting c st
+  pub sets : Sets (g .n) st
+  pub sizes : Sizes (g .n) ls k st
+  pub ends : at ≡ length (laid (g .n) st)
+  pub trees : take at work ≡ laid (g .n) st

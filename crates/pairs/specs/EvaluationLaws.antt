@@ -1,0 +1,137 @@
+-- Laws of the evaluation.
+--   value-cells     an expression's value in the algebra of relations is its set
+--   does-sets       every number of a code keeps the stack's sets within n
+--   sizes-count     the count of operands is the stack's height
+--   begins          with nothing waiting the whole code is left
+--   over-store      storing the size of a new top operand leaves those below
+-- Assumes nothing.
+use mathlib.Core.Path.{_≡_, refl, sym, ap, ap₂, _∙_, subst}
+use mathlib.Core.List.{List, [], _∷_, _++_, append-nil}
+use mathlib.Core.Bool.{Bool, true, false}
+use Prim.Native.Nat.{ℕ, zero, suc, _+_, _-_, _*_, _<_, _≤_}
+use native.Mathlib.Omega.{arith}
+use lib.Dec.{eqb}
+use lib.ListN.{length, take, drop, getD, set, length-append}
+use lib.Seq.{getD-set-same, getD-set-other, take-take, take-add, take-append-seam, drop-append-seam}
+use Rattle.book.specs.Basics.{pick}
+use Rattle.k2.specs.PairSets.{Cells, IsSet, union, transpose, product, closure}
+use Rattle.k2.specs.PairSetLaws.{union-set, product-set, transpose-set, closure-set}
+use Rattle.k2.specs.Trees.{treeWords}
+use Rattle.paths.specs.Expressions.{Expr, symbol, letter, group, inverse, star, plus, optional, alternative, sequence, depth}
+use Rattle.paths.specs.Grammar.{alternatives, Is}
+use Rattle.paths.specs.Chains.{Graph}
+use Rattle.paths.specs.Relations.{crossed, zeroSteps, cells}
+use Rattle.paths.specs.ChainLaws.{Inside}
+use Rattle.paths.specs.RelationLaws.{crossed-set, zero-steps-set}
+use Rattle.reader.specs.Code.{op-inverse, op-star, op-plus, op-optional, op-alternative, op-sequence, code, Algebra, value, does, run}
+use Rattle.reader.specs.Running.{Runs, next}
+use Rattle.reader.specs.CodeLaws.{run-code, runs-code}
+use Rattle.pairs.specs.Evaluation.{relations, Sets, no-set, one-more, laid, Sizes, empty, sized, most-waiting, Waiting}
+
+pub value-cells : (g : Graph) (e : Expr) → value (relations g) e ≡ cells g e
+unfolding value relations cells
+value-cells g (symbol (letter k)) = refl
+value-cells g (group e) = value-cells g e
+value-cells g (inverse e) = ap transpose (value-cells g e)
+value-cells g (star e) = ap (λ (a : Cells). union (closure (g .n) a) (zeroSteps g)) (value-cells g e)
+value-cells g (plus e) = ap (closure (g .n)) (value-cells g e)
+value-cells g (optional e) = ap (λ (a : Cells). union a (zeroSteps g)) (value-cells g e)
+value-cells g (alternative e f) = ap₂ union (value-cells g e) (value-cells g f)
+value-cells g (sequence e f) = ap₂ (product (g .n)) (value-cells g e) (value-cells g f)
+
+-- ---- the beginning
+pub begins : (g : Graph) {s : List ℕ} (e : Expr) → Is alternatives s e → depth e ≤ 8 → (work ls : List ℕ) → Waiting g e (code e) work ls 0 0 []
+begins g e d h work ls = record {
+  rest = run-code (relations g) d [] ∙ ap (λ (a : Cells). a ∷ []) (value-cells g e);
+  runs = runs-code (relations g) d most-waiting [] (omega arith);
+  sets = no-set;
+  sizes = empty;
+  ends = unfold laid in refl;
+  trees = unfold laid in refl;
+}
+
+-- ---- what is left to run
+pub runs-rest : (g : Graph) {i : ℕ} {c : List ℕ} {st : List Cells} → Runs (relations g) most-waiting (i ∷ c) st → Runs (relations g) most-waiting c (does (relations g) i st)
+runs-rest g (next a b h r) = r
+
+-- ---- the sizes
+pub sizes-count : {n k : ℕ} {ls : List ℕ} {st : List Cells} → Sizes n ls k st → k ≡ length st
+sizes-count empty = refl
+sizes-count (sized s h) = ap suc (sizes-count s)
+
+-- what is stored at the top or above it leaves the sizes below
+pub sizes-store : {n k : ℕ} {ls : List ℕ} {st : List Cells} (j v : ℕ) → k ≤ j → Sizes n ls k st → Sizes n (set ls j v) k st
+sizes-store j v h empty = empty
+sizes-store {ls = ls} j v h (sized {k = k} s e) = sized (sizes-store j v (omega arith) s) (getD-set-other ls j k v 0 (λ z. omega arith) ∙ e)
+
+-- ---- lists that begin with others
+front-left : (l xs ys : List ℕ) → take (length (xs ++ ys)) l ≡ xs ++ ys → take (length xs) l ≡ xs
+front-left l xs ys h =
+    sym (take-take (length xs) (length (xs ++ ys)) l (omega (arith, length-append xs ys))) ∙ ap (take (length xs)) h ∙ take-append-seam xs ys
+
+front-right : (l xs ys : List ℕ) → take (length (xs ++ ys)) l ≡ xs ++ ys → take (length ys) (drop (length xs) l) ≡ ys
+front-right l xs ys h =
+    let p : take (length xs) l ++ take (length ys) (drop (length xs) l) ≡ xs ++ ys =
+    sym (take-add (length xs) (length ys) l) ∙ ap (λ (k : ℕ). take k l) (sym (length-append xs ys)) ∙ h in
+    let q : xs ++ take (length ys) (drop (length xs) l) ≡ xs ++ ys = ap (λ (z : List ℕ). z ++ take (length ys) (drop (length xs) l)) (sym (front-left l xs ys h)) ∙ p in
+    sym (drop-append-seam xs (take (length ys) (drop (length xs) l))) ∙ ap (drop (length xs)) q ∙ drop-append-seam xs ys
+
+front-join : (l xs ys : List ℕ) → take (length xs) l ≡ xs → take (length ys) (drop (length xs) l) ≡ ys → take (length (xs ++ ys)) l ≡ xs ++ ys
+front-join l xs ys h k = ap (λ (j : ℕ). take j l) (length-append xs ys) ∙ take-add (length xs) (length ys) l ∙ ap₂ (λ (u v : List ℕ). u ++ v) h k
+
+-- ---- the operands
+-- the trees of the stack fill the front of work
+abbrev Trees : ℕ → List ℕ → List Cells → Type 0
+Trees n work st = take (length (laid n st)) work ≡ laid n st
+
+-- the operand on top: its tree begins where those below it end
+pub record Top (n : ℕ) (work ls : List ℕ) (k at start size : ℕ) (a : Cells) (st : List Cells) : Type 0 where
+  pub set : IsSet n a
+  pub below : Sets n st
+  pub sizes : Sizes n ls k st
+  pub trees : take start work ≡ laid n st
+  pub begins : start ≡ length (laid n st)
+  pub long : size ≡ length (treeWords n a)
+  pub ends : at ≡ start + size
+  pub tree : take size (drop start work) ≡ treeWords n a
+
+-- of a stack that waits
+pub top : {n k : ℕ} {work ls : List ℕ} {at : ℕ} {a : Cells} {st : List Cells} → Sets n (a ∷ st) → Sizes n ls k (a ∷ st) → at ≡ length (laid n (a ∷ st)) → take at work ≡ laid n (a ∷ st)
+    → Top n work ls (k - 1) at (at - getD ls (k - 1) 0) (getD ls (k - 1) 0) a st
+unfolding laid
+top {n} {work = work} {ls} {at} (one-more {a} {st} p q) (sized {k = k} s h) e t =
+    let one : suc k - 1 ≡ k = omega arith in
+    let l : length (laid n st ++ treeWords n a) ≡ length (laid n st) + length (treeWords n a) = length-append (laid n st) (treeWords n a) in
+    let b : at - getD ls k 0 ≡ length (laid n st) = omega arith in
+    let f : take (length (laid n st ++ treeWords n a)) work ≡ laid n st ++ treeWords n a = ap (λ (j : ℕ). take j work) (sym e) ∙ t in
+    rw (one, b) (record {
+      set = p;
+      below = q;
+      sizes = s;
+      trees = front-left work (laid n st) (treeWords n a) f;
+      begins = refl;
+      long = h;
+      ends = omega arith;
+      tree = ap (λ (j : ℕ). take j (drop (length (laid n st)) work)) h ∙ front-right work (laid n st) (treeWords n a) f;
+    })
+
+-- ---- one number more: the operands off the stack, the result v on it
+pub waiting-more : (g : Graph) (e : Expr) (i : ℕ) (c work ls work′ : List ℕ) (k at start r : ℕ) (st st′ : List Cells) (v : Cells)
+    → Waiting g e (i ∷ c) work ls k at st → does (relations g) i st ≡ v ∷ st′ → Sets (g .n) st′ → Sizes (g .n) ls (length st′) st′ → start ≡ length (laid (g .n) st′)
+    → take start work ≡ laid (g .n) st′ → IsSet (g .n) v → length st′ < length ls
+    → take start work′ ≡ take start work → take r (drop start work′) ≡ treeWords (g .n) v → r ≡ length (treeWords (g .n) v)
+    → Waiting g e c work′ (set ls (length st′) r) (suc (length st′)) (start + r) (v ∷ st′)
+unfolding run laid
+waiting-more g e i c work ls work′ k at start r st st′ v w d p s b t q l kept new len =
+    let n : ℕ = g .n in
+    let m : length (laid n st′ ++ treeWords n v) ≡ start + r = length-append (laid n st′) (treeWords n v) ∙ ap₂ (λ (x y : ℕ). x + y) (sym b) (sym len) in
+    let f : take (length (laid n st′)) work′ ≡ laid n st′ = ap (λ (j : ℕ). take j work′) (sym b) ∙ kept ∙ t in
+    let h : take (length (treeWords n v)) (drop (length (laid n st′)) work′) ≡ treeWords n v = ap₂ (λ (x y : ℕ). take x (drop y work′)) (sym len) (sym b) ∙ new in
+    record {
+      rest = ap (run (relations g) c) (sym d) ∙ w .rest;
+      runs = subst (λ (u : List Cells). Runs (relations g) most-waiting c u) d (runs-rest g (w .runs));
+      sets = one-more q p;
+      sizes = sized (sizes-store (length st′) r (omega arith) s) (getD-set-same ls (length st′) r 0 l ∙ len);
+      ends = sym m;
+      trees = ap (λ (j : ℕ). take j work′) (sym m) ∙ front-join work′ (laid n st′) (treeWords n v) f h;
+    }
