@@ -1,3 +1,5 @@
 pub mod Code
 pub mod Running
 pub mod CodeLaws
+pub mod Reads
+pub mod Progress
