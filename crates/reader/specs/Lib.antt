@@ -2,4 +2,5 @@ pub mod Code
 pub mod Running
 pub mod CodeLaws
 pub mod Reads
+pub mod ReadsLaws
 pub mod Progress
