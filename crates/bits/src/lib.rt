@@ -1,10 +1,10 @@
 // Bits in slices of 64-bit words: bit p is bit p % 64 of word p / 64.
 ghost use mathlib.Core.Path.{_≡_};
-ghost use Prim.Native.Nat.{ℕ, _+_, _/_, _%_, _<_, _≤_, min};
+ghost use Prim.Native.Nat.{_+_, _/_, _%_, _<_, _≤_, min};
 ghost use lib.ListN.{length, replicate};
 ghost use lib.Count.{trailingZeros};
 ghost use Rattle.k2.specs.Bits.{bitAt, onesBelow};
-ghost use Rattle.bits.specs.BitSets.{put, fourAt, orFour, Next};
+ghost use Rattle.bits.specs.BitSets.{put, fourAt, Next};
 
 // The bit at p; 0 past the end.
 pub fn bit(words: &[u64], p: usize) -> u64
@@ -38,15 +38,6 @@ pub fn four(words: &[u64], p: usize) -> u64
     } else {
         0
     }
-}
-
-// The four bits of v put in from p on, a multiple of 4, beside what is there.
-pub fn or_four(words: &mut [u64], p: usize, v: u64)
-    requires { ⌜ (p % 4 ≡ 0) × (p / 64 < length (now words)) × (v < 16) ⌝ }
-    ensures { λ _. ⌜ bitAt (now (words .exit)) ≡ orFour p v (bitAt (now (words .entry))) ⌝ }
-{
-    let q = p / 64;
-    words[q] = words[q] | (v << (p % 64));
 }
 
 // All words 0.

@@ -2,13 +2,13 @@
 use mathlib.Core.Path.{_≡_, refl, sym, ap, ap₂, _∙_, fun-ext}
 use mathlib.Core.Bool.{Bool, true, false, _&&_}
 use mathlib.Core.List.{List}
-use Prim.Native.Nat.{ℕ, zero, suc, _+_, _-_, _*_, _/_, _%_, _≤_, _<_, min, max}
+use Prim.Native.Nat.{ℕ, zero, suc, _+_, _-_, _*_, _/_, _%_, _≤_, _<_, max}
 use native.Mathlib.Nat.{add-zero, add-suc}
 use native.Mathlib.Numerals.{add-one}
 use native.Mathlib.Decide.{decLt, ℕ-discrete}
 use native.Mathlib.Omega.{arith}
 use lib.Bits.{bitOr}
-use lib.Dec.{eqb, ltb}
+use lib.Dec.{eqb}
 use lib.ListN.{length, getD, set}
 use borrow.Author.Tests.{eq-eqb, ne-eqb, lt-ltb, le-ltb}
 use Rattle.book.specs.Basics.{pick}
@@ -16,11 +16,11 @@ use Rattle.k2.specs.Bits.{digit, bitAt}
 use Rattle.k2.specs.DigitLaws.{digit-or}
 use Rattle.k2.specs.BitLaws.{bit-in, bit-set, bit-set-off}
 use Rattle.k2.specs.PairSets.{Cells, IsSet, over, closure}
-use Rattle.k2.specs.PairSetLaws.{over-set, closure-set}
+use Rattle.k2.specs.PairSetLaws.{over-set}
 use Rattle.rows.specs.Rows.{flat}
 use Rattle.rows.specs.RowLaws.{flat-at}
 use Rattle.rows.specs.Steps.{EmptyRow, Occupied, rowsTo, plusRow, partRow}
-use Rattle.rows.proofs.Search.{to-more, to-none, to-all, to-row, to-new, to-old}
+use Rattle.rows.proofs.Search.{to-more, to-none, to-all, to-new, to-old}
 
 -- ---- row k put into row i, a word at a time
 module _ (i k : ℕ) (f : ℕ → ℕ) (p : ℕ) where

@@ -1,10 +1,11 @@
--- Laws of listing: the words of a set's pairs are the places of the bits of its rows, ascending; and what is written of them. Assumes nothing.
+-- Laws of listing: the words of a set's pairs are the places of the bits of its rows, ascending; and what is written of them.
 --   places f n      the places below n at which f is not 0, ascending
 --   Wrote l e now   the list that held e holds l, and then what was there
+-- Assumes nothing.
 use mathlib.Core.Path.{_≡_, refl, sym, ap, ap₂, _∙_}
 use mathlib.Core.List.{List, [], _∷_, _++_, append-nil, append-assoc}
 use Prim.Native.Nat.{ℕ, zero, suc, _+_, _-_, _*_, _/_, _%_, _^_, _≤_, _<_}
-use native.Mathlib.Nat.{add-zero, add-suc, not-suc-le-zero}
+use native.Mathlib.Nat.{add-zero, add-suc}
 use native.Mathlib.Numerals.{add-one}
 use native.Mathlib.Decide.{decLt}
 use native.Mathlib.Omega.{arith}
@@ -13,8 +14,8 @@ use lib.ListN.{length, getD, set, take, drop, length-append, drop-of-length-le}
 use lib.Pow.{shr-shr}
 use lib.Seq.{drop-cons, drop-drop, set-at, take-at, drop-at, take-all}
 use Rattle.k2.specs.Bits.{bitAt, onesBelow}
-use Rattle.k2.specs.BitLaws.{Bits, bit-lt, bit-out}
-use Rattle.k2.specs.PairSets.{Cells, IsSet, pairWord, ifSet, rowPairs, rowsPairs, listed}
+use Rattle.k2.specs.BitLaws.{Bits}
+use Rattle.k2.specs.PairSets.{Cells, IsSet, ifSet, rowPairs, rowsPairs, listed}
 use Rattle.bits.specs.BitSets.{Gap, Next}
 use Rattle.bits.specs.ScanLaws.{rest-inside, next-here, gap-rest}
 use Rattle.rows.specs.Rows.{flat}

@@ -1,18 +1,16 @@
 -- Laws of the search for a middle record: `most` over the squares, masks of squares, and the row of a product. Assumes nothing.
 use mathlib.Core.Path.{_≡_, refl, sym, ap, ap₂, _∙_, fun-ext}
 use mathlib.Core.List.{List}
-use mathlib.Core.Bool.{Bool, true, false}
 use Prim.Native.Nat.{ℕ, zero, suc, _+_, _-_, _*_, _/_, _%_, _^_, _≤_, _<_, min, max}
 use native.Mathlib.Nat.{add-zero, add-suc}
 use native.Mathlib.Numerals.{add-one}
 use native.Mathlib.Decide.{decLt, ℕ-discrete}
 use native.Mathlib.Omega.{arith}
 use lib.Bits.{bitAnd, bitOr}
-use lib.Dec.{ltb}
 use lib.ListN.{getD}
 use borrow.Author.Tests.{lt-ltb, le-ltb, eq-eqb, ne-eqb}
 use Rattle.k2.specs.Bits.{digit, bitAt}
-use Rattle.k2.specs.DigitLaws.{digit-lt, digit-and, digit-none}
+use Rattle.k2.specs.DigitLaws.{digit-and, digit-none}
 use Rattle.k2.specs.BitLaws.{Bits, bit-lt, bit-in, bit-zero}
 use Rattle.k2.specs.PairSets.{Cells, IsSet, transpose, most, serves, product}
 use Rattle.k2.specs.PairSetLaws.{most-bit, most-none, some-most, product-set}

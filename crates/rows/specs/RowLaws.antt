@@ -1,15 +1,17 @@
 -- Laws of rows: a row's bits are the set's cells, the rows of the operations on sets, and the pairs of link words. Assumes nothing.
 use mathlib.Core.Path.{_≡_, refl, sym, ap, _∙_, fun-ext}
 use mathlib.Core.List.{List, [], _∷_, map}
-use Prim.Native.Nat.{ℕ, _+_, _-_, _*_, _/_, _%_, _≤_, _<_, min, max}
+use Prim.Native.Nat.{ℕ, _+_, _*_, _/_, _%_, _≤_, _<_}
 use native.Mathlib.Nat.{mod-eq-of-lt}
 use native.Mathlib.Decide.{decLt}
 use native.Mathlib.Omega.{arith}
-use Rattle.book.specs.Basics.{In, here, there}
+use lib.Dec.{ltb}
+use borrow.Author.Tests.{le-ltb}
+use Rattle.book.specs.Basics.{bit, In, here, there}
 use Rattle.k2.specs.PairSets.{Cells, IsSet, setOf, union, intersection, difference}
-use Rattle.k2.specs.PairSetLaws.{PairsBelow, setOf-set}
+use Rattle.k2.specs.PairSetLaws.{bit-small, diagonal-set, PairsBelow, setOf-set}
 use Rattle.bits.specs.BitSets.{none, either, both, minus}
-use Rattle.rows.specs.Rows.{flat, noPairs, linkPair}
+use Rattle.rows.specs.Rows.{flat, noPairs, identity, linkPair}
 
 pub flat-at : (a : Cells) (x y : ℕ) → y < 1024 → flat a (x * 1024 + y) ≡ a x y
 unfolding flat
@@ -42,6 +44,9 @@ none-set n = record { bit = λ x y. omega arith; row = λ x y l. refl; column = 
 pub union-none : (a : Cells) → union noPairs a ≡ a
 unfolding union noPairs
 union-none a = fun-ext (λ x. fun-ext (λ y. omega arith))
+
+pub identity-set : (n : ℕ) → IsSet n (identity n)
+identity-set n = diagonal-set n (λ x. bit (ltb x n)) (λ x. bit-small (ltb x n)) (λ x l. rw (le-ltb x n l))
 
 -- ---- the operations, cell by cell
 pub flat-union : (a b : Cells) → either (flat a) (flat b) ≡ flat (union a b)

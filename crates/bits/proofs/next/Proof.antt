@@ -1,11 +1,10 @@
 -- `next` looks at what is left of the first word, and then at whole words. The loop's invariant: no bit from `lo` to word q. The measure is
 -- the words left. It rests on `next-here`: the trailing zeros of a word tell its lowest digit that is set. Assumes nothing.
 use mathlib.Core.Path.{_≡_, refl}
-use Prim.Native.Nat.{ℕ, _≤_, _<_, _+_, _-_, _*_, _/_, _%_, _^_}
+use Prim.Native.Nat.{_≤_, _+_, _-_, _*_, _/_, _%_}
 use native.Mathlib.Omega.{arith}
-use lib.ListN.{length, getD}
 use Rattle.k2.specs.Bits.{bitAt}
-use Rattle.bits.specs.BitSets.{Gap, Next}
+use Rattle.bits.specs.BitSets.{Gap}
 use Rattle.bits.specs.BitSetLaws.{gap-join, gap-word}
 use Rattle.bits.specs.ScanLaws.{next-here, next-word, next-after, next-none, gap-rest, gap-past}
 use Rattle.bits.proofs.next.Statement.{statement}

@@ -2,7 +2,7 @@
 -- It rests on `ones-word` and `ones-part`; past the end no bit is set (`ones-gap`). Assumes nothing.
 use mathlib.Core.Path.{_≡_, refl, ap, sym, _∙_}
 use mathlib.Core.List.{List}
-use Prim.Native.Nat.{ℕ, _≤_, _<_, _+_, _-_, _*_, _/_, _%_, _^_}
+use Prim.Native.Nat.{ℕ, _≤_, _+_, _-_, _*_, _/_, _%_, _^_}
 use native.Mathlib.Omega.{arith}
 use lib.Count.{ones, ones-le as ones-fit}
 use lib.ListN.{length, getD}

@@ -1,10 +1,10 @@
 -- `close` goes over the occupied records. The loop's invariant: the rows are the closure through the records below the entry reached. The
 -- measure is the entries left. It rests on `rounds-more`; an empty row stays empty (`rounds-occupied`). Assumes nothing.
 use mathlib.Core.Path.{_≡_, refl, sym, ap, _∙_}
-use Prim.Native.Nat.{ℕ, _≤_, _<_, _+_, _-_, _*_, _%_}
+use Prim.Native.Nat.{ℕ, _≤_, _<_, _-_}
 use native.Mathlib.Omega.{arith}
 use borrow.Author.Needs.{needs}
-use lib.ListN.{length, getD}
+use lib.ListN.{length}
 use Rattle.k2.specs.Bits.{bitAt}
 use Rattle.k2.specs.PairSets.{Cells, IsSet, over, closure}
 use Rattle.k2.specs.PairSetLaws.{closure-set}

@@ -1,5 +1,5 @@
 -- `count_pairs` counts the bits of the rows below n (`listed-length`). Assumes nothing.
-use mathlib.Core.Path.{_≡_, sym, ap, _∙_}
+use mathlib.Core.Path.{sym, ap, _∙_}
 use Prim.Native.Nat.{ℕ, _≤_, _*_}
 use native.Mathlib.Omega.{arith}
 use Rattle.k2.specs.Bits.{onesBelow}

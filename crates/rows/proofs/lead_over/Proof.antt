@@ -12,7 +12,7 @@ use Rattle.k2.specs.PairSets.{Cells, IsSet, over}
 use Rattle.rows.specs.Rows.{flat}
 use Rattle.rows.specs.Steps.{rowAt, Occupied, rowsTo, plusRow}
 use Rattle.rows.proofs.Search.{to-row}
-use Rattle.rows.proofs.Entries.{row-at, row-end}
+use Rattle.rows.proofs.Entries.{row-at}
 use Rattle.rows.proofs.Closing.{round-start, round-yes, round-no, round-end}
 use Rattle.rows.proofs.lead_over.Statement.{statement}
 use Rattle.rows.proofs.lead_over.Tie as tie

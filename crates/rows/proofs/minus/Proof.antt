@@ -1,10 +1,10 @@
 -- `minus` writes the words in turn. The loop's invariant: the words before i hold the answer's bits, those from i on are as at the start. The
 -- measure is the words left. It rests on `minus-word`. Assumes nothing.
 use mathlib.Core.Path.{_≡_, refl, ap₂, _∙_}
-use Prim.Native.Nat.{ℕ, _≤_, _-_}
+use Prim.Native.Nat.{_≤_, _-_}
 use native.Mathlib.Omega.{arith}
 use borrow.Author.Needs.{needs}
-use lib.ListN.{length, getD, length-set}
+use lib.ListN.{length, length-set}
 use Rattle.k2.specs.Bits.{bitAt}
 use Rattle.k2.specs.BitLaws.{Upto, upto-none, upto-more, upto-all}
 use Rattle.bits.specs.BitSets.{minus}

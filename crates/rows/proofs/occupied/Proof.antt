@@ -1,13 +1,13 @@
 -- `occupied` lists the rows in turn. The loop's invariant: the rows below i are listed, and the next is i. The measure is the rows left. It
 -- rests on `entries-skip` and `entries-add`. Assumes nothing.
-use mathlib.Core.Path.{_≡_, refl, _∙_}
+use mathlib.Core.Path.{_≡_, refl}
 use mathlib.Core.Logic.{⊎-elim}
-use Prim.Native.Nat.{ℕ, _≤_, _<_, _+_, _-_, _*_, _/_, _%_}
+use Prim.Native.Nat.{ℕ, _≤_, _+_, _-_, _*_, _/_, _%_}
 use native.Mathlib.Omega.{arith}
 use borrow.Author.Needs.{needs}
-use lib.ListN.{length, getD, set, length-set}
+use lib.ListN.{length, length-set}
 use Rattle.k2.specs.Bits.{bitAt}
-use Rattle.rows.specs.Steps.{EmptyRow, Masked, rowAt, Occupied, Masks}
+use Rattle.rows.specs.Steps.{rowAt, Occupied, Masks}
 use Rattle.rows.proofs.Search.{mask-empty}
 use Rattle.rows.proofs.Entries.{occupied-none, entries-skip, entries-add, masks-add}
 use Rattle.rows.proofs.occupied.Statement.{statement}

@@ -1,7 +1,7 @@
 -- `or_row` goes over the words. The loop's invariant: the first w squares of row k are in row i besides. The measure is the squares left. It
 -- rests on `part-step`. Assumes nothing.
 use mathlib.Core.Path.{_≡_, refl, _∙_}
-use Prim.Native.Nat.{ℕ, _≤_, _-_}
+use Prim.Native.Nat.{_≤_, _-_}
 use native.Mathlib.Omega.{arith}
 use borrow.Author.Needs.{needs}
 use lib.ListN.{length, length-set}

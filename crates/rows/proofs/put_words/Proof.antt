@@ -2,14 +2,13 @@
 -- rests on `links-more`. Assumes nothing.
 use mathlib.Core.Path.{_≡_, refl, sym, ap, _∙_}
 use mathlib.Core.List.{List, map}
-use Prim.Native.Nat.{ℕ, _≤_, _<_, _-_}
+use Prim.Native.Nat.{ℕ, _≤_, _-_}
 use native.Mathlib.Omega.{arith}
 use borrow.Author.Needs.{needs}
-use lib.ListN.{length, getD, take}
+use lib.ListN.{length, take}
 use Rattle.k2.specs.Bits.{bitAt}
 use Rattle.k2.specs.BitLaws.{Bits, bit-lt}
 use Rattle.k2.specs.PairSets.{Cells, setOf, union}
-use Rattle.bits.specs.BitSets.{put}
 use Rattle.rows.specs.Rows.{flat, linkPair}
 use Rattle.rows.proofs.Puts.{list-none, links-more, links-all}
 use Rattle.rows.proofs.put_words.Statement.{statement}

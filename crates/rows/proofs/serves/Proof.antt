@@ -2,7 +2,7 @@
 -- records left. It rests on `meets-in`: a record of a square serves exactly if the words' `&` has its bit. Assumes nothing.
 use mathlib.Core.Path.{_≡_, refl, sym, _∙_}
 use mathlib.Core.Logic.{⊎-elim}
-use Prim.Native.Nat.{ℕ, _≤_, _+_, _-_, _*_}
+use Prim.Native.Nat.{_≤_, _+_, _-_, _*_}
 use native.Mathlib.Omega.{arith}
 use Rattle.k2.specs.Bits.{digit, bitAt}
 use Rattle.k2.specs.PairSets.{most}

@@ -1,14 +1,13 @@
 -- `set_diagonal` sets a bit for each record. The loop's invariant: the records below i are joined to themselves. The measure is the records
 -- left. It rests on `diagonal-more`. Assumes nothing.
 use mathlib.Core.Path.{_≡_, refl, sym, ap, _∙_}
-use Prim.Native.Nat.{ℕ, _≤_, _<_, _-_}
+use Prim.Native.Nat.{_≤_, _-_}
 use native.Mathlib.Omega.{arith}
 use borrow.Author.Needs.{needs}
 use lib.ListN.{length}
 use Rattle.k2.specs.Bits.{bitAt}
 use Rattle.k2.specs.BitLaws.{Bits, bit-lt}
 use Rattle.k2.specs.PairSets.{Cells, union}
-use Rattle.bits.specs.BitSets.{put}
 use Rattle.rows.specs.Rows.{flat, identity}
 use Rattle.rows.proofs.Puts.{diagonal-none, diagonal-more}
 use Rattle.rows.proofs.set_diagonal.Statement.{statement}

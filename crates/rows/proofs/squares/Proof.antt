@@ -1,6 +1,6 @@
 -- `squares` tests the words of a row. The loop's invariant: the squares before s that the mask leaves out are empty. The measure is the squares
 -- left. It rests on `mask-set` and `mask-skip`. Assumes nothing.
-use mathlib.Core.Path.{_≡_, refl, ap, _∙_}
+use mathlib.Core.Path.{_≡_, ap, _∙_}
 use mathlib.Core.Logic.{⊎-elim}
 use Prim.Native.Nat.{ℕ, _≤_, _<_, _+_, _-_, _*_, _/_, _%_, _^_}
 use native.Mathlib.Nat.{one-mul}

@@ -1,7 +1,7 @@
 -- `store_row` copies the words. The loop's invariant: the first s words are stored, the others as at the start. The measure is the words
 -- left. It rests on `stored-more` and `stored-all`. Assumes nothing.
 use mathlib.Core.Path.{_≡_, refl}
-use Prim.Native.Nat.{ℕ, _≤_, _-_}
+use Prim.Native.Nat.{_≤_, _-_}
 use native.Mathlib.Omega.{arith}
 use borrow.Author.Needs.{needs}
 use lib.ListN.{length, length-set}

@@ -2,17 +2,15 @@
 -- are written, and t is their number. The measures are the words and the places of a word left. It rests on `bit-found`, `wrote-one` and, as
 -- places of bits are the words of pairs, `listed-places`. Assumes nothing.
 use mathlib.Core.Path.{_≡_, refl, sym, ap, _∙_}
-use mathlib.Core.List.{List, [], _∷_, _++_}
+use mathlib.Core.List.{[], _∷_, _++_}
 use Prim.Native.Nat.{ℕ, _≤_, _<_, _+_, _-_, _*_, _/_, _^_}
 use native.Mathlib.Nat.{div-one}
-use native.Mathlib.Numerals.{add-one}
 use native.Mathlib.Omega.{arith}
 use borrow.Author.Needs.{needs}
 use lib.Count.{trailingZeros, trailing-le}
 use lib.ListN.{length, getD, length-set, length-append}
 use Rattle.k2.specs.Bits.{bitAt}
-use Rattle.k2.specs.PairSets.{Cells, IsSet, listed}
-use Rattle.rows.specs.Rows.{flat}
+use Rattle.k2.specs.PairSets.{listed}
 use Rattle.rows.proofs.Listing.{places, places-first, places-longer, listed-places, Wrote, wrote-one, wrote-again, wrote-on, wrote-all, wrote-full, bit-found, bits-gone}
 use Rattle.rows.proofs.write_pairs.Statement.{statement}
 use Rattle.rows.proofs.write_pairs.Tie as tie
