@@ -1,5 +1,7 @@
 -- How a pair question is evaluated: the operands still waiting, as trees one after another at the front of the lent work.
 --   relations g     the algebra of sets of pairs in a graph: running an expression's code in it gives the expression's set
+--   onOne n i x, onTwo n i x y
+--                   what the number i of an operator makes of one operand, and of two
 --   Sets n st       every set of the stack st is one of pairs below n
 --   laid n st       the words of the stack's trees, the one that was put on first in front
 --   Sizes n ls k st of the k sets of the stack st, the numbers of words of their trees stand in the list ls, the first put on in front
@@ -9,13 +11,16 @@
 use mathlib.Core.Path.{_≡_}
 use mathlib.Core.List.{List, [], _∷_, _++_}
 use Prim.Native.Nat.{ℕ, suc}
+use lib.Dec.{eqb}
 use lib.ListN.{length, take, getD}
+use Rattle.book.specs.Basics.{pick}
 use Rattle.k2.specs.PairSets.{Cells, IsSet, union, transpose, product, closure}
 use Rattle.k2.specs.Trees.{treeWords}
 use Rattle.paths.specs.Expressions.{Expr, letter}
 use Rattle.paths.specs.Chains.{Graph}
 use Rattle.paths.specs.Relations.{crossed, zeroSteps, cells}
-use Rattle.reader.specs.Code.{Algebra, run}
+use Rattle.rows.specs.Rows.{identity}
+use Rattle.reader.specs.Code.{op-inverse, op-star, op-plus, op-alternative, Algebra, run}
 use Rattle.reader.specs.Running.{Runs}
 
 unfoldable pub relations : Graph → Algebra Cells
@@ -28,6 +33,15 @@ relations g = record {
   either = union;
   followed = product (g .n);
 }
+
+unfoldable pub onOne : ℕ → ℕ → Cells → Cells
+onOne n i x =
+    pick (eqb i op-inverse) (transpose x)
+    (pick (eqb i op-star) (union (closure n x) (identity n))
+    (pick (eqb i op-plus) (closure n x) (union x (identity n))))
+
+unfoldable pub onTwo : ℕ → ℕ → Cells → Cells → Cells
+onTwo n i x y = pick (eqb i op-alternative) (union x y) (product n x y)
 
 pub data Sets (n : ℕ) : List Cells → Type 0 where
   no-set : Sets n []

@@ -2,6 +2,10 @@
 --   value-cells     an expression's value in the algebra of relations is its set
 --   does-sets       every number of a code keeps the stack's sets within n
 --   sizes-count     the count of operands is the stack's height
+--   does-one, does-two
+--                   what an operator's number does to the stack
+--   label-set       the pairs of a label's links are the set of its letter
+--   laid-short      k trees have at most k × D words
 --   begins          with nothing waiting the whole code is left
 --   over-store      storing the size of a new top operand leaves those below
 -- Assumes nothing.
@@ -38,6 +42,15 @@ value-cells g (plus e) = ap (closure (g .n)) (value-cells g e)
 value-cells g (optional e) = ap (λ (a : Cells). union a (zeroSteps g)) (value-cells g e)
 value-cells g (alternative e f) = ap₂ union (value-cells g e) (value-cells g f)
 value-cells g (sequence e f) = ap₂ (product (g .n)) (value-cells g e) (value-cells g f)
+
+-- ---- operators
+module _ (g : Graph) (z : zeroSteps g ≡ identity (g .n)) where
+  pub does-one : (i : ℕ) (x : Cells) (st : List Cells) → op-inverse ≤ i → i < op-alternative → does (relations g) i (x ∷ st) ≡ onOne (g .n) i x ∷ st
+  unfolding does relations onOne
+  does-one i x st l h = go i l h
+    where
+      go : (i : ℕ) → op-inverse ≤ i → i < op-alternative → does (relations g) i (x ∷ st) ≡ onOne (g .n) i x ∷ st
+      go i l h = ?
 
 -- ---- the beginning
 pub begins : (g : Graph) {s : List ℕ} (e : Expr) → Is alternatives s e → depth e ≤ 8 → (work ls : List ℕ) → Waiting g e (code e) work ls 0 0 []
