@@ -7,3 +7,6 @@ pub mod BitLaws
 pub mod HeightLaws
 pub mod NodeLaws
 pub mod TreeLaws
+pub mod Heap
+pub mod PlaceLaws
+pub mod HeapLaws
