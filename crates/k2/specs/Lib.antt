@@ -2,11 +2,12 @@ pub mod Bits
 pub mod PairSets
 pub mod Trees
 pub mod Nodes
+pub mod Heap
 pub mod DigitLaws
 pub mod BitLaws
+pub mod PairSetLaws
 pub mod HeightLaws
 pub mod NodeLaws
 pub mod TreeLaws
-pub mod Heap
 pub mod PlaceLaws
 pub mod HeapLaws

@@ -1,0 +1,87 @@
+-- Laws of the scan for the next bit: the trailing zeros of a word tell its lowest digit that is set. Assumes nothing.
+use mathlib.Core.Path.{_≡_, refl, sym, ap, _∙_}
+use mathlib.Core.List.{List}
+use Prim.Native.Nat.{ℕ, zero, suc, _+_, _-_, _*_, _/_, _%_, _^_, _≤_, _<_, min}
+use native.Mathlib.Nat.{pow-suc, div-one, lt-of-le-of-lt}
+use native.Mathlib.Decide.{decLt}
+use native.Mathlib.Omega.{arith}
+use lib.Count.{trailingZeros, under}
+use lib.ListN.{length, getD}
+use lib.Pow.{shr-le}
+use Rattle.k2.specs.Bits.{digit, bitAt}
+use Rattle.k2.specs.DigitLaws.{digit-zero, digit-suc, digit-none, digit-add, digit-big}
+use Rattle.k2.specs.BitLaws.{bit-in, bit-out}
+use Rattle.bits.specs.BitSets.{Gap, Next}
+use Rattle.bits.specs.BitSetLaws.{gap-join}
+
+pub trailing-set : (k w : ℕ) → 0 < w → w < 2 ^ k → digit w (trailingZeros k w) ≡ 1
+unfolding trailingZeros
+trailing-set zero w h l = absurd (omega arith)
+trailing-set (suc k) w h l = go (w % 2) refl (trailing-set k (w / 2))
+  where
+    go : (d : ℕ) → w % 2 ≡ d → (0 < w / 2 → w / 2 < 2 ^ k → digit (w / 2) (trailingZeros k (w / 2)) ≡ 1) → digit w (under d (trailingZeros k (w / 2))) ≡ 1
+    go zero e ih = digit-suc w (trailingZeros k (w / 2)) ∙ ih (omega arith) (omega (arith, pow-suc 2 k))
+    go (suc d) e ih = digit-zero w ∙ omega arith
+
+pub trailing-clear : (k w j : ℕ) → j < trailingZeros k w → digit w j ≡ 0
+unfolding trailingZeros
+trailing-clear zero w j h = absurd (omega arith)
+trailing-clear (suc k) w j h = go (w % 2) refl j h (trailing-clear k (w / 2))
+  where
+    go : (d : ℕ) → w % 2 ≡ d → (j : ℕ) → j < under d (trailingZeros k (w / 2)) → ((i : ℕ) → i < trailingZeros k (w / 2) → digit (w / 2) i ≡ 0) → digit w j ≡ 0
+    go zero e zero h ih = digit-zero w ∙ e
+    go zero e (suc j) h ih = digit-suc w j ∙ ih j (omega arith)
+    go (suc d) e j h ih = absurd (omega arith)
+
+-- of what is left of word q from its digit s on, the lowest digit that is set
+module _ (ws : List ℕ) (q s : ℕ) (hs : s < 64) (fits : getD ws q 0 < 2 ^ 64) (some : 0 < getD ws q 0 / 2 ^ s) where
+  abbrev rest : ℕ
+  rest = getD ws q 0 / 2 ^ s
+
+  abbrev t : ℕ
+  t = trailingZeros 64 rest
+
+  hit : digit (getD ws q 0) (s + t) ≡ 1
+  hit = digit-add (getD ws q 0) s t ∙ trailing-set 64 rest some (lt-of-le-of-lt (shr-le (getD ws q 0) s) fits)
+
+  inside : s + t < 64
+  inside = go (decLt (s + t) 64)
+    where
+      go : Dec (s + t < 64) → s + t < 64
+      go (yes l) = l
+      go (no l) = absurd (omega (arith, hit, digit-big 64 (s + t) (getD ws q 0) fits (omega arith)))
+
+  pub next-here : (lo end r : ℕ) → lo ≡ q * 64 + s → lo ≤ end → r ≡ min end (lo + t) → Next (bitAt ws) lo end r
+  next-here lo end r e h m = record {
+    low = omega arith;
+    high = omega arith;
+    gap = λ k a b.
+        let j : ℕ = k - lo in
+        let g : k ≡ q * 64 + (s + j) = omega arith in
+        rw g (bit-in ws q (s + j) (omega (arith, inside)) ∙ digit-add (getD ws q 0) s j ∙ trailing-clear 64 rest j (omega arith));
+    hit = λ l.
+        let g : r ≡ q * 64 + (s + t) = omega arith in
+        rw g (bit-in ws q (s + t) inside ∙ hit);
+  }
+
+-- the same of a whole word
+pub next-word : (ws : List ℕ) (q end r : ℕ) → getD ws q 0 < 2 ^ 64 → 0 < getD ws q 0 → q * 64 ≤ end → r ≡ min end (q * 64 + trailingZeros 64 (getD ws q 0))
+    → Next (bitAt ws) (q * 64) end r
+next-word ws q end r f h l e = next-here ws q 0 (omega arith) f (rw div-one h) (q * 64) end r (omega arith) l (rw div-one e)
+
+-- what is left of a word is 0
+pub gap-rest : (ws : List ℕ) (q s lo : ℕ) → lo ≡ q * 64 + s → s < 64 → getD ws q 0 / 2 ^ s ≡ 0 → Gap (bitAt ws) lo ((q + 1) * 64)
+gap-rest ws q s lo e h z k a b =
+    let j : ℕ = k - lo in
+    let g : k ≡ q * 64 + (s + j) = omega arith in
+    rw g (bit-in ws q (s + j) (omega arith) ∙ digit-add (getD ws q 0) s j ∙ rw z (digit-none j))
+
+pub next-after : (f : ℕ → ℕ) (lo p end r : ℕ) → lo ≤ p → Gap f lo p → Next f p end r → Next f lo end r
+next-after f lo p end r l g n = record { low = omega (arith, n .low); high = n .high; gap = gap-join f lo p r g (n .gap); hit = n .hit }
+
+-- none up to the end
+pub next-none : (f : ℕ → ℕ) (lo p end : ℕ) → lo ≤ end → end ≤ p → Gap f lo p → Next f lo end end
+next-none f lo p end l h g = record { low = omega arith; high = omega arith; gap = λ k a b. g k a (omega arith); hit = λ z. absurd (omega arith) }
+
+pub gap-past : (ws : List ℕ) (lo p : ℕ) → length ws ≤ lo / 64 → Gap (bitAt ws) lo p
+gap-past ws lo p h k a b = bit-out ws k (omega arith)
