@@ -1,8 +1,9 @@
 -- Laws of `place`: each place below 4 ^ h is that of one row and one column. Assumes nothing.
-use mathlib.Core.Path.{_≡_, sym, ap, _∙_}
+use mathlib.Core.Path.{_≡_, refl, sym, ap, _∙_}
 use Prim.Native.Nat.{ℕ, zero, suc, _+_, _*_, _/_, _%_, _^_, _<_}
-use native.Mathlib.Nat.{add-zero, mul-comm, mul-assoc, add-mul, mod-lt, div-add-mod', pow-suc, div-lt-iff-lt-mul, mul-add-div-right, mul-add-mod-self-right, div-eq-of-lt, mod-eq-of-lt}
+use native.Mathlib.Nat.{div-div-eq-div-mul, add-zero, mul-comm, mul-assoc, add-mul, mod-lt, div-add-mod', pow-suc, div-lt-iff-lt-mul, mul-add-div-right, mul-add-mod-self-right, div-eq-of-lt, mod-eq-of-lt}
 use native.Mathlib.Omega.{arith}
+use lib.Arith.{mod-mul}
 use lib.Pow.{pow-pos, field, mod-mod-pow}
 use Rattle.k2.specs.Nodes.{quarterOf}
 use Rattle.k2.specs.Heap.{place, rowAt, columnAt}
@@ -116,3 +117,44 @@ place-step k x y z =
 
     rest-of : (x : ℕ) → x % 2 ^ suc k % 2 ^ k ≡ x % 2 ^ k
     rest-of x = rw e (mod-mod-pow x 1 k)
+
+-- the highest digit of a place
+pub row-step : (h z : ℕ) → rowAt (suc h) z ≡ z / 4 ^ h / 2 * 2 ^ h + rowAt h (z % 4 ^ h)
+unfolding rowAt
+row-step h z = refl
+
+pub column-step : (h z : ℕ) → columnAt (suc h) z ≡ z / 4 ^ h % 2 * 2 ^ h + columnAt h (z % 4 ^ h)
+unfolding columnAt
+column-step h z = refl
+
+-- ---- blocks of 8 × 8: the places of a block follow one another, 64 of them
+-- a place without its lowest three digits, and these
+run : (g z : ℕ) → (z / 4 ^ suc (suc (suc g)) ≡ z / 64 / 4 ^ g) × (z % 4 ^ suc (suc (suc g)) / 64 ≡ z / 64 % 4 ^ g) × (z % 4 ^ suc (suc (suc g)) % 64 ≡ z % 64)
+run g z =
+    let n : 4 ^ suc (suc (suc g)) ≡ 4 ^ g * 64 = rw (pow-suc 4 (suc (suc g)), pow-suc 4 (suc g), pow-suc 4 g, mul-assoc, mul-assoc) refl in
+    let m : z % (4 ^ g * 64) ≡ z / 64 % 4 ^ g * 64 + z % 64 = mod-mul z (four-pos g) (omega arith) in
+    rw n (rw (mul-comm (4 ^ g) 64) (sym (div-div-eq-div-mul z 64 (4 ^ g))), rw m (omega arith), rw m (omega arith))
+
+-- of rows and columns alike: `at` takes the digits of a place by t
+module _ (at : ℕ → ℕ → ℕ) (t : ℕ → ℕ) (none : (z : ℕ) → at 0 z ≡ 0) (step : (h z : ℕ) → at (suc h) z ≡ t (z / 4 ^ h) * 2 ^ h + at h (z % 4 ^ h)) where
+  block-of : (g z : ℕ) → z < 4 ^ suc (suc (suc g)) → at (suc (suc (suc g))) z ≡ 8 * at g (z / 64) + at 3 (z % 64)
+  block-of zero z l =
+      let e : z % 64 ≡ z = omega arith in
+      rw (e, none (z / 64)) (omega arith)
+  block-of (suc g) z l =
+      let r = run g z in
+      let w : ℕ = z % 4 ^ suc (suc (suc g)) in
+      let q : ℕ = t (z / 64 / 4 ^ g) in
+      let two : q * 2 ^ suc (suc (suc g)) ≡ q * 2 ^ g * 8 = rw (pow-suc 2 (suc (suc g)), pow-suc 2 (suc g), pow-suc 2 g, mul-assoc (2 ^ g) 2 2, mul-assoc (2 ^ g) 4 2) (sym (mul-assoc q (2 ^ g) 8)) in
+      let ih : at (suc (suc (suc g))) w ≡ 8 * at g (z / 64 % 4 ^ g) + at 3 (z % 64) = block-of g w (mod-lt z (four-pos (suc (suc (suc g))))) ∙ rw (r .1, r .2) refl in
+      step (suc (suc (suc g))) z ∙ rw (r .0, ih, two, step g (z / 64)) (omega arith)
+
+pub row-block : (g z : ℕ) → z < 4 ^ (g + 3) → rowAt (g + 3) z ≡ 8 * rowAt g (z / 64) + rowAt 3 (z % 64)
+row-block g z l =
+    let e : g + 3 ≡ suc (suc (suc g)) = omega arith in
+    rw e (block-of rowAt (λ q. q / 2) (λ z. unfold rowAt in refl) row-step g z (rw e at l))
+
+pub column-block : (g z : ℕ) → z < 4 ^ (g + 3) → columnAt (g + 3) z ≡ 8 * columnAt g (z / 64) + columnAt 3 (z % 64)
+column-block g z l =
+    let e : g + 3 ≡ suc (suc (suc g)) = omega arith in
+    rw e (block-of columnAt (λ q. q % 2) (λ z. unfold columnAt in refl) column-step g z (rw e at l))
