@@ -1,19 +1,19 @@
 -- Laws of sets of bits, and of `bitAt` after the stores that make them. Assumes nothing.
-use mathlib.Core.Path.{_≡_, refl, sym, ap, ap₂, _∙_, fun-ext}
+use mathlib.Core.Path.{_≡_, refl, sym, ap, _∙_, fun-ext}
 use mathlib.Core.Bool.{Bool, true, false}
 use mathlib.Core.List.{List}
-use Prim.Native.Nat.{ℕ, zero, suc, _+_, _-_, _*_, _/_, _%_, _^_, _≤_, _<_, min, max}
+use Prim.Native.Nat.{ℕ, _+_, _-_, _*_, _/_, _%_, _^_, _≤_, _<_, max}
 use native.Mathlib.Omega.{arith}
 use native.Mathlib.Decide.{decLt, ℕ-discrete}
 use lib.Bits.{bitAnd, bitOr}
-use lib.Dec.{eqb, leb}
+use lib.Dec.{eqb}
 use lib.ListN.{length, getD, set, replicate}
-use borrow.Author.Tests.{eq-eqb, ne-eqb, le-leb, lt-leb, leb-true, leb-false}
+use borrow.Author.Tests.{eq-eqb, ne-eqb}
 use Rattle.book.specs.Basics.{pick}
 use Rattle.k2.specs.Bits.{digit, bitAt}
-use Rattle.k2.specs.DigitLaws.{shifted, digit-lt, digit-or, digit-and, digit-not, digit-pow, digit-big, digit-shl, digit-four}
+use Rattle.k2.specs.DigitLaws.{digit-lt, digit-or, digit-and, digit-not, digit-pow, digit-four}
 use Rattle.k2.specs.BitLaws.{bit-in, bit-out, bit-zero, bit-set, bit-set-off, bit-replicate}
-use Rattle.bits.specs.BitSets.{none, put, either, both, minus, fourAt, orFour, Gap}
+use Rattle.bits.specs.BitSets.{none, put, either, both, minus, fourAt, Gap}
 
 -- ---- a bit put in
 pub put-at : (p v : ℕ) (f : ℕ → ℕ) → put p v f p ≡ v
@@ -88,45 +88,7 @@ pub four-out : (ws : List ℕ) (p : ℕ) → length ws ≤ p / 64 → fourAt (bi
 unfolding fourAt
 four-out ws p h = rw (bit-out ws p h, bit-out ws (p + 1) (omega arith), bit-out ws (p + 2) (omega arith), bit-out ws (p + 3) (omega arith))
 
-pub or-four : (ws : List ℕ) (p v : ℕ) → p % 4 ≡ 0 → p / 64 < length ws → v < 16
-    → bitAt (set ws (p / 64) (bitOr (getD ws (p / 64) 0) (v * 2 ^ (p % 64)))) ≡ orFour p v (bitAt ws)
-unfolding orFour either
-or-four ws p v h l hv = fun-ext (λ k. at k (ℕ-discrete (k / 64) (p / 64)))
-  where
-    here : (k : ℕ) → k / 64 ≡ p / 64 → digit (getD ws (p / 64) 0) (k % 64) ≡ bitAt ws k
-    here k e = unfold bitAt in (rw e)
-
-    moved : (k : ℕ) → k / 64 ≡ p / 64 → shifted (p % 64) v (k % 64) ≡ shifted p v k
-    moved k e = unfold shifted in (go (leb p k) refl)
-      where
-        go : (t : Bool) → leb p k ≡ t → pick (leb (p % 64) (k % 64)) (digit v (k % 64 - p % 64)) 0 ≡ pick (leb p k) (digit v (k - p)) 0
-        go true t =
-            let g : p ≤ k = leb-true p k t in
-            let s : k % 64 - p % 64 ≡ k - p = omega arith in
-            rw (t, le-leb (p % 64) (k % 64) (omega arith), s)
-        go false t =
-            let g : k < p = leb-false p k t in
-            rw (t, lt-leb (p % 64) (k % 64) (omega arith))
-
-    gone : (k : ℕ) → (k / 64 ≡ p / 64 → ⊥) → shifted p v k ≡ 0
-    gone k e = unfold shifted in (go (leb p k) refl)
-      where
-        go : (t : Bool) → leb p k ≡ t → pick (leb p k) (digit v (k - p)) 0 ≡ 0
-        go true t =
-            let g : p ≤ k = leb-true p k t in
-            rw t (digit-big 4 (k - p) v hv (omega (arith, e)))
-        go false t = rw t
-
-    at : (k : ℕ) → Dec (k / 64 ≡ p / 64) → bitAt (set ws (p / 64) (bitOr (getD ws (p / 64) 0) (v * 2 ^ (p % 64)))) k ≡ max (bitAt ws k) (shifted p v k)
-    at k (yes e) =
-        bit-set ws (p / 64) (bitOr (getD ws (p / 64) 0) (v * 2 ^ (p % 64))) k l e ∙ digit-or (getD ws (p / 64) 0) (v * 2 ^ (p % 64)) (k % 64)
-        ∙ ap₂ max (here k e) (digit-shl v (p % 64) (k % 64) ∙ moved k e)
-    at k (no e) = bit-set-off ws (p / 64) (bitOr (getD ws (p / 64) 0) (v * 2 ^ (p % 64))) k e ∙ rw (gone k e) (omega arith)
-
 -- ---- gaps
-pub gap-none : (f : ℕ → ℕ) (lo : ℕ) → Gap f lo lo
-gap-none f lo k a b = absurd (omega arith)
-
 pub gap-join : (f : ℕ → ℕ) (lo p q : ℕ) → Gap f lo p → Gap f p q → Gap f lo q
 gap-join f lo p q g h k a b = go (decLt k p)
   where

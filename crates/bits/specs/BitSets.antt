@@ -4,7 +4,6 @@
 --   either f g, both f g, minus f g
 --                   the bits of one or the other, of both, of the first and not the second
 --   fourAt f p      the four bits from place p on as a number, the lowest first
---   orFour p v f    f with the digits of v from place p on besides
 --   Gap f lo p      no bit from place lo to p - 1
 --   Next f lo end r r is the first place of a bit from lo on, or end if there is none before it
 -- Assumes nothing: these are definitions.
@@ -12,7 +11,6 @@ use mathlib.Core.Path.{_≡_}
 use Prim.Native.Nat.{ℕ, _+_, _-_, _*_, _≤_, _<_, max, min}
 use lib.Dec.{eqb}
 use Rattle.book.specs.Basics.{pick}
-use Rattle.k2.specs.DigitLaws.{shifted}
 
 unfoldable pub none : ℕ → ℕ
 none k = 0
@@ -31,9 +29,6 @@ minus f g k = f k - g k
 
 unfoldable pub fourAt : (ℕ → ℕ) → ℕ → ℕ
 fourAt f p = f p + 2 * f (p + 1) + 4 * f (p + 2) + 8 * f (p + 3)
-
-unfoldable pub orFour : ℕ → ℕ → (ℕ → ℕ) → ℕ → ℕ
-orFour p v f = either f (shifted p v)
 
 abbrev pub Gap : (ℕ → ℕ) → ℕ → ℕ → Type 0
 Gap f lo p = (k : ℕ) → lo ≤ k → k < p → f k ≡ 0

@@ -3,7 +3,7 @@
 --   Bits f          f has no value but 0 and 1
 --   Upto n f g      f and g agree in the first n words
 -- Assumes nothing.
-use mathlib.Core.Path.{_≡_, refl, sym, ap, ap₂, _∙_, fun-ext}
+use mathlib.Core.Path.{_≡_, refl, sym, ap, _∙_, fun-ext}
 use mathlib.Core.List.{List, [], _∷_, _++_}
 use Prim.Native.Nat.{ℕ, zero, suc, _+_, _-_, _*_, _/_, _%_, _^_, _≤_, _<_, zero-le}
 use native.Mathlib.Nat.{add-zero, zero-add, add-suc, suc-add, add-comm, mod-lt, mod-one, mod-eq-of-lt, mul-div-cancel, mul-mod-left, pow-suc, not-suc-le-zero, le-of-suc-le-suc}

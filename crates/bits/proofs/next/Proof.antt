@@ -1,13 +1,12 @@
 -- `next` looks at what is left of the first word, and then at whole words. The loop's invariant: no bit from `lo` to word q. The measure is
 -- the words left. It rests on `next-here`: the trailing zeros of a word tell its lowest digit that is set. Assumes nothing.
 use mathlib.Core.Path.{_≡_, refl}
-use Prim.Native.Nat.{ℕ, _≤_, _<_, _+_, _-_, _*_, _/_, _%_, _^_}
+use Prim.Native.Nat.{_≤_, _+_, _-_, _*_, _/_, _%_}
 use native.Mathlib.Omega.{arith}
-use lib.ListN.{length, getD}
 use Rattle.k2.specs.Bits.{bitAt}
-use Rattle.bits.specs.BitSets.{Gap, Next}
+use Rattle.bits.specs.BitSets.{Gap}
 use Rattle.bits.specs.BitSetLaws.{gap-join, gap-word}
-use Rattle.bits.proofs.Scan.{next-here, next-word, next-after, next-none, gap-rest, gap-past}
+use Rattle.bits.specs.ScanLaws.{next-here, next-word, next-after, next-none, gap-rest, gap-past}
 use Rattle.bits.proofs.next.Statement.{statement}
 use Rattle.bits.proofs.next.Tie as tie
 
@@ -37,7 +36,7 @@ place-requires c κs = omega arith
 returns-2 : tie.Need-returns-2 Inv-loop μ-loop
 returns-2 c =
     let a = c .before .before .before .before .before .args in
-    next-here (a .words .now) (a .lo / 64) (a .lo % 64) (omega arith) (c .before .before .shared-slice-known2 .given (a .lo / 64) .fits) (omega (arith, c .before .if2 .taken))
+    next-here (a .words .now) (a .lo / 64) (a .lo % 64) (c .before .before .shared-slice-known2 .given (a .lo / 64) .fits) (omega (arith, c .before .if2 .taken))
     (a .lo) (a .end) _ (omega arith) (omega arith) (c .place .ensures)
 
 add-q : tie.Need-add-q Inv-loop μ-loop

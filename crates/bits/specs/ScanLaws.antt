@@ -1,5 +1,5 @@
 -- Laws of the scan for the next bit: the trailing zeros of a word tell its lowest digit that is set. Assumes nothing.
-use mathlib.Core.Path.{_≡_, refl, sym, ap, _∙_}
+use mathlib.Core.Path.{_≡_, refl, _∙_}
 use mathlib.Core.List.{List}
 use Prim.Native.Nat.{ℕ, zero, suc, _+_, _-_, _*_, _/_, _%_, _^_, _≤_, _<_, min}
 use native.Mathlib.Nat.{pow-suc, div-one, lt-of-le-of-lt}
@@ -34,40 +34,36 @@ trailing-clear (suc k) w j h = go (w % 2) refl j h (trailing-clear k (w / 2))
     go (suc d) e j h ih = absurd (omega arith)
 
 -- of what is left of word q from its digit s on, the lowest digit that is set
-module _ (ws : List ℕ) (q s : ℕ) (hs : s < 64) (fits : getD ws q 0 < 2 ^ 64) (some : 0 < getD ws q 0 / 2 ^ s) where
-  abbrev rest : ℕ
-  rest = getD ws q 0 / 2 ^ s
+module _ (ws : List ℕ) (q s : ℕ) (fits : getD ws q 0 < 2 ^ 64) (some : 0 < getD ws q 0 / 2 ^ s) where
+  pub rest-set : digit (getD ws q 0) (s + trailingZeros 64 (getD ws q 0 / 2 ^ s)) ≡ 1
+  rest-set =
+      digit-add (getD ws q 0) s (trailingZeros 64 (getD ws q 0 / 2 ^ s))
+      ∙ trailing-set 64 (getD ws q 0 / 2 ^ s) some (lt-of-le-of-lt (shr-le (getD ws q 0) s) fits)
 
-  abbrev t : ℕ
-  t = trailingZeros 64 rest
-
-  hit : digit (getD ws q 0) (s + t) ≡ 1
-  hit = digit-add (getD ws q 0) s t ∙ trailing-set 64 rest some (lt-of-le-of-lt (shr-le (getD ws q 0) s) fits)
-
-  inside : s + t < 64
-  inside = go (decLt (s + t) 64)
+  pub rest-inside : s + trailingZeros 64 (getD ws q 0 / 2 ^ s) < 64
+  rest-inside = go (decLt (s + trailingZeros 64 (getD ws q 0 / 2 ^ s)) 64)
     where
-      go : Dec (s + t < 64) → s + t < 64
+      go : Dec (s + trailingZeros 64 (getD ws q 0 / 2 ^ s) < 64) → s + trailingZeros 64 (getD ws q 0 / 2 ^ s) < 64
       go (yes l) = l
-      go (no l) = absurd (omega (arith, hit, digit-big 64 (s + t) (getD ws q 0) fits (omega arith)))
+      go (no l) = absurd (omega (arith, rest-set, digit-big 64 (s + trailingZeros 64 (getD ws q 0 / 2 ^ s)) (getD ws q 0) fits (omega arith)))
 
-  pub next-here : (lo end r : ℕ) → lo ≡ q * 64 + s → lo ≤ end → r ≡ min end (lo + t) → Next (bitAt ws) lo end r
+  pub next-here : (lo end r : ℕ) → lo ≡ q * 64 + s → lo ≤ end → r ≡ min end (lo + trailingZeros 64 (getD ws q 0 / 2 ^ s)) → Next (bitAt ws) lo end r
   next-here lo end r e h m = record {
     low = omega arith;
     high = omega arith;
     gap = λ k a b.
         let j : ℕ = k - lo in
         let g : k ≡ q * 64 + (s + j) = omega arith in
-        rw g (bit-in ws q (s + j) (omega (arith, inside)) ∙ digit-add (getD ws q 0) s j ∙ trailing-clear 64 rest j (omega arith));
+        rw g (bit-in ws q (s + j) (omega (arith, rest-inside)) ∙ digit-add (getD ws q 0) s j ∙ trailing-clear 64 (getD ws q 0 / 2 ^ s) j (omega arith));
     hit = λ l.
-        let g : r ≡ q * 64 + (s + t) = omega arith in
-        rw g (bit-in ws q (s + t) inside ∙ hit);
+        let g : r ≡ q * 64 + (s + trailingZeros 64 (getD ws q 0 / 2 ^ s)) = omega arith in
+        rw g (bit-in ws q (s + trailingZeros 64 (getD ws q 0 / 2 ^ s)) rest-inside ∙ rest-set);
   }
 
 -- the same of a whole word
 pub next-word : (ws : List ℕ) (q end r : ℕ) → getD ws q 0 < 2 ^ 64 → 0 < getD ws q 0 → q * 64 ≤ end → r ≡ min end (q * 64 + trailingZeros 64 (getD ws q 0))
     → Next (bitAt ws) (q * 64) end r
-next-word ws q end r f h l e = next-here ws q 0 (omega arith) f (rw div-one h) (q * 64) end r (omega arith) l (rw div-one e)
+next-word ws q end r f h l e = next-here ws q 0 f (rw div-one h) (q * 64) end r (omega arith) l (rw div-one e)
 
 -- what is left of a word is 0
 pub gap-rest : (ws : List ℕ) (q s lo : ℕ) → lo ≡ q * 64 + s → s < 64 → getD ws q 0 / 2 ^ s ≡ 0 → Gap (bitAt ws) lo ((q + 1) * 64)
