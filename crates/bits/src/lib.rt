@@ -1,6 +1,6 @@
 // Bits in slices of 64-bit words: bit p is bit p % 64 of word p / 64.
 ghost use mathlib.Core.Path.{_≡_};
-ghost use Prim.Native.Nat.{_+_, _/_, _%_, _<_, _≤_, min};
+ghost use Prim.Native.Nat.{_+_, _*_, _/_, _%_, _^_, _<_, _≤_, min};
 ghost use lib.ListN.{length, replicate};
 ghost use lib.Count.{trailingZeros};
 ghost use Rattle.k2.specs.Bits.{bitAt, onesBelow};
@@ -56,19 +56,24 @@ pub fn rank(words: &[u64], p: usize) -> usize
     ensures { λ r. ⌜ r ≡ onesBelow (bitAt (now (words .entry))) p ⌝ }
 {
     let q = p / 64;
+    if words.len() <= q {
+        return ones(words, words.len());
+    }
+    ones(words, q) + u64::count_ones(words[q] % (1 << (p % 64))) as usize
+}
+
+// How many bits of the first `count` words are set.
+fn ones(words: &[u64], count: usize) -> usize
+    requires { ⌜ (count ≤ length (now words)) × (count * 64 < 2 ^ 64) ⌝ }
+    ensures { λ r. ⌜ r ≡ onesBelow (bitAt (now (words .entry))) (count * 64) ⌝ }
+{
     let mut n: usize = 0;
     let mut i = 0;
-    while i < q {
-        if words.len() <= i {
-            return n;
-        }
+    while i < count {
         n += u64::count_ones(words[i]) as usize;
         i += 1;
     }
-    if words.len() <= q {
-        return n;
-    }
-    n + u64::count_ones(words[q] % (1 << (p % 64))) as usize
+    n
 }
 
 // The first bit that is set from `lo` on, or `end` if there is none before it; words of 0 are passed at once.

@@ -274,9 +274,9 @@ pub fn close(rows: &mut [u64], n: usize)
 {
     let mut list: [u32; 1024] = [0; 1024];
     let m = occupied(rows, n, &mut list);
-    let mut t = 0;
-    while t < m {
-        lead_over(rows, (list[t] % 1024) as usize, &list, m);
-        t += 1;
+    let mut round = 0;
+    while round < m {
+        lead_over(rows, (list[round] % 1024) as usize, &list, m);
+        round += 1;
     }
 }

@@ -16,12 +16,12 @@ use Rattle.rows.proofs.close.Statement.{statement}
 use Rattle.rows.proofs.close.Tie as tie
 
 abbrev Inv-loop : tie.InvT-loop
-Inv-loop rows₀ n list m t₀ rows t =
-    (t ≤ m) × (length rows ≡ length rows₀) × ((x : Cells) → IsSet n x → Occupied (flat x) n (rowAt n m list) m → bitAt rows₀ ≡ flat x
-    → bitAt rows ≡ flat (closure (rowAt n m list t) x))
+Inv-loop rows₀ n list m round₀ rows round =
+    (round ≤ m) × (length rows ≡ length rows₀) × ((x : Cells) → IsSet n x → Occupied (flat x) n (rowAt n m list) m → bitAt rows₀ ≡ flat x
+    → bitAt rows ≡ flat (closure (rowAt n m list round) x))
 
 abbrev μ-loop : tie.MeasureT-loop
-μ-loop rows₀ n list m t₀ rows t = m - t
+μ-loop rows₀ n list m round₀ rows round = m - round
 
 slice-aggregate-occupied : tie.Need-slice-aggregate-occupied Inv-loop μ-loop
 slice-aggregate-occupied c = omega arith
@@ -52,8 +52,8 @@ lead-over-requires c κs =
     let o = c .before .before .before .before .before .occupied in
     (omega arith, omega arith, o .kept .1 .1 .0, o .ensures .0)
 
-add-t : tie.Need-add-t Inv-loop μ-loop
-add-t c = omega arith
+add-round : tie.Need-add-round Inv-loop μ-loop
+add-round c = omega arith
 
 loop-less : tie.Need-loop-less Inv-loop μ-loop
 loop-less c = omega arith
@@ -68,12 +68,12 @@ loop-again c =
     let r = rowAt (a .n) m list in
     let v = c .before .before .lead-over in
     let nl : a .n ≤ 1024 = omega arith in
-    let h : l .t < m = omega arith in (
+    let h : l .round < m = omega arith in (
       omega arith,
       v .kept .0 ∙ l .inv .1,
       λ x X o e.
-          v .ensures (a .n) (closure (r (l .t)) x) nl (closure-set (a .n) (r (l .t)) x X) (rounds-occupied (a .n) m x nl X r o (r (l .t))) (l .inv .2 x X o e)
-          ∙ ap flat (ap (λ (k : ℕ). over k (closure (r (l .t)) x)) (sym (row-at (a .n) m list (l .t) h)) ∙ rounds-more (a .n) m x nl X r o (l .t) h),
+          v .ensures (a .n) (closure (r (l .round)) x) nl (closure-set (a .n) (r (l .round)) x X) (rounds-occupied (a .n) m x nl X r o (r (l .round))) (l .inv .2 x X o e)
+          ∙ ap flat (ap (λ (k : ℕ). over k (closure (r (l .round)) x)) (sym (row-at (a .n) m list (l .round) h)) ∙ rounds-more (a .n) m x nl X r o (l .round) h),
     )
 
 same-length : tie.Need-same-length Inv-loop μ-loop
@@ -86,8 +86,8 @@ returns c =
     let u = c .before .before .before .occupied in
     let m = u .result in
     let list = u .last .1 .1 .0 in
-    let t : l .t ≡ m = omega arith in
-    λ x X e. l .inv .2 x X (rw e at (u .ensures .1)) e ∙ ap (λ (k : ℕ). flat (closure k x)) (ap (rowAt (a .n) m list) t ∙ row-end (a .n) m list)
+    let e : l .round ≡ m = omega arith in
+    λ x X ex. l .inv .2 x X (rw ex at (u .ensures .1)) ex ∙ ap (λ (k : ℕ). flat (closure k x)) (ap (rowAt (a .n) m list) e ∙ row-end (a .n) m list)
 
 pub close-spec : {M : Type 1} → statement M
 close-spec =
@@ -103,7 +103,7 @@ close-spec =
     cast-lead-over
     slice-aggregate-lead-over
     lead-over-requires
-    add-t
+    add-round
     loop-less
     loop-again
     same-length
