@@ -9,28 +9,37 @@
 --   begins          with nothing waiting the whole code is left
 --   over-store      storing the size of a new top operand leaves those below
 -- Assumes nothing.
-use mathlib.Core.Path.{_≡_, refl, sym, ap, ap₂, _∙_, subst}
+use mathlib.Core.Path.{_≡_, refl, sym, ap, ap₂, _∙_, subst, fun-ext}
 use mathlib.Core.List.{List, [], _∷_, _++_, append-nil}
-use mathlib.Core.Bool.{Bool, true, false}
+use mathlib.Core.Bool.{Bool, true, false, true≢false}
 use Prim.Native.Nat.{ℕ, zero, suc, _+_, _-_, _*_, _<_, _≤_}
+use native.Mathlib.Nat.{suc-mul}
+use native.Mathlib.Decide.{decLt}
 use native.Mathlib.Omega.{arith}
 use lib.Dec.{eqb}
 use lib.ListN.{length, take, drop, getD, set, length-append}
+use borrow.Author.Tests.{eq-eqb, ne-eqb, eqb-false}
 use lib.Seq.{getD-set-same, getD-set-other, take-take, take-add, take-append-seam, drop-append-seam}
-use Rattle.book.specs.Basics.{pick}
-use Rattle.k2.specs.PairSets.{Cells, IsSet, union, transpose, product, closure}
-use Rattle.k2.specs.PairSetLaws.{union-set, product-set, transpose-set, closure-set}
-use Rattle.k2.specs.Trees.{treeWords}
+use Rattle.book.specs.Basics.{pick, bit}
+use Rattle.book.specs.Book.{Book, present}
+use Rattle.book.specs.BookLaws.{Fit}
+use Rattle.k2.specs.PairSets.{Cells, IsSet, pairWord, setOf, union, transpose, product, closure}
+use Rattle.k2.specs.PairSetLaws.{union-set, product-set, transpose-set, closure-set, set-in, in-set, set-past}
+use Rattle.k2.specs.Trees.{treeWords, treeUnit}
+use Rattle.k2.specs.SizeLaws.{treeWords-most}
 use Rattle.paths.specs.Expressions.{Expr, symbol, letter, group, inverse, star, plus, optional, alternative, sequence, depth}
 use Rattle.paths.specs.Grammar.{alternatives, Is}
-use Rattle.paths.specs.Chains.{Graph}
+use Rattle.paths.specs.Chains.{Graph, asked}
 use Rattle.paths.specs.Relations.{crossed, zeroSteps, cells}
-use Rattle.paths.specs.ChainLaws.{Inside}
-use Rattle.paths.specs.RelationLaws.{crossed-set, zero-steps-set}
+use Rattle.paths.specs.RelationLaws.{crossed-letter}
+use Rattle.paths.specs.PairLaws.{fit-inside}
+use Rattle.register.specs.Questions.{PairsOf}
+use Rattle.rows.specs.Rows.{identity, linkPair}
+use Rattle.rows.specs.RowLaws.{identity-set}
 use Rattle.reader.specs.Code.{op-inverse, op-star, op-plus, op-optional, op-alternative, op-sequence, code, Algebra, value, does, run}
 use Rattle.reader.specs.Running.{Runs, next}
 use Rattle.reader.specs.CodeLaws.{run-code, runs-code}
-use Rattle.pairs.specs.Evaluation.{relations, Sets, no-set, one-more, laid, Sizes, empty, sized, most-waiting, Waiting}
+use Rattle.pairs.specs.Evaluation.{relations, onOne, onTwo, Sets, no-set, one-more, laid, Sizes, empty, sized, most-waiting, Waiting}
 
 pub value-cells : (g : Graph) (e : Expr) → value (relations g) e ≡ cells g e
 unfolding value relations cells
@@ -47,10 +56,55 @@ value-cells g (sequence e f) = ap₂ (product (g .n)) (value-cells g e) (value-c
 module _ (g : Graph) (z : zeroSteps g ≡ identity (g .n)) where
   pub does-one : (i : ℕ) (x : Cells) (st : List Cells) → op-inverse ≤ i → i < op-alternative → does (relations g) i (x ∷ st) ≡ onOne (g .n) i x ∷ st
   unfolding does relations onOne
-  does-one i x st l h = go i l h
+  does-one i x st l h = go (eqb i op-inverse) refl (eqb i op-star) refl (eqb i op-plus) refl
     where
-      go : (i : ℕ) → op-inverse ≤ i → i < op-alternative → does (relations g) i (x ∷ st) ≡ onOne (g .n) i x ∷ st
-      go i l h = ?
+      go : (t : Bool) → eqb i op-inverse ≡ t → (u : Bool) → eqb i op-star ≡ u → (v : Bool) → eqb i op-plus ≡ v → does (relations g) i (x ∷ st) ≡ onOne (g .n) i x ∷ st
+      go true e u f v q = rw e
+      go false e true f v q = rw (e, f) (ap (λ (a : Cells). union (closure (g .n) x) a ∷ st) z)
+      go false e false f true q = rw (e, f, q)
+      go false e false f false q =
+          let o : i ≡ op-optional = omega (arith, eqb-false i op-inverse e, eqb-false i op-star f, eqb-false i op-plus q) in
+          rw (e, f, q, eq-eqb i op-optional o) (ap (λ (a : Cells). union x a ∷ st) z)
+
+pub does-two : (g : Graph) (i : ℕ) (x y : Cells) (st : List Cells) → op-alternative ≤ i → i ≤ op-sequence → does (relations g) i (y ∷ x ∷ st) ≡ onTwo (g .n) i x y ∷ st
+unfolding does relations onTwo
+does-two g i x y st l h = go (eqb i op-alternative) refl
+  where
+    go : (t : Bool) → eqb i op-alternative ≡ t → does (relations g) i (y ∷ x ∷ st) ≡ onTwo (g .n) i x y ∷ st
+    go true e = rw (
+      ne-eqb i op-inverse (λ q. omega arith),
+      ne-eqb i op-star (λ q. omega arith),
+      ne-eqb i op-plus (λ q. omega arith),
+      ne-eqb i op-optional (λ q. omega arith),
+      e,
+    )
+    go false e = rw (
+      ne-eqb i op-inverse (λ q. omega arith),
+      ne-eqb i op-star (λ q. omega arith),
+      ne-eqb i op-plus (λ q. omega arith),
+      ne-eqb i op-optional (λ q. omega arith),
+      e,
+      eq-eqb i op-sequence (omega (arith, eqb-false i op-alternative e)),
+    )
+
+module _ (n i : ℕ) where
+  pub on-one-set : {x : Cells} → IsSet n x → IsSet n (onOne n i x)
+  unfolding onOne
+  on-one-set {x} p = go (eqb i op-inverse) (eqb i op-star) (eqb i op-plus)
+    where
+      go : (t u v : Bool) → IsSet n (pick t (transpose x) (pick u (union (closure n x) (identity n)) (pick v (closure n x) (union x (identity n)))))
+      go true u v = transpose-set n x p
+      go false true v = union-set n (closure n x) (identity n) (closure-set n n x p) (identity-set n)
+      go false false true = closure-set n n x p
+      go false false false = union-set n x (identity n) p (identity-set n)
+
+  pub on-two-set : {x y : Cells} → IsSet n x → IsSet n y → IsSet n (onTwo n i x y)
+  unfolding onTwo
+  on-two-set {x} {y} p q = go (eqb i op-alternative)
+    where
+      go : (t : Bool) → IsSet n (pick t (union x y) (product n x y))
+      go true = union-set n x y p q
+      go false = product-set n x y p q
 
 -- ---- the beginning
 pub begins : (g : Graph) {s : List ℕ} (e : Expr) → Is alternatives s e → depth e ≤ 8 → (work ls : List ℕ) → Waiting g e (code e) work ls 0 0 []
@@ -148,3 +202,45 @@ waiting-more g e i c work ls work′ k at start r st st′ v w d p s b t q l kep
       ends = sym m;
       trees = ap (λ (j : ℕ). take j work′) (sym m) ∙ front-join work′ (laid n st′) (treeWords n v) f h;
     }
+
+-- ---- how much room the trees take
+pub laid-short : (n : ℕ) (st : List Cells) → length (laid n st) ≤ length st * treeUnit n
+unfolding laid
+laid-short n [] = omega arith
+laid-short n (a ∷ st) =
+    let e : suc (length st) * treeUnit n ≡ length st * treeUnit n + treeUnit n = suc-mul (length st) (treeUnit n) in
+    omega (arith, length-append (laid n st) (treeWords n a), treeWords-most n a, laid-short n st)
+
+-- ---- letters: the pairs of a label's links
+module _ (b : Book) (fit : Fit (b .n) (b .sheet)) (small : b .n ≤ 1024) (l : ℕ) (ps : List ℕ) (P : PairsOf (b .sheet) l ps) where
+  g : Graph
+  g = asked b
+
+  same-pair : (x y x′ y′ : ℕ) → y < 1024 → y′ < 1024 → pairWord x y ≡ x′ * 1024 + y′ → (x ≡ x′) × (y ≡ y′)
+  same-pair x y x′ y′ p q e = (omega arith, omega arith)
+
+  pub label-set : setOf ps ≡ crossed g (letter l)
+  unfolding asked
+  label-set = fun-ext (λ x. fun-ext (λ y. at x y))
+    where
+      at : (x y : ℕ) → setOf ps x y ≡ crossed g (letter l) x y
+      at x y = go (present (b .sheet) (record { from = x; label = l; to = y })) refl ∙ sym (crossed-letter g (fit-inside b fit) l x y)
+        where
+          go : (t : Bool) → present (b .sheet) (record { from = x; label = l; to = y }) ≡ t → setOf ps x y ≡ bit (present (b .sheet) (record { from = x; label = l; to = y }))
+          go true e = in-set ps x y (omega (arith, fit .links _ e .to)) (P .whole x y e) ∙ rw e
+          go false e = none (decLt 0 (setOf ps x y)) ∙ rw e
+            where
+              none : Dec (0 < setOf ps x y) → setOf ps x y ≡ 0
+              none (yes h) =
+                  let r = P .sound (pairWord x y) (set-in ps x y h) in
+                  let y′ : r .1 < 1024 = omega (arith, fit .links _ (r .3) .to) in
+                  let k = same-pair x y (r .0) (r .1) (column x y h) y′ (r .2) in
+                  absurd (true≢false (sym (subst (λ (v : ℕ). present (b .sheet) (record { from = v; label = l; to = y }) ≡ true) (sym (k .0)) (subst (λ (v : ℕ). present (b .sheet) (record { from = r .0; label = l; to = v }) ≡ true) (sym (k .1)) (r .3))) ∙ e))
+              none (no h) = omega arith
+
+              column : (x y : ℕ) → 0 < setOf ps x y → y < 1024
+              column x y h = by (decLt y 1024)
+                where
+                  by : Dec (y < 1024) → y < 1024
+                  by (yes q) = q
+                  by (no q) = absurd (omega (arith, set-past ps x y (omega arith)))
