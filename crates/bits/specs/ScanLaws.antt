@@ -1,37 +1,19 @@
--- Laws of the scan for the next bit: the trailing zeros of a word tell its lowest digit that is set. Assumes nothing.
-use mathlib.Core.Path.{_≡_, refl, _∙_}
+-- Laws of the scan for the next bit, by the trailing zeros of what is left of a word. Assumes nothing.
+use mathlib.Core.Path.{_≡_, _∙_}
 use mathlib.Core.List.{List}
-use Prim.Native.Nat.{ℕ, zero, suc, _+_, _-_, _*_, _/_, _%_, _^_, _≤_, _<_, min}
-use native.Mathlib.Nat.{pow-suc, div-one, lt-of-le-of-lt}
+use Prim.Native.Nat.{ℕ, _+_, _-_, _*_, _/_, _^_, _≤_, _<_, min}
+use native.Mathlib.Nat.{div-one, lt-of-le-of-lt}
 use native.Mathlib.Decide.{decLt}
 use native.Mathlib.Omega.{arith}
-use lib.Count.{trailingZeros, under}
+use lib.Count.{trailingZeros}
 use lib.ListN.{length, getD}
 use lib.Pow.{shr-le}
 use Rattle.k2.specs.Bits.{digit, bitAt}
-use Rattle.k2.specs.DigitLaws.{digit-zero, digit-suc, digit-none, digit-add, digit-big}
+use Rattle.k2.specs.WordLaws.{trailing-set, trailing-clear}
+use Rattle.k2.specs.DigitLaws.{digit-none, digit-add, digit-big}
 use Rattle.k2.specs.BitLaws.{bit-in, bit-out}
 use Rattle.bits.specs.BitSets.{Gap, Next}
 use Rattle.bits.specs.BitSetLaws.{gap-join}
-
-pub trailing-set : (k w : ℕ) → 0 < w → w < 2 ^ k → digit w (trailingZeros k w) ≡ 1
-unfolding trailingZeros
-trailing-set zero w h l = absurd (omega arith)
-trailing-set (suc k) w h l = go (w % 2) refl (trailing-set k (w / 2))
-  where
-    go : (d : ℕ) → w % 2 ≡ d → (0 < w / 2 → w / 2 < 2 ^ k → digit (w / 2) (trailingZeros k (w / 2)) ≡ 1) → digit w (under d (trailingZeros k (w / 2))) ≡ 1
-    go zero e ih = digit-suc w (trailingZeros k (w / 2)) ∙ ih (omega arith) (omega (arith, pow-suc 2 k))
-    go (suc d) e ih = digit-zero w ∙ omega arith
-
-pub trailing-clear : (k w j : ℕ) → j < trailingZeros k w → digit w j ≡ 0
-unfolding trailingZeros
-trailing-clear zero w j h = absurd (omega arith)
-trailing-clear (suc k) w j h = go (w % 2) refl j h (trailing-clear k (w / 2))
-  where
-    go : (d : ℕ) → w % 2 ≡ d → (j : ℕ) → j < under d (trailingZeros k (w / 2)) → ((i : ℕ) → i < trailingZeros k (w / 2) → digit (w / 2) i ≡ 0) → digit w j ≡ 0
-    go zero e zero h ih = digit-zero w ∙ e
-    go zero e (suc j) h ih = digit-suc w j ∙ ih j (omega arith)
-    go (suc d) e j h ih = absurd (omega arith)
 
 -- of what is left of word q from its digit s on, the lowest digit that is set
 module _ (ws : List ℕ) (q s : ℕ) (fits : getD ws q 0 < 2 ^ 64) (some : 0 < getD ws q 0 / 2 ^ s) where

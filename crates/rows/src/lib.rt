@@ -62,7 +62,7 @@ pub fn set_diagonal(rows: &mut [u64], n: usize)
     }
 }
 
-// The pairs of link words put in: of a word, what is left of its label. Pair words are their own.
+// The pairs of link words put in: a link's word is label * 1048576 + pair word, and a pair word is the word of a link of label 0.
 pub fn put_words(words: &[u32], rows: &mut [u64])
     requires { ⌜ length (now rows) ≡ 16384 ⌝ }
     ensures { λ _. ⌜ ((x : Cells) → bitAt (now (rows .entry)) ≡ flat x
@@ -160,8 +160,8 @@ fn occupied(rows: &[u64], n: usize, list: &mut [u32]) -> usize
     m
 }
 
-// Whether some middle record serves: row i of the one and row j of the other have a column in common. The search goes over the squares, and
-// in a square that both rows may share over its records, and is left at the first that serves.
+// 1 if some middle record serves, that is, row i of a and row j of b have a column in common, else 0. The search goes over the squares, and
+// in a square that has such a column over its records, and is left at the first that serves.
 fn serves(a: &[u64], i: usize, b: &[u64], j: usize) -> u64
     requires { ⌜ (length (now a) ≡ 16384) × (i < 1024) × (length (now b) ≡ 16384) × (j < 1024) ⌝ }
     ensures { λ r. ⌜ r ≡ served (bitAt (now (a .entry))) (bitAt (now (b .entry))) i j ⌝ }
