@@ -213,11 +213,18 @@ laid-short n (a ∷ st) =
 
 -- ---- letters: the pairs of a label's links
 module _ (b : Book) (fit : Fit (b .n) (b .sheet)) (small : b .n ≤ 1024) (l : ℕ) (ps : List ℕ) (P : PairsOf (b .sheet) l ps) where
-  g : Graph
+  abbrev g : Graph
   g = asked b
 
   same-pair : (x y x′ y′ : ℕ) → y < 1024 → y′ < 1024 → pairWord x y ≡ x′ * 1024 + y′ → (x ≡ x′) × (y ≡ y′)
   same-pair x y x′ y′ p q e = (omega arith, omega arith)
+
+  column : (x y : ℕ) → 0 < setOf ps x y → y < 1024
+  column x y h = by (decLt y 1024)
+    where
+      by : Dec (y < 1024) → y < 1024
+      by (yes q) = q
+      by (no q) = absurd (omega (arith, set-past ps x y (omega arith)))
 
   pub label-set : setOf ps ≡ crossed g (letter l)
   unfolding asked
@@ -237,10 +244,3 @@ module _ (b : Book) (fit : Fit (b .n) (b .sheet)) (small : b .n ≤ 1024) (l : �
                   let k = same-pair x y (r .0) (r .1) (column x y h) y′ (r .2) in
                   absurd (true≢false (sym (subst (λ (v : ℕ). present (b .sheet) (record { from = v; label = l; to = y }) ≡ true) (sym (k .0)) (subst (λ (v : ℕ). present (b .sheet) (record { from = r .0; label = l; to = v }) ≡ true) (sym (k .1)) (r .3))) ∙ e))
               none (no h) = omega arith
-
-              column : (x y : ℕ) → 0 < setOf ps x y → y < 1024
-              column x y h = by (decLt y 1024)
-                where
-                  by : Dec (y < 1024) → y < 1024
-                  by (yes q) = q
-                  by (no q) = absurd (omega (arith, set-past ps x y (omega arith)))
