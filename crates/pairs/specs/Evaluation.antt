@@ -7,10 +7,15 @@
 --   Sizes n ls k st of the k sets of the stack st, the numbers of words of their trees stand in the list ls, the first put on in front
 --   Waiting g e c work ls k at
 --                   the code c is left to run; k operands wait, whose trees fill the first words of work up to at
+--   heights         the algebra in which every value is 0: running a code in it tells how high the stack is
+--   Totals d ls k at
+--                   the first k numbers of ls are each at most d, and together are at
+--   Room d c ls k at
+--                   the code c is left to run, k operands of at most d words wait, and they end at the word at
 -- Assumes nothing: these are definitions.
 use mathlib.Core.Path.{_≡_}
 use mathlib.Core.List.{List, [], _∷_, _++_}
-use Prim.Native.Nat.{ℕ, suc}
+use Prim.Native.Nat.{ℕ, suc, _+_, _≤_}
 use lib.Dec.{eqb}
 use lib.ListN.{length, take, getD}
 use Rattle.book.specs.Basics.{pick}
@@ -66,3 +71,26 @@ pub record Waiting (g : Graph) (e : Expr) (c work ls : List ℕ) (k at : ℕ) (s
   pub sizes : Sizes (g .n) ls k st
   pub ends : at ≡ length (laid (g .n) st)
   pub trees : take at work ≡ laid (g .n) st
+
+-- ---- the same of any contents: where the operands lie, whatever they are
+unfoldable pub heights : Algebra ℕ
+heights = record {
+  of = λ k. 0;
+  inverted = λ a. 0;
+  starred = λ a. 0;
+  repeated = λ a. 0;
+  maybe = λ a. 0;
+  either = λ a b. 0;
+  followed = λ a b. 0;
+}
+
+pub data Totals (d : ℕ) (ls : List ℕ) : ℕ → ℕ → Type 0 where
+  nothing : Totals d ls 0 0
+  also : {k at : ℕ} → Totals d ls k at → getD ls k 0 ≤ d → Totals d ls (suc k) (at + getD ls k 0)
+
+pub record Room (d : ℕ) (c ls : List ℕ) (k at : ℕ) : Type 0 where
+  pub stack : List ℕ
+  pub runs : Runs heights most-waiting c stack
+  pub count : k ≡ length stack
+  pub slots : length ls ≡ most-waiting
+  pub totals : Totals d ls k at

@@ -37,7 +37,7 @@ use Rattle.register.specs.Questions.{PairsOf}
 use Rattle.rows.specs.Rows.{identity, linkPair}
 use Rattle.rows.specs.RowLaws.{identity-set}
 use Rattle.reader.specs.Code.{op-inverse, op-star, op-plus, op-optional, op-alternative, op-sequence, code, Algebra, value, does, run}
-use Rattle.reader.specs.Running.{Runs, next}
+use Rattle.reader.specs.Running.{operands, Runs, ended, next}
 use Rattle.reader.specs.CodeLaws.{run-code, runs-code}
 use Rattle.pairs.specs.Evaluation.{relations, onOne, onTwo, Sets, no-set, one-more, laid, Sizes, empty, sized, most-waiting, Waiting}
 
@@ -53,6 +53,10 @@ value-cells g (alternative e f) = ap₂ union (value-cells g e) (value-cells g f
 value-cells g (sequence e f) = ap₂ (product (g .n)) (value-cells g e) (value-cells g f)
 
 -- ---- operators
+pub zero-identity : (b : Book) → zeroSteps (asked b) ≡ identity (b .n)
+unfolding zeroSteps asked
+zero-identity b = refl
+
 module _ (g : Graph) (z : zeroSteps g ≡ identity (g .n)) where
   pub does-one : (i : ℕ) (x : Cells) (st : List Cells) → op-inverse ≤ i → i < op-alternative → does (relations g) i (x ∷ st) ≡ onOne (g .n) i x ∷ st
   unfolding does relations onOne
@@ -120,6 +124,32 @@ begins g e d h work ls = record {
 -- ---- what is left to run
 pub runs-rest : (g : Graph) {i : ℕ} {c : List ℕ} {st : List Cells} → Runs (relations g) most-waiting (i ∷ c) st → Runs (relations g) most-waiting c (does (relations g) i st)
 runs-rest g (next a b h r) = r
+
+pub runs-height : {D : Type 0} (A : Algebra D) {k : ℕ} {c : List ℕ} {st : List D} → Runs A k c st → length st ≤ k
+runs-height A (ended h) = h
+runs-height A (next a b h r) = h
+
+-- a number is one of the code's, and finds its operands
+pub runs-number : {D : Type 0} (A : Algebra D) {k i : ℕ} {c : List ℕ} {st : List D} → Runs A k (i ∷ c) st → i ≤ op-sequence
+runs-number A (next a b h r) = a
+
+pub runs-operands : {D : Type 0} (A : Algebra D) {k i : ℕ} {c : List ℕ} {st : List D} → Runs A k (i ∷ c) st → operands i ≤ length st
+runs-operands A (next a b h r) = b
+
+-- a number's value finds room
+pub runs-room : {D : Type 0} (A : Algebra D) {k i : ℕ} {c : List ℕ} {st st′ : List D} {v : D} → Runs A k (i ∷ c) st → does A i st ≡ v ∷ st′ → length st′ < k
+runs-room A (next a b h r) e = omega (arith, ap length e, runs-height A r)
+
+pub does-label : (g : Graph) (i : ℕ) (st : List Cells) → i < op-inverse → does (relations g) i st ≡ crossed g (letter i) ∷ st
+unfolding does relations
+does-label g i st l = rw (
+  ne-eqb i op-inverse (λ e. omega arith),
+  ne-eqb i op-star (λ e. omega arith),
+  ne-eqb i op-plus (λ e. omega arith),
+  ne-eqb i op-optional (λ e. omega arith),
+  ne-eqb i op-alternative (λ e. omega arith),
+  ne-eqb i op-sequence (λ e. omega arith),
+)
 
 -- ---- the sizes
 pub sizes-count : {n k : ℕ} {ls : List ℕ} {st : List Cells} → Sizes n ls k st → k ≡ length st
