@@ -90,6 +90,7 @@ pub data Totals (d : ℕ) (ls : List ℕ) : ℕ → ℕ → Type 0 where
 
 pub record Room (d : ℕ) (c ls : List ℕ) (k at : ℕ) : Type 0 where
   pub stack : List ℕ
+  pub rest : run heights c stack ≡ 0 ∷ []
   pub runs : Runs heights most-waiting c stack
   pub count : k ≡ length stack
   pub slots : length ls ≡ most-waiting

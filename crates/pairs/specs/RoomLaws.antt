@@ -17,11 +17,11 @@ use lib.ListN.{length, getD, set, length-set}
 use lib.Seq.{getD-set-same, getD-set-other}
 use borrow.Author.Tests.{lt-ltb, le-ltb, eqb-false, eq-eqb, ne-eqb}
 use Rattle.book.specs.Basics.{pick}
-use Rattle.paths.specs.Expressions.{Expr, depth}
+use Rattle.paths.specs.Expressions.{Expr, symbol, letter, group, inverse, star, plus, optional, alternative, sequence, depth}
 use Rattle.paths.specs.Grammar.{alternatives, Is}
-use Rattle.reader.specs.Code.{op-inverse, op-star, op-plus, op-optional, op-alternative, op-sequence, code, does}
+use Rattle.reader.specs.Code.{op-inverse, op-star, op-plus, op-optional, op-alternative, op-sequence, code, value, does, run}
 use Rattle.reader.specs.Running.{operands, Runs, next}
-use Rattle.reader.specs.CodeLaws.{runs-code}
+use Rattle.reader.specs.CodeLaws.{run-code, runs-code}
 use Rattle.pairs.specs.EvaluationLaws.{runs-height}
 use Rattle.pairs.specs.Evaluation.{heights, most-waiting, Totals, nothing, also, Room}
 
@@ -42,8 +42,19 @@ totals-store {d} {ls = ls} j v h (also {k} {at} t b) =
     let e : getD (set ls j v) k 0 ≡ getD ls k 0 = getD-set-other ls j k v 0 (λ z. omega arith) in
     subst (λ (x : ℕ). Totals d (set ls j v) (suc k) (at + x)) e (also (totals-store j v (omega arith) t) (omega arith))
 
+value-heights : (e : Expr) → value heights e ≡ 0
+unfolding value heights
+value-heights (symbol (letter k)) = refl
+value-heights (group e) = value-heights e
+value-heights (inverse e) = refl
+value-heights (star e) = refl
+value-heights (plus e) = refl
+value-heights (optional e) = refl
+value-heights (alternative e f) = refl
+value-heights (sequence e f) = refl
+
 pub room-begins : (d : ℕ) {s : List ℕ} (e : Expr) → Is alternatives s e → depth e ≤ 8 → (ls : List ℕ) → length ls ≡ most-waiting → Room d (code e) ls 0 0
-room-begins d e p h ls l = record { slots = l; stack = []; runs = runs-code heights p most-waiting [] (omega arith); count = refl; totals = nothing }
+room-begins d e p h ls l = record { slots = l; stack = []; rest = run-code heights p [] ∙ ap (λ (v : ℕ). v ∷ []) (value-heights e); runs = runs-code heights p most-waiting [] (omega arith); count = refl; totals = nothing }
 
 -- what the next number asks
 pub record Ready (i k : ℕ) : Type 0 where
@@ -110,11 +121,21 @@ room-operands {i = i} r = go (r .runs) (r .count)
 
 pub room-more : {d i k at : ℕ} {c ls : List ℕ} (start r : ℕ) → Room d (i ∷ c) ls k at → Totals d ls (k - operands i) start → r ≤ d
     → Room d c (set ls (k - operands i) r) (suc (k - operands i)) (start + r)
+unfolding run
 room-more {d} {i} {k} {at} {c} {ls} start r R t h =
     let q = room-operands R in
     let j : ℕ = k - operands i in
     let e : getD (set ls j r) j 0 ≡ r = getD-set-same ls j r 0 (omega (arith, q .room, R .slots)) in
-    go (R .runs) (R .count) (subst (λ (x : ℕ). Totals d (set ls j r) (suc j) (start + x)) e (also (totals-store j r (omega arith) t) (omega arith)))
+    go (R .runs) (R .rest) (R .count) (subst (λ (x : ℕ). Totals d (set ls j r) (suc j) (start + x)) e (also (totals-store j r (omega arith) t) (omega arith)))
   where
-    go : {st : List ℕ} → Runs heights most-waiting (i ∷ c) st → k ≡ length st → Totals d (set ls (k - operands i) r) (suc (k - operands i)) (start + r) → Room d c (set ls (k - operands i) r) (suc (k - operands i)) (start + r)
-    go {st} (next a b g q) e T = record { slots = length-set ls (k - operands i) r ∙ R .slots; stack = does heights i st; runs = q; count = sym (height-after i st a b ∙ ap (λ (x : ℕ). suc (x - operands i)) (sym e)); totals = T }
+    go : {st : List ℕ} → Runs heights most-waiting (i ∷ c) st → run heights (i ∷ c) st ≡ 0 ∷ [] → k ≡ length st → Totals d (set ls (k - operands i) r) (suc (k - operands i)) (start + r) → Room d c (set ls (k - operands i) r) (suc (k - operands i)) (start + r)
+    go {st} (next a b g q) f e T = record { rest = f; slots = length-set ls (k - operands i) r ∙ R .slots; stack = does heights i st; runs = q; count = sym (height-after i st a b ∙ ap (λ (x : ℕ). suc (x - operands i)) (sym e)); totals = T }
+
+-- when nothing is left to run, one operand waits
+pub room-ends : {d k at : ℕ} {ls : List ℕ} → Room d [] ls k at → at ≤ d
+unfolding run
+room-ends {d} {k} {at} {ls} R =
+    let o : k ≡ 1 = R .count ∙ ap length (R .rest) in
+    let t = totals-most (R .totals) in
+    let m : k * d ≡ d = ap (λ (j : ℕ). j * d) o ∙ (let z : 1 * d ≡ d = omega arith in z) in
+    omega arith

@@ -29,7 +29,7 @@ same-length-2 c = search needs
 
 -- src/lib.rt:106:9
 returns-2 : tie.Need-returns-2
-returns-2 c = ?
+returns-2 c = c .before .before .unary .ensures _
 
 -- src/lib.rt:108:5
 binary-requires : tie.Need-binary-requires
@@ -41,7 +41,7 @@ same-length-3 c = search needs
 
 -- src/lib.rt:98:1
 returns-3 : tie.Need-returns-3
-returns-3 c = ?
+returns-3 c = c .before .before .binary .ensures _
 
 pub step-spec : {M : Type 1} → statement M
 step-spec =

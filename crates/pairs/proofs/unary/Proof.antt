@@ -60,7 +60,7 @@ returns c =
     goes-one (A .n) (A .op) (A .work .now) (I .last .0) (A .stack .sizes) (A .stack .count) (A .stack .end) (I .result) (c .before .before .before .before .before .before .pre .2) (c .before .before .before .before .before .before .pre .3)
     (omega (arith, l .4, c .before .before .before .before .before .before .pre .1)) (c .before .before .before .before .before .before .pre .4 .1 .slots) (I .ensures .0)
     (omega (arith, l .4, c .before .before .before .before .before .before .pre .1, I .ensures .0, part-length (A .work .now) start))
-    (λ a. I .ensures .1 a (c .before .before .before .before .before .before .pre .2) (c .before .before .before .before .before .before .pre .3))
+    (I .ensures .1 (c .before .before .before .before .before .before .pre .2) (c .before .before .before .before .before .before .pre .3))
 
 pub unary-spec : {M : Type 1} → statement M
 unary-spec =
