@@ -183,6 +183,7 @@ fn empty(n: u16) -> Register
     }
 }
 
+// Contents that no call of the engine made, whose numbers are out of range, are refused with 16 and handed back as they were.
 impl Register {
     // A fresh register; with n outside 1 to 1,024 the answer is 1, and the register handed back has no records.
     pub fn fresh(n: u16) -> Opened
@@ -281,6 +282,7 @@ impl Register {
         }
     }
 
+    // A link put in: 2, 3, 4, 5 or 7 if it cannot be.
     pub fn add(self, from: u16, label: u8, to: u16) -> Outcome
         ensures { λ r. ⌜ Steps self (edit (add (record { from = from; label = label; to = to }))) r ⌝ }
     {
@@ -290,6 +292,7 @@ impl Register {
                 answer: Answer::Refused(16),
             };
         }
+        // the causes, that of a lock among them, are looked for before anything is written or held
         let cause = link_cause(self.n, &self.locks, from, label, to);
         if cause != 0 {
             return Outcome {
@@ -318,6 +321,7 @@ impl Register {
         }
     }
 
+    // A link taken out: 2, 3, 4 or 6 if it cannot be.
     pub fn remove(self, from: u16, label: u8, to: u16) -> Outcome
         ensures { λ r. ⌜ Steps self (edit (remove (record { from = from; label = label; to = to }))) r ⌝ }
     {
@@ -349,6 +353,7 @@ impl Register {
         }
     }
 
+    // A record locked: 2 or 5 if it cannot be.
     pub fn lock(self, record: u16) -> Outcome
         ensures { λ r. ⌜ Steps self (edit (lock «record»)) r ⌝ }
     {
@@ -378,6 +383,7 @@ impl Register {
         }
     }
 
+    // A record unlocked: 2 or 6 if it cannot be.
     pub fn unlock(self, record: u16) -> Outcome
         ensures { λ r. ⌜ Steps self (edit (unlock «record»)) r ⌝ }
     {
@@ -432,8 +438,9 @@ impl Register {
         let word = self.ring[at];
         self.top = at;
         self.held = held - 1;
+        let restored = self.taken_back(word / 33554432, word % 33554432);
         Outcome {
-            register: self.taken_back(word / 33554432, word % 33554432),
+            register: restored,
             answer: Answer::Done,
         }
     }
