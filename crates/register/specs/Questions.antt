@@ -1,10 +1,12 @@
 -- What the questions are given of a register: its links as a slice of words, the part of one label, and the next link out of or into a record.
---   Listing self r  what `links` promises: at most 4,096 words, and for every book that the register represents, the words of its links
 --   Sized self n    what `size` promises: at most 1,024, and the number of records of every book that the register represents
+--   Listing self r  what `links` promises: at most 4,096 words, and for every book that the register represents, the words of its links
 --   pairOf w        the pair of a link's word, from × 1,024 + to
 --   PairsOf s l ps  ps are the pairs x × 1,024 + y of the links x l y of the sheet s, ascending, each once
 --   LabelPart ws l part
 --                   what `label_part` promises
+--   firstPlace test ws
+--                   the first place whose word passes the test, or the number of words
 --   nextPlace test ws at
 --                   the first place from at on whose word passes the test, or the number of words
 --   start k, end k  the record at which a link begins, and ends
