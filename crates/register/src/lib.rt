@@ -317,7 +317,6 @@ impl Register {
         ensures { λ r. ⌜ Steps self (edit (add (record { from = from; label = label; to = to }))) r ⌝ }
     {
         let count = self.count;
-        // the causes, that of a lock among them, are looked for before anything is written or held
         let check = check_link(
             self.n,
             count,
@@ -328,6 +327,7 @@ impl Register {
             label,
             to,
         );
+        // the causes of the ends, a lock among them, were looked for before anything is written or held
         match check {
             LinkCheck::Fault(number) => Outcome {
                 register: self,

@@ -62,7 +62,7 @@ returns-2 c =
     refuse s (add (link (c .before .before .before .before .before .before .before .before .before .before .before .before .before))) 7 (omega arith) (λ _ r. causes-left (c .before .before) r ∙ rw (c .before .if1 .left, le-leb 4096 _ h))
 
 put-in-requires : tie.Need-put-in-requires
-put-in-requires c κs = search needs
+put-in-requires c κs = c .if2 .left
 
 hold-requires : tie.Need-hold-requires
 hold-requires c κs =
