@@ -177,6 +177,10 @@ module _ (test : ℕ → Bool) (ws : List ℕ) where
     unfolding nextPlace
     next-le = omega arith
 
+    next-from : at ≤ length ws → at ≤ nextPlace test ws at
+    unfolding nextPlace
+    next-from h = omega arith
+
     next-is : nextPlace test ws at < length ws → (at ≤ nextPlace test ws at) × (test (getD ws (nextPlace test ws at) 0) ≡ true)
     unfolding nextPlace
     next-is h =
@@ -196,6 +200,8 @@ pub next-link : (side : Link → ℕ) (ws : List ℕ) (r at i : ℕ) → i ≡ n
 unfolding touches
 next-link side ws r at i e = record {
   place = e;
+  within = rw e (next-le (touches side r) ws at);
+  onward = λ h. rw e (next-from (touches side r) ws at h);
   sound = λ n s small fit l h.
       let o = l .sound (getD ws i 0) (at-in ws i 0 h) in
       let t : touches side r (getD ws i 0) ≡ true = rw e (next-is (touches side r) ws at (rw e at h) .1) in

@@ -34,7 +34,8 @@ same-answer : (self : Register) (b : Book) (e : Edit) → Represents self b → 
 same-answer self b e h = rw (h .size) (shows-cause (subst (λ (n : ℕ). n ≤ maxRecords) (h .size) (h .ranged .size)) (h .sheet) e)
 
 module _ (self : Register) (e : Edit) where
-  pub refuse : (k : ℕ) → (k ≡ 0 → ⊥) → (Rises 0 (packedOf self .links) → firstNumber (packedCauses (self .n) (packedOf self) e) ≡ k) → Steps self (edit e) (record { register = self; answer = Refused k })
+  pub refuse : (k : ℕ) → (k ≡ 0 → ⊥) → (Ranged (self .n) (self .count) (self .top) (self .held) → Rises 0 (packedOf self .links) → firstNumber (packedCauses (self .n) (packedOf self) e) ≡ k)
+      → Steps self (edit e) (record { register = self; answer = Refused k })
   unfolding answer next turned
   refuse zero z p = absurd (z refl)
   refuse (suc k) z p = record {
@@ -44,7 +45,7 @@ module _ (self : Register) (e : Edit) where
   }
     where
       told : (b : Book) → Represents self b → editAnswer (b .n) (b .sheet) e ≡ suc k
-      told b h = sym (same-answer self b e h) ∙ p (h .sheet .links .ascending)
+      told b h = sym (same-answer self b e h) ∙ p (h .ranged) (h .sheet .links .ascending)
 
 piled-take : (k : ℕ) (n : ℕ) (p : Packed) (ws : List ℕ) (ss : List Sheet) → Piled n p ws ss → Piled n p (take k ws) (take k ss)
 unfolding Piled

@@ -1,6 +1,8 @@
 -- What a register says of a book, and what each call of the engine promises.
 --   answerNumber a  an answer's number: 0 if the call is accepted, else the number of its cause
---   heldWords r     the words of the held edits, the latest first
+--   previous t      the place before a place of the ring
+--   latest, heldWords
+--                   the words of the held edits, the latest first: of a ring, its top and their number, and of a register
 --   packedOf r      the sheet that a register keeps
 --   Ranged          the register's numbers are in range, so that its arrays hold what they count
 --   Represents r b  the register r stands for the book b: n, links, locks, and every sheet that an undo could restore
@@ -8,7 +10,8 @@
 --   Steps self c out
 --                   what a call promises: a refused one hands the register back as it was, whatever it contains; and for every book that the
 --                   register represents, the answer is the book's, and the register handed back represents the book after the call
---   wordCall w      the call that a word of 64 bits stands for
+--   callOf, wordCall
+--                   the call that a kind and arguments, or a word of 64 bits, stand for
 -- Assumes nothing: these are definitions.
 use mathlib.Core.Path.{_≡_}
 use mathlib.Core.List.{List, [], _∷_}
@@ -27,7 +30,6 @@ abbrev pub answerNumber : Answer → ℕ
 answerNumber Done = 0
 answerNumber (Refused k) = k
 
--- the place before a place of the ring
 abbrev pub previous : ℕ → ℕ
 previous zero = 255
 previous (suc t) = t

@@ -3,7 +3,7 @@
 --   Small c         the arguments of the call are as wide as the frames': records of 16 bits, a label of 8
 --   Members e b     what the register e and the book b have in common, as sets: the links, each once, and the locks
 use mathlib.Core.Path.{_≡_, refl, ap₂}
-use mathlib.Core.List.{List, [], _∷_}
+use mathlib.Core.List.{List, [], _∷_, map}
 use mathlib.Core.Bool.{false}
 use Prim.Native.Nat.{ℕ, _+_, _*_, _/_, _%_, _<_}
 use native.Mathlib.Omega.{arith}
@@ -15,8 +15,9 @@ use Rattle.book.specs.BookLaws.{Fit, All, all-none, all-more, Sound}
 use Rattle.register.specs.Links.{Linked}
 use Rattle.register.specs.Packed.{Packed, takeBack, Piled}
 use Rattle.register.specs.Calls.{heldWords, packedOf, Represents, callOf, wordCall}
-use Rattle.register.specs.History.{Run, done, more}
+use Rattle.register.specs.History.{Run, done, more, replayNumber, Replays}
 use Rattle.register.specs.declared.Register.{Register}
+use Rattle.register.specs.declared.Opened.{Opened}
 
 pub answered : {r e : Register} {cs : List Call} {told : List ℕ} → Run r cs told e → (b : Book) → Represents r b → told ≡ answers b cs
 unfolding answers
@@ -47,6 +48,10 @@ members h = let s = h .sheet in record { links = s .links; once = s .fit .once; 
 
 pub history-members : (n : ℕ) {r e : Register} {cs : List Call} {told : List ℕ} → Represents r (fresh n) → Run r cs told e → (told ≡ answers (fresh n) cs) × Members e (after (fresh n) cs)
 history-members n h run = let o = history n h run in (o .0, members (o .1))
+
+-- the same of the code itself
+pub replay-members : {n : ℕ} {ws old new : List ℕ} {out : Opened} → Replays n ws old new out → replayNumber n ws old ≡ 0 → Members (out .register) (after (fresh n) (map wordCall ws))
+replay-members r z = members (r .book z)
 
 -- every sheet of a book that a register represents fits
 piled-fit : (n : ℕ) (p : Packed) (ws : List ℕ) (ss : List Sheet) → Piled n p ws ss → All (Fit n) ss

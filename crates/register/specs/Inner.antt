@@ -6,21 +6,25 @@
 --                   whether i is one of the first c places and x stands there
 --   linkCauses n locks k
 --                   the causes against the ends and the label of a link, in their order
---   Guarded, Holding, Changed, TakenBack
---                   what `ranged`, `hold`, the inner edits and `taken_back` promise
+--   hasAt unit r w  whether a word has the record r in the ten bits from unit on
+--   Guarded, Checks, Holding, Changed, TakenBack
+--                   what `ranged`, `check_link`, `hold`, the inner edits and `taken_back` promise
 -- Assumes nothing: these are definitions.
 use mathlib.Core.Path.{_≡_}
 use mathlib.Core.List.{List, _∷_, [], _++_}
 use mathlib.Core.Bool.{Bool, true, false, _||_, _&&_}
-use Prim.Native.Nat.{ℕ, suc, _≤_, _<_}
+use Prim.Native.Nat.{ℕ, suc, _/_, _%_, _≤_, _<_}
 use lib.ListN.{length, take, drop, getD}
 use lib.Dec.{leb, ltb, eqb}
 use Rattle.book.specs.Basics.{Rises}
-use Rattle.book.specs.Causes.{Cause, no-record, bad-label, locked-end, labels, maxLinks, maxHeld}
+use Rattle.book.specs.Causes.{Cause, no-record, bad-label, locked-end, firstNumber, labels, maxLinks, maxHeld}
 use Rattle.book.specs.Book.{Link}
+use Rattle.register.specs.Links.{linkWord}
 use Rattle.register.specs.Packed.{Packed, takeBackKind}
 use Rattle.register.specs.Calls.{heldWords, packedOf, Ranged}
 use Rattle.register.specs.declared.Register.{Register}
+use Rattle.register.specs.declared.LinkCheck.{LinkCheck}
+use Rattle.register.specs.declared.LinkCheck.the-variants.{Word, Fault}
 
 unfoldable pub putAt : ℕ → ℕ → List ℕ → List ℕ
 putAt i x l = take i l ++ (x ∷ drop i l)
@@ -42,9 +46,17 @@ linkCauses n locks k =
     (bad-label, leb labels (k .label)) ∷
     (locked-end, getD locks (k .from) false || getD locks (k .to) false) ∷ []
 
+unfoldable pub hasAt : ℕ → ℕ → ℕ → Bool
+hasAt unit r w = eqb (w / unit % 1024) r
+
 pub record Guarded (n c t h : ℕ) (ok : Bool) : Type 0 where
   pub sure : ok ≡ true → Ranged n c t h
   pub none : ok ≡ false → Ranged n c t h → ⊥
+
+-- a fault is a number, and of a register in range that of the first cause; a word is the link's, with no cause so far
+abbrev pub Checks : ℕ → ℕ → ℕ → ℕ → List Bool → Link → LinkCheck → Type 0
+Checks n c t h locks k (Fault z) = (z ≡ 0 → ⊥) × (Ranged n c t h → z ≡ firstNumber (linkCauses n locks k))
+Checks n c t h locks k (Word x) = Ranged n c t h × (x ≡ linkWord k) × (firstNumber (linkCauses n locks k) ≡ 0)
 
 -- one more word is held, and the oldest is forgotten where 256 were
 pub record Holding (self : Register) (w : ℕ) (r : Register) : Type 0 where

@@ -1,16 +1,17 @@
--- A sheet as the register keeps it, and what a held edit takes back.
+-- A sheet as the register keeps it, and what a held edit takes back: the means by which a register is related to a book.
 --   Packed          the links' words, and for each record whether it is locked
 --   insert x l      x put in before the first number of l that is not below it
 --   kindUnit        a held word is its kind times this, plus the link's word or the record
 --   heldWord e      the word that is held for an edit
---   takeBack w p    p with the edit of the held word w taken back
+--   takeBackKind, takeBack
+--                   p with an edit taken back: by its kind and number, or by its held word
 --   Shows n p s     p shows the sheet s of a register of n records: the same links, each once, and the same locks
 --   Piled n p ws ss taking back the edits of the held words ws, one after the other from p on, shows the sheets ss one after the other
 -- Assumes nothing: these are definitions.
 use mathlib.Core.Path.{_≡_}
 use mathlib.Core.List.{List, [], _∷_}
 use mathlib.Core.Bool.{Bool, true, false}
-use Prim.Native.Nat.{ℕ, zero, suc, _+_, _/_, _%_}
+use Prim.Native.Nat.{ℕ, zero, suc, _+_, _*_, _/_, _%_}
 use lib.ListN.{length, getD, set}
 use lib.Dec.{eqb, ltb}
 use Rattle.book.specs.Basics.{pick, without}
@@ -33,8 +34,8 @@ kindUnit = 33554432
 unfoldable pub heldWord : Edit → ℕ
 heldWord (add k) = linkWord k
 heldWord (remove k) = kindUnit + linkWord k
-heldWord (lock r) = 67108864 + r
-heldWord (unlock r) = 100663296 + r
+heldWord (lock r) = 2 * kindUnit + r
+heldWord (unlock r) = 3 * kindUnit + r
 
 unfoldable pub takeBackKind : ℕ → ℕ → Packed → Packed
 takeBackKind zero x p = record { links = without eqb x (p .links); locks = p .locks }

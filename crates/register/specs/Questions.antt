@@ -1,14 +1,17 @@
 -- What the questions are given of a register: its links as a slice of words, the part of one label, and the next link out of or into a record.
---   Listing self r  what `links` promises: at most 4,096 words, and for every book that the register represents, the words of its links
 --   Sized self n    what `size` promises: at most 1,024, and the number of records of every book that the register represents
+--   Listing self r  what `links` promises: at most 4,096 words, and for every book that the register represents, the words of its links
 --   pairOf w        the pair of a link's word, from × 1,024 + to
 --   PairsOf s l ps  ps are the pairs x × 1,024 + y of the links x l y of the sheet s, ascending, each once
 --   LabelPart ws l part
 --                   what `label_part` promises
+--   firstPlace test ws
+--                   the first place whose word passes the test, or the number of words
 --   nextPlace test ws at
 --                   the first place from at on whose word passes the test, or the number of words
---   begins r w, ends r w
---                   whether the link of a word begins, or ends, at the record r
+--   start k, end k  the record at which a link begins, and ends
+--   touches side r w
+--                   whether the link of a word has the record r at one side
 --   NextLink side ws r at i
 --                   what `next_out` and `next_in` promise of the record at one side of a link
 -- Assumes nothing: these are definitions.
@@ -34,6 +37,7 @@ pub record Sized (self : Register) (n : ℕ) : Type 0 where
 
 pub record Listing (self : Register) (r : Links) : Type 0 where
   pub few : r .count ≤ maxLinks
+  pub long : length (r .words) ≡ maxLinks
   pub linked : (b : Book) → Represents self b → Linked (take (r .count) (r .words)) (b .sheet)
 
 abbrev pub pairOf : ℕ → ℕ
@@ -68,6 +72,8 @@ touches side r w = eqb (side (linkOf w)) r
 -- the place by the words; and for every sheet whose links they are: there is such a link at i, and none is between at and i
 pub record NextLink (side : Link → ℕ) (ws : List ℕ) (r at i : ℕ) : Type 0 where
   pub place : i ≡ nextPlace (touches side r) ws at
+  pub within : i ≤ length ws
+  pub onward : at ≤ length ws → at ≤ i
   pub sound : (n : ℕ) (s : Sheet) → n ≤ maxRecords → Fit n s → Linked ws s → i < length ws →
       (k : Link) × (getD ws i 0 ≡ linkWord k) × (present s k ≡ true) × (side k ≡ r)
   pub whole : (n : ℕ) (s : Sheet) → n ≤ maxRecords → Fit n s → Linked ws s → (k : Link) → present s k ≡ true → side k ≡ r →

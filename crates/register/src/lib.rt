@@ -12,9 +12,9 @@ ghost use Rattle.book.specs.Book.{Link, add, remove, lock, unlock, edit, undo};
 ghost use Rattle.register.specs.Links.{linkWord};
 ghost use Rattle.register.specs.Packed.{insert};
 ghost use Rattle.register.specs.Calls.{answerNumber, packedOf, Represents, Opens, Steps, wordCall};
-ghost use Rattle.register.specs.Inner.{putAt, cutAt, Seam, standsAt, linkCauses, Guarded, Holding, Changed, TakenBack};
+ghost use Rattle.register.specs.Inner.{putAt, cutAt, Seam, standsAt, linkCauses, hasAt, Guarded, Checks, Holding, Changed, TakenBack};
 ghost use Rattle.register.specs.History.{Replays};
-ghost use Rattle.register.specs.Questions.{Sized, Listing, LabelPart, NextLink, start, end};
+ghost use Rattle.register.specs.Questions.{Sized, Listing, LabelPart, nextPlace, NextLink, start, end};
 
 // n records; the first count words of links, ascending, are the links present; of ring, the held words before top are the latest accepted edits.
 pub struct Register {
@@ -49,6 +49,12 @@ pub struct Outcome {
 pub struct Links {
     pub words: [u32; 4096],
     pub count: usize,
+}
+
+// What is found of a link before its presence is: its word, or the number of a refusal.
+enum LinkCheck {
+    Word(u32),
+    Fault(u32),
 }
 
 // The place of x among the first count words, by halving: the first whose word is not below x, where they ascend.
@@ -167,6 +173,30 @@ fn link_word(from: u16, label: u8, to: u16) -> u32
     (label as u32 * 1024 + from as u32) * 1024 + to as u32
 }
 
+// The register's numbers, then the link's ends and label.
+fn check_link(
+    n: u16,
+    count: usize,
+    top: usize,
+    held: usize,
+    locks: &[bool],
+    from: u16,
+    label: u8,
+    to: u16,
+) -> LinkCheck
+    requires { ⌜ length (now locks) ≡ 1024 ⌝ }
+    ensures { λ r. ⌜ Checks n count top held (now (locks .entry)) (record { from = from; label = label; to = to }) r ⌝ }
+{
+    if !ranged(n, count, top, held) {
+        return LinkCheck::Fault(16);
+    }
+    let cause = link_cause(n, locks, from, label, to);
+    if cause != 0 {
+        return LinkCheck::Fault(cause);
+    }
+    LinkCheck::Word(link_word(from, label, to))
+}
+
 // A register of n records with no link, no lock and nothing held.
 fn empty(n: u16) -> Register
     requires { ⌜ n ≤ 1024 ⌝ }
@@ -183,6 +213,7 @@ fn empty(n: u16) -> Register
     }
 }
 
+// Contents that no call of the engine made, whose numbers are out of range, are refused with 16 and handed back as they were.
 impl Register {
     // A fresh register; with n outside 1 to 1,024 the answer is 1, and the register handed back has no records.
     pub fn fresh(n: u16) -> Opened
@@ -281,74 +312,86 @@ impl Register {
         }
     }
 
+    // A link put in: 2, 3, 4, 5 or 7 if it cannot be.
     pub fn add(self, from: u16, label: u8, to: u16) -> Outcome
         ensures { λ r. ⌜ Steps self (edit (add (record { from = from; label = label; to = to }))) r ⌝ }
     {
-        if !ranged(self.n, self.count, self.top, self.held) {
-            return Outcome {
-                register: self,
-                answer: Answer::Refused(16),
-            };
-        }
-        let cause = link_cause(self.n, &self.locks, from, label, to);
-        if cause != 0 {
-            return Outcome {
-                register: self,
-                answer: Answer::Refused(cause),
-            };
-        }
-        let x = link_word(from, label, to);
         let count = self.count;
-        if holds(&self.links, count, x) {
-            return Outcome {
+        let check = check_link(
+            self.n,
+            count,
+            self.top,
+            self.held,
+            &self.locks,
+            from,
+            label,
+            to,
+        );
+        // the causes of the ends, a lock among them, were looked for before anything is written or held
+        match check {
+            LinkCheck::Fault(number) => Outcome {
                 register: self,
-                answer: Answer::Refused(5),
-            };
-        }
-        if 4096 <= count {
-            return Outcome {
-                register: self,
-                answer: Answer::Refused(7),
-            };
-        }
-        let changed = self.put_in(x);
-        Outcome {
-            register: changed.hold(x),
-            answer: Answer::Done,
+                answer: Answer::Refused(number),
+            },
+            LinkCheck::Word(x) => {
+                if holds(&self.links, count, x) {
+                    return Outcome {
+                        register: self,
+                        answer: Answer::Refused(5),
+                    };
+                }
+                if 4096 <= count {
+                    return Outcome {
+                        register: self,
+                        answer: Answer::Refused(7),
+                    };
+                }
+                let changed = self.put_in(x);
+                Outcome {
+                    register: changed.hold(x),
+                    answer: Answer::Done,
+                }
+            }
         }
     }
 
+    // A link taken out: 2, 3, 4 or 6 if it cannot be.
     pub fn remove(self, from: u16, label: u8, to: u16) -> Outcome
         ensures { λ r. ⌜ Steps self (edit (remove (record { from = from; label = label; to = to }))) r ⌝ }
     {
-        if !ranged(self.n, self.count, self.top, self.held) {
-            return Outcome {
-                register: self,
-                answer: Answer::Refused(16),
-            };
-        }
-        let cause = link_cause(self.n, &self.locks, from, label, to);
-        if cause != 0 {
-            return Outcome {
-                register: self,
-                answer: Answer::Refused(cause),
-            };
-        }
-        let x = link_word(from, label, to);
         let count = self.count;
-        if !holds(&self.links, count, x) {
-            return Outcome {
+        let check = check_link(
+            self.n,
+            count,
+            self.top,
+            self.held,
+            &self.locks,
+            from,
+            label,
+            to,
+        );
+        match check {
+            LinkCheck::Fault(number) => Outcome {
                 register: self,
-                answer: Answer::Refused(6),
-            };
-        }
-        let changed = self.take_out(x);
-        Outcome {
-            register: changed.hold(33554432 + x),
-            answer: Answer::Done,
+                answer: Answer::Refused(number),
+            },
+            LinkCheck::Word(x) => {
+                if !holds(&self.links, count, x) {
+                    return Outcome {
+                        register: self,
+                        answer: Answer::Refused(6),
+                    };
+                }
+                let changed = self.take_out(x);
+                Outcome {
+                    register: changed.hold(33554432 + x),
+                    answer: Answer::Done,
+                }
+            }
         }
     }
 
+    // A record locked: 2 or 5 if it cannot be.
     pub fn lock(self, record: u16) -> Outcome
         ensures { λ r. ⌜ Steps self (edit (lock «record»)) r ⌝ }
     {
@@ -378,6 +421,7 @@ impl Register {
         }
     }
 
+    // A record unlocked: 2 or 6 if it cannot be.
     pub fn unlock(self, record: u16) -> Outcome
         ensures { λ r. ⌜ Steps self (edit (unlock «record»)) r ⌝ }
     {
@@ -432,8 +476,9 @@ impl Register {
         let word = self.ring[at];
         self.top = at;
         self.held = held - 1;
+        let restored = self.taken_back(word / 33554432, word % 33554432);
         Outcome {
-            register: self.taken_back(word / 33554432, word % 33554432),
+            register: restored,
             answer: Answer::Done,
         }
     }
@@ -455,7 +500,7 @@ impl Register {
         }
     }
 
-    // The number of records; 0 if the contents are no register's.
+    // The number of records; 0 if it is above 1,024, as in no register.
     pub fn size(self) -> usize
         ensures { λ r. ⌜ Sized self r ⌝ }
     {
@@ -465,7 +510,7 @@ impl Register {
         self.n as usize
     }
 
-    // The links; none if the contents are no register's.
+    // The links; none if more than 4,096 are counted, as in no register.
     pub fn links(self) -> Links
         ensures { λ r. ⌜ Listing self r ⌝ }
     {
@@ -534,13 +579,14 @@ pub fn label_part<'a>(words: &'a [u32], label: u8) -> &'a [u32]
     &rest[..count]
 }
 
-// The first place from at on whose link begins at the record, or the number of words.
-pub fn next_out(words: &[u32], record: u16, at: usize) -> usize
-    ensures { λ r. ⌜ NextLink start (now (words .entry)) «record» at r ⌝ }
+// The first place from at on whose word has the record at one side: to in its last ten bits, unit 1, or from in the ten before them, unit 1,024.
+fn next_side(words: &[u32], unit: u32, record: u16, at: usize) -> usize
+    requires { ⌜ 0 < unit ⌝ }
+    ensures { λ r. ⌜ r ≡ nextPlace (hasAt unit «record») (now (words .entry)) at ⌝ }
 {
     let mut i = at;
     while i < words.len() {
-        if words[i] / 1024 % 1024 == record as u32 {
+        if words[i] / unit % 1024 == record as u32 {
             return i;
         }
         i += 1;
@@ -548,16 +594,16 @@ pub fn next_out(words: &[u32], record: u16, at: usize) -> usize
     words.len()
 }
 
+// The first place from at on whose link begins at the record, or the number of words.
+pub fn next_out(words: &[u32], record: u16, at: usize) -> usize
+    ensures { λ r. ⌜ NextLink start (now (words .entry)) «record» at r ⌝ }
+{
+    next_side(words, 1024, record, at)
+}
+
 // The first place from at on whose link ends at the record, or the number of words.
 pub fn next_in(words: &[u32], record: u16, at: usize) -> usize
     ensures { λ r. ⌜ NextLink end (now (words .entry)) «record» at r ⌝ }
 {
-    let mut i = at;
-    while i < words.len() {
-        if words[i] % 1024 == record as u32 {
-            return i;
-        }
-        i += 1;
-    }
-    words.len()
+    next_side(words, 1, record, at)
 }

@@ -24,14 +24,14 @@ in-range c = inside (c .before .before .args .t1) (c .before .ranged .result) (c
 
 returns-2 : tie.Need-returns-2
 unfolding packedCauses firstNumber number
-returns-2 c = refuse (c .before .before .before .args .t1) (lock (c .before .before .before .args .«record»)) 2 (omega arith) (λ _. rw (le-leb _ _ (c .if2 .taken)))
+returns-2 c = refuse (c .before .before .before .args .t1) (lock (c .before .before .before .args .«record»)) 2 (omega arith) (λ _ _. rw (le-leb _ _ (c .if2 .taken)))
 
 element-copy-out-if3 : tie.Need-element-copy-out-if3
 element-copy-out-if3 c = omega (arith, in-range (c .before) .size)
 
 returns-3 : tie.Need-returns-3
 unfolding packedCauses firstNumber number
-returns-3 c = refuse (c .before .before .before .before .before .args .t1) (lock (c .before .before .before .before .before .args .«record»)) 5 (omega arith) (λ _. rw (lt-leb _ _ (c .before .before .if2 .left), c .if3 .taken))
+returns-3 c = refuse (c .before .before .before .before .before .args .t1) (lock (c .before .before .before .before .before .args .«record»)) 5 (omega arith) (λ _ _. rw (lt-leb _ _ (c .before .before .if2 .left), c .if3 .taken))
 
 set-lock-requires : tie.Need-set-lock-requires
 set-lock-requires c κs = in-range (c .before .before .before) .count
