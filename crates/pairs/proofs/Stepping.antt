@@ -69,10 +69,12 @@ module _ (n op : ℕ) (ws links work part ls : List ℕ) (k at r : ℕ) (small :
       let t : take r part ≡ treeWords (b .n) v =
       subst (λ (x : Cells). IsSet (b .n) x → take r part ≡ treeWords (b .n) x) s (subst (λ (m : ℕ). IsSet m (setOf ps) → take r part ≡ treeWords m (setOf ps)) (L .size) (λ i. made i .words)) q in
       let j : k ≡ length st = sizes-count (w .sizes) in
-      let d = does-label (asked b) op st small in
-      (v ∷ st, rw add-one (subst (λ (i : ℕ). Waiting (asked b) e c (changed work part at h) (set ls i r) (suc i) (at + r) (v ∷ st)) (sym j)
-      (waiting-more (asked b) e op c work ls (changed work part at h) k at at r st st v w d (w .sets) (subst (λ (i : ℕ). Sizes (b .n) ls i st) j (w .sizes)) (w .ends) (w .trees) q
-      (omega (arith, runs-room (relations (asked b)) (w .runs) d)) (front work part at h) (ap (take r) (back work part at h) ∙ t) (long-as r part (treeWords (b .n) v) rp t))))
+      let d = does-label (asked b) op st small in (
+        v ∷ st,
+        rw add-one (subst (λ (i : ℕ). Waiting (asked b) e c (changed work part at h) (set ls i r) (suc i) (at + r) (v ∷ st)) (sym j)
+            (waiting-more (asked b) e op c work ls (changed work part at h) k at at r st st v w d (w .sets) (subst (λ (i : ℕ). Sizes (b .n) ls i st) j (w .sizes)) (w .ends) (w .trees) q
+            (omega (arith, runs-room (relations (asked b)) (w .runs) d)) (front work part at h) (ap (take r) (back work part at h) ∙ t) (long-as r part (treeWords (b .n) v) rp t))),
+      )
 
   pub goes-letter : Goes n ws op work (changed work part at h) ls k at (set ls k r) (k + 1) (at + r)
   goes-letter = record { room = letter-room; waits = letter-waits }
@@ -114,12 +116,14 @@ module _ (n op : ℕ) (work part ls : List ℕ) (k at r : ℕ) (low : 26 ≤ op)
       subst (λ (i : ℕ). take size₁ (drop start₁ work) ≡ treeWords i x → IsSet i x → take r part ≡ treeWords i (onOne i op x)) m
       (λ p q. made x q (ap (take size₁) rest₁ ∙ p) .words) ((T .tree)) ((T .set)) in
       let j : k ≡ suc (length st) = sizes-count (w .sizes) in
-      let i : k - 1 ≡ length st = omega arith in
-      (v ∷ st, subst (λ (y : ℕ). Waiting (asked b) e c (changed work part start₁ h) (set ls (k - 1) r) y (start₁ + r) (v ∷ st)) (sym j)
-      (subst (λ (y : ℕ). Waiting (asked b) e c (changed work part start₁ h) (set ls y r) (suc (length st)) (start₁ + r) (v ∷ st)) (sym i)
-      (waiting-more (asked b) e op c work ls (changed work part start₁ h) k at start₁ r (x ∷ st) st v w d (T .below) (subst (λ (y : ℕ). Sizes (asked b .n) ls y st) i (T .sizes)) (T .begins) (T .trees)
-      ((on-one-set (b .n) op (T .set))) (omega (arith, runs-room (relations (asked b)) (w .runs) d)) (front work part start₁ h)
-      ((ap (take r) (back work part start₁ h) ∙ t)) ((long-as r part (treeWords (b .n) v) rp t)))))
+      let i : k - 1 ≡ length st = omega arith in (
+        v ∷ st,
+        subst (λ (y : ℕ). Waiting (asked b) e c (changed work part start₁ h) (set ls (k - 1) r) y (start₁ + r) (v ∷ st)) (sym j)
+            (subst (λ (y : ℕ). Waiting (asked b) e c (changed work part start₁ h) (set ls y r) (suc (length st)) (start₁ + r) (v ∷ st)) (sym i)
+            (waiting-more (asked b) e op c work ls (changed work part start₁ h) k at start₁ r (x ∷ st) st v w d (T .below) (subst (λ (y : ℕ). Sizes (asked b .n) ls y st) i (T .sizes)) (T .begins) (T .trees)
+            ((on-one-set (b .n) op (T .set))) (omega (arith, runs-room (relations (asked b)) (w .runs) d)) (front work part start₁ h)
+            ((ap (take r) (back work part start₁ h) ∙ t)) ((long-as r part (treeWords (b .n) v) rp t)))),
+      )
 
   pub goes-one : (ws : List ℕ) → Goes n ws op work (changed work part start₁ h) ls k at (set ls (k - 1) r) k (start₁ + r)
   goes-one ws = record { room = one-room; waits = λ b L e c st w. one-waits b (L .size) e c st w }
@@ -169,12 +173,14 @@ module _ (n op : ℕ) (work part ls : List ℕ) (k at r : ℕ) (low : 30 ≤ op)
       (λ p q i j. made x y i j (ap (take left) rest₂ ∙ p) (ap (λ (z : List ℕ). take right (drop left z)) rest₂ ∙ q) .words) (U .tree) p (U .set) (T .set) in
       let j : k ≡ suc (suc (length st)) = sizes-count (w .sizes) in
       let i : k - 1 - 1 ≡ length st = omega arith in
-      let f : k - 1 ≡ suc (length st) = omega arith in
-      (v ∷ st, subst (λ (y : ℕ). Waiting (asked b) e c (changed work part start₂ h) (set ls (k - 1 - 1) r) y (start₂ + r) (v ∷ st)) (sym f)
-      (subst (λ (y : ℕ). Waiting (asked b) e c (changed work part start₂ h) (set ls y r) (suc (length st)) (start₂ + r) (v ∷ st)) (sym i)
-      (waiting-more (asked b) e op c work ls (changed work part start₂ h) k at start₂ r (y ∷ x ∷ st) st v w d (U .below) (subst (λ (y : ℕ). Sizes (asked b .n) ls y st) i (U .sizes)) (U .begins) (U .trees)
-      (on-two-set (b .n) op (U .set) (T .set)) (omega (arith, runs-room (relations (asked b)) (w .runs) d)) (front work part start₂ h)
-      (ap (take r) (back work part start₂ h) ∙ t) (long-as r part (treeWords (b .n) v) rp t))))
+      let f : k - 1 ≡ suc (length st) = omega arith in (
+        v ∷ st,
+        subst (λ (y : ℕ). Waiting (asked b) e c (changed work part start₂ h) (set ls (k - 1 - 1) r) y (start₂ + r) (v ∷ st)) (sym f)
+            (subst (λ (y : ℕ). Waiting (asked b) e c (changed work part start₂ h) (set ls y r) (suc (length st)) (start₂ + r) (v ∷ st)) (sym i)
+            (waiting-more (asked b) e op c work ls (changed work part start₂ h) k at start₂ r (y ∷ x ∷ st) st v w d (U .below) (subst (λ (y : ℕ). Sizes (asked b .n) ls y st) i (U .sizes)) (U .begins) (U .trees)
+            (on-two-set (b .n) op (U .set) (T .set)) (omega (arith, runs-room (relations (asked b)) (w .runs) d)) (front work part start₂ h)
+            (ap (take r) (back work part start₂ h) ∙ t) (long-as r part (treeWords (b .n) v) rp t))),
+      )
 
   pub goes-two : (ws : List ℕ) → Goes n ws op work (changed work part start₂ h) ls k at (set ls (k - 1 - 1) r) (k - 1) (start₂ + r)
   goes-two ws = record { room = two-room; waits = λ b L e c st w. two-waits b (L .size) e c st w }

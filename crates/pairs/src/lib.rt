@@ -166,7 +166,13 @@ fn hand_over(work: &[u64], n: usize, size: usize, list: &mut [u32]) -> PairsAnsw
 }
 
 // The pairs of an expression, by its code: the first len bytes of the array.
-fn of_code(register: register::Register, code: [u8; 256], len: usize, work: &mut [u64], list: &mut [u32]) -> PairsAnswer
+fn of_code(
+    register: register::Register,
+    code: [u8; 256],
+    len: usize,
+    work: &mut [u64],
+    list: &mut [u32],
+) -> PairsAnswer
     requires { ⌜ (len ≤ length code) × ((s : List ℕ) × (e : Expr) × Coded s e (take len code)) ⌝ }
     ensures { λ a. ⌜ ((s : List ℕ) (e : Expr) → Coded s e (take len code) → AsksFor register (accepted e) (length (now (work .entry))) (now (list .entry)) (now (list .exit)) a) ⌝ }
 {
@@ -182,7 +188,12 @@ fn of_code(register: register::Register, code: [u8; 256], len: usize, work: &mut
 }
 
 // The pairs that have a chain, ascending, each once.
-pub fn pairs(register: register::Register, text: &[u8], work: &mut [u64], list: &mut [u32]) -> PairsAnswer
+pub fn pairs(
+    register: register::Register,
+    text: &[u8],
+    work: &mut [u64],
+    list: &mut [u32],
+) -> PairsAnswer
     ensures { λ a. ⌜ AsksPairs register (now (text .entry)) (length (now (work .entry))) (now (list .entry)) (now (list .exit)) a ⌝ }
 {
     let reading = reader::read(text);

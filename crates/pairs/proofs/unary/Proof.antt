@@ -51,7 +51,7 @@ same-length : tie.Need-same-length
 same-length c = search needs
 
 returns : tie.Need-returns
-returns c = 
+returns c =
     let l = lies-one (c .before .before .before .before .before .before .pre .4 .1) (c .before .before .before .before .before .before .pre .2) (c .before .before .before .before .before .before .pre .3) in
     let A = c .before .before .before .before .before .before .args in
     let I = c .before .before .on-one in

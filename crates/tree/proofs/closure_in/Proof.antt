@@ -34,11 +34,13 @@ same-length c = search needs
 returns : tie.Need-returns
 returns c =
     let n = c .before .before .before .before .before .before .before .before .before .before .before .before .before .args .n in
-    let one = c .before .before .before .before .before .before .before .before .before .load-at in
-    (c .before .before .pack .ensures .0, λ a ia ea.
-    tree-at n (c .before .before .pack .result) (closure n a) (c .before .before .pack .last .1 .1 .0)
-    (c .before .before .pack .ensures .1 (closure n a) (closure-set n n a ia)
-    (c .before .before .before .before .before .before .close .ensures a ia (from-none _ _ (one .ensures a noPairs ia ea rows-none)))))
+    let one = c .before .before .before .before .before .before .before .before .before .load-at in (
+      c .before .before .pack .ensures .0,
+      λ a ia ea.
+          tree-at n (c .before .before .pack .result) (closure n a) (c .before .before .pack .last .1 .1 .0)
+          (c .before .before .pack .ensures .1 (closure n a) (closure-set n n a ia)
+          (c .before .before .before .before .before .before .close .ensures a ia (from-none _ _ (one .ensures a noPairs ia ea rows-none)))),
+    )
 
 pub closure-in-spec : {M : Type 1} → statement M
 closure-in-spec =

@@ -35,11 +35,13 @@ same-length c = search needs
 returns : tie.Need-returns
 returns c =
     let n = c .before .before .before .before .before .before .before .before .before .before .before .before .before .args .n in
-    let one = c .before .before .before .before .before .before .before .before .before .load-at in
-    (c .before .before .pack .ensures .0, λ a ia ea.
-    tree-at n (c .before .before .pack .result) (union a (identity n)) (c .before .before .pack .last .1 .1 .0)
-    (c .before .before .pack .ensures .1 (union a (identity n)) (union-set n a (identity n) ia (identity-set n))
-    (c .before .before .before .before .before .before .set-diagonal .ensures a (from-none _ _ (one .ensures a noPairs ia ea rows-none)))))
+    let one = c .before .before .before .before .before .before .before .before .before .load-at in (
+      c .before .before .pack .ensures .0,
+      λ a ia ea.
+          tree-at n (c .before .before .pack .result) (union a (identity n)) (c .before .before .pack .last .1 .1 .0)
+          (c .before .before .pack .ensures .1 (union a (identity n)) (union-set n a (identity n) ia (identity-set n))
+          (c .before .before .before .before .before .before .set-diagonal .ensures a (from-none _ _ (one .ensures a noPairs ia ea rows-none)))),
+    )
 
 pub identity-in-spec : {M : Type 1} → statement M
 identity-in-spec =

@@ -44,11 +44,13 @@ returns : tie.Need-returns
 returns c =
     let n = c .before .before .before .before .before .before .before .before .before .before .before .before .before .before .before .before .before .before .args .n in
     let one = c .before .before .before .before .before .before .before .before .before .before .before .before .before .before .load-at in
-    let two = c .before .before .before .before .before .before .before .before .before .before .load-at2 in
-    (c .before .before .pack .ensures .0, λ a b ia ib ea eb.
-    tree-at n (c .before .before .pack .result) (intersection a b) (c .before .before .pack .last .1 .1 .0)
-    (c .before .before .pack .ensures .1 (intersection a b) (intersection-set n a b ia ib)
-    (c .before .before .before .before .before .before .intersect .ensures a b (from-none a _ (one .ensures a noPairs ia ea rows-none)) (from-none b _ (two .ensures b noPairs ib eb rows-none)))))
+    let two = c .before .before .before .before .before .before .before .before .before .before .load-at2 in (
+      c .before .before .pack .ensures .0,
+      λ a b ia ib ea eb.
+          tree-at n (c .before .before .pack .result) (intersection a b) (c .before .before .pack .last .1 .1 .0)
+          (c .before .before .pack .ensures .1 (intersection a b) (intersection-set n a b ia ib)
+          (c .before .before .before .before .before .before .intersect .ensures a b (from-none a _ (one .ensures a noPairs ia ea rows-none)) (from-none b _ (two .ensures b noPairs ib eb rows-none)))),
+    )
 
 pub intersection-in-spec : {M : Type 1} → statement M
 intersection-in-spec =

@@ -27,10 +27,12 @@ same-length c = search needs
 returns : tie.Need-returns
 returns c =
     let n = c .before .before .before .before .before .before .before .before .before .before .args .n in
-    let s = setOf (map linkPair (c .before .before .before .before .before .before .before .before .before .before .args .words .now)) in
-    (c .before .before .pack .ensures .0, λ is.
-    tree-at n (c .before .before .pack .result) s (c .before .before .pack .last .1 .1 .0)
-    (c .before .before .pack .ensures .1 s is (from-none s _ (c .before .before .before .before .before .before .put-words .ensures noPairs rows-none))))
+    let s = setOf (map linkPair (c .before .before .before .before .before .before .before .before .before .before .args .words .now)) in (
+      c .before .before .pack .ensures .0,
+      λ is.
+          tree-at n (c .before .before .pack .result) s (c .before .before .pack .last .1 .1 .0)
+          (c .before .before .pack .ensures .1 s is (from-none s _ (c .before .before .before .before .before .before .put-words .ensures noPairs rows-none))),
+    )
 
 pub letter-in-spec : {M : Type 1} → statement M
 letter-in-spec =

@@ -49,13 +49,15 @@ returns : tie.Need-returns
 returns c =
     let n = c .before .before .before .before .before .before .before .before .before .before .before .before .before .before .before .before .before .before .args .n in
     let one = c .before .before .before .before .before .before .before .before .before .before .before .before .before .before .load-at in
-    let two = c .before .before .before .before .before .before .before .before .before .before .load-at2 in
-    (c .before .before .pack .ensures .0, λ a b ia ib ea eb.
-    tree-at n (c .before .before .pack .result) (product n (sensed (c .before .before .before .before .before .before .before .before .before .before .before .before .before .before .before .before .before .before .args .sa) a) (sensed (c .before .before .before .before .before .before .before .before .before .before .before .before .before .before .before .before .before .before .args .sb) b)) (c .before .before .pack .last .1 .1 .0)
-    (c .before .before .pack .ensures .1 (product n (sensed (c .before .before .before .before .before .before .before .before .before .before .before .before .before .before .before .before .before .before .args .sa) a) (sensed (c .before .before .before .before .before .before .before .before .before .before .before .before .before .before .before .before .before .before .args .sb) b)) (product-set n _ _ (sensed-set (c .before .before .before .before .before .before .before .before .before .before .before .before .before .before .before .before .before .before .args .sa) n a ia) (sensed-set (c .before .before .before .before .before .before .before .before .before .before .before .before .before .before .before .before .before .before .args .sb) n b ib))
-    (c .before .before .before .before .before .before .compose .ensures (sensed (c .before .before .before .before .before .before .before .before .before .before .before .before .before .before .before .before .before .before .args .sa) a) (sensed (c .before .before .before .before .before .before .before .before .before .before .before .before .before .before .before .before .before .before .args .sb) b) (sensed-set (c .before .before .before .before .before .before .before .before .before .before .before .before .before .before .before .before .before .before .args .sa) n a ia) (sensed-set (c .before .before .before .before .before .before .before .before .before .before .before .before .before .before .before .before .before .before .args .sb) n b ib)
-    (from-none _ _ (one .ensures a noPairs ia ea rows-none))
-    (from-none _ _ (two .ensures b noPairs ib eb rows-none) ∙ ap flat (other-sense (c .before .before .before .before .before .before .before .before .before .before .before .before .before .before .before .before .before .before .args .sb) b (c .before .before .before .before .before .before .before .before .before .before .before .before .before .before .before .before .before .before .pre .2))))))
+    let two = c .before .before .before .before .before .before .before .before .before .before .load-at2 in (
+      c .before .before .pack .ensures .0,
+      λ a b ia ib ea eb.
+          tree-at n (c .before .before .pack .result) (product n (sensed (c .before .before .before .before .before .before .before .before .before .before .before .before .before .before .before .before .before .before .args .sa) a) (sensed (c .before .before .before .before .before .before .before .before .before .before .before .before .before .before .before .before .before .before .args .sb) b)) (c .before .before .pack .last .1 .1 .0)
+          (c .before .before .pack .ensures .1 (product n (sensed (c .before .before .before .before .before .before .before .before .before .before .before .before .before .before .before .before .before .before .args .sa) a) (sensed (c .before .before .before .before .before .before .before .before .before .before .before .before .before .before .before .before .before .before .args .sb) b)) (product-set n _ _ (sensed-set (c .before .before .before .before .before .before .before .before .before .before .before .before .before .before .before .before .before .before .args .sa) n a ia) (sensed-set (c .before .before .before .before .before .before .before .before .before .before .before .before .before .before .before .before .before .before .args .sb) n b ib))
+          (c .before .before .before .before .before .before .compose .ensures (sensed (c .before .before .before .before .before .before .before .before .before .before .before .before .before .before .before .before .before .before .args .sa) a) (sensed (c .before .before .before .before .before .before .before .before .before .before .before .before .before .before .before .before .before .before .args .sb) b) (sensed-set (c .before .before .before .before .before .before .before .before .before .before .before .before .before .before .before .before .before .before .args .sa) n a ia) (sensed-set (c .before .before .before .before .before .before .before .before .before .before .before .before .before .before .before .before .before .before .args .sb) n b ib)
+          (from-none _ _ (one .ensures a noPairs ia ea rows-none))
+          (from-none _ _ (two .ensures b noPairs ib eb rows-none) ∙ ap flat (other-sense (c .before .before .before .before .before .before .before .before .before .before .before .before .before .before .before .before .before .before .args .sb) b (c .before .before .before .before .before .before .before .before .before .before .before .before .before .before .before .before .before .before .pre .2))))),
+    )
 
 pub product-in-spec : {M : Type 1} → statement M
 product-in-spec =

@@ -28,11 +28,13 @@ same-length c = search needs
 returns : tie.Need-returns
 returns c =
     let n = c .before .before .before .before .before .before .before .before .before .before .args .n in
-    let one = c .before .before .before .before .before .before .load-at in
-    (c .before .before .pack .ensures .0, λ a ia ea.
-    tree-at n (c .before .before .pack .result) (transpose a) (c .before .before .pack .last .1 .1 .0)
-    (c .before .before .pack .ensures .1 (transpose a) (transpose-set n a ia)
-    (from-none _ _ (one .ensures a noPairs ia ea rows-none))))
+    let one = c .before .before .before .before .before .before .load-at in (
+      c .before .before .pack .ensures .0,
+      λ a ia ea.
+          tree-at n (c .before .before .pack .result) (transpose a) (c .before .before .pack .last .1 .1 .0)
+          (c .before .before .pack .ensures .1 (transpose a) (transpose-set n a ia)
+          (from-none _ _ (one .ensures a noPairs ia ea rows-none))),
+    )
 
 pub transpose-in-spec : {M : Type 1} → statement M
 transpose-in-spec =

@@ -35,11 +35,13 @@ returns : tie.Need-returns
 returns c =
     let n = c .before .before .before .before .before .before .before .before .before .before .before .before .before .before .args .n in
     let one = c .before .before .before .before .before .before .before .before .before .before .load-at in
-    let two = c .before .before .before .before .before .before .load-at2 in
-    (c .before .before .pack .ensures .0, λ a b ia ib ea eb.
-    tree-at n (c .before .before .pack .result) (union a b) (c .before .before .pack .last .1 .1 .0)
-    (c .before .before .pack .ensures .1 (union a b) (union-set n a b ia ib)
-    (two .ensures b a ib eb (from-none a _ (one .ensures a noPairs ia ea rows-none)))))
+    let two = c .before .before .before .before .before .before .load-at2 in (
+      c .before .before .pack .ensures .0,
+      λ a b ia ib ea eb.
+          tree-at n (c .before .before .pack .result) (union a b) (c .before .before .pack .last .1 .1 .0)
+          (c .before .before .pack .ensures .1 (union a b) (union-set n a b ia ib)
+          (two .ensures b a ib eb (from-none a _ (one .ensures a noPairs ia ea rows-none)))),
+    )
 
 pub union-in-spec : {M : Type 1} → statement M
 union-in-spec =
