@@ -2,11 +2,11 @@
 use mathlib.Core.Path.{_≡_, refl, sym, ap, ap₂, _∙_, fun-ext}
 use mathlib.Core.Bool.{Bool, true, false}
 use mathlib.Core.List.{List}
-use Prim.Native.Nat.{ℕ, zero, suc, _+_, _-_, _*_, _/_, _%_, _^_, _≤_, _<_, min, max}
+use Prim.Native.Nat.{ℕ, _+_, _-_, _*_, _/_, _%_, _^_, _≤_, _<_, max}
 use native.Mathlib.Nat.{mod-eq-of-lt}
 use native.Mathlib.Decide.{decLt, ℕ-discrete}
 use native.Mathlib.Omega.{arith}
-use lib.Dec.{leb, ltb}
+use lib.Dec.{ltb}
 use lib.ListN.{getD}
 use lib.Pow.{pow-mono, pow-add}
 use borrow.Author.Tests.{le-leb, lt-leb, lt-ltb, le-ltb}
@@ -19,7 +19,8 @@ use Rattle.k2.specs.PairSets.{Cells, IsSet}
 use Rattle.k2.specs.Heap.{place, rowAt, columnAt, cells}
 use Rattle.k2.specs.PlaceLaws.{place-lt, row-place, column-place, row-lt, column-lt, place-at, row-block, column-block}
 use Rattle.bits.specs.BitSets.{either, none}
-use Rattle.packing.specs.Image.{raised, blocksTo, flat}
+use Rattle.rows.specs.Rows.{flat}
+use Rattle.packing.specs.Image.{raised, blocksTo}
 
 -- ---- raised and cells
 module _ (b : ℕ) (f : ℕ → ℕ) (k : ℕ) where

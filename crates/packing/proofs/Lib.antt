@@ -5,3 +5,4 @@ pub mod Squeezes
 pub mod Lifts
 pub mod Blocks
 pub mod Packs
+pub mod Loads

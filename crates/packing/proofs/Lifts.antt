@@ -1,16 +1,14 @@
 -- Laws of `lift`: below place b, the bits of a full tree f come in from the last word to the first, and in the first word from the last group
 -- to the first. Assumes nothing.
-use mathlib.Core.Path.{_≡_, refl, sym, ap, ap₂, _∙_, fun-ext}
+use mathlib.Core.Path.{_≡_, refl, sym, ap, _∙_, fun-ext}
 use mathlib.Core.List.{List}
-use Prim.Native.Nat.{ℕ, zero, suc, _+_, _-_, _*_, _/_, _%_, _^_, _≤_, _<_, min, max}
+use Prim.Native.Nat.{ℕ, _+_, _-_, _*_, _^_, _≤_, _<_, min, max}
 use native.Mathlib.Decide.{decLt, ℕ-discrete}
 use native.Mathlib.Omega.{arith}
-use lib.Dec.{leb}
 use lib.ListN.{getD}
 use borrow.Author.Tests.{le-leb, lt-leb}
-use Rattle.book.specs.Basics.{pick}
 use Rattle.k2.specs.Bits.{digit, bitAt}
-use Rattle.k2.specs.DigitLaws.{shifted, digit-big, digit-none}
+use Rattle.k2.specs.DigitLaws.{shifted, digit-big}
 use Rattle.k2.specs.BitLaws.{bit-in}
 use Rattle.k2.specs.WordLaws.{shifted-in, shifted-out}
 use Rattle.k2.specs.Heap.{anyFour}

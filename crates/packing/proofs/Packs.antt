@@ -1,14 +1,14 @@
 -- Laws of `pack_part`: the cells are the last level of the full tree, whose groups that are not all 0 are the tree. Assumes nothing.
 use mathlib.Core.Path.{_≡_, refl, sym, ap, ap₂, _∙_, fun-ext}
 use mathlib.Core.List.{List, _++_}
-use Prim.Native.Nat.{ℕ, zero, suc, _+_, _-_, _*_, _/_, _%_, _^_, _≤_, _<_, min, max}
+use Prim.Native.Nat.{ℕ, zero, suc, _+_, _-_, _*_, _/_, _^_, _≤_, _<_, max}
 use native.Mathlib.Nat.{mod-eq-of-lt, div-eq-of-lt, pow-suc, div-lt-iff-lt-mul, pow-le-pow-right}
 use native.Mathlib.Decide.{decLt}
 use native.Mathlib.Omega.{arith}
 use lib.ListN.{length, take, length-take}
 use lib.Seq.{take-append-le}
 use lib.Pow.{pow-mono, pow-add}
-use Rattle.k2.specs.Bits.{bitAt, wordsOf}
+use Rattle.k2.specs.Bits.{wordsOf}
 use Rattle.k2.specs.PairSets.{Cells, IsSet}
 use Rattle.k2.specs.Trees.{height, treeBits, treeWords, treeUnit}
 use Rattle.k2.specs.Heap.{fullSize, full, place, rowAt, columnAt, cells, squeezed}

@@ -1,11 +1,11 @@
 -- Turns of the loops of `height`, `full_size` and `place`. Assumes nothing.
-use mathlib.Core.Path.{_≡_, refl, sym, ap, _∙_}
+use mathlib.Core.Path.{_≡_}
 use Prim.Native.Nat.{ℕ, zero, suc, _+_, _-_, _*_, _/_, _%_, _^_, _≤_, _<_}
 use native.Mathlib.Nat.{mul-suc, mod-lt, pow-suc, le-antisymm}
 use native.Mathlib.Numerals.{add-one}
 use native.Mathlib.Decide.{decLt}
 use native.Mathlib.Omega.{arith}
-use lib.Pow.{pow-pos, pow-mono}
+use lib.Pow.{pow-pos}
 use Rattle.k2.specs.Trees.{height}
 use Rattle.k2.specs.Heap.{fullSize, place}
 use Rattle.k2.specs.HeightLaws.{height-is}

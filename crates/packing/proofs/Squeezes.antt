@@ -1,24 +1,23 @@
 -- Laws of `squeeze_word` and `squeeze`: groups of 0 add nothing, another group is put behind those at the front, and at the end the front is the
 -- words of the groups. Assumes nothing.
-use mathlib.Core.Path.{_≡_, refl, sym, ap, ap₂, _∙_, fun-ext}
-use mathlib.Core.Bool.{Bool, true, false}
-use mathlib.Core.List.{List, [], _∷_, _++_, append-nil}
-use Prim.Native.Nat.{ℕ, zero, suc, _+_, _-_, _*_, _/_, _%_, _^_, _≤_, _<_, min, max}
-use native.Mathlib.Nat.{add-zero, add-suc, mod-lt, lt-of-le-of-lt}
+use mathlib.Core.Path.{_≡_, refl, sym, ap, _∙_, fun-ext}
+use mathlib.Core.List.{List, _++_, append-nil}
+use Prim.Native.Nat.{ℕ, zero, suc, _+_, _-_, _*_, _/_, _%_, _^_, _≤_, _<_, min}
+use native.Mathlib.Nat.{add-zero, add-suc, lt-of-le-of-lt}
 use native.Mathlib.Numerals.{add-one}
 use native.Mathlib.Decide.{decLt, ℕ-discrete}
 use native.Mathlib.Omega.{arith}
-use lib.Dec.{eqb, ltb}
+use lib.Dec.{ltb}
 use lib.Count.{trailingZeros}
-use lib.ListN.{length, getD, set, take, length-append, length-set, length-take, List·getD-append, List·getD-eq-default}
-use lib.Pow.{pow-pos, shr-shr, shr-le, shr-lt, pow-mono}
-use lib.Seq.{getD-append-add, getD-take, getD-set-same, getD-set-other}
+use lib.ListN.{length, getD, set, take, length-take, List·getD-append, List·getD-eq-default}
+use lib.Pow.{shr-shr, shr-le, shr-lt}
+use lib.Seq.{getD-append-add, getD-take}
 use borrow.Author.Tests.{eq-eqb, ne-eqb, lt-ltb, le-ltb}
 use Rattle.book.specs.Basics.{pick}
 use Rattle.k2.specs.Bits.{digit, bitAt, bitsOf, wordsOf}
-use Rattle.k2.specs.DigitLaws.{one-shl, digit-lt, digit-add, digit-big, digit-none}
+use Rattle.k2.specs.DigitLaws.{one-shl, digit-add, digit-big, digit-none}
 use Rattle.k2.specs.BitLaws.{Bits, bit-in, bit-lt, bit-out, bit-take, bit-set, bit-set-off, words-tell}
-use Rattle.k2.specs.WordLaws.{digit-mod, digit-past, digit-all, trailing-set, trailing-clear}
+use Rattle.k2.specs.WordLaws.{digit-mod, digit-past, trailing-set, trailing-clear}
 use Rattle.k2.specs.Heap.{anyFour, fourOf, ifAny, squeezed, groups}
 use Rattle.k2.specs.SizeLaws.{squeezed-length, groups-most}
 use Rattle.bits.specs.BitSets.{Gap}

@@ -1,20 +1,20 @@
 -- Laws of what `any_of_eight` and `quiet` find, of the loop of `block`, and of the stores of `or_word` and `set_four`. Assumes nothing.
 use mathlib.Core.Path.{_≡_, refl, sym, ap, ap₂, _∙_, fun-ext}
-use mathlib.Core.Bool.{Bool, true, false}
+use mathlib.Core.Bool.{true, false}
 use mathlib.Core.List.{List}
 use Prim.Native.Nat.{ℕ, zero, suc, _+_, _-_, _*_, _/_, _%_, _^_, _≤_, _<_, min, max}
-use native.Mathlib.Nat.{add-zero, mod-lt, pow-suc, div-one}
+use native.Mathlib.Nat.{mod-lt}
 use native.Mathlib.Decide.{decLt, ℕ-discrete}
 use native.Mathlib.Omega.{arith}
 use lib.Bits.{bitAnd, bitOr}
-use lib.Dec.{eqb, leb, ltb}
+use lib.Dec.{eqb, ltb}
 use lib.ListN.{length, getD, set, length-set}
-use lib.Seq.{getD-set-same, getD-set-other}
+use lib.Seq.{getD-set-other}
 use lib.Pow.{pow-pos, shr-shr}
-use borrow.Author.Tests.{eq-eqb, ne-eqb, le-leb, lt-leb, lt-ltb, le-ltb}
+use borrow.Author.Tests.{eq-eqb, ne-eqb, lt-ltb, le-ltb}
 use Rattle.book.specs.Basics.{pick}
 use Rattle.k2.specs.Bits.{digit, bitAt}
-use Rattle.k2.specs.DigitLaws.{shifted, digit-lt, digit-none, digit-or, digit-and, digit-not, digit-big, digit-add, digit-shl}
+use Rattle.k2.specs.DigitLaws.{shifted, digit-lt, digit-none, digit-or, digit-and, digit-not, digit-big, digit-add}
 use Rattle.k2.specs.BitLaws.{bit-set, bit-set-off}
 use Rattle.k2.specs.WordLaws.{digit-mod, digit-past, digit-left, shifted-in, shifted-out, or-none}
 use Rattle.bits.specs.BitSets.{either}
@@ -122,6 +122,34 @@ module _ (ws : List ℕ) (p v : ℕ) (vl : v < 2 ^ 64) (h : p / 64 + 1 < length 
           off : Dec (k < p) → shifted p v k ≡ 0
           off (yes l) = shifted-out p v k l
           off (no l) = shifted-in p v k (omega arith) ∙ digit-big 64 (k - p) v vl (omega (arith, a, b))
+
+-- ---- or_two: digits that stand in one word
+pub or-short : (ws : List ℕ) (p v n : ℕ) → p % 64 + n ≤ 64 → v < 2 ^ n → p / 64 < length ws
+    → bitAt (set ws (p / 64) (bitOr (getD ws (p / 64) 0) ((v * 2 ^ (p % 64)) % 2 ^ 64))) ≡ either (bitAt ws) (shifted p v)
+unfolding either
+or-short ws p v n f vl h = fun-ext (λ k. go k (ℕ-discrete (k / 64) (p / 64)))
+  where
+    r : ℕ
+    r = p % 64
+
+    far : (k : ℕ) → p + n ≤ k → shifted p v k ≡ 0
+    far k l = shifted-in p v k (omega arith) ∙ digit-big n (k - p) v vl (omega arith)
+
+    moved : (k : ℕ) → k / 64 ≡ p / 64 → Dec (k < p) → shifted r v (k % 64) ≡ shifted p v k
+    moved k e (yes l) = shifted-out r v (k % 64) (omega arith) ∙ sym (shifted-out p v k l)
+    moved k e (no l) =
+        let d : k % 64 - r ≡ k - p = omega arith in
+        shifted-in r v (k % 64) (omega arith) ∙ ap (digit v) d ∙ sym (shifted-in p v k (omega arith))
+
+    off : (k : ℕ) → (k / 64 ≡ p / 64 → ⊥) → Dec (k < p) → shifted p v k ≡ 0
+    off k e (yes l) = shifted-out p v k l
+    off k e (no l) = far k (omega (arith, e))
+
+    go : (k : ℕ) → Dec (k / 64 ≡ p / 64) → bitAt (set ws (p / 64) (bitOr (getD ws (p / 64) 0) ((v * 2 ^ (p % 64)) % 2 ^ 64))) k ≡ max (bitAt ws k) (shifted p v k)
+    go k (yes e) =
+        bit-set ws (p / 64) (bitOr (getD ws (p / 64) 0) ((v * 2 ^ r) % 2 ^ 64)) k h e ∙ digit-or (getD ws (p / 64) 0) ((v * 2 ^ r) % 2 ^ 64) (k % 64)
+        ∙ ap₂ max (unfold bitAt in (rw e refl)) (digit-left v r (k % 64) (omega arith) ∙ moved k e (decLt k p))
+    go k (no e) = bit-set-off ws (p / 64) (bitOr (getD ws (p / 64) 0) ((v * 2 ^ r) % 2 ^ 64)) k e ∙ rw (off k e (decLt k p)) (omega arith)
 
 -- ---- set_four
 fifteen : (j : ℕ) → j < 4 → digit 15 j ≡ 1

@@ -1,21 +1,18 @@
 -- Laws of what `any_of_eight`, `block`, `swap`, `shuffle` and `summary` make of words. Assumes nothing.
-use mathlib.Core.Path.{_≡_, refl, sym, ap, ap₂, _∙_}
+use mathlib.Core.Path.{_≡_, refl, sym, ap, _∙_}
 use mathlib.Core.Bool.{Bool, true, false}
-use mathlib.Core.List.{List}
 use Prim.Native.Nat.{ℕ, zero, suc, _+_, _-_, _*_, _/_, _%_, _^_, _≤_, _<_, min, max}
-use native.Mathlib.Nat.{mod-lt, pow-suc, div-one}
-use native.Mathlib.Numerals.{add-one}
+use native.Mathlib.Nat.{mod-lt}
 use native.Mathlib.Decide.{decLt}
 use native.Mathlib.Omega.{arith}
 use lib.Bits.{bitAnd, bitOr, or-lt}
 use lib.Dec.{eqb, leb, ltb}
-use lib.ListN.{getD}
 use lib.Pow.{pow-pos}
-use borrow.Author.Tests.{eqb-true, eqb-false, eq-eqb, ne-eqb, le-leb, lt-leb, lt-ltb, le-ltb, leb-true, leb-false, ltb-true, ltb-false}
+use borrow.Author.Tests.{eqb-true, le-leb, lt-leb, lt-ltb, le-ltb, ltb-true}
 use Rattle.book.specs.Basics.{pick}
 use Rattle.k2.specs.Bits.{digit}
-use Rattle.k2.specs.DigitLaws.{shifted, digit-lt, digit-none, digit-or, digit-and, digit-not, digit-big, digit-add}
-use Rattle.k2.specs.WordLaws.{digit-mod, digit-past, digit-left, or-none, allBelow, all-below}
+use Rattle.k2.specs.DigitLaws.{shifted, digit-lt, digit-or, digit-and, digit-not, digit-big, digit-add}
+use Rattle.k2.specs.WordLaws.{digit-left, allBelow, all-below}
 use Rattle.k2.specs.Heap.{rowAt, columnAt, anyFour}
 use Rattle.packing.specs.Image.{swapPlace}
 

@@ -10,7 +10,7 @@
 -- Assumes nothing: these are definitions.
 use mathlib.Core.Path.{_≡_}
 use mathlib.Core.List.{List}
-use Prim.Native.Nat.{ℕ, _+_, _-_, _*_, _/_, _%_, _≤_, _<_, max}
+use Prim.Native.Nat.{ℕ, _+_, _-_, _*_, _/_, _%_, _≤_, _<_}
 use lib.Dec.{leb, ltb, eqb}
 use Rattle.book.specs.Basics.{pick}
 use Rattle.k2.specs.Bits.{digit, bitAt, bitsOf}
@@ -41,7 +41,3 @@ pub record Squeezing (f : ℕ → ℕ) (q g : ℕ) (ws : List ℕ) : Type 0 wher
   pub count : g ≡ groups f q
   pub front : (k : ℕ) → k < 4 * g → bitAt ws k ≡ bitsOf (squeezed f q) k
   pub rest : (k : ℕ) → 4 * q ≤ k → bitAt ws k ≡ f k
-
--- a set of pairs by pair words
-unfoldable pub flat : Cells → ℕ → ℕ
-flat a p = a (p / 1024) (p % 1024)

@@ -5,11 +5,13 @@ ghost use Prim.Native.Nat.{ℕ, _+_, _*_, _-_, _/_, _%_, _^_, _<_, _≤_, min, m
 ghost use lib.ListN.{length, take, getD};
 ghost use Rattle.k2.specs.Bits.{digit, bitAt, wordsOf};
 ghost use Rattle.k2.specs.DigitLaws.{shifted};
-ghost use Rattle.k2.specs.PairSets.{Cells, IsSet};
-ghost use Rattle.k2.specs.Trees.{height, treeBits, treeUnit, treeWords};
+ghost use Rattle.k2.specs.PairSets.{Cells, IsSet, union};
+ghost use Rattle.k2.specs.Trees.{height, treeBits, treeUnit, treeWords, WellFormed, childPlace};
 ghost use Rattle.k2.specs.Heap.{fullSize, place, rowAt, columnAt, cells, anyFour, squeezed, groups};
 ghost use Rattle.bits.specs.BitSets.{none, either};
-ghost use Rattle.packing.specs.Image.{raised, above, setFour, blocksTo, swapPlace, Heaped, Squeezing, flat};
+ghost use Rattle.rows.specs.Rows.{flat};
+ghost use Rattle.packing.specs.Image.{raised, above, setFour, blocksTo, swapPlace, Heaped, Squeezing};
+ghost use Rattle.packing.specs.Reading.{sensed, turned, inside, Counted, Reads};
 
 // The height of the trees for n records: the side is 2 ^ height.
 pub fn height(n: usize) -> usize
@@ -330,4 +332,166 @@ pub fn pack(rows: &[u64], n: usize, out: &mut [u64]) -> usize
     let h = height(n);
     let end = tree_unit(n) + 1;
     pack_part(rows, h, &mut out[..end])
+}
+
+// The ones before each word of a tree.
+fn count(tree: &[u64], before: &mut [u32])
+    requires { ⌜ (length (now tree) ≤ 21846) × (length (now before) ≡ 21846) ⌝ }
+    ensures { λ _. ⌜ Counted (now (tree .entry)) (now (before .exit)) ⌝ }
+{
+    let mut n: u32 = 0;
+    let mut i = 0;
+    while i < tree.len() {
+        before[i] = n;
+        n += u64::count_ones(tree[i]);
+        i += 1;
+    }
+}
+
+// Where the children of the 1 at bit p begin: four times the count of ones in bits 0 to p.
+fn child(tree: &[u64], before: &[u32], p: usize) -> usize
+    requires { ⌜ (p / 64 < length (now tree)) × (length (now tree) ≤ 21846) × (length (now before) ≡ 21846) × Counted (now tree) (now before) ⌝ }
+    ensures { λ r. ⌜ (r ≡ childPlace (bitAt (now (tree .entry))) p) × (r ≤ 5592576) ⌝ }
+{
+    let q = p / 64;
+    4 * (before[q] as usize + u64::count_ones(tree[q] << (63 - p % 64)) as usize)
+}
+
+// The quarter that is read as quarter q; with sense 1 the second and the third are exchanged.
+fn turn(q: usize, sense: usize) -> usize
+    requires { ⌜ (q < 4) × (sense ≤ 1) ⌝ }
+    ensures { λ r. ⌜ (r ≡ turned sense q) × (r < 4) ⌝ }
+{
+    if sense == 1 {
+        return q % 2 * 2 + q / 2;
+    }
+    q
+}
+
+// The four bits of a square, from bit b on, in the order in which they are read.
+fn square(tree: &[u64], b: usize, sense: usize) -> u64
+    requires { ⌜ (b % 4 ≡ 0) × (sense ≤ 1) ⌝ }
+    ensures { λ r. ⌜ (r < 16) × ((q : ℕ) → q < 4 → digit r q ≡ bitAt (now (tree .entry)) (b + turned sense q)) ⌝ }
+{
+    let v = bits::four(tree, b);
+    if sense == 1 {
+        return v % 2 + v / 2 % 2 * 4 + v / 4 % 2 * 2 + v / 8 * 8;
+    }
+    v
+}
+
+// Two bits put in at p, which is even, beside what is there.
+fn or_two(words: &mut [u64], p: usize, v: u64)
+    requires { ⌜ (p % 2 ≡ 0) × (p / 64 < length (now words)) × (v < 4) ⌝ }
+    ensures { λ _. ⌜ bitAt (now (words .exit)) ≡ either (bitAt (now (words .entry))) (shifted p v) ⌝ }
+{
+    let q = p / 64;
+    words[q] = words[q] | v << (p % 64);
+}
+
+// The four cells of a square of side 2 at row x and column y put into rows.
+fn put_cells(rows: &mut [u64], x: usize, y: usize, v: u64)
+    requires { ⌜ (x + 2 ≤ 1024) × (y + 2 ≤ 1024) × (y % 2 ≡ 0) × (v < 16) × (length (now rows) ≡ 16384) ⌝ }
+    ensures { λ _. ⌜ ((a t : Cells) → bitAt (now (rows .entry)) ≡ flat a → ((q : ℕ) → q < 4 → digit v q ≡ t (x + q / 2) (y + q % 2))
+        → bitAt (now (rows .exit)) ≡ flat (union a (inside 1 x y t))) ⌝ }
+{
+    or_two(rows, x * 1024 + y, v % 4);
+    or_two(rows, (x + 1) * 1024 + y, v / 4);
+}
+
+// Half the side of a square.
+fn half(h: usize) -> usize
+    requires { ⌜ (2 ≤ h) × (h ≤ 10) ⌝ }
+    ensures { λ r. ⌜ (r ≡ 2 ^ (h - 1)) × (r + r ≡ 2 ^ h) × (r % 2 ≡ 0) ⌝ }
+{
+    1 << (h - 1)
+}
+
+// The cells of a square of side 2 ^ h, whose four bits begin at bit b, put into rows at row x and column y; with sense 1 the second and the
+// third quarter are read in exchanged order, at this level and at each below it.
+fn dive(
+    tree: &[u64],
+    before: &[u32],
+    h: usize,
+    b: usize,
+    x: usize,
+    y: usize,
+    sense: usize,
+    rows: &mut [u64],
+)
+    requires { ⌜ (1 ≤ h) × (h ≤ 10) × (b % 4 ≡ 0) × (b ≤ 5592576) × (x + 2 ^ h ≤ 1024) × (y + 2 ^ h ≤ 1024) × (y % 2 ≡ 0) × (sense ≤ 1)
+        × (length (now rows) ≡ 16384) × (length (now tree) ≤ 21846) × (length (now before) ≡ 21846) × Counted (now tree) (now before) ⌝ }
+    ensures { λ _. ⌜ ((a t : Cells) → bitAt (now (rows .entry)) ≡ flat a → Reads sense (now (tree .entry)) h b x y t
+        → bitAt (now (rows .exit)) ≡ flat (union a (inside h x y t))) ⌝ }
+{
+    let v = square(tree, b, sense);
+    if h == 1 {
+        put_cells(rows, x, y, v);
+        return;
+    }
+    let s = half(h);
+    let mut q = 0;
+    while q < 4 {
+        if (v >> q) % 2 == 1 {
+            let d = child(tree, before, b + turn(q, sense));
+            dive(
+                tree,
+                before,
+                h - 1,
+                d,
+                x + q / 2 * s,
+                y + q % 2 * s,
+                sense,
+                rows,
+            );
+        }
+        q += 1;
+    }
+}
+
+// The pairs of a tree put into rows; with sense 1 each pair exchanged.
+pub fn load(tree: &[u64], n: usize, sense: usize, rows: &mut [u64])
+    requires { ⌜ (n ≤ 1024) × (length (now tree) ≤ 21846) × (sense ≤ 1) × (length (now rows) ≡ 16384) ⌝ }
+    ensures { λ _. ⌜ ((a x : Cells) → IsSet n a → now (tree .entry) ≡ treeWords n a → bitAt (now (rows .entry)) ≡ flat x
+        → bitAt (now (rows .exit)) ≡ flat (union x (sensed sense a))) ⌝ }
+{
+    let mut before: [u32; 21846] = [0; 21846];
+    count(tree, &mut before);
+    dive(tree, &before, height(n), 0, 0, 0, sense, rows);
+}
+
+// Are the words of a the first `len` of b?
+fn same(a: &[u64], b: &[u64], len: usize) -> bool
+    requires { ⌜ len ≤ length (now b) ⌝ }
+    ensures { λ r. ⌜ (r ≡ true → now (a .entry) ≡ take len (now (b .entry))) × (now (a .entry) ≡ take len (now (b .entry)) → r ≡ true) ⌝ }
+{
+    if a.len() != len {
+        return false;
+    }
+    let mut i = 0;
+    while i < len {
+        if a[i] != b[i] {
+            return false;
+        }
+        i += 1;
+    }
+    true
+}
+
+// Is it the tree of some set of pairs below n?
+pub fn well_formed(tree: &[u64], n: usize) -> bool
+    requires { ⌜ n ≤ 1024 ⌝ }
+    ensures { λ r. ⌜ (r ≡ true → WellFormed n (now (tree .entry))) × (WellFormed n (now (tree .entry)) → r ≡ true) ⌝ }
+{
+    if tree_unit(n) < tree.len() {
+        return false;
+    }
+    let mut rows: [u64; 16384] = [0; 16384];
+    load(tree, n, 0, &mut rows);
+    if !rows::within(&rows, n) {
+        return false;
+    }
+    let mut again: [u64; 21847] = [0; 21847];
+    let len = pack(&rows, n, &mut again);
+    same(tree, &again, len)
 }

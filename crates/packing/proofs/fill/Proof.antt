@@ -1,7 +1,7 @@
 -- `fill` goes through the blocks row by row. The loops' invariant: the cells of the blocks passed are there; past the last block of a row there are
 -- no cells (`to-row`). The measures are the rows, and the columns, left. Assumes nothing.
 use mathlib.Core.Path.{_≡_, refl, sym, ap, _∙_}
-use Prim.Native.Nat.{ℕ, _+_, _-_, _*_, _/_, _%_, _^_, _≤_, _<_}
+use Prim.Native.Nat.{_+_, _-_, _*_, _%_, _^_, _≤_}
 use native.Mathlib.Omega.{arith}
 use borrow.Author.Needs.{needs}
 use lib.ListN.{length}
@@ -11,7 +11,8 @@ use Rattle.bits.specs.BitSets.{none}
 use Rattle.k2.specs.Bits.{bitAt}
 use Rattle.k2.specs.PairSets.{Cells, IsSet}
 use Rattle.k2.specs.Heap.{cells}
-use Rattle.packing.specs.Image.{raised, blocksTo, flat}
+use Rattle.rows.specs.Rows.{flat}
+use Rattle.packing.specs.Image.{raised, blocksTo}
 use Rattle.packing.proofs.Blocks.{to-none, to-row, to-all}
 use Rattle.packing.proofs.fill.Statement.{statement}
 use Rattle.packing.proofs.fill.Tie as tie

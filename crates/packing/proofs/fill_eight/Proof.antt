@@ -1,7 +1,7 @@
 -- `fill_eight` fills eight blocks in turn. The loop's invariant: the cells of the blocks before column c + k are there. The measure is the blocks
 -- left. If the words of all eight are 0, they add nothing (`eight-none`). Assumes nothing.
-use mathlib.Core.Path.{_≡_, refl, sym, ap, _∙_}
-use Prim.Native.Nat.{ℕ, _+_, _-_, _*_, _/_, _%_, _^_, _≤_, _<_}
+use mathlib.Core.Path.{_≡_, refl, ap, _∙_}
+use Prim.Native.Nat.{_+_, _-_, _*_, _^_, _≤_, _<_}
 use native.Mathlib.Omega.{arith}
 use borrow.Author.Needs.{needs}
 use lib.ListN.{length}
@@ -9,7 +9,8 @@ use lib.Pow.{pow-mono}
 use Rattle.k2.specs.Bits.{bitAt}
 use Rattle.k2.specs.PairSets.{Cells, IsSet}
 use Rattle.k2.specs.Heap.{cells}
-use Rattle.packing.specs.Image.{raised, blocksTo, flat}
+use Rattle.rows.specs.Rows.{flat}
+use Rattle.packing.specs.Image.{raised, blocksTo}
 use Rattle.packing.proofs.Blocks.{eight-none}
 use Rattle.packing.proofs.fill_eight.Statement.{statement}
 use Rattle.packing.proofs.fill_eight.Tie as tie

@@ -1,12 +1,11 @@
 -- `pack_part` makes the full tree of the set and keeps its groups that are not all 0. It rests on `part-cells`, `part-heaped` and `full-groups`.
 -- Assumes nothing.
-use mathlib.Core.Path.{_≡_, refl, sym, ap, _∙_}
-use Prim.Native.Nat.{ℕ, _+_, _-_, _*_, _/_, _%_, _^_, _≤_, _<_}
+use mathlib.Core.Path.{_≡_, ap, _∙_}
+use Prim.Native.Nat.{ℕ, _-_, _*_}
 use native.Mathlib.Omega.{arith}
 use borrow.Author.Needs.{needs}
 use lib.ListN.{length}
 use Rattle.k2.specs.Bits.{bitAt, wordsOf}
-use Rattle.k2.specs.PairSets.{Cells, IsSet}
 use Rattle.k2.specs.Heap.{fullSize, full, squeezed}
 use Rattle.k2.specs.SizeLaws.{fullSize-most}
 use Rattle.bits.specs.BitSetLaws.{bits-none}

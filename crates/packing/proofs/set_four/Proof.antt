@@ -1,6 +1,5 @@
 -- `set_four` clears four digits of a word and puts others in: `set-four`. Assumes nothing.
 use borrow.Author.Needs.{needs}
-use native.Mathlib.Omega.{arith}
 use Rattle.packing.proofs.Stores.{set-four}
 use Rattle.packing.proofs.set_four.Statement.{statement}
 use Rattle.packing.proofs.set_four.Tie as tie

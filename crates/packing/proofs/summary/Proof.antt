@@ -1,6 +1,5 @@
 -- `summary` brings a bit for each group of four to the lowest sixteen places: `summary-law`, whose five steps are each shown by a table.
 -- Assumes nothing.
-use borrow.Author.Needs.{needs}
 use native.Mathlib.Omega.{arith}
 use Rattle.packing.proofs.Words.{summary-law}
 use Rattle.packing.proofs.summary.Statement.{statement}
