@@ -8,7 +8,8 @@ use lib.Pow.{pow-mono}
 use Rattle.k2.specs.PairSets.{Cells}
 use Rattle.k2.specs.Trees.{height, treeBits, treeWords, treeUnit}
 use Rattle.k2.specs.Heap.{fullSize, full, anyFour, fourOf, ifAny, squeezed, groups}
-use Rattle.k2.specs.HeightLaws.{height-most}
+use Rattle.k2.specs.HeightLaws.{height-is, height-most}
+use Rattle.k2.specs.PlaceLaws.{four-pos}
 use Rattle.k2.specs.BitLaws.{words-length}
 use Rattle.k2.specs.HeapLaws.{full-tree}
 
@@ -58,6 +59,13 @@ treeUnit-size n =
     let h : ℕ = height n in
     let e : 4 * (2 ^ h * 2 ^ h - 1) / 3 ≡ fullSize h 1 = rw (square-power h) (omega (arith, fullSize-power h)) in
     rw e
+
+pub treeUnit-some : (n : ℕ) → 1 ≤ treeUnit n
+treeUnit-some n = omega (arith, treeUnit-size n, fullSize-power (height n), four-some (height n) (height-is n .0))
+  where
+    four-some : (h : ℕ) → 1 ≤ h → 4 ≤ 4 ^ h
+    four-some zero l = absurd (omega arith)
+    four-some (suc h) l = omega (arith, pow-suc 4 h, four-pos h)
 
 pub treeUnit-most : (n : ℕ) → n ≤ 1024 → treeUnit n ≤ 21846
 treeUnit-most n l = omega (arith, treeUnit-size n, fullSize-most (height n) (height-most n l))

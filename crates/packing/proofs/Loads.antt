@@ -17,7 +17,6 @@ use Rattle.k2.specs.Trees.{quadrant, filled, treeBits, treeWords, height, child
 use Rattle.k2.specs.Nodes.{root, child, exchanged}
 use Rattle.k2.specs.NodeLaws.{empty-cell, node-bit}
 use Rattle.k2.specs.TreeLaws.{treeWords-bits, quadrant-transpose, filled-transpose}
-use Rattle.k2.specs.PairSetLaws.{transpose-set}
 use Rattle.k2.specs.DigitLaws.{shifted, digit-add, digit-big}
 use Rattle.k2.specs.WordLaws.{digit-mod, shifted-in, shifted-out}
 use Rattle.bits.specs.BitSets.{either, fourAt}
@@ -214,10 +213,6 @@ inside-all n h a l is = fun-ext (λ i. fun-ext (λ j. inside-by h 0 0 a i j
     off i j m (no p) q = is .row i j (omega arith)
     off i j m (yes p) (no q) = is .column i j (omega arith)
     off i j m (yes p) (yes q) = absurd (m (omega arith) (omega arith) (omega arith) (omega arith))
-
-pub sensed-set : (s n : ℕ) (a : Cells) → IsSet n a → IsSet n (sensed s a)
-sensed-set zero n a is = is
-sensed-set (suc s) n a is = transpose-set n a is
 
 -- ---- the four cells of a square of side 2, put into rows
 -- two digits from place b on

@@ -7,7 +7,8 @@ use lib.Pow.{pow-mono}
 use Rattle.k2.specs.PairSets.{Cells, union}
 use Rattle.rows.specs.Rows.{flat}
 use Rattle.packing.specs.Reading.{sensed}
-use Rattle.packing.proofs.Loads.{reads-tree, inside-all, sensed-set}
+use Rattle.packing.specs.ReadingLaws.{sensed-set}
+use Rattle.packing.proofs.Loads.{reads-tree, inside-all}
 use Rattle.packing.proofs.load.Statement.{statement}
 use Rattle.packing.proofs.load.Tie as tie
 
