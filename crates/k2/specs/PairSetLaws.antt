@@ -7,13 +7,13 @@ use mathlib.Core.Path.{_≡_, refl, sym, ap, _∙_, fun-ext, subst}
 use mathlib.Core.Logic.{_⊎_, inl, inr, ⊎-elim}
 use mathlib.Core.Bool.{Bool, true, false}
 use mathlib.Core.List.{List, [], _∷_, _++_}
-use Prim.Native.Nat.{ℕ, zero, suc, _+_, _-_, _*_, _/_, _%_, _≤_, _<_, min, max}
+use Prim.Native.Nat.{ℕ, zero, suc, _+_, _*_, _/_, _%_, _≤_, _<_, min, max}
 use native.Mathlib.Omega.{arith}
 use native.Mathlib.Decide.{decLt}
 use lib.Dec.{ltb, eqb}
 use lib.ListN.{length}
 use borrow.Author.Tests.{eqb-true, lt-ltb, le-ltb}
-use Rattle.book.specs.Basics.{bit, has, In, here, there, Rises, ended, rises}
+use Rattle.book.specs.Basics.{bit, has, In, here, Rises, ended, rises}
 use Rattle.book.specs.ListLaws.{in-left, in-right, in-either, in-none, in-one}
 use Rattle.book.specs.SetLaws.{eqb-test, has-in, in-has}
 use Rattle.k2.specs.PairSets.{Cells, IsSet, pairWord, ifSet, rowPairs, rowsPairs, listed, setOf, union, intersection, difference, transpose, most, serves, product, OneOrMore, once, more, over, closure, diagonal}

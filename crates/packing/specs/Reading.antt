@@ -1,0 +1,49 @@
+-- What the functions that load a tree into rows make of it.
+--   sensed s a      the set a; with sense 1 its pairs exchanged
+--   turned s q      the quarter q of a square; with sense 1 the one that comes to its place when pairs are exchanged
+--   inside h x y a  the pairs of a in the square of side 2 ^ h at row x and column y
+--   quartersTo k h x y a
+--                   the pairs of a in the first k quarters, of side 2 ^ h, of the square at row x and column y
+--   Counted ws ns   for each word of ws, the number of ones before it
+--   Reads s ws h b x y a
+--                   in a tree with the words ws, read with the sense s, the four bits from bit b on are those of the square of a set whose cells are those
+--                   of a from row x and column y on; the square has the side 2 ^ h
+-- Assumes nothing: these are definitions.
+use mathlib.Core.Path.{_≡_}
+use mathlib.Core.List.{List}
+use Prim.Native.Nat.{ℕ, zero, suc, _+_, _*_, _/_, _%_, _^_, _<_}
+use lib.Dec.{leb, ltb}
+use lib.ListN.{length, getD}
+use Rattle.book.specs.Basics.{pick}
+use Rattle.k2.specs.Bits.{bitAt, bitsOf, onesBelow}
+use Rattle.k2.specs.PairSets.{Cells, union, transpose}
+use Rattle.k2.specs.Trees.{treeBits}
+use Rattle.k2.specs.Nodes.{Node, exchanged}
+use Rattle.rows.specs.Rows.{noPairs}
+
+abbrev pub sensed : ℕ → Cells → Cells
+sensed zero a = a
+sensed (suc s) a = transpose a
+
+abbrev pub turned : ℕ → ℕ → ℕ
+turned zero q = q
+turned (suc s) q = exchanged q
+
+unfoldable pub inside : ℕ → ℕ → ℕ → Cells → Cells
+inside h x y a i j = pick (leb x i) (pick (ltb i (x + 2 ^ h)) (pick (leb y j) (pick (ltb j (y + 2 ^ h)) (a i j) 0) 0) 0) 0
+
+unfoldable pub quartersTo : ℕ → ℕ → ℕ → ℕ → Cells → Cells
+quartersTo zero h x y a = noPairs
+quartersTo (suc k) h x y a = union (quartersTo k h x y a) (inside h (x + k / 2 * 2 ^ h) (y + k % 2 * 2 ^ h) a)
+
+abbrev pub Counted : List ℕ → List ℕ → Type 0
+Counted ws ns = (i : ℕ) → i < length ws → getD ns i 0 ≡ onesBelow (bitAt ws) (i * 64)
+
+pub record Reads (s : ℕ) (ws : List ℕ) (h b x y : ℕ) (a : Cells) : Type 0 where
+  pub side : ℕ
+  pub whole : Cells
+  pub square : Cells
+  pub bits : bitAt ws ≡ bitsOf (treeBits side whole)
+  pub node : Node side whole (bitAt ws) h square b
+  pub bit : (i j : ℕ) → square i j < 2
+  pub cells : (i j : ℕ) → i < 2 ^ h → j < 2 ^ h → sensed s square i j ≡ a (x + i) (y + j)

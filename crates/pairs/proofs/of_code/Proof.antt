@@ -1,0 +1,82 @@
+-- `pairs::of_code` meets its contract: with work enough the code is evaluated over the register's links, and the pairs of its tree are handed over.
+-- Assumes nothing.
+use native.Mathlib.Omega.{arith}
+use mathlib.Core.Path.{_≡_, refl, sym, ap, _∙_}
+use mathlib.Core.List.{List, []}
+use Prim.Native.Nat.{ℕ, _+_, _-_, _*_, _≤_, _<_}
+use lib.ListN.{length, take, drop, getD}
+use lib.Seq.{length-take-le}
+use Rattle.k2.specs.Trees.{treeUnit, treeWords}
+use Rattle.pairs.proofs.Answering.{little-work, by-tree}
+use borrow.Author.Needs.{needs}
+use Rattle.pairs.proofs.of_code.Statement.{statement}
+use Rattle.pairs.proofs.of_code.Tie as tie
+
+in-words : (c : tie.After-links) → c .links .result .count ≤ length (c .links .result .words)
+in-words c = let o = c .links .ensures in omega (arith, o .few, o .long)
+
+size-requires : tie.Need-size-requires
+size-requires c κs = search needs
+
+tree-unit-requires : tie.Need-tree-unit-requires
+tree-unit-requires c κs = search needs
+
+mul-if1 : tie.Need-mul-if1
+mul-if1 c = search needs
+
+returns : tie.Need-returns
+returns c = λ s e q. little-work (c .before .before .before .before .before .args .register) e (c .before .before .size .result) (c .before .tree-unit .result) _ _ (c .before .before .size .ensures .size) (c .before .tree-unit .ensures .0) (c .if1 .taken)
+
+links-requires : tie.Need-links-requires
+links-requires c κs = search needs
+
+array-share-prefix-array : tie.Need-array-share-prefix-array
+array-share-prefix-array c = in-words (c .before .before)
+
+slice-aggregate-evaluate : tie.Need-slice-aggregate-evaluate
+slice-aggregate-evaluate c = sym (length-take-le _ _ (in-words (c .before .before .before)))
+
+array-share-prefix-code : tie.Need-array-share-prefix-code
+array-share-prefix-code c = search needs
+
+slice-aggregate-evaluate-2 : tie.Need-slice-aggregate-evaluate-2
+slice-aggregate-evaluate-2 c = sym (length-take-le _ _ (c .before .before .before .before .before .before .before .before .before .before .pre .0))
+
+evaluate-requires : tie.Need-evaluate-requires
+evaluate-requires c κs = search needs
+
+hand-over-requires : tie.Need-hand-over-requires
+hand-over-requires c κs = search needs
+
+same-length : tie.Need-same-length
+same-length c = search needs
+
+same-length-2 : tie.Need-same-length-2
+same-length-2 c = search needs
+
+returns-2 : tie.Need-returns-2
+returns-2 c =
+    λ s e q. by-tree (c .before .before .before .before .before .before .before .before .before .before .before .before .before .before .before .before .before .before .args .register) e s (c .before .before .before .before .before .before .before .before .before .before .before .before .before .before .before .size .result) _ (c .before .before .before .before .before .before .before .evaluate .result)
+    (take (c .before .before .before .before .before .before .before .before .before .before .before .before .links .result .count) (c .before .before .before .before .before .before .before .before .before .before .before .before .links .result .words)) _ _ _ _ _
+    (c .before .before .before .before .before .before .before .before .before .before .before .before .before .before .before .size .ensures .size) (c .before .before .before .before .before .before .before .before .before .before .before .before .links .ensures .linked) (c .before .before .before .before .before .before .before .evaluate .ensures) q
+    (omega (arith, c .before .before .before .before .before .before .before .before .before .before .before .before .before .if1 .left, c .before .before .before .before .before .before .before .before .before .before .before .before .before .before .tree-unit .ensures .0))
+    (c .before .before .hand-over .ensures .0) (c .before .before .hand-over .ensures .1)
+
+pub of-code-spec : {M : Type 1} → statement M
+of-code-spec =
+    tie.close
+    (tie.spec
+    size-requires
+    tree-unit-requires
+    mul-if1
+    returns
+    links-requires
+    array-share-prefix-array
+    slice-aggregate-evaluate
+    array-share-prefix-code
+    slice-aggregate-evaluate-2
+    evaluate-requires
+    hand-over-requires
+    same-length
+    same-length-2
+    returns-2)

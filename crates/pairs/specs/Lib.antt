@@ -1,0 +1,6 @@
+pub mod Evaluation
+pub mod EvaluationLaws
+pub mod RoomLaws
+pub mod Steps
+pub mod Asking
+pub mod AskingLaws

@@ -1,0 +1,141 @@
+-- Laws of the room that the operands take.
+--   totals-below, totals-most, totals-store
+--                   the numbers below the top one; their total; a number stored above them
+--   room-begins     with nothing waiting
+--   room-operands   the next number of the code finds its operands, and there is room for its value
+--   room-more       one number more: its operands give way to its value
+-- Assumes nothing.
+use mathlib.Core.Path.{_≡_, refl, sym, ap, _∙_, subst}
+use mathlib.Core.List.{List, [], _∷_}
+use mathlib.Core.Bool.{Bool, true, false}
+use Prim.Native.Nat.{ℕ, zero, suc, _+_, _-_, _*_, _<_, _≤_}
+use native.Mathlib.Nat.{suc-mul}
+use native.Mathlib.Decide.{decLt}
+use native.Mathlib.Omega.{arith}
+use lib.Dec.{eqb}
+use lib.ListN.{length, getD, set, length-set}
+use lib.Seq.{getD-set-same, getD-set-other}
+use borrow.Author.Tests.{lt-ltb, le-ltb, eqb-false, eq-eqb, ne-eqb}
+use Rattle.book.specs.Basics.{pick}
+use Rattle.paths.specs.Expressions.{Expr, symbol, letter, group, inverse, star, plus, optional, alternative, sequence, depth}
+use Rattle.paths.specs.Grammar.{alternatives, Is}
+use Rattle.reader.specs.Code.{op-inverse, op-star, op-plus, op-optional, op-alternative, op-sequence, code, value, does, run}
+use Rattle.reader.specs.Running.{operands, Runs, next}
+use Rattle.reader.specs.CodeLaws.{run-code, runs-code}
+use Rattle.pairs.specs.EvaluationLaws.{runs-height}
+use Rattle.pairs.specs.Evaluation.{heights, most-waiting, Totals, nothing, also, Room}
+
+pub totals-below : {d k at : ℕ} {ls : List ℕ} → Totals d ls k at → (j : ℕ) → k ≡ suc j → (getD ls j 0 ≤ at) × (getD ls j 0 ≤ d) × Totals d ls j (at - getD ls j 0)
+totals-below nothing j e = absurd (omega arith)
+totals-below {d} {ls = ls} (also {k} {at} t h) j e =
+    let z : k ≡ j = omega arith in
+    subst (λ (i : ℕ). (getD ls i 0 ≤ at + getD ls k 0) × (getD ls i 0 ≤ d) × Totals d ls i (at + getD ls k 0 - getD ls i 0)) z
+    (omega arith, h, subst (Totals d ls k) (let q : at ≡ at + getD ls k 0 - getD ls k 0 = omega arith in q) t)
+
+pub totals-most : {d k at : ℕ} {ls : List ℕ} → Totals d ls k at → at ≤ k * d
+totals-most nothing = omega arith
+totals-most {d} (also {k} t h) = omega (arith, totals-most t, suc-mul k d)
+
+pub totals-store : {d k at : ℕ} {ls : List ℕ} (j v : ℕ) → k ≤ j → Totals d ls k at → Totals d (set ls j v) k at
+totals-store j v h nothing = nothing
+totals-store {d} {ls = ls} j v h (also {k} {at} t b) =
+    let e : getD (set ls j v) k 0 ≡ getD ls k 0 = getD-set-other ls j k v 0 (λ z. omega arith) in
+    subst (λ (x : ℕ). Totals d (set ls j v) (suc k) (at + x)) e (also (totals-store j v (omega arith) t) (omega arith))
+
+value-heights : (e : Expr) → value heights e ≡ 0
+unfolding value heights
+value-heights (symbol (letter k)) = refl
+value-heights (group e) = value-heights e
+value-heights (inverse e) = refl
+value-heights (star e) = refl
+value-heights (plus e) = refl
+value-heights (optional e) = refl
+value-heights (alternative e f) = refl
+value-heights (sequence e f) = refl
+
+pub room-begins : (d : ℕ) {s : List ℕ} (e : Expr) → Is alternatives s e → depth e ≤ 8 → (ls : List ℕ) → length ls ≡ most-waiting → Room d (code e) ls 0 0
+room-begins d e p h ls l = record { slots = l; stack = []; rest = run-code heights p [] ∙ ap (λ (v : ℕ). v ∷ []) (value-heights e); runs = runs-code heights p most-waiting [] (omega arith); count = refl; totals = nothing }
+
+-- what the next number asks
+pub record Ready (i k : ℕ) : Type 0 where
+  pub number : i ≤ op-sequence
+  pub found : operands i ≤ k
+  pub few : k ≤ most-waiting
+  pub room : suc (k - operands i) ≤ most-waiting
+
+-- a number takes its operands off the stack and puts one value on it
+height-letter : (i : ℕ) (st : List ℕ) → i < op-inverse → does heights i st ≡ 0 ∷ st
+unfolding does heights
+height-letter i st l = rw (
+  ne-eqb i op-inverse (λ e. omega arith),
+  ne-eqb i op-star (λ e. omega arith),
+  ne-eqb i op-plus (λ e. omega arith),
+  ne-eqb i op-optional (λ e. omega arith),
+  ne-eqb i op-alternative (λ e. omega arith),
+  ne-eqb i op-sequence (λ e. omega arith),
+)
+
+height-one : (i a : ℕ) (st : List ℕ) → op-inverse ≤ i → i < op-alternative → does heights i (a ∷ st) ≡ 0 ∷ st
+unfolding does heights
+height-one i a st l h = go (eqb i op-inverse) refl (eqb i op-star) refl (eqb i op-plus) refl
+  where
+    go : (t : Bool) → eqb i op-inverse ≡ t → (u : Bool) → eqb i op-star ≡ u → (v : Bool) → eqb i op-plus ≡ v → does heights i (a ∷ st) ≡ 0 ∷ st
+    go true e u f v q = rw e
+    go false e true f v q = rw (e, f)
+    go false e false f true q = rw (e, f, q)
+    go false e false f false q = rw (e, f, q, eq-eqb i op-optional (omega (arith, eqb-false i op-inverse e, eqb-false i op-star f, eqb-false i op-plus q)))
+
+height-two : (i a b : ℕ) (st : List ℕ) → op-alternative ≤ i → i ≤ op-sequence → does heights i (b ∷ a ∷ st) ≡ 0 ∷ st
+unfolding does heights
+height-two i a b st l h = go (eqb i op-alternative) refl
+  where
+    go : (t : Bool) → eqb i op-alternative ≡ t → does heights i (b ∷ a ∷ st) ≡ 0 ∷ st
+    go true e = rw (ne-eqb i op-inverse (λ q. omega arith), ne-eqb i op-star (λ q. omega arith), ne-eqb i op-plus (λ q. omega arith), ne-eqb i op-optional (λ q. omega arith), e)
+    go false e = rw (ne-eqb i op-inverse (λ q. omega arith), ne-eqb i op-star (λ q. omega arith), ne-eqb i op-plus (λ q. omega arith), ne-eqb i op-optional (λ q. omega arith), e, eq-eqb i op-sequence (omega (arith, eqb-false i op-alternative e)))
+
+pub operands-none : (i : ℕ) → i < op-inverse → operands i ≡ 0
+operands-none i h = rw (lt-ltb i op-inverse h)
+
+pub operands-one : (i : ℕ) → op-inverse ≤ i → i < op-alternative → operands i ≡ 1
+operands-one i l h = rw (le-ltb i op-inverse l, lt-ltb i op-alternative h)
+
+pub operands-two : (i : ℕ) → op-alternative ≤ i → operands i ≡ 2
+operands-two i l = rw (le-ltb i op-inverse (omega arith), le-ltb i op-alternative l)
+
+height-after : (i : ℕ) (st : List ℕ) → i ≤ op-sequence → operands i ≤ length st → length (does heights i st) ≡ suc (length st - operands i)
+height-after i st l h = go (decLt i op-inverse) (decLt i op-alternative) st h
+  where
+    go : Dec (i < op-inverse) → Dec (i < op-alternative) → (st : List ℕ) → operands i ≤ length st → length (does heights i st) ≡ suc (length st - operands i)
+    go (yes p) q st h = rw (height-letter i st p, operands-none i p) (omega arith)
+    go (no p) (yes q) [] h = absurd (omega (arith, operands-one i (omega arith) q))
+    go (no p) (yes q) (a ∷ st) h = rw (height-one i a st (omega arith) q, operands-one i (omega arith) q) (omega arith)
+    go (no p) (no q) [] h = absurd (omega (arith, operands-two i (omega arith)))
+    go (no p) (no q) (b ∷ []) h = absurd (omega (arith, operands-two i (omega arith)))
+    go (no p) (no q) (b ∷ a ∷ st) h = rw (height-two i a b st (omega arith) l, operands-two i (omega arith)) (omega arith)
+
+pub room-operands : {d i k at : ℕ} {c ls : List ℕ} → Room d (i ∷ c) ls k at → Ready i k
+room-operands {i = i} r = go (r .runs) (r .count)
+  where
+    go : {k : ℕ} {c : List ℕ} {st : List ℕ} → Runs heights most-waiting (i ∷ c) st → k ≡ length st → Ready i k
+    go {st = st} (next a b h q) e = rw e (record { number = a; found = b; few = h; room = omega (arith, runs-height heights q, height-after i st a b) })
+
+pub room-more : {d i k at : ℕ} {c ls : List ℕ} (start r : ℕ) → Room d (i ∷ c) ls k at → Totals d ls (k - operands i) start → r ≤ d
+    → Room d c (set ls (k - operands i) r) (suc (k - operands i)) (start + r)
+unfolding run
+room-more {d} {i} {k} {at} {c} {ls} start r R t h =
+    let q = room-operands R in
+    let j : ℕ = k - operands i in
+    let e : getD (set ls j r) j 0 ≡ r = getD-set-same ls j r 0 (omega (arith, q .room, R .slots)) in
+    go (R .runs) (R .rest) (R .count) (subst (λ (x : ℕ). Totals d (set ls j r) (suc j) (start + x)) e (also (totals-store j r (omega arith) t) (omega arith)))
+  where
+    go : {st : List ℕ} → Runs heights most-waiting (i ∷ c) st → run heights (i ∷ c) st ≡ 0 ∷ [] → k ≡ length st → Totals d (set ls (k - operands i) r) (suc (k - operands i)) (start + r) → Room d c (set ls (k - operands i) r) (suc (k - operands i)) (start + r)
+    go {st} (next a b g q) f e T = record { rest = f; slots = length-set ls (k - operands i) r ∙ R .slots; stack = does heights i st; runs = q; count = sym (height-after i st a b ∙ ap (λ (x : ℕ). suc (x - operands i)) (sym e)); totals = T }
+
+-- when nothing is left to run, one operand waits
+pub room-ends : {d k at : ℕ} {ls : List ℕ} → Room d [] ls k at → at ≤ d
+unfolding run
+room-ends {d} {k} {at} {ls} R =
+    let o : k ≡ 1 = R .count ∙ ap length (R .rest) in
+    let t = totals-most (R .totals) in
+    let m : k * d ≡ d = ap (λ (j : ℕ). j * d) o ∙ (let z : 1 * d ≡ d = omega arith in z) in
+    omega arith

@@ -1,0 +1,206 @@
+// Pair questions: an expression's code is run on a stack of k2-trees that lie one after another in the lent work.
+ghost use mathlib.Core.Path.{_≡_};
+ghost use mathlib.Core.List.{List, [], _∷_};
+ghost use Prim.Native.Nat.{ℕ, _+_, _*_, _-_, _<_, _≤_};
+ghost use lib.ListN.{length, take, drop, getD};
+ghost use Rattle.k2.specs.PairSets.{Cells, IsSet, listed};
+ghost use Rattle.k2.specs.Trees.{treeUnit, treeWords};
+ghost use Rattle.paths.specs.Expressions.{Expr};
+ghost use Rattle.paths.specs.Grammar.{accepted};
+ghost use Rattle.tree.specs.Inner.{OneTree, TwoTrees};
+ghost use Rattle.pairs.specs.Evaluation.{onOne, onTwo, Room};
+ghost use Rattle.pairs.specs.Steps.{Goes, Coded, Evaluated};
+ghost use Rattle.pairs.specs.Asking.{Handed, AsksFor, AsksPairs};
+ghost use Rattle.pairs.specs.declared.PairsAnswer.the-variants.{Refused};
+
+// The answer to a pair question: the number of pairs, or refused with the number of the cause.
+pub enum PairsAnswer {
+    Pairs(usize),
+    Refused(u32),
+}
+
+// The operands that wait: the words of each one's tree, how many wait, and where their trees end in the work.
+struct Stack {
+    sizes: [usize; 19],
+    count: usize,
+    end: usize,
+}
+
+// A size, cut off at D. Of a register's own links no tree is longer.
+fn bounded(size: usize, n: usize) -> usize
+    requires { ⌜ n ≤ 1024 ⌝ }
+    ensures { λ r. ⌜ (r ≤ treeUnit n) × (size ≤ treeUnit n → r ≡ size) ⌝ }
+{
+    let most = packing::tree_unit(n);
+    if most < size {
+        return most;
+    }
+    size
+}
+
+// An operator on the tree at the front of a part of work, in whose place its value is left; how many words it has.
+fn on_one(part: &mut [u64], n: usize, op: u8, size: usize) -> usize
+    requires { ⌜ (n ≤ 1024) × (size ≤ treeUnit n) × (2 * treeUnit n ≤ length (now part)) ⌝ }
+    ensures { λ r. ⌜ (r ≤ treeUnit n) × (26 ≤ op → op < 30 → OneTree (onOne n op) n size (now (part .entry)) (now (part .exit)) r) ⌝ }
+{
+    if op == 26 {
+        return bounded(tree::transpose_in(part, n, size), n);
+    }
+    if op == 27 {
+        let closed = bounded(tree::closure_in(part, n, size), n);
+        return bounded(tree::identity_in(part, n, closed), n);
+    }
+    if op == 28 {
+        return bounded(tree::closure_in(part, n, size), n);
+    }
+    bounded(tree::identity_in(part, n, size), n)
+}
+
+// An operator on the two trees at the front of a part of work.
+fn on_two(part: &mut [u64], n: usize, op: u8, left: usize, right: usize) -> usize
+    requires { ⌜ (n ≤ 1024) × (left ≤ treeUnit n) × (right ≤ treeUnit n) × (2 * treeUnit n ≤ length (now part)) ⌝ }
+    ensures { λ r. ⌜ (r ≤ treeUnit n) × TwoTrees (onTwo n op) n left right (now (part .entry)) (now (part .exit)) r ⌝ }
+{
+    if op == 30 {
+        return bounded(tree::union_in(part, n, left, right), n);
+    }
+    bounded(tree::product_in(part, n, left, right, 0, 0), n)
+}
+
+// A letter's tree, put behind those that wait.
+fn letter(work: &mut [u64], n: usize, words: &[u32], stack: Stack, op: u8) -> Stack
+    requires { ⌜ (n ≤ 1024) × (32 * treeUnit n ≤ length (now work)) × (op < 26) × ((c : List ℕ) × Room (treeUnit n) (op ∷ c) (stack .sizes) (stack .count) (stack .end)) ⌝ }
+    ensures { λ r. ⌜ Goes n (now (words .entry)) op (now (work .entry)) (now (work .exit)) (stack .sizes) (stack .count) (stack .end) (r .sizes) (r .count) (r .end) ⌝ }
+{
+    let mut next = stack;
+    let count = next.count;
+    let end = next.end;
+    let links = register::label_part(words, op);
+    let made = tree::letter_in(&mut work[end..], n, links);
+    let size = bounded(made, n);
+    next.sizes[count] = size;
+    next.count = count + 1;
+    next.end = end + size;
+    next
+}
+
+// An operator on the operand on top; the part of work from it on is lent to the operation.
+fn unary(work: &mut [u64], n: usize, stack: Stack, op: u8) -> Stack
+    requires { ⌜ (n ≤ 1024) × (32 * treeUnit n ≤ length (now work)) × (26 ≤ op) × (op < 30) × ((c : List ℕ) × Room (treeUnit n) (op ∷ c) (stack .sizes) (stack .count) (stack .end)) ⌝ }
+    ensures { λ r. ⌜ ((ws : List ℕ) → Goes n ws op (now (work .entry)) (now (work .exit)) (stack .sizes) (stack .count) (stack .end) (r .sizes) (r .count) (r .end)) ⌝ }
+{
+    let mut next = stack;
+    let top = next.count - 1;
+    let last = next.sizes[top];
+    let start = next.end - last;
+    let size = on_one(&mut work[start..], n, op, last);
+    next.sizes[top] = size;
+    next.end = start + size;
+    next
+}
+
+// An operator on the two operands on top; the part of work from the lower one on is lent to the operation.
+fn binary(work: &mut [u64], n: usize, stack: Stack, op: u8) -> Stack
+    requires { ⌜ (n ≤ 1024) × (32 * treeUnit n ≤ length (now work)) × (30 ≤ op) × ((c : List ℕ) × Room (treeUnit n) (op ∷ c) (stack .sizes) (stack .count) (stack .end)) ⌝ }
+    ensures { λ r. ⌜ ((ws : List ℕ) → Goes n ws op (now (work .entry)) (now (work .exit)) (stack .sizes) (stack .count) (stack .end) (r .sizes) (r .count) (r .end)) ⌝ }
+{
+    let mut next = stack;
+    let top = next.count - 1;
+    let below = top - 1;
+    let right = next.sizes[top];
+    let left = next.sizes[below];
+    let start = next.end - right - left;
+    let size = on_two(&mut work[start..], n, op, left, right);
+    next.sizes[below] = size;
+    next.count = top;
+    next.end = start + size;
+    next
+}
+
+// One number of the code.
+fn step(work: &mut [u64], n: usize, words: &[u32], stack: Stack, op: u8) -> Stack
+    requires { ⌜ (n ≤ 1024) × (32 * treeUnit n ≤ length (now work)) × ((c : List ℕ) × Room (treeUnit n) (op ∷ c) (stack .sizes) (stack .count) (stack .end)) ⌝ }
+    ensures { λ r. ⌜ Goes n (now (words .entry)) op (now (work .entry)) (now (work .exit)) (stack .sizes) (stack .count) (stack .end) (r .sizes) (r .count) (r .end) ⌝ }
+{
+    if op < 26 {
+        return letter(work, n, words, stack, op);
+    }
+    if op < 30 {
+        return unary(work, n, stack, op);
+    }
+    binary(work, n, stack, op)
+}
+
+// The whole code: its value's tree is left at the front of work; how many words it has.
+fn evaluate(work: &mut [u64], n: usize, words: &[u32], code: &[u8]) -> usize
+    requires { ⌜ (n ≤ 1024) × (32 * treeUnit n ≤ length (now work)) × ((s : List ℕ) × (e : Expr) × Coded s e (now code)) ⌝ }
+    ensures { λ r. ⌜ Evaluated n (now (words .entry)) (now (code .entry)) (now (work .exit)) r ⌝ }
+{
+    let mut stack = Stack {
+        sizes: [0; 19],
+        count: 0,
+        end: 0,
+    };
+    let mut i = 0;
+    while i < code.len() {
+        stack = step(work, n, words, stack, code[i]);
+        i += 1;
+    }
+    stack.end
+}
+
+// The pairs of the tree at the front of work, handed over if the list takes them.
+fn hand_over(work: &[u64], n: usize, size: usize, list: &mut [u32]) -> PairsAnswer
+    requires { ⌜ (n ≤ 1024) × (size ≤ treeUnit n) × (size ≤ length (now work)) ⌝ }
+    ensures unchanged { λ a. ⌜ ((k : ℕ) → a ≡ Refused k → now (list .exit) ≡ now (list .entry)) ⌝ }
+    ensures pairs { λ a. ⌜ ((x : Cells) → IsSet n x → take size (now (work .entry)) ≡ treeWords n x → Handed (listed n x) (now (list .entry)) (now (list .exit)) a) ⌝ }
+{
+    let mut rows: [u64; 16384] = [0; 16384];
+    packing::load(&work[..size], n, 0, &mut rows);
+    let count = rows::count_pairs(&rows, n);
+    if list.len() < count {
+        return PairsAnswer::Refused(13);
+    }
+    rows::write_pairs(&rows, n, list);
+    PairsAnswer::Pairs(count)
+}
+
+// The pairs of an expression, by its code: the first len bytes of the array.
+fn of_code(
+    register: register::Register,
+    code: [u8; 256],
+    len: usize,
+    work: &mut [u64],
+    list: &mut [u32],
+) -> PairsAnswer
+    requires { ⌜ (len ≤ length code) × ((s : List ℕ) × (e : Expr) × Coded s e (take len code)) ⌝ }
+    ensures { λ a. ⌜ ((s : List ℕ) (e : Expr) → Coded s e (take len code) → AsksFor register (accepted e) (length (now (work .entry))) (now (list .entry)) (now (list .exit)) a) ⌝ }
+{
+    let n = register.size();
+    if work.len() < 32 * packing::tree_unit(n) {
+        return PairsAnswer::Refused(12);
+    }
+    let links = register.links();
+    let count = links.count;
+    let array = links.words;
+    let size = evaluate(work, n, &array[..count], &code[..len]);
+    hand_over(work, n, size, list)
+}
+
+// The pairs that have a chain, ascending, each once.
+pub fn pairs(
+    register: register::Register,
+    text: &[u8],
+    work: &mut [u64],
+    list: &mut [u32],
+) -> PairsAnswer
+    ensures { λ a. ⌜ AsksPairs register (now (text .entry)) (length (now (work .entry))) (now (list .entry)) (now (list .exit)) a ⌝ }
+{
+    let reading = reader::read(text);
+    let answer = reading.answer;
+    let code = reading.code;
+    match answer {
+        reader::Answer::Refused(k) => PairsAnswer::Refused(k as u32),
+        reader::Answer::Accepted(len) => of_code(register, code, len, work, list),
+    }
+}

@@ -1,0 +1,104 @@
+-- `register::Register::add` meets its contract: each refusal by `refuse` with the tests that led to it, and acceptance by `accept`. Assumes nothing.
+use Prim.Native.Nat.{_≤_, _<_}
+use mathlib.Core.Path.{_≡_, _∙_}
+use mathlib.Core.List.{[], _∷_}
+use native.Mathlib.Omega.{arith}
+use borrow.Author.Needs.{needs}
+use borrow.Author.Tests.{le-leb, lt-leb}
+use lib.Dec.{leb}
+use lib.ListN.{length, take}
+use lib.Seq.{length-take-le}
+use Rattle.book.specs.Basics.{Rises}
+use Rattle.book.specs.Causes.{already, full, number, firstNumber, maxLinks}
+use Rattle.book.specs.Book.{Link, add}
+use Rattle.register.specs.Packed.{heldWord}
+use Rattle.register.specs.Calls.{packedOf}
+use Rattle.register.specs.Inner.{Checks}
+use Rattle.register.specs.declared.LinkCheck.the-variants.{Word, Fault}
+use Rattle.register.proofs.Showing.{packedCauses, packedEdit}
+use Rattle.register.proofs.Stepping.{refuse, accept, add-cause, add-stop}
+use Rattle.register.proofs.Register.add.Statement.{statement}
+use Rattle.register.proofs.Register.add.Tie as tie
+
+check-link-requires : tie.Need-check-link-requires
+check-link-requires c κs = search needs
+
+enum-known-check : tie.Need-enum-known-check
+enum-known-check c = search needs
+
+enum-known-check-2 : tie.Need-enum-known-check-2
+enum-known-check-2 c = search needs
+
+abbrev link : (c : tie.Start) → Link
+link c = record { from = c .args .from; label = c .args .label; to = c .args .to }
+
+-- what the check found
+fault : (c : tie.After-check) → Checks (c .before .before .before .before .before .before .args .t1 .n) (c .before .before .before .before .before .before .args .t1 .count) (c .before .before .before .before .before .before .args .t1 .top) (c .before .before .before .before .before .before .args .t1 .held) (c .before .before .before .before .before .before .args .t1 .locks) (link (c .before .before .before .before .before .before)) (Fault (c .check .given .0 .0))
+fault c = rw (c .check .given .1) at (c .before .before .check-link .ensures)
+
+word : (c : tie.After-check2) → Checks (c .before .before .before .before .before .before .args .t1 .n) (c .before .before .before .before .before .before .args .t1 .count) (c .before .before .before .before .before .before .args .t1 .top) (c .before .before .before .before .before .before .args .t1 .held) (c .before .before .before .before .before .before .args .t1 .locks) (link (c .before .before .before .before .before .before)) (Word (c .check2 .given .0 .0))
+word c = rw (c .check2 .given .1) at (c .before .before .check-link .ensures)
+
+holds-requires : tie.Need-holds-requires
+holds-requires c κs =
+    let k : length (c .before .before .before .before .before .before .before .before .before .before .args .t1 .links) ≡ 4096 = search needs in
+    omega (arith, word (c .before .before .before .before) .0 .count)
+
+-- the causes left, by what `holds` found
+causes-left : (c : tie.After-holds) → Rises 0 (packedOf (c .before .before .before .before .before .before .before .before .before .before .before .args .t1) .links) → firstNumber (packedCauses (c .before .before .before .before .before .before .before .before .before .before .before .args .t1 .n) (packedOf (c .before .before .before .before .before .before .before .before .before .before .before .args .t1)) (add (link (c .before .before .before .before .before .before .before .before .before .before .before)))) ≡
+    firstNumber ((already, c .holds .result) ∷ (full, leb maxLinks (length (packedOf (c .before .before .before .before .before .before .before .before .before .before .before .args .t1) .links))) ∷ [])
+causes-left c = let w = word (c .before .before .before .before .before) in add-cause (c .before .before .before .before .before .before .before .before .before .before .before .args .t1) (link (c .before .before .before .before .before .before .before .before .before .before .before)) _ (w .1) (w .2) (c .holds .result) (c .holds .ensures)
+
+returns : tie.Need-returns
+unfolding firstNumber number
+returns c = refuse (c .before .before .before .before .before .before .before .before .before .before .before .before .args .t1) (add (link (c .before .before .before .before .before .before .before .before .before .before .before .before))) 5 (omega arith) (λ _ r. causes-left (c .before) r ∙ rw (c .if1 .taken))
+
+returns-2 : tie.Need-returns-2
+unfolding firstNumber number
+returns-2 c =
+    let s = c .before .before .before .before .before .before .before .before .before .before .before .before .before .args .t1 in
+    let k : length (s .links) ≡ 4096 = search needs in
+    let h : 4096 ≤ length (take (s .count) (s .links)) = omega (arith, length-take-le (s .count) (s .links) (omega (arith, word (c .before .before .before .before .before .before .before) .0 .count)), c .if2 .taken) in
+    refuse s (add (link (c .before .before .before .before .before .before .before .before .before .before .before .before .before))) 7 (omega arith) (λ _ r. causes-left (c .before .before) r ∙ rw (c .before .if1 .left, le-leb 4096 _ h))
+
+put-in-requires : tie.Need-put-in-requires
+put-in-requires c κs = c .if2 .left
+
+hold-requires : tie.Need-hold-requires
+hold-requires c κs =
+    let h = word (c .before .before .before .before .before .before .before .before) .0 in
+    let k = c .put-in .ensures .kept in
+    (omega (arith, k .top, h .top), omega (arith, k .held, h .held))
+
+returns-3 : tie.Need-returns-3
+returns-3 c =
+    let f = fault (c .before) in
+    refuse (c .before .before .before .before .before .before .before .args .t1) (add (link (c .before .before .before .before .before .before .before))) _ (f .0) (λ h _. add-stop (c .before .before .before .before .before .before .before .args .t1) (link (c .before .before .before .before .before .before .before)) _ (f .1 h) (f .0))
+
+returns-4 : tie.Need-returns-4
+unfolding firstNumber number packedEdit heldWord
+returns-4 c =
+    let s = c .before .before .before .before .before .before .before .before .before .before .before .before .before .before .before .args .t1 in
+    let k : length (s .links) ≡ 4096 = search needs in
+    let m : length (s .locks) ≡ 1024 = search needs in
+    let w = word (c .before .before .before .before .before .before .before .before .before) in
+    let h : length (take (s .count) (s .links)) < 4096 = omega (arith, length-take-le (s .count) (s .links) (omega (arith, w .0 .count)), c .before .before .if2 .left) in
+    accept s (add (link (c .before .before .before .before .before .before .before .before .before .before .before .before .before .before .before))) (c .before .put-in .result) (c .hold .result) (w .0) m
+    (λ r. causes-left (c .before .before .before .before) r ∙ rw (c .before .before .before .if1 .left, lt-leb 4096 _ h))
+    (rw (w .1) at (c .before .put-in .ensures))
+    (rw (w .1) at (c .hold .ensures))
+
+pub add-spec : {M : Type 1} → statement M
+add-spec =
+    tie.close
+    (tie.spec
+    check-link-requires
+    enum-known-check
+    enum-known-check-2
+    holds-requires
+    returns
+    returns-2
+    put-in-requires
+    hold-requires
+    returns-3
+    returns-4)

@@ -1,0 +1,97 @@
+-- `register::Register::remove` meets its contract: each refusal by `refuse` with the tests that led to it, and acceptance by `accept`. Assumes nothing.
+use mathlib.Core.Path.{_≡_, _∙_}
+use mathlib.Core.List.{[], _∷_}
+use mathlib.Core.Bool.{not}
+use native.Mathlib.Omega.{arith}
+use borrow.Author.Needs.{needs}
+use lib.ListN.{length}
+use Rattle.book.specs.Basics.{Rises}
+use Rattle.book.specs.Causes.{missing, number, firstNumber}
+use Rattle.book.specs.Book.{Link, remove}
+use Rattle.register.specs.Packed.{heldWord}
+use Rattle.register.specs.Calls.{packedOf}
+use Rattle.register.specs.Inner.{Checks}
+use Rattle.register.specs.declared.LinkCheck.the-variants.{Word, Fault}
+use Rattle.register.proofs.Showing.{packedCauses, packedEdit}
+use Rattle.register.proofs.Stepping.{refuse, accept, remove-cause, remove-stop, link-proper}
+use Rattle.register.proofs.Register.remove.Statement.{statement}
+use Rattle.register.proofs.Register.remove.Tie as tie
+
+check-link-requires : tie.Need-check-link-requires
+check-link-requires c κs = search needs
+
+enum-known-check : tie.Need-enum-known-check
+enum-known-check c = search needs
+
+enum-known-check-2 : tie.Need-enum-known-check-2
+enum-known-check-2 c = search needs
+
+abbrev link : (c : tie.Start) → Link
+link c = record { from = c .args .from; label = c .args .label; to = c .args .to }
+
+-- what the check found
+fault : (c : tie.After-check) → Checks (c .before .before .before .before .before .before .args .t1 .n) (c .before .before .before .before .before .before .args .t1 .count) (c .before .before .before .before .before .before .args .t1 .top) (c .before .before .before .before .before .before .args .t1 .held) (c .before .before .before .before .before .before .args .t1 .locks) (link (c .before .before .before .before .before .before)) (Fault (c .check .given .0 .0))
+fault c = rw (c .check .given .1) at (c .before .before .check-link .ensures)
+
+word : (c : tie.After-check2) → Checks (c .before .before .before .before .before .before .args .t1 .n) (c .before .before .before .before .before .before .args .t1 .count) (c .before .before .before .before .before .before .args .t1 .top) (c .before .before .before .before .before .before .args .t1 .held) (c .before .before .before .before .before .before .args .t1 .locks) (link (c .before .before .before .before .before .before)) (Word (c .check2 .given .0 .0))
+word c = rw (c .check2 .given .1) at (c .before .before .check-link .ensures)
+
+holds-requires : tie.Need-holds-requires
+holds-requires c κs =
+    let k : length (c .before .before .before .before .before .before .before .before .before .before .args .t1 .links) ≡ 4096 = search needs in
+    omega (arith, word (c .before .before .before .before) .0 .count)
+
+-- the causes left, by what `holds` found
+causes-left : (c : tie.After-holds) → Rises 0 (packedOf (c .before .before .before .before .before .before .before .before .before .before .before .args .t1) .links) → firstNumber (packedCauses (c .before .before .before .before .before .before .before .before .before .before .before .args .t1 .n) (packedOf (c .before .before .before .before .before .before .before .before .before .before .before .args .t1)) (remove (link (c .before .before .before .before .before .before .before .before .before .before .before)))) ≡ firstNumber ((missing, not (c .holds .result)) ∷ [])
+causes-left c = let w = word (c .before .before .before .before .before) in remove-cause (c .before .before .before .before .before .before .before .before .before .before .before .args .t1) (link (c .before .before .before .before .before .before .before .before .before .before .before)) _ (w .1) (w .2) (c .holds .result) (c .holds .ensures)
+
+returns : tie.Need-returns
+unfolding firstNumber number
+returns c = refuse (c .before .before .before .before .before .before .before .before .before .before .before .before .args .t1) (remove (link (c .before .before .before .before .before .before .before .before .before .before .before .before))) 6 (omega arith) (λ _ r. causes-left (c .before) r ∙ rw (c .if1 .taken))
+
+take-out-requires : tie.Need-take-out-requires
+take-out-requires c κs = word (c .before .before .before .before .before .before) .0 .count
+
+-- the word of a proper link leaves room for its kind
+add-hold : tie.Need-add-hold
+add-hold c =
+    let w = word (c .before .before .before .before .before .before .before) in
+    let p = link-proper _ (c .before .before .before .before .before .before .before .before .before .before .before .before .before .args .t1 .locks) _ (w .2) in
+    omega (arith, p .from, p .label, p .to, w .0 .size, w .1)
+
+hold-requires : tie.Need-hold-requires
+hold-requires c κs =
+    let h = word (c .before .before .before .before .before .before .before) .0 in
+    let k = c .take-out .ensures .kept in
+    (omega (arith, k .top, h .top), omega (arith, k .held, h .held))
+
+returns-2 : tie.Need-returns-2
+returns-2 c =
+    let f = fault (c .before) in
+    refuse (c .before .before .before .before .before .before .before .args .t1) (remove (link (c .before .before .before .before .before .before .before))) _ (f .0) (λ h _. remove-stop (c .before .before .before .before .before .before .before .args .t1) (link (c .before .before .before .before .before .before .before)) _ (f .1 h) (f .0))
+
+returns-3 : tie.Need-returns-3
+unfolding firstNumber number packedEdit heldWord
+returns-3 c =
+    let s = c .before .before .before .before .before .before .before .before .before .before .before .before .before .before .args .t1 in
+    let m : length (s .locks) ≡ 1024 = search needs in
+    let w = word (c .before .before .before .before .before .before .before .before) in
+    accept s (remove (link (c .before .before .before .before .before .before .before .before .before .before .before .before .before .before))) (c .before .take-out .result) (c .hold .result) (w .0) m
+    (λ r. causes-left (c .before .before .before) r ∙ rw (c .before .before .if1 .left))
+    (rw (w .1) at (c .before .take-out .ensures))
+    (rw (w .1) at (c .hold .ensures))
+
+pub remove-spec : {M : Type 1} → statement M
+remove-spec =
+    tie.close
+    (tie.spec
+    check-link-requires
+    enum-known-check
+    enum-known-check-2
+    holds-requires
+    returns
+    take-out-requires
+    add-hold
+    hold-requires
+    returns-2
+    returns-3)

@@ -1,0 +1,69 @@
+-- `difference_in` loads each tree into rows of its own. Assumes nothing.
+use mathlib.Core.Path.{_≡_, ap, _∙_}
+use Prim.Native.Nat.{ℕ, _+_, _*_, _≤_}
+use native.Mathlib.Omega.{arith}
+use borrow.Author.Needs.{needs}
+use Rattle.k2.specs.PairSets.{difference}
+use Rattle.k2.specs.PairSetLaws.{difference-set}
+use Rattle.rows.specs.Rows.{noPairs}
+use Rattle.tree.proofs.Ops.{rows-none, from-none, tree-at, pack-room}
+use Rattle.tree.proofs.difference_in.Statement.{statement}
+use Rattle.tree.proofs.difference_in.Tie as tie
+
+slice-aggregate-load-at : tie.Need-slice-aggregate-load-at
+slice-aggregate-load-at c = search needs
+
+load-at-requires : tie.Need-load-at-requires
+load-at-requires c κs = search needs
+
+slice-aggregate-load-at-2 : tie.Need-slice-aggregate-load-at-2
+slice-aggregate-load-at-2 c = search needs
+
+load-at-requires-2 : tie.Need-load-at-requires-2
+load-at-requires-2 c κs = search needs
+
+slice-aggregate-minus : tie.Need-slice-aggregate-minus
+slice-aggregate-minus c = search needs
+
+slice-aggregate-minus-2 : tie.Need-slice-aggregate-minus-2
+slice-aggregate-minus-2 c = search needs
+
+minus-requires : tie.Need-minus-requires
+minus-requires c κs = search needs
+
+slice-aggregate-pack : tie.Need-slice-aggregate-pack
+slice-aggregate-pack c = search needs
+
+pack-requires : tie.Need-pack-requires
+pack-requires c κs = (search needs, c .before .before .before .before .before .before .before .before .before .before .before .before .before .before .before .pre .size, pack-room (c .before .before .before .before .before .before .before .before .before .before .before .before .before .before .before .args .n) _ _ _ (c .before .before .before .before .before .before .before .before .before .before .before .before .before .before .before .pre))
+
+same-length : tie.Need-same-length
+same-length c = search needs
+
+returns : tie.Need-returns
+returns c =
+    let n = c .before .before .before .before .before .before .before .before .before .before .before .before .before .before .before .before .before .before .args .n in
+    let one = c .before .before .before .before .before .before .before .before .before .before .before .before .before .before .load-at in
+    let two = c .before .before .before .before .before .before .before .before .before .before .load-at2 in (
+      c .before .before .pack .ensures .0,
+      λ a b ia ib ea eb.
+          tree-at n (c .before .before .pack .result) (difference a b) (c .before .before .pack .last .1 .1 .0)
+          (c .before .before .pack .ensures .1 (difference a b) (difference-set n a b ia ib)
+          (c .before .before .before .before .before .before .minus .ensures a b (from-none a _ (one .ensures a noPairs ia ea rows-none)) (from-none b _ (two .ensures b noPairs ib eb rows-none)))),
+    )
+
+pub difference-in-spec : {M : Type 1} → statement M
+difference-in-spec =
+    tie.close
+    (tie.spec
+    slice-aggregate-load-at
+    load-at-requires
+    slice-aggregate-load-at-2
+    load-at-requires-2
+    slice-aggregate-minus
+    slice-aggregate-minus-2
+    minus-requires
+    slice-aggregate-pack
+    pack-requires
+    same-length
+    returns)

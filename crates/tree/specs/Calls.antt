@@ -1,0 +1,69 @@
+-- What the public calls promise: each number exactly on its cause, the first in the order of 01 winning, with nothing written but work; otherwise
+-- the answer, and behind it the list as it was.
+--   Formed n ts     the lent trees ts are well formed
+--   Unmet n ps ts k the causes that are found before the answer is known; k is the length of the lent work
+--   Refuses n ps ts k Gives list
+--                   these, and an answer, one that Gives, which is longer than its list
+--   Answered n ps ts k Gives before after
+--                   what a call returns, and makes of its list
+--   ListOf n t xs   xs are the pairs of the tree t, ascending
+--   TreeOfOne op n t xs, TreeOfTwo op n t u xs
+--                   xs are the words of the tree of what op makes of the set of the tree t, or of the sets of t and u
+--   algebra k n     the operations on two sets, by a number: union, intersection, difference, product
+-- Assumes nothing: these are definitions.
+use mathlib.Core.Path.{_≡_}
+use mathlib.Core.List.{List, [], _∷_, _++_}
+use Prim.Native.Nat.{ℕ, zero, suc, _*_, _≤_, _<_}
+use lib.ListN.{length, drop}
+use Rattle.book.specs.Basics.{In}
+use Rattle.book.specs.Causes.{Cause, bad-size, no-record, bad-tree, short-work, short-list, treeOrder, IsFirst, maxRecords}
+use Rattle.k2.specs.PairSets.{Cells, IsSet, listed, union, intersection, difference, product}
+use Rattle.k2.specs.PairSetLaws.{PairsBelow}
+use Rattle.k2.specs.Trees.{treeWords, treeUnit, WellFormed}
+use Rattle.tree.specs.declared.Answer.{Answer}
+use Rattle.tree.specs.declared.Answer.the-variants.{Done, Refused}
+
+abbrev pub Formed : ℕ → List (List ℕ) → Type 0
+Formed n ts = (t : List ℕ) → In t ts → WellFormed n t
+
+pub data Unmet (n : ℕ) (ps : List ℕ) (ts : List (List ℕ)) (k : ℕ) : Cause → Type 0 where
+  size : ((1 ≤ n) × (n ≤ maxRecords) → ⊥) → Unmet n ps ts k bad-size
+  pairs : (PairsBelow n ps → ⊥) → Unmet n ps ts k no-record
+  trees : (Formed n ts → ⊥) → Unmet n ps ts k bad-tree
+  work : k < 32 * treeUnit n → Unmet n ps ts k short-work
+
+pub data Refuses (n : ℕ) (ps : List ℕ) (ts : List (List ℕ)) (k : ℕ) (Gives : List ℕ → Type 0) (list : List ℕ) : Cause → Type 0 where
+  unmet : {c : Cause} → Unmet n ps ts k c → Refuses n ps ts k Gives list c
+  long : {xs : List ℕ} → Gives xs → length list < length xs → Refuses n ps ts k Gives list short-list
+
+pub data Answered (n : ℕ) (ps : List ℕ) (ts : List (List ℕ)) (k : ℕ) (Gives : List ℕ → Type 0) (before after : List ℕ) : Answer → Type 0 where
+  refused : {c : ℕ} → IsFirst (Refuses n ps ts k Gives before) treeOrder (suc c) → after ≡ before → Answered n ps ts k Gives before after (Refused (suc c))
+  done : {xs : List ℕ} → IsFirst (Refuses n ps ts k Gives before) treeOrder 0 → Gives xs → after ≡ xs ++ drop (length xs) before
+      → Answered n ps ts k Gives before after (Done (length xs))
+
+pub record ListOf (n : ℕ) (t xs : List ℕ) : Type 0 where
+  pub set : Cells
+  pub is-set : IsSet n set
+  pub tree : t ≡ treeWords n set
+  pub pairs : xs ≡ listed n set
+
+pub record TreeOfOne (op : Cells → Cells) (n : ℕ) (t xs : List ℕ) : Type 0 where
+  pub set : Cells
+  pub is-set : IsSet n set
+  pub tree : t ≡ treeWords n set
+  pub words : xs ≡ treeWords n (op set)
+
+pub record TreeOfTwo (op : Cells → Cells → Cells) (n : ℕ) (t u xs : List ℕ) : Type 0 where
+  pub first : Cells
+  pub second : Cells
+  pub first-set : IsSet n first
+  pub second-set : IsSet n second
+  pub first-tree : t ≡ treeWords n first
+  pub second-tree : u ≡ treeWords n second
+  pub words : xs ≡ treeWords n (op first second)
+
+abbrev pub algebra : ℕ → ℕ → Cells → Cells → Cells
+algebra zero n = union
+algebra (suc zero) n = intersection
+algebra (suc (suc zero)) n = difference
+algebra (suc (suc (suc k))) n = product n

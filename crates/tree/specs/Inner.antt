@@ -1,0 +1,31 @@
+-- What the inner operations promise. Their operands lie at the front of a part of the lent work, one after another, and the result is left there.
+--   Room n la lb k  what an operation on operands of la and lb words needs: k words of work, two D of them
+--   TreeAt n a ws r the first r words are the tree of a, and no more than D
+--   OneTree op n la ws us r
+--                   of a tree of la words at the front of ws, r words of us are the tree of op's set
+--   TwoTrees op n la lb ws us r
+--                   the same of two, of la words and then lb
+-- Assumes nothing: these are definitions.
+use mathlib.Core.Path.{_≡_}
+use mathlib.Core.List.{List}
+use Prim.Native.Nat.{ℕ, _*_, _≤_}
+use lib.ListN.{take, drop}
+use Rattle.k2.specs.PairSets.{Cells, IsSet}
+use Rattle.k2.specs.Trees.{treeWords, treeUnit}
+
+pub record Room (n la lb k : ℕ) : Type 0 where
+  pub size : n ≤ 1024
+  pub first : la ≤ treeUnit n
+  pub second : lb ≤ treeUnit n
+  pub work : 2 * treeUnit n ≤ k
+
+pub record TreeAt (n : ℕ) (a : Cells) (ws : List ℕ) (r : ℕ) : Type 0 where
+  pub words : take r ws ≡ treeWords n a
+  pub few : r ≤ treeUnit n
+
+abbrev pub OneTree : (Cells → Cells) → ℕ → ℕ → List ℕ → List ℕ → ℕ → Type 0
+OneTree op n la ws us r = (a : Cells) → IsSet n a → take la ws ≡ treeWords n a → TreeAt n (op a) us r
+
+abbrev pub TwoTrees : (Cells → Cells → Cells) → ℕ → ℕ → ℕ → List ℕ → List ℕ → ℕ → Type 0
+TwoTrees op n la lb ws us r =
+    (a b : Cells) → IsSet n a → IsSet n b → take la ws ≡ treeWords n a → take lb (drop la ws) ≡ treeWords n b → TreeAt n (op a b) us r
