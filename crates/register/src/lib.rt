@@ -1,14 +1,12 @@
 // The register: links, locks and held edits by value, and the calls that edit it.
 // What the calls promise is stated in specs/Calls.antt, specs/History.antt and specs/Questions.antt, about the plain book of the crate book.
 ghost use mathlib.Core.Path.{_≡_};
-ghost use mathlib.Core.Bool.{Bool, true, false};
-ghost use mathlib.Core.List.{List};
-ghost use Prim.Native.Nat.{ℕ, _+_, _-_, _≤_, _<_};
+ghost use Prim.Native.Nat.{_+_, _-_, _≤_, _<_};
 ghost use lib.ListN.{length, take, set};
 ghost use lib.Dec.{eqb};
 ghost use Rattle.book.specs.Basics.{Rises, has, without};
 ghost use Rattle.book.specs.Causes.{firstNumber};
-ghost use Rattle.book.specs.Book.{Link, add, remove, lock, unlock, edit, undo};
+ghost use Rattle.book.specs.Book.{add, remove, lock, unlock, edit, undo, fresh};
 ghost use Rattle.register.specs.Links.{linkWord};
 ghost use Rattle.register.specs.Packed.{insert};
 ghost use Rattle.register.specs.Calls.{answerNumber, packedOf, Represents, Opens, Steps, wordCall};
@@ -200,7 +198,7 @@ fn check_link(
 // A register of n records with no link, no lock and nothing held.
 fn empty(n: u16) -> Register
     requires { ⌜ n ≤ 1024 ⌝ }
-    ensures { λ r. ⌜ Represents r (Rattle.book.specs.Book.fresh n) ⌝ }
+    ensures { λ r. ⌜ Represents r (fresh n) ⌝ }
 {
     Register {
         n,

@@ -1,6 +1,6 @@
 -- `register::empty` meets its contract: no words show no links, and each record's lock is false. Assumes nothing.
 use mathlib.Core.Path.{refl}
-use mathlib.Core.Bool.{false, false≢true}
+use mathlib.Core.Bool.{false≢true}
 use native.Mathlib.Omega.{arith}
 use Rattle.book.specs.Basics.{has, ended}
 use Rattle.book.specs.Book.{fresh}
