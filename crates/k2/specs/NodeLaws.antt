@@ -223,7 +223,7 @@ module _ {bits : List ℕ} {h : ℕ} {s : Cells} {b : ℕ} (n : Stands bits (suc
       one : filled h (getD (quarters h qs) (4 * j + q) blank) ≡ 1
       one = ap (filled h) quarter ∙ full
 
-levels-none : (h : ℕ) → levels h [] ≡ []
+pub levels-none : (h : ℕ) → levels h [] ≡ []
 unfolding levels quarters keep
 levels-none zero = refl
 levels-none (suc h) = levels-none h

@@ -8,12 +8,12 @@ use native.Mathlib.Omega.{arith}
 use lib.ListN.{length, getD, length-map, List·getD-append}
 use lib.Seq.{getD-append-add}
 use lib.Pow.{pow-pos}
-use Rattle.k2.specs.Bits.{bitAt, bitsOf}
+use Rattle.k2.specs.Bits.{bitAt, bitsOf, packed, wordsOf}
 use Rattle.k2.specs.PairSets.{Cells, IsSet, transpose}
-use Rattle.k2.specs.Trees.{quadrant, filled, quarters, keep, levels, treeBits, treeWords, childPlace, height}
+use Rattle.k2.specs.Trees.{quadrant, filled, quarters, keep, levels, treeBits, treeWords, WellFormed, childPlace, height}
 use Rattle.k2.specs.Nodes.{Node, root, child, quarterOf, exchanged}
 use Rattle.k2.specs.BitLaws.{Bits, words-bits}
-use Rattle.k2.specs.NodeLaws.{map-at, filled-lt, quarter-lt, quadrant-cell, empty-cell, blank, node-bit}
+use Rattle.k2.specs.NodeLaws.{map-at, filled-lt, quarter-lt, quadrant-cell, empty-cell, blank, levels-none, node-bit}
 use Rattle.k2.specs.HeightLaws.{height-is}
 
 -- ---- the tree of a set tells the set
@@ -122,6 +122,19 @@ treeWords-tell n a b ia ib e = same-bits n a b ia ib (sym (treeWords-bits n a) �
 
 pub treeBits-tell : (n : ℕ) (a b : Cells) → IsSet n a → IsSet n b → treeBits (height n) a ≡ treeBits (height n) b → a ≡ b
 treeBits-tell n a b ia ib e = same-bits n a b ia ib (ap bitsOf e)
+
+-- the empty set has no words
+filled-none : (h : ℕ) → filled h blank ≡ 0
+unfolding filled quadrant
+filled-none zero = refl
+filled-none (suc h) = omega (arith, filled-none h)
+
+pub tree-none : (n : ℕ) → WellFormed n []
+tree-none n = record {
+  set = blank;
+  is-set = record { bit = λ x y. omega arith; row = λ x y l. refl; column = λ x y l. refl };
+  tree = unfold treeWords treeBits keep wordsOf packed in (rw (filled-none (height n), levels-none (height n)));
+}
 
 -- ---- the tree of a transpose: quarters 1 and 2 are exchanged at every level
 pub quadrant-transpose : (h q : ℕ) (a : Cells) → q < 4 → quadrant h (exchanged q) (transpose a) ≡ transpose (quadrant h q a)

@@ -1,7 +1,7 @@
 -- Laws of what `any_of_eight` and `quiet` find, of the loop of `block`, and of the stores of `or_word` and `set_four`. Assumes nothing.
 use mathlib.Core.Path.{_≡_, refl, sym, ap, ap₂, _∙_, fun-ext}
 use mathlib.Core.Bool.{true, false}
-use mathlib.Core.List.{List}
+use mathlib.Core.List.{List, [], _∷_}
 use Prim.Native.Nat.{ℕ, zero, suc, _+_, _-_, _*_, _/_, _%_, _^_, _≤_, _<_, min, max}
 use native.Mathlib.Nat.{mod-lt}
 use native.Mathlib.Decide.{decLt, ℕ-discrete}
@@ -23,6 +23,11 @@ use Rattle.packing.specs.Image.{setFour}
 -- false is not true
 pub off : {A : Type 0} → false ≡ true → A
 off e = absurd (let y : _≡_ {A = ℕ} 0 1 = cc in omega arith)
+
+-- no words
+pub nil-of : (ws : List ℕ) → length ws ≡ 0 → ws ≡ []
+nil-of [] e = refl
+nil-of (w ∷ ws) e = absurd (omega arith)
 
 -- ---- several words at once
 pub or-more : (x : ℕ → ℕ) (w k : ℕ) → (w ≡ 0 → (j : ℕ) → j < k → x j ≡ 0) → bitOr w (x k) ≡ 0 → (j : ℕ) → j < k + 1 → x j ≡ 0

@@ -483,6 +483,9 @@ pub fn well_formed(tree: &[u64], n: usize) -> bool
     requires { ⌜ n ≤ 1024 ⌝ }
     ensures { λ r. ⌜ (r ≡ true → WellFormed n (now (tree .entry))) × (WellFormed n (now (tree .entry)) → r ≡ true) ⌝ }
 {
+    if tree.len() == 0 {
+        return true;
+    }
     if tree_unit(n) < tree.len() {
         return false;
     }

@@ -1,1 +1,3 @@
 pub mod Ops
+pub mod Answers
+pub mod Copies

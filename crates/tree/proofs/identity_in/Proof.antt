@@ -1,7 +1,4 @@
 -- `identity_in` sets the diagonal of the rows of the tree. Assumes nothing.
-use mathlib.Core.Path.{_≡_, ap, _∙_}
-use Prim.Native.Nat.{ℕ, _+_, _*_, _≤_}
-use native.Mathlib.Omega.{arith}
 use borrow.Author.Needs.{needs}
 use Rattle.k2.specs.PairSets.{union}
 use Rattle.k2.specs.PairSetLaws.{union-set}

@@ -1,7 +1,4 @@
 -- `intersection_in` loads each tree into rows of its own. Assumes nothing.
-use mathlib.Core.Path.{_≡_, ap, _∙_}
-use Prim.Native.Nat.{ℕ, _+_, _*_, _≤_}
-use native.Mathlib.Omega.{arith}
 use borrow.Author.Needs.{needs}
 use Rattle.k2.specs.PairSets.{intersection}
 use Rattle.k2.specs.PairSetLaws.{intersection-set}

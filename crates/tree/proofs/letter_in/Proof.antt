@@ -1,6 +1,4 @@
 -- `letter_in` puts the pairs into rows. Assumes nothing.
-use mathlib.Core.Path.{_≡_}
-use native.Mathlib.Omega.{arith}
 use borrow.Author.Needs.{needs}
 use mathlib.Core.List.{map}
 use Rattle.k2.specs.PairSets.{setOf}

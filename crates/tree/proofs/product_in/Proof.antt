@@ -1,7 +1,5 @@
 -- `product_in` loads the left operand with its sense and the right one with the other, so that its columns are rows. Assumes nothing.
-use mathlib.Core.Path.{_≡_, ap, _∙_}
-use Prim.Native.Nat.{ℕ, _+_, _*_, _≤_}
-use native.Mathlib.Omega.{arith}
+use mathlib.Core.Path.{ap, _∙_}
 use borrow.Author.Needs.{needs}
 use Rattle.k2.specs.PairSets.{product}
 use Rattle.k2.specs.PairSetLaws.{product-set}

@@ -1,7 +1,4 @@
 -- `transpose_in` loads the tree with sense 1. Assumes nothing.
-use mathlib.Core.Path.{_≡_, ap, _∙_}
-use Prim.Native.Nat.{ℕ, _+_, _*_, _≤_}
-use native.Mathlib.Omega.{arith}
 use borrow.Author.Needs.{needs}
 use Rattle.k2.specs.PairSets.{transpose}
 use Rattle.k2.specs.PairSetLaws.{transpose-set}

@@ -1,0 +1,91 @@
+-- `binary` hands over the first cause, or copies the trees to the front of work, one behind the other, and has the operation done there. Assumes
+-- nothing.
+use mathlib.Core.Path.{_≡_, refl, _∙_}
+use mathlib.Core.List.{[], _∷_}
+use Prim.Native.Nat.{_*_, _≤_}
+use native.Mathlib.Omega.{arith}
+use borrow.Author.Needs.{needs}
+use lib.ListN.{length, take}
+use Rattle.k2.specs.PairSetLaws.{PairsBelow}
+use Rattle.k2.specs.Trees.{treeUnit, WellFormed}
+use Rattle.tree.specs.Calls.{TreeOfTwo, algebra}
+use Rattle.tree.proofs.Answers.{refuse, accept, met, formed-two, two-formed, formed-most, two-only}
+use Rattle.tree.proofs.Copies.{copied-two}
+use Rattle.tree.proofs.binary.Statement.{statement}
+use Rattle.tree.proofs.binary.Tie as tie
+
+-- no cause was found
+none : (c : tie.Else1) → (1 ≤ c .before .before .before .before .before .before .before .args .n) × (c .before .before .before .before .before .before .before .args .n ≤ 1024) × PairsBelow (c .before .before .before .before .before .before .before .args .n) []
+    × (WellFormed (c .before .before .before .before .before .before .before .args .n) (c .before .before .before .before .before .before .before .args .a .now) × WellFormed (c .before .before .before .before .before .before .before .args .n) (c .before .before .before .before .before .before .before .args .b .now)) × (32 * treeUnit (c .before .before .before .before .before .before .before .args .n) ≤ length (c .before .before .before .before .before .before .before .args .work .now))
+none c = met (c .before .refusal .ensures) (c .if1 .left)
+
+array-share-prefix-none : tie.Need-array-share-prefix-none
+array-share-prefix-none c = search needs
+
+slice-aggregate-refusal : tie.Need-slice-aggregate-refusal
+slice-aggregate-refusal c = search needs
+
+refusal-requires : tie.Need-refusal-requires
+refusal-requires c κs = search needs
+
+returns : tie.Need-returns
+returns c =
+    let a = c .before .before .before .before .before .before .before .args in
+    refuse (a .n) [] (a .a .now ∷ a .b .now ∷ []) (length (a .work .now)) (TreeOfTwo (algebra (a .kind) (a .n)) (a .n) (a .a .now) (a .b .now)) (a .out .now) (a .out .now)
+    (λ t. formed-two (t .0) (t .1)) two-formed (c .before .refusal .ensures) (c .if1 .taken) refl
+
+copy-requires : tie.Need-copy-requires
+copy-requires c κs = let m = none (c .before) in omega (arith, formed-most (m .3 .0), m .4)
+
+copy-requires-2 : tie.Need-copy-requires-2
+copy-requires-2 c κs =
+    let m = none (c .before .before .before .before .before) in
+    let k : length (c .before .before .before .copy .last .1 .0) ≡ length (c .before .before .before .before .before .before .before .before .before .before .before .before .args .work .now) = c .before .before .before .copy .kept .1 .0 in
+    omega (arith, formed-most (m .3 .0), formed-most (m .3 .1), m .4)
+
+combine-requires : tie.Need-combine-requires
+combine-requires c κs =
+    let m = none (c .before .before .before .before .before .before .before .before .before) in
+    let k : length (c .before .before .before .before .before .before .before .copy .last .1 .0) ≡ length (c .before .before .before .before .before .before .before .before .before .before .before .before .before .before .before .before .args .work .now) = c .before .before .before .before .before .before .before .copy .kept .1 .0 in
+    let l : length (c .before .before .before .copy2 .last .1 .0) ≡ length (c .before .before .before .before .before .before .before .copy .last .1 .0) = c .before .before .before .copy2 .kept .1 .0 in
+    record { size = m .1; first = formed-most (m .3 .0); second = formed-most (m .3 .1); work = omega (arith, m .4) }
+
+settle-requires : tie.Need-settle-requires
+settle-requires c κs =
+    let k : length (c .before .before .before .before .combine .last .1 .0) ≡ length (c .before .before .before .before .before .before .before .before .copy2 .last .1 .0) = c .before .before .before .before .combine .kept .1 .0 in
+    omega (arith, c .before .before .before .before .combine .ensures .0)
+
+same-length : tie.Need-same-length
+same-length c = search needs
+
+same-length-2 : tie.Need-same-length-2
+same-length-2 c = search needs
+
+returns-2 : tie.Need-returns-2
+returns-2 c =
+    let a = c .before .before .before .before .before .before .before .before .before .before .before .before .before .before .before .before .before .before .before .before .before .before .before .before .args in
+    let m = none (c .before .before .before .before .before .before .before .before .before .before .before .before .before .before .before .before .before) in
+    let v = m .3 .0 in
+    let w = m .3 .1 in
+    let two = copied-two (a .a .now) (a .b .now) (a .work .now) _ _ (c .before .before .before .before .before .before .before .before .before .before .before .before .before .before .before .copy .ensures) (c .before .before .before .before .before .before .before .before .before .before .before .copy2 .ensures) in
+    let r = c .before .before .before .before .before .before .before .combine .ensures .1 (v .set) (w .set) (v .is-set) (w .is-set) (two .0 ∙ v .tree) (two .1 ∙ w .tree) in
+    let g : TreeOfTwo (algebra (a .kind) (a .n)) (a .n) (a .a .now) (a .b .now) (take (c .before .before .before .before .before .before .before .combine .result) (c .before .before .before .before .before .before .before .combine .last .1 .0)) =
+    record { first = v .set; second = w .set; first-set = v .is-set; second-set = w .is-set; first-tree = v .tree; second-tree = w .tree; words = r .words } in
+    accept (a .n) [] (a .a .now ∷ a .b .now ∷ []) (length (a .work .now)) (TreeOfTwo (algebra (a .kind) (a .n)) (a .n) (a .a .now) (a .b .now)) (a .out .now) _
+    (λ t. formed-two (t .0) (t .1)) (c .before .before .before .before .before .before .before .before .before .before .before .before .before .before .before .before .before .before .refusal .ensures) (c .before .before .before .before .before .before .before .before .before .before .before .before .before .before .before .before .before .if1 .left) _ g (λ ys q. two-only g q) (c .before .before .settle .ensures)
+
+pub binary-spec : {M : Type 1} → statement M
+binary-spec =
+    tie.close
+    (tie.spec
+    array-share-prefix-none
+    slice-aggregate-refusal
+    refusal-requires
+    returns
+    copy-requires
+    copy-requires-2
+    combine-requires
+    settle-requires
+    same-length
+    same-length-2
+    returns-2)
