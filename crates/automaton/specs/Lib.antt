@@ -1,0 +1,9 @@
+pub mod Automata
+pub mod SetLaws
+pub mod Traces
+pub mod TraceLaws
+pub mod ReadLaws
+pub mod Accepts
+pub mod Searches
+pub mod LevelLaws
+pub mod WalkLaws
