@@ -4,6 +4,7 @@ pub mod Traces
 pub mod TraceLaws
 pub mod ReadLaws
 pub mod Accepts
+pub mod Masks
 pub mod Searches
 pub mod LevelLaws
 pub mod WalkLaws
