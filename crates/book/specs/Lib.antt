@@ -1,3 +1,7 @@
 pub mod Basics
 pub mod Causes
 pub mod Book
+pub mod ListLaws
+pub mod SetLaws
+pub mod BookLaws
+pub mod BookCases

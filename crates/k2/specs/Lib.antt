@@ -1,4 +1,10 @@
 pub mod Bits
 pub mod PairSets
 pub mod Trees
+pub mod Nodes
 pub mod DigitLaws
+pub mod BitLaws
+pub mod PairSetLaws
+pub mod HeightLaws
+pub mod NodeLaws
+pub mod TreeLaws

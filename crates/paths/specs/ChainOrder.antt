@@ -2,6 +2,8 @@
 --   before-both, not-after-both
 --                   two lists that are each not after the other are the same
 --   first-only      there is at most one first chain
+--   label-first, sense-next, record-last
+--                   of two steps that reach records below 1,024: the smaller label comes first, then forward before against, then the smaller record
 --   leads v w       the order as a test, with leads-yes and leads-no: of two lists, one is not after the other
 -- Assumes nothing.
 use mathlib.Core.Path.{_≡_, refl, sym, ap, ap₂, _∙_, subst}
@@ -14,8 +16,9 @@ use lib.ListN.{length}
 use lib.Dec.{ltb, eqb}
 use borrow.Author.Tests.{ltb-true, ltb-false, eqb-true, eqb-false}
 use Rattle.book.specs.Basics.{pick}
+use Rattle.k2.specs.PairSetLaws.{bit-small}
 use Rattle.paths.specs.Expressions.{Expr}
-use Rattle.paths.specs.Chains.{Graph, Step, stepWords, Answers, Before, same, smaller, alike, NotAfter, shorter, as-long, First}
+use Rattle.paths.specs.Chains.{Graph, Step, stepWord, stepWords, Answers, Before, same, smaller, alike, NotAfter, shorter, as-long, First}
 
 pub before-back : {v w : List ℕ} {a b : ℕ} → Before v w → (a < b → ⊥) → (l m : List ℕ) → v ≡ a ∷ l → w ≡ b ∷ m → (a ≡ b) × Before l m
 before-back same n l m p q = absurd (let z : _≡_ {A = ℕ} 0 1 = cc in omega arith)
@@ -68,6 +71,16 @@ pub not-after-then : {v w u : List ℕ} → NotAfter v w → NotAfter w u → No
 not-after-then {v} {w} {u} (shorter h) q = shorter (omega (arith, before-length q))
 not-after-then {v} {w} {u} (as-long e h) (shorter q) = shorter (omega arith)
 not-after-then (as-long e h) (as-long f q) = as-long (e ∙ f) (before-then h q)
+
+-- ---- step words
+pub label-first : (s t : Step) → s .reached < 1024 → t .reached < 1024 → s .spelt .label < t .spelt .label → stepWord s < stepWord t
+label-first s t p q h = omega (arith, bit-small (s .spelt .inverted), bit-small (t .spelt .inverted))
+
+pub sense-next : (s t : Step) → s .reached < 1024 → t .reached < 1024 → s .spelt .label ≡ t .spelt .label → s .spelt .inverted ≡ false → t .spelt .inverted ≡ true → stepWord s < stepWord t
+sense-next s t p q e f g = rw (f, g) (omega arith)
+
+pub record-last : (s t : Step) → s .spelt ≡ t .spelt → s .reached < t .reached → stepWord s < stepWord t
+record-last s t e h = rw e (omega arith)
 
 -- ---- the test
 unfoldable pub before : List ℕ → List ℕ → Bool

@@ -3,6 +3,15 @@ pub mod Grammar
 pub mod Words
 pub mod Chains
 pub mod Relations
+pub mod Questions
+pub mod Descent
+pub mod DescentSound
+pub mod DescentWhole
+pub mod DescentComplete
+pub mod Verdicts
 pub mod ChainLaws
 pub mod ChainOrder
-pub mod Questions
+pub mod RelationLaws
+pub mod PairLaws
+pub mod Acceptance
+pub mod FirstChain

@@ -1,0 +1,151 @@
+-- Cases of the plain book: 01's sample edits, each number from 2 to 8 with the first cause in order winning, what is not held,
+-- 257 edits and 257 undos, and a full register. Assumes nothing.
+use mathlib.Core.Path.{_≡_, refl, ap}
+use mathlib.Core.List.{List, [], _∷_, _++_}
+use mathlib.Core.Bool.{Bool, true, false}
+use Prim.Native.Nat.{ℕ, zero, suc, _+_, _/_, _%_, _<_}
+use native.Mathlib.Omega.{arith}
+use lib.ListN.{length, replicate}
+use borrow.Author.Tests.{lt-leb, le-leb}
+use Rattle.book.specs.Basics.{has, without}
+use Rattle.book.specs.Causes.{number, firstNumber, maxLinks}
+use Rattle.book.specs.Book.{Link, sameLink, Sheet, add, remove, lock, unlock, Call, edit, undo, causes, editAnswer, edited, turned, undoAnswer, undone, freshAnswer, answer, next, fresh, answers, after}
+use Rattle.book.specs.SetLaws.{sameLink-test}
+
+abbrev link : ℕ → ℕ → ℕ → Link
+link f l t = record { from = f; label = l; to = t }
+
+abbrev adds : ℕ → ℕ → ℕ → Call
+adds f l t = edit (add (link f l t))
+
+abbrev removes : ℕ → ℕ → ℕ → Call
+removes f l t = edit (remove (link f l t))
+
+abbrev locks : ℕ → Call
+locks r = edit (lock r)
+
+abbrev unlocks : ℕ → Call
+unlocks r = edit (unlock r)
+
+-- a register has 1 to 1,024 records
+fresh-1 : freshAnswer 0 ∷ freshAnswer 1 ∷ freshAnswer 1024 ∷ freshAnswer 1025 ∷ [] ≡ 1 ∷ 0 ∷ 0 ∷ 1 ∷ []
+unfolding freshAnswer number
+fresh-1 = refl
+
+-- 01's sample edits
+sample : answers (fresh 4) (adds 0 0 1 ∷ adds 2 0 1 ∷ locks 1 ∷ adds 1 1 3 ∷ undo ∷ adds 1 1 3 ∷ []) ≡ 0 ∷ 0 ∷ 0 ∷ 4 ∷ 0 ∷ 0 ∷ []
+unfolding answers answer next editAnswer firstNumber number causes edited turned undoAnswer undone fresh has without
+sample = refl
+
+-- 2, also with a label above 25 and with a locked end
+refused-2 : answers (fresh 4) (adds 4 0 0 ∷ adds 0 0 4 ∷ removes 4 0 0 ∷ removes 0 0 4 ∷ locks 4 ∷ unlocks 4 ∷ adds 4 26 0 ∷ locks 0 ∷ adds 0 26 4 ∷ removes 4 0 0 ∷ [])
+    ≡ 2 ∷ 2 ∷ 2 ∷ 2 ∷ 2 ∷ 2 ∷ 2 ∷ 0 ∷ 2 ∷ 2 ∷ []
+unfolding answers answer next editAnswer firstNumber number causes edited turned undoAnswer undone fresh has without
+refused-2 = refl
+
+-- 3, also with a locked end
+refused-3 : answers (fresh 4) (adds 0 26 0 ∷ removes 0 26 0 ∷ locks 0 ∷ adds 0 26 1 ∷ removes 1 26 0 ∷ []) ≡ 3 ∷ 3 ∷ 0 ∷ 3 ∷ 3 ∷ []
+unfolding answers answer next editAnswer firstNumber number causes edited turned undoAnswer undone fresh has without
+refused-3 = refl
+
+-- 4 with either end or both locked, also where the link is present or absent
+refused-4 : answers (fresh 4) (adds 0 0 1 ∷ locks 1 ∷ adds 0 0 1 ∷ adds 1 0 2 ∷ adds 2 0 1 ∷ adds 1 0 1 ∷ removes 0 0 1 ∷ removes 1 0 2 ∷ removes 2 0 1 ∷ removes 1 0 1 ∷ [])
+    ≡ 0 ∷ 0 ∷ 4 ∷ 4 ∷ 4 ∷ 4 ∷ 4 ∷ 4 ∷ 4 ∷ 4 ∷ []
+unfolding answers answer next editAnswer firstNumber number causes edited turned undoAnswer undone fresh has without
+refused-4 = refl
+
+-- 5 and 6
+refused-5-6 : answers (fresh 4) (adds 0 0 1 ∷ adds 0 0 1 ∷ removes 1 0 0 ∷ removes 0 0 1 ∷ removes 0 0 1 ∷ locks 2 ∷ locks 2 ∷ unlocks 3 ∷ unlocks 2 ∷ unlocks 2 ∷ [])
+    ≡ 0 ∷ 5 ∷ 6 ∷ 0 ∷ 6 ∷ 0 ∷ 5 ∷ 6 ∷ 0 ∷ 6 ∷ []
+unfolding answers answer next editAnswer firstNumber number causes edited turned undoAnswer undone fresh has without
+refused-5-6 = refl
+
+-- 8; and a refused edit is not held: the undo after it takes back the lock, and the next gives 8
+refused-8 : answers (fresh 4) (undo ∷ locks 1 ∷ adds 1 1 3 ∷ undo ∷ undo ∷ adds 1 1 3 ∷ []) ≡ 8 ∷ 0 ∷ 4 ∷ 0 ∷ 8 ∷ 0 ∷ []
+unfolding answers answer next editAnswer firstNumber number causes edited turned undoAnswer undone fresh has without
+refused-8 = refl
+
+-- an undo takes back an add, a remove, a lock and an unlock
+undo-each : after (fresh 4) (adds 0 0 1 ∷ undo ∷ []) ∷ after (fresh 4) (locks 1 ∷ undo ∷ []) ∷ [] ≡ fresh 4 ∷ fresh 4 ∷ []
+unfolding after answer next editAnswer firstNumber number causes edited turned undoAnswer undone fresh has without
+undo-each = refl
+
+undo-taken : after (fresh 4) (adds 0 0 1 ∷ locks 1 ∷ unlocks 1 ∷ removes 0 0 1 ∷ undo ∷ undo ∷ []) ≡ after (fresh 4) (adds 0 0 1 ∷ locks 1 ∷ [])
+unfolding after answer next editAnswer firstNumber number causes edited turned undoAnswer undone fresh has without
+undo-taken = refl
+
+-- after 257 edits, 256 undos pass and the next gives 8
+unfoldable toggles : ℕ → List Call
+toggles zero = []
+toggles (suc zero) = locks 0 ∷ []
+toggles (suc (suc k)) = locks 0 ∷ unlocks 0 ∷ toggles k
+
+held-256 : answers (fresh 1) (toggles 257 ++ replicate 257 undo) ≡ replicate 513 0 ++ (8 ∷ [])
+unfolding toggles answers answer next editAnswer firstNumber number causes edited turned undoAnswer undone fresh has without
+held-256 = refl
+
+-- ---- a full register: 4,096 adds, and one more gives 7
+-- the j-th link, and the first j of them, the latest on top
+abbrev nth : ℕ → Link
+nth j = link (j / 4) 0 (j % 4)
+
+unfoldable firstLinks : ℕ → List Link
+firstLinks zero = []
+firstLinks (suc j) = nth j ∷ firstLinks j
+
+-- adds of k links from the j-th on
+unfoldable addsFrom : ℕ → ℕ → List Call
+addsFrom j zero = []
+addsFrom j (suc k) = edit (add (nth j)) ∷ addsFrom (suc j) k
+
+length-first : (j : ℕ) → length (firstLinks j) ≡ j
+unfolding firstLinks
+length-first zero = refl
+length-first (suc j) = ap suc (length-first j)
+
+apart : (i k : Link) → (i ≡ k → ⊥) → sameLink i k ≡ false
+apart i k d = go (sameLink i k) refl
+  where
+    go : (t : Bool) → sameLink i k ≡ t → t ≡ false
+    go true e = absurd (d (sameLink-test .sound i k e))
+    go false e = refl
+
+first-absent : (k : Link) (j : ℕ) → ((i : ℕ) → i < j → nth i ≡ k → ⊥) → has sameLink k (firstLinks j) ≡ false
+unfolding firstLinks has
+first-absent k zero d = refl
+first-absent k (suc j) d = rw (apart (nth j) k (d j (omega arith))) (first-absent k j (λ i h. d i (omega arith)))
+
+nth-apart : (i j : ℕ) → i < j → nth i ≡ nth j → ⊥
+nth-apart i j h e =
+    let p : i / 4 ≡ j / 4 = ap (λ (k : Link). k .from) e in
+    let q : i % 4 ≡ j % 4 = ap (λ (k : Link). k .to) e in
+    omega arith
+
+abbrev filled : ℕ → Sheet
+filled j = record { links = firstLinks j; locks = [] }
+
+fill-accepted : (j : ℕ) → j < 4096 → editAnswer 1024 (filled j) (add (nth j)) ≡ 0
+unfolding editAnswer firstNumber number causes has
+fill-accepted j h = rw (
+  lt-leb 1024 (j / 4) (omega arith),
+  lt-leb 1024 (j % 4) (omega arith),
+  first-absent (nth j) j (λ i l. nth-apart i j l),
+  lt-leb maxLinks (length (firstLinks j)) (omega (arith, length-first j)),
+)
+
+fill-refused : editAnswer 1024 (filled 4096) (add (link 0 1 0)) ≡ 7
+unfolding editAnswer firstNumber number causes has
+fill-refused = rw (
+  first-absent (link 0 1 0) 4096 (λ i h q. omega (arith, ap (λ (k : Link). k .label) q)),
+  le-leb maxLinks (length (firstLinks 4096)) (omega (arith, length-first 4096)),
+)
+
+fills : (k j : ℕ) → j + k ≡ 4096 → (ss : List Sheet)
+    → answers (record { n = 1024; sheet = filled j; pile = ss }) (addsFrom j k ++ (adds 0 1 0 ∷ [])) ≡ replicate k 0 ++ (7 ∷ [])
+unfolding answers answer next turned edited addsFrom firstLinks
+fills zero j e ss = let z : j ≡ 4096 = omega arith in rw (z, fill-refused)
+fills (suc k) j e ss = rw (fill-accepted j (omega arith)) (ap (λ (l : List ℕ). 0 ∷ l) (fills k (suc j) (omega arith) _))
+
+full-7 : answers (fresh 1024) (addsFrom 0 4096 ++ (adds 0 1 0 ∷ [])) ≡ replicate 4096 0 ++ (7 ∷ [])
+unfolding fresh firstLinks
+full-7 = fills 4096 0 refl []

@@ -1,0 +1,186 @@
+-- Laws of the plain book: what holds of the sheets of every history, what a refused edit and an undo leave, and the order of the causes. Assumes nothing.
+--   Proper n k      a link between records below n, with a letter's label
+--   Fit n s         a sheet's links are proper, its locks are of records, none stands twice, and there are at most 4,096 links
+--   Sound b         n is at most 1,024, and every sheet of the book fits
+use mathlib.Core.Path.{_≡_, refl, sym, ap, _∙_, subst}
+use mathlib.Core.List.{List, [], _∷_}
+use mathlib.Core.Bool.{Bool, true, false, not, _||_, false≢true}
+use Prim.Native.Nat.{ℕ, zero, suc, _≤_, _<_}
+use native.Mathlib.Omega.{arith}
+use lib.ListN.{length, take}
+use lib.Dec.{leb, eqb}
+use borrow.Author.Tests.{leb-false, not-false}
+use Rattle.book.specs.Basics.{has, without}
+use Rattle.book.specs.Causes.{Cause, bad-size, no-record, bad-label, locked-end, already, missing, full, none-held, no-expression, too-many-bytes, too-large, bad-tree, short-work, short-list, broken-frame, unknown-kind, not-open, number, editOrder, firstNumber, InOrder, none-left, same-cause, passed-over, maxRecords, labels, maxLinks, maxHeld}
+use Rattle.book.specs.Book.{Link, sameLink, Sheet, Book, Edit, add, remove, lock, unlock, Call, edit, undo, present, isLocked, causes, editAnswer, edited, turned, undoAnswer, undone, answer, next, fresh, after}
+use Rattle.book.specs.SetLaws.{sameLink-test, eqb-test, and-both, or-neither, has-without, Distinct, distinct-without, length-without}
+
+-- ---- causes
+-- every edit's causes are looked for in the order of 01
+pub causes-in-order : (n : ℕ) (s : Sheet) (e : Edit) → InOrder (causes n s e) editOrder
+unfolding causes editOrder
+causes-in-order n s (add k) = same-cause (same-cause (same-cause (same-cause (passed-over (same-cause none-left)))))
+causes-in-order n s (remove k) = same-cause (same-cause (same-cause (passed-over (same-cause none-left))))
+causes-in-order n s (lock r) = same-cause (passed-over (passed-over (same-cause none-left)))
+causes-in-order n s (unlock r) = same-cause (passed-over (passed-over (passed-over (same-cause none-left))))
+
+-- no cause has the number of acceptance
+pub number-positive : (c : Cause) → 1 ≤ number c
+unfolding number
+number-positive bad-size = omega arith
+number-positive no-record = omega arith
+number-positive bad-label = omega arith
+number-positive locked-end = omega arith
+number-positive already = omega arith
+number-positive missing = omega arith
+number-positive full = omega arith
+number-positive none-held = omega arith
+number-positive no-expression = omega arith
+number-positive too-many-bytes = omega arith
+number-positive too-large = omega arith
+number-positive bad-tree = omega arith
+number-positive short-work = omega arith
+number-positive short-list = omega arith
+number-positive broken-frame = omega arith
+number-positive unknown-kind = omega arith
+number-positive not-open = omega arith
+
+-- accepted: the first cause is not there, nor any after it
+pub first-none : (c : Cause) (t : Bool) (cs : List (Cause × Bool)) → firstNumber ((c, t) ∷ cs) ≡ 0 → (t ≡ false) × (firstNumber cs ≡ 0)
+unfolding firstNumber
+first-none c true cs e = absurd (omega (arith, number-positive c, e))
+first-none c false cs e = (refl, e)
+
+-- ---- refusal and undo
+-- a refused call changes nothing
+pub refused-same : (b : Book) (c : Call) → (answer b c ≡ 0 → ⊥) → next b c ≡ b
+unfolding answer next
+refused-same b (edit e) z = go (editAnswer (b .n) (b .sheet) e) z
+  where
+    go : (k : ℕ) → (k ≡ 0 → ⊥) → turned k b (edited e (b .sheet)) ≡ b
+    go zero z = absurd (z refl)
+    go (suc k) z = unfold turned in refl
+refused-same b undo z = go (b .pile) z
+  where
+    go : (ss : List Sheet) → (undoAnswer ss ≡ 0 → ⊥) → undone b ss ≡ b
+    go [] z = unfold undone in refl
+    go (s ∷ ss) z = absurd (z (unfold undoAnswer in refl))
+
+-- an undo after an accepted edit gives the sheet before it
+pub undo-back : (b : Book) (e : Edit) → answer b (edit e) ≡ 0 → next (next b (edit e)) undo .sheet ≡ b .sheet
+unfolding answer next turned undone
+undo-back b e h = ap (λ (z : ℕ). undone (turned z b (edited e (b .sheet))) (turned z b (edited e (b .sheet)) .pile) .sheet) h
+
+-- ---- what holds of every sheet
+pub record Proper (n : ℕ) (k : Link) : Type 0 where
+  pub from : k .from < n
+  pub label : k .label < labels
+  pub to : k .to < n
+
+pub record Fit (n : ℕ) (s : Sheet) : Type 0 where
+  pub links : (k : Link) → present s k ≡ true → Proper n k
+  pub locks : (r : ℕ) → isLocked s r ≡ true → r < n
+  pub once : Distinct sameLink (s .links)
+  pub single : Distinct eqb (s .locks)
+  pub room : length (s .links) ≤ maxLinks
+
+-- the link of an edit that the causes 2 and 3 let pass
+pub first-proper : (n : ℕ) (k : Link) (cs : List (Cause × Bool))
+    → firstNumber ((no-record, leb n (k .from) || leb n (k .to)) ∷ (bad-label, leb labels (k .label)) ∷ cs) ≡ 0
+    → Proper n k × (firstNumber cs ≡ 0)
+first-proper n k cs e =
+    let p = first-none no-record _ _ e in
+    let q = or-neither (leb n (k .from)) (leb n (k .to)) (p .0) in
+    let h = first-none bad-label _ cs (p .1) in
+    (record { from = leb-false _ _ (q .0); label = leb-false labels (k .label) (h .0); to = leb-false _ _ (q .1) }, h .1)
+
+or-else : (b c : Bool) → (b || c) ≡ true → (P : Type 0) → (b ≡ true → P) → (c ≡ true → P) → P
+or-else true c e P f g = f refl
+or-else false c e P f g = g e
+
+pub edited-fit : (n : ℕ) (s : Sheet) (e : Edit) → Fit n s → editAnswer n s e ≡ 0 → Fit n (edited e s)
+unfolding editAnswer causes edited has without Distinct
+edited-fit n s (add k) f e =
+    let p = first-proper n k _ e in
+    let q = first-none locked-end _ _ (p .1) in
+    let r = first-none already _ _ (q .1) in
+    let h = first-none full _ _ (r .1) in
+    record {
+      links = λ j i. or-else (sameLink k j) (present s j) i (Proper n j) (λ c. subst (Proper n) (sameLink-test .sound k j c) (p .0)) (f .links j);
+      locks = f .locks;
+      once = (r .0, f .once);
+      single = f .single;
+      room = omega (arith, leb-false maxLinks (length (s .links)) (h .0));
+    }
+edited-fit n s (remove k) f e =
+    let p = first-proper n k _ e in
+    let q = first-none locked-end _ _ (p .1) in
+    let r = first-none missing _ _ (q .1) in
+    record {
+      links = λ j i. f .links j (and-both (not (sameLink k j)) (present s j) (sym (has-without sameLink-test k j (s .links)) ∙ i) .1);
+      locks = f .locks;
+      once = distinct-without sameLink-test k (s .links) (f .once);
+      single = f .single;
+      room = omega (arith, f .room, length-without sameLink-test k (s .links) (f .once) (not-false _ (r .0)));
+    }
+edited-fit n s (lock r) f e =
+    let p = first-none no-record _ _ e in
+    let q = first-none already _ _ (p .1) in
+    record {
+      links = f .links;
+      locks = λ j i. or-else (eqb r j) (isLocked s j) i (j < n) (λ c. subst (λ (v : ℕ). v < n) (eqb-test .sound r j c) (leb-false _ _ (p .0))) (f .locks j);
+      once = f .once;
+      single = (q .0, f .single);
+      room = f .room;
+    }
+edited-fit n s (unlock r) f e = record {
+  links = f .links;
+  locks = λ j i. f .locks j (and-both (not (eqb r j)) (isLocked s j) (sym (has-without eqb-test r j (s .locks)) ∙ i) .1);
+  once = f .once;
+  single = distinct-without eqb-test r (s .locks) (f .single);
+  room = f .room;
+}
+
+-- ---- what holds of every book
+pub data All (P : Sheet → Type 0) : List Sheet → Type 0 where
+  all-none : All P []
+  all-more : {s : Sheet} {ss : List Sheet} → P s → All P ss → All P (s ∷ ss)
+
+pub all-take : {P : Sheet → Type 0} (k : ℕ) {ss : List Sheet} → All P ss → All P (take k ss)
+all-take zero a = all-none
+all-take (suc k) all-none = all-none
+all-take (suc k) (all-more p a) = all-more p (all-take k a)
+
+pub record Sound (b : Book) : Type 0 where
+  pub small : b .n ≤ maxRecords
+  pub sheet : Fit (b .n) (b .sheet)
+  pub pile : All (Fit (b .n)) (b .pile)
+
+turned-sound : (b : Book) (s : Sheet) (z c : ℕ) → Sound b → c ≡ z → (c ≡ 0 → Fit (b .n) s) → Sound (turned z b s)
+unfolding turned
+turned-sound b s zero c o e f = record { small = o .small; sheet = f e; pile = all-take maxHeld (all-more (o .sheet) (o .pile)) }
+turned-sound b s (suc z) c o e f = o
+
+undone-sound : (b : Book) (ss : List Sheet) → Sound b → All (Fit (b .n)) ss → Sound (undone b ss)
+unfolding undone
+undone-sound b [] o a = o
+undone-sound b (s ∷ ss) o (all-more p a) = record { small = o .small; sheet = p; pile = a }
+
+pub next-sound : (b : Book) (c : Call) → Sound b → Sound (next b c)
+unfolding next
+next-sound b (edit e) o = turned-sound b (edited e (b .sheet)) _ _ o refl (edited-fit (b .n) (b .sheet) e (o .sheet))
+next-sound b undo o = undone-sound b (b .pile) o (o .pile)
+
+pub fresh-sound : (n : ℕ) → n ≤ maxRecords → Sound (fresh n)
+unfolding fresh has Distinct
+fresh-sound n h = record {
+  small = h;
+  sheet = record { links = λ k e. absurd (false≢true e); locks = λ r e. absurd (false≢true e); once = tt; single = tt; room = omega arith };
+  pile = all-none;
+}
+
+-- every history
+pub after-sound : (b : Book) (cs : List Call) → Sound b → Sound (after b cs)
+unfolding after
+after-sound b [] o = o
+after-sound b (c ∷ cs) o = after-sound (next b c) cs (next-sound b c o)

@@ -1,0 +1,60 @@
+-- Laws of membership in a list, and of ascending lists: two with the same members are equal. Assumes nothing.
+use mathlib.Core.Path.{_≡_, refl, sym, ap₂, subst}
+use mathlib.Core.Logic.{_⊎_, inl, inr, ⊎-elim}
+use mathlib.Core.List.{List, [], _∷_, _++_}
+use Prim.Native.Nat.{ℕ, _≤_}
+use native.Mathlib.Omega.{arith}
+use Rattle.book.specs.Basics.{In, here, there, Rises, ended, rises}
+
+-- ---- membership
+module _ {A : Type 0} where
+  pub in-left : {w : A} {l : List A} (m : List A) → In w l → In w (l ++ m)
+  in-left m here = here
+  in-left m (there h) = there (in-left m h)
+
+  pub in-right : {w : A} (l : List A) {m : List A} → In w m → In w (l ++ m)
+  in-right [] h = h
+  in-right (x ∷ l) h = there (in-right l h)
+
+  pub in-either : {w : A} (l m : List A) → In w (l ++ m) → In w l ⊎ In w m
+  in-either [] m h = inr h
+  in-either (x ∷ l) m here = inl here
+  in-either (x ∷ l) m (there h) = ⊎-elim (λ p. inl (there p)) (λ p. inr p) (in-either l m h)
+
+  pub in-none : {w : A} {l : List A} → In w l → l ≡ [] → ⊥
+  in-none here e = let z : _≡_ {A = ℕ} 0 1 = cc in omega arith
+  in-none (there h) e = let z : _≡_ {A = ℕ} 0 1 = cc in omega arith
+
+  pub in-front : {w v : A} {j t : List A} → In w t → t ≡ v ∷ j → (w ≡ v) ⊎ In w j
+  in-front here e = inl (cc)
+  in-front {w} {v} {j} (there {v = u} {l = i} h) e = let k : i ≡ j = cc in inr (subst (λ (t : List A). In w t) k h)
+
+  pub in-one : {w p : A} {l : List A} → In w l → l ≡ p ∷ [] → w ≡ p
+  in-one here e = cc
+  in-one (there h) e = absurd (in-none h (cc))
+
+-- ---- ascending lists
+pub rises-least : {m w : ℕ} {l : List ℕ} → Rises m l → In w l → m ≤ w
+rises-least (rises h r) here = h
+rises-least (rises h r) (there i) = omega (arith, rises-least r i)
+
+pub rises-from : {m k : ℕ} {l : List ℕ} → k ≤ m → Rises m l → Rises k l
+rises-from h ended = ended
+rises-from {m} {k} h (rises {w = w} g r) = rises {m = k} {w = w} (omega arith) r
+
+pub rises-same : {m k : ℕ} (l j : List ℕ) → Rises m l → Rises k j → ((w : ℕ) → In w l → In w j) → ((w : ℕ) → In w j → In w l) → l ≡ j
+rises-same [] [] r q f b = refl
+rises-same [] (v ∷ j) r q f b = absurd (in-none (b v here) refl)
+rises-same (w ∷ l) [] r q f b = absurd (in-none (f w here) refl)
+rises-same (w ∷ l) (v ∷ j) (rises h r) (rises p q) f b = go (rises-same l j r q)
+  where
+    e : w ≡ v
+    e =
+        ⊎-elim (λ p. p)
+        (λ i. ⊎-elim (λ p. sym p) (λ i′. absurd (omega (arith, rises-least q i, rises-least r i′))) (in-front (b v here) refl))
+        (in-front (f w here) refl)
+
+    go : (((u : ℕ) → In u l → In u j) → ((u : ℕ) → In u j → In u l) → l ≡ j) → w ∷ l ≡ v ∷ j
+    go ih = ap₂ (λ (x : ℕ) (t : List ℕ). x ∷ t) e (ih
+        (λ u i. ⊎-elim (λ p. absurd (omega (arith, rises-least r i, e))) (λ i′. i′) (in-front (f u (there i)) refl))
+        (λ u i. ⊎-elim (λ p. absurd (omega (arith, rises-least q i, e))) (λ i′. i′) (in-front (b u (there i)) refl)))

@@ -1,0 +1,109 @@
+-- Laws of lists taken as sets: what is in a list without a member, and lists in which every member stands once. Assumes nothing.
+use mathlib.Core.Path.{_≡_, refl, sym, ap, subst, _∙_}
+use mathlib.Core.List.{List, [], _∷_}
+use mathlib.Core.Bool.{Bool, true, false, not, _||_, _&&_, false≢true, true≢false}
+use Prim.Native.Nat.{suc}
+use lib.ListN.{length}
+use lib.Dec.{eqb}
+use borrow.Author.Tests.{eq-eqb, eqb-true}
+use Rattle.book.specs.Basics.{pick, In, here, there, has, without}
+use Rattle.book.specs.Book.{Link, sameLink}
+
+pub and-both : (a b : Bool) → (a && b) ≡ true → (a ≡ true) × (b ≡ true)
+and-both true b e = (refl, e)
+and-both false b e = absurd (false≢true e)
+
+pub or-neither : (a b : Bool) → (a || b) ≡ false → (a ≡ false) × (b ≡ false)
+or-neither true b e = absurd (true≢false e)
+or-neither false b e = (refl, e)
+
+pub or-true : (a : Bool) → (a || true) ≡ true
+or-true true = refl
+or-true false = refl
+
+-- same is a test of equality
+pub record EqualityTest {A : Type 0} (same : A → A → Bool) : Type 0 where
+  pub sound : (a b : A) → same a b ≡ true → a ≡ b
+  pub reflexive : (a : A) → same a a ≡ true
+
+pub eqb-test : EqualityTest eqb
+eqb-test = record { sound = eqb-true; reflexive = λ a. eq-eqb a a refl }
+
+link-is : (j k : Link) → j .from ≡ k .from → j .label ≡ k .label → j .to ≡ k .to → j ≡ k
+link-is j k p q r = λ i. record { from = p i; label = q i; to = r i }
+
+pub sameLink-test : EqualityTest sameLink
+sameLink-test = record {
+  sound = λ j k e.
+      let h = and-both (eqb (j .from) (k .from)) (eqb (j .label) (k .label) && eqb (j .to) (k .to)) e in
+      let g = and-both (eqb (j .label) (k .label)) (eqb (j .to) (k .to)) (h .1) in
+      link-is j k (eqb-true _ _ (h .0)) (eqb-true _ _ (g .0)) (eqb-true _ _ (g .1));
+  reflexive = λ j. rw (eq-eqb (j .from) (j .from) refl, eq-eqb (j .label) (j .label) refl, eq-eqb (j .to) (j .to) refl);
+}
+
+module _ {A : Type 0} {same : A → A → Bool} (T : EqualityTest same) where
+  -- the computed test is membership
+  pub has-in : (x : A) (l : List A) → has same x l ≡ true → In x l
+  unfolding has
+  has-in x [] e = absurd (false≢true e)
+  has-in x (y ∷ ys) e = go (same y x) refl e (has-in x ys)
+    where
+      go : (t : Bool) → same y x ≡ t → (t || has same x ys) ≡ true → (has same x ys ≡ true → In x ys) → In x (y ∷ ys)
+      go true q e ih = subst (λ (v : A). In x (v ∷ ys)) (sym (T .sound y x q)) here
+      go false q e ih = there (ih e)
+
+  pub in-has : (x : A) (l : List A) → In x l → has same x l ≡ true
+  unfolding has
+  in-has x (y ∷ ys) here = rw (T .reflexive x)
+  in-has x (y ∷ ys) (there h) = rw (in-has x ys h) (or-true (same y x))
+
+  -- x and only x is taken out
+  pub has-without : (x y : A) (l : List A) → has same y (without same x l) ≡ (not (same x y) && has same y l)
+  unfolding has without
+  has-without x y [] = elim (same x y) as (λ (t : Bool). false ≡ (not t && false)) [ true ↦ refl | false ↦ refl ]
+  has-without x y (z ∷ zs) = go (same z x) refl (same z y) refl (has-without x y zs)
+    where
+      go : (t : Bool) → same z x ≡ t → (u : Bool) → same z y ≡ u → has same y (without same x zs) ≡ (not (same x y) && has same y zs)
+          → has same y (pick t (without same x zs) (z ∷ without same x zs)) ≡ (not (same x y) && (u || has same y zs))
+      go true e true f ih = let s : same x y ≡ true = ap (λ (v : A). same v y) (sym (T .sound z x e)) ∙ f in ih ∙ rw s
+      go true e false f ih = ih
+      go false e true f ih = let s : same x y ≡ false = go2 (same x y) refl in rw (f, s)
+        where
+          go2 : (t : Bool) → same x y ≡ t → t ≡ false
+          go2 false q = refl
+          go2 true q = absurd (false≢true (sym e ∙ ap (λ (v : A). same v x) (T .sound z y f) ∙ ap (λ (v : A). same v x) (sym (T .sound x y q)) ∙ T .reflexive x))
+      go false e false f ih = rw f ih
+
+-- none is there twice
+unfoldable pub Distinct : {A : Type 0} → (A → A → Bool) → List A → Type 0
+Distinct same [] = Unit {0}
+Distinct same (x ∷ xs) = (has same x xs ≡ false) × Distinct same xs
+
+module _ {A : Type 0} {same : A → A → Bool} (T : EqualityTest same) where
+  pub without-absent : (x : A) (l : List A) → has same x l ≡ false → without same x l ≡ l
+  unfolding has without
+  without-absent x [] e = refl
+  without-absent x (y ∷ ys) e = let h = or-neither (same y x) (has same x ys) e in rw (h .0) (ap (λ (l : List A). y ∷ l) (without-absent x ys (h .1)))
+
+  pub distinct-without : (x : A) (l : List A) → Distinct same l → Distinct same (without same x l)
+  unfolding Distinct without
+  distinct-without x [] d = tt
+  distinct-without x (y ∷ ys) d = go (same y x) (distinct-without x ys (d .1))
+    where
+      go : (t : Bool) → Distinct same (without same x ys) → Distinct same (pick t (without same x ys) (y ∷ without same x ys))
+      go true ih = ih
+      go false ih = (has-without T x y ys ∙ rw (d .0) (nothing (not (same x y))), ih)
+        where
+          nothing : (b : Bool) → (b && false) ≡ false
+          nothing true = refl
+          nothing false = refl
+
+  pub length-without : (x : A) (l : List A) → Distinct same l → has same x l ≡ true → suc (length (without same x l)) ≡ length l
+  unfolding Distinct without has
+  length-without x [] d e = absurd (false≢true e)
+  length-without x (y ∷ ys) d e = go (same y x) refl e (length-without x ys (d .1))
+    where
+      go : (t : Bool) → same y x ≡ t → (t || has same x ys) ≡ true → (has same x ys ≡ true → suc (length (without same x ys)) ≡ length ys)
+          → suc (length (pick t (without same x ys) (y ∷ without same x ys))) ≡ suc (length ys)
+      go true q e ih = ap (λ (l : List A). suc (length l)) (without-absent x ys (ap (λ (v : A). has same v ys) (sym (T .sound y x q)) ∙ d .0))
+      go false q e ih = ap suc (ih e)

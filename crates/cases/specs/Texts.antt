@@ -1,0 +1,44 @@
+-- Texts and the number that their verdict gives, 0 for an expression: the faults and limits that 01 names, each by computation.
+--   rated           the number of the verdict on a text
+--   texts           a table of texts with their numbers; texts-rated says that they are those
+--   repeated k u    the bytes u, k times
+-- Assumes nothing.
+use mathlib.Core.Path.{_≡_, refl}
+use mathlib.Core.List.{List, [], _∷_, _++_, map}
+use Prim.Native.Nat.{ℕ, zero, suc}
+use Prim.Native.String.{String}
+use lib.ListN.{length}
+use Rattle.book.specs.Causes.{number, firstNumber}
+use Rattle.paths.specs.Expressions.{letters, depth}
+use Rattle.paths.specs.Grammar.{verdictCause}
+use Rattle.paths.specs.Descent.{alternativesIn, readAlternatives}
+use Rattle.paths.specs.Verdicts.{verdict}
+use Rattle.cases.specs.Tables.{bytes}
+
+unfoldable pub rated : List ℕ → ℕ
+rated s = firstNumber (verdictCause (verdict s))
+
+unfoldable pub repeated : ℕ → List ℕ → List ℕ
+repeated zero u = []
+repeated (suc k) u = u ++ repeated k u
+
+unfoldable pub texts : List (List ℕ × ℕ)
+texts =
+    (bytes "^a*", 0) ∷ (bytes "^(a/b)", 0) ∷ (bytes "(a|b)+/c?", 0) ∷
+    (bytes "", 9) ∷ (bytes "()", 9) ∷ (bytes "a**", 9) ∷ (bytes "^^a", 9) ∷ (bytes " a", 9) ∷ (bytes "A", 9) ∷
+    (bytes "a//b", 9) ∷ (bytes "|a", 9) ∷ (bytes "a|", 9) ∷ (bytes "(a", 9) ∷ (bytes "a)", 9) ∷
+    -- 63 letters pass, 64 give 10, and 64 with a fault give 9
+    (repeated 62 (bytes "a/") ++ bytes "a", 0) ∷
+    (repeated 63 (bytes "a/") ++ bytes "a", 10) ∷
+    (repeated 63 (bytes "a/") ++ bytes "a)", 9) ∷
+    -- depth 8 passes, 9 gives 10, and nine groups that are not closed give 9
+    (repeated 8 (bytes "(") ++ (bytes "a" ++ repeated 8 (bytes ")")), 0) ∷
+    (repeated 9 (bytes "(") ++ (bytes "a" ++ repeated 9 (bytes ")")), 10) ∷
+    (repeated 9 (bytes "(") ++ bytes "a", 9) ∷
+    -- 257 bytes of anything give 10
+    (repeated 257 (bytes " "), 10) ∷
+    (repeated 256 (bytes " "), 9) ∷ []
+
+pub texts-rated : map (λ t. rated (t .0)) texts ≡ map (λ t. t .1) texts
+unfolding texts rated repeated bytes firstNumber number verdictCause verdict readAlternatives alternativesIn letters depth
+texts-rated = refl

@@ -1,0 +1,77 @@
+-- The computed list of pairs is the answer of a pair question, and nothing else is; what a book after a history is as a graph.
+--   pairs-are       pairs g e ascends, and its members are exactly the words of the pairs that have a chain
+--   pairs-only      no other list is so
+--   fit-inside, history-inside, history-small
+--                   after every history the links lie between records in use, and n is at most 1,024
+--   pairs-in-order, chain-in-order
+--                   the causes against a question stand in the order of 01
+-- Assumes nothing.
+use mathlib.Core.Path.{_≡_}
+use mathlib.Core.List.{List, [], _∷_, _++_}
+use mathlib.Core.Bool.{Bool}
+use Prim.Native.Nat.{ℕ, _≤_}
+use lib.ListN.{length}
+use lib.Dec.{ltb}
+use borrow.Author.Tests.{ltb-true, lt-ltb}
+use Rattle.book.specs.Causes.{Cause, no-expression, too-many-bytes, too-large, short-work, short-list, questionOrder, InOrder, none-left, same-cause, passed-over}
+use Rattle.book.specs.Book.{Sheet, Book, Call, fresh, after}
+use Rattle.book.specs.ListLaws.{rises-same}
+use Rattle.book.specs.BookLaws.{Fit, fresh-sound, after-sound}
+use Rattle.k2.specs.PairSetLaws.{in-listed, listed-in, listed-rises}
+use Rattle.paths.specs.Expressions.{Expr}
+use Rattle.paths.specs.Grammar.{Verdict, accepted, long, outside, large, verdictCause}
+use Rattle.paths.specs.Chains.{Graph, asked, Reply}
+use Rattle.paths.specs.Relations.{cells, PairsAre, pairs}
+use Rattle.paths.specs.Questions.{pairsWork, chainWork, pairsOf, pairsCauses, steps, chainCauses}
+use Rattle.paths.specs.ChainLaws.{Inside}
+use Rattle.paths.specs.RelationLaws.{cells-has}
+
+module _ (g : Graph) (I : Inside g) (s : g .n ≤ 1024) (e : Expr) where
+  pub pairs-are : PairsAre g e (pairs g e)
+  unfolding pairs
+  pairs-are = record {
+    ascending = listed-rises (g .n) (cells g e) s;
+    sound = λ w h. let r = in-listed (g .n) (cells g e) h in (r .0, r .1, r .5, cells-has g I e (r .0) (r .1) .0 (r .4));
+    whole = λ x y h. listed-in (g .n) (cells g e) x y (I .below x (h .1 .begins)) (I .below y (h .1 .ends)) (cells-has g I e x y .1 h);
+  }
+
+  pub pairs-only : (l : List ℕ) → PairsAre g e l → l ≡ pairs g e
+  pairs-only l p =
+      let q = pairs-are in
+      rises-same l (pairs g e) (p .ascending) (q .ascending)
+      (λ w h. let r = p .sound w h in rw (r .2) (q .whole (r .0) (r .1) (r .3)))
+      (λ w h. let r = q .sound w h in rw (r .2) (p .whole (r .0) (r .1) (r .3)))
+
+-- ---- the graph of a book
+pub fit-inside : (b : Book) → Fit (b .n) (b .sheet) → Inside (asked b)
+unfolding asked
+fit-inside b f = record {
+  below = λ x u. ltb-true x (b .n) u;
+  from = λ k p. lt-ltb (k .from) (b .n) (f .links k p .from);
+  to = λ k p. lt-ltb (k .to) (b .n) (f .links k p .to);
+  label = λ k p. f .links k p .label;
+}
+
+pub history-inside : (n : ℕ) → n ≤ 1024 → (cs : List Call) → Inside (asked (after (fresh n) cs))
+history-inside n h cs = fit-inside (after (fresh n) cs) (after-sound (fresh n) cs (fresh-sound n h) .sheet)
+
+pub history-small : (n : ℕ) → n ≤ 1024 → (cs : List Call) → asked (after (fresh n) cs) .n ≤ 1024
+unfolding asked
+history-small n h cs = after-sound (fresh n) cs (fresh-sound n h) .small
+
+-- ---- the order of causes
+-- the verdict's cause, and then the two of lent space
+pub text-in-order : (v : Verdict) (t u : Bool) → InOrder (verdictCause v ++ ((short-work, t) ∷ (short-list, u) ∷ [])) (too-many-bytes ∷ no-expression ∷ too-large ∷ short-work ∷ short-list ∷ [])
+unfolding verdictCause
+text-in-order (accepted e) t u = passed-over (passed-over (passed-over (same-cause (same-cause none-left))))
+text-in-order long t u = same-cause (passed-over (passed-over (same-cause (same-cause none-left))))
+text-in-order outside t u = passed-over (same-cause (passed-over (same-cause (same-cause none-left))))
+text-in-order large t u = passed-over (passed-over (same-cause (same-cause (same-cause none-left))))
+
+pub pairs-in-order : (b : Book) (v : Verdict) (work room : ℕ) → InOrder (pairsCauses b v work room) questionOrder
+unfolding pairsCauses questionOrder
+pairs-in-order b v work room = passed-over (text-in-order v (ltb work (pairsWork (b .n))) (ltb room (length (pairsOf b v))))
+
+pub chain-in-order : (b : Book) (x y : ℕ) (v : Verdict) (t : Reply) (work room : ℕ) → InOrder (chainCauses b x y v t work room) questionOrder
+unfolding chainCauses questionOrder
+chain-in-order b x y v t work room = same-cause (text-in-order v (ltb work (chainWork (b .n))) (ltb room (length (steps t))))
