@@ -1,1 +1,6 @@
 pub mod Code
+pub mod Running
+pub mod CodeLaws
+pub mod Reads
+pub mod ReadsLaws
+pub mod Progress

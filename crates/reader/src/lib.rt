@@ -1,1 +1,349 @@
-// tmp
+// The expression reader: alternatives, sequences and parts read one another through a group, over lent bytes and a position.
+// What is written is the postfix code of the expression, in its own numbers. A code is no longer than its text, so there is always room.
+ghost use mathlib.Core.Path.{_≡_};
+ghost use mathlib.Core.List.{List};
+ghost use Prim.Native.Nat.{ℕ, _+_, _<_, max};
+ghost use lib.ListN.{length, drop, set, replicate};
+ghost use Rattle.paths.specs.Descent.{got, firstByte, readMark, readClose, invertRead, readAlternatives, readParts, readPart, readAtom};
+ghost use Rattle.reader.specs.Reads.{Reads};
+ghost use Rattle.reader.specs.declared.Answer.the-variants.{Refused};
+ghost use Rattle.reader.specs.Progress.{Done, Asks, Fits, Room, RoomToJoin, After, Around, Joins, comesNext, spotOf, markNumber};
+
+// The numbers of the operators; a label is its own number.
+const INVERSE: u8 = 26;
+
+const STAR: u8 = 27;
+
+const PLUS: u8 = 28;
+
+const OPTIONAL: u8 = 29;
+
+const ALTERNATIVE: u8 = 30;
+
+const SEQUENCE: u8 = 31;
+
+// The limits.
+const MAX_BYTES: usize = 256;
+
+const MAX_LETTERS: usize = 63;
+
+const MAX_DEPTH: usize = 8;
+
+// Where an expression that was read ends in the text and its code in the code; its letters, and how deep its groups are nested.
+struct Spot {
+    at: usize,
+    end: usize,
+    letters: usize,
+    depth: usize,
+}
+
+// What a reader finds.
+enum Parsed {
+    Got(Spot),
+    Fault,
+}
+
+// The byte at a place, or 0 at the end.
+fn peek(s: &[u8], at: usize) -> u8
+    ensures { λ r. ⌜ r ≡ firstByte (drop at (now (s .entry))) ⌝ }
+{
+    if at < s.len() { s[at] } else { 0 }
+}
+
+// One number more at the end of the code.
+fn push(code: &mut [u8], n: usize, x: u8) -> usize
+    requires { ⌜ n < length (now code) ⌝ }
+    ensures { λ r. ⌜ (r ≡ n + 1) × (now (code .exit) ≡ set (now (code .entry)) n x) ⌝ }
+{
+    code[n] = x;
+    n + 1
+}
+
+fn larger(a: usize, b: usize) -> usize
+    ensures { λ r. ⌜ r ≡ max a b ⌝ }
+{
+    if a <= b { b } else { a }
+}
+
+// Whether the byte b comes after what was read.
+fn comes_next(s: &[u8], r: Parsed, b: u8) -> bool
+    ensures { λ t. ⌜ t ≡ comesNext (now (s .entry)) r b ⌝ }
+{
+    let Parsed::Got(q) = r else {
+        return false;
+    };
+    peek(s, q.at) == b
+}
+
+// Where what was read ends.
+fn ends_at(r: Parsed) -> Spot
+    ensures { λ q. ⌜ q ≡ spotOf r ⌝ }
+{
+    let Parsed::Got(q) = r else {
+        return Spot {
+            at: 0,
+            end: 0,
+            letters: 0,
+            depth: 0,
+        };
+    };
+    q
+}
+
+// What was read first, and what was read next after an operator's byte, as one expression.
+fn joined(code: &mut [u8], first: Parsed, next: Parsed, x: u8) -> Parsed
+    requires { ⌜ RoomToJoin (length (now code)) first next ⌝ }
+    ensures { λ r. ⌜ Joins x first next (now (code .entry)) (now (code .exit)) r ⌝ }
+{
+    let Parsed::Got(p) = first else {
+        return Parsed::Fault;
+    };
+    let Parsed::Got(q) = next else {
+        return Parsed::Fault;
+    };
+    let end = push(code, q.end, x);
+    Parsed::Got(Spot {
+        at: q.at,
+        end,
+        letters: p.letters + q.letters,
+        depth: larger(p.depth, q.depth),
+    })
+}
+
+// Sequences, with | between them.
+fn alternatives(s: &[u8], at: usize, code: &mut [u8], n: usize) -> Parsed
+    requires { ⌜ Asks (now s) at n (now code) ⌝ }
+    ensures { λ r. ⌜ Done got (now (s .entry)) at n (now (code .entry)) (now (code .exit)) (readAlternatives (drop at (now (s .entry)))) r ⌝ }
+{
+    let mut first = sequence(s, at, code, n);
+    while comes_next(s, first, b'|') {
+        let q = ends_at(first);
+        let next = sequence(s, q.at + 1, code, q.end);
+        first = joined(code, first, next, ALTERNATIVE);
+    }
+    first
+}
+
+// Parts, with / between them.
+fn sequence(s: &[u8], at: usize, code: &mut [u8], n: usize) -> Parsed
+    requires { ⌜ Asks (now s) at n (now code) ⌝ }
+    ensures { λ r. ⌜ Done got (now (s .entry)) at n (now (code .entry)) (now (code .exit)) (readParts (drop at (now (s .entry)))) r ⌝ }
+{
+    let mut first = part(s, at, code, n);
+    while comes_next(s, first, b'/') {
+        let q = ends_at(first);
+        let next = part(s, q.at + 1, code, q.end);
+        first = joined(code, first, next, SEQUENCE);
+    }
+    first
+}
+
+// An optional ^, then a letter or a group, then at most one mark.
+fn part(s: &[u8], at: usize, code: &mut [u8], n: usize) -> Parsed
+    requires { ⌜ Asks (now s) at n (now code) ⌝ }
+    ensures { λ r. ⌜ Done got (now (s .entry)) at n (now (code .entry)) (now (code .exit)) (readPart (drop at (now (s .entry)))) r ⌝ }
+{
+    if peek(s, at) == b'^' {
+        let r = atom(s, at + 1, code, n);
+        let q = marked(s, code, r);
+        inverted(code, q)
+    } else {
+        let r = atom(s, at, code, n);
+        marked(s, code, r)
+    }
+}
+
+// A letter, or a group: inside its parentheses a whole expression again.
+fn atom(s: &[u8], at: usize, code: &mut [u8], n: usize) -> Parsed
+    requires { ⌜ Asks (now s) at n (now code) ⌝ }
+    ensures { λ r. ⌜ Done got (now (s .entry)) at n (now (code .entry)) (now (code .exit)) (readAtom (drop at (now (s .entry)))) r ⌝ }
+{
+    let c = peek(s, at);
+    if c == b'(' {
+        let r = alternatives(s, at + 1, code, n);
+        return closed(s, r);
+    }
+    if c < b'a' {
+        return Parsed::Fault;
+    }
+    if b'z' < c {
+        return Parsed::Fault;
+    }
+    let end = push(code, n, c - b'a');
+    Parsed::Got(Spot {
+        at: at + 1,
+        end,
+        letters: 1,
+        depth: 0,
+    })
+}
+
+// The number of a mark's operator, or 0 if the byte is no mark.
+fn mark_number(c: u8) -> u8
+    ensures { λ r. ⌜ r ≡ markNumber c ⌝ }
+{
+    if c == b'*' {
+        return STAR;
+    }
+    if c == b'+' {
+        return PLUS;
+    }
+    if c == b'?' {
+        return OPTIONAL;
+    }
+    0
+}
+
+// What was read, with the mark after it, if there is one.
+fn marked(s: &[u8], code: &mut [u8], r: Parsed) -> Parsed
+    requires { ⌜ Fits (now s) (length (now code)) r ⌝ }
+    ensures { λ q. ⌜ After readMark (now (s .entry)) (now (code .entry)) (now (code .exit)) r q ⌝ }
+{
+    let Parsed::Got(p) = r else {
+        return Parsed::Fault;
+    };
+    let x = mark_number(peek(s, p.at));
+    if x == 0 {
+        return r;
+    }
+    let end = push(code, p.end, x);
+    Parsed::Got(Spot {
+        at: p.at + 1,
+        end,
+        letters: p.letters,
+        depth: p.depth,
+    })
+}
+
+// What was read after a ^.
+fn inverted(code: &mut [u8], r: Parsed) -> Parsed
+    requires { ⌜ Room (length (now code)) r ⌝ }
+    ensures { λ q. ⌜ ((s : List ℕ) → Around invertRead s (now (code .entry)) (now (code .exit)) r q) ⌝ }
+{
+    let Parsed::Got(p) = r else {
+        return Parsed::Fault;
+    };
+    let end = push(code, p.end, INVERSE);
+    Parsed::Got(Spot {
+        at: p.at,
+        end,
+        letters: p.letters,
+        depth: p.depth,
+    })
+}
+
+// What was read after a (, with the ) after it.
+fn closed(s: &[u8], r: Parsed) -> Parsed
+    requires { ⌜ Fits (now s) (length (now s)) r ⌝ }
+    ensures { λ q. ⌜ ((c : List ℕ) → Around readClose (now (s .entry)) c c r q) ⌝ }
+{
+    let Parsed::Got(p) = r else {
+        return Parsed::Fault;
+    };
+    if peek(s, p.at) == b')' {
+        Parsed::Got(Spot {
+            at: p.at + 1,
+            end: p.end,
+            letters: p.letters,
+            depth: p.depth + 1,
+        })
+    } else {
+        Parsed::Fault
+    }
+}
+
+// The answer to a text: accepted, with the length of its code, or refused, with the number of the cause.
+pub enum Answer {
+    Accepted(usize),
+    Refused(u8),
+}
+
+// An answer with the code: zeros follow it, and stand alone with a refusal.
+pub struct Reading {
+    pub answer: Answer,
+    pub code: [u8; 256],
+}
+
+fn refused(number: u8) -> Reading
+    ensures { λ r. ⌜ (r .answer ≡ Refused number) × (r .code ≡ replicate 256 0) ⌝ }
+{
+    Reading {
+        answer: Answer::Refused(number),
+        code: [0u8; 256],
+    }
+}
+
+// A whole text: over 256 bytes first, then the grammar, then the letters and the depth.
+fn whole(s: &[u8]) -> Reading
+    ensures { λ r. ⌜ Reads (now (s .entry)) r ⌝ }
+{
+    if MAX_BYTES < s.len() {
+        return refused(10);
+    }
+    let mut code = [0u8; 256];
+    let r = alternatives(s, 0, &mut code, 0);
+    let Parsed::Got(q) = r else {
+        return refused(9);
+    };
+    if q.at < s.len() {
+        return refused(9);
+    }
+    if MAX_LETTERS < q.letters {
+        return refused(10);
+    }
+    if MAX_DEPTH < q.depth {
+        return refused(10);
+    }
+    Reading {
+        answer: Answer::Accepted(q.end),
+        code,
+    }
+}
+
+// The text from a place on; past the end it is empty.
+pub fn read_at(src: &[u8], at: usize) -> Reading
+    ensures { λ r. ⌜ Reads (drop at (now (src .entry))) r ⌝ }
+{
+    if at <= src.len() {
+        let text = &src[at..];
+        whole(text)
+    } else {
+        refused(9)
+    }
+}
+
+// The caller's bytes and a place in them. Its functions are thin: the work is done by `read_at`, on the slice and the number.
+pub struct Reader<'a> {
+    pub src: &'a [u8],
+    pub at: usize,
+}
+
+impl<'a> Reader<'a> {
+    // At the first byte.
+    pub fn new(src: &'a [u8]) -> Reader<'a>
+        ensures { λ r. ⌜ (r .src ≡ src .entry) × (r .at ≡ 0) ⌝ }
+    {
+        Reader { src, at: 0 }
+    }
+
+    // The same bytes, at another place.
+    pub fn moved(self, at: usize) -> Reader<'a>
+        ensures { λ r. ⌜ (r .src ≡ self .entry .src) × (r .at ≡ at) ⌝ }
+    {
+        Reader { src: self.src, at }
+    }
+
+    // The expression that starts at the place, which may be in the middle of the slice, and ends with it.
+    pub fn expression(self) -> Reading
+        ensures { λ r. ⌜ Reads (drop (self .entry .at) (now (self .entry .src))) r ⌝ }
+    {
+        read_at(self.src, self.at)
+    }
+}
+
+// A whole text: for callers that hold no reader.
+pub fn read(text: &[u8]) -> Reading
+    ensures { λ r. ⌜ Reads (now (text .entry)) r ⌝ }
+{
+    Reader::new(text).expression()
+}

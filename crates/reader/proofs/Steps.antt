@@ -1,0 +1,269 @@
+-- The laws of one step of reading: what an inner reader has done, with one thing more.
+--   there, rest-drop         the byte at a place, and the bytes after it
+--   gave, missed             what was read, by what the reader answered
+--   none-after, none-around  where nothing was read
+--   marks, no-mark           a mark
+--   inverts                  a ^ before
+--   closes, not-closed       the ) of a group
+--   letter-there, no-atom    a letter, or no atom
+--   group-is, hat-is, plain-is
+--                            what the descent reads at ( and at ^
+-- Assumes nothing.
+use mathlib.Core.Path.{_≡_, refl, sym, ap, _∙_, subst}
+use mathlib.Core.Logic.{_⊎_, inl, inr, ⊎-elim}
+use mathlib.Core.List.{List, [], _∷_, _++_}
+use mathlib.Core.Bool.{Bool, true, false, _&&_}
+use Prim.Native.Nat.{ℕ, zero, suc, _+_, _-_, _≤_, _<_}
+use native.Mathlib.Numerals.{add-one}
+use native.Mathlib.Omega.{arith}
+use lib.Dec.{leb, ltb, eqb}
+use lib.ListN.{length, drop, set, drop-of-length-le, length-append}
+use lib.Seq.{sets}
+use borrow.Author.Tests.{eq-eqb, ne-eqb, le-leb, lt-leb, lt-ltb, le-ltb, ltb-true, ltb-false, eqb-true}
+use Rattle.book.specs.Basics.{pick}
+use Rattle.book.specs.Causes.{labels}
+use Rattle.paths.specs.Expressions.{Expr, symbol, letter, group, inverse, star, plus, optional, alternative, sequence, letters, depth}
+use Rattle.paths.specs.Grammar.{hat, asterisk, plus-sign, question-mark, open-group, close-group, letter-a}
+use Rattle.paths.specs.Descent.{Parse, got, fault, firstByte, rest, isLetter, then, readMark, readClose, invertRead, readAlternatives, readPart, readAtom}
+use Rattle.paths.specs.DescentWhole.{if-true, if-false, atom-letter, atom-fault, atom-group, part-hat, part-plain, mark-star, mark-plus, mark-optional, mark-none}
+use Rattle.reader.specs.Code.{op-inverse, op-star, op-plus, op-optional, code}
+use Rattle.reader.specs.CodeLaws.{letters-code}
+use Rattle.reader.specs.declared.Spot.{Spot}
+use Rattle.reader.specs.declared.Parsed.{Parsed}
+use Rattle.reader.specs.declared.Parsed.the-variants.{Got, Fault}
+use Rattle.reader.specs.Progress.{Found, Done, none, some, Asks, Fit, Fits, Room, After, Around, markNumber}
+
+-- one byte on
+rest-suc : (p : ℕ) (s : List ℕ) → rest (drop p s) ≡ drop (suc p) s
+rest-suc zero [] = refl
+rest-suc zero (x ∷ s) = refl
+rest-suc (suc p) [] = refl
+rest-suc (suc p) (x ∷ s) = rest-suc p s
+
+pub rest-drop : (s : List ℕ) (p : ℕ) → rest (drop p s) ≡ drop (p + 1) s
+rest-drop s p = rest-suc p s ∙ ap (λ (k : ℕ). drop k s) (sym (add-one p))
+
+-- a byte other than 0 stands inside the text
+pub there : (s : List ℕ) (p c : ℕ) → firstByte (drop p s) ≡ c → 0 < c → p < length s
+there s p c h k = go (ltb p (length s)) refl
+  where
+    go : (b : Bool) → ltb p (length s) ≡ b → p < length s
+    go true q = ltb-true p (length s) q
+    go false q = absurd (let z : firstByte (drop p s) ≡ 0 = ap firstByte (drop-of-length-le s (ltb-false p (length s) q)) in omega arith)
+
+-- every expression has a letter, so its code is not empty
+letters-some : (e : Expr) → 0 < letters e
+unfolding letters
+letters-some (symbol k) = omega arith
+letters-some (group e) = letters-some e
+letters-some (inverse e) = letters-some e
+letters-some (star e) = letters-some e
+letters-some (plus e) = letters-some e
+letters-some (optional e) = letters-some e
+letters-some (alternative e f) = omega (arith, letters-some e)
+letters-some (sequence e f) = omega (arith, letters-some e)
+
+pub code-some : (e : Expr) → 0 < length (code e)
+code-some e = omega (arith, letters-some e, letters-code e)
+
+-- one run of stores after another
+pub sets-append : (cs ds b : List ℕ) (n : ℕ) → sets (sets b n cs) (n + length cs) ds ≡ sets b n (cs ++ ds)
+sets-append [] ds b n = ap (λ (k : ℕ). sets b k ds) (let z : n + 0 ≡ n = omega arith in z)
+sets-append (c ∷ cs) ds b n = ap (λ (k : ℕ). sets (sets (set b n c) (suc n) cs) k ds) (let z : n + suc (length cs) ≡ suc n + length cs = omega arith in z) ∙ sets-append cs ds (set b n c) (suc n)
+
+abbrev pub on : (Expr → List ℕ → Parse) → Parse → Parse
+on k x = then x k
+
+-- what was read
+pub record Gave (k : Expr → List ℕ → Parse) (s : List ℕ) (at n : ℕ) (before after : List ℕ) (x : Parse) (q : Spot) : Type 0 where
+  pub e : Expr
+  pub is : x ≡ k e (drop (q .at) s)
+  pub found : Found s at n before after e q
+
+abbrev Back : (Expr → List ℕ → Parse) → List ℕ → ℕ → ℕ → List ℕ → List ℕ → Parse → Parsed → Type 0
+Back k s at n b a x Fault = x ≡ fault
+Back k s at n b a x (Got q) = Gave k s at n b a x q
+
+module _ {k : Expr → List ℕ → Parse} {s : List ℕ} {at n : ℕ} {b a : List ℕ} {x : Parse} where
+  back : {r : Parsed} → Done k s at n b a x r → Back k s at n b a x r
+  back (none h) = h
+  back (some e h f) = record { e = e; is = h; found = f }
+
+  pub gave : {r : Parsed} {q : Spot} → r ≡ Got q → Done k s at n b a x r → Gave k s at n b a x q
+  gave h d = subst (Back k s at n b a x) h (back d)
+
+  pub missed : {r : Parsed} → r ≡ Fault → Done k s at n b a x r → x ≡ fault
+  missed h d = subst (Back k s at n b a x) h (back d)
+
+pub fit : {s : List ℕ} {space : ℕ} {r : Parsed} {q : Spot} → r ≡ Got q → Fits s space r → Fit s space q
+fit {s} {space} h g = subst (Fits s space) h g
+
+pub has-room : {space : ℕ} {r : Parsed} {q : Spot} → r ≡ Got q → Room space r → q .end < space
+has-room {space} h g = subst (Room space) h g
+
+-- where nothing was read
+pub none-after : {s a a′ : List ℕ} {r : Parsed} (k : Expr → List ℕ → Parse) → r ≡ Fault → After k s a a′ r Fault
+none-after k h = λ at n b x d. none (ap (on k) (missed h d))
+
+pub none-around : {s a a′ : List ℕ} {r : Parsed} (k : Expr → List ℕ → Parse) → r ≡ Fault → Around k s a a′ r Fault
+none-around k h = λ at n b x d. none (ap (on k) (missed h d))
+
+-- e′ is e with an operator of number x on it
+record Wraps (x : ℕ) (e e′ : Expr) : Type 0 where
+  letters-same : letters e′ ≡ letters e
+  depth-same : depth e′ ≡ depth e
+  code-more : code e′ ≡ code e ++ (x ∷ [])
+
+-- one number more: the reading now begins at at′ and ends at p′
+one-more : {s : List ℕ} {at n : ℕ} {b a : List ℕ} {e : Expr} {q : Spot} (x at′ p′ : ℕ) (e′ : Expr) → Found s at n b a e q → Wraps x e e′ → p′ ≤ length s → at′ + 1 + q .at ≤ p′ + at
+    → Found s at′ n b (set a (q .end) x) e′ (record { at = p′; end = q .end + 1; letters = q .letters; depth = q .depth })
+one-more {n = n} {b = b} {a = a} {e = e} {q = q} x at′ p′ e′ f w h g =
+    let long : length (code e′) ≡ length (code e) + 1 = ap length (w .code-more) ∙ length-append (code e) (x ∷ []) in
+    let deep = w .depth-same in
+    record {
+      inside = h;
+      short = omega (arith, f .short);
+      flat = omega (arith, f .flat);
+      letters-are = f .letters-are ∙ sym (w .letters-same);
+      depth-is = f .depth-is ∙ sym (w .depth-same);
+      end-is = omega (arith, f .end-is);
+      written = ap (λ (c : List ℕ). set c (q .end) x) (f .written) ∙ ap (λ (k : ℕ). set (sets b n (code e)) k x) (f .end-is) ∙ sets-append (code e) (x ∷ []) b n ∙ ap (sets b n) (sym (w .code-more));
+    }
+
+-- a mark
+data MarkIs (c : ℕ) : ℕ → Type 0 where
+  a-mark : {x : ℕ} (M : Expr → Expr) → 0 < c → 0 < x → ((e : Expr) (l : List ℕ) → firstByte l ≡ c → readMark e l ≡ got (M e) (rest l)) → ((e : Expr) → Wraps x e (M e)) → MarkIs c x
+  not-one : ((e : Expr) (l : List ℕ) → firstByte l ≡ c → readMark e l ≡ got e l) → MarkIs c 0
+
+wraps-star : (e : Expr) → Wraps op-star e (star e)
+unfolding letters depth code
+wraps-star e = record { letters-same = refl; depth-same = refl; code-more = refl }
+
+wraps-plus : (e : Expr) → Wraps op-plus e (plus e)
+unfolding letters depth code
+wraps-plus e = record { letters-same = refl; depth-same = refl; code-more = refl }
+
+wraps-optional : (e : Expr) → Wraps op-optional e (optional e)
+unfolding letters depth code
+wraps-optional e = record { letters-same = refl; depth-same = refl; code-more = refl }
+
+wraps-inverse : (e : Expr) → Wraps op-inverse e (inverse e)
+unfolding letters depth code
+wraps-inverse e = record { letters-same = refl; depth-same = refl; code-more = refl }
+
+mark-is : (c : ℕ) → MarkIs c (markNumber c)
+mark-is c = go (eqb c asterisk) (eqb c plus-sign) (eqb c question-mark) refl refl refl
+  where
+    go : (x y z : Bool) → eqb c asterisk ≡ x → eqb c plus-sign ≡ y → eqb c question-mark ≡ z → MarkIs c (pick x op-star (pick y op-plus (pick z op-optional 0)))
+    go true y z f g h = let v = eqb-true c asterisk f in a-mark {x = op-star} star (omega arith) (omega arith) (λ e l w. mark-star e l (ap (λ (t : ℕ). eqb t asterisk) w ∙ f)) wraps-star
+    go false true z f g h = let v = eqb-true c plus-sign g in a-mark {x = op-plus} plus (omega arith) (omega arith) (λ e l w. mark-plus e l (ap (λ (t : ℕ). eqb t asterisk) w ∙ f) (ap (λ (t : ℕ). eqb t plus-sign) w ∙ g)) wraps-plus
+    go false false true f g h = let v = eqb-true c question-mark h in a-mark {x = op-optional} optional (omega arith) (omega arith) (λ e l w. mark-optional e l (ap (λ (t : ℕ). eqb t asterisk) w ∙ f) (ap (λ (t : ℕ). eqb t plus-sign) w ∙ g) (ap (λ (t : ℕ). eqb t question-mark) w ∙ h)) wraps-optional
+    go false false false f g h = not-one (λ e l w. mark-none e l (ap (λ (t : ℕ). eqb t asterisk) w ∙ f) (ap (λ (t : ℕ). eqb t plus-sign) w ∙ g) (ap (λ (t : ℕ). eqb t question-mark) w ∙ h))
+
+module _ (s : List ℕ) {r : Parsed} {q : Spot} (is : r ≡ Got q) where
+  pub mark-inside : (x : ℕ) → x ≡ markNumber (firstByte (drop (q .at) s)) → 0 < x → q .at < length s
+  mark-inside x v h = go (firstByte (drop (q .at) s)) x refl (subst (MarkIs (firstByte (drop (q .at) s))) (sym v) (mark-is _)) h
+    where
+      go : (c x : ℕ) → firstByte (drop (q .at) s) ≡ c → MarkIs c x → 0 < x → q .at < length s
+      go c x w (a-mark M k j f g) h = there s (q .at) c w k
+      go c x w (not-one f) h = absurd (omega arith)
+
+  pub marks : {a : List ℕ} (x : ℕ) → x ≡ markNumber (firstByte (drop (q .at) s)) → 0 < x → After readMark s a (set a (q .end) x) r (Got (record { at = q .at + 1; end = q .end + 1; letters = q .letters; depth = q .depth }))
+  marks {a} x v h at n b y d =
+      let g = gave is d in
+      go (firstByte (drop (q .at) s)) x refl (subst (MarkIs (firstByte (drop (q .at) s))) (sym v) (mark-is _)) h g
+    where
+      go : {at n : ℕ} {b : List ℕ} {y : Parse} (c x : ℕ) → firstByte (drop (q .at) s) ≡ c → MarkIs c x → 0 < x → Gave got s at n b a y q → Done got s at n b (set a (q .end) x) (then y readMark) (Got (record { at = q .at + 1; end = q .end + 1; letters = q .letters; depth = q .depth }))
+      go {at} c x w (a-mark M k j f m) h g =
+          let i = there s (q .at) c w k in
+          some (M (g .e)) (ap (on readMark) (g .is) ∙ f (g .e) (drop (q .at) s) w ∙ ap (got (M (g .e))) (rest-drop s (q .at))) (one-more x at (q .at + 1) (M (g .e)) (g .found) (m (g .e)) (omega arith) (omega arith))
+      go c x w (not-one f) h g = absurd (omega arith)
+
+  pub no-mark : {a : List ℕ} → markNumber (firstByte (drop (q .at) s)) ≡ 0 → After readMark s a a r (Got q)
+  no-mark {a} v at n b y d = go (firstByte (drop (q .at) s)) (markNumber (firstByte (drop (q .at) s))) refl (mark-is _) v (gave is d)
+    where
+      go : {at n : ℕ} {b : List ℕ} {y : Parse} (c x : ℕ) → firstByte (drop (q .at) s) ≡ c → MarkIs c x → x ≡ 0 → Gave got s at n b a y q → Done got s at n b a (then y readMark) (Got q)
+      go c x w (a-mark M k j f m) v g = absurd (omega arith)
+      go c x w (not-one f) v g = some (g .e) (ap (on readMark) (g .is) ∙ f (g .e) (drop (q .at) s) w) (g .found)
+
+-- a ^ before
+pub inverts : {a : List ℕ} {r : Parsed} {q : Spot} → r ≡ Got q → (s : List ℕ) → Around invertRead s a (set a (q .end) op-inverse) r (Got (record { at = q .at; end = q .end + 1; letters = q .letters; depth = q .depth }))
+inverts {q = q} is s at n b x d =
+    let g = gave is d in
+    some (inverse (g .e)) (ap (on invertRead) (g .is)) (one-more op-inverse at (q .at) (inverse (g .e)) (g .found) (wraps-inverse (g .e)) (g .found .inside) (omega arith))
+
+-- the ) of a group
+grouped : {s : List ℕ} {at n : ℕ} {b a : List ℕ} {e : Expr} {q : Spot} → Found s (at + 1) n b a e q → q .at < length s → Found s at n b a (group e) (record { at = q .at + 1; end = q .end; letters = q .letters; depth = q .depth + 1 })
+unfolding letters depth code
+grouped f i = record {
+  inside = omega arith;
+  short = omega (arith, f .short);
+  flat = omega (arith, f .flat);
+  letters-are = f .letters-are;
+  depth-is = ap (λ (k : ℕ). k + 1) (f .depth-is);
+  end-is = f .end-is;
+  written = f .written;
+}
+
+pub closes : {s a : List ℕ} {r : Parsed} {q : Spot} → r ≡ Got q → firstByte (drop (q .at) s) ≡ close-group → Around readClose s a a r (Got (record { at = q .at + 1; end = q .end; letters = q .letters; depth = q .depth + 1 }))
+closes {s} {q = q} is v at n b x d =
+    let g = gave is d in
+    some (group (g .e))
+    (ap (on readClose) (g .is) ∙ if-true (eqb (firstByte (drop (q .at) s)) close-group) _ _ (eq-eqb _ _ v) ∙ ap (got (group (g .e))) (rest-drop s (q .at)))
+    (grouped (g .found) (there s (q .at) close-group v (omega arith)))
+
+pub not-closed : {s a a′ : List ℕ} {r : Parsed} {q : Spot} → r ≡ Got q → (firstByte (drop (q .at) s) ≡ close-group → ⊥) → Around readClose s a a′ r Fault
+not-closed {s} {q = q} is v at n b x d = none (ap (on readClose) (gave is d .is) ∙ if-false (eqb (firstByte (drop (q .at) s)) close-group) _ _ (ne-eqb _ _ v))
+
+-- a letter
+letter-found : {s : List ℕ} {at n : ℕ} {b : List ℕ} (k : ℕ) → at < length s → Found s at n b (set b n k) (symbol (letter k)) (record { at = at + 1; end = n + 1; letters = 1; depth = 0 })
+unfolding letters depth code
+letter-found k i = record { inside = omega arith; short = omega arith; flat = omega arith; letters-are = refl; depth-is = refl; end-is = refl; written = refl }
+
+pub letter-there : {s : List ℕ} {at n : ℕ} {b : List ℕ} (c : ℕ) → c ≡ firstByte (drop at s) → letter-a ≤ c → c < letter-a + labels → Done got s at n b (set b n (c - letter-a)) (readAtom (drop at s)) (Got (record { at = at + 1; end = n + 1; letters = 1; depth = 0 }))
+letter-there {s} {at} {n} {b} c v low high =
+    let is-one : (leb letter-a c && ltb c (letter-a + labels)) ≡ true = rw (le-leb letter-a c low, lt-ltb c (letter-a + labels) high) in
+    let byte : eqb (firstByte (drop at s)) open-group ≡ false = ne-eqb (firstByte (drop at s)) open-group (λ w. omega arith) in
+    some (symbol (letter (c - letter-a)))
+    (atom-letter (drop at s) byte (ap isLetter (sym v) ∙ is-one) ∙ ap (λ (t : ℕ). got (symbol (letter (t - letter-a))) (rest (drop at s))) (sym v) ∙ ap (got (symbol (letter (c - letter-a)))) (rest-drop s at))
+    (letter-found (c - letter-a) (there s at c (sym v) (omega arith)))
+
+-- a byte that begins no atom
+not-letter : (c : ℕ) → (c < letter-a) ⊎ (letter-a + labels ≤ c) → isLetter c ≡ false
+not-letter c h = ⊎-elim (λ k. ap (λ (b : Bool). b && ltb c (letter-a + labels)) (lt-leb letter-a c k)) (λ k. go (leb letter-a c) (ltb c (letter-a + labels)) (le-ltb c (letter-a + labels) k)) h
+  where
+    go : (a b : Bool) → b ≡ false → (a && b) ≡ false
+    go true b e = e
+    go false b e = refl
+
+pub no-atom : {s : List ℕ} {at n : ℕ} {b a : List ℕ} (c : ℕ) → c ≡ firstByte (drop at s) → (c ≡ open-group → ⊥) → (c < letter-a) ⊎ (letter-a + labels ≤ c) → Done got s at n b a (readAtom (drop at s)) Fault
+no-atom {s} {at} c v k h = none (atom-fault (drop at s) (ne-eqb _ _ (λ w. k (v ∙ w))) (ap isLetter (sym v) ∙ not-letter c h))
+
+-- what the descent reads at ( and at ^
+pub group-is : (s : List ℕ) (at : ℕ) → firstByte (drop at s) ≡ open-group → readAtom (drop at s) ≡ then (readAlternatives (drop (at + 1) s)) readClose
+group-is s at v = atom-group (drop at s) (eq-eqb _ _ v) ∙ ap (λ (t : List ℕ). then (readAlternatives t) readClose) (rest-drop s at)
+
+pub hat-is : (s : List ℕ) (at : ℕ) → firstByte (drop at s) ≡ hat → readPart (drop at s) ≡ then (then (readAtom (drop (at + 1) s)) readMark) invertRead
+hat-is s at v = part-hat (drop at s) (eq-eqb _ _ v) ∙ ap (λ (t : List ℕ). then (then (readAtom t) readMark) invertRead) (rest-drop s at)
+
+pub plain-is : (s : List ℕ) (at : ℕ) → (firstByte (drop at s) ≡ hat → ⊥) → readPart (drop at s) ≡ then (readAtom (drop at s)) readMark
+plain-is s at v = part-plain (drop at s) (ne-eqb _ _ v)
+
+pub read-as : {k : Expr → List ℕ → Parse} {s : List ℕ} {at n : ℕ} {b a : List ℕ} {x y : Parse} {r : Parsed} → x ≡ y → Done k s at n b a y r → Done k s at n b a x r
+read-as h d = rw h d
+
+-- what a reader asks, of a code as long, and from the next byte on
+pub asks-kept : {s : List ℕ} {at n : ℕ} {a a′ : List ℕ} → length a′ ≡ length a → Asks s at n a → Asks s at n a′
+asks-kept h k = record { inside = k .inside; behind = k .behind; space = omega (arith, h, k .space) }
+
+pub asks-next-byte : {s : List ℕ} {at n : ℕ} {a : List ℕ} → at < length s → Asks s at n a → Asks s (at + 1) n a
+asks-next-byte h k = record { inside = omega arith; behind = omega (arith, k .behind); space = k .space }
+
+-- what the steps after a reading ask
+pub fits-after : {k : Expr → List ℕ → Parse} {s : List ℕ} {at n space : ℕ} {b a : List ℕ} {x : Parse} {r : Parsed} → Done k s at n b a x r → n ≤ at → length s ≤ space → Fits s space r
+fits-after (none h) u g = tt
+fits-after (some e h f) u g = record { inside = f .inside; behind = omega (arith, f .end-is, f .short); flat = omega (arith, f .flat, f .depth-is); room = g }
+
+pub room-after : {k : Expr → List ℕ → Parse} {s : List ℕ} {at n space : ℕ} {b a : List ℕ} {x : Parse} {r : Parsed} → Done k s (at + 1) n b a x r → n ≤ at → length s ≤ space → Room space r
+room-after (none h) u g = tt
+room-after (some e h f) u g = omega (arith, f .end-is, f .short, f .inside)

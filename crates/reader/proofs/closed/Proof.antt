@@ -1,0 +1,42 @@
+-- `reader::closed` meets its contract: with a ) at the place reached the group is read, else nothing is. Assumes nothing.
+use mathlib.Core.Path.{sym, _∙_}
+use Prim.Native.Nat.{_<_, _≤_}
+use native.Mathlib.Omega.{arith}
+use lib.ListN.{length}
+use borrow.Author.Needs.{needs}
+use Rattle.paths.specs.Grammar.{close-group}
+use Rattle.paths.specs.Descent.{readClose}
+use Rattle.reader.proofs.Steps.{there, fit, none-around, closes, not-closed}
+use Rattle.reader.proofs.closed.Statement.{statement}
+use Rattle.reader.proofs.closed.Tie as tie
+
+enum-known-r : tie.Need-enum-known-r
+enum-known-r c = search needs
+
+enum-told : tie.Need-enum-told
+enum-told c = search needs
+
+returns : tie.Need-returns
+returns c = λ code. none-around readClose (c .enum-told .given .1)
+
+peek-requires : tie.Need-peek-requires
+peek-requires c κs = search needs
+
+-- the ) stands inside the text, and the depth fits
+inside : (c : tie.Then1) → (c .before .before .before .r .given .0 .0 .at < length (c .before .before .before .before .before .before .args .s .now)) × (c .before .before .before .r .given .0 .0 .depth ≤ c .before .before .before .r .given .0 .0 .at)
+inside c = (there _ _ close-group (sym (c .before .peek .ensures) ∙ c .if1 .taken) (omega arith), fit (c .before .before .before .r .given .1) (c .before .before .before .before .before .before .pre) .flat)
+
+add-t7 : tie.Need-add-t7
+add-t7 c = let h = inside (c .before) in omega arith
+
+add-t8 : tie.Need-add-t8
+add-t8 c = let h = inside (c .before .before) in omega arith
+
+returns-2 : tie.Need-returns-2
+returns-2 c = λ code. closes (c .before .before .before .before .before .r .given .1) (sym (c .before .before .before .peek .ensures) ∙ c .before .before .if1 .taken)
+
+returns-3 : tie.Need-returns-3
+returns-3 c = λ code. not-closed (c .before .before .before .r .given .1) (λ e. c .if1 .left (c .before .peek .ensures ∙ e))
+
+pub closed-spec : {M : Type 1} → statement M
+closed-spec = tie.close (tie.spec enum-known-r enum-told returns peek-requires add-t7 add-t8 returns-2 returns-3)

@@ -1,0 +1,84 @@
+-- `reader::whole` meets its contract: each return by the verdict's law for it. Assumes nothing.
+use Prim.Native.Nat.{_≤_}
+use native.Mathlib.Omega.{arith}
+use lib.ListN.{length}
+use borrow.Author.Needs.{needs}
+use Rattle.book.specs.Causes.{maxBytes}
+use Rattle.paths.specs.Verdicts.{verdict-long, verdict-none}
+use Rattle.reader.proofs.Steps.{Gave, gave, missed}
+use Rattle.reader.proofs.Answers.{refuses-long, refuses-outside, refuses-large, more-bytes, many-letters, too-deep, accepts}
+use Rattle.reader.proofs.whole.Statement.{statement}
+use Rattle.reader.proofs.whole.Tie as tie
+
+refused-requires : tie.Need-refused-requires
+refused-requires c κs = search needs
+
+returns : tie.Need-returns
+returns c = refuses-long (verdict-long _ (c .before .if1 .taken)) (c .refused .ensures)
+
+slice-aggregate-alternatives : tie.Need-slice-aggregate-alternatives
+slice-aggregate-alternatives c = search needs
+
+alternatives-requires : tie.Need-alternatives-requires
+alternatives-requires c κs = search needs
+
+enum-known-r : tie.Need-enum-known-r
+enum-known-r c = search needs
+
+enum-told : tie.Need-enum-told
+enum-told c = search needs
+
+refused-requires-2 : tie.Need-refused-requires-2
+refused-requires-2 c κs = search needs
+
+returns-2 : tie.Need-returns-2
+returns-2 c = refuses-outside (verdict-none _ (c .before .before .before .before .before .before .if1 .left) (missed (c .before .enum-told .given .1) (c .before .before .before .before .alternatives .ensures))) (c .refused2 .ensures)
+
+refused-requires-3 : tie.Need-refused-requires-3
+refused-requires-3 c κs = search needs
+
+returns-3 : tie.Need-returns-3
+returns-3 c =
+    let read = gave (c .before .before .before .before .r .given .1) (c .before .before .before .before .before .before .before .alternatives .ensures) in
+    refuses-outside (more-bytes (c .before .before .before .before .before .before .before .before .before .if1 .left) read (c .before .if2 .taken)) (c .refused3 .ensures)
+
+refused-requires-4 : tie.Need-refused-requires-4
+refused-requires-4 c κs = search needs
+
+returns-4 : tie.Need-returns-4
+returns-4 c =
+    let read = gave (c .before .before .before .before .before .before .r .given .1) (c .before .before .before .before .before .before .before .before .before .alternatives .ensures) in
+    refuses-large (many-letters (c .before .before .before .before .before .before .before .before .before .before .before .if1 .left) read (c .before .before .before .if2 .left) (c .before .if3 .taken)) (c .refused4 .ensures)
+
+refused-requires-5 : tie.Need-refused-requires-5
+refused-requires-5 c κs = search needs
+
+returns-5 : tie.Need-returns-5
+returns-5 c =
+    let read = gave (c .before .before .before .before .before .before .before .before .r .given .1) (c .before .before .before .before .before .before .before .before .before .before .before .alternatives .ensures) in
+    refuses-large (too-deep (c .before .before .before .before .before .before .before .before .before .before .before .before .before .if1 .left) read (c .before .before .before .before .before .if2 .left) (c .before .before .before .if3 .left) (c .before .if4 .taken)) (c .refused5 .ensures)
+
+returns-6 : tie.Need-returns-6
+returns-6 c =
+    let read = gave (c .before .before .before .before .before .before .before .r .given .1) (c .before .before .before .before .before .before .before .before .before .before .alternatives .ensures) in
+    accepts (c .before .before .before .before .before .before .before .before .before .before .before .before .if1 .left) read (c .before .before .before .before .if2 .left) (c .before .before .if3 .left) (c .if4 .left)
+
+pub whole-spec : {M : Type 1} → statement M
+whole-spec =
+    tie.close
+    (tie.spec
+    refused-requires
+    returns
+    slice-aggregate-alternatives
+    alternatives-requires
+    enum-known-r
+    enum-told
+    refused-requires-2
+    returns-2
+    refused-requires-3
+    returns-3
+    refused-requires-4
+    returns-4
+    refused-requires-5
+    returns-5
+    returns-6)

@@ -1,0 +1,132 @@
+-- What the inner readers ask and what they have done when they return. They are told by the descent on lists: a reader over the text s from the
+-- place at on finds what the descent finds in the bytes from there on, and writes its code from the place n on.
+--   Found s at n before after e q
+--                   e is read from the place at to q's, and its code written: the code's array was `before` and is `after`
+--   Done k s at n before after x r
+--                   r is what x is, where k is what is left to do: `got` if nothing is
+--   Asks s at n code
+--                   what an inner reader asks: the code is not ahead of the text, and is no shorter
+--   Fits, Room, RoomToJoin
+--                   what the steps after a reading ask
+--   After k, Around k
+--                   r was read, and q is that with k done; Around: with the byte before it
+--   Infix           the two operators that stand between expressions; of each the byte, the number, the expression that it makes of two, and what
+--                   the descent reads: between two of its bytes, in all, and from the first on
+--   comesNext s r b, spotOf r, markNumber c
+--                   what three small functions give
+--   bytesLeft s r   a number that falls with each step of a loop
+--   Joins x first next code code′ r
+--                   r is `first` and `next` as one expression, joined by the operator of number x
+--   Since o s at n first₀ code₀ first code
+--                   `first` is what the operator's loop has read, told from what was read before it
+-- Assumes nothing: these are definitions.
+use mathlib.Core.Path.{_≡_}
+use mathlib.Core.List.{List}
+use mathlib.Core.Bool.{Bool, true, false}
+use Prim.Native.Nat.{ℕ, _+_, _-_, _<_, _≤_}
+use lib.Dec.{eqb}
+use lib.ListN.{length, drop}
+use lib.Seq.{sets}
+use Rattle.book.specs.Basics.{pick}
+use Rattle.paths.specs.Expressions.{Expr, alternative, sequence, letters, depth}
+use Rattle.paths.specs.Grammar.{bar, slash, asterisk, plus-sign, question-mark}
+use Rattle.paths.specs.Descent.{Parse, got, fault, firstByte, then, readAlternatives, readMoreAlternatives, readParts, readMoreParts, readPart}
+use Rattle.reader.specs.Code.{op-star, op-plus, op-optional, op-alternative, op-sequence, code}
+use Rattle.reader.specs.declared.Spot.{Spot}
+use Rattle.reader.specs.declared.Parsed.{Parsed}
+use Rattle.reader.specs.declared.Parsed.the-variants.{Got, Fault}
+
+pub record Found (s : List ℕ) (at n : ℕ) (before after : List ℕ) (e : Expr) (q : Spot) : Type 0 where
+  pub inside : q .at ≤ length s
+  pub short : length (code e) + at ≤ q .at
+  pub flat : depth e + at ≤ q .at
+  pub letters-are : q .letters ≡ letters e
+  pub depth-is : q .depth ≡ depth e
+  pub end-is : q .end ≡ n + length (code e)
+  pub written : after ≡ sets before n (code e)
+
+pub data Done (k : Expr → List ℕ → Parse) (s : List ℕ) (at n : ℕ) (before after : List ℕ) (x : Parse) : Parsed → Type 0 where
+  none : x ≡ fault → Done k s at n before after x Fault
+  some : {q : Spot} (e : Expr) → x ≡ k e (drop (q .at) s) → Found s at n before after e q → Done k s at n before after x (Got q)
+
+pub record Asks (s : List ℕ) (at n : ℕ) (code : List ℕ) : Type 0 where
+  pub inside : at ≤ length s
+  pub behind : n ≤ at
+  pub space : length s ≤ length code
+
+pub record Fit (s : List ℕ) (space : ℕ) (q : Spot) : Type 0 where
+  pub inside : q .at ≤ length s
+  pub behind : q .end ≤ q .at
+  pub flat : q .depth ≤ q .at
+  pub room : length s ≤ space
+
+abbrev pub Fits : List ℕ → ℕ → Parsed → Type 0
+Fits s space Fault = Unit {0}
+Fits s space (Got q) = Fit s space q
+
+abbrev pub Room : ℕ → Parsed → Type 0
+Room space Fault = Unit {0}
+Room space (Got q) = q .end < space
+
+abbrev pub RoomToJoin : ℕ → Parsed → Parsed → Type 0
+RoomToJoin space Fault next = Unit {0}
+RoomToJoin space (Got p) Fault = Unit {0}
+RoomToJoin space (Got p) (Got q) = (q .end < space) × (p .letters + q .letters ≤ space)
+
+abbrev pub After : (Expr → List ℕ → Parse) → List ℕ → List ℕ → List ℕ → Parsed → Parsed → Type 0
+After k s code code′ r q = (at n : ℕ) (before : List ℕ) (x : Parse) → Done got s at n before code x r → Done got s at n before code′ (then x k) q
+
+abbrev pub Around : (Expr → List ℕ → Parse) → List ℕ → List ℕ → List ℕ → Parsed → Parsed → Type 0
+Around k s code code′ r q = (at n : ℕ) (before : List ℕ) (x : Parse) → Done got s (at + 1) n before code x r → Done got s at n before code′ (then x k) q
+
+pub data Infix : Type 0 where
+  of-alternatives of-parts : Infix
+
+abbrev pub byteOf : Infix → ℕ
+byteOf of-alternatives = bar
+byteOf of-parts = slash
+
+abbrev pub numberOf : Infix → ℕ
+numberOf of-alternatives = op-alternative
+numberOf of-parts = op-sequence
+
+abbrev pub joinOf : Infix → Expr → Expr → Expr
+joinOf of-alternatives = alternative
+joinOf of-parts = sequence
+
+abbrev pub readOf : Infix → List ℕ → Parse
+readOf of-alternatives = readParts
+readOf of-parts = readPart
+
+abbrev pub wholeOf : Infix → List ℕ → Parse
+wholeOf of-alternatives = readAlternatives
+wholeOf of-parts = readParts
+
+abbrev pub moreOf : Infix → Expr → List ℕ → Parse
+moreOf of-alternatives = readMoreAlternatives
+moreOf of-parts = readMoreParts
+
+abbrev pub comesNext : List ℕ → Parsed → ℕ → Bool
+comesNext s Fault b = false
+comesNext s (Got q) b = eqb (firstByte (drop (q .at) s)) b
+
+abbrev pub spotOf : Parsed → Spot
+spotOf Fault = record { at = 0; end = 0; letters = 0; depth = 0 }
+spotOf (Got q) = q
+
+abbrev pub bytesLeft : List ℕ → Parsed → ℕ
+bytesLeft s Fault = 0
+bytesLeft s (Got q) = length s - q .at + 1
+
+pub record Joins (x : ℕ) (first next : Parsed) (code code′ : List ℕ) (r : Parsed) : Type 0 where
+  pub joins : (o : Infix) (s : List ℕ) (at n : ℕ) (before between : List ℕ) (y : Parse) → x ≡ numberOf o → comesNext s first (byteOf o) ≡ true →
+      Done (moreOf o) s at n before between y first →
+      Done got s (spotOf first .at + 1) (spotOf first .end) between code (readOf o (drop (spotOf first .at + 1) s)) next →
+      Done (moreOf o) s at n before code′ y r
+  pub left : (s : List ℕ) → bytesLeft s r ≤ bytesLeft s next
+
+abbrev pub Since : Infix → List ℕ → ℕ → ℕ → Parsed → List ℕ → Parsed → List ℕ → Type 0
+Since o s at n first₀ code₀ first code = (before : List ℕ) → Done got s at n before code₀ (readOf o (drop at s)) first₀ → Done (moreOf o) s at n before code (wholeOf o (drop at s)) first
+
+abbrev pub markNumber : ℕ → ℕ
+markNumber c = pick (eqb c asterisk) op-star (pick (eqb c plus-sign) op-plus (pick (eqb c question-mark) op-optional 0))
