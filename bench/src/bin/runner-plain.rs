@@ -1,0 +1,7 @@
+//! `runner-plain FILE`: the baseline's result lines on a sheet.
+
+use std::process::ExitCode;
+
+fn main() -> ExitCode {
+    bench::runner::main(bench::plain::PEER)
+}

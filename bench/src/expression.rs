@@ -1,0 +1,134 @@
+//! Expressions: the grammar of the scope paper, read by recursive descent.
+
+use crate::system::Refusal;
+
+#[derive(Clone, Debug, PartialEq, Eq)]
+pub enum Expression {
+    Letter(u32),
+    Inverse(Box<Expression>),
+    Alternative(Box<Expression>, Box<Expression>),
+    Sequence(Box<Expression>, Box<Expression>),
+    Star(Box<Expression>),
+    Plus(Box<Expression>),
+    Optional(Box<Expression>),
+}
+
+use Expression::*;
+
+/// Reads a whole text; refused with 10 for bytes, 9, 10 for letters and depth, in this order.
+pub fn read(text: &[u8]) -> Result<Expression, Refusal> {
+    if text.len() > 256 {
+        return Err(10);
+    }
+    let mut reader = Reader { text, at: 0, letters: 0, depth: 0, deepest: 0 };
+    let expression = reader.alternatives().filter(|_| reader.at == text.len()).ok_or(9u32)?;
+    if reader.letters > 63 || reader.deepest > 8 {
+        return Err(10);
+    }
+    Ok(expression)
+}
+
+struct Reader<'a> {
+    text: &'a [u8],
+    at: usize,
+    letters: u32,
+    depth: u32,
+    deepest: u32,
+}
+
+/// Each of these gives none at a fault.
+impl Reader<'_> {
+    fn alternatives(&mut self) -> Option<Expression> {
+        let mut left = self.parts()?;
+        while self.takes(b'|') {
+            left = Alternative(Box::new(left), Box::new(self.parts()?));
+        }
+        Some(left)
+    }
+
+    fn parts(&mut self) -> Option<Expression> {
+        let mut left = self.part()?;
+        while self.takes(b'/') {
+            left = Sequence(Box::new(left), Box::new(self.part()?));
+        }
+        Some(left)
+    }
+
+    fn part(&mut self) -> Option<Expression> {
+        let inverse = self.takes(b'^');
+        let atom = self.atom()?;
+        let marked = if self.takes(b'*') {
+            Star(Box::new(atom))
+        } else if self.takes(b'+') {
+            Plus(Box::new(atom))
+        } else if self.takes(b'?') {
+            Optional(Box::new(atom))
+        } else {
+            atom
+        };
+        Some(if inverse { Inverse(Box::new(marked)) } else { marked })
+    }
+
+    fn atom(&mut self) -> Option<Expression> {
+        if self.takes(b'(') {
+            self.depth += 1;
+            self.deepest = self.deepest.max(self.depth);
+            let inner = self.alternatives()?;
+            self.depth -= 1;
+            return self.takes(b')').then_some(inner);
+        }
+        let byte = *self.text.get(self.at)?;
+        if !byte.is_ascii_lowercase() {
+            return None;
+        }
+        self.at += 1;
+        self.letters += 1;
+        Some(Letter(u32::from(byte - b'a')))
+    }
+
+    fn takes(&mut self, byte: u8) -> bool {
+        let there = self.text.get(self.at) == Some(&byte);
+        self.at += usize::from(there);
+        there
+    }
+}
+
+#[cfg(test)]
+mod tests {
+    use super::*;
+
+    fn boxed(letter: u32) -> Box<Expression> {
+        Box::new(Letter(letter))
+    }
+
+    #[test]
+    fn marks_bind_closer_than_inversion_and_sequences_closer_than_alternatives() {
+        assert_eq!(read(b"^a*"), Ok(Inverse(Box::new(Star(boxed(0))))));
+        assert_eq!(read(b"a|b/c"), Ok(Alternative(boxed(0), Box::new(Sequence(boxed(1), boxed(2))))));
+        assert_eq!(read(b"(a|b)/c"), Ok(Sequence(Box::new(Alternative(boxed(0), boxed(1))), boxed(2))));
+    }
+
+    #[test]
+    fn faults_are_refused_with_9() {
+        for text in
+            ["", "()", "a**", "^^a", "A", "a b", " a", "a|", "|a", "a/", "(a", "a)", "^", "*", "ab", "a^", "a?+", "(^)", "1"]
+        {
+            assert_eq!(read(text.as_bytes()), Err(9), "{text}");
+        }
+    }
+
+    #[test]
+    fn limits_are_refused_with_10() {
+        let sequence = |letters: usize| vec!["a"; letters].join("/");
+        let nested = |depth: usize| "(".repeat(depth) + "a" + &")".repeat(depth);
+        assert!(read(sequence(63).as_bytes()).is_ok());
+        assert_eq!(read(sequence(64).as_bytes()), Err(10));
+        assert!(read(nested(8).as_bytes()).is_ok());
+        assert_eq!(read(nested(9).as_bytes()), Err(10));
+        assert_eq!(read(&[b' '; 257]), Err(10));
+        assert_eq!(read(&[b' '; 256]), Err(9));
+        assert_eq!(read((sequence(64) + "|").as_bytes()), Err(9));
+        assert_eq!(read((nested(9) + ")").as_bytes()), Err(9));
+        assert!(read(("(a)|".repeat(8) + "(a)").as_bytes()).is_ok());
+    }
+}

@@ -1,0 +1,119 @@
+//! The plain book: a sheet of links and locked records, and a pile of earlier sheets.
+
+use crate::{check_size, Refusal};
+use std::collections::{BTreeSet, VecDeque};
+
+/// Labels are 0 to 25, written a to z.
+pub const LABELS: u32 = 26;
+/// The most links present at once.
+pub const MAX_LINKS: usize = 4096;
+/// The most edits held for undo.
+pub const MAX_HELD: usize = 256;
+
+#[derive(Clone, Copy, Debug, PartialEq, Eq, PartialOrd, Ord)]
+pub struct Link {
+    pub from: u32,
+    pub label: u32,
+    pub to: u32,
+}
+
+/// A set of links and a set of locked records.
+#[derive(Clone, Debug, Default, PartialEq, Eq)]
+pub struct Sheet {
+    pub links: BTreeSet<Link>,
+    pub locked: BTreeSet<u32>,
+}
+
+/// A call that changes the register, with any arguments.
+#[derive(Clone, Copy, Debug, PartialEq, Eq)]
+pub enum Call {
+    Add(Link),
+    Remove(Link),
+    Lock(u32),
+    Unlock(u32),
+    Undo,
+}
+
+#[derive(Clone, Debug)]
+pub struct Book {
+    n: u32,
+    sheet: Sheet,
+    pile: VecDeque<Sheet>,
+}
+
+impl Book {
+    /// A fresh register: no links, no locks, nothing held.
+    pub fn fresh(n: u32) -> Result<Book, Refusal> {
+        check_size(n)?;
+        Ok(Book { n, sheet: Sheet::default(), pile: VecDeque::new() })
+    }
+
+    pub fn n(&self) -> u32 {
+        self.n
+    }
+
+    pub fn sheet(&self) -> &Sheet {
+        &self.sheet
+    }
+
+    /// The number of edits that undo can take back.
+    pub fn held(&self) -> usize {
+        self.pile.len()
+    }
+
+    /// Does an edit or an undo. A refused call changes nothing.
+    pub fn call(&mut self, call: Call) -> Result<(), Refusal> {
+        if call == Call::Undo {
+            self.sheet = self.pile.pop_back().ok_or(Refusal::NoneHeld)?;
+            return Ok(());
+        }
+        if let Some(cause) = self.first_cause(call) {
+            return Err(cause);
+        }
+        self.pile.push_back(self.sheet.clone());
+        if self.pile.len() > MAX_HELD {
+            self.pile.pop_front();
+        }
+        match call {
+            Call::Add(link) => self.sheet.links.insert(link),
+            Call::Remove(link) => self.sheet.links.remove(&link),
+            Call::Lock(record) => self.sheet.locked.insert(record),
+            Call::Unlock(record) => self.sheet.locked.remove(&record),
+            Call::Undo => unreachable!("undo is done above"),
+        };
+        Ok(())
+    }
+
+    /// The first cause, in 01's order for edits, to refuse an edit.
+    pub fn first_cause(&self, edit: Call) -> Option<Refusal> {
+        let Sheet { links, locked } = &self.sheet;
+        let (records, label) = match edit {
+            Call::Add(link) | Call::Remove(link) => (vec![link.from, link.to], Some(link.label)),
+            Call::Lock(record) | Call::Unlock(record) => (vec![record], None),
+            Call::Undo => (vec![], None),
+        };
+        let causes = [
+            (Refusal::Record, records.iter().any(|&record| record >= self.n)),
+            (Refusal::Label, label.is_some_and(|label| label >= LABELS)),
+            (Refusal::Locked, label.is_some() && records.iter().any(|record| locked.contains(record))),
+            (
+                Refusal::Already,
+                match edit {
+                    Call::Add(link) => links.contains(&link),
+                    Call::Lock(record) => locked.contains(&record),
+                    _ => false,
+                },
+            ),
+            (
+                Refusal::Absent,
+                match edit {
+                    Call::Remove(link) => !links.contains(&link),
+                    Call::Unlock(record) => !locked.contains(&record),
+                    _ => false,
+                },
+            ),
+            (Refusal::Full, matches!(edit, Call::Add(_)) && links.len() >= MAX_LINKS),
+        ];
+        causes.into_iter().find(|&(_, there)| there).map(|(cause, _)| cause)
+    }
+}

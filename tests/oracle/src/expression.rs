@@ -1,0 +1,116 @@
+//! Expressions, and their reader by recursive descent:
+//!
+//! ```text
+//! alternatives = sequence { "|" sequence }
+//! sequence     = part { "/" part }
+//! part         = [ "^" ] ( letter | "(" alternatives ")" ) [ "*" | "+" | "?" ]
+//! letter       = "a" | .. | "z"
+//! ```
+
+use crate::Refusal;
+
+pub const MAX_BYTES: usize = 256;
+pub const MAX_LETTERS: usize = 63;
+pub const MAX_DEPTH: usize = 8;
+
+/// An expression; a group is the expression that it holds.
+#[derive(Clone, Debug, PartialEq, Eq)]
+pub enum Expression {
+    Letter(u32),
+    Inverse(Box<Expression>),
+    Star(Box<Expression>),
+    Plus(Box<Expression>),
+    Optional(Box<Expression>),
+    Alternative(Box<Expression>, Box<Expression>),
+    Sequence(Box<Expression>, Box<Expression>),
+}
+
+/// Reads a whole text. Refusals in 01's order: 10 for bytes, then 9, then 10 for letters and depth.
+pub fn read(text: &[u8]) -> Result<Expression, Refusal> {
+    if text.len() > MAX_BYTES {
+        return Err(Refusal::TooLong);
+    }
+    let mut reader = Reader { text, at: 0, letters: 0, depth: 0, deepest: 0 };
+    let expression = reader.alternatives().ok_or(Refusal::Grammar)?;
+    if reader.at < text.len() {
+        return Err(Refusal::Grammar);
+    }
+    if reader.letters > MAX_LETTERS || reader.deepest > MAX_DEPTH {
+        return Err(Refusal::TooLong);
+    }
+    Ok(expression)
+}
+
+/// The text, the place of the next byte, and what has been counted on the way. Each rule answers `None` if no text that
+/// starts at its place fits it.
+struct Reader<'a> {
+    text: &'a [u8],
+    at: usize,
+    letters: usize,
+    depth: usize,
+    deepest: usize,
+}
+
+impl Reader<'_> {
+    /// The next byte, which stays the next.
+    fn next(&self) -> Option<u8> {
+        self.text.get(self.at).copied()
+    }
+
+    /// Passes the next byte if it is this one.
+    fn pass(&mut self, byte: u8) -> bool {
+        let is = self.next() == Some(byte);
+        if is {
+            self.at += 1;
+        }
+        is
+    }
+
+    fn alternatives(&mut self) -> Option<Expression> {
+        let mut left = self.sequence()?;
+        while self.pass(b'|') {
+            left = Expression::Alternative(Box::new(left), Box::new(self.sequence()?));
+        }
+        Some(left)
+    }
+
+    fn sequence(&mut self) -> Option<Expression> {
+        let mut left = self.part()?;
+        while self.pass(b'/') {
+            left = Expression::Sequence(Box::new(left), Box::new(self.part()?));
+        }
+        Some(left)
+    }
+
+    fn part(&mut self) -> Option<Expression> {
+        let inverse = self.pass(b'^');
+        let mut part = self.letter_or_group()?;
+        if self.pass(b'*') {
+            part = Expression::Star(Box::new(part));
+        } else if self.pass(b'+') {
+            part = Expression::Plus(Box::new(part));
+        } else if self.pass(b'?') {
+            part = Expression::Optional(Box::new(part));
+        }
+        Some(if inverse { Expression::Inverse(Box::new(part)) } else { part })
+    }
+
+    fn letter_or_group(&mut self) -> Option<Expression> {
+        let byte = self.next()?;
+        self.at += 1;
+        match byte {
+            b'a'..=b'z' => {
+                self.letters += 1;
+                Some(Expression::Letter(u32::from(byte - b'a')))
+            }
+            b'(' => {
+                self.depth += 1;
+                self.deepest = self.deepest.max(self.depth);
+                let held = self.alternatives()?;
+                self.depth -= 1;
+                self.pass(b')').then_some(held)
+            }
+            _ => None,
+        }
+    }
+}

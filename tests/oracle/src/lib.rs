@@ -1,0 +1,114 @@
+//! An interpreter of 01, "The dating register and its path engine", written from its words alone. It shares no code and
+//! no table with the engine: tests hold the engine's answers against those given here.
+//!
+//! | Module | Holds | Section of 01 |
+//! |---|---|---|
+//! | `book` | the plain book: sheets of links and locks, the pile of earlier sheets | The plain book |
+//! | `expression` | the reader of expressions, with its refusals | Expressions |
+//! | `relation` | sets of pairs as rows of bits, and the set that an expression means | Expressions |
+//! | `chain` | the first chain between two records | Chains |
+//! | `tree` | k2-trees, well-formedness, the operations on trees | Trees |
+//! | `question` | pair and chain questions with all their refusals | Causes and numbers |
+//! | `frame` | requests as frames, and frames read as requests | The program |
+//! | `program` | the program: frames in, lines out | The program |
+//! | `lines` | typed lines such as `add 0 a 1` to requests | – |
+//! | `random` | random numbers, expressions and sessions, each the same for the same seed | – |
+//!
+//! Everything here is meant to be plainly right first, and fast enough for n up to 1,024 second.
+
+pub mod book;
+pub mod chain;
+pub mod expression;
+pub mod frame;
+pub mod lines;
+pub mod program;
+pub mod question;
+pub mod random;
+pub mod relation;
+pub mod tree;
+
+/// The most records a register has.
+pub const MAX_RECORDS: u32 = 1024;
+
+/// Refuses n outside 1 to 1,024.
+pub fn check_size(n: u32) -> Result<(), Refusal> {
+    if (1..=MAX_RECORDS).contains(&n) {
+        Ok(())
+    } else {
+        Err(Refusal::Size)
+    }
+}
+
+/// A cause of refusal; its number is that of 01's table.
+#[derive(Clone, Copy, Debug, PartialEq, Eq, PartialOrd, Ord)]
+pub enum Refusal {
+    /// n outside 1 to 1,024, or above 64 in the program
+    Size = 1,
+    /// a record not below n
+    Record = 2,
+    /// a label above 25
+    Label = 3,
+    /// add or remove where an end is locked
+    Locked = 4,
+    /// the link is present, or the record locked, already
+    Already = 5,
+    /// the link is absent, or the record not locked
+    Absent = 6,
+    /// 4,096 links are present at an add
+    Full = 7,
+    /// undo with no edit held
+    NoneHeld = 8,
+    /// the expression is outside the grammar
+    Grammar = 9,
+    /// the expression is over 256 bytes, 63 letters or 8 deep
+    TooLong = 10,
+    /// a lent tree is not well formed
+    Tree = 11,
+    /// the lent work is shorter than stated
+    Work = 12,
+    /// the answer is longer than its list
+    List = 13,
+    /// the frame is broken
+    Frame = 14,
+    /// the kind is unknown
+    Kind = 15,
+    /// no register is opened
+    NotOpened = 16,
+}
+
+impl Refusal {
+    pub fn number(self) -> u8 {
+        self as u8
+    }
+}
+
+/// The lengths of what a caller lends to a question or a tree operation: work in 64-bit words, and the list for the
+/// answer in its own words.
+#[derive(Clone, Copy, Debug)]
+pub struct Space {
+    pub work: usize,
+    pub list: usize,
+}
+
+impl Space {
+    /// Space that is enough for every answer.
+    pub const AMPLE: Space = Space { work: usize::MAX, list: usize::MAX };
+
+    /// Refuses work shorter than `work`.
+    pub fn work_at_least(self, work: usize) -> Result<(), Refusal> {
+        if self.work < work {
+            Err(Refusal::Work)
+        } else {
+            Ok(())
+        }
+    }
+
+    /// Gives the answer, or refuses one that is longer than the list.
+    pub fn listed<T>(self, answer: Vec<T>) -> Result<Vec<T>, Refusal> {
+        if answer.len() > self.list {
+            Err(Refusal::List)
+        } else {
+            Ok(answer)
+        }
+    }
+}
