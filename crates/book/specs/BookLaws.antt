@@ -3,7 +3,7 @@
 --   Fit n s         a sheet's links are proper, its locks are of records, none stands twice, and there are at most 4,096 links
 --   Sound b         n is at most 1,024, and every sheet of the book fits
 use mathlib.Core.Path.{_≡_, refl, sym, ap, _∙_, subst}
-use mathlib.Core.List.{List, [], _∷_}
+use mathlib.Core.List.{List, [], _∷_, _++_}
 use mathlib.Core.Bool.{Bool, true, false, not, _||_, false≢true}
 use Prim.Native.Nat.{ℕ, zero, suc, _≤_, _<_}
 use native.Mathlib.Omega.{arith}
@@ -12,7 +12,7 @@ use lib.Dec.{leb, eqb}
 use borrow.Author.Tests.{leb-false, not-false}
 use Rattle.book.specs.Basics.{has, without}
 use Rattle.book.specs.Causes.{Cause, bad-size, no-record, bad-label, locked-end, already, missing, full, none-held, no-expression, too-many-bytes, too-large, bad-tree, short-work, short-list, broken-frame, unknown-kind, not-open, number, editOrder, firstNumber, InOrder, none-left, same-cause, passed-over, maxRecords, labels, maxLinks, maxHeld}
-use Rattle.book.specs.Book.{Link, sameLink, Sheet, Book, Edit, add, remove, lock, unlock, Call, edit, undo, present, isLocked, causes, editAnswer, edited, turned, undoAnswer, undone, answer, next, fresh, after}
+use Rattle.book.specs.Book.{Link, sameLink, Sheet, Book, Edit, add, remove, lock, unlock, Call, edit, undo, present, isLocked, causes, editAnswer, edited, turned, undoAnswer, undone, answer, next, fresh, answers, after}
 use Rattle.book.specs.SetLaws.{sameLink-test, eqb-test, and-both, or-neither, has-without, Distinct, distinct-without, length-without}
 
 -- ---- causes
@@ -70,6 +70,22 @@ refused-same b undo z = go (b .pile) z
 pub undo-back : (b : Book) (e : Edit) → answer b (edit e) ≡ 0 → next (next b (edit e)) undo .sheet ≡ b .sheet
 unfolding answer next turned undone
 undo-back b e h = ap (λ (z : ℕ). undone (turned z b (edited e (b .sheet))) (turned z b (edited e (b .sheet)) .pile) .sheet) h
+
+-- ---- a history with one call more
+pub after-more : (b : Book) (cs : List Call) (c : Call) → after b (cs ++ (c ∷ [])) ≡ next (after b cs) c
+unfolding after
+after-more b [] c = refl
+after-more b (d ∷ cs) c = after-more (next b d) cs c
+
+pub answers-more : (b : Book) (cs : List Call) (c : Call) → answers b (cs ++ (c ∷ [])) ≡ answers b cs ++ (answer (after b cs) c ∷ [])
+unfolding after answers
+answers-more b [] c = refl
+answers-more b (d ∷ cs) c = ap (λ (l : List ℕ). answer b d ∷ l) (answers-more (next b d) cs c)
+
+pub answers-length : (b : Book) (cs : List Call) → length (answers b cs) ≡ length cs
+unfolding answers
+answers-length b [] = refl
+answers-length b (c ∷ cs) = ap suc (answers-length (next b c) cs)
 
 -- ---- what holds of every sheet
 pub record Proper (n : ℕ) (k : Link) : Type 0 where

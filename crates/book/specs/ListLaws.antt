@@ -1,8 +1,9 @@
 -- Laws of membership in a list, and of ascending lists: two with the same members are equal. Assumes nothing.
 use mathlib.Core.Path.{_≡_, refl, sym, ap₂, subst}
 use mathlib.Core.Logic.{_⊎_, inl, inr, ⊎-elim}
-use mathlib.Core.List.{List, [], _∷_, _++_}
-use Prim.Native.Nat.{ℕ, _≤_}
+use mathlib.Core.List.{List, [], _∷_, _++_, map}
+use Prim.Native.Nat.{ℕ, zero, suc, _≤_, _<_}
+use lib.ListN.{length, getD}
 use native.Mathlib.Omega.{arith}
 use Rattle.book.specs.Basics.{In, here, there, Rises, ended, rises}
 
@@ -32,6 +33,25 @@ module _ {A : Type 0} where
   pub in-one : {w p : A} {l : List A} → In w l → l ≡ p ∷ [] → w ≡ p
   in-one here e = cc
   in-one (there h) e = absurd (in-none h (cc))
+
+  -- a member stands at a place, and what stands at a place is a member
+  pub in-at : {w : A} {l : List A} (d : A) → In w l → (i : ℕ) × (i < length l) × (getD l i d ≡ w)
+  in-at d here = (0, omega arith, refl)
+  in-at d (there h) = let r = in-at d h in (suc (r .0), omega (arith, r .1), r .2)
+
+  pub at-in : (l : List A) (i : ℕ) (d : A) → i < length l → In (getD l i d) l
+  at-in [] i d h = absurd (omega arith)
+  at-in (x ∷ l) zero d h = here
+  at-in (x ∷ l) (suc i) d h = there (at-in l i d (omega arith))
+
+module _ {A B : Type 0} (f : A → B) where
+  pub map-in : {w : A} {l : List A} → In w l → In (f w) (map f l)
+  map-in here = here
+  map-in (there h) = there (map-in h)
+
+  pub in-map : {v : B} (l : List A) → In v (map f l) → (w : A) × In w l × (v ≡ f w)
+  in-map [] h = absurd (in-none h refl)
+  in-map (x ∷ l) h = ⊎-elim (λ e. (x, here, e)) (λ i. let r = in-map l i in (r .0, there (r .1), r .2)) (in-front h refl)
 
 -- ---- ascending lists
 pub rises-least : {m w : ℕ} {l : List ℕ} → Rises m l → In w l → m ≤ w

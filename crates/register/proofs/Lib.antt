@@ -1,0 +1,7 @@
+pub mod Ascending
+pub mod Shift
+pub mod Ring
+pub mod Showing
+pub mod Stepping
+pub mod Replaying
+pub mod Asking

@@ -1,0 +1,70 @@
+-- `register::Register::step` meets its contract, kind by kind. Assumes nothing.
+use borrow.Author.Needs.{needs}
+use Rattle.register.specs.Calls.{callOf, wordCall}
+use Rattle.register.proofs.Replaying.{call-rest}
+use Rattle.register.proofs.Register.step.Statement.{statement}
+use Rattle.register.proofs.Register.step.Tie as tie
+
+cast-from : tie.Need-cast-from
+cast-from c = search needs
+
+cast-label : tie.Need-cast-label
+cast-label c = search needs
+
+cast-to : tie.Need-cast-to
+cast-to c = search needs
+
+add-requires : tie.Need-add-requires
+add-requires c κs = search needs
+
+remove-requires : tie.Need-remove-requires
+remove-requires c κs = search needs
+
+lock-requires : tie.Need-lock-requires
+lock-requires c κs = search needs
+
+unlock-requires : tie.Need-unlock-requires
+unlock-requires c κs = search needs
+
+undo-requires : tie.Need-undo-requires
+undo-requires c κs = search needs
+
+returns : tie.Need-returns
+unfolding wordCall callOf
+returns c = rw (c .before .match .keys1) (c .add .ensures)
+
+returns-2 : tie.Need-returns-2
+unfolding wordCall callOf
+returns-2 c = rw (c .before .match .keys2) (c .remove .ensures)
+
+returns-3 : tie.Need-returns-3
+unfolding wordCall callOf
+returns-3 c = rw (c .before .match .keys3) (c .lock .ensures)
+
+returns-4 : tie.Need-returns-4
+unfolding wordCall callOf
+returns-4 c = rw (c .before .match .keys4) (c .unlock .ensures)
+
+returns-5 : tie.Need-returns-5
+unfolding wordCall
+returns-5 c =
+    let r = c .before .match .rest in
+    rw (call-rest _ _ _ _ (r .0 .0 .0 .1) (r .0 .0 .1) (r .0 .1) (r .1)) (c .undo .ensures)
+
+pub step-spec : {M : Type 1} → statement M
+step-spec =
+    tie.close
+    (tie.spec
+    cast-from
+    cast-label
+    cast-to
+    add-requires
+    remove-requires
+    lock-requires
+    unlock-requires
+    undo-requires
+    returns
+    returns-2
+    returns-3
+    returns-4
+    returns-5)

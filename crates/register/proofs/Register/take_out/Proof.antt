@@ -1,0 +1,62 @@
+-- `register::Register::take_out` meets its contract: among ascending words x is there exactly if it stands at its place, and cutting it there takes it out. Assumes nothing.
+use Prim.Native.Nat.{ℕ, _≤_, _<_}
+use mathlib.Core.Path.{_≡_, refl, ap, sym, _∙_}
+use mathlib.Core.List.{List}
+use native.Mathlib.Omega.{arith}
+use borrow.Author.Needs.{needs}
+use borrow.Author.Tests.{not-true, not-false}
+use lib.ListN.{length, take}
+use Rattle.book.specs.SetLaws.{eqb-test, without-absent}
+use Rattle.register.specs.Inner.{cutAt}
+use Rattle.register.proofs.Ascending.{seam-below, seam-has, stands-below, cut-without}
+use Rattle.register.proofs.Register.take_out.Statement.{statement}
+use Rattle.register.proofs.Register.take_out.Tie as tie
+
+place-requires : tie.Need-place-requires
+place-requires c κs = search needs
+
+stands-requires : tie.Need-stands-requires
+stands-requires c κs = search needs
+
+returns : tie.Need-returns
+returns c =
+    let s = c .before .before .before .before .before .before .before .before .before .args in
+    let k : length (s .t1 .links) ≡ 4096 = search needs in
+    let l = take (s .t1 .count) (s .t1 .links) in
+    let at = c .before .before .before .before .before .place in
+    let st = c .before .stands in
+    record {
+      kept = record { n = refl; ring = refl; top = refl; held = refl; count = c .before .before .before .before .before .before .before .before .before .pre };
+      sheet = λ r. ap (λ (m : List ℕ). record { links = m; locks = s .t1 .locks })
+          (sym (without-absent eqb-test (s .x) l (sym (seam-has (s .x) (s .t1 .links) (s .t1 .count) (at .result) (omega arith) r (at .ensures)) ∙ sym (st .ensures) ∙ not-true (st .result) (c .if1 .taken))));
+    }
+
+below-count : (c : tie.Else1) → c .before .before .before .before .before .place .result < c .before .before .before .before .before .before .before .before .before .args .t1 .count
+below-count c =
+    let s = c .before .before .before .before .before .before .before .before .before .args in
+    stands-below (s .t1 .links) (s .t1 .count) (c .before .before .before .before .before .place .result) (s .x) (sym (c .before .stands .ensures) ∙ not-false (c .before .stands .result) (c .if1 .left))
+
+cut-requires : tie.Need-cut-requires
+cut-requires c κs = (below-count (c .before), c .before .before .before .before .before .before .before .before .before .before .pre, search needs)
+
+sub-self : tie.Need-sub-self
+sub-self c = omega (arith, below-count (c .before .before))
+
+returns-2 : tie.Need-returns-2
+returns-2 c =
+    let s = c .before .before .before .before .before .before .before .before .before .before .before .args in
+    let k : length (s .t1 .links) ≡ 4096 = search needs in
+    let l = take (s .t1 .count) (s .t1 .links) in
+    let at = c .before .before .before .before .before .before .before .place in
+    let st = c .before .before .before .stands in
+    let h : s .t1 .count ≤ length (s .t1 .links) = omega arith in
+    record {
+      kept = record { n = refl; ring = refl; top = refl; held = refl; count = omega arith };
+      sheet = λ r. ap (λ (m : List ℕ). record { links = m; locks = s .t1 .locks })
+          (c .cut .ensures ∙ ap (λ (j : ℕ). cutAt j l) (seam-below (s .x) (s .t1 .links) (s .t1 .count) (at .result) h r (at .ensures)) ∙
+          cut-without (s .x) l r (sym (seam-has (s .x) (s .t1 .links) (s .t1 .count) (at .result) h r (at .ensures)) ∙ sym (st .ensures) ∙ not-false (st .result) (c .before .before .if1 .left)));
+    }
+
+pub take-out-spec : {M : Type 1} → statement M
+take-out-spec =
+    tie.close (tie.spec place-requires stands-requires returns cut-requires sub-self returns-2)

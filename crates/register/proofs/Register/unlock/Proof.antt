@@ -1,0 +1,73 @@
+-- `register::Register::unlock` meets its contract: each refusal by `refuse` with the tests that led to it, and acceptance by `accept`. Assumes nothing.
+use mathlib.Core.Path.{_≡_}
+use native.Mathlib.Omega.{arith}
+use borrow.Author.Needs.{needs}
+use borrow.Author.Tests.{le-leb, lt-leb, not-true, not-false}
+use lib.ListN.{length, getD}
+use mathlib.Core.Bool.{false}
+use Rattle.book.specs.Causes.{number, firstNumber}
+use Rattle.book.specs.Book.{unlock}
+use Rattle.register.specs.Packed.{heldWord}
+use Rattle.register.specs.Calls.{Ranged}
+use Rattle.register.proofs.Showing.{packedCauses, packedEdit}
+use Rattle.register.proofs.Stepping.{outside, inside, refuse, accept}
+use Rattle.register.proofs.Register.unlock.Statement.{statement}
+use Rattle.register.proofs.Register.unlock.Tie as tie
+
+ranged-requires : tie.Need-ranged-requires
+ranged-requires c κs = search needs
+
+returns : tie.Need-returns
+returns c = outside _ _ 16 _ (c .before .ranged .ensures) (c .if1 .taken)
+
+in-range : (c : tie.Else1) → Ranged (c .before .before .args .t1 .n) (c .before .before .args .t1 .count) (c .before .before .args .t1 .top) (c .before .before .args .t1 .held)
+in-range c = inside (c .before .before .args .t1) (c .before .ranged .result) (c .before .ranged .ensures) (c .if1 .left)
+
+returns-2 : tie.Need-returns-2
+unfolding packedCauses firstNumber number
+returns-2 c = refuse (c .before .before .before .args .t1) (unlock (c .before .before .before .args .«record»)) 2 (omega arith) (λ _. rw (le-leb _ _ (c .if2 .taken)))
+
+element-copy-out-if3 : tie.Need-element-copy-out-if3
+element-copy-out-if3 c = omega (arith, in-range (c .before) .size)
+
+returns-3 : tie.Need-returns-3
+unfolding packedCauses firstNumber number
+returns-3 c = refuse (c .before .before .before .before .before .args .t1) (unlock (c .before .before .before .before .before .args .«record»)) 6 (omega arith) (λ _. rw (lt-leb _ _ (c .before .before .if2 .left), not-true (getD (c .before .before .before .before .before .args .t1 .locks) (c .before .before .before .before .before .args .«record») false) (c .if3 .taken)))
+
+set-lock-requires : tie.Need-set-lock-requires
+set-lock-requires c κs = in-range (c .before .before .before) .count
+
+add-hold : tie.Need-add-hold
+add-hold c = search needs
+
+hold-requires : tie.Need-hold-requires
+hold-requires c κs =
+    let h = in-range (c .before .before .before .before) in
+    let k = c .set-lock .ensures .kept in
+    (omega (arith, k .top, h .top), omega (arith, k .held, h .held))
+
+locks-long : (c : tie.Start) → length (c .args .t1 .locks) ≡ 1024
+locks-long c = search needs
+
+returns-4 : tie.Need-returns-4
+unfolding packedCauses firstNumber number packedEdit heldWord
+returns-4 c =
+    let s = c .before .before .before .before .before .before .before .args in
+    accept (s .t1) (unlock (s .«record»)) (c .before .set-lock .result) (c .hold .result) (in-range (c .before .before .before .before .before)) (locks-long (c .before .before .before .before .before .before .before))
+    (λ _. rw (lt-leb _ _ (c .before .before .before .before .if2 .left), not-false (getD (s .t1 .locks) (s .«record») false) (c .before .before .if3 .left)))
+    (c .before .set-lock .ensures)
+    (c .hold .ensures)
+
+pub unlock-spec : {M : Type 1} → statement M
+unlock-spec =
+    tie.close
+    (tie.spec
+    ranged-requires
+    returns
+    returns-2
+    element-copy-out-if3
+    returns-3
+    set-lock-requires
+    add-hold
+    hold-requires
+    returns-4)

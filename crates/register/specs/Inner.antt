@@ -1,0 +1,74 @@
+-- What the inner functions of the register promise one another.
+--   putAt i x l     x before what stands at the place i
+--   cutAt i l       l without what stands at the place i
+--   Seam x ws c i   i is a place for x among the first c words: the word before it is below x, and the word at it is not
+--   standsAt ws c i x
+--                   whether i is one of the first c places and x stands there
+--   linkCauses n locks k
+--                   the causes against the ends and the label of a link, in their order
+--   Guarded, Holding, Changed, TakenBack
+--                   what `ranged`, `hold`, the inner edits and `taken_back` promise
+-- Assumes nothing: these are definitions.
+use mathlib.Core.Path.{_≡_}
+use mathlib.Core.List.{List, _∷_, [], _++_}
+use mathlib.Core.Bool.{Bool, true, false, _||_, _&&_}
+use Prim.Native.Nat.{ℕ, suc, _≤_, _<_}
+use lib.ListN.{length, take, drop, getD}
+use lib.Dec.{leb, ltb, eqb}
+use Rattle.book.specs.Basics.{Rises}
+use Rattle.book.specs.Causes.{Cause, no-record, bad-label, locked-end, labels, maxLinks, maxHeld}
+use Rattle.book.specs.Book.{Link}
+use Rattle.register.specs.Packed.{Packed, takeBackKind}
+use Rattle.register.specs.Calls.{heldWords, packedOf, Ranged}
+use Rattle.register.specs.declared.Register.{Register}
+
+unfoldable pub putAt : ℕ → ℕ → List ℕ → List ℕ
+putAt i x l = take i l ++ (x ∷ drop i l)
+
+unfoldable pub cutAt : ℕ → List ℕ → List ℕ
+cutAt i l = take i l ++ drop (suc i) l
+
+pub record Seam (x : ℕ) (ws : List ℕ) (c i : ℕ) : Type 0 where
+  pub within : i ≤ c
+  pub low : (j : ℕ) → suc j ≡ i → getD ws j 0 < x
+  pub high : i < c → x ≤ getD ws i 0
+
+unfoldable pub standsAt : List ℕ → ℕ → ℕ → ℕ → Bool
+standsAt ws c i x = ltb i c && eqb (getD ws i 0) x
+
+unfoldable pub linkCauses : ℕ → List Bool → Link → List (Cause × Bool)
+linkCauses n locks k =
+    (no-record, leb n (k .from) || leb n (k .to)) ∷
+    (bad-label, leb labels (k .label)) ∷
+    (locked-end, getD locks (k .from) false || getD locks (k .to) false) ∷ []
+
+pub record Guarded (n c t h : ℕ) (ok : Bool) : Type 0 where
+  pub sure : ok ≡ true → Ranged n c t h
+  pub none : ok ≡ false → Ranged n c t h → ⊥
+
+-- one more word is held, and the oldest is forgotten where 256 were
+pub record Holding (self : Register) (w : ℕ) (r : Register) : Type 0 where
+  pub n : r .n ≡ self .n
+  pub sheet : packedOf r ≡ packedOf self
+  pub count : r .count ≡ self .count
+  pub top : r .top < maxHeld
+  pub few : r .held ≤ maxHeld
+  pub words : heldWords r ≡ take maxHeld (w ∷ heldWords self)
+
+-- all but the sheet is as it was
+pub record Kept (self r : Register) : Type 0 where
+  pub n : r .n ≡ self .n
+  pub ring : r .ring ≡ self .ring
+  pub top : r .top ≡ self .top
+  pub held : r .held ≡ self .held
+  pub count : r .count ≤ maxLinks
+
+-- where the words ascend, the sheet is changed to p
+pub record Changed (self : Register) (p : Packed) (r : Register) : Type 0 where
+  pub kept : Kept self r
+  pub sheet : Rises 0 (packedOf self .links) → packedOf r ≡ p
+
+-- where the words ascend and there is room, an edit is taken back
+pub record TakenBack (self : Register) (kind x : ℕ) (r : Register) : Type 0 where
+  pub kept : Kept self r
+  pub sheet : Rises 0 (packedOf self .links) → length (takeBackKind kind x (packedOf self) .links) ≤ maxLinks → packedOf r ≡ takeBackKind kind x (packedOf self)

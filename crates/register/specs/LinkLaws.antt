@@ -1,0 +1,68 @@
+-- Laws of links as words: a word and its link give one another, a sheet has one list of words, and what a word of the list says of the sheet. Assumes nothing.
+use mathlib.Core.Path.{_≡_, refl, sym, ap, _∙_}
+use mathlib.Core.List.{List}
+use mathlib.Core.Bool.{Bool, true, false}
+use Prim.Native.Nat.{ℕ, _/_, _%_, _≤_, _<_}
+use native.Mathlib.Omega.{arith}
+use lib.Dec.{eqb}
+use borrow.Author.Tests.{eqb-true, eq-eqb}
+use Rattle.book.specs.Basics.{In, has}
+use Rattle.book.specs.Causes.{maxRecords}
+use Rattle.book.specs.Book.{Link, sameLink, Sheet, present}
+use Rattle.book.specs.ListLaws.{rises-same}
+use Rattle.book.specs.SetLaws.{eqb-test, sameLink-test, has-in, in-has}
+use Rattle.book.specs.BookLaws.{Proper, Fit}
+use Rattle.register.specs.Links.{linkWord, linkOf, Linked}
+
+pub linkOf-word : (k : Link) → k .from < 1024 → k .to < 1024 → linkOf (linkWord k) ≡ k
+linkOf-word k f t =
+    let a : linkWord k / 1024 % 1024 ≡ k .from = omega arith in
+    let b : linkWord k / 1048576 ≡ k .label = omega arith in
+    let c : linkWord k % 1024 ≡ k .to = omega arith in
+    λ i. record { from = a i; label = b i; to = c i }
+
+-- a sheet has one list of words
+pub linked-same : {ws vs : List ℕ} {s : Sheet} → Linked ws s → Linked vs s → ws ≡ vs
+linked-same {ws} {vs} l m = rises-same ws vs (l .ascending) (m .ascending)
+    (λ w h. let r = l .sound w h in rw (r .1) (m .whole (r .0) (r .2)))
+    (λ w h. let r = m .sound w h in rw (r .1) (l .whole (r .0) (r .2)))
+
+module _ {n : ℕ} (small : n ≤ maxRecords) where
+  pub word-link : {k : Link} → Proper n k → linkOf (linkWord k) ≡ k
+  word-link {k} p = linkOf-word k (omega (arith, p .from)) (omega (arith, p .to))
+
+  pub word-same : {j k : Link} → Proper n j → Proper n k → linkWord j ≡ linkWord k → j ≡ k
+  word-same p q e = sym (word-link p) ∙ ap linkOf e ∙ word-link q
+
+  pub word-test : {j k : Link} → Proper n j → Proper n k → eqb (linkWord j) (linkWord k) ≡ sameLink j k
+  word-test {j} {k} p q = go (eqb (linkWord j) (linkWord k)) refl (sameLink j k) refl
+    where
+      go : (t : Bool) → eqb (linkWord j) (linkWord k) ≡ t → (u : Bool) → sameLink j k ≡ u → t ≡ u
+      go true e true f = refl
+      go true e false f = sym (sameLink-test .reflexive k) ∙ ap (λ (i : Link). sameLink i k) (sym (word-same p q (eqb-true _ _ e))) ∙ f
+      go false e true f = sym e ∙ eq-eqb (linkWord j) (linkWord k) (ap linkWord (sameLink-test .sound j k f))
+      go false e false f = refl
+
+  module _ {s : Sheet} (fit : Fit n s) {ws : List ℕ} (l : Linked ws s) where
+    -- the link of a word of the list is present
+    pub linked-present : {w : ℕ} → In w ws → present s (linkOf w) ≡ true
+    linked-present {w} h =
+        let r = l .sound w h in
+        let e : linkOf w ≡ r .0 = ap linkOf (r .1) ∙ word-link (fit .links (r .0) (r .2)) in
+        ap (present s) e ∙ r .2
+
+    pub linked-word : {w : ℕ} → In w ws → linkWord (linkOf w) ≡ w
+    linked-word {w} h =
+        let r = l .sound w h in
+        let e : linkOf w ≡ r .0 = ap linkOf (r .1) ∙ word-link (fit .links (r .0) (r .2)) in
+        ap linkWord e ∙ sym (r .1)
+
+    -- the computed tests agree
+    pub linked-has : {k : Link} → Proper n k → has eqb (linkWord k) ws ≡ present s k
+    linked-has {k} p = go (has eqb (linkWord k) ws) refl (present s k) refl
+      where
+        go : (t : Bool) → has eqb (linkWord k) ws ≡ t → (u : Bool) → present s k ≡ u → t ≡ u
+        go true e true f = refl
+        go true e false f = sym (linked-present (has-in eqb-test (linkWord k) ws e)) ∙ ap (present s) (word-link p) ∙ f
+        go false e true f = sym e ∙ in-has eqb-test (linkWord k) ws (l .whole k f)
+        go false e false f = refl

@@ -1,0 +1,58 @@
+-- A sheet as the register keeps it, and what a held edit takes back.
+--   Packed          the links' words, and for each record whether it is locked
+--   insert x l      x put in before the first number of l that is not below it
+--   kindUnit        a held word is its kind times this, plus the link's word or the record
+--   heldWord e      the word that is held for an edit
+--   takeBack w p    p with the edit of the held word w taken back
+--   Shows n p s     p shows the sheet s of a register of n records: the same links, each once, and the same locks
+--   Piled n p ws ss taking back the edits of the held words ws, one after the other from p on, shows the sheets ss one after the other
+-- Assumes nothing: these are definitions.
+use mathlib.Core.Path.{_≡_}
+use mathlib.Core.List.{List, [], _∷_}
+use mathlib.Core.Bool.{Bool, true, false}
+use Prim.Native.Nat.{ℕ, zero, suc, _+_, _/_, _%_}
+use lib.ListN.{length, getD, set}
+use lib.Dec.{eqb, ltb}
+use Rattle.book.specs.Basics.{pick, without}
+use Rattle.book.specs.Book.{Sheet, Edit, add, remove, lock, unlock, isLocked}
+use Rattle.book.specs.BookLaws.{Fit}
+use Rattle.register.specs.Links.{linkWord, Linked}
+
+pub record Packed : Type 0 where
+  pub links : List ℕ
+  pub locks : List Bool
+
+unfoldable pub insert : ℕ → List ℕ → List ℕ
+insert x [] = x ∷ []
+insert x (y ∷ ys) = pick (ltb y x) (y ∷ insert x ys) (x ∷ y ∷ ys)
+
+abbrev pub kindUnit : ℕ
+kindUnit = 33554432
+
+-- the kinds: 0 add, 1 remove, 2 lock, 3 unlock
+unfoldable pub heldWord : Edit → ℕ
+heldWord (add k) = linkWord k
+heldWord (remove k) = kindUnit + linkWord k
+heldWord (lock r) = 67108864 + r
+heldWord (unlock r) = 100663296 + r
+
+unfoldable pub takeBackKind : ℕ → ℕ → Packed → Packed
+takeBackKind zero x p = record { links = without eqb x (p .links); locks = p .locks }
+takeBackKind (suc zero) x p = record { links = insert x (p .links); locks = p .locks }
+takeBackKind (suc (suc zero)) x p = record { links = p .links; locks = set (p .locks) x false }
+takeBackKind (suc (suc (suc k))) x p = record { links = p .links; locks = set (p .locks) x true }
+
+abbrev pub takeBack : ℕ → Packed → Packed
+takeBack w p = takeBackKind (w / kindUnit) (w % kindUnit) p
+
+pub record Shows (n : ℕ) (p : Packed) (s : Sheet) : Type 0 where
+  pub links : Linked (p .links) s
+  pub count : length (p .links) ≡ length (s .links)
+  pub locks : (r : ℕ) → getD (p .locks) r false ≡ isLocked s r
+  pub fit : Fit n s
+
+unfoldable pub Piled : ℕ → Packed → List ℕ → List Sheet → Type 0
+Piled n p [] [] = Unit {0}
+Piled n p [] (s ∷ ss) = ⊥
+Piled n p (w ∷ ws) [] = ⊥
+Piled n p (w ∷ ws) (s ∷ ss) = Shows n (takeBack w p) s × Piled n (takeBack w p) ws ss
