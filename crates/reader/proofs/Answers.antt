@@ -7,24 +7,22 @@
 --   empty-text               the empty text
 -- Assumes nothing.
 use mathlib.Core.Path.{_≡_, refl, sym, ap, _∙_}
-use mathlib.Core.List.{List, [], _∷_, _++_}
+use mathlib.Core.List.{List, [], _++_}
 use Prim.Native.Nat.{ℕ, zero, suc, _+_, _-_, _≤_, _<_}
 use native.Mathlib.Omega.{arith}
 use native.Mathlib.Nat.{zero-sub, suc-sub-suc, sub-zero}
 use lib.ListN.{length, drop, replicate, drop-of-length-le, length-replicate}
 use lib.Seq.{sets, sets-eq, drop-cons}
 use Rattle.book.specs.Causes.{firstNumber, number, maxBytes, maxLetters, maxDepth}
-use Rattle.paths.specs.Expressions.{Expr, letters, depth}
+use Rattle.paths.specs.Expressions.{letters, depth}
 use Rattle.paths.specs.Grammar.{Verdict, accepted, long, outside, large, verdictCause}
 use Rattle.paths.specs.Descent.{got, alternativesIn, readAlternatives}
 use Rattle.paths.specs.Verdicts.{verdict, verdict-more, verdict-letters, verdict-deep, verdict-accepted}
 use Rattle.reader.specs.Code.{code}
 use Rattle.reader.specs.declared.Spot.{Spot}
-use Rattle.reader.specs.declared.Answer.{Answer}
 use Rattle.reader.specs.declared.Answer.the-variants.{Accepted, Refused}
 use Rattle.reader.specs.declared.Reading.{Reading}
 use Rattle.reader.specs.Reads.{answerOf, codeArray, Reads}
-use Rattle.reader.specs.Progress.{Found}
 use Rattle.reader.proofs.Steps.{Gave}
 
 -- a refusal

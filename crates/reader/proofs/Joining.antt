@@ -7,15 +7,15 @@
 -- Assumes nothing.
 use mathlib.Core.Path.{_≡_, refl, sym, ap, _∙_, subst}
 use mathlib.Core.List.{List, [], _∷_, _++_}
-use mathlib.Core.Bool.{Bool, true, false}
-use Prim.Native.Nat.{ℕ, _+_, _-_, _≤_, _<_, max}
+use mathlib.Core.Bool.{true, false}
+use Prim.Native.Nat.{ℕ, _+_, _≤_, _<_, max}
 use native.Mathlib.Omega.{arith}
 use lib.Dec.{eqb}
 use lib.ListN.{length, drop, set, length-append}
 use lib.Seq.{sets}
 use borrow.Author.Tests.{eqb-true}
-use Rattle.paths.specs.Expressions.{Expr, alternative, sequence, letters, depth}
-use Rattle.paths.specs.Descent.{Parse, got, fault, firstByte, rest, then}
+use Rattle.paths.specs.Expressions.{Expr, letters, depth}
+use Rattle.paths.specs.Descent.{Parse, got, firstByte, rest, then}
 use Rattle.paths.specs.DescentWhole.{alternatives-is, more-alternatives-bar, more-alternatives-end, parts-is, more-parts-slash, more-parts-end}
 use Rattle.reader.specs.Code.{code}
 use Rattle.reader.specs.CodeLaws.{letters-code}

@@ -1,16 +1,17 @@
 -- The laws of one step of reading: what an inner reader has done, with one thing more.
 --   there, rest-drop         the byte at a place, and the bytes after it
 --   gave, missed             what was read, by what the reader answered
---   none-after, none-around  where nothing was read
---   marks, no-mark           a mark
---   inverts                  a ^ before
---   closes, not-closed       the ) of a group
+--   marks, inverts           a mark after it, or none; a ^ before
+--   closes, not-closed, none-closed
+--                            the ) of a group
 --   letter-there, no-atom    a letter, or no atom
 --   group-is, hat-is, plain-is
 --                            what the descent reads at ( and at ^
+--   fit, has-room, room-for-mark, room-for-hat, asks-kept, asks-next-byte, fits-after
+--                            what the steps ask, and that it is met
 -- Assumes nothing.
 use mathlib.Core.Path.{_≡_, refl, sym, ap, _∙_, subst}
-use mathlib.Core.Logic.{_⊎_, inl, inr, ⊎-elim}
+use mathlib.Core.Logic.{_⊎_, ⊎-elim}
 use mathlib.Core.List.{List, [], _∷_, _++_}
 use mathlib.Core.Bool.{Bool, true, false, _&&_}
 use Prim.Native.Nat.{ℕ, zero, suc, _+_, _-_, _≤_, _<_}
@@ -31,7 +32,7 @@ use Rattle.reader.specs.CodeLaws.{letters-code}
 use Rattle.reader.specs.declared.Spot.{Spot}
 use Rattle.reader.specs.declared.Parsed.{Parsed}
 use Rattle.reader.specs.declared.Parsed.the-variants.{Got, Fault}
-use Rattle.reader.specs.Progress.{Found, Done, none, some, Asks, Fit, Fits, Room, After, Around, markNumber}
+use Rattle.reader.specs.Progress.{Found, Done, none, some, Asks, Fit, Fits, RoomToWrap, Closes, markNumber, markOf, wrap, wrapCode}
 
 -- one byte on
 rest-suc : (p : ℕ) (s : List ℕ) → rest (drop p s) ≡ drop (suc p) s
@@ -95,18 +96,11 @@ module _ {k : Expr → List ℕ → Parse} {s : List ℕ} {at n : ℕ} {b a : Li
   pub missed : {r : Parsed} → r ≡ Fault → Done k s at n b a x r → x ≡ fault
   missed h d = subst (Back k s at n b a x) h (back d)
 
-pub fit : {s : List ℕ} {space : ℕ} {r : Parsed} {q : Spot} → r ≡ Got q → Fits s space r → Fit s space q
-fit {s} {space} h g = subst (Fits s space) h g
+pub fit : {s : List ℕ} {r : Parsed} {q : Spot} → r ≡ Got q → Fits s r → Fit s q
+fit {s} h g = subst (Fits s) h g
 
-pub has-room : {space : ℕ} {r : Parsed} {q : Spot} → r ≡ Got q → Room space r → q .end < space
-has-room {space} h g = subst (Room space) h g
-
--- where nothing was read
-pub none-after : {s a a′ : List ℕ} {r : Parsed} (k : Expr → List ℕ → Parse) → r ≡ Fault → After k s a a′ r Fault
-none-after k h = λ at n b x d. none (ap (on k) (missed h d))
-
-pub none-around : {s a a′ : List ℕ} {r : Parsed} (k : Expr → List ℕ → Parse) → r ≡ Fault → Around k s a a′ r Fault
-none-around k h = λ at n b x d. none (ap (on k) (missed h d))
+pub has-room : {space x : ℕ} (passed : ℕ) {r : Parsed} {q : Spot} → r ≡ Got q → RoomToWrap space x passed r → 0 < x → (q .end < space) × (q .at + passed ≤ space)
+has-room {space} {x} passed h g = subst (RoomToWrap space x passed) h g
 
 -- e′ is e with an operator of number x on it
 record Wraps (x : ℕ) (e e′ : Expr) : Type 0 where
@@ -160,37 +154,44 @@ mark-is c = go (eqb c asterisk) (eqb c plus-sign) (eqb c question-mark) refl ref
     go false false true f g h = let v = eqb-true c question-mark h in a-mark {x = op-optional} optional (omega arith) (omega arith) (λ e l w. mark-optional e l (ap (λ (t : ℕ). eqb t asterisk) w ∙ f) (ap (λ (t : ℕ). eqb t plus-sign) w ∙ g) (ap (λ (t : ℕ). eqb t question-mark) w ∙ h)) wraps-optional
     go false false false f g h = not-one (λ e l w. mark-none e l (ap (λ (t : ℕ). eqb t asterisk) w ∙ f) (ap (λ (t : ℕ). eqb t plus-sign) w ∙ g) (ap (λ (t : ℕ). eqb t question-mark) w ∙ h))
 
-module _ (s : List ℕ) {r : Parsed} {q : Spot} (is : r ≡ Got q) where
-  pub mark-inside : (x : ℕ) → x ≡ markNumber (firstByte (drop (q .at) s)) → 0 < x → q .at < length s
-  mark-inside x v h = go (firstByte (drop (q .at) s)) x refl (subst (MarkIs (firstByte (drop (q .at) s))) (sym v) (mark-is _)) h
-    where
-      go : (c x : ℕ) → firstByte (drop (q .at) s) ≡ c → MarkIs c x → 0 < x → q .at < length s
-      go c x w (a-mark M k j f g) h = there s (q .at) c w k
-      go c x w (not-one f) h = absurd (omega arith)
+mark-read : {s : List ℕ} {at n : ℕ} {b a : List ℕ} {x : Parse} {r : Parsed} → Done got s at n b a x r → Done got s at n b (wrapCode (markOf s r) r a) (then x readMark) (wrap (markOf s r) 1 r)
+mark-read (none h) = none (ap (on readMark) h)
+mark-read {s} {at} {n} {b} {a} {x} (some {q} e h f) = go (firstByte (drop (q .at) s)) (markNumber (firstByte (drop (q .at) s))) refl (mark-is _)
+  where
+    go : (c y : ℕ) → firstByte (drop (q .at) s) ≡ c → MarkIs c y → Done got s at n b (wrapCode y (Got q) a) (then x readMark) (wrap y 1 (Got q))
+    go c y w (a-mark M k j m u) =
+        let inside = there s (q .at) c w k in
+        rw (ne-eqb y 0 (λ z. omega arith))
+        (some (M e) (ap (on readMark) h ∙ m e (drop (q .at) s) w ∙ ap (got (M e)) (rest-drop s (q .at))) (one-more y at (q .at + 1) (M e) f (u e) (omega arith) (omega arith)))
+    go c y w (not-one m) = some e (ap (on readMark) h ∙ m e (drop (q .at) s) w) f
 
-  pub marks : {a : List ℕ} (x : ℕ) → x ≡ markNumber (firstByte (drop (q .at) s)) → 0 < x → After readMark s a (set a (q .end) x) r (Got (record { at = q .at + 1; end = q .end + 1; letters = q .letters; depth = q .depth }))
-  marks {a} x v h at n b y d =
-      let g = gave is d in
-      go (firstByte (drop (q .at) s)) x refl (subst (MarkIs (firstByte (drop (q .at) s))) (sym v) (mark-is _)) h g
-    where
-      go : {at n : ℕ} {b : List ℕ} {y : Parse} (c x : ℕ) → firstByte (drop (q .at) s) ≡ c → MarkIs c x → 0 < x → Gave got s at n b a y q → Done got s at n b (set a (q .end) x) (then y readMark) (Got (record { at = q .at + 1; end = q .end + 1; letters = q .letters; depth = q .depth }))
-      go {at} c x w (a-mark M k j f m) h g =
-          let i = there s (q .at) c w k in
-          some (M (g .e)) (ap (on readMark) (g .is) ∙ f (g .e) (drop (q .at) s) w ∙ ap (got (M (g .e))) (rest-drop s (q .at))) (one-more x at (q .at + 1) (M (g .e)) (g .found) (m (g .e)) (omega arith) (omega arith))
-      go c x w (not-one f) h g = absurd (omega arith)
-
-  pub no-mark : {a : List ℕ} → markNumber (firstByte (drop (q .at) s)) ≡ 0 → After readMark s a a r (Got q)
-  no-mark {a} v at n b y d = go (firstByte (drop (q .at) s)) (markNumber (firstByte (drop (q .at) s))) refl (mark-is _) v (gave is d)
-    where
-      go : {at n : ℕ} {b : List ℕ} {y : Parse} (c x : ℕ) → firstByte (drop (q .at) s) ≡ c → MarkIs c x → x ≡ 0 → Gave got s at n b a y q → Done got s at n b a (then y readMark) (Got q)
-      go c x w (a-mark M k j f m) v g = absurd (omega arith)
-      go c x w (not-one f) v g = some (g .e) (ap (on readMark) (g .is) ∙ f (g .e) (drop (q .at) s) w) (g .found)
+pub marks : {s : List ℕ} {at n : ℕ} {b a a′ : List ℕ} {x : Parse} {r q : Parsed} {y : ℕ} → y ≡ markOf s r → (q ≡ wrap y 1 r) × (a′ ≡ wrapCode y r a) → Done got s at n b a x r → Done got s at n b a′ (then x readMark) q
+marks h w d = rw (w .0, w .1, h) (mark-read d)
 
 -- a ^ before
-pub inverts : {a : List ℕ} {r : Parsed} {q : Spot} → r ≡ Got q → (s : List ℕ) → Around invertRead s a (set a (q .end) op-inverse) r (Got (record { at = q .at; end = q .end + 1; letters = q .letters; depth = q .depth }))
-inverts {q = q} is s at n b x d =
-    let g = gave is d in
-    some (inverse (g .e)) (ap (on invertRead) (g .is)) (one-more op-inverse at (q .at) (inverse (g .e)) (g .found) (wraps-inverse (g .e)) (g .found .inside) (omega arith))
+hat-read : {s : List ℕ} {at n : ℕ} {b a : List ℕ} {x : Parse} {r : Parsed} → Done got s (at + 1) n b a x r → Done got s at n b (wrapCode op-inverse r a) (then x invertRead) (wrap op-inverse 0 r)
+hat-read (none h) = none (ap (on invertRead) h)
+hat-read {s} {at} (some {q} e h f) =
+    some (inverse e) (ap (on invertRead) h ∙ ap (λ (p : ℕ). got (inverse e) (drop p s)) (let z : q .at ≡ q .at + 0 = omega arith in z)) (one-more op-inverse at (q .at + 0) (inverse e) f (wraps-inverse e) (omega (arith, f .inside)) (omega arith))
+
+pub inverts : {s : List ℕ} {at n : ℕ} {b a a′ : List ℕ} {x : Parse} {r q : Parsed} → (q ≡ wrap op-inverse 0 r) × (a′ ≡ wrapCode op-inverse r a) → Done got s (at + 1) n b a x r → Done got s at n b a′ (then x invertRead) q
+inverts w d = rw (w .0, w .1) (hat-read d)
+
+-- there is room for the numbers of a mark and of a ^
+mark-room : {s : List ℕ} {at n space : ℕ} {b a : List ℕ} {x : Parse} {r : Parsed} → Done got s at n b a x r → n ≤ at → length s ≤ space → RoomToWrap space (markOf s r) 1 r
+mark-room (none h) u g = tt
+mark-room {s} {space = space} (some {q} e h f) u g = λ k. go (firstByte (drop (q .at) s)) (markNumber (firstByte (drop (q .at) s))) refl (mark-is _) k
+  where
+    go : (c y : ℕ) → firstByte (drop (q .at) s) ≡ c → MarkIs c y → 0 < y → (q .end < space) × (q .at + 1 ≤ space)
+    go c y w (a-mark M k j m v) i = let inside = there s (q .at) c w k in (omega (arith, f .end-is, f .short), omega arith)
+    go c y w (not-one m) i = absurd (omega arith)
+
+pub room-for-mark : {s : List ℕ} {at n space : ℕ} {b a : List ℕ} {x : Parse} {r : Parsed} {y : ℕ} → y ≡ markOf s r → Done got s at n b a x r → n ≤ at → length s ≤ space → RoomToWrap space y 1 r
+room-for-mark h d u g = rw h (mark-room d u g)
+
+pub room-for-hat : {s : List ℕ} {at n space : ℕ} {b a : List ℕ} {x : Parse} {r : Parsed} → Done got s (at + 1) n b a x r → n ≤ at → length s ≤ space → RoomToWrap space op-inverse 0 r
+room-for-hat (none h) u g = tt
+room-for-hat (some e h f) u g = λ k. (omega (arith, f .end-is, f .short, f .inside), omega (arith, f .inside))
 
 -- the ) of a group
 grouped : {s : List ℕ} {at n : ℕ} {b a : List ℕ} {e : Expr} {q : Spot} → Found s (at + 1) n b a e q → q .at < length s → Found s at n b a (group e) (record { at = q .at + 1; end = q .end; letters = q .letters; depth = q .depth + 1 })
@@ -205,15 +206,18 @@ grouped f i = record {
   written = f .written;
 }
 
-pub closes : {s a : List ℕ} {r : Parsed} {q : Spot} → r ≡ Got q → firstByte (drop (q .at) s) ≡ close-group → Around readClose s a a r (Got (record { at = q .at + 1; end = q .end; letters = q .letters; depth = q .depth + 1 }))
-closes {s} {q = q} is v at n b x d =
+pub closes : {s : List ℕ} {r : Parsed} {q : Spot} → r ≡ Got q → firstByte (drop (q .at) s) ≡ close-group → Closes s r (Got (record { at = q .at + 1; end = q .end; letters = q .letters; depth = q .depth + 1 }))
+closes {s} {q = q} is v at n b a x d =
     let g = gave is d in
     some (group (g .e))
     (ap (on readClose) (g .is) ∙ if-true (eqb (firstByte (drop (q .at) s)) close-group) _ _ (eq-eqb _ _ v) ∙ ap (got (group (g .e))) (rest-drop s (q .at)))
     (grouped (g .found) (there s (q .at) close-group v (omega arith)))
 
-pub not-closed : {s a a′ : List ℕ} {r : Parsed} {q : Spot} → r ≡ Got q → (firstByte (drop (q .at) s) ≡ close-group → ⊥) → Around readClose s a a′ r Fault
-not-closed {s} {q = q} is v at n b x d = none (ap (on readClose) (gave is d .is) ∙ if-false (eqb (firstByte (drop (q .at) s)) close-group) _ _ (ne-eqb _ _ v))
+pub not-closed : {s : List ℕ} {r : Parsed} {q : Spot} → r ≡ Got q → (firstByte (drop (q .at) s) ≡ close-group → ⊥) → Closes s r Fault
+not-closed {s} {q = q} is v at n b a x d = none (ap (on readClose) (gave is d .is) ∙ if-false (eqb (firstByte (drop (q .at) s)) close-group) _ _ (ne-eqb _ _ v))
+
+pub none-closed : {s : List ℕ} {r : Parsed} → r ≡ Fault → Closes s r Fault
+none-closed h at n b a x d = none (ap (on readClose) (missed h d))
 
 -- a letter
 letter-found : {s : List ℕ} {at n : ℕ} {b : List ℕ} (k : ℕ) → at < length s → Found s at n b (set b n k) (symbol (letter k)) (record { at = at + 1; end = n + 1; letters = 1; depth = 0 })
@@ -259,11 +263,7 @@ asks-kept h k = record { inside = k .inside; behind = k .behind; space = omega (
 pub asks-next-byte : {s : List ℕ} {at n : ℕ} {a : List ℕ} → at < length s → Asks s at n a → Asks s (at + 1) n a
 asks-next-byte h k = record { inside = omega arith; behind = omega (arith, k .behind); space = k .space }
 
--- what the steps after a reading ask
-pub fits-after : {k : Expr → List ℕ → Parse} {s : List ℕ} {at n space : ℕ} {b a : List ℕ} {x : Parse} {r : Parsed} → Done k s at n b a x r → n ≤ at → length s ≤ space → Fits s space r
-fits-after (none h) u g = tt
-fits-after (some e h f) u g = record { inside = f .inside; behind = omega (arith, f .end-is, f .short); flat = omega (arith, f .flat, f .depth-is); room = g }
-
-pub room-after : {k : Expr → List ℕ → Parse} {s : List ℕ} {at n space : ℕ} {b a : List ℕ} {x : Parse} {r : Parsed} → Done k s (at + 1) n b a x r → n ≤ at → length s ≤ space → Room space r
-room-after (none h) u g = tt
-room-after (some e h f) u g = omega (arith, f .end-is, f .short, f .inside)
+-- what the ) of a group asks
+pub fits-after : {k : Expr → List ℕ → Parse} {s : List ℕ} {at n : ℕ} {b a : List ℕ} {x : Parse} {r : Parsed} → Done k s at n b a x r → Fits s r
+fits-after (none h) = tt
+fits-after (some e h f) = record { inside = f .inside; flat = omega (arith, f .flat, f .depth-is) }

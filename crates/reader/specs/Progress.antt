@@ -6,31 +6,33 @@
 --                   r is what x is, where k is what is left to do: `got` if nothing is
 --   Asks s at n code
 --                   what an inner reader asks: the code is not ahead of the text, and is no shorter
---   Fits, Room, RoomToJoin
+--   Fits, RoomToJoin, RoomToWrap
 --                   what the steps after a reading ask
---   After k, Around k
---                   r was read, and q is that with k done; Around: with the byte before it
 --   Infix           the two operators that stand between expressions; of each the byte, the number, the expression that it makes of two, and what
 --                   the descent reads: between two of its bytes, in all, and from the first on
---   comesNext s r b, spotOf r, markNumber c
---                   what three small functions give
---   bytesLeft s r   a number that falls with each step of a loop
+--   comesNext s r b, spotOf r
+--                   whether the byte b comes after what was read, and where that ends
+--   bytesLeft s r   a number that falls with each turn of a loop
 --   Joins x first next code code′ r
 --                   r is `first` and `next` as one expression, joined by the operator of number x
 --   Since o s at n first₀ code₀ first code
 --                   `first` is what the operator's loop has read, told from what was read before it
+--   markOf s r      the number of the mark after what was read, or 0
+--   wrap x passed r, wrapCode x r code
+--                   what was read with the operator x on it, if x is not 0, and the code with its number
+--   Closes s r q    q is the group whose inside is r
 -- Assumes nothing: these are definitions.
 use mathlib.Core.Path.{_≡_}
 use mathlib.Core.List.{List}
 use mathlib.Core.Bool.{Bool, true, false}
 use Prim.Native.Nat.{ℕ, _+_, _-_, _<_, _≤_}
 use lib.Dec.{eqb}
-use lib.ListN.{length, drop}
+use lib.ListN.{length, drop, set}
 use lib.Seq.{sets}
 use Rattle.book.specs.Basics.{pick}
 use Rattle.paths.specs.Expressions.{Expr, alternative, sequence, letters, depth}
 use Rattle.paths.specs.Grammar.{bar, slash, asterisk, plus-sign, question-mark}
-use Rattle.paths.specs.Descent.{Parse, got, fault, firstByte, then, readAlternatives, readMoreAlternatives, readParts, readMoreParts, readPart}
+use Rattle.paths.specs.Descent.{Parse, got, fault, firstByte, then, readClose, readAlternatives, readMoreAlternatives, readParts, readMoreParts, readPart}
 use Rattle.reader.specs.Code.{op-star, op-plus, op-optional, op-alternative, op-sequence, code}
 use Rattle.reader.specs.declared.Spot.{Spot}
 use Rattle.reader.specs.declared.Parsed.{Parsed}
@@ -54,30 +56,22 @@ pub record Asks (s : List ℕ) (at n : ℕ) (code : List ℕ) : Type 0 where
   pub behind : n ≤ at
   pub space : length s ≤ length code
 
-pub record Fit (s : List ℕ) (space : ℕ) (q : Spot) : Type 0 where
+pub record Fit (s : List ℕ) (q : Spot) : Type 0 where
   pub inside : q .at ≤ length s
-  pub behind : q .end ≤ q .at
   pub flat : q .depth ≤ q .at
-  pub room : length s ≤ space
 
-abbrev pub Fits : List ℕ → ℕ → Parsed → Type 0
-Fits s space Fault = Unit {0}
-Fits s space (Got q) = Fit s space q
-
-abbrev pub Room : ℕ → Parsed → Type 0
-Room space Fault = Unit {0}
-Room space (Got q) = q .end < space
+abbrev pub Fits : List ℕ → Parsed → Type 0
+Fits s Fault = Unit {0}
+Fits s (Got q) = Fit s q
 
 abbrev pub RoomToJoin : ℕ → Parsed → Parsed → Type 0
 RoomToJoin space Fault next = Unit {0}
 RoomToJoin space (Got p) Fault = Unit {0}
 RoomToJoin space (Got p) (Got q) = (q .end < space) × (p .letters + q .letters ≤ space)
 
-abbrev pub After : (Expr → List ℕ → Parse) → List ℕ → List ℕ → List ℕ → Parsed → Parsed → Type 0
-After k s code code′ r q = (at n : ℕ) (before : List ℕ) (x : Parse) → Done got s at n before code x r → Done got s at n before code′ (then x k) q
-
-abbrev pub Around : (Expr → List ℕ → Parse) → List ℕ → List ℕ → List ℕ → Parsed → Parsed → Type 0
-Around k s code code′ r q = (at n : ℕ) (before : List ℕ) (x : Parse) → Done got s (at + 1) n before code x r → Done got s at n before code′ (then x k) q
+abbrev pub RoomToWrap : ℕ → ℕ → ℕ → Parsed → Type 0
+RoomToWrap space x passed Fault = Unit {0}
+RoomToWrap space x passed (Got q) = 0 < x → (q .end < space) × (q .at + passed ≤ space)
 
 pub data Infix : Type 0 where
   of-alternatives of-parts : Infix
@@ -130,3 +124,18 @@ Since o s at n first₀ code₀ first code = (before : List ℕ) → Done got s 
 
 abbrev pub markNumber : ℕ → ℕ
 markNumber c = pick (eqb c asterisk) op-star (pick (eqb c plus-sign) op-plus (pick (eqb c question-mark) op-optional 0))
+
+abbrev pub markOf : List ℕ → Parsed → ℕ
+markOf s Fault = 0
+markOf s (Got q) = markNumber (firstByte (drop (q .at) s))
+
+abbrev pub wrap : ℕ → ℕ → Parsed → Parsed
+wrap x passed Fault = Fault
+wrap x passed (Got q) = pick (eqb x 0) (Got q) (Got (record { at = q .at + passed; end = q .end + 1; letters = q .letters; depth = q .depth }))
+
+abbrev pub wrapCode : ℕ → Parsed → List ℕ → List ℕ
+wrapCode x Fault code = code
+wrapCode x (Got q) code = pick (eqb x 0) code (set code (q .end) x)
+
+abbrev pub Closes : List ℕ → Parsed → Parsed → Type 0
+Closes s r q = (at n : ℕ) (before code : List ℕ) (x : Parse) → Done got s (at + 1) n before code x r → Done got s at n before code (then x readClose) q

@@ -1,13 +1,12 @@
 // The expression reader: alternatives, sequences and parts read one another through a group, over lent bytes and a position.
 // What is written is the postfix code of the expression, in its own numbers. A code is no longer than its text, so there is always room.
 ghost use mathlib.Core.Path.{_≡_};
-ghost use mathlib.Core.List.{List};
-ghost use Prim.Native.Nat.{ℕ, _+_, _<_, max};
+ghost use Prim.Native.Nat.{_+_, _<_, max};
 ghost use lib.ListN.{length, drop, set, replicate};
-ghost use Rattle.paths.specs.Descent.{got, firstByte, readMark, readClose, invertRead, readAlternatives, readParts, readPart, readAtom};
+ghost use Rattle.paths.specs.Descent.{got, firstByte, readAlternatives, readParts, readPart, readAtom};
 ghost use Rattle.reader.specs.Reads.{Reads};
 ghost use Rattle.reader.specs.declared.Answer.the-variants.{Refused};
-ghost use Rattle.reader.specs.Progress.{Done, Asks, Fits, Room, RoomToJoin, After, Around, Joins, comesNext, spotOf, markNumber};
+ghost use Rattle.reader.specs.Progress.{Done, Asks, Fits, RoomToJoin, RoomToWrap, Joins, Closes, comesNext, spotOf, markOf, wrap, wrapCode};
 
 // The numbers of the operators; a label is its own number.
 const INVERSE: u8 = 26;
@@ -29,7 +28,14 @@ const MAX_LETTERS: usize = 63;
 
 const MAX_DEPTH: usize = 8;
 
-// Where an expression that was read ends in the text and its code in the code; its letters, and how deep its groups are nested.
+// The numbers of the causes.
+const NO_EXPRESSION: u8 = 9;
+
+const TOO_MANY_BYTES: u8 = 10;
+
+const TOO_LARGE: u8 = 10;
+
+// An expression that was read: where it ends in the text and in the code, how many letters it has, and how deep its groups are nested.
 struct Spot {
     at: usize,
     end: usize,
@@ -75,7 +81,7 @@ fn comes_next(s: &[u8], r: Parsed, b: u8) -> bool
     peek(s, q.at) == b
 }
 
-// Where what was read ends.
+// The expression that was read, or zeros if none was.
 fn ends_at(r: Parsed) -> Spot
     ensures { λ q. ⌜ q ≡ spotOf r ⌝ }
 {
@@ -138,18 +144,20 @@ fn sequence(s: &[u8], at: usize, code: &mut [u8], n: usize) -> Parsed
     first
 }
 
-// An optional ^, then a letter or a group, then at most one mark.
+// An optional ^, then a letter or a group, then at most one mark. The mark belongs to the letter or group, and the ^ to both.
 fn part(s: &[u8], at: usize, code: &mut [u8], n: usize) -> Parsed
     requires { ⌜ Asks (now s) at n (now code) ⌝ }
     ensures { λ r. ⌜ Done got (now (s .entry)) at n (now (code .entry)) (now (code .exit)) (readPart (drop at (now (s .entry)))) r ⌝ }
 {
     if peek(s, at) == b'^' {
         let r = atom(s, at + 1, code, n);
-        let q = marked(s, code, r);
-        inverted(code, q)
+        let mark = mark_after(s, r);
+        let q = wrapped(code, r, mark, 1);
+        wrapped(code, q, INVERSE, 0)
     } else {
         let r = atom(s, at, code, n);
-        marked(s, code, r)
+        let mark = mark_after(s, r);
+        wrapped(code, r, mark, 1)
     }
 }
 
@@ -178,10 +186,14 @@ fn atom(s: &[u8], at: usize, code: &mut [u8], n: usize) -> Parsed
     })
 }
 
-// The number of a mark's operator, or 0 if the byte is no mark.
-fn mark_number(c: u8) -> u8
-    ensures { λ r. ⌜ r ≡ markNumber c ⌝ }
+// The number of the mark's operator that comes after what was read, or 0 if no mark does.
+fn mark_after(s: &[u8], r: Parsed) -> u8
+    ensures { λ x. ⌜ x ≡ markOf (now (s .entry)) r ⌝ }
 {
+    let Parsed::Got(p) = r else {
+        return 0;
+    };
+    let c = peek(s, p.at);
     if c == b'*' {
         return STAR;
     }
@@ -194,38 +206,20 @@ fn mark_number(c: u8) -> u8
     0
 }
 
-// What was read, with the mark after it, if there is one.
-fn marked(s: &[u8], code: &mut [u8], r: Parsed) -> Parsed
-    requires { ⌜ Fits (now s) (length (now code)) r ⌝ }
-    ensures { λ q. ⌜ After readMark (now (s .entry)) (now (code .entry)) (now (code .exit)) r q ⌝ }
+// What was read with the operator of number x on it, its text `passed` bytes longer; as it is if x is 0.
+fn wrapped(code: &mut [u8], r: Parsed, x: u8, passed: usize) -> Parsed
+    requires { ⌜ RoomToWrap (length (now code)) x passed r ⌝ }
+    ensures { λ q. ⌜ (q ≡ wrap x passed r) × (now (code .exit) ≡ wrapCode x r (now (code .entry))) ⌝ }
 {
     let Parsed::Got(p) = r else {
         return Parsed::Fault;
     };
-    let x = mark_number(peek(s, p.at));
     if x == 0 {
         return r;
     }
     let end = push(code, p.end, x);
     Parsed::Got(Spot {
-        at: p.at + 1,
-        end,
-        letters: p.letters,
-        depth: p.depth,
-    })
-}
-
-// What was read after a ^.
-fn inverted(code: &mut [u8], r: Parsed) -> Parsed
-    requires { ⌜ Room (length (now code)) r ⌝ }
-    ensures { λ q. ⌜ ((s : List ℕ) → Around invertRead s (now (code .entry)) (now (code .exit)) r q) ⌝ }
-{
-    let Parsed::Got(p) = r else {
-        return Parsed::Fault;
-    };
-    let end = push(code, p.end, INVERSE);
-    Parsed::Got(Spot {
-        at: p.at,
+        at: p.at + passed,
         end,
         letters: p.letters,
         depth: p.depth,
@@ -234,8 +228,8 @@ fn inverted(code: &mut [u8], r: Parsed) -> Parsed
 
 // What was read after a (, with the ) after it.
 fn closed(s: &[u8], r: Parsed) -> Parsed
-    requires { ⌜ Fits (now s) (length (now s)) r ⌝ }
-    ensures { λ q. ⌜ ((c : List ℕ) → Around readClose (now (s .entry)) c c r q) ⌝ }
+    requires { ⌜ Fits (now s) r ⌝ }
+    ensures { λ q. ⌜ Closes (now (s .entry)) r q ⌝ }
 {
     let Parsed::Got(p) = r else {
         return Parsed::Fault;
@@ -264,6 +258,7 @@ pub struct Reading {
     pub code: [u8; 256],
 }
 
+// A refusal, with no code.
 fn refused(number: u8) -> Reading
     ensures { λ r. ⌜ (r .answer ≡ Refused number) × (r .code ≡ replicate 256 0) ⌝ }
 {
@@ -278,21 +273,21 @@ fn whole(s: &[u8]) -> Reading
     ensures { λ r. ⌜ Reads (now (s .entry)) r ⌝ }
 {
     if MAX_BYTES < s.len() {
-        return refused(10);
+        return refused(TOO_MANY_BYTES);
     }
     let mut code = [0u8; 256];
     let r = alternatives(s, 0, &mut code, 0);
     let Parsed::Got(q) = r else {
-        return refused(9);
+        return refused(NO_EXPRESSION);
     };
     if q.at < s.len() {
-        return refused(9);
+        return refused(NO_EXPRESSION);
     }
     if MAX_LETTERS < q.letters {
-        return refused(10);
+        return refused(TOO_LARGE);
     }
     if MAX_DEPTH < q.depth {
-        return refused(10);
+        return refused(TOO_LARGE);
     }
     Reading {
         answer: Answer::Accepted(q.end),
@@ -308,7 +303,7 @@ pub fn read_at(src: &[u8], at: usize) -> Reading
         let text = &src[at..];
         whole(text)
     } else {
-        refused(9)
+        refused(NO_EXPRESSION)
     }
 }
 

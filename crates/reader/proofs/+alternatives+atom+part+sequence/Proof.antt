@@ -33,8 +33,9 @@ pub +alternatives+atom+part+sequence-spec : {M : Type 1} → statement M
     (atom.returns t) (atom.returns-2 t) (atom.returns-3 t) (atom.push-requires t) (atom.add-t15 t) (atom.same-length-2 t)
     (atom.returns-4 t))
     (λ t. part-lts.spec (part.calls t) (part-at t) part-reads.Post
-    (part.peek-requires t) (part.add-atom t) (part.atom-requires t) (part.marked-requires t) (part.inverted-requires t)
-    (part.atom-requires-2 t) (part.marked-requires-2 t) (part.same-length t) (part.returns t) (part.same-length-2 t) (part.returns-2 t))
+    (part.peek-requires t) (part.add-atom t) (part.atom-requires t) (part.mark-after-requires t) (part.wrapped-requires t)
+    (part.wrapped-requires-2 t) (part.atom-requires-2 t) (part.mark-after-requires-2 t) (part.wrapped-requires-3 t) (part.same-length t)
+    (part.returns t) (part.same-length-2 t) (part.returns-2 t))
     (λ t. sequence-lts.spec (sequence.calls t) (sequence-at t) sequence-reads.Post sequence.Inv-loop sequence.μ-loop
     (sequence.part-requires t) (sequence.loop-holds t) (sequence.comes-next-requires t) (sequence.ends-at-requires t)
     (sequence.add-part t) (sequence.part-requires-2 t) (sequence.joined-requires t) (sequence.loop-less t) (sequence.loop-again t)

@@ -5,8 +5,7 @@ use native.Mathlib.Omega.{arith}
 use lib.ListN.{length}
 use borrow.Author.Needs.{needs}
 use Rattle.paths.specs.Grammar.{close-group}
-use Rattle.paths.specs.Descent.{readClose}
-use Rattle.reader.proofs.Steps.{there, fit, none-around, closes, not-closed}
+use Rattle.reader.proofs.Steps.{there, fit, none-closed, closes, not-closed}
 use Rattle.reader.proofs.closed.Statement.{statement}
 use Rattle.reader.proofs.closed.Tie as tie
 
@@ -17,7 +16,7 @@ enum-told : tie.Need-enum-told
 enum-told c = search needs
 
 returns : tie.Need-returns
-returns c = λ code. none-around readClose (c .enum-told .given .1)
+returns c = none-closed (c .enum-told .given .1)
 
 peek-requires : tie.Need-peek-requires
 peek-requires c κs = search needs
@@ -33,10 +32,10 @@ add-t8 : tie.Need-add-t8
 add-t8 c = let h = inside (c .before .before) in omega arith
 
 returns-2 : tie.Need-returns-2
-returns-2 c = λ code. closes (c .before .before .before .before .before .r .given .1) (sym (c .before .before .before .peek .ensures) ∙ c .before .before .if1 .taken)
+returns-2 c = closes (c .before .before .before .before .before .r .given .1) (sym (c .before .before .before .peek .ensures) ∙ c .before .before .if1 .taken)
 
 returns-3 : tie.Need-returns-3
-returns-3 c = λ code. not-closed (c .before .before .before .r .given .1) (λ e. c .if1 .left (c .before .peek .ensures ∙ e))
+returns-3 c = not-closed (c .before .before .before .r .given .1) (λ e. c .if1 .left (c .before .peek .ensures ∙ e))
 
 pub closed-spec : {M : Type 1} → statement M
 closed-spec = tie.close (tie.spec enum-known-r enum-told returns peek-requires add-t7 add-t8 returns-2 returns-3)

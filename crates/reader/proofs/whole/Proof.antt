@@ -1,11 +1,7 @@
 -- `reader::whole` meets its contract: each return by the verdict's law for it. Assumes nothing.
-use Prim.Native.Nat.{_≤_}
-use native.Mathlib.Omega.{arith}
-use lib.ListN.{length}
 use borrow.Author.Needs.{needs}
-use Rattle.book.specs.Causes.{maxBytes}
 use Rattle.paths.specs.Verdicts.{verdict-long, verdict-none}
-use Rattle.reader.proofs.Steps.{Gave, gave, missed}
+use Rattle.reader.proofs.Steps.{gave, missed}
 use Rattle.reader.proofs.Answers.{refuses-long, refuses-outside, refuses-large, more-bytes, many-letters, too-deep, accepts}
 use Rattle.reader.proofs.whole.Statement.{statement}
 use Rattle.reader.proofs.whole.Tie as tie

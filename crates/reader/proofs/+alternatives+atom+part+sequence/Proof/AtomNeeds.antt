@@ -1,7 +1,7 @@
 -- The needs of `atom`: a group at a (, else a letter, else nothing. Assumes nothing.
 use mathlib.Core.Path.{_≡_, sym, _∙_}
 use mathlib.Core.Logic.{inl, inr}
-use Prim.Native.Nat.{ℕ, _<_, _≤_}
+use Prim.Native.Nat.{ℕ, _<_}
 use native.Mathlib.Omega.{arith}
 use lib.ListN.{length, drop}
 use borrow.Author.Needs.{needs}
@@ -60,7 +60,7 @@ module _ (t : ℕ) where
   alternatives-requires c κs = let h = inside (c .before) in (omega arith, asks-next-byte h (c .before .before .before .before .before .pre .1))
 
   pub closed-requires : atom-lts.Need-closed-requires (calls t) (atom-at t) atom.Post
-  closed-requires c κs = let asked = c .before .before .before .before .before .before .before .before .pre .1 in fits-after (c .before .before .alternatives .ensures) (omega arith) (omega arith)
+  closed-requires c κs = fits-after (c .before .before .alternatives .ensures)
 
   pub same-length : atom-lts.Need-same-length (calls t) (atom-at t) atom.Post
   same-length c = c .before .before .before .alternatives .kept .1 .1 .0

@@ -1,0 +1,47 @@
+-- `reader::mark_after` meets its contract: its tests are those of `markNumber`, on the byte at the place reached. Assumes nothing.
+use mathlib.Core.Path.{_≡_, sym, ap, _∙_}
+use borrow.Author.Needs.{needs}
+use borrow.Author.Tests.{eq-eqb, ne-eqb}
+use Rattle.reader.specs.Code.{op-star, op-plus, op-optional}
+use Rattle.reader.specs.Progress.{markNumber, markOf}
+use Rattle.reader.proofs.mark_after.Statement.{statement}
+use Rattle.reader.proofs.mark_after.Tie as tie
+
+enum-known-r : tie.Need-enum-known-r
+enum-known-r c = search needs
+
+enum-told : tie.Need-enum-told
+enum-told c = search needs
+
+returns : tie.Need-returns
+returns c = search needs
+
+peek-requires : tie.Need-peek-requires
+peek-requires c κs = search needs
+
+-- the mark after what was read is that of the byte
+of-byte : (c : tie.After-peek) → markNumber (c .peek .result) ≡ markOf (c .before .before .before .before .before .args .s .now) (c .before .before .before .before .before .args .r)
+of-byte c = ap markNumber (c .peek .ensures) ∙ sym (ap (markOf (c .before .before .before .before .before .args .s .now)) (c .before .before .r .given .1))
+
+returns-2 : tie.Need-returns-2
+returns-2 c =
+    let number : markNumber (c .before .peek .result) ≡ op-star = rw (eq-eqb _ _ (c .if1 .taken)) in
+    sym number ∙ of-byte (c .before)
+
+returns-3 : tie.Need-returns-3
+returns-3 c =
+    let number : markNumber (c .before .before .peek .result) ≡ op-plus = rw (ne-eqb _ _ (c .before .if1 .left), eq-eqb _ _ (c .if2 .taken)) in
+    sym number ∙ of-byte (c .before .before)
+
+returns-4 : tie.Need-returns-4
+returns-4 c =
+    let number : markNumber (c .before .before .before .peek .result) ≡ op-optional = rw (ne-eqb _ _ (c .before .before .if1 .left), ne-eqb _ _ (c .before .if2 .left), eq-eqb _ _ (c .if3 .taken)) in
+    sym number ∙ of-byte (c .before .before .before)
+
+returns-5 : tie.Need-returns-5
+returns-5 c =
+    let number : markNumber (c .before .before .before .peek .result) ≡ 0 = rw (ne-eqb _ _ (c .before .before .if1 .left), ne-eqb _ _ (c .before .if2 .left), ne-eqb _ _ (c .if3 .left)) in
+    sym number ∙ of-byte (c .before .before .before)
+
+pub mark-after-spec : {M : Type 1} → statement M
+mark-after-spec = tie.close (tie.spec enum-known-r enum-told returns peek-requires returns-2 returns-3 returns-4 returns-5)

@@ -1,0 +1,41 @@
+-- `reader::wrapped` meets its contract: one number more, or none if it is 0. Assumes nothing.
+use mathlib.Core.Path.{refl}
+use Prim.Native.Nat.{_+_, _<_, _≤_}
+use native.Mathlib.Omega.{arith}
+use lib.ListN.{length}
+use borrow.Author.Needs.{needs}
+use borrow.Author.Tests.{eq-eqb, ne-eqb}
+use Rattle.reader.proofs.Steps.{has-room}
+use Rattle.reader.proofs.wrapped.Statement.{statement}
+use Rattle.reader.proofs.wrapped.Tie as tie
+
+enum-known-r : tie.Need-enum-known-r
+enum-known-r c = search needs
+
+enum-told : tie.Need-enum-told
+enum-told c = search needs
+
+returns : tie.Need-returns
+returns c = search needs
+
+returns-2 : tie.Need-returns-2
+returns-2 c = rw (c .before .before .r .given .1, eq-eqb _ _ (c .if1 .taken)) (refl, refl)
+
+-- there is room for the number, and the place fits
+room : (c : tie.Else1) → (c .before .before .r .given .0 .0 .end < length (c .before .before .before .before .before .args .code .now)) × (c .before .before .r .given .0 .0 .at + c .before .before .before .before .before .args .passed ≤ length (c .before .before .before .before .before .args .code .now))
+room c = has-room (c .before .before .before .before .before .args .passed) (c .before .before .r .given .1) (c .before .before .before .before .before .pre) (omega (arith, c .if1 .left))
+
+push-requires : tie.Need-push-requires
+push-requires c κs = room (c .before) .0
+
+add-t10 : tie.Need-add-t10
+add-t10 c = let h = room (c .before .before .before .before .before) in omega arith
+
+same-length : tie.Need-same-length
+same-length c = search needs
+
+returns-3 : tie.Need-returns-3
+returns-3 c = rw (c .before .before .before .before .before .before .before .r .given .1, ne-eqb _ _ (c .before .before .before .before .before .if1 .left), c .before .before .before .push .ensures .0, c .before .before .before .push .ensures .1) (refl, refl)
+
+pub wrapped-spec : {M : Type 1} → statement M
+wrapped-spec = tie.close (tie.spec enum-known-r enum-told returns returns-2 push-requires add-t10 same-length returns-3)
