@@ -13,7 +13,8 @@ use Rattle.paths.specs.Chains.{Graph, Step, crossing}
 use Rattle.paths.specs.ChainLaws.{Inside, crossing-in, crossing-label}
 use Rattle.automaton.specs.Automata.{On}
 use Rattle.automaton.specs.Masks.{letterNumber}
-use Rattle.search.specs.Arcs.{linkOf, Spans, arcOf, arcLetter, arcFrom, arcTo, odd, letterOf, arcStep, crossingAt, Crossings, Drawn}
+use Rattle.register.specs.Links.{linkOf}
+use Rattle.search.specs.Arcs.{Spans, arcOf, arcLetter, arcFrom, arcTo, odd, letterOf, arcStep, crossingAt, Crossings, Drawn}
 use Rattle.search.proofs.LowestLaws.{none-on}
 
 -- ---- the words

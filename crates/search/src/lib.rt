@@ -295,6 +295,17 @@ pub fn first_chain(
     if out.len() < steps {
         return Found::Short;
     }
-    forward(&arcs.words, arcs.count, follow, enter, work, &levels.seen, n, x, steps, out);
+    forward(
+        &arcs.words,
+        arcs.count,
+        follow,
+        enter,
+        work,
+        &levels.seen,
+        n,
+        x,
+        steps,
+        out,
+    );
     Found::Steps(steps)
 }

@@ -41,7 +41,7 @@ array-write-cur : tie.Need-array-write-cur Inv-loop μ-loop
 array-write-cur c = omega arith
 
 loop-holds : tie.Need-loop-holds Inv-loop μ-loop
-loop-holds c = 
+loop-holds c =
     let s = c .before .before .before .before .before .before .before .before .args in
     let long : length (set (replicate 1024 0) (s .y) (s .fin)) ≡ 1024 = simp length-set (length-replicate {A = ℕ} 1024 0) in
     (refl, long, long, omega arith, λ g M fs S. level-start S (c .before .before .stamp .ensures) (set (replicate 1024 0) (s .y) (s .fin)) (mask-here 1024 (s .y) (s .fin) (omega arith)) (mask-off 1024 (s .y) (s .fin)))
@@ -71,7 +71,7 @@ add-commit : tie.Need-add-commit Inv-loop μ-loop
 add-commit c = omega (arith, ones-most (c .before .before .before .before .before .before .before .loop .seen) (c .before .before .before .before .before .before .before .before .before .before .before .before .before .before .before .before .args .n * 64))
 
 commit-requires : tie.Need-commit-requires Inv-loop μ-loop
-commit-requires c κs = 
+commit-requires c κs =
     let k : length (c .before .before .before .before .before .before .before .before .before .before .stamp .last .0) ≡ length (c .before .before .before .before .before .before .before .before .before .before .before .before .before .before .before .before .args .work .now) = c .before .before .before .before .before .before .before .before .before .before .stamp .kept .0 in
     let p = c .before .before .before .before .before .before .before .before .before .before .before .before .before .before .before .before .pre in
     let i = c .before .before .before .before .before .before .before .loop .inv in
@@ -82,21 +82,21 @@ same-length : tie.Need-same-length Inv-loop μ-loop
 same-length c = c .before .before .before .before .commit .kept .0 ∙ c .before .before .before .before .before .before .before .before .before .before .before .before .loop .inv .0 ∙ c .before .before .before .before .before .before .before .before .before .before .before .before .before .before .before .stamp .kept .0
 
 returns : tie.Need-returns Inv-loop μ-loop
-returns c = 
+returns c =
     let s = c .before .before .before .before .before .before .before .before .before .before .before .before .before .before .before .before .before .before .before .before .before .args in
     let l = c .before .before .before .before .before .before .before .before .before .before .before .before .loop in
     let nx = c .before .before .before .before .before .before .before .before .level in
     let done = c .before .before .before .before .commit in
     let two : l .l + 2 ≡ suc (suc (l .l)) = omega arith in
     λ g M fs S.
-      let any : Any (nx .result) (s .n) false = rw (not-true (done .result) (c .if1 .taken)) at (done .ensures .1) in
-      nowhere (level-empty S (l .inv .4 g M fs S) (nx .ensures) (rw two at (done .ensures .0)) (s .x) (c .before .before .before .before .before .before .before .before .before .before .before .before .before .before .before .before .before .before .before .before .before .pre .4) (digit-zero _ ∙ c .before .before .before .before .before .before .before .before .before .before .before .loop-test .taken) any)
+    let any : Any (nx .result) (s .n) false = rw (not-true (done .result) (c .if1 .taken)) at (done .ensures .1) in
+    nowhere (level-empty S (l .inv .4 g M fs S) (nx .ensures) (rw two at (done .ensures .0)) (s .x) (c .before .before .before .before .before .before .before .before .before .before .before .before .before .before .before .before .before .before .before .before .before .pre .4) (digit-zero _ ∙ c .before .before .before .before .before .before .before .before .before .before .before .loop-test .taken) any)
 
 add-l : tie.Need-add-l Inv-loop μ-loop
 add-l c = omega (arith, ones-most (c .before .before .before .before .before .before .before .before .before .before .before .before .loop .seen) (c .before .before .before .before .before .before .before .before .before .before .before .before .before .before .before .before .before .before .before .before .before .args .n * 64))
 
 loop-less : tie.Need-loop-less Inv-loop μ-loop
-loop-less c = 
+loop-less c =
     let s = c .before .before .before .before .before .before .before .before .before .before .before .before .before .before .before .before .before .before .before .before .before .args in
     let l = c .before .before .before .before .before .before .before .before .before .before .before .before .loop in
     let nx = c .before .before .before .before .before .before .before .before .level in
@@ -107,7 +107,7 @@ loop-less c =
     omega (arith, ones-most (done .last .1 .0) (s .n * 64))
 
 loop-again : tie.Need-loop-again Inv-loop μ-loop
-loop-again c = 
+loop-again c =
     let s = c .before .before .before .before .before .before .before .before .before .before .before .before .before .before .before .before .before .before .before .before .before .args in
     let l = c .before .before .before .before .before .before .before .before .before .before .before .before .loop in
     let nx = c .before .before .before .before .before .before .before .before .level in
@@ -132,7 +132,7 @@ same-length-2 c = c .before .before .loop .inv .0 ∙ c .before .before .before 
 
 returns-2 : tie.Need-returns-2 Inv-loop μ-loop
 unfolding numberAt
-returns-2 c = 
+returns-2 c =
     let s = c .before .before .before .before .before .before .before .before .before .before .before .args in
     let l = c .before .before .loop in
     let z : s .x * 64 + 0 ≡ s .x * 64 = omega arith in

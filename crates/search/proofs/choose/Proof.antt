@@ -69,7 +69,7 @@ loop-less c = omega arith
 
 loop-again : tie.Need-loop-again Inv-loop μ-loop
 unfolding arcFrom arcTo arcLetter
-loop-again c = 
+loop-again c =
     let l = c .before .before .before .loop in
     ⊎-elim
     (λ w. (omega arith, rw (w .5) (chosen-more (l .inv .1) (w .3 .result) (w .0 .taken) (w .3 .ensures) (w .4 .ensures))))

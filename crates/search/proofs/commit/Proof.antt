@@ -52,7 +52,7 @@ loop-less : tie.Need-loop-less Inv-loop μ-loop
 loop-less c = omega arith
 
 loop-again : tie.Need-loop-again Inv-loop μ-loop
-loop-again c = 
+loop-again c =
     let l = c .before .before .before .loop in
     ⊎-elim
     (λ w. (omega arith, rw (w .6) (w .2 .kept .0 ∙ l .inv .1), rw (w .7) (simp length-set (l .inv .2)), rw (w .6, w .7) (commit-yes (l .inv .3) (w .2 .ensures) (omega arith)), rw (w .8) (any-yes _ (l .r) (omega (arith, w .0 .taken)) (c .before .shared-slice-known2 .given (l .r) .fits))))

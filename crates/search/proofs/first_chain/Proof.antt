@@ -34,14 +34,16 @@ same-length : tie.Need-same-length
 same-length c = search needs
 
 returns : tie.Need-returns
-returns c = 
+returns c =
     let s = c .before .before .before .before .before .before .before .before .before .before .before .before .before .before .before .args in
     let p = c .before .before .before .before .before .before .before .before .before .before .before .before .before .before .before .pre in
     let a = c .before .before .before .before .before .before .before .before .arcs-of .ensures in
-    let b = c .before .before .before .backward in
-    (none refl, λ g e size I S T ux uy.
-      let Q = setting size I (p .2) S (a .1) T (p .4) in
-      answered-none g e (b .ensures g _ _ Q) (c .if1 .taken))
+    let b = c .before .before .before .backward in (
+      none refl,
+      λ g e size I S T ux uy.
+          let Q = setting size I (p .2) S (a .1) T (p .4) in
+          answered-none g e (b .ensures g _ _ Q) (c .if1 .taken),
+    )
 
 sub-steps : tie.Need-sub-steps
 sub-steps c = search needs
@@ -50,14 +52,16 @@ same-length-2 : tie.Need-same-length-2
 same-length-2 c = search needs
 
 returns-2 : tie.Need-returns-2
-returns-2 c = 
+returns-2 c =
     let s = c .before .before .before .before .before .before .before .before .before .before .before .before .before .before .before .before .args in
     let p = c .before .before .before .before .before .before .before .before .before .before .before .before .before .before .before .before .pre in
     let a = c .before .before .before .before .before .before .before .before .before .arcs-of .ensures in
-    let b = c .before .before .before .before .backward in
-    (too-long refl, λ g e size I S T ux uy.
-      let Q = setting size I (p .2) S (a .1) T (p .4) in
-      answered-short g e _ (reached g e (b .ensures g _ _ Q) (c .before .if1 .left)) (p .6) ux uy (c .if2 .taken))
+    let b = c .before .before .before .before .backward in (
+      too-long refl,
+      λ g e size I S T ux uy.
+          let Q = setting size I (p .2) S (a .1) T (p .4) in
+          answered-short g e _ (reached g e (b .ensures g _ _ Q) (c .before .if1 .left)) (p .6) ux uy (c .if2 .taken),
+    )
 
 forward-requires : tie.Need-forward-requires
 forward-requires c κs = search needs
@@ -69,15 +73,17 @@ same-length-4 : tie.Need-same-length-4
 same-length-4 c = search needs
 
 returns-3 : tie.Need-returns-3
-returns-3 c = 
+returns-3 c =
     let s = c .before .before .before .before .before .before .before .before .before .before .before .before .before .before .before .before .before .before .before .before .before .before .before .before .before .before .before .args in
     let p = c .before .before .before .before .before .before .before .before .before .before .before .before .before .before .before .before .before .before .before .before .before .before .before .before .before .before .before .pre in
     let a = c .before .before .before .before .before .before .before .before .before .before .before .before .before .before .before .before .before .before .before .before .arcs-of .ensures in
     let b = c .before .before .before .before .before .before .before .before .before .before .before .before .before .before .before .backward in
-    let f = c .before .before .forward .ensures in
-    (written (c .before .before .before .before .before .before .before .before .before .before .before .if2 .left) (f .rest), λ g e size I S T ux uy.
-      let Q = setting size I (p .2) S (a .1) T (p .4) in
-      answered-first g e _ (reached g e (b .ensures g _ _ Q) (c .before .before .before .before .before .before .before .before .before .before .before .before .if1 .left)) (p .6) ux uy Q f)
+    let f = c .before .before .forward .ensures in (
+      written (c .before .before .before .before .before .before .before .before .before .before .before .if2 .left) (f .rest),
+      λ g e size I S T ux uy.
+          let Q = setting size I (p .2) S (a .1) T (p .4) in
+          answered-first g e _ (reached g e (b .ensures g _ _ Q) (c .before .before .before .before .before .before .before .before .before .before .before .before .if1 .left)) (p .6) ux uy Q f,
+    )
 
 pub first-chain-spec : {M : Type 1} → statement M
 first-chain-spec =

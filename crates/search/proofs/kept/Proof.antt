@@ -55,7 +55,7 @@ loop-less c = lowest (c .before .before .before .loop .left) (omega arith) (c .b
 
 loop-again : tie.Need-loop-again Inv-loop μ-loop
 unfolding numberAt
-loop-again c = 
+loop-again c =
     let l = c .before .before .before .loop in
     let L = lowest (l .left) (omega arith) (l .inv .0) in
     let part : Among _ _ = λ j o. l .inv .1 j (left-of L j o) in

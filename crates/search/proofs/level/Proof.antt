@@ -75,7 +75,7 @@ loop-less c = omega arith
 
 loop-again : tie.Need-loop-again Inv-loop μ-loop
 unfolding arcFrom arcTo arcLetter
-loop-again c = 
+loop-again c =
     let l = c .before .before .before .before .before .loop in
     ⊎-elim
     (λ w. (omega arith, rw (w .3) (simp length-set (l .inv .1)), rw (w .3) (level-more (l .inv .2) (w .1 .result) (w .1 .ensures) (w .2 .given (arcFrom (c .before .before .before .before .before .before .before .before .before .before .before .args .arcs .now) (l .j)) .fits) (omega arith))))

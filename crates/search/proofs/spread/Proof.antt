@@ -41,7 +41,7 @@ loop-less : tie.Need-loop-less Inv-loop μ-loop
 loop-less c = lowest (c .before .before .loop .left) (omega arith) (c .before .before .loop .inv .0) .falls
 
 loop-again : tie.Need-loop-again Inv-loop μ-loop
-loop-again c = 
+loop-again c =
     let l = c .before .before .loop in
     let L = lowest (l .left) (omega arith) (l .inv .0) in
     (omega (arith, L .falls), (λ j o. l .inv .1 j (left-of L j o)), spread-more (l .inv .2) (l .inv .1) L)

@@ -47,7 +47,7 @@ loop-less : tie.Need-loop-less Inv-loop μ-loop
 loop-less c = lowest (c .before .loop .left) (omega arith) (c .before .loop .inv .0) .falls
 
 loop-again : tie.Need-loop-again Inv-loop μ-loop
-loop-again c = 
+loop-again c =
     let l = c .before .loop in
     let L = lowest (l .left) (omega arith) (l .inv .0) in
     let s = L .small in

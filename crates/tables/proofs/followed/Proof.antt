@@ -120,7 +120,7 @@ element-write-r-4 : tie.Need-element-write-r-4
 element-write-r-4 c = search needs
 
 returns : tie.Need-returns
-returns c = 
+returns c =
     let s = c .before .before .before .before .before .before .before .before .before .before .before .before .before .before .before .before .args .b in
     let k-first : length (s .first) ≡ 19 = search needs in
     let k-last : length (s .last) ≡ 19 = search needs in

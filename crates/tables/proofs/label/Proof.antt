@@ -67,7 +67,7 @@ add-r : tie.Need-add-r
 add-r c = search needs
 
 returns : tie.Need-returns
-returns c = 
+returns c =
     let s = c .before .args in
     let k-first : length (s .b .first) ≡ 19 = search needs in
     let k-last : length (s .b .last) ≡ 19 = search needs in

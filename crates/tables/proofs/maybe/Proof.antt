@@ -28,7 +28,7 @@ element-write-r c = search needs
 
 returns : tie.Need-returns
 unfolding fragment letters
-returns c = 
+returns c =
     let k : length (c .args .b .nullable) ≡ 19 = search needs in (
       (λ m x st H. holds-optional H (optional x) refl (λ o. refl) (omega arith) refl refl refl refl refl refl refl refl refl),
       (λ m x st H. holds-optional H (star x) refl (λ o. refl) (omega arith) refl refl refl refl refl refl refl refl refl),

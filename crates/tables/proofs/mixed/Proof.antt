@@ -47,7 +47,7 @@ loop-less c = omega arith
 
 loop-again : tie.Need-loop-again Inv-loop μ-loop
 unfolding digit
-loop-again c = 
+loop-again c =
     let l = c .before .before .loop in
     ⊎-elim
     (λ w. (omega arith, rw (w .1) (simp length-set (l .inv .1)), rw (w .1) (mixed-yes (l .inv .2) (omega (arith, w .0 .taken)) (omega arith))))

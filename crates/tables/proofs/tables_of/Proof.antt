@@ -39,7 +39,7 @@ shared-slice-read-step : tie.Need-shared-slice-read-step Inv-loop μ-loop
 shared-slice-read-step c = omega arith
 
 step-requires : tie.Need-step-requires Inv-loop μ-loop
-step-requires c κs = 
+step-requires c κs =
     let p = c .before .before .before .before .pre in
     let s = c .before .before .before .before .args .numbers .now in
     let l = c .before .before .loop in
@@ -52,7 +52,7 @@ loop-less : tie.Need-loop-less Inv-loop μ-loop
 loop-less c = omega arith
 
 loop-again : tie.Need-loop-again Inv-loop μ-loop
-loop-again c = 
+loop-again c =
     let s = c .before .before .before .before .before .args .numbers .now in
     let l = c .before .before .before .loop in
     (omega arith, search needs, λ text e L q. rw add-one (c .step .ensures (drop (suc (l .i)) s) (ungrouped e) (rw (drop-cons s (l .i) 0 (omega arith)) at (l .inv .2 text e L q))))
@@ -73,12 +73,12 @@ joined-requires : tie.Need-joined-requires Inv-loop μ-loop
 joined-requires c κs = search needs
 
 returns : tie.Need-returns Inv-loop μ-loop
-returns c = 
+returns c =
     let s = c .before .before .before .before .before .before .before .before .before .before .args .numbers .now in
     let l = c .before .before .before .before .before .before .before .before .loop in
     λ text e L q. (
-      let h = at-end (rw (drop-of-length-le s (let z : length s ≤ l .i = omega arith in z)) at (l .inv .2 text e L q)) in
-      masked-ungrouped e (masked (h .1) (l .inv .1) (c .joined .ensures))
+    let h = at-end (rw (drop-of-length-le s (let z : length s ≤ l .i = omega arith in z)) at (l .inv .2 text e L q)) in
+    masked-ungrouped e (masked (h .1) (l .inv .1) (c .joined .ensures))
     )
 
 pub tables-of-spec : {M : Type 1} → statement M
