@@ -40,91 +40,113 @@ fn write_answer(r: Reading)
     io::write_all(libc::STDOUT_FILENO, b"\n");
 }
 
-fn show(name: &[u8], text: &[u8]) {
+// The answer to a text, after its name.
+fn show_as(name: &[u8], text: &[u8]) {
     io::write_all(libc::STDOUT_FILENO, name);
     write_answer(reader::read(text));
 }
 
-// Texts of the grammar.
-fn expressions() {
-    show(b"a", b"a");
-    show(b"a*", b"a*");
-    show(b"a+", b"a+");
-    show(b"a?", b"a?");
-    show(b"a/b", b"a/b");
-    show(b"a|b", b"a|b");
-    show(b"a/b|c", b"a/b|c");
-    show(b"a|b/c", b"a|b/c");
-    show(b"a|b|c", b"a|b|c");
-    show(b"(a|b)/c", b"(a|b)/c");
-    show(b"^a", b"^a");
-    show(b"^a*", b"^a*");
-    show(b"(^a)*", b"(^a)*");
-    show(b"^(a/b)", b"^(a/b)");
-    show(b"(a|b|^a|^b)*", b"(a|b|^a|^b)*");
+// The answer to a text that can be written as it is.
+fn show(text: &[u8]) {
+    show_as(text, text);
+}
+
+// One operator, and two of them.
+fn operators() {
+    show(b"a");
+    show(b"a*");
+    show(b"a+");
+    show(b"a?");
+    show(b"a/b");
+    show(b"a|b");
+    show(b"a/b|c");
+    show(b"a|b/c");
+}
+
+// Groups, and ^ before a mark, a group and a letter.
+fn groups() {
+    show(b"a|b|c");
+    show(b"(a|b)/c");
+    show(b"^a");
+    show(b"^a*");
+    show(b"(^a)*");
+    show(b"^(a/b)");
+    show(b"(a|b|^a|^b)*");
 }
 
 // Texts at the limits and past them.
 fn limits() {
-    show(b"depth 8", b"((((((((a))))))))");
-    show(b"depth 9", b"(((((((((a)))))))))");
-    show(
+    show_as(b"depth 8", b"((((((((a))))))))");
+    show_as(b"depth 9", b"(((((((((a)))))))))");
+    show_as(
         b"63 letters",
         b"a/a/a/a/a/a/a/a/a/a/a/a/a/a/a/a/a/a/a/a/a/a/a/a/a/a/a/a/a/a/a/a/a/a/a/a/a/a/a/a/a/a/a/a/a/a/a/a/a/a/a/a/a/a/a/a/a/a/a/a/a/a/a",
     );
-    show(
+    show_as(
         b"64 letters",
         b"a/a/a/a/a/a/a/a/a/a/a/a/a/a/a/a/a/a/a/a/a/a/a/a/a/a/a/a/a/a/a/a/a/a/a/a/a/a/a/a/a/a/a/a/a/a/a/a/a/a/a/a/a/a/a/a/a/a/a/a/a/a/a/a",
     );
-    show(
+    show_as(
         b"256 bytes",
         b"^(a)*/^(a)*/^(a)*/^(a)*/^(a)*/^(a)*/^(a)*/^(a)*/^(a)*/^(a)*/^(a)*/^(a)*/^(a)*/^(a)*/^(a)*/^(a)*/^(a)*/^(a)*/^(a)*/^(a)*/^(a)*/^(a)*/^(a)*/^(a)*/^(a)*/^(a)*/^(a)*/^(a)*/^(a)*/^(a)*/^(a)*/^(a)*/^(a)*/^(a)*/^(a)*/^(a)*/^(a)*/^(a)*/^(a)*/^(a)*/^(a)*/(^a/^b/c)*",
     );
-    show(
+    show_as(
         b"257 bytes",
         b"^(a)*/^(a)*/^(a)*/^(a)*/^(a)*/^(a)*/^(a)*/^(a)*/^(a)*/^(a)*/^(a)*/^(a)*/^(a)*/^(a)*/^(a)*/^(a)*/^(a)*/^(a)*/^(a)*/^(a)*/^(a)*/^(a)*/^(a)*/^(a)*/^(a)*/^(a)*/^(a)*/^(a)*/^(a)*/^(a)*/^(a)*/^(a)*/^(a)*/^(a)*/^(a)*/^(a)*/^(a)*/^(a)*/^(a)*/^(a)*/^(a)*/(^a/^b/^c)*",
     );
-    show(
+}
+
+// Texts that are outside the grammar and past a limit.
+fn limits_and_faults() {
+    show_as(
         b"257 bytes outside the grammar",
         b"(((((((((((((((((((((((((((((((((((((((((((((((((((((((((((((((((((((((((((((((((((((((((((((((((((((((((((((((((((((((((((((((((((((((((((((((((((((((((((((((((((((((((((((((((((((((((((((((((((((((((((((((((((((((((((((((((((((((((((((((((((((((((((((((((",
     );
-    show(b"nine unclosed groups", b"(((((((((a");
-    show(
+    show_as(b"nine unclosed groups", b"(((((((((a");
+    show_as(
         b"64 letters and a fault",
         b"a/a/a/a/a/a/a/a/a/a/a/a/a/a/a/a/a/a/a/a/a/a/a/a/a/a/a/a/a/a/a/a/a/a/a/a/a/a/a/a/a/a/a/a/a/a/a/a/a/a/a/a/a/a/a/a/a/a/a/a/a/a/a/a)",
     );
-    show(
+    show_as(
         b"256 bytes outside the grammar",
         b"((((((((((((((((((((((((((((((((((((((((((((((((((((((((((((((((((((((((((((((((((((((((((((((((((((((((((((((((((((((((((((((((((((((((((((((((((((((((((((((((((((((((((((((((((((((((((((((((((((((((((((((((((((((((((((((((((((((((((((((((((((((((((((((((",
     );
 }
 
-// Texts outside the grammar.
-fn faults() {
-    show(b"the empty text", b"");
-    show(b"a capital", b"A");
-    show(b"a space", b"a b");
-    show(b"a control byte", b"a\n");
-    show(b"a zero byte", b"a\0");
-    show(b"a byte above 127", b"a\xff");
-    show(b"()", b"()");
-    show(b"a**", b"a**");
-    show(b"a*+", b"a*+");
-    show(b"^^a", b"^^a");
-    show(b"^", b"^");
-    show(b"*", b"*");
-    show(b"a//b", b"a//b");
-    show(b"|a", b"|a");
-    show(b"a|", b"a|");
-    show(b"a/", b"a/");
-    show(b"(a", b"(a");
-    show(b"a)", b"a)");
-    show(b"ab", b"ab");
-    show(b"{", b"{");
-    show(b"`", b"`");
+// Bytes that no expression has.
+fn foreign_bytes() {
+    show_as(b"the empty text", b"");
+    show_as(b"a capital", b"A");
+    show_as(b"a space", b"a b");
+    show_as(b"a control byte", b"a\n");
+    show_as(b"a zero byte", b"a\0");
+    show_as(b"a byte above 127", b"a\xff");
+    show(b"ab");
+    show(b"{");
+    show(b"`");
 }
 
-// An expression that starts in the middle of a slice, and one past its end.
+// Marks and groups out of place.
+fn misplaced_marks() {
+    show(b"()");
+    show(b"a**");
+    show(b"a*+");
+    show(b"^^a");
+    show(b"^");
+    show(b"*");
+}
+
+// Operators and groups with a side missing.
+fn missing_sides() {
+    show(b"a//b");
+    show(b"|a");
+    show(b"a|");
+    show(b"a/");
+    show(b"(a");
+    show(b"a)");
+}
+
+// An expression that starts in the middle of a slice, and a place past its end.
 fn parts() {
     io::write_all(libc::STDOUT_FILENO, b"a/b from place 4");
     write_answer(reader::read_at(b"(*|)a/b", 4));
@@ -133,8 +155,12 @@ fn parts() {
 }
 
 fn main() {
-    expressions();
+    operators();
+    groups();
     limits();
-    faults();
+    limits_and_faults();
+    foreign_bytes();
+    misplaced_marks();
+    missing_sides();
     parts();
 }

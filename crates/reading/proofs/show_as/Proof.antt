@@ -1,8 +1,8 @@
--- `reading::show` meets its contract: a reading's code is within its array, by what `read` ensures. Assumes nothing.
+-- `reading::show_as` meets its contract: a reading's code is within its array, by what `read` ensures. Assumes nothing.
 use Rattle.reader.specs.ReadsLaws.{reads-accepted}
 use borrow.Author.Needs.{needs}
-use Rattle.reading.proofs.show.Statement.{statement}
-use Rattle.reading.proofs.show.Tie as tie
+use Rattle.reading.proofs.show_as.Statement.{statement}
+use Rattle.reading.proofs.show_as.Tie as tie
 
 write-all-requires : tie.Need-write-all-requires
 write-all-requires c κs = search needs
@@ -16,5 +16,5 @@ write-answer-requires c κs = λ n is. reads-accepted (c .read .ensures) is .1 .
 returns : tie.Need-returns
 returns c = search needs
 
-pub show-spec : {M : Type 1} → statement M
-show-spec = tie.close (tie.spec write-all-requires read-requires write-answer-requires returns)
+pub show-as-spec : {M : Type 1} → statement M
+show-as-spec = tie.close (tie.spec write-all-requires read-requires write-answer-requires returns)
