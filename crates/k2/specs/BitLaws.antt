@@ -3,7 +3,7 @@
 --   Bits f          f has no value but 0 and 1
 --   Upto n f g      f and g agree in the first n words
 -- Assumes nothing.
-use mathlib.Core.Path.{_≡_, refl, sym, ap, ap₂, _∙_, fun-ext}
+use mathlib.Core.Path.{_≡_, refl, sym, ap, _∙_, fun-ext}
 use mathlib.Core.List.{List, [], _∷_, _++_}
 use Prim.Native.Nat.{ℕ, zero, suc, _+_, _-_, _*_, _/_, _%_, _^_, _≤_, _<_, zero-le}
 use native.Mathlib.Nat.{add-zero, zero-add, add-suc, suc-add, add-comm, mod-lt, mod-one, mod-eq-of-lt, mul-div-cancel, mul-mod-left, pow-suc, not-suc-le-zero, le-of-suc-le-suc}
@@ -114,6 +114,16 @@ pub ones-le : (f : ℕ → ℕ) → Bits f → (n : ℕ) → onesBelow f n ≤ n
 unfolding onesBelow
 ones-le f b zero = zero-le
 ones-le f b (suc n) = omega (arith, ones-le f b n, b n)
+
+ones-far : (f : ℕ → ℕ) (p d : ℕ) → ((k : ℕ) → p ≤ k → k < p + d → f k ≡ 0) → onesBelow f (p + d) ≡ onesBelow f p
+unfolding onesBelow
+ones-far f p zero g = ap (onesBelow f) (add-zero p)
+ones-far f p (suc d) g =
+    ap (onesBelow f) (add-suc p d) ∙ rw (g (p + d) (omega arith) (omega arith), add-zero) (ones-far f p d (λ k a b. g k a (omega arith)))
+
+-- no bit from place p to q - 1
+pub ones-gap : (f : ℕ → ℕ) (p q : ℕ) → p ≤ q → ((k : ℕ) → p ≤ k → k < q → f k ≡ 0) → onesBelow f q ≡ onesBelow f p
+ones-gap f p q l g = let e : q ≡ p + (q - p) = omega arith in ap (onesBelow f) e ∙ ones-far f p (q - p) (λ k a b. g k a (omega arith))
 
 ones-bit : (r : ℕ) → r < 2 → ones r ≡ r
 unfolding ones

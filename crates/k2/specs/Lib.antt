@@ -2,9 +2,14 @@ pub mod Bits
 pub mod PairSets
 pub mod Trees
 pub mod Nodes
+pub mod Heap
 pub mod DigitLaws
 pub mod BitLaws
+pub mod WordLaws
 pub mod PairSetLaws
 pub mod HeightLaws
 pub mod NodeLaws
 pub mod TreeLaws
+pub mod PlaceLaws
+pub mod HeapLaws
+pub mod SizeLaws

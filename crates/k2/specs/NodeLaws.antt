@@ -11,7 +11,7 @@ use lib.Pow.{pow-pos}
 use Rattle.k2.specs.Bits.{onesBelow, bitsOf}
 use Rattle.k2.specs.PairSets.{Cells}
 use Rattle.k2.specs.Trees.{quadrant, filled, quarters, keep, keepIf, levels, treeBits, childPlace}
-use Rattle.k2.specs.Nodes.{Node, root, child}
+use Rattle.k2.specs.Nodes.{Node, root, child, quarterOf}
 use Rattle.k2.specs.BitLaws.{ones-cons, ones-append, ones-first}
 
 -- ---- squares that a test t of 0 or 1 keeps
@@ -81,10 +81,6 @@ quarters-at h (a ∷ qs) zero (suc (suc zero)) d l g = refl
 quarters-at h (a ∷ qs) zero (suc (suc (suc zero))) d l g = refl
 quarters-at h (a ∷ qs) zero (suc (suc (suc (suc q)))) d l g = absurd (omega arith)
 quarters-at h (a ∷ qs) (suc j) q d l g = rw four-more (quarters-at h qs j q d (le-of-suc-le-suc l) g)
-
--- the quarter of side s in which a row and a column lie
-abbrev pub quarterOf : ℕ → ℕ → ℕ → ℕ
-quarterOf s x y = x / s * 2 + y / s
 
 pub half-lt : (h x : ℕ) → x < 2 ^ suc h → x / 2 ^ h < 2
 half-lt h x l = div-lt-iff-lt-mul {y = 2} (pow-pos h) .1 (omega (arith, pow-suc 2 h))

@@ -4,16 +4,16 @@
 --   Within m l t    the numbers of l ascend, from m on, and are below t
 -- Assumes nothing.
 use mathlib.Core.Path.{_≡_, refl, sym, ap, _∙_, fun-ext, subst}
-use mathlib.Core.Logic.{_⊎_, inl, inr, ⊎-elim}
+use mathlib.Core.Logic.{_↔_, _⊎_, inl, inr, ⊎-elim}
 use mathlib.Core.Bool.{Bool, true, false}
 use mathlib.Core.List.{List, [], _∷_, _++_}
-use Prim.Native.Nat.{ℕ, zero, suc, _+_, _-_, _*_, _/_, _%_, _≤_, _<_, min, max}
+use Prim.Native.Nat.{ℕ, zero, suc, _+_, _*_, _/_, _%_, _≤_, _<_, min, max}
 use native.Mathlib.Omega.{arith}
 use native.Mathlib.Decide.{decLt}
 use lib.Dec.{ltb, eqb}
 use lib.ListN.{length}
 use borrow.Author.Tests.{eqb-true, lt-ltb, le-ltb}
-use Rattle.book.specs.Basics.{bit, has, In, here, there, Rises, ended, rises}
+use Rattle.book.specs.Basics.{bit, has, In, here, Rises, ended, rises}
 use Rattle.book.specs.ListLaws.{in-left, in-right, in-either, in-none, in-one}
 use Rattle.book.specs.SetLaws.{eqb-test, has-in, in-has}
 use Rattle.k2.specs.PairSets.{Cells, IsSet, pairWord, ifSet, rowPairs, rowsPairs, listed, setOf, union, intersection, difference, transpose, most, serves, product, OneOrMore, once, more, over, closure, diagonal}
@@ -138,6 +138,11 @@ module _ (n : ℕ) (a b : Cells) (x y : ℕ) where
   middle-product A z l p q =
       omega (arith, some-most n z (serves a b x y) l (omega arith), most-bit n (serves a b x y) (λ z. omega (arith, A z)))
 
+pub product-is : (n : ℕ) (a b : Cells) → IsSet n a → IsSet n b → (x y : ℕ)
+    → (product n a b x y ≡ 1) ↔ ((z : ℕ) × (z < n) × (a x z ≡ 1) × (b z y ≡ 1))
+product-is n a b A B x y =
+    (product-middle n a b x y (A .bit x) (λ z. B .bit z y), λ m. middle-product n a b x y (A .bit x) (m .0) (m .1) (m .2) (m .3))
+
 -- ---- the closure: one or more pairs lead
 pub leads-on : {a : Cells} {x z y : ℕ} → OneOrMore a x z → OneOrMore a z y → OneOrMore a x y
 leads-on (once e) q = more e q
@@ -209,6 +214,9 @@ module _ (n : ℕ) (a : Cells) (A : IsSet n a) where
       inside : Dec (z < n) → z < n
       inside (yes l) = l
       inside (no l) = absurd (omega (arith, A .column x z (omega arith)))
+
+  pub closure-is : (x y : ℕ) → (closure n a x y ≡ 1) ↔ OneOrMore a x y
+  closure-is x y = (closure-leads n x y, leads-closure)
 
 -- ---- the set of a list of pair words
 module _ (ps : List ℕ) (x y : ℕ) where
@@ -361,35 +369,39 @@ listed-below n a nl w h =
     let e : w ≡ r .0 * 1024 + r .1 = r .5 in
     (omega (arith, r .2), omega arith)
 
+-- the pairs of a set lie below n
+pub set-below : (n : ℕ) (a : Cells) → IsSet n a → (x y : ℕ) → 0 < a x y → (x < n) × (y < n)
+set-below n a A x y h = (by (decLt x n) (λ l. A .row x y l), by (decLt y n) (λ l. A .column x y l))
+  where
+    by : {z : ℕ} → Dec (z < n) → (n ≤ z → a x y ≡ 0) → z < n
+    by (yes l) f = l
+    by (no l) f = absurd (omega (arith, f (omega arith)))
+
+-- a pair is in the set exactly if its word is listed
+pub listed-is : (n : ℕ) (a : Cells) → n ≤ 1024 → IsSet n a → (x y : ℕ) → y < 1024 → (a x y ≡ 1) ↔ In (pairWord x y) (listed n a)
+listed-is n a nl A x y l = (there-is, is-there)
+  where
+    there-is : a x y ≡ 1 → In (pairWord x y) (listed n a)
+    there-is e = let i = set-below n a A x y (omega arith) in listed-in n a x y (i .0) (i .1) (omega arith)
+
+    same : (v w : ℕ) → w < 1024 → pairWord x y ≡ pairWord v w → 1 ≤ a v w → a x y ≡ 1
+    same v w k e h =
+        let p : v ≡ x = omega arith in
+        let q : w ≡ y = omega arith in
+        let g : 1 ≤ a x y = rw (p, q) at h in
+        omega (arith, A .bit x y)
+
+    is-there : In (pairWord x y) (listed n a) → a x y ≡ 1
+    is-there h = let r = in-listed n a h in same (r .0) (r .1) (omega (arith, r .3)) (r .5) (r .4)
+
 -- the set of the listed words is the set
 pub setOf-listed : (n : ℕ) (a : Cells) → n ≤ 1024 → IsSet n a → setOf (listed n a) ≡ a
-setOf-listed n a nl A = fun-ext (λ x. fun-ext (λ y. go x y (decLt 0 (a x y)) (decLt 0 (setOf (listed n a) x y))))
+setOf-listed n a nl A = fun-ext (λ x. fun-ext (λ y. go x y (decLt y 1024) (decLt 0 (a x y)) (decLt 0 (setOf (listed n a) x y))))
   where
-    inside : (x y : ℕ) → 0 < a x y → (x < n) × (y < n)
-    inside x y h = (by (decLt x n) (λ l. A .row x y l), by (decLt y n) (λ l. A .column x y l))
-      where
-        by : {z : ℕ} → Dec (z < n) → (n ≤ z → a x y ≡ 0) → z < n
-        by (yes l) f = l
-        by (no l) f = absurd (omega (arith, f (omega arith)))
-
-    same : (x y v w : ℕ) → y < 1024 → w < 1024 → pairWord x y ≡ pairWord v w → 1 ≤ a v w → 0 < a x y
-    same x y v w l k e h =
-        let p : x ≡ v = omega arith in
-        let q : y ≡ w = omega arith in
-        rw (p, q) h
-
-    back : (x y : ℕ) → 0 < setOf (listed n a) x y → 0 < a x y
-    back x y h =
-        let r = in-listed n a (set-in (listed n a) x y (omega arith)) in
-        same x y (r .0) (r .1) (column (decLt y 1024)) (omega (arith, r .3)) (r .5) (r .4)
-      where
-        column : Dec (y < 1024) → y < 1024
-        column (yes l) = l
-        column (no l) = absurd (omega (arith, set-past (listed n a) x y (omega arith)))
-
-    go : (x y : ℕ) → Dec (0 < a x y) → Dec (0 < setOf (listed n a) x y) → setOf (listed n a) x y ≡ a x y
-    go x y (yes h) d =
-        let i = inside x y h in
-        in-set (listed n a) x y (omega (arith, i .1)) (listed-in n a x y (i .0) (i .1) h) ∙ omega (arith, A .bit x y)
-    go x y (no h) (yes d) = absurd (h (back x y d))
-    go x y (no h) (no d) = omega arith
+    go : (x y : ℕ) → Dec (y < 1024) → Dec (0 < a x y) → Dec (0 < setOf (listed n a) x y) → setOf (listed n a) x y ≡ a x y
+    go x y (no l) h d = set-past (listed n a) x y (omega arith) ∙ sym (A .column x y (omega arith))
+    go x y (yes l) (yes h) d =
+        let e : a x y ≡ 1 = omega (arith, A .bit x y) in
+        in-set (listed n a) x y l (listed-is n a nl A x y l .0 e) ∙ sym e
+    go x y (yes l) (no h) (yes d) = absurd (omega (arith, listed-is n a nl A x y l .1 (set-in (listed n a) x y (omega arith))))
+    go x y (yes l) (no h) (no d) = omega arith

@@ -11,9 +11,9 @@ use lib.Pow.{pow-pos}
 use Rattle.k2.specs.Bits.{bitAt, bitsOf}
 use Rattle.k2.specs.PairSets.{Cells, IsSet, transpose}
 use Rattle.k2.specs.Trees.{quadrant, filled, quarters, keep, levels, treeBits, treeWords, childPlace, height}
-use Rattle.k2.specs.Nodes.{Node, root, child, exchanged}
+use Rattle.k2.specs.Nodes.{Node, root, child, quarterOf, exchanged}
 use Rattle.k2.specs.BitLaws.{Bits, words-bits}
-use Rattle.k2.specs.NodeLaws.{map-at, filled-lt, quarterOf, quarter-lt, quadrant-cell, empty-cell, blank, node-bit}
+use Rattle.k2.specs.NodeLaws.{map-at, filled-lt, quarter-lt, quadrant-cell, empty-cell, blank, node-bit}
 use Rattle.k2.specs.HeightLaws.{height-is}
 
 -- ---- the tree of a set tells the set

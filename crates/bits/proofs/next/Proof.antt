@@ -1,0 +1,125 @@
+-- `next` looks at what is left of the first word, and then at whole words. The loop's invariant: no bit from `lo` to word q. The measure is
+-- the words left. It rests on `next-here`: the trailing zeros of a word tell its lowest digit that is set. Assumes nothing.
+use mathlib.Core.Path.{_≡_, refl}
+use Prim.Native.Nat.{_≤_, _+_, _-_, _*_, _/_, _%_}
+use native.Mathlib.Omega.{arith}
+use Rattle.k2.specs.Bits.{bitAt}
+use Rattle.bits.specs.BitSets.{Gap}
+use Rattle.bits.specs.BitSetLaws.{gap-join, gap-word}
+use Rattle.bits.specs.ScanLaws.{next-here, next-word, next-after, next-none, gap-rest, gap-past}
+use Rattle.bits.proofs.next.Statement.{statement}
+use Rattle.bits.proofs.next.Tie as tie
+
+abbrev Inv-loop : tie.InvT-loop
+Inv-loop words lo end q₀ rest past q = (past ≡ end / 64) × (q ≤ past + 1) × (lo ≤ q * 64) × Gap (bitAt words) lo (q * 64)
+
+abbrev μ-loop : tie.MeasureT-loop
+μ-loop words lo end q₀ rest past q = past + 1 - q
+
+returns : tie.Need-returns Inv-loop μ-loop
+returns c =
+    let a = c .before .before .args in
+    next-none _ (a .lo) (a .end) (a .end) (omega arith) (omega arith) (gap-past (a .words .now) (a .lo) (a .end) (c .if1 .taken))
+
+mul-rest : tie.Need-mul-rest Inv-loop μ-loop
+mul-rest c = omega arith
+
+shared-slice-read-rest : tie.Need-shared-slice-read-rest Inv-loop μ-loop
+shared-slice-read-rest c = omega arith
+
+shr-rest : tie.Need-shr-rest Inv-loop μ-loop
+shr-rest c = omega arith
+
+place-requires : tie.Need-place-requires Inv-loop μ-loop
+place-requires c κs = omega arith
+
+returns-2 : tie.Need-returns-2 Inv-loop μ-loop
+returns-2 c =
+    let a = c .before .before .before .before .before .args in
+    next-here (a .words .now) (a .lo / 64) (a .lo % 64) (c .before .before .shared-slice-known2 .given (a .lo / 64) .fits) (omega (arith, c .before .if2 .taken))
+    (a .lo) (a .end) _ (omega arith) (omega arith) (c .place .ensures)
+
+add-q : tie.Need-add-q Inv-loop μ-loop
+add-q c = omega arith
+
+loop-holds : tie.Need-loop-holds Inv-loop μ-loop
+loop-holds c =
+    let a = c .before .before .before .before .args in
+    (refl, omega arith, omega arith, gap-rest (a .words .now) (a .lo / 64) (a .lo % 64) (a .lo) (omega arith) (omega arith) (c .if2 .left))
+
+returns-3 : tie.Need-returns-3 Inv-loop μ-loop
+returns-3 c =
+    let a = c .before .before .before .before .before .before .before .args in
+    let l = c .before .before .loop in
+    next-none _ (a .lo) (a .end) (a .end) (omega arith) (omega arith)
+    (gap-join _ (a .lo) (l .q * 64) (a .end) (l .inv .3) (gap-past (a .words .now) (l .q * 64) (a .end) (omega arith)))
+
+mul-if4 : tie.Need-mul-if4 Inv-loop μ-loop
+mul-if4 c = omega arith
+
+shared-slice-read-if4 : tie.Need-shared-slice-read-if4 Inv-loop μ-loop
+shared-slice-read-if4 c = omega arith
+
+mul-place : tie.Need-mul-place Inv-loop μ-loop
+mul-place c = omega arith
+
+mul-place-2 : tie.Need-mul-place-2 Inv-loop μ-loop
+mul-place-2 c = omega arith
+
+shared-slice-read-place : tie.Need-shared-slice-read-place Inv-loop μ-loop
+shared-slice-read-place c = omega arith
+
+place-requires-2 : tie.Need-place-requires-2 Inv-loop μ-loop
+place-requires-2 c κs = omega arith
+
+returns-4 : tie.Need-returns-4 Inv-loop μ-loop
+returns-4 c =
+    let a = c .before .before .before .before .before .before .before .before .before .before .before .args in
+    let l = c .before .before .before .before .before .before .loop in
+    next-after _ (a .lo) (l .q * 64) (a .end) _ (l .inv .2) (l .inv .3)
+    (next-word (a .words .now) (l .q) (a .end) _ (c .before .before .before .shared-slice-known3 .given (l .q) .fits) (omega (arith, c .before .before .if4 .taken)) (omega arith) (c .place2 .ensures))
+
+add-q-2 : tie.Need-add-q-2 Inv-loop μ-loop
+add-q-2 c = omega arith
+
+loop-less : tie.Need-loop-less Inv-loop μ-loop
+loop-less c = omega arith
+
+loop-again : tie.Need-loop-again Inv-loop μ-loop
+loop-again c =
+    let a = c .before .before .before .before .before .before .before .before .before .args in
+    let l = c .before .before .before .before .loop in
+    (refl, omega arith, omega arith, gap-join _ (a .lo) (l .q * 64) _ (l .inv .3) (gap-word (a .words .now) (l .q) (c .if4 .left)))
+
+returns-5 : tie.Need-returns-5 Inv-loop μ-loop
+returns-5 c =
+    let a = c .before .before .before .before .before .before .args in
+    let l = c .before .loop in
+    next-none _ (a .lo) (l .q * 64) (a .end) (omega arith) (omega arith) (l .inv .3)
+
+pub next-spec : {M : Type 1} → statement M
+next-spec =
+    tie.close
+    (tie.spec
+    Inv-loop
+    μ-loop
+    returns
+    mul-rest
+    shared-slice-read-rest
+    shr-rest
+    place-requires
+    returns-2
+    add-q
+    loop-holds
+    returns-3
+    mul-if4
+    shared-slice-read-if4
+    mul-place
+    mul-place-2
+    shared-slice-read-place
+    place-requires-2
+    returns-4
+    add-q-2
+    loop-less
+    loop-again
+    returns-5)

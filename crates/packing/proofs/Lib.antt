@@ -1,0 +1,7 @@
+pub mod Sizes
+pub mod Words
+pub mod Stores
+pub mod Squeezes
+pub mod Lifts
+pub mod Blocks
+pub mod Packs

@@ -1,0 +1,183 @@
+-- Laws of pairs put into rows, and of rows that lie below n. Assumes nothing.
+use mathlib.Core.Path.{_≡_, refl, sym, ap, _∙_, fun-ext}
+use mathlib.Core.Bool.{Bool, true, false, _||_, _&&_}
+use mathlib.Core.List.{List, [], _∷_, _++_, map}
+use Prim.Native.Nat.{ℕ, _+_, _*_, _/_, _%_, _≤_, _<_, min, max}
+use native.Mathlib.Numerals.{add-one}
+use native.Mathlib.Decide.{decLt, ℕ-discrete}
+use native.Mathlib.Omega.{arith}
+use lib.Dec.{eqb, ltb}
+use lib.ListN.{length, getD, take}
+use lib.Seq.{take-suc, take-length}
+use borrow.Author.Tests.{eq-eqb, ne-eqb, lt-ltb, le-ltb}
+use Rattle.book.specs.Basics.{pick, bit, has}
+use Rattle.k2.specs.Bits.{bitAt}
+use Rattle.k2.specs.BitLaws.{Bits, bit-lt, bit-out}
+use Rattle.k2.specs.PairSets.{Cells, IsSet, setOf, union, diagonal}
+use Rattle.k2.specs.PairSetLaws.{bit-small}
+use Rattle.bits.specs.BitSets.{put, Gap}
+use Rattle.bits.specs.BitSetLaws.{put-at, put-off}
+use Rattle.rows.specs.Rows.{flat, identity, linkPair, RowsOf}
+use Rattle.rows.specs.RowLaws.{flat-at}
+
+-- bits put in agree with a set's rows if they do at the place and off it
+put-flat : (f : ℕ → ℕ) (v : ℕ) (b : Cells) → flat b v ≡ 1 → ((p : ℕ) → (p ≡ v → ⊥) → f p ≡ flat b p) → put v 1 f ≡ flat b
+put-flat f v b e g = fun-ext (λ p. go p (ℕ-discrete p v))
+  where
+    go : (p : ℕ) → Dec (p ≡ v) → put v 1 f p ≡ flat b p
+    go p (yes s) = ap (put v 1 f) s ∙ put-at v 1 f ∙ sym (ap (flat b) s ∙ e)
+    go p (no s) = put-off v 1 f p s ∙ g p s
+
+-- ---- a list's pairs
+has-last : (v w : ℕ) (ps : List ℕ) → has eqb w (ps ++ (v ∷ [])) ≡ (has eqb w ps || eqb v w)
+unfolding has
+has-last v w [] = go (eqb v w)
+  where
+    go : (b : Bool) → (b || false) ≡ b
+    go true = refl
+    go false = refl
+has-last v w (u ∷ ps) = go (eqb u w) (has-last v w ps)
+  where
+    go : (b : Bool) → has eqb w (ps ++ (v ∷ [])) ≡ (has eqb w ps || eqb v w) → (b || has eqb w (ps ++ (v ∷ []))) ≡ ((b || has eqb w ps) || eqb v w)
+    go true e = refl
+    go false e = e
+
+flat-list : (ps : List ℕ) (p : ℕ) → flat (setOf ps) p ≡ bit (has eqb p ps)
+unfolding flat setOf
+flat-list ps p =
+    let e : p / 1024 * 1024 + p % 1024 ≡ p = omega arith in
+    rw (lt-ltb (p % 1024) 1024 (omega arith), e) (go (has eqb p ps))
+  where
+    go : (b : Bool) → min 1 (bit b) ≡ bit b
+    go true = refl
+    go false = refl
+
+flat-join : (x : Cells) (ps : List ℕ) (p : ℕ) → flat (union x (setOf ps)) p ≡ max (flat x p) (bit (has eqb p ps))
+flat-join x ps p = unfold flat union in refl ∙ ap (max (flat x p)) (flat-list ps p)
+
+pub list-more : (x : Cells) (ps : List ℕ) (v : ℕ) → Bits (flat x) → put v 1 (flat (union x (setOf ps))) ≡ flat (union x (setOf (ps ++ (v ∷ []))))
+list-more x ps v b = put-flat (flat (union x (setOf ps))) v (union x (setOf (ps ++ (v ∷ [])))) here off
+  where
+    new : (p : ℕ) → flat (union x (setOf (ps ++ (v ∷ [])))) p ≡ max (flat x p) (bit (has eqb p ps || eqb v p))
+    new p = flat-join x (ps ++ (v ∷ [])) p ∙ rw (has-last v p ps)
+
+    here : flat (union x (setOf (ps ++ (v ∷ [])))) v ≡ 1
+    here = new v ∙ rw (eq-eqb v v refl) (go (has eqb v ps))
+      where
+        go : (t : Bool) → max (flat x v) (bit (t || true)) ≡ 1
+        go true = omega (arith, b v)
+        go false = omega (arith, b v)
+
+    off : (p : ℕ) → (p ≡ v → ⊥) → flat (union x (setOf ps)) p ≡ flat (union x (setOf (ps ++ (v ∷ [])))) p
+    off p n = flat-join x ps p ∙ sym (new p ∙ rw (ne-eqb v p (λ e. n (sym e))) (go (has eqb p ps)))
+      where
+        go : (t : Bool) → max (flat x p) (bit (t || false)) ≡ max (flat x p) (bit t)
+        go true = refl
+        go false = refl
+
+pub list-none : (x : Cells) → union x (setOf []) ≡ x
+unfolding union setOf has
+list-none x = fun-ext (λ u. fun-ext (λ y. omega arith))
+
+map-last : (ws : List ℕ) (w : ℕ) → map linkPair (ws ++ (w ∷ [])) ≡ map linkPair ws ++ (linkPair w ∷ [])
+map-last [] w = refl
+map-last (v ∷ ws) w = ap (λ (l : List ℕ). linkPair v ∷ l) (map-last ws w)
+
+pub links-more : (x : Cells) (ws : List ℕ) (i : ℕ) → i < length ws → Bits (flat x)
+    → put (linkPair (getD ws i 0)) 1 (flat (union x (setOf (map linkPair (take i ws))))) ≡ flat (union x (setOf (map linkPair (take (i + 1) ws))))
+links-more x ws i l b =
+    list-more x (map linkPair (take i ws)) (linkPair (getD ws i 0)) b
+    ∙ ap (λ (ps : List ℕ). flat (union x (setOf ps))) (sym (ap (λ (k : ℕ). map linkPair (take k ws)) (add-one i) ∙ ap (map linkPair) (take-suc ws i 0 l) ∙ map-last (take i ws) (getD ws i 0)))
+
+pub links-all : (ws : List ℕ) (i : ℕ) → i ≡ length ws → map linkPair (take i ws) ≡ map linkPair ws
+links-all ws i e = ap (map linkPair) (ap (λ (k : ℕ). take k ws) e ∙ take-length ws)
+
+-- ---- the diagonal
+identity-at : (n x : ℕ) → identity n x x ≡ bit (ltb x n)
+unfolding diagonal
+identity-at n x = rw (eq-eqb x x refl) (omega (arith, bit-small (ltb x n)))
+
+identity-off : (n x y : ℕ) → (x ≡ y → ⊥) → identity n x y ≡ 0
+unfolding diagonal
+identity-off n x y h = rw (ne-eqb x y h) (omega arith)
+
+pub diagonal-none : (x : Cells) → union x (identity 0) ≡ x
+unfolding union diagonal
+diagonal-none x = fun-ext (λ u. fun-ext (λ y. rw (le-ltb u 0 (omega arith)) (omega arith)))
+
+pub diagonal-more : (x : Cells) (i : ℕ) → i < 1024 → Bits (flat x) → put (i * 1024 + i) 1 (flat (union x (identity i))) ≡ flat (union x (identity (i + 1)))
+diagonal-more x i l b = put-flat (flat (union x (identity i))) (i * 1024 + i) (union x (identity (i + 1))) here off
+  where
+    one : x i i < 2
+    one = let e : flat x (i * 1024 + i) ≡ x i i = flat-at x i i l in omega (arith, b (i * 1024 + i))
+
+    here : flat (union x (identity (i + 1))) (i * 1024 + i) ≡ 1
+    here = flat-at (union x (identity (i + 1))) i i l ∙ unfold union in (rw (identity-at (i + 1) i, lt-ltb i (i + 1) (omega arith)) (omega (arith, one)))
+
+    same : (u y : ℕ) → (u * 1024 + y ≡ i * 1024 + i → ⊥) → Dec (u ≡ y) → Dec (u < i) → identity i u y ≡ identity (i + 1) u y
+    same u y n (no s) d = identity-off i u y s ∙ sym (identity-off (i + 1) u y s)
+    same u y n (yes s) (yes d) = rw (← s, identity-at i u, identity-at (i + 1) u, lt-ltb u i d, lt-ltb u (i + 1) (omega arith))
+    same u y n (yes s) (no d) =
+        let z : (u ≡ i → ⊥) = λ e. n (omega arith) in
+        rw (← s, identity-at i u, identity-at (i + 1) u, le-ltb u i (omega arith), le-ltb u (i + 1) (omega (arith, z)))
+
+    off : (p : ℕ) → (p ≡ i * 1024 + i → ⊥) → flat (union x (identity i)) p ≡ flat (union x (identity (i + 1))) p
+    off p n =
+        unfold flat union in (ap (max (x (p / 1024) (p % 1024)))
+        (same (p / 1024) (p % 1024) (λ e. n (omega arith)) (ℕ-discrete (p / 1024) (p % 1024)) (decLt (p / 1024) i)))
+
+-- ---- rows below n
+module _ (n : ℕ) (ws : List ℕ) (nl : n ≤ 1024) (long : length ws ≡ 16384) where
+  -- of the bits, those in rows and columns below n
+  abbrev cut : Cells
+  cut x y = pick (ltb x n && ltb y n) (bitAt ws (x * 1024 + y)) 0
+
+  cut-in : (x y : ℕ) → x < n → y < n → cut x y ≡ bitAt ws (x * 1024 + y)
+  cut-in x y a b = rw (lt-ltb x n a, lt-ltb y n b)
+
+  cut-row : (x y : ℕ) → n ≤ x → cut x y ≡ 0
+  cut-row x y a = rw (le-ltb x n a)
+
+  cut-column : (x y : ℕ) → n ≤ y → cut x y ≡ 0
+  cut-column x y a = rw (le-ltb y n a) (go (ltb x n))
+    where
+      go : (b : Bool) → pick (b && false) (bitAt ws (x * 1024 + y)) 0 ≡ 0
+      go true = refl
+      go false = refl
+
+  cut-set : IsSet n cut
+  cut-set = record { bit = λ x y. go x y (decLt x n) (decLt y n); row = cut-row; column = cut-column }
+    where
+      go : (x y : ℕ) → Dec (x < n) → Dec (y < n) → cut x y < 2
+      go x y (yes a) (yes b) = rw (cut-in x y a b) (bit-lt ws (x * 1024 + y))
+      go x y (no a) b = rw (cut-row x y (omega arith)) (omega arith)
+      go x y (yes a) (no b) = rw (cut-column x y (omega arith)) (omega arith)
+
+  pub rows-of : ((i : ℕ) → i < n → Gap (bitAt ws) (i * 1024 + n) (i * 1024 + 1024)) → Gap (bitAt ws) (n * 1024) 1048576 → RowsOf n ws
+  unfolding flat
+  rows-of g h = record { set = cut; is-set = cut-set; rows = fun-ext (λ p. go p (decLt (p / 1024) n) (decLt (p % 1024) n)) }
+    where
+      past : (p : ℕ) → n ≤ p / 1024 → Dec (p < 1048576) → bitAt ws p ≡ 0
+      past p a (yes l) = h p (omega arith) l
+      past p a (no l) = bit-out ws p (omega arith)
+
+      go : (p : ℕ) → Dec (p / 1024 < n) → Dec (p % 1024 < n) → bitAt ws p ≡ cut (p / 1024) (p % 1024)
+      go p (yes a) (yes b) =
+          let e : p / 1024 * 1024 + p % 1024 ≡ p = omega arith in
+          sym (cut-in (p / 1024) (p % 1024) a b ∙ ap (bitAt ws) e)
+      go p (no a) b = past p (omega arith) (decLt p 1048576) ∙ sym (cut-row (p / 1024) (p % 1024) (omega arith))
+      go p (yes a) (no b) = g (p / 1024) a p (omega arith) (omega arith) ∙ sym (cut-column (p / 1024) (p % 1024) (omega arith))
+
+  pub rows-in : RowsOf n ws → (p : ℕ) → bitAt ws p ≡ 1 → (p / 1024 < n) × (p % 1024 < n)
+  rows-in r p e = (row (decLt (p / 1024) n), column (decLt (p % 1024) n))
+    where
+      at : bitAt ws p ≡ r .set (p / 1024) (p % 1024)
+      at = ap (λ (f : ℕ → ℕ). f p) (r .rows) ∙ unfold flat in refl
+
+      row : Dec (p / 1024 < n) → p / 1024 < n
+      row (yes a) = a
+      row (no a) = absurd (omega (arith, at, r .is-set .row (p / 1024) (p % 1024) (omega arith)))
+
+      column : Dec (p % 1024 < n) → p % 1024 < n
+      column (yes a) = a
+      column (no a) = absurd (omega (arith, at, r .is-set .column (p / 1024) (p % 1024) (omega arith)))

@@ -1,0 +1,117 @@
+-- `compose` goes over the rows. The loop's invariant: the rows below i are those of the product, the others those of the left operand. The
+-- measure is the rows left. It rests on `product-store` and, for an empty row, `product-skip`. Assumes nothing.
+use mathlib.Core.Path.{_≡_, refl, sym, ap, _∙_}
+use mathlib.Core.Logic.{⊎-elim}
+use Prim.Native.Nat.{_≤_, _-_}
+use native.Mathlib.Omega.{arith}
+use borrow.Author.Needs.{needs}
+use lib.ListN.{length}
+use Rattle.k2.specs.Bits.{bitAt}
+use Rattle.k2.specs.PairSets.{Cells, IsSet, transpose, product}
+use Rattle.k2.specs.PairSetLaws.{product-set}
+use Rattle.bits.specs.BitSetLaws.{bits-none}
+use Rattle.rows.specs.Rows.{flat}
+use Rattle.rows.specs.Steps.{EmptyRow, rowsTo}
+use Rattle.rows.proofs.Search.{mask-empty, to-none, to-all, product-store, product-skip}
+use Rattle.rows.proofs.compose.Statement.{statement}
+use Rattle.rows.proofs.compose.Tie as tie
+
+abbrev Inv-loop : tie.InvT-loop
+Inv-loop a₀ bt n list m i₀ a i =
+    (i ≤ n) × (length a ≡ length a₀) × ((x y : Cells) → IsSet n x → IsSet n y → bitAt a₀ ≡ flat x → bitAt bt ≡ flat (transpose y)
+    → bitAt a ≡ flat (rowsTo i (product n x y) x))
+
+abbrev μ-loop : tie.MeasureT-loop
+μ-loop a₀ bt n list m i₀ a i = n - i
+
+slice-aggregate-occupied : tie.Need-slice-aggregate-occupied Inv-loop μ-loop
+slice-aggregate-occupied c = omega arith
+
+occupied-requires : tie.Need-occupied-requires Inv-loop μ-loop
+occupied-requires c κs = (omega arith, omega arith, refl)
+
+loop-holds : tie.Need-loop-holds Inv-loop μ-loop
+loop-holds c = (omega arith, refl, λ x y X Y ex ey. ex ∙ ap flat (sym (to-none (product _ x y) x)))
+
+squares-requires : tie.Need-squares-requires Inv-loop μ-loop
+squares-requires c κs = (omega arith, omega arith)
+
+slice-aggregate-product-row : tie.Need-slice-aggregate-product-row Inv-loop μ-loop
+slice-aggregate-product-row c = omega arith
+
+slice-aggregate-product-row-2 : tie.Need-slice-aggregate-product-row-2 Inv-loop μ-loop
+slice-aggregate-product-row-2 c = omega arith
+
+product-row-requires : tie.Need-product-row-requires Inv-loop μ-loop
+product-row-requires c κs =
+    let o = c .before .before .before .before .before .before .before .before .before .occupied in
+    (omega arith, omega arith, omega arith, o .kept .1 .1 .0, o .ensures .0, refl)
+
+slice-aggregate-store-row : tie.Need-slice-aggregate-store-row Inv-loop μ-loop
+slice-aggregate-store-row c = omega arith
+
+store-row-requires : tie.Need-store-row-requires Inv-loop μ-loop
+store-row-requires c κs = (c .before .before .before .product-row .kept .1 .1 .1 .1 .1 .1 .0, omega arith, omega arith)
+
+add-i : tie.Need-add-i Inv-loop μ-loop
+add-i c = omega arith
+
+loop-less : tie.Need-loop-less Inv-loop μ-loop
+loop-less c = omega arith
+
+loop-again : tie.Need-loop-again Inv-loop μ-loop
+loop-again c =
+    let l = c .before .before .before .before .loop in
+    let a = c .before .before .before .before .before .before .before .before .before .before .args in
+    let o = c .before .before .before .before .before .before .occupied in
+    let s = c .before .squares in
+    let nl : a .n ≤ 1024 = omega arith in
+    ⊎-elim
+    (λ w. (
+      omega arith,
+      rw (w .11) (w .8 .kept .1 .0 ∙ l .inv .1),
+      λ x y X Y ex ey.
+          let e = l .inv .2 x y X Y ex ey in
+          let r = w .4 .ensures (a .n) (s .ensures .1) (o .ensures .1) (o .ensures .2) (bits-none 16) in
+          rw (w .11) (w .8 .ensures ∙ rw (r, e, ey) (product-store (a .n) x y X Y nl (l .i))),
+    ))
+    (λ w. (
+      omega arith,
+      rw (w .1) (l .inv .1),
+      λ x y X Y ex ey.
+          let e = l .inv .2 x y X Y ex ey in
+          let z : EmptyRow (bitAt (l .a)) (l .i) = mask-empty (bitAt (l .a)) (l .i) (s .result) (s .ensures .1) (w .0 .left) in
+          rw (w .1) (e ∙ ap flat (product-skip (a .n) x y X Y nl (l .i) (rw e at z))),
+    ))
+    (c .if1 .came)
+
+same-length : tie.Need-same-length Inv-loop μ-loop
+same-length c = search needs
+
+returns : tie.Need-returns Inv-loop μ-loop
+returns c =
+    let l = c .before .loop in
+    let a = c .before .before .before .before .before .before .before .args in
+    let e : l .i ≡ a .n = omega arith in
+    λ x y X Y ex ey. l .inv .2 x y X Y ex ey ∙ rw e (ap flat (to-all (a .n) (product (a .n) x y) x (product-set (a .n) x y X Y) X))
+
+pub compose-spec : {M : Type 1} → statement M
+compose-spec =
+    tie.close
+    (tie.spec
+    Inv-loop
+    μ-loop
+    slice-aggregate-occupied
+    occupied-requires
+    loop-holds
+    squares-requires
+    slice-aggregate-product-row
+    slice-aggregate-product-row-2
+    product-row-requires
+    slice-aggregate-store-row
+    store-row-requires
+    add-i
+    loop-less
+    loop-again
+    same-length
+    returns)

@@ -1,0 +1,104 @@
+-- `occupied` lists the rows in turn. The loop's invariant: the rows below i are listed, and the next is i. The measure is the rows left. It
+-- rests on `entries-skip` and `entries-add`. Assumes nothing.
+use mathlib.Core.Path.{_≡_, refl}
+use mathlib.Core.Logic.{⊎-elim}
+use Prim.Native.Nat.{ℕ, _≤_, _+_, _-_, _*_, _/_, _%_}
+use native.Mathlib.Omega.{arith}
+use borrow.Author.Needs.{needs}
+use lib.ListN.{length, length-set}
+use Rattle.k2.specs.Bits.{bitAt}
+use Rattle.rows.specs.Steps.{rowAt, Occupied, Masks}
+use Rattle.rows.proofs.Search.{mask-empty}
+use Rattle.rows.proofs.Entries.{occupied-none, entries-skip, entries-add, masks-add}
+use Rattle.rows.proofs.occupied.Statement.{statement}
+use Rattle.rows.proofs.occupied.Tie as tie
+
+abbrev Inv-loop : tie.InvT-loop
+Inv-loop rows n list₀ m₀ i₀ list m i = (i ≤ n) × (m ≤ i) × (length list ≡ length list₀) × Occupied (bitAt rows) i (rowAt i m list) m × Masks (bitAt rows) m list
+
+abbrev μ-loop : tie.MeasureT-loop
+μ-loop rows n list₀ m₀ i₀ list m i = n - i
+
+loop-holds : tie.Need-loop-holds Inv-loop μ-loop
+loop-holds c = (omega arith, omega arith, refl, occupied-none _ _, λ t h. absurd (omega arith))
+
+squares-requires : tie.Need-squares-requires Inv-loop μ-loop
+squares-requires c κs = (omega arith, omega arith)
+
+mul-list : tie.Need-mul-list Inv-loop μ-loop
+mul-list c = omega arith
+
+cast-list : tie.Need-cast-list Inv-loop μ-loop
+cast-list c = omega arith
+
+add-list : tie.Need-add-list Inv-loop μ-loop
+add-list c = omega arith
+
+mul-list-2 : tie.Need-mul-list-2 Inv-loop μ-loop
+mul-list-2 c = omega arith
+
+slice-write-list : tie.Need-slice-write-list Inv-loop μ-loop
+slice-write-list c = omega arith
+
+add-m : tie.Need-add-m Inv-loop μ-loop
+add-m c = omega arith
+
+add-i : tie.Need-add-i Inv-loop μ-loop
+add-i c = omega arith
+
+loop-less : tie.Need-loop-less Inv-loop μ-loop
+loop-less c = omega arith
+
+loop-again : tie.Need-loop-again Inv-loop μ-loop
+loop-again c =
+    let l = c .before .before .before .loop in
+    let s = c .before .squares in
+    let f = bitAt (c .before .before .before .before .before .before .args .rows .now) in
+    ⊎-elim
+    (λ w.
+    let v : ℕ = s .result * 1024 + l .i in
+    let p : v % 1024 ≡ l .i = omega arith in
+    let q : v / 1024 ≡ s .result = omega arith in (
+      omega arith,
+      rw (w .2) (omega arith),
+      rw (w .1, length-set) (l .inv .2),
+      rw (w .1, w .2) (entries-add f (l .i) (l .m) (l .list) (l .inv .3) v (omega arith) p),
+      rw (w .1, w .2) (masks-add f (l .m) v (l .list) (omega arith) (l .inv .4) (rw (p, q) (s .ensures .1))),
+    ))
+    (λ w. (
+      omega arith,
+      rw (w .2) (omega arith),
+      rw (w .1) (l .inv .2),
+      rw (w .1, w .2) (entries-skip f (l .i) (l .m) (l .list) (l .inv .3) (mask-empty f (l .i) _ (s .ensures .1) (w .0 .left))),
+      rw (w .1, w .2) (l .inv .4),
+    ))
+    (c .if1 .came)
+
+same-length : tie.Need-same-length Inv-loop μ-loop
+same-length c = search needs
+
+returns : tie.Need-returns Inv-loop μ-loop
+returns c =
+    let l = c .before .loop in
+    let e : l .i ≡ c .before .before .before .before .args .n = omega arith in
+    (omega arith, rw e at (l .inv .3), l .inv .4)
+
+pub occupied-spec : {M : Type 1} → statement M
+occupied-spec =
+    tie.close
+    (tie.spec
+    Inv-loop
+    μ-loop
+    loop-holds
+    squares-requires
+    mul-list
+    cast-list
+    add-list
+    mul-list-2
+    slice-write-list
+    add-m
+    add-i
+    loop-less
+    loop-again
+    same-length
+    returns)

@@ -1,0 +1,115 @@
+-- `product_row` goes over the entries. The loop's invariant: the columns before the entry reached are those of the product, and no other is
+-- set. The measure is the entries left. It rests on `row-skip`, `row-put` and, where the masks do not meet, `masks-apart`. Assumes nothing.
+use mathlib.Core.Path.{_≡_, refl, sym, ap, _∙_}
+use mathlib.Core.Logic.{⊎-elim}
+use Prim.Native.Nat.{ℕ, _≤_, _<_, _-_, _%_}
+use native.Mathlib.Omega.{arith}
+use borrow.Author.Needs.{needs}
+use lib.ListN.{length, getD}
+use Rattle.k2.specs.Bits.{bitAt}
+use Rattle.bits.specs.BitSets.{none, put}
+use Rattle.rows.specs.Steps.{Masked, rowAt, Occupied, Masks, served, below}
+use Rattle.rows.proofs.Search.{served-bit, masks-apart, row-start, row-skip, row-put}
+use Rattle.rows.proofs.Entries.{row-at, row-end}
+use Rattle.rows.proofs.product_row.Statement.{statement}
+use Rattle.rows.proofs.product_row.Tie as tie
+
+abbrev Inv-loop : tie.InvT-loop
+Inv-loop a i mask bt list m row₀ t₀ row t =
+    (t ≤ m) × (length row ≡ length row₀) × ((n : ℕ) → Masked (bitAt a) i mask → Occupied (bitAt bt) n (rowAt n m list) m → Masks (bitAt bt) m list
+    → bitAt row₀ ≡ none → bitAt row ≡ below (rowAt n m list t) (served (bitAt a) (bitAt bt) i))
+
+abbrev μ-loop : tie.MeasureT-loop
+μ-loop a i mask bt list m row₀ t₀ row t = m - t
+
+loop-holds : tie.Need-loop-holds Inv-loop μ-loop
+loop-holds c =
+    let a = c .before .before .before .before .args in
+    (omega arith, refl, λ n g o k e. e ∙ row-start (bitAt (a .a .now)) (bitAt (a .bt .now)) (a .i) n (a .m) _ o)
+
+mul-entry : tie.Need-mul-entry Inv-loop μ-loop
+mul-entry c = omega arith
+
+shared-slice-read-entry : tie.Need-shared-slice-read-entry Inv-loop μ-loop
+shared-slice-read-entry c = omega arith
+
+cast-j : tie.Need-cast-j Inv-loop μ-loop
+cast-j c = omega arith
+
+serves-requires : tie.Need-serves-requires Inv-loop μ-loop
+serves-requires c κs = (omega arith, omega arith, omega arith, omega arith)
+
+set-bit-requires : tie.Need-set-bit-requires Inv-loop μ-loop
+set-bit-requires c κs = omega arith
+
+add-t : tie.Need-add-t Inv-loop μ-loop
+add-t c = omega arith
+
+loop-less : tie.Need-loop-less Inv-loop μ-loop
+loop-less c = omega arith
+
+loop-again : tie.Need-loop-again Inv-loop μ-loop
+loop-again c =
+    let l = c .before .before .before .loop in
+    let a = c .before .before .before .before .before .before .before .before .args in
+    let f = bitAt (a .a .now) in
+    let g = bitAt (a .bt .now) in
+    let R : ℕ → ℕ → ℕ = λ n. rowAt n (a .m) (a .list .now) in
+    let S = served f g (a .i) in
+    let h : l .t < a .m = omega arith in
+    let at : (n : ℕ) → R n (l .t) ≡ getD (a .list .now) (l .t) 0 % 1024 = λ n. row-at n (a .m) (a .list .now) (l .t) h in
+    ⊎-elim
+    (λ w. (
+      omega arith,
+      rw (w .7) (w .4 .kept .0 ∙ l .inv .1),
+      λ n u o k e.
+          rw (w .7) (w .4 .ensures ∙ rw (l .inv .2 n u o k e) (
+          ap (λ (j : ℕ). put j 1 (below (R n (l .t)) S)) (sym (at n))
+          ∙ row-put f g (a .i) n (a .m) (R n) o (l .t) h (ap S (at n) ∙ sym (w .1 .ensures) ∙ w .2 .taken))),
+    ))
+    (λ v. ⊎-elim
+    (λ w. (
+      omega arith,
+      rw (w .3) (l .inv .1),
+      λ n u o k e.
+          let z : S (getD (a .list .now) (l .t) 0 % 1024) ≡ 0 =
+          omega (arith, w .1 .ensures, w .2 .left, served-bit (a .a .now) (a .bt .now) (a .i) (getD (a .list .now) (l .t) 0 % 1024)) in
+          rw (w .3) (l .inv .2 n u o k e ∙ row-skip f g (a .i) n (a .m) (R n) o (l .t) h (ap S (at n) ∙ z)),
+    ))
+    (λ w. (
+      omega arith,
+      rw (w .1) (l .inv .1),
+      λ n u o k e.
+          let z : S (getD (a .list .now) (l .t) 0 % 1024) ≡ 0 = masks-apart f g (a .i) _ (a .mask) _ u (k (l .t) h) (w .0 .left) in
+          rw (w .1) (l .inv .2 n u o k e ∙ row-skip f g (a .i) n (a .m) (R n) o (l .t) h (ap S (at n) ∙ z)),
+    ))
+    v)
+    (c .if1 .came)
+
+same-length : tie.Need-same-length Inv-loop μ-loop
+same-length c = search needs
+
+returns : tie.Need-returns Inv-loop μ-loop
+returns c =
+    let l = c .before .loop in
+    let a = c .before .before .before .before .before .before .args in
+    let e : l .t ≡ a .m = omega arith in
+    λ n g o k z. l .inv .2 n g o k z ∙ ap (λ (b : ℕ). below b (served (bitAt (a .a .now)) (bitAt (a .bt .now)) (a .i))) (ap (rowAt n (a .m) (a .list .now)) e ∙ row-end n (a .m) (a .list .now))
+
+pub product-row-spec : {M : Type 1} → statement M
+product-row-spec =
+    tie.close
+    (tie.spec
+    Inv-loop
+    μ-loop
+    loop-holds
+    mul-entry
+    shared-slice-read-entry
+    cast-j
+    serves-requires
+    set-bit-requires
+    add-t
+    loop-less
+    loop-again
+    same-length
+    returns)

@@ -1,0 +1,78 @@
+-- `store_row` copies the words. The loop's invariant: the first s words are stored, the others as at the start. The measure is the words
+-- left. It rests on `stored-more` and `stored-all`. Assumes nothing.
+use mathlib.Core.Path.{_≡_, refl}
+use Prim.Native.Nat.{_≤_, _-_}
+use native.Mathlib.Omega.{arith}
+use borrow.Author.Needs.{needs}
+use lib.ListN.{length, length-set}
+use Rattle.rows.proofs.Wordwise.{Stored, stored-none, stored-more, stored-all}
+use Rattle.rows.proofs.store_row.Statement.{statement}
+use Rattle.rows.proofs.store_row.Tie as tie
+
+abbrev Inv-loop : tie.InvT-loop
+Inv-loop row rows₀ i s₀ rows s = (s ≤ 16) × (length rows ≡ length rows₀) × Stored row rows₀ rows i s
+
+abbrev μ-loop : tie.MeasureT-loop
+μ-loop row rows₀ i s₀ rows s = 16 - s
+
+loop-holds : tie.Need-loop-holds Inv-loop μ-loop
+loop-holds c = (omega arith, refl, stored-none _ _ _)
+
+mul-rows : tie.Need-mul-rows Inv-loop μ-loop
+mul-rows c = omega arith
+
+shared-slice-read-rows : tie.Need-shared-slice-read-rows Inv-loop μ-loop
+shared-slice-read-rows c = omega arith
+
+mul-rows-2 : tie.Need-mul-rows-2 Inv-loop μ-loop
+mul-rows-2 c = omega arith
+
+add-rows : tie.Need-add-rows Inv-loop μ-loop
+add-rows c = omega arith
+
+mul-rows-3 : tie.Need-mul-rows-3 Inv-loop μ-loop
+mul-rows-3 c = omega arith
+
+slice-write-rows : tie.Need-slice-write-rows Inv-loop μ-loop
+slice-write-rows c = omega arith
+
+add-s : tie.Need-add-s Inv-loop μ-loop
+add-s c = omega arith
+
+loop-less : tie.Need-loop-less Inv-loop μ-loop
+loop-less c = omega arith
+
+loop-again : tie.Need-loop-again Inv-loop μ-loop
+loop-again c =
+    let l = c .before .before .loop in
+    let a = c .before .before .before .args in
+    (omega arith, simp length-set (l .inv .1), stored-more (a .row .now) (a .rows .now) (a .i) (l .rows) (l .s) (omega arith) (omega arith) (l .inv .2))
+
+same-length : tie.Need-same-length Inv-loop μ-loop
+same-length c = search needs
+
+returns : tie.Need-returns Inv-loop μ-loop
+returns c =
+    let l = c .before .loop in
+    let a = c .before .before .args in
+    let e : l .s ≡ 16 = omega arith in
+    stored-all (a .row .now) (a .rows .now) (a .i) (l .rows) (rw e at (l .inv .2))
+
+pub store-row-spec : {M : Type 1} → statement M
+store-row-spec =
+    tie.close
+    (tie.spec
+    Inv-loop
+    μ-loop
+    loop-holds
+    mul-rows
+    shared-slice-read-rows
+    mul-rows-2
+    add-rows
+    mul-rows-3
+    slice-write-rows
+    add-s
+    loop-less
+    loop-again
+    same-length
+    returns)

@@ -1,0 +1,195 @@
+-- `write_pairs` goes over the words, and over the bits of a word by its trailing zeros. Both invariants: the places passed of bits that are set
+-- are written, and t is their number. The measures are the words and the places of a word left. It rests on `bit-found`, `wrote-one` and, as
+-- places of bits are the words of pairs, `listed-places`. Assumes nothing.
+use mathlib.Core.Path.{_≡_, refl, sym, ap, _∙_}
+use mathlib.Core.List.{[], _∷_, _++_}
+use Prim.Native.Nat.{ℕ, _≤_, _<_, _+_, _-_, _*_, _/_, _^_}
+use native.Mathlib.Nat.{div-one}
+use native.Mathlib.Omega.{arith}
+use borrow.Author.Needs.{needs}
+use lib.Count.{trailingZeros, trailing-le}
+use lib.ListN.{length, getD, length-set, length-append}
+use Rattle.k2.specs.Bits.{bitAt}
+use Rattle.k2.specs.PairSets.{listed}
+use Rattle.rows.proofs.Listing.{places, places-first, places-longer, listed-places, Wrote, wrote-one, wrote-again, wrote-on, wrote-all, wrote-full, bit-found, bits-gone}
+use Rattle.rows.proofs.write_pairs.Statement.{statement}
+use Rattle.rows.proofs.write_pairs.Tie as tie
+
+abbrev Inv-loop2 : tie.InvT-loop2
+Inv-loop2 rows n out₀ t₀ q p₀ rest₀ out t p rest =
+    (q * 64 ≤ p) × (p ≤ q * 64 + 64) × (rest ≡ getD rows q 0 / 2 ^ (p - q * 64)) × (t ≤ length out₀) × (length out ≡ length out₀)
+    × (t ≡ length (places (bitAt rows) p)) × Wrote (places (bitAt rows) p) out₀ out
+
+abbrev μ-loop2 : tie.MeasureT-loop2
+μ-loop2 rows n out₀ t₀ q p₀ rest₀ out t p rest = q * 64 + 64 - p
+
+abbrev Inv-loop : tie.InvT-loop
+Inv-loop rows n out₀ t₀ q₀ out t q = (q ≤ n * 16) × (t ≤ length out₀) × (length out ≡ length out₀) × (t ≡ length (places (bitAt rows) (q * 64))) × Wrote (places (bitAt rows) (q * 64)) out₀ out
+
+abbrev μ-loop : tie.MeasureT-loop
+μ-loop rows n out₀ t₀ q₀ out t q = n * 16 - q
+
+loop-holds : tie.Need-loop-holds Inv-loop2 μ-loop2 Inv-loop μ-loop
+unfolding places
+loop-holds c = (omega arith, omega arith, refl, refl, refl)
+
+mul-loop : tie.Need-mul-loop Inv-loop2 μ-loop2 Inv-loop μ-loop
+mul-loop c = omega arith
+
+mul-p : tie.Need-mul-p Inv-loop2 μ-loop2 Inv-loop μ-loop
+mul-p c = omega arith
+
+mul-rest : tie.Need-mul-rest Inv-loop2 μ-loop2 Inv-loop μ-loop
+mul-rest c = omega arith
+
+shared-slice-read-rest : tie.Need-shared-slice-read-rest Inv-loop2 μ-loop2 Inv-loop μ-loop
+shared-slice-read-rest c = omega arith
+
+loop2-holds : tie.Need-loop2-holds Inv-loop2 μ-loop2 Inv-loop μ-loop
+loop2-holds c =
+    let l = c .before .before .loop in
+    let ws = c .before .before .before .args .rows .now in
+    let e : l .q * 64 - l .q * 64 ≡ 0 = omega arith in
+    (omega arith, omega arith, sym (rw e (div-one (getD ws (l .q) 0))), omega arith, refl, l .inv .3, wrote-again (places (bitAt ws) (l .q * 64)) (c .before .before .before .args .out .now) (l .out) (l .inv .4))
+
+-- the place and the rest after a bit that is set
+found : (c : tie.In-loop2 Inv-loop2 μ-loop2 Inv-loop μ-loop)
+    → (c .before .loop2 .p + trailingZeros 64 (c .before .loop2 .rest) < c .before .before .before .before .loop .q * 64 + 64)
+    × (places (bitAt (c .before .before .before .before .before .args .rows .now)) (c .before .loop2 .p + trailingZeros 64 (c .before .loop2 .rest) + 1)
+    ≡ places (bitAt (c .before .before .before .before .before .args .rows .now)) (c .before .loop2 .p) ++ ((c .before .loop2 .p + trailingZeros 64 (c .before .loop2 .rest)) ∷ []))
+    × (c .before .loop2 .rest / 2 ^ trailingZeros 64 (c .before .loop2 .rest) / 2
+    ≡ getD (c .before .before .before .before .before .args .rows .now) (c .before .before .before .before .loop .q) 0 / 2 ^ (c .before .loop2 .p + trailingZeros 64 (c .before .loop2 .rest) + 1 - c .before .before .before .before .loop .q * 64))
+found c =
+    let l = c .before .before .before .before .loop in
+    let i = c .before .loop2 in
+    let f = c .before .before .shared-slice-known .given (l .q) .fits in
+    bit-found (c .before .before .before .before .before .args .rows .now) (l .q) (i .p) (i .inv .0) f (i .rest) (trailingZeros 64 (i .rest)) (i .inv .2) (omega (arith, c .loop2-test .taken)) refl
+
+same-length : tie.Need-same-length Inv-loop2 μ-loop2 Inv-loop μ-loop
+same-length c = search needs
+
+returns : tie.Need-returns Inv-loop2 μ-loop2 Inv-loop μ-loop
+returns c =
+    let l = c .before .before .before .before .before .loop in
+    let i = c .before .before .loop2 in
+    let b = c .before .before .before .before .before .before .args in
+    let f = bitAt (b .rows .now) in
+    let nl : b .n ≤ 1024 = omega arith in
+    let r = places-first f (i .p) (b .n * 1024) (omega (arith, i .inv .1, l .inv .0)) in
+    let h : length (places f (i .p)) ≡ length (b .out .now) = omega (arith, i .inv .3, i .inv .4, i .inv .5, l .inv .2, c .if1 .taken) in
+    λ a A e. wrote-full (places f (i .p)) (listed (b .n) a) (b .out .now) (i .out) (r .0) h (listed-places (b .n) a nl A ∙ ap (λ (g : ℕ → ℕ). places g (b .n * 1024)) (sym e) ∙ r .1)
+    (wrote-on (places f (l .q * 64)) (places f (i .p)) (b .out .now) (l .out) (i .out) (places-longer f (l .q * 64) (i .p) (i .inv .0)) (l .inv .4) (i .inv .6))
+
+cast-p : tie.Need-cast-p Inv-loop2 μ-loop2 Inv-loop μ-loop
+cast-p c = omega (arith, trailing-le 64 (c .before .before .loop2 .rest))
+
+add-p : tie.Need-add-p Inv-loop2 μ-loop2 Inv-loop μ-loop
+add-p c = omega (arith, found (c .before) .0)
+
+cast-out : tie.Need-cast-out Inv-loop2 μ-loop2 Inv-loop μ-loop
+cast-out c = omega (arith, found (c .before) .0)
+
+mul-out : tie.Need-mul-out Inv-loop2 μ-loop2 Inv-loop μ-loop
+mul-out c = omega arith
+
+slice-write-out : tie.Need-slice-write-out Inv-loop2 μ-loop2 Inv-loop μ-loop
+slice-write-out c = omega arith
+
+add-t : tie.Need-add-t Inv-loop2 μ-loop2 Inv-loop μ-loop
+add-t c = omega arith
+
+add-p-2 : tie.Need-add-p-2 Inv-loop2 μ-loop2 Inv-loop μ-loop
+add-p-2 c = omega (arith, found (c .before) .0)
+
+cast-rest : tie.Need-cast-rest Inv-loop2 μ-loop2 Inv-loop μ-loop
+cast-rest c = omega (arith, trailing-le 64 (c .before .before .loop2 .rest))
+
+shr-rest : tie.Need-shr-rest Inv-loop2 μ-loop2 Inv-loop μ-loop
+shr-rest c = omega (arith, found (c .before) .0, c .before .before .loop2 .inv .0)
+
+loop2-less : tie.Need-loop2-less Inv-loop2 μ-loop2 Inv-loop μ-loop
+loop2-less c = omega (arith, found (c .before) .0)
+
+loop2-again : tie.Need-loop2-again Inv-loop2 μ-loop2 Inv-loop μ-loop
+loop2-again c =
+    let l = c .before .before .before .before .before .loop in
+    let i = c .before .before .loop2 in
+    let f = found (c .before) in
+    let L = places (bitAt (c .before .before .before .before .before .before .args .rows .now)) (i .p) in
+    let h : length L < length (l .out) = omega (arith, i .inv .5, i .inv .4, c .if1 .left) in (
+      omega (arith, i .inv .0),
+      omega (arith, f .0),
+      f .2,
+      omega (arith, i .inv .5),
+      simp length-set (i .inv .4),
+      rw (f .1, length-append) (omega (arith, i .inv .5)),
+      rw (f .1, i .inv .5) (wrote-one L (l .out) (i .out) (i .p + trailingZeros 64 (i .rest)) h (i .inv .6)),
+    )
+
+add-q : tie.Need-add-q Inv-loop2 μ-loop2 Inv-loop μ-loop
+add-q c = omega arith
+
+loop-less : tie.Need-loop-less Inv-loop2 μ-loop2 Inv-loop μ-loop
+loop-less c = omega arith
+
+loop-again : tie.Need-loop-again Inv-loop2 μ-loop2 Inv-loop μ-loop
+loop-again c =
+    let l = c .before .before .before .before .loop in
+    let i = c .before .loop2 in
+    let a = c .before .before .before .before .before .args in
+    let f = bitAt (a .rows .now) in
+    let g = c .before .before .shared-slice-known .given (l .q) .fits in
+    let e : places f ((l .q + 1) * 64) ≡ places f (i .p) = bits-gone (a .rows .now) (l .q) (i .p) (i .inv .0) g (i .inv .1) (sym (i .inv .2) ∙ c .loop2-test .left) in (
+      omega arith,
+      omega (arith, i .inv .3, l .inv .2),
+      i .inv .4 ∙ l .inv .2,
+      i .inv .5 ∙ ap length (sym e),
+      rw e (wrote-on (places f (l .q * 64)) (places f (i .p)) (a .out .now) (l .out) (i .out) (places-longer f (l .q * 64) (i .p) (i .inv .0)) (l .inv .4) (i .inv .6)),
+    )
+
+same-length-2 : tie.Need-same-length-2 Inv-loop2 μ-loop2 Inv-loop μ-loop
+same-length-2 c = omega arith
+
+returns-2 : tie.Need-returns-2 Inv-loop2 μ-loop2 Inv-loop μ-loop
+returns-2 c =
+    let l = c .before .loop in
+    let b = c .before .before .args in
+    let f = bitAt (b .rows .now) in
+    let nl : b .n ≤ 1024 = omega arith in
+    let q : l .q * 64 ≡ b .n * 1024 = omega arith in
+    λ a A e.
+    let s : listed (b .n) a ≡ places f (l .q * 64) = listed-places (b .n) a nl A ∙ ap (λ (g : ℕ → ℕ). places g (b .n * 1024)) (sym e) ∙ ap (places f) (sym q) in
+    rw s (wrote-all (places f (l .q * 64)) (b .out .now) (l .out) (omega (arith, l .inv .1, l .inv .3)) (l .inv .4))
+
+pub write-pairs-spec : {M : Type 1} → statement M
+write-pairs-spec =
+    tie.close
+    (tie.spec
+    Inv-loop2
+    μ-loop2
+    Inv-loop
+    μ-loop
+    loop-holds
+    mul-loop
+    mul-p
+    mul-rest
+    shared-slice-read-rest
+    loop2-holds
+    same-length
+    returns
+    cast-p
+    add-p
+    cast-out
+    mul-out
+    slice-write-out
+    add-t
+    add-p-2
+    cast-rest
+    shr-rest
+    loop2-less
+    loop2-again
+    add-q
+    loop-less
+    loop-again
+    same-length-2
+    returns-2)

@@ -1,0 +1,31 @@
+-- Sets of pairs of records below 1,024 as rows of bits: 1,024 rows of 16 words, so that bit p of the rows is the pair word p.
+--   flat a          the bits of a set's rows
+--   noPairs         the set that has no pair
+--   identity n      each record below n joined to itself
+--   linkPair w      the pair word of a link's word, label × 1,048,576 + pair word
+--   RowsOf n ws     the words are the rows of some set of pairs below n
+-- Assumes nothing: these are definitions.
+use mathlib.Core.Path.{_≡_}
+use mathlib.Core.List.{List}
+use Prim.Native.Nat.{ℕ, _/_, _%_}
+use lib.Dec.{ltb}
+use Rattle.book.specs.Basics.{bit}
+use Rattle.k2.specs.Bits.{bitAt}
+use Rattle.k2.specs.PairSets.{Cells, IsSet, diagonal}
+
+unfoldable pub flat : Cells → ℕ → ℕ
+flat a p = a (p / 1024) (p % 1024)
+
+unfoldable pub noPairs : Cells
+noPairs x y = 0
+
+abbrev pub identity : ℕ → Cells
+identity n = diagonal (λ x. bit (ltb x n))
+
+unfoldable pub linkPair : ℕ → ℕ
+linkPair w = w % 1048576
+
+pub record RowsOf (n : ℕ) (ws : List ℕ) : Type 0 where
+  pub set : Cells
+  pub is-set : IsSet n set
+  pub rows : bitAt ws ≡ flat set

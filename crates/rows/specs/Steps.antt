@@ -1,0 +1,63 @@
+-- What the inner functions on rows promise.
+--   EmptyRow f i    row i of the bits f has no pair
+--   Masked f i v    nor have its squares of 64 columns at which the mask v has no bit
+--   rowAt n m l t   the row of entry t of m entries, each mask × 1,024 + row; n past the last
+--   Occupied f n r m
+--                   r 0 < r 1 < .. r m are the rows below n that may hold a pair, and n: every row between them is empty
+--   Masks f m l     each of m entries has a mask of its row
+--   meets f g i j k row i of f and row j of g both have column k
+--   served f g i j  1 if they have a column in common, else 0
+--   below b g       the bits g before place b
+--   withRow i g f   f with the bits g as row i
+--   rowsTo i a b    the set a in the rows below i, b in the others
+--   plusRow i k a   a with the pairs of row k in row i besides
+--   partRow i k w f the same of bits, of the first w squares
+-- Assumes nothing: these are definitions.
+use mathlib.Core.Path.{_≡_}
+use mathlib.Core.Bool.{_&&_}
+use mathlib.Core.List.{List}
+use Prim.Native.Nat.{ℕ, _+_, _*_, _/_, _%_, _<_, min, max}
+use lib.Dec.{ltb, eqb}
+use lib.ListN.{getD}
+use Rattle.book.specs.Basics.{pick}
+use Rattle.k2.specs.Bits.{digit}
+use Rattle.k2.specs.PairSets.{Cells, most}
+
+abbrev pub EmptyRow : (ℕ → ℕ) → ℕ → Type 0
+EmptyRow f i = (k : ℕ) → k < 1024 → f (i * 1024 + k) ≡ 0
+
+abbrev pub Masked : (ℕ → ℕ) → ℕ → ℕ → Type 0
+Masked f i v = (k : ℕ) → k < 1024 → digit v (k / 64) ≡ 0 → f (i * 1024 + k) ≡ 0
+
+unfoldable pub rowAt : ℕ → ℕ → List ℕ → ℕ → ℕ
+rowAt n m l t = pick (ltb t m) (getD l t 0 % 1024) n
+
+pub record Occupied (f : ℕ → ℕ) (n : ℕ) (r : ℕ → ℕ) (m : ℕ) : Type 0 where
+  pub first : (i : ℕ) → i < r 0 → EmptyRow f i
+  pub gap : (t : ℕ) → t < m → (i : ℕ) → r t < i → i < r (t + 1) → EmptyRow f i
+  pub rise : (t : ℕ) → t < m → r t < r (t + 1)
+  pub last : r m ≡ n
+
+abbrev pub Masks : (ℕ → ℕ) → ℕ → List ℕ → Type 0
+Masks f m l = (t : ℕ) → t < m → Masked f (getD l t 0 % 1024) (getD l t 0 / 1024)
+
+unfoldable pub meets : (ℕ → ℕ) → (ℕ → ℕ) → ℕ → ℕ → ℕ → ℕ
+meets f g i j k = min (f (i * 1024 + k)) (g (j * 1024 + k))
+
+unfoldable pub served : (ℕ → ℕ) → (ℕ → ℕ) → ℕ → ℕ → ℕ
+served f g i j = most 1024 (meets f g i j)
+
+unfoldable pub below : ℕ → (ℕ → ℕ) → ℕ → ℕ
+below b g c = pick (ltb c b) (g c) 0
+
+unfoldable pub withRow : ℕ → (ℕ → ℕ) → (ℕ → ℕ) → ℕ → ℕ
+withRow i g f p = pick (eqb (p / 1024) i) (g (p % 1024)) (f p)
+
+unfoldable pub rowsTo : ℕ → Cells → Cells → Cells
+rowsTo i a b x y = pick (ltb x i) (a x y) (b x y)
+
+unfoldable pub plusRow : ℕ → ℕ → Cells → Cells
+plusRow i k a x y = pick (eqb x i) (max (a x y) (a k y)) (a x y)
+
+unfoldable pub partRow : ℕ → ℕ → ℕ → (ℕ → ℕ) → ℕ → ℕ
+partRow i k w f p = pick (eqb (p / 1024) i && ltb (p % 1024) (64 * w)) (max (f p) (f (k * 1024 + p % 1024))) (f p)

@@ -1,0 +1,282 @@
+// Sets of pairs of records below 1,024 as rows of bits, and their algebra: 1,024 rows of 16 words, so that bit p of the rows is the pair
+// word p, from * 1024 + to. A square of a row is one of its words: 64 columns.
+ghost use mathlib.Core.Path.{_≡_};
+ghost use mathlib.Core.Bool.{true};
+ghost use mathlib.Core.List.{_++_, map};
+ghost use Prim.Native.Nat.{ℕ, _+_, _*_, _≤_, _<_};
+ghost use lib.ListN.{length, take, drop};
+ghost use Rattle.k2.specs.Bits.{bitAt};
+ghost use Rattle.k2.specs.PairSets.{Cells, IsSet, listed, setOf, union, intersection, difference, transpose, product, over, closure};
+ghost use Rattle.bits.specs.BitSets.{none};
+ghost use Rattle.rows.specs.Rows.{flat, identity, linkPair, RowsOf};
+ghost use Rattle.rows.specs.Steps.{Masked, rowAt, Occupied, Masks, served, below, withRow, plusRow};
+
+// The pairs of b put into a.
+pub fn union(a: &mut [u64], b: &[u64])
+    requires { ⌜ (length (now a) ≡ 16384) × (length (now b) ≡ 16384) ⌝ }
+    ensures { λ _. ⌜ ((x y : Cells) → bitAt (now (a .entry)) ≡ flat x → bitAt (now (b .entry)) ≡ flat y
+        → bitAt (now (a .exit)) ≡ flat (union x y)) ⌝ }
+{
+    let mut i = 0;
+    while i < 16384 {
+        a[i] = a[i] | b[i];
+        i += 1;
+    }
+}
+
+// The pairs of a that b lacks taken out of a.
+pub fn intersect(a: &mut [u64], b: &[u64])
+    requires { ⌜ (length (now a) ≡ 16384) × (length (now b) ≡ 16384) ⌝ }
+    ensures { λ _. ⌜ ((x y : Cells) → bitAt (now (a .entry)) ≡ flat x → bitAt (now (b .entry)) ≡ flat y
+        → bitAt (now (a .exit)) ≡ flat (intersection x y)) ⌝ }
+{
+    let mut i = 0;
+    while i < 16384 {
+        a[i] = a[i] & b[i];
+        i += 1;
+    }
+}
+
+// The pairs of b taken out of a.
+pub fn minus(a: &mut [u64], b: &[u64])
+    requires { ⌜ (length (now a) ≡ 16384) × (length (now b) ≡ 16384) ⌝ }
+    ensures { λ _. ⌜ ((x y : Cells) → bitAt (now (a .entry)) ≡ flat x → bitAt (now (b .entry)) ≡ flat y
+        → bitAt (now (a .exit)) ≡ flat (difference x y)) ⌝ }
+{
+    let mut i = 0;
+    while i < 16384 {
+        a[i] = a[i] & !b[i];
+        i += 1;
+    }
+}
+
+// Each record below n joined to itself.
+pub fn set_diagonal(rows: &mut [u64], n: usize)
+    requires { ⌜ (n ≤ 1024) × (length (now rows) ≡ 16384) ⌝ }
+    ensures { λ _. ⌜ ((x : Cells) → bitAt (now (rows .entry)) ≡ flat x → bitAt (now (rows .exit)) ≡ flat (union x (identity n))) ⌝ }
+{
+    let mut i = 0;
+    while i < n {
+        bits::set_bit(rows, i * 1024 + i);
+        i += 1;
+    }
+}
+
+// The pairs of link words put in: a link's word is label * 1048576 + pair word, and a pair word is the word of a link of label 0.
+pub fn put_words(words: &[u32], rows: &mut [u64])
+    requires { ⌜ length (now rows) ≡ 16384 ⌝ }
+    ensures { λ _. ⌜ ((x : Cells) → bitAt (now (rows .entry)) ≡ flat x
+        → bitAt (now (rows .exit)) ≡ flat (union x (setOf (map linkPair (now (words .entry)))))) ⌝ }
+{
+    let mut i = 0;
+    while i < words.len() {
+        bits::set_bit(rows, (words[i] % 1048576) as usize);
+        i += 1;
+    }
+}
+
+// How many pairs there are.
+pub fn count_pairs(rows: &[u64], n: usize) -> usize
+    requires { ⌜ n ≤ 1024 ⌝ }
+    ensures { λ r. ⌜ ((a : Cells) → IsSet n a → bitAt (now (rows .entry)) ≡ flat a → r ≡ length (listed n a)) ⌝ }
+{
+    bits::rank(rows, n * 1024)
+}
+
+// The pair words, ascending, as many as the list takes.
+pub fn write_pairs(rows: &[u64], n: usize, out: &mut [u32])
+    requires { ⌜ (n ≤ 1024) × (length (now rows) ≡ 16384) ⌝ }
+    ensures { λ _. ⌜ ((a : Cells) → IsSet n a → bitAt (now (rows .entry)) ≡ flat a
+        → now (out .exit) ≡ take (length (now (out .entry))) (listed n a) ++ drop (length (listed n a)) (now (out .entry))) ⌝ }
+{
+    let mut t = 0;
+    let mut q = 0;
+    while q < n * 16 {
+        let mut p = q * 64;
+        let mut rest = rows[q];
+        while rest != 0 {
+            if out.len() <= t {
+                return;
+            }
+            let k = u64::trailing_zeros(rest);
+            p += k as usize;
+            out[t] = p as u32;
+            t += 1;
+            p += 1;
+            rest = (rest >> k) >> 1;
+        }
+        q += 1;
+    }
+}
+
+// Are these the rows of a set of pairs below n?
+pub fn within(rows: &[u64], n: usize) -> bool
+    requires { ⌜ (n ≤ 1024) × (length (now rows) ≡ 16384) ⌝ }
+    ensures { λ r. ⌜ (r ≡ true → RowsOf n (now (rows .entry))) × (RowsOf n (now (rows .entry)) → r ≡ true) ⌝ }
+{
+    let mut i = 0;
+    while i < n {
+        let end = i * 1024 + 1024;
+        if bits::next(rows, i * 1024 + n, end) < end {
+            return false;
+        }
+        i += 1;
+    }
+    bits::next(rows, n * 1024, 1048576) == 1048576
+}
+
+// The squares of row i that are not empty, as bits.
+fn squares(rows: &[u64], i: usize) -> u32
+    requires { ⌜ (length (now rows) ≡ 16384) × (i < 1024) ⌝ }
+    ensures { λ r. ⌜ (r < 65536) × Masked (bitAt (now (rows .entry))) i r ⌝ }
+{
+    let mut mask: u32 = 0;
+    let mut s = 0;
+    while s < 16 {
+        if rows[i * 16 + s] != 0 {
+            mask = mask | (1 << s);
+        }
+        s += 1;
+    }
+    mask
+}
+
+// The rows below n that are not empty, ascending, each an entry: its squares * 1024 + its number. How many there are.
+fn occupied(rows: &[u64], n: usize, list: &mut [u32]) -> usize
+    requires { ⌜ (n ≤ 1024) × (length (now rows) ≡ 16384) × (length (now list) ≡ 1024) ⌝ }
+    ensures { λ m. ⌜ (m ≤ 1024) × Occupied (bitAt (now (rows .entry))) n (rowAt n m (now (list .exit))) m
+        × Masks (bitAt (now (rows .entry))) m (now (list .exit)) ⌝ }
+{
+    let mut m = 0;
+    let mut i = 0;
+    while i < n {
+        let mask = squares(rows, i);
+        if mask != 0 {
+            list[m] = mask * 1024 + i as u32;
+            m += 1;
+        }
+        i += 1;
+    }
+    m
+}
+
+// 1 if some middle record serves, that is, row i of a and row j of b have a column in common, else 0. The search goes over the squares, and
+// in a square that has such a column over its records, and is left at the first that serves.
+fn serves(a: &[u64], i: usize, b: &[u64], j: usize) -> u64
+    requires { ⌜ (length (now a) ≡ 16384) × (i < 1024) × (length (now b) ≡ 16384) × (j < 1024) ⌝ }
+    ensures { λ r. ⌜ r ≡ served (bitAt (now (a .entry))) (bitAt (now (b .entry))) i j ⌝ }
+{
+    let mut found: u64 = 0;
+    let mut s = 0;
+    'search: while s < 16 {
+        let both = a[i * 16 + s] & b[j * 16 + s];
+        if both != 0 {
+            let mut k: u32 = 0;
+            while k < 64 {
+                if (both >> k) % 2 == 1 {
+                    found = 1;
+                    break 'search;
+                }
+                k += 1;
+            }
+        }
+        s += 1;
+    }
+    found
+}
+
+// Row i of the product: its columns are the entries of the list whose rows of bt serve. A column whose squares are not among those of row i
+// is passed at once.
+fn product_row(a: &[u64], i: usize, mask: u32, bt: &[u64], list: &[u32], m: usize, row: &mut [u64])
+    requires { ⌜ (length (now a) ≡ 16384) × (i < 1024) × (length (now bt) ≡ 16384) × (length (now list) ≡ 1024) × (m ≤ 1024)
+        × (length (now row) ≡ 16) ⌝ }
+    ensures { λ _. ⌜ ((n : ℕ) → Masked (bitAt (now (a .entry))) i mask → Occupied (bitAt (now (bt .entry))) n (rowAt n m (now (list .entry))) m
+        → Masks (bitAt (now (bt .entry))) m (now (list .entry)) → bitAt (now (row .entry)) ≡ none
+        → bitAt (now (row .exit)) ≡ below n (served (bitAt (now (a .entry))) (bitAt (now (bt .entry))) i)) ⌝ }
+{
+    let mut t = 0;
+    while t < m {
+        let entry = list[t];
+        if mask & (entry / 1024) != 0 {
+            let j = (entry % 1024) as usize;
+            if serves(a, i, bt, j) == 1 {
+                bits::set_bit(row, j);
+            }
+        }
+        t += 1;
+    }
+}
+
+// A row stored as row i.
+fn store_row(row: &[u64], rows: &mut [u64], i: usize)
+    requires { ⌜ (length (now row) ≡ 16) × (length (now rows) ≡ 16384) × (i < 1024) ⌝ }
+    ensures { λ _. ⌜ bitAt (now (rows .exit)) ≡ withRow i (bitAt (now (row .entry))) (bitAt (now (rows .entry))) ⌝ }
+{
+    let mut s = 0;
+    while s < 16 {
+        rows[i * 16 + s] = row[s];
+        s += 1;
+    }
+}
+
+// The product, left in a; the right operand is lent transposed. A row of the product depends on that row of a alone.
+pub fn compose(a: &mut [u64], bt: &[u64], n: usize)
+    requires { ⌜ (n ≤ 1024) × (length (now a) ≡ 16384) × (length (now bt) ≡ 16384) ⌝ }
+    ensures { λ _. ⌜ ((x y : Cells) → IsSet n x → IsSet n y → bitAt (now (a .entry)) ≡ flat x → bitAt (now (bt .entry)) ≡ flat (transpose y)
+        → bitAt (now (a .exit)) ≡ flat (product n x y)) ⌝ }
+{
+    let mut list: [u32; 1024] = [0; 1024];
+    let m = occupied(bt, n, &mut list);
+    let mut i = 0;
+    while i < n {
+        let mask = squares(a, i);
+        if mask != 0 {
+            let mut row: [u64; 16] = [0; 16];
+            product_row(a, i, mask, bt, &list, m, &mut row);
+            store_row(&row, a, i);
+        }
+        i += 1;
+    }
+}
+
+// Row k put into row i.
+fn or_row(rows: &mut [u64], i: usize, k: usize)
+    requires { ⌜ (length (now rows) ≡ 16384) × (i < 1024) × (k < 1024) ⌝ }
+    ensures { λ _. ⌜ ((x : Cells) → bitAt (now (rows .entry)) ≡ flat x → bitAt (now (rows .exit)) ≡ flat (plusRow i k x)) ⌝ }
+{
+    let mut w = 0;
+    while w < 16 {
+        rows[i * 16 + w] = rows[i * 16 + w] | rows[k * 16 + w];
+        w += 1;
+    }
+}
+
+// The pairs that lead over k put in: row k into each row of the list that has column k.
+fn lead_over(rows: &mut [u64], k: usize, list: &[u32], m: usize)
+    requires { ⌜ (length (now rows) ≡ 16384) × (k < 1024) × (length (now list) ≡ 1024) × (m ≤ 1024) ⌝ }
+    ensures { λ _. ⌜ ((n : ℕ) (x : Cells) → n ≤ 1024 → IsSet n x → Occupied (flat x) n (rowAt n m (now (list .entry))) m
+        → bitAt (now (rows .entry)) ≡ flat x → bitAt (now (rows .exit)) ≡ flat (over k x)) ⌝ }
+{
+    let mut t = 0;
+    while t < m {
+        let i = (list[t] % 1024) as usize;
+        if bits::bit(rows, i * 1024 + k) == 1 {
+            or_row(rows, i, k);
+        }
+        t += 1;
+    }
+}
+
+// One or more steps, in place, by Warshall's rounds: over each record in turn whose row is not empty.
+pub fn close(rows: &mut [u64], n: usize)
+    requires { ⌜ (n ≤ 1024) × (length (now rows) ≡ 16384) ⌝ }
+    ensures { λ _. ⌜ ((x : Cells) → IsSet n x → bitAt (now (rows .entry)) ≡ flat x → bitAt (now (rows .exit)) ≡ flat (closure n x)) ⌝ }
+{
+    let mut list: [u32; 1024] = [0; 1024];
+    let m = occupied(rows, n, &mut list);
+    let mut round = 0;
+    while round < m {
+        lead_over(rows, (list[round] % 1024) as usize, &list, m);
+        round += 1;
+    }
+}
