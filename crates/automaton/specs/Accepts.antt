@@ -1,14 +1,13 @@
 -- The theorem: the words of an expression are exactly the letter sequences of its automaton's accepted runs.
 --   words-run       Words e w exactly if Run (automaton e) 0 w
 -- Assumes nothing.
-use mathlib.Core.Path.{_≡_}
 use mathlib.Core.Logic.{_⊎_, inl, inr, _↔_}
-use mathlib.Core.List.{List, [], _∷_}
+use mathlib.Core.List.{List, _∷_}
 use Prim.Native.Nat.{ℕ, _<_, max, min}
 use native.Mathlib.Omega.{arith}
 use Rattle.paths.specs.Expressions.{Letter, Expr}
 use Rattle.paths.specs.Words.{Words}
-use Rattle.automaton.specs.Automata.{On, is, Fragment, fragment, started, automaton, Run, ends, goes}
+use Rattle.automaton.specs.Automata.{On, is, Fragment, started, automaton, Run, ends, goes}
 use Rattle.automaton.specs.SetLaws.{on-max, on-left, on-right, on-both, on-min, on-is, is-on}
 use Rattle.automaton.specs.Traces.{Trace, at, on, Reads, nothing, along, Within}
 use Rattle.automaton.specs.TraceLaws.{within}

@@ -15,7 +15,7 @@
 use mathlib.Core.List.{List, [], _∷_}
 use Prim.Native.Nat.{ℕ, suc, _+_, _<_, max, min}
 use lib.Dec.{eqb}
-use Rattle.book.specs.Basics.{pick, bit}
+use Rattle.book.specs.Basics.{bit}
 use Rattle.paths.specs.Expressions.{Letter, Symbol, standsFor, Expr, symbol, group, inverse, star, plus, optional as optional-part, alternative, sequence, letters}
 use Rattle.paths.specs.Words.{inverseLetter}
 

@@ -6,10 +6,10 @@ use Prim.Native.Nat.{ℕ, suc, _+_, _<_, _≤_, max, min}
 use native.Mathlib.Omega.{arith}
 use Rattle.book.specs.Basics.{bit}
 use Rattle.paths.specs.Expressions.{Letter, Symbol, standsFor, Expr, symbol, group, inverse, star, plus, optional as optional-part, alternative, sequence, letters}
-use Rattle.paths.specs.Words.{inverseLetter, backwards, Words, itself, inside, reversed as word-reversed, left, right, joined, once, again, star-none, star-some, optional-none, optional-once}
+use Rattle.paths.specs.Words.{backwards, Words, itself, inside, reversed as word-reversed, left, right, joined, once, again, star-none, star-some, optional-none, optional-once}
 use Rattle.paths.specs.ChainLaws.{backwards-backwards}
 use Rattle.automaton.specs.Automata.{On, is, Fragment, single, reversed, repeated, optional, either, followed, fragment}
-use Rattle.automaton.specs.SetLaws.{on-max, on-left, on-right, on-both, on-min, on-is, is-on, on-bit, bit-on}
+use Rattle.automaton.specs.SetLaws.{on-max, on-left, on-right, on-both, on-min, is-on, on-bit, bit-on}
 use Rattle.automaton.specs.Traces.{Trace, at, on, Reads, nothing, along, Between, Within}
 use Rattle.automaton.specs.TraceLaws.{trace-map, trace-join, trace-reversed, trace-forth, within}
 

@@ -1,8 +1,8 @@
 -- Laws of traces: mapped, joined and reversed; and where the positions of an expression's fragment lie. Assumes nothing.
-use mathlib.Core.Path.{_≡_, refl, sym, subst}
+use mathlib.Core.Path.{_≡_, sym, subst}
 use mathlib.Core.Logic.{_⊎_, inl, inr}
-use mathlib.Core.List.{List, [], _∷_, _++_}
-use Prim.Native.Nat.{ℕ, suc, _+_, _<_, _≤_, max, min}
+use mathlib.Core.List.{List, _++_}
+use Prim.Native.Nat.{ℕ, suc, _+_, _≤_, max, min}
 use native.Mathlib.Omega.{arith}
 use Rattle.book.specs.Basics.{bit}
 use Rattle.paths.specs.Expressions.{Letter, Symbol, standsFor, Expr, symbol, group, inverse, star, plus, optional as optional-part, alternative, sequence, letters}

@@ -5,11 +5,11 @@
 --   best-first      the best of the shortest walks from the start is the first chain
 --   none-answers    where an empty level came first there is no chain of any length
 -- Assumes nothing.
-use mathlib.Core.Path.{_≡_, refl, sym, ap, _∙_, subst}
+use mathlib.Core.Path.{_≡_, refl, sym, ap, subst}
 use mathlib.Core.Logic.{_⊎_, inl, inr}
 use mathlib.Core.List.{List, [], _∷_}
 use mathlib.Core.Bool.{true}
-use Prim.Native.Nat.{ℕ, suc, _<_, _≤_}
+use Prim.Native.Nat.{ℕ, suc, _<_}
 use native.Mathlib.Nat.{suc-inj}
 use native.Mathlib.Omega.{arith}
 use lib.ListN.{length}
@@ -19,7 +19,7 @@ use Rattle.paths.specs.Words.{Words}
 use Rattle.automaton.specs.Automata.{On, is, Automaton, automaton, Run}
 use Rattle.automaton.specs.SetLaws.{on-is, is-on}
 use Rattle.automaton.specs.Accepts.{words-run}
-use Rattle.automaton.specs.Searches.{Walk, Moves, Reach, Shut, Known, Best, Picks}
+use Rattle.automaton.specs.Searches.{Walk, Reach, Shut, Known, Best, Picks}
 use Rattle.automaton.specs.LevelLaws.{walk-more, walk-less, Which, less, same, more, which, known-none}
 
 pub length-stepWords : (ss : List Step) → length (stepWords ss) ≡ length ss

@@ -1,26 +1,25 @@
 -- From the register, the reader and the search to the book's answer. Assumes nothing.
 use mathlib.Core.Path.{_≡_, refl, sym, ap, _∙_, subst}
 use mathlib.Core.Logic.{_⊎_, inl, inr}
-use mathlib.Core.List.{List, [], _∷_, _++_}
-use mathlib.Core.Bool.{Bool, true, false}
-use Prim.Native.Nat.{ℕ, suc, _+_, _*_, _≤_, _<_, min}
+use mathlib.Core.List.{List, _++_}
+use mathlib.Core.Bool.{true}
+use Prim.Native.Nat.{ℕ, _*_, _≤_, _<_}
 use native.Mathlib.Omega.{arith}
-use lib.Dec.{leb, ltb}
-use lib.ListN.{length, getD, take, drop, length-take, take-append-drop}
+use lib.ListN.{length, getD, take, drop, take-append-drop}
 use lib.Seq.{getD-take, length-take-le}
 use borrow.Author.Tests.{le-leb, lt-leb, le-ltb, lt-ltb}
-use Rattle.book.specs.Causes.{Cause, number, firstNumber, no-record, short-work, short-list}
+use Rattle.book.specs.Causes.{number, firstNumber}
 use Rattle.book.specs.Book.{Link, Book, present}
 use Rattle.book.specs.SetLaws.{or-true}
 use Rattle.book.specs.ListLaws.{in-at, at-in}
 use Rattle.paths.specs.Expressions.{Expr}
 use Rattle.paths.specs.Grammar.{Verdict, accepted, long, outside, large, verdictCause}
-use Rattle.paths.specs.Verdicts.{verdict, InLimits}
-use Rattle.paths.specs.Chains.{Graph, asked, Step, stepWords, Answers, First, Reply, none as no-reply, chain as chain-reply, ChainIs, no-chain, first-chain}
+use Rattle.paths.specs.Verdicts.{verdict}
+use Rattle.paths.specs.Chains.{Graph, asked, Step, Answers, Reply, none as no-reply, chain as chain-reply, ChainIs, no-chain, first-chain}
 use Rattle.paths.specs.ChainLaws.{Inside}
 use Rattle.paths.specs.PairLaws.{fit-inside}
 use Rattle.paths.specs.FirstChain.{reply-only}
-use Rattle.paths.specs.Questions.{Outcome, refused, replied, ReplyTo, chainWork, steps, chainCauses, chainAnswer, listAfter}
+use Rattle.paths.specs.Questions.{refused, replied, ReplyTo, chainWork, steps, chainCauses, chainAnswer, listAfter}
 use Rattle.register.specs.declared.Register.{Register}
 use Rattle.register.specs.Links.{linkWord, linkOf, Linked}
 use Rattle.register.specs.LinkLaws.{linkOf-word}

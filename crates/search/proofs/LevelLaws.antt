@@ -1,23 +1,23 @@
 -- The levels backward: the words and numbers keep what the search knows, states not seen grow fewer, and an empty level ends the search.
 -- Assumes nothing.
-use mathlib.Core.Path.{_≡_, refl, sym, ap, _∙_, subst}
+use mathlib.Core.Path.{_≡_, refl, sym, _∙_, subst}
 use mathlib.Core.List.{List, [], _∷_}
-use mathlib.Core.Bool.{Bool, true, false}
-use Prim.Native.Nat.{ℕ, zero, suc, _+_, _-_, _*_, _/_, _%_, _≤_, _<_, max}
+use mathlib.Core.Bool.{true, false}
+use Prim.Native.Nat.{ℕ, zero, suc, _+_, _*_, _/_, _%_, _≤_, _<_}
 use native.Mathlib.Nat.{one-mul, zero-mul}
 use native.Mathlib.Omega.{arith}
 use native.Mathlib.Decide.{decLt}
 use lib.ListN.{length, getD, set, replicate, length-replicate, List·getD-eq-default}
 use lib.Seq.{getD-set-same, getD-set-other}
 use Rattle.k2.specs.Bits.{digit, bitAt, onesBelow}
-use Rattle.k2.specs.DigitLaws.{digit-lt, digit-zero, digit-none}
+use Rattle.k2.specs.DigitLaws.{digit-lt, digit-none}
 use Rattle.paths.specs.Chains.{Graph, Step, crossing}
 use Rattle.automaton.specs.Automata.{On, Automaton}
 use Rattle.automaton.specs.Masks.{letterNumber}
 use Rattle.automaton.specs.Searches.{Walk, Moves, Reach, Shut, Known, Grown}
 use Rattle.automaton.specs.LevelLaws.{walk-stop, walk-ends, known-grown, known-none, Which, less, same, more, which}
 use Rattle.search.specs.Arcs.{arcFrom, arcTo, arcLetter, letterOf, arcStep, Setting}
-use Rattle.search.specs.Levels.{numberAt, distance, Levelled, Stamped, Committed, Any, some, empty, Sought, nowhere, found}
+use Rattle.search.specs.Levels.{numberAt, distance, Levelled, Stamped, Committed, Any, some, empty, Sought, found}
 use Rattle.search.proofs.LowestLaws.{Digit, is-on, is-off, digit-of, none-on}
 use Rattle.search.proofs.MaskLaws.{zero-at}
 use Rattle.search.proofs.ArcLaws.{number-letter}

@@ -3,7 +3,7 @@ use mathlib.Core.Path.{_≡_, refl, sym, ap, _∙_, subst}
 use mathlib.Core.Logic.{_⊎_, inl, inr}
 use mathlib.Core.List.{List}
 use mathlib.Core.Bool.{Bool, true, false}
-use Prim.Native.Nat.{ℕ, zero, suc, _+_, _-_, _*_, _/_, _%_, _^_, _≤_, _<_, min, max}
+use Prim.Native.Nat.{ℕ, _+_, _*_, _^_, _≤_, _<_, max}
 use native.Mathlib.Omega.{arith}
 use lib.Bits.{bitAnd, bitOr}
 use lib.ListN.{length, getD, set}
@@ -17,7 +17,7 @@ use Rattle.automaton.specs.LevelLaws.{Which, less, same, more, which}
 use Rattle.search.specs.Arcs.{arcFrom, arcTo, arcLetter, arcStepWord}
 use Rattle.search.specs.Levels.{numberAt, Stamped, Committed, Any, some, empty}
 use Rattle.search.specs.Steps.{Kept, Serve, Chosen, Better, no-states, not-less, less as smaller}
-use Rattle.search.proofs.LowestLaws.{Digit, is-on, is-off, digit-of, none-on, some-digit, below-pow, Lowest, gone, Among}
+use Rattle.search.proofs.LowestLaws.{none-on, some-digit, below-pow, Lowest, gone, Among}
 
 -- ---- a number written
 module _ (w : List ℕ) (r q v : ℕ) where

@@ -2,11 +2,10 @@
 use mathlib.Core.Path.{_≡_, refl, sym, ap, ap₂, _∙_, subst}
 use mathlib.Core.Logic.{_⊎_, inl, inr}
 use mathlib.Core.List.{List, [], _∷_, _++_, map, append-assoc, append-nil}
-use mathlib.Core.Bool.{true}
-use Prim.Native.Nat.{ℕ, zero, suc, _+_, _-_, _*_, _/_, _%_, _≤_, _<_}
+use Prim.Native.Nat.{ℕ, suc, _+_, _-_, _*_, _/_, _%_, _≤_, _<_}
 use native.Mathlib.Numerals.{add-one}
 use native.Mathlib.Omega.{arith}
-use lib.ListN.{length, getD, set, take}
+use lib.ListN.{length, set, take}
 use lib.Seq.{take-suc-set}
 use Rattle.k2.specs.Bits.{digit}
 use Rattle.k2.specs.DigitLaws.{digit-none}
@@ -18,11 +17,11 @@ use Rattle.automaton.specs.Masks.{letterNumber}
 use Rattle.automaton.specs.Searches.{Walk, Moves, Reach, Known, Best, Picks}
 use Rattle.automaton.specs.LevelLaws.{reach-less, exact}
 use Rattle.automaton.specs.WalkLaws.{best-more, best-none}
-use Rattle.search.specs.Arcs.{arcFrom, arcTo, arcLetter, arcStepWord, letterOf, arcStep, Setting}
-use Rattle.search.specs.Levels.{numberAt, distance, Spread}
+use Rattle.search.specs.Arcs.{arcTo, arcLetter, arcStepWord, letterOf, arcStep, Setting}
+use Rattle.search.specs.Levels.{distance, Spread}
 use Rattle.search.specs.Steps.{Serve, Chosen, stepOf}
 use Rattle.search.proofs.MarkLaws.{arc-small, bit-off, bit-at}
-use Rattle.search.proofs.ArcLaws.{bit-lt, number-letter, letter-number}
+use Rattle.search.proofs.ArcLaws.{number-letter, letter-number}
 use Rattle.search.proofs.LevelLaws.{distance-on, distance-seen, step-arc, shut, arc-moves}
 
 -- ---- step words

@@ -17,7 +17,7 @@
 use mathlib.Core.Path.{_≡_}
 use mathlib.Core.Logic.{_⊎_}
 use mathlib.Core.List.{List, map}
-use Prim.Native.Nat.{ℕ, suc, _+_, _*_, _/_, _%_, _<_, _≤_}
+use Prim.Native.Nat.{ℕ, suc, _/_, _%_, _<_, _≤_}
 use lib.ListN.{length, getD, take, drop}
 use Rattle.k2.specs.Bits.{digit}
 use Rattle.paths.specs.Expressions.{Expr}

@@ -1,9 +1,9 @@
 -- The tables hold the fragments of the expressions that wait, operation by operation. Assumes nothing.
 use mathlib.Core.Path.{_≡_, refl, sym, ap, ap₂, _∙_, subst}
 use mathlib.Core.Logic.{_⊎_, inl, inr}
-use mathlib.Core.List.{List, [], _∷_}
+use mathlib.Core.List.{List, _∷_}
 use mathlib.Core.Bool.{Bool, true, false, not, _&&_}
-use Prim.Native.Nat.{ℕ, zero, suc, _+_, _-_, _*_, _/_, _%_, _^_, _≤_, _<_, min, max}
+use Prim.Native.Nat.{ℕ, zero, suc, _+_, _-_, _*_, _%_, _^_, _≤_, _<_, min, max}
 use native.Mathlib.Omega.{arith}
 use native.Mathlib.Decide.{decLt}
 use lib.Bits.{bitAnd, bitOr, or-lt, and-lt}
@@ -24,7 +24,7 @@ use Rattle.automaton.specs.Masks.{letterNumber}
 use Rattle.automaton.specs.LevelLaws.{Which, less, same, more, which}
 use Rattle.tables.specs.declared.Build.{Build}
 use Rattle.tables.specs.Rows.{Joined, Mixed, inverseNumber, Turned}
-use Rattle.tables.specs.Builds.{Item, Items, none, item, Blank, Holds}
+use Rattle.tables.specs.Builds.{Item, Items, none, item, Holds}
 
 pub zero-of : (d : ℕ) → (On d → ⊥) → d ≡ 0
 zero-of zero n = refl

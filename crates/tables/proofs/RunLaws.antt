@@ -1,8 +1,7 @@
 -- Running the code: what each number does to the tables, what stands at the start and at the end. Assumes nothing.
 use mathlib.Core.Path.{_≡_, refl, sym, ap, ap₂, _∙_, subst}
 use mathlib.Core.List.{List, [], _∷_, _++_}
-use mathlib.Core.Bool.{true}
-use Prim.Native.Nat.{ℕ, zero, suc, _+_, _*_, _≤_, _<_, min, max}
+use Prim.Native.Nat.{ℕ, zero, suc, _+_, _≤_, _<_, min, max}
 use native.Mathlib.Omega.{arith}
 use native.Mathlib.Decide.{decLt}
 use lib.Bits.{bitOr}
@@ -19,13 +18,13 @@ use Rattle.paths.specs.Verdicts.{InLimits}
 use Rattle.reader.specs.Code.{op-inverse, op-star, op-plus, op-optional, op-alternative, op-sequence, code, value, does, run}
 use Rattle.reader.specs.Running.{operands, Runs, ended, next, syntax, ungrouped}
 use Rattle.reader.specs.CodeLaws.{runs-code, code-decodes}
-use Rattle.automaton.specs.Automata.{On, is, Fragment, single, reversed, repeated, optional, either, followed, fragment, Automaton, started, automaton}
+use Rattle.automaton.specs.Automata.{is, Fragment, reversed, repeated, optional, either, followed, fragment, started, automaton}
 use Rattle.automaton.specs.Traces.{Between, Within}
 use Rattle.automaton.specs.TraceLaws.{within}
 use Rattle.automaton.specs.Masks.{letterNumber, Masked}
 use Rattle.tables.specs.declared.Build.{Build}
 use Rattle.tables.specs.Rows.{Joined}
-use Rattle.tables.specs.Builds.{Item, Items, none, item, Blank, Holds, labels, places, Next}
+use Rattle.tables.specs.Builds.{Item, Items, none, item, Holds, labels, places, Next}
 use Rattle.tables.proofs.BuildLaws.{zero-of, Top, top-of, nullable-lt, joins}
 
 -- ---- how many wait

@@ -1,18 +1,9 @@
 -- `lent` is safe: the steps fit the list, as `chain` promises. Assumes nothing.
-use mathlib.Core.Path.{_≡_}
-use Prim.Native.Nat.{_≤_}
 use native.Mathlib.Omega.{arith}
-use lib.ListN.{length}
 use Rattle.chains.specs.Replies.{answerLength}
 use borrow.Author.Needs.{needs}
 use Rattle.chaincases.proofs.lent.Statement.{statement}
 use Rattle.chaincases.proofs.lent.Tie as tie
-use Rattle.chaincases.proofs.lent.Reads as reads
-use Rattle.chaincases.proofs.lent.Lts as lts
-use Rattle.chaincases.proofs.print.Reads as print-reads
-use Rattle.chaincases.proofs.print_number.Reads as print-number-reads
-use Rattle.chaincases.proofs.print_steps.Reads as print-steps-reads
-use Rattle.chains.proofs.chain.Reads as chain-reads
 
 print-number-requires : tie.Need-print-number-requires
 print-number-requires c κs = search needs

@@ -4,9 +4,6 @@ use native.Mathlib.Omega.{arith}
 use borrow.Author.Needs.{needs}
 use Rattle.chaincases.proofs.print_steps.Statement.{statement}
 use Rattle.chaincases.proofs.print_steps.Tie as tie
-use Rattle.chaincases.proofs.print_steps.Reads as reads
-use Rattle.chaincases.proofs.print_steps.Lts as lts
-use Rattle.chaincases.proofs.print_step.Reads as print-step-reads
 
 abbrev Inv-loop : tie.InvT-loop
 Inv-loop list count i₀ i = i ≤ count

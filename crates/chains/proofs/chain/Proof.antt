@@ -1,22 +1,14 @@
 -- `chain` meets its contract: each refusal by the causes' order, and the search's answer by what a reply is (ReplyLaws). Assumes nothing.
-use mathlib.Core.Path.{_≡_, refl, sym, ap, _∙_, subst}
+use mathlib.Core.Path.{_≡_}
 use mathlib.Core.Logic.{inl, inr}
-use mathlib.Core.List.{List}
-use Prim.Native.Nat.{ℕ, _+_, _*_, _-_, _<_, _≤_}
+use Prim.Native.Nat.{_-_, _≤_}
 use native.Mathlib.Omega.{arith}
 use borrow.Author.Needs.{needs}
-use lib.ListN.{length, take}
+use lib.ListN.{length}
 use Rattle.reader.specs.ReadsLaws.{reads-accepted, reads-refused}
 use Rattle.chains.proofs.ReplyLaws.{inside, spans, in-use, asked-size, refuses-record, refuses-text, refuses-work, replies}
-use borrow.Author.Needs.{needs}
 use Rattle.chains.proofs.chain.Statement.{statement}
 use Rattle.chains.proofs.chain.Tie as tie
-use Rattle.chains.proofs.chain.Reads as reads
-use Rattle.chains.proofs.chain.Lts as lts
-use Rattle.chains.proofs.sought.Reads as sought-reads
-use Rattle.reader.proofs.read.Reads as read-reads
-use Rattle.register.proofs.Register.links.Reads as links-reads
-use Rattle.register.proofs.Register.size.Reads as size-reads
 
 size-requires : tie.Need-size-requires
 size-requires c κs = search needs

@@ -1,18 +1,7 @@
 -- `sought` meets its contract: the tables are those of the expression's automaton, and the search's promise is over any such tables. Assumes nothing.
-use mathlib.Core.Path.{_≡_, refl, sym, ap, _∙_, subst}
-use mathlib.Core.Logic.{inl, inr}
-use mathlib.Core.List.{List}
-use Prim.Native.Nat.{ℕ, _+_, _*_, _-_, _<_, _≤_}
-use native.Mathlib.Omega.{arith}
-use borrow.Author.Needs.{needs}
-use lib.ListN.{length, take}
 use borrow.Author.Needs.{needs}
 use Rattle.chains.proofs.sought.Statement.{statement}
 use Rattle.chains.proofs.sought.Tie as tie
-use Rattle.chains.proofs.sought.Reads as reads
-use Rattle.chains.proofs.sought.Lts as lts
-use Rattle.search.proofs.first_chain.Reads as first-chain-reads
-use Rattle.tables.proofs.tables_of.Reads as tables-of-reads
 
 tables-of-requires : tie.Need-tables-of-requires
 tables-of-requires c κs = search needs

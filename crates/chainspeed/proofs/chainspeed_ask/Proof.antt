@@ -6,11 +6,6 @@ use borrow.Author.Needs.{needs}
 use lib.ListN.{length}
 use Rattle.chainspeed.proofs.chainspeed_ask.Statement.{statement}
 use Rattle.chainspeed.proofs.chainspeed_ask.Tie as tie
-use Rattle.chainspeed.proofs.chainspeed_ask.Reads as reads
-use Rattle.chainspeed.proofs.chainspeed_ask.Lts as lts
-use Rattle.chains.proofs.chain.Reads as chain-reads
-use Rattle.chainspeed.proofs.told.Reads as told-reads
-use Rattle.register.proofs.replay.Reads as replay-reads
 
 abbrev Inv-loop : tie.InvT-loop
 Inv-loop n calls answers from to text work₀ list₀ times register last₀ i₀ work list last i = (length work ≡ length work₀) × (length list ≡ length list₀)

@@ -1,28 +1,23 @@
 -- `backward` meets its contract. The loop's invariant: whatever graph and automaton the arcs and tables are of, the numbers are known after l levels (Level);
 -- and at least l states have been seen. The measure is the number of states not seen, which each level that is not empty lessens (level-falls). Assumes nothing.
-use mathlib.Core.Path.{_≡_, refl, sym, ap, _∙_}
+use mathlib.Core.Path.{_≡_, refl, sym, _∙_}
 use mathlib.Core.List.{List}
 use mathlib.Core.Bool.{true, false}
-use Prim.Native.Nat.{ℕ, suc, _+_, _*_, _/_, _%_, _-_, _^_, _<_, _≤_}
+use Prim.Native.Nat.{ℕ, suc, _+_, _*_, _-_, _≤_}
 use native.Mathlib.Numerals.{add-one}
 use native.Mathlib.Omega.{arith}
 use borrow.Author.Needs.{needs}
 use borrow.Author.Tests.{not-true, not-false}
 use lib.ListN.{length, getD, set, replicate, length-set, length-replicate}
-use Rattle.k2.specs.Bits.{digit, bitAt, onesBelow}
+use Rattle.k2.specs.Bits.{bitAt, onesBelow}
 use Rattle.k2.specs.DigitLaws.{digit-zero}
 use Rattle.paths.specs.Chains.{Graph}
-use Rattle.automaton.specs.Automata.{On, Automaton}
+use Rattle.automaton.specs.Automata.{Automaton}
 use Rattle.search.specs.Arcs.{Setting}
-use Rattle.search.specs.Levels.{numberAt, Any, Committed, Sought, nowhere}
+use Rattle.search.specs.Levels.{numberAt, Any, nowhere}
 use Rattle.search.proofs.LevelLaws.{Level, level-start, level-next, level-falls, level-empty, mask-here, mask-off, ones-most, sought}
 use Rattle.search.proofs.backward.Statement.{statement}
 use Rattle.search.proofs.backward.Tie as tie
-use Rattle.search.proofs.backward.Reads as reads
-use Rattle.search.proofs.backward.Lts as lts
-use Rattle.search.proofs.commit.Reads as commit-reads
-use Rattle.search.proofs.level.Reads as level-reads
-use Rattle.search.proofs.stamp.Reads as stamp-reads
 
 abbrev Inv-loop : tie.InvT-loop
 Inv-loop arcs count pred enter fin n x y work₀ cur₀ seen₀ l₀ work cur seen l =

@@ -1,20 +1,14 @@
 -- `choose` meets its contract. The loop's invariant: it is met for the first j arcs (Chosen). The measure is what is left of the arcs. Assumes nothing.
-use mathlib.Core.Path.{_≡_, refl, sym, ap, _∙_}
+use mathlib.Core.Path.{_≡_}
 use mathlib.Core.Logic.{⊎-elim}
-use Prim.Native.Nat.{ℕ, suc, _+_, _*_, _/_, _%_, _-_, _^_, _<_, _≤_}
+use Prim.Native.Nat.{_-_, _≤_}
 use native.Mathlib.Omega.{arith}
 use borrow.Author.Needs.{needs}
-use lib.ListN.{length, getD, set, replicate, length-set, length-replicate}
-use Rattle.k2.specs.Bits.{digit}
 use Rattle.search.specs.Arcs.{arcFrom, arcTo, arcLetter}
 use Rattle.search.specs.Steps.{Chosen}
 use Rattle.search.proofs.MarkLaws.{chosen-none, chosen-skip, chosen-more}
 use Rattle.search.proofs.choose.Statement.{statement}
 use Rattle.search.proofs.choose.Tie as tie
-use Rattle.search.proofs.choose.Reads as reads
-use Rattle.search.proofs.choose.Lts as lts
-use Rattle.search.proofs.better.Reads as better-reads
-use Rattle.search.proofs.kept.Reads as kept-reads
 
 abbrev Inv-loop : tie.InvT-loop
 Inv-loop arcs count enter work seen n r fo want best₀ j₀ best j = (j ≤ count) × Chosen arcs enter work seen n r fo want j (best .word) (best .states)

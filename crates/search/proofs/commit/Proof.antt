@@ -1,18 +1,13 @@
 -- `commit` meets its contract. The loop's invariant: it is met below r (Committed, Any). The measure is what is left of the records. Assumes nothing.
-use mathlib.Core.Path.{_≡_, refl, sym, ap, _∙_}
+use mathlib.Core.Path.{_≡_, refl, _∙_}
 use mathlib.Core.Logic.{⊎-elim}
-use Prim.Native.Nat.{ℕ, suc, _+_, _*_, _/_, _%_, _-_, _^_, _<_, _≤_}
+use Prim.Native.Nat.{_-_, _≤_}
 use native.Mathlib.Omega.{arith}
-use borrow.Author.Needs.{needs}
-use lib.ListN.{length, getD, set, replicate, length-set, length-replicate}
-use Rattle.k2.specs.Bits.{digit}
+use lib.ListN.{length, length-set}
 use Rattle.search.specs.Levels.{Committed, Any}
 use Rattle.search.proofs.MarkLaws.{commit-none, commit-yes, commit-no, any-none, any-yes, any-no}
 use Rattle.search.proofs.commit.Statement.{statement}
 use Rattle.search.proofs.commit.Tie as tie
-use Rattle.search.proofs.commit.Reads as reads
-use Rattle.search.proofs.commit.Lts as lts
-use Rattle.search.proofs.stamp.Reads as stamp-reads
 
 abbrev Inv-loop : tie.InvT-loop
 Inv-loop work₀ seen₀ next n mark any₀ r₀ work seen any r =

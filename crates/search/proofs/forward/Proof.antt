@@ -1,26 +1,19 @@
 -- `forward` meets its contract. The loop's invariant: the words past the steps are as they were, and the steps written so far, put before any best walk from
 -- where they lead, are a best walk from the start (Going). The measure is the number of steps to come. Assumes nothing.
-use mathlib.Core.Path.{_≡_, refl, sym, ap, _∙_}
+use mathlib.Core.Path.{_≡_, refl}
 use mathlib.Core.List.{List}
-use Prim.Native.Nat.{ℕ, suc, _+_, _*_, _/_, _%_, _-_, _^_, _<_, _≤_}
-use native.Mathlib.Numerals.{add-one}
+use Prim.Native.Nat.{ℕ, suc, _-_, _≤_}
 use native.Mathlib.Omega.{arith}
-use borrow.Author.Needs.{needs}
-use lib.ListN.{length, getD, set, take, drop, replicate, length-set, length-replicate}
+use lib.ListN.{length, drop, length-set}
 use lib.Seq.{drop-set-lt}
 use Rattle.paths.specs.Chains.{Graph}
-use Rattle.automaton.specs.Automata.{On, Automaton}
+use Rattle.automaton.specs.Automata.{Automaton}
 use Rattle.automaton.specs.Searches.{Known}
 use Rattle.search.specs.Arcs.{Setting}
 use Rattle.search.specs.Levels.{distance}
-use Rattle.search.specs.Steps.{Walked}
 use Rattle.search.proofs.WalkLaws.{Going, going-start, going-more, going-ends}
 use Rattle.search.proofs.forward.Statement.{statement}
 use Rattle.search.proofs.forward.Tie as tie
-use Rattle.search.proofs.forward.Reads as reads
-use Rattle.search.proofs.forward.Lts as lts
-use Rattle.search.proofs.choose.Reads as choose-reads
-use Rattle.search.proofs.spread.Reads as spread-reads
 
 abbrev Inv-loop : tie.InvT-loop
 Inv-loop arcs count follow enter work seen n x steps out₀ r₀ states₀ t₀ out r states t =

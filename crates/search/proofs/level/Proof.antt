@@ -1,20 +1,15 @@
 -- `level` meets its contract. The loop's invariant: the words are those that the first j arcs give (Levelled). The measure is what is left of the arcs.
 -- Assumes nothing.
-use mathlib.Core.Path.{_≡_, refl, sym, ap, _∙_}
+use mathlib.Core.Path.{_≡_}
 use mathlib.Core.Logic.{⊎-elim}
-use Prim.Native.Nat.{ℕ, suc, _+_, _*_, _/_, _%_, _-_, _^_, _<_, _≤_}
+use Prim.Native.Nat.{ℕ, _-_, _≤_}
 use native.Mathlib.Omega.{arith}
-use borrow.Author.Needs.{needs}
-use lib.ListN.{length, getD, set, replicate, length-set, length-replicate}
-use Rattle.k2.specs.Bits.{digit}
+use lib.ListN.{length, length-set, length-replicate}
 use Rattle.search.specs.Arcs.{arcFrom, arcTo, arcLetter}
 use Rattle.search.specs.Levels.{Levelled}
 use Rattle.search.proofs.MaskLaws.{level-none, level-skip, level-more}
 use Rattle.search.proofs.level.Statement.{statement}
 use Rattle.search.proofs.level.Tie as tie
-use Rattle.search.proofs.level.Reads as reads
-use Rattle.search.proofs.level.Lts as lts
-use Rattle.search.proofs.spread.Reads as spread-reads
 
 abbrev Inv-loop : tie.InvT-loop
 Inv-loop arcs count pred enter cur seen next₀ j₀ next j = (j ≤ count) × (length next ≡ 1024) × Levelled arcs pred enter cur seen j next

@@ -1,19 +1,12 @@
 -- `either` meets its contract, by the law of the tables (holds-alternative). Assumes nothing.
-use mathlib.Core.Path.{_≡_, refl, sym, ap, _∙_, subst}
-use mathlib.Core.Logic.{⊎-elim}
-use mathlib.Core.List.{List, _∷_}
-use Prim.Native.Nat.{ℕ, suc, _+_, _*_, _/_, _%_, _-_, _^_, _<_, _≤_}
+use mathlib.Core.Path.{_≡_, refl}
+use Prim.Native.Nat.{suc, _-_}
 use native.Mathlib.Omega.{arith}
 use borrow.Author.Needs.{needs}
-use lib.ListN.{length, getD, set, length-set}
-use Rattle.k2.specs.Bits.{digit}
-use Rattle.k2.specs.DigitLaws.{one-shl}
+use lib.ListN.{length}
 use Rattle.tables.proofs.BuildLaws.{holds-alternative}
-use borrow.Author.Needs.{needs}
 use Rattle.tables.proofs.either.Statement.{statement}
 use Rattle.tables.proofs.either.Tie as tie
-use Rattle.tables.proofs.either.Reads as reads
-use Rattle.tables.proofs.either.Lts as lts
 
 sub-j : tie.Need-sub-j
 sub-j c = search needs

@@ -1,21 +1,12 @@
 -- `followed` meets its contract, by the law of the tables (holds-sequence). Assumes nothing.
-use mathlib.Core.Path.{_≡_, refl, sym, ap, _∙_, subst}
-use mathlib.Core.Logic.{⊎-elim}
-use mathlib.Core.List.{List, _∷_}
-use Prim.Native.Nat.{ℕ, suc, _+_, _*_, _/_, _%_, _-_, _^_, _<_, _≤_}
+use mathlib.Core.Path.{_≡_, refl}
+use Prim.Native.Nat.{suc, _-_}
 use native.Mathlib.Omega.{arith}
 use borrow.Author.Needs.{needs}
-use lib.ListN.{length, getD, set, length-set}
-use Rattle.k2.specs.Bits.{digit}
-use Rattle.k2.specs.DigitLaws.{one-shl}
+use lib.ListN.{length}
 use Rattle.tables.proofs.BuildLaws.{holds-sequence}
-use borrow.Author.Needs.{needs}
 use Rattle.tables.proofs.followed.Statement.{statement}
 use Rattle.tables.proofs.followed.Tie as tie
-use Rattle.tables.proofs.followed.Reads as reads
-use Rattle.tables.proofs.followed.Lts as lts
-use Rattle.tables.proofs.joined.Reads as joined-reads
-use Rattle.tables.proofs.only.Reads as only-reads
 
 sub-j : tie.Need-sub-j
 sub-j c = search needs

@@ -1,21 +1,11 @@
 -- `inverted` meets its contract, by the law of the tables (holds-inverse). Assumes nothing.
-use mathlib.Core.Path.{_≡_, refl, sym, ap, _∙_, subst}
-use mathlib.Core.Logic.{⊎-elim}
-use mathlib.Core.List.{List, _∷_}
-use Prim.Native.Nat.{ℕ, suc, _+_, _*_, _/_, _%_, _-_, _^_, _<_, _≤_}
+use mathlib.Core.Path.{_≡_, refl}
 use native.Mathlib.Omega.{arith}
 use borrow.Author.Needs.{needs}
-use lib.ListN.{length, getD, set, length-set}
-use Rattle.k2.specs.Bits.{digit}
-use Rattle.k2.specs.DigitLaws.{one-shl}
+use lib.ListN.{length}
 use Rattle.tables.proofs.BuildLaws.{holds-inverse}
-use borrow.Author.Needs.{needs}
 use Rattle.tables.proofs.inverted.Statement.{statement}
 use Rattle.tables.proofs.inverted.Tie as tie
-use Rattle.tables.proofs.inverted.Reads as reads
-use Rattle.tables.proofs.inverted.Lts as lts
-use Rattle.tables.proofs.mixed.Reads as mixed-reads
-use Rattle.tables.proofs.turned.Reads as turned-reads
 
 sub-j : tie.Need-sub-j
 sub-j c = search needs

@@ -1,19 +1,15 @@
 -- `joined` meets its contract. The loop's invariant: it is met for the rows below p (Joined). The measure is what is left of the rows. Assumes nothing.
-use mathlib.Core.Path.{_≡_, refl, sym, ap, _∙_, subst}
+use mathlib.Core.Path.{_≡_}
 use mathlib.Core.Logic.{⊎-elim}
-use mathlib.Core.List.{List, _∷_}
-use Prim.Native.Nat.{ℕ, suc, _+_, _*_, _/_, _%_, _-_, _^_, _<_, _≤_}
+use Prim.Native.Nat.{_-_, _≤_}
 use native.Mathlib.Omega.{arith}
 use borrow.Author.Needs.{needs}
-use lib.ListN.{length, getD, set, length-set}
+use lib.ListN.{length, length-set}
 use Rattle.k2.specs.Bits.{digit}
-use Rattle.k2.specs.DigitLaws.{one-shl}
 use Rattle.tables.specs.Rows.{Joined}
 use Rattle.tables.proofs.RowLaws.{joined-none, joined-yes, joined-no}
 use Rattle.tables.proofs.joined.Statement.{statement}
 use Rattle.tables.proofs.joined.Tie as tie
-use Rattle.tables.proofs.joined.Reads as reads
-use Rattle.tables.proofs.joined.Lts as lts
 
 abbrev Inv-loop : tie.InvT-loop
 Inv-loop from to r₀ p₀ r p = (p ≤ 64) × (length r ≡ 64) × Joined r₀ from to p r

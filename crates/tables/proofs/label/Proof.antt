@@ -1,19 +1,13 @@
 -- `label` meets its contract, by the law of the tables (holds-letter). Assumes nothing.
-use mathlib.Core.Path.{_≡_, refl, sym, ap, _∙_, subst}
-use mathlib.Core.Logic.{⊎-elim}
-use mathlib.Core.List.{List, _∷_}
-use Prim.Native.Nat.{ℕ, suc, _+_, _*_, _/_, _%_, _-_, _^_, _<_, _≤_}
+use mathlib.Core.Path.{_≡_, refl}
+use Prim.Native.Nat.{_+_}
 use native.Mathlib.Omega.{arith}
 use borrow.Author.Needs.{needs}
-use lib.ListN.{length, getD, set, length-set}
-use Rattle.k2.specs.Bits.{digit}
+use lib.ListN.{length}
 use Rattle.k2.specs.DigitLaws.{one-shl}
 use Rattle.tables.proofs.BuildLaws.{holds-letter}
-use borrow.Author.Needs.{needs}
 use Rattle.tables.proofs.label.Statement.{statement}
 use Rattle.tables.proofs.label.Tie as tie
-use Rattle.tables.proofs.label.Reads as reads
-use Rattle.tables.proofs.label.Lts as lts
 
 add-q : tie.Need-add-q
 add-q c = search needs

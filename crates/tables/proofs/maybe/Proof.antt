@@ -1,21 +1,13 @@
 -- `maybe` meets its contract, by the law of the tables (holds-optional). Assumes nothing.
-use mathlib.Core.Path.{_≡_, refl, sym, ap, _∙_, subst}
-use mathlib.Core.Logic.{⊎-elim}
-use mathlib.Core.List.{List, _∷_}
-use Prim.Native.Nat.{ℕ, suc, _+_, _*_, _/_, _%_, _-_, _^_, _<_, _≤_}
+use mathlib.Core.Path.{_≡_, refl}
 use native.Mathlib.Omega.{arith}
 use borrow.Author.Needs.{needs}
-use lib.ListN.{length, getD, set, length-set}
-use Rattle.k2.specs.Bits.{digit}
-use Rattle.k2.specs.DigitLaws.{one-shl}
+use lib.ListN.{length}
 use Rattle.paths.specs.Expressions.{star, optional, letters}
 use Rattle.automaton.specs.Automata.{fragment}
 use Rattle.tables.proofs.BuildLaws.{holds-optional}
-use borrow.Author.Needs.{needs}
 use Rattle.tables.proofs.maybe.Statement.{statement}
 use Rattle.tables.proofs.maybe.Tie as tie
-use Rattle.tables.proofs.maybe.Reads as reads
-use Rattle.tables.proofs.maybe.Lts as lts
 
 sub-j : tie.Need-sub-j
 sub-j c = search needs

@@ -1,20 +1,9 @@
 -- `repeated` meets its contract, by the law of the tables (holds-plus). Assumes nothing.
-use mathlib.Core.Path.{_≡_, refl, sym, ap, _∙_, subst}
-use mathlib.Core.Logic.{⊎-elim}
-use mathlib.Core.List.{List, _∷_}
-use Prim.Native.Nat.{ℕ, suc, _+_, _*_, _/_, _%_, _-_, _^_, _<_, _≤_}
-use native.Mathlib.Omega.{arith}
+use mathlib.Core.Path.{refl}
 use borrow.Author.Needs.{needs}
-use lib.ListN.{length, getD, set, length-set}
-use Rattle.k2.specs.Bits.{digit}
-use Rattle.k2.specs.DigitLaws.{one-shl}
 use Rattle.tables.proofs.BuildLaws.{holds-plus}
-use borrow.Author.Needs.{needs}
 use Rattle.tables.proofs.repeated.Statement.{statement}
 use Rattle.tables.proofs.repeated.Tie as tie
-use Rattle.tables.proofs.repeated.Reads as reads
-use Rattle.tables.proofs.repeated.Lts as lts
-use Rattle.tables.proofs.joined.Reads as joined-reads
 
 sub-j : tie.Need-sub-j
 sub-j c = search needs

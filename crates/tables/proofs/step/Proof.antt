@@ -1,25 +1,8 @@
 -- `step` meets its contract: each number does to the tables what it does to the expressions that wait (RunLaws). Assumes nothing.
-use mathlib.Core.Path.{_≡_, refl, sym, ap, _∙_, subst}
-use mathlib.Core.Logic.{⊎-elim}
-use mathlib.Core.List.{List, _∷_}
-use Prim.Native.Nat.{ℕ, suc, _+_, _*_, _/_, _%_, _-_, _^_, _<_, _≤_}
 use native.Mathlib.Omega.{arith}
-use borrow.Author.Needs.{needs}
-use lib.ListN.{length, getD, set, length-set}
-use Rattle.k2.specs.Bits.{digit}
-use Rattle.k2.specs.DigitLaws.{one-shl}
-use Rattle.tables.specs.Builds.{Next}
 use Rattle.tables.proofs.RunLaws.{is-inverse, is-star, is-plus, is-optional, is-alternative, is-sequence, number-known, room-label, after-label, room-one, after-one, room-two, after-two}
 use Rattle.tables.proofs.step.Statement.{statement}
 use Rattle.tables.proofs.step.Tie as tie
-use Rattle.tables.proofs.step.Reads as reads
-use Rattle.tables.proofs.step.Lts as lts
-use Rattle.tables.proofs.either.Reads as either-reads
-use Rattle.tables.proofs.followed.Reads as followed-reads
-use Rattle.tables.proofs.inverted.Reads as inverted-reads
-use Rattle.tables.proofs.label.Reads as label-reads
-use Rattle.tables.proofs.maybe.Reads as maybe-reads
-use Rattle.tables.proofs.repeated.Reads as repeated-reads
 
 label-requires : tie.Need-label-requires
 label-requires c κs = let z = room-label (c .before .pre .2) (c .if1 .taken) in (z .0, z .1, c .if1 .taken)

@@ -1,14 +1,11 @@
 -- `tables_of` meets its contract. The loop's invariant: the rest of the code, run on what the tables hold, leaves the expression (Next). The measure is what is
 -- left of the code. Assumes nothing.
-use mathlib.Core.Path.{_≡_, refl, sym, ap, _∙_, subst}
-use mathlib.Core.Logic.{⊎-elim}
-use mathlib.Core.List.{List, _∷_}
-use Prim.Native.Nat.{ℕ, suc, _+_, _*_, _/_, _%_, _-_, _^_, _<_, _≤_}
+use mathlib.Core.Path.{_≡_}
+use mathlib.Core.List.{List}
+use Prim.Native.Nat.{ℕ, suc, _-_, _≤_}
 use native.Mathlib.Omega.{arith}
 use borrow.Author.Needs.{needs}
-use lib.ListN.{length, getD, set, length-set}
-use Rattle.k2.specs.Bits.{digit}
-use Rattle.k2.specs.DigitLaws.{one-shl}
+use lib.ListN.{length}
 use native.Mathlib.Numerals.{add-one}
 use lib.ListN.{drop, drop-of-length-le, length-replicate}
 use lib.Seq.{drop-cons}
@@ -20,10 +17,6 @@ use Rattle.tables.specs.Builds.{Next}
 use Rattle.tables.proofs.RunLaws.{next-none, holds-none, zeros-at, at-end, masked, masked-ungrouped}
 use Rattle.tables.proofs.tables_of.Statement.{statement}
 use Rattle.tables.proofs.tables_of.Tie as tie
-use Rattle.tables.proofs.tables_of.Reads as reads
-use Rattle.tables.proofs.tables_of.Lts as lts
-use Rattle.tables.proofs.joined.Reads as joined-reads
-use Rattle.tables.proofs.step.Reads as step-reads
 
 abbrev Inv-loop : tie.InvT-loop
 Inv-loop numbers b₀ i₀ b i =
@@ -78,7 +71,7 @@ returns c =
     let l = c .before .before .before .before .before .before .before .before .loop in
     λ text e L q. (
     let h = at-end (rw (drop-of-length-le s (let z : length s ≤ l .i = omega arith in z)) at (l .inv .2 text e L q)) in
-    masked-ungrouped e (masked (h .1) (l .inv .1) (c .joined .ensures))
+    masked-ungrouped e (masked {m = h .0} (h .1) (l .inv .1) (c .joined .ensures))
     )
 
 pub tables-of-spec : {M : Type 1} → statement M

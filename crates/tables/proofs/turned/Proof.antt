@@ -1,19 +1,13 @@
 -- `turned` meets its contract. The loop's invariant: it is met for the letters below c (Turned). The measure is what is left of the letters. Assumes nothing.
-use mathlib.Core.Path.{_≡_, refl, sym, ap, _∙_, subst}
-use mathlib.Core.Logic.{⊎-elim}
-use mathlib.Core.List.{List, _∷_}
-use Prim.Native.Nat.{ℕ, suc, _+_, _*_, _/_, _%_, _-_, _^_, _<_, _≤_}
+use mathlib.Core.Path.{_≡_}
+use Prim.Native.Nat.{_-_, _≤_}
 use native.Mathlib.Omega.{arith}
 use borrow.Author.Needs.{needs}
-use lib.ListN.{length, getD, set, length-set}
-use Rattle.k2.specs.Bits.{digit}
-use Rattle.k2.specs.DigitLaws.{one-shl}
+use lib.ListN.{length, length-set}
 use Rattle.tables.specs.Rows.{Turned}
 use Rattle.tables.proofs.RowLaws.{turned-none, turned-more}
 use Rattle.tables.proofs.turned.Statement.{statement}
 use Rattle.tables.proofs.turned.Tie as tie
-use Rattle.tables.proofs.turned.Reads as reads
-use Rattle.tables.proofs.turned.Lts as lts
 
 abbrev Inv-loop : tie.InvT-loop
 Inv-loop own enter r₀ c₀ r c = (c ≤ 64) × (length r ≡ 64) × Turned enter own c r
