@@ -1,0 +1,10 @@
+pub mod Automata
+pub mod SetLaws
+pub mod Traces
+pub mod TraceLaws
+pub mod ReadLaws
+pub mod Accepts
+pub mod Masks
+pub mod Searches
+pub mod LevelLaws
+pub mod WalkLaws

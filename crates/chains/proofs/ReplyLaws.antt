@@ -1,0 +1,178 @@
+-- From the register, the reader and the search to the book's answer. Assumes nothing.
+use mathlib.Core.Path.{_≡_, refl, sym, ap, _∙_, subst}
+use mathlib.Core.Logic.{_⊎_, inl, inr}
+use mathlib.Core.List.{List, _++_}
+use mathlib.Core.Bool.{true}
+use Prim.Native.Nat.{ℕ, _*_, _≤_, _<_}
+use native.Mathlib.Omega.{arith}
+use lib.ListN.{length, getD, take, drop, take-append-drop}
+use lib.Seq.{getD-take, length-take-le}
+use borrow.Author.Tests.{le-leb, lt-leb, le-ltb, lt-ltb}
+use Rattle.book.specs.Causes.{number, firstNumber}
+use Rattle.book.specs.Book.{Link, Book, present}
+use Rattle.book.specs.SetLaws.{or-true}
+use Rattle.book.specs.ListLaws.{in-at, at-in}
+use Rattle.paths.specs.Expressions.{Expr}
+use Rattle.paths.specs.Grammar.{Verdict, accepted, long, outside, large, verdictCause}
+use Rattle.paths.specs.Verdicts.{verdict}
+use Rattle.paths.specs.Chains.{Graph, asked, Step, Answers, Reply, none as no-reply, chain as chain-reply, ChainIs, no-chain, first-chain}
+use Rattle.paths.specs.ChainLaws.{Inside}
+use Rattle.paths.specs.PairLaws.{fit-inside}
+use Rattle.paths.specs.FirstChain.{reply-only}
+use Rattle.paths.specs.Questions.{refused, replied, ReplyTo, chainWork, steps, chainCauses, chainAnswer, listAfter}
+use Rattle.register.specs.declared.Register.{Register}
+use Rattle.register.specs.Links.{linkWord, linkOf, Linked}
+use Rattle.register.specs.LinkLaws.{linkOf-word}
+use Rattle.register.specs.Calls.{Represents}
+use Rattle.automaton.specs.WalkLaws.{length-stepWords}
+use Rattle.search.specs.Arcs.{Spans}
+use Rattle.search.specs.Steps.{Untouched, written, none as none-found, too-long, Answered, first, none, short}
+use Rattle.search.specs.declared.Found.{Found}
+use Rattle.search.specs.declared.Found.the-variants.{Steps, Nowhere, Short}
+use Rattle.chains.specs.declared.ChainAnswer.{ChainAnswer}
+use Rattle.chains.specs.declared.ChainAnswer.the-variants.{Chain, NoChain, Refused}
+use Rattle.chains.specs.Replies.{outcomeOf, answerLength, Replies}
+
+-- ---- the register's words span the book's graph
+module _ {self : Register} {b : Book} (R : Represents self b) where
+  pub inside : Inside (asked b)
+  inside = fit-inside b (R .sheet .fit)
+
+  module _ {n : ℕ} (size : n ≡ b .n) (hn : n ≤ 1024) where
+    -- a word of a present link is that of no other
+    word-link : (w : ℕ) (k : Link) → w ≡ linkWord k → present (b .sheet) k ≡ true → linkOf w ≡ k
+    word-link w k e p = let f = R .sheet .fit .links k p in let a = f .from in let c = f .to in ap linkOf e ∙ linkOf-word k (omega arith) (omega arith)
+
+    pub spans : (ws : List ℕ) (m : ℕ) → Linked (take m ws) (b .sheet) → m ≤ length ws → Spans ws m (asked b)
+    unfolding asked
+    spans ws m L hm = record { sound = sn; whole = wh }
+      where
+        sn : (i : ℕ) → i < m → present (b .sheet) (linkOf (getD ws i 0)) ≡ true
+        sn i h =
+            let e : length (take m ws) ≡ m = length-take-le m ws hm in
+            let z = L .sound (getD (take m ws) i 0) (at-in (take m ws) i 0 (omega arith)) in
+            let g = sym (getD-take m ws i 0 h) ∙ z .1 in
+            rw (word-link (getD ws i 0) (z .0) g (z .2)) (z .2)
+
+        wh : (k : Link) → present (b .sheet) k ≡ true → (i : ℕ) × (i < m) × (linkOf (getD ws i 0) ≡ k)
+        wh k p =
+            let e : length (take m ws) ≡ m = length-take-le m ws hm in
+            let z = in-at 0 (L .whole k p) in
+            let h : z .0 < m = omega (arith, z .1) in
+            (z .0, h, word-link (getD ws (z .0) 0) k (sym (getD-take m ws (z .0) 0 h) ∙ z .2) p)
+
+  -- a record below n is in use
+  pub in-use : {n : ℕ} → n ≡ b .n → (x : ℕ) → x < n → asked b .inUse x ≡ true
+  unfolding asked
+  in-use e x h = lt-ltb x (b .n) (omega arith)
+
+  pub asked-size : {n : ℕ} → n ≡ b .n → asked b .n ≡ n
+  unfolding asked
+  asked-size e = sym e
+
+-- ---- the book's answer, by the first cause
+module _ (b : Book) (x y : ℕ) (t : Reply) (work room : ℕ) where
+  pub answer-record : (v : Verdict) → (b .n ≤ x) ⊎ (b .n ≤ y) → chainAnswer b x y v t work room ≡ refused 2
+  unfolding chainAnswer chainCauses firstNumber number
+  answer-record v (inl h) = rw (le-leb (b .n) x h)
+  answer-record v (inr h) = rw (le-leb (b .n) y h, or-true)
+
+  module _ (hx : x < b .n) (hy : y < b .n) where
+    pub answer-text : (v : Verdict) (k : ℕ) → firstNumber (verdictCause v) ≡ k → 0 < k → chainAnswer b x y v t work room ≡ refused k
+    unfolding chainAnswer chainCauses firstNumber number verdictCause
+    answer-text (accepted e) k q h = absurd (omega arith)
+    answer-text long k q h = rw (lt-leb (b .n) x hx, lt-leb (b .n) y hy) (ap refused q)
+    answer-text outside k q h = rw (lt-leb (b .n) x hx, lt-leb (b .n) y hy) (ap refused q)
+    answer-text large k q h = rw (lt-leb (b .n) x hx, lt-leb (b .n) y hy) (ap refused q)
+
+    module _ (v : Verdict) (e : Expr) (a : v ≡ accepted e) where
+      pub answer-work : work < chainWork (b .n) → chainAnswer b x y v t work room ≡ refused 12
+      unfolding chainAnswer chainCauses firstNumber number verdictCause
+      answer-work h = rw (a, lt-leb (b .n) x hx, lt-leb (b .n) y hy, lt-ltb work (64 * b .n) h)
+
+      module _ (enough : chainWork (b .n) ≤ work) where
+        pub answer-list : room < length (steps t) → chainAnswer b x y v t work room ≡ refused 13
+        unfolding chainAnswer chainCauses firstNumber number verdictCause
+        answer-list h = rw (a, lt-leb (b .n) x hx, lt-leb (b .n) y hy, le-ltb work (64 * b .n) enough, lt-ltb room (length (steps t)) h)
+
+        pub answer-reply : length (steps t) ≤ room → chainAnswer b x y v t work room ≡ replied t
+        unfolding chainAnswer chainCauses firstNumber number verdictCause
+        answer-reply h = rw (a, lt-leb (b .n) x hx, lt-leb (b .n) y hy, le-ltb work (64 * b .n) enough, le-ltb room (length (steps t)) h)
+
+-- the answer, by what the search found
+abbrev pub answerOf : Found → ChainAnswer
+answerOf (Steps k) = Chain k
+answerOf Nowhere = NoChain
+answerOf Short = Refused 13
+
+-- no reply is shorter than a shortest chain
+reply-long : {g : Graph} {e : Expr} {x y : ℕ} {t : Reply} → ChainIs g e x y t → (ss : List Step) → Answers g e x y ss → ((ts : List Step) → Answers g e x y ts → length ss ≤ length ts) → length ss ≤ length (steps t)
+unfolding steps
+reply-long (no-chain h) ss s l = absurd (h ss s)
+reply-long (first-chain ts F) ss s l = let z = l ts (F .answers) in let y = length-stepWords ts in omega arith
+
+-- ---- the promise
+module _ {self : Register} {x y : ℕ} {text : List ℕ} {work : ℕ} {list : List ℕ} where
+  -- a refusal
+  pub refuses : (k : ℕ) → ((b : Book) → Represents self b → (t : Reply) → ReplyTo (asked b) (verdict text) x y t → chainAnswer b x y (verdict text) t work (length list) ≡ refused k) → Replies self x y text work list list (Refused k)
+  unfolding outcomeOf answerLength listAfter
+  refuses k h = record { fits = omega arith; past = refl; answers = λ b R t q. (let e = h b R t q in (sym e, rw e refl)) }
+
+  module _ {n : ℕ} (size : (b : Book) → Represents self b → n ≡ b .n) where
+    pub refuses-record : (n ≤ x) ⊎ (n ≤ y) → Replies self x y text work list list (Refused 2)
+    refuses-record h = refuses 2 (λ b R t q. answer-record b x y t work (length list) (verdict text) (subst (λ (m : ℕ). (m ≤ x) ⊎ (m ≤ y)) (size b R) h))
+
+    module _ (hx : x < n) (hy : y < n) where
+      pub refuses-text : (k : ℕ) → firstNumber (verdictCause (verdict text)) ≡ k → 0 < k → Replies self x y text work list list (Refused k)
+      refuses-text k e h = refuses k (λ b R t q. (let s = size b R in answer-text b x y t work (length list) (omega arith) (omega arith) (verdict text) k e h))
+
+      module _ (e : Expr) (a : verdict text ≡ accepted e) where
+        pub refuses-work : work < n * 64 → Replies self x y text work list list (Refused 12)
+        refuses-work h = refuses 12 (λ b R t q. (let s = size b R in answer-work b x y t work (length list) (omega arith) (omega arith) (verdict text) e a (omega arith)))
+
+        module _ (enough : n * 64 ≤ work) where
+          replies-short : ((b : Book) → Represents self b → Answered (asked b) e x y list list Short) → Replies self x y text work list list (Refused 13)
+          replies-short h = refuses 13 (λ b R t q. (let s = size b R in answer-list b x y t work (length list) (omega arith) (omega arith) (verdict text) e a (omega arith) (go (h b R) refl (q e a))))
+            where
+              go : {g : Graph} {t : Reply} {r : Found} → Answered g e x y list list r → r ≡ Short → ChainIs g e x y t → length list < length (steps t)
+              go (first ss F z) i c = absurd (let z : _≡_ {A = ℕ} 0 1 = cc in omega arith)
+              go (none z) i c = absurd (let z : _≡_ {A = ℕ} 0 1 = cc in omega arith)
+              go (short ss s l m) i c = let z = reply-long c ss s l in omega arith
+
+          replies-none : ((b : Book) → Represents self b → Answered (asked b) e x y list list Nowhere) → Replies self x y text work list list NoChain
+          unfolding outcomeOf answerLength listAfter steps
+          replies-none h = record { fits = omega arith; past = refl; answers = ans }
+            where
+              is-none : {g : Graph} {t : Reply} {r : Found} → Answered g e x y list list r → r ≡ Nowhere → ChainIs g e x y t → t ≡ no-reply
+              is-none (first ss F z) i c = absurd (let z : _≡_ {A = ℕ} 0 1 = cc in omega arith)
+              is-none (short ss s l m) i c = absurd (let z : _≡_ {A = ℕ} 0 1 = cc in omega arith)
+              is-none (none z) i c = reply-only c (no-chain z)
+
+              ans : (b : Book) → Represents self b → (t : Reply) → ReplyTo (asked b) (verdict text) x y t → (replied no-reply ≡ chainAnswer b x y (verdict text) t work (length list)) × (list ≡ listAfter (chainAnswer b x y (verdict text) t work (length list)) list)
+              ans b R t q =
+                  let s = size b R in
+                  let i = is-none (h b R) refl (q e a) in
+                  let r = answer-reply b x y t work (length list) (omega arith) (omega arith) (verdict text) e a (omega arith) (rw i (omega arith)) in
+                  (ap replied (sym i) ∙ sym r, rw (r, i) refl)
+
+          replies-chain : {list′ : List ℕ} {k : ℕ} → k ≤ length list → length list′ ≡ length list → drop k list′ ≡ drop k list → ((b : Book) → Represents self b → Answered (asked b) e x y list list′ (Steps k)) → Replies self x y text work list list′ (Chain k)
+          unfolding outcomeOf answerLength listAfter steps
+          replies-chain {list′} {k} hk same rest h = record { fits = hk; past = rest; answers = ans }
+            where
+              is-chain : {g : Graph} {t : Reply} {r : Found} → Answered g e x y list list′ r → r ≡ Steps k → ChainIs g e x y t → t ≡ chain-reply (take k list′)
+              is-chain (none z) i c = absurd (let z : _≡_ {A = ℕ} 0 1 = cc in omega arith)
+              is-chain (short ss s l m) i c = absurd (let z : _≡_ {A = ℕ} 0 1 = cc in omega arith)
+              is-chain (first {k = j} ss F z) i c = let u : j ≡ k = cc in reply-only c (first-chain ss F) ∙ ap chain-reply (sym z ∙ ap (λ (m : ℕ). take m list′) u)
+
+              ans : (b : Book) → Represents self b → (t : Reply) → ReplyTo (asked b) (verdict text) x y t → (replied (chain-reply (take k list′)) ≡ chainAnswer b x y (verdict text) t work (length list)) × (list′ ≡ listAfter (chainAnswer b x y (verdict text) t work (length list)) list)
+              ans b R t q =
+                  let s = size b R in
+                  let i = is-chain (h b R) refl (q e a) in
+                  let l : length (take k list′) ≡ k = length-take-le k list′ (omega arith) in
+                  let r = answer-reply b x y t work (length list) (omega arith) (omega arith) (verdict text) e a (omega arith) (rw i (omega arith)) in
+                  (ap replied (sym i) ∙ sym r, rw (r, i, l) (sym (take-append-drop k list′) ∙ ap (λ (m : List ℕ). take k list′ ++ m) rest))
+
+          pub replies : {list′ : List ℕ} {r : Found} → Untouched list list′ r → length list′ ≡ length list → ((b : Book) → Represents self b → Answered (asked b) e x y list list′ r) → Replies self x y text work list list′ (answerOf r)
+          replies (written hk rest) same h = replies-chain hk same rest h
+          replies (none-found q) same h = subst (λ (l : List ℕ). Replies self x y text work list l NoChain) (sym q) (replies-none (λ b R. subst (λ (l : List ℕ). Answered (asked b) e x y list l Nowhere) q (h b R)))
+          replies (too-long q) same h = subst (λ (l : List ℕ). Replies self x y text work list l (Refused 13)) (sym q) (replies-short (λ b R. subst (λ (l : List ℕ). Answered (asked b) e x y list l Short) q (h b R)))

@@ -1,0 +1,35 @@
+-- What a chain question promises.
+--   outcomeOf r l   the outcome that the answer r says, with the steps in the first words of the list l
+--   answerLength r  how many words of the list are the answer's
+--   Replies self from to text work list list′ r
+--                   over any contents: the answer fits the list, and the words past it are as they were, all of them with a refusal or no chain.
+--                   For every book that the register represents: the outcome is the book's, and so is the list
+-- Assumes nothing: these are definitions.
+use mathlib.Core.Path.{_≡_}
+use mathlib.Core.List.{List}
+use Prim.Native.Nat.{ℕ, _≤_}
+use lib.ListN.{length, take, drop}
+use Rattle.book.specs.Book.{Book}
+use Rattle.paths.specs.Chains.{asked, Reply, none, chain}
+use Rattle.paths.specs.Questions.{Outcome, refused, replied, ReplyTo, chainAnswer, listAfter}
+use Rattle.paths.specs.Verdicts.{verdict}
+use Rattle.register.specs.declared.Register.{Register}
+use Rattle.register.specs.Calls.{Represents}
+use Rattle.chains.specs.declared.ChainAnswer.{ChainAnswer}
+use Rattle.chains.specs.declared.ChainAnswer.the-variants.{Chain, NoChain, Refused}
+
+unfoldable pub outcomeOf : ChainAnswer → List ℕ → Outcome
+outcomeOf (Chain k) l = replied (chain (take k l))
+outcomeOf NoChain l = replied none
+outcomeOf (Refused k) l = refused k
+
+unfoldable pub answerLength : ChainAnswer → ℕ
+answerLength (Chain k) = k
+answerLength NoChain = 0
+answerLength (Refused k) = 0
+
+pub record Replies (self : Register) (from to : ℕ) (text : List ℕ) (work : ℕ) (list list′ : List ℕ) (r : ChainAnswer) : Type 0 where
+  pub fits : answerLength r ≤ length list
+  pub past : drop (answerLength r) list′ ≡ drop (answerLength r) list
+  pub answers : (b : Book) → Represents self b → (t : Reply) → ReplyTo (asked b) (verdict text) from to t
+      → (outcomeOf r list′ ≡ chainAnswer b from to (verdict text) t work (length list)) × (list′ ≡ listAfter (chainAnswer b from to (verdict text) t work (length list)) list)

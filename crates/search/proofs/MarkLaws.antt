@@ -1,0 +1,212 @@
+-- Laws of the numbers in work: marks written, a level committed, states kept, the smallest step chosen. Assumes nothing.
+use mathlib.Core.Path.{_≡_, refl, sym, ap, _∙_, subst}
+use mathlib.Core.Logic.{_⊎_, inl, inr}
+use mathlib.Core.List.{List}
+use mathlib.Core.Bool.{Bool, true, false}
+use Prim.Native.Nat.{ℕ, _+_, _*_, _^_, _≤_, _<_, max}
+use native.Mathlib.Omega.{arith}
+use lib.Bits.{bitAnd, bitOr}
+use lib.ListN.{length, getD, set}
+use lib.Seq.{getD-set-same, getD-set-other}
+use borrow.Author.Tests.{eq-eqb}
+use Rattle.k2.specs.Bits.{digit}
+use Rattle.k2.specs.DigitLaws.{digit-none, digit-or, digit-and, digit-pow}
+use Rattle.automaton.specs.Automata.{On}
+use Rattle.automaton.specs.SetLaws.{on-max, on-min, on-is}
+use Rattle.automaton.specs.LevelLaws.{Which, less, same, more, which}
+use Rattle.search.specs.Arcs.{arcFrom, arcTo, arcLetter, arcStepWord}
+use Rattle.search.specs.Levels.{numberAt, Stamped, Committed, Any, some, empty}
+use Rattle.search.specs.Steps.{Kept, Serve, Chosen, Better, no-states, not-less, less as smaller}
+use Rattle.search.proofs.LowestLaws.{none-on, some-digit, below-pow, Lowest, gone, Among}
+
+-- ---- a number written
+module _ (w : List ℕ) (r q v : ℕ) where
+  pub number-here : r * 64 + q < length w → numberAt (set w (r * 64 + q) v) r q ≡ v
+  unfolding numberAt
+  number-here h = getD-set-same w (r * 64 + q) v 0 h
+
+  pub number-other : (a p : ℕ) → (a * 64 + p ≡ r * 64 + q → ⊥) → numberAt (set w (r * 64 + q) v) a p ≡ numberAt w a p
+  unfolding numberAt
+  number-other a p n = getD-set-other w (r * 64 + q) (a * 64 + p) v 0 n
+
+-- ---- marks at the states of a set
+pub stamp-none : (w : List ℕ) (r m mark : ℕ) → Stamped w r m mark m w
+stamp-none w r m mark = record { hit = λ q h o e. absurd (omega arith); miss = λ q h e. refl; rest = λ a q h n. refl }
+
+pub stamp-more : {w : List ℕ} {r m mark left : ℕ} {v : List ℕ} {k left′ : ℕ} → Stamped w r m mark left v → Among left m → Lowest left k left′ → r * 64 + k < length v → Stamped w r m mark left′ (set v (r * 64 + k) mark)
+stamp-more {w} {r} {m} {mark} {left} {v} {k} {left′} I A L l =
+    record { hit = λ q h o e. ht q h o (which q k) (gone L q e); miss = ms; rest = λ a q h n. number-other v r k mark a q (λ e. (let z = L .small in n (omega arith))) ∙ I .rest a q h n }
+  where
+    ht : (q : ℕ) → q < 64 → On (digit m q) → Which q k → (digit left q ≡ 0) ⊎ (q ≡ k) → numberAt (set v (r * 64 + k) mark) r q ≡ mark
+    ht q h o (same f) e = rw f (number-here v r k mark l)
+    ht q h o (less f) (inl e) = number-other v r k mark r q (λ z. omega arith) ∙ I .hit q h o e
+    ht q h o (less f) (inr e) = absurd (omega arith)
+    ht q h o (more f) (inl e) = number-other v r k mark r q (λ z. omega arith) ∙ I .hit q h o e
+    ht q h o (more f) (inr e) = absurd (omega arith)
+
+    ms : (q : ℕ) → q < 64 → digit m q ≡ 0 → numberAt (set v (r * 64 + k) mark) r q ≡ numberAt w r q
+    ms q h e = number-other v r k mark r q (λ z. let f : q ≡ k = omega arith in let o : On (digit m q) = rw f (A k (L .on)) in omega arith) ∙ I .miss q h e
+
+-- ---- a level committed
+pub commit-none : (w s nx : List ℕ) (mark : ℕ) → Committed w s nx mark 0 w s
+commit-none w s nx mark = record { hit = λ r q h. absurd (omega arith); miss = λ r q h e. refl; seen-more = λ r q h. absurd (omega arith); seen-same = λ r q h. refl }
+
+module _ {w s nx : List ℕ} {mark k : ℕ} {w₁ s₁ : List ℕ} (I : Committed w s nx mark k w₁ s₁) where
+  pub commit-no : getD nx k 0 ≡ 0 → Committed w s nx mark (k + 1) w₁ s₁
+  commit-no e = record { hit = λ r q h g o. ht r q h g o (which r k); miss = I .miss; seen-more = λ r q h. sm r q h (which r k); seen-same = λ r q h. I .seen-same r q (omega arith) }
+    where
+      ht : (r q : ℕ) → r < k + 1 → q < 64 → On (digit (getD nx r 0) q) → Which r k → numberAt w₁ r q ≡ mark
+      ht r q h g o (less f) = I .hit r q f g o
+      ht r q h g o (same f) = absurd (none-on q (rw e at (rw f at o)))
+      ht r q h g o (more f) = absurd (omega arith)
+
+      sm : (r q : ℕ) → r < k + 1 → Which r k → digit (getD s₁ r 0) q ≡ max (digit (getD s r 0) q) (digit (getD nx r 0) q)
+      sm r q h (less f) = I .seen-more r q f
+      sm r q h (same f) = rw (f, e, digit-none) (I .seen-same k q (omega arith) ∙ (let z : digit (getD s k 0) q ≡ max (digit (getD s k 0) q) 0 = omega arith in z))
+      sm r q h (more f) = absurd (omega arith)
+
+  pub commit-yes : {w₂ : List ℕ} → Stamped w₁ k (getD nx k 0) mark 0 w₂ → k < length s₁ → Committed w s nx mark (k + 1) w₂ (set s₁ k (bitOr (getD s₁ k 0) (getD nx k 0)))
+  commit-yes {w₂} S l = record {
+    hit = λ r q h g o. ht r q h g o (which r k);
+    miss = λ r q h e. ms r q h e (which r k);
+    seen-more = λ r q h. sm r q h (which r k);
+    seen-same = λ r q h. off r q (λ e. omega arith) ∙ I .seen-same r q (omega arith);
+  }
+    where
+      off : (r q : ℕ) → (r ≡ k → ⊥) → digit (getD (set s₁ k (bitOr (getD s₁ k 0) (getD nx k 0))) r 0) q ≡ digit (getD s₁ r 0) q
+      off r q n = ap (λ (x : ℕ). digit x q) (getD-set-other s₁ k r (bitOr (getD s₁ k 0) (getD nx k 0)) 0 n)
+
+      ht : (r q : ℕ) → r < k + 1 → q < 64 → On (digit (getD nx r 0) q) → Which r k → numberAt w₂ r q ≡ mark
+      ht r q h g o (less f) = S .rest r q g (λ e. omega arith) ∙ I .hit r q f g o
+      ht r q h g o (same f) = rw f (S .hit q g (rw f at o) (digit-none q))
+      ht r q h g o (more f) = absurd (omega arith)
+
+      ms : (r q : ℕ) → q < 64 → digit (getD nx r 0) q ≡ 0 → Which r k → numberAt w₂ r q ≡ numberAt w r q
+      ms r q h e (less f) = S .rest r q h (λ z. omega arith) ∙ I .miss r q h e
+      ms r q h e (same f) = let d : digit (getD nx k 0) q ≡ 0 = rw f at e in rw f (S .miss q h d ∙ I .miss k q h d)
+      ms r q h e (more f) = S .rest r q h (λ z. omega arith) ∙ I .miss r q h e
+
+      sm : (r q : ℕ) → r < k + 1 → Which r k → digit (getD (set s₁ k (bitOr (getD s₁ k 0) (getD nx k 0))) r 0) q ≡ max (digit (getD s r 0) q) (digit (getD nx r 0) q)
+      sm r q h (less f) = off r q (λ e. omega arith) ∙ I .seen-more r q f
+      sm r q h (same f) =
+          rw f (ap (λ (x : ℕ). digit x q) (getD-set-same s₁ k (bitOr (getD s₁ k 0) (getD nx k 0)) 0 l)
+          ∙ digit-or (getD s₁ k 0) (getD nx k 0) q ∙ ap (λ (x : ℕ). max x (digit (getD nx k 0) q)) (I .seen-same k q (omega arith)))
+      sm r q h (more f) = absurd (omega arith)
+
+pub any-none : (nx : List ℕ) → Any nx 0 false
+any-none nx = empty (λ r h. absurd (omega arith))
+
+pub any-no : {nx : List ℕ} {k : ℕ} {b : Bool} → Any nx k b → getD nx k 0 ≡ 0 → Any nx (k + 1) b
+any-no (some {r} h g o) e = some {r = r} (omega arith) g o
+any-no {nx} {k} (empty a) e = empty (λ r h. go r h (which r k))
+  where
+    go : (r : ℕ) → r < k + 1 → Which r k → getD nx r 0 ≡ 0
+    go r h (less f) = a r f
+    go r h (same f) = rw f e
+    go r h (more f) = absurd (omega arith)
+
+pub any-yes : (nx : List ℕ) (k : ℕ) → 0 < getD nx k 0 → getD nx k 0 < 2 ^ 64 → Any nx (k + 1) true
+any-yes nx k h g = let z = some-digit 64 (getD nx k 0) g h in some {r = k} (omega arith) (z .1) (z .2)
+
+-- ---- states kept
+pub bit-off : (q j : ℕ) → On (digit (2 ^ q) j) → j ≡ q
+bit-off q j o = on-is q j (rw digit-pow at o)
+
+pub bit-at : (q : ℕ) → On (digit (2 ^ q) q)
+bit-at q = rw (digit-pow, eq-eqb q q refl) (omega arith)
+
+pub kept-out : (w : List ℕ) (n a m d : ℕ) → n ≤ a → Kept w n a m d 0 0
+kept-out w n a m d h = record { from = λ q o. absurd (none-on q o); all = λ q l. absurd (omega arith) }
+
+pub kept-none : (w : List ℕ) (n a m d : ℕ) → Kept w n a m d m 0
+kept-none w n a m d = record { from = λ q o. absurd (none-on q o); all = λ q h o e. absurd (omega arith) }
+
+module _ {w : List ℕ} {n a m d left r k left′ : ℕ} (I : Kept w n a m d left r) (A : Among left m) (L : Lowest left k left′) where
+  pub kept-no : (numberAt w a k ≡ d → ⊥) → Kept w n a m d left′ r
+  kept-no g = record { from = I .from; all = λ q h o e f. al q h o f (gone L q e) }
+    where
+      al : (q : ℕ) → a < n → On (digit m q) → numberAt w a q ≡ d → (digit left q ≡ 0) ⊎ (q ≡ k) → On (digit r q)
+      al q h o f (inl e) = I .all q h o e f
+      al q h o f (inr e) = absurd (g (rw e at f))
+
+  pub kept-yes : a < n → numberAt w a k ≡ d → Kept w n a m d left′ (bitOr r (2 ^ k))
+  kept-yes l g = record { from = λ q o. fm q (on-max _ _ (rw digit-or at o)); all = λ q h o e f. rw digit-or (al q h o f (gone L q e)) }
+    where
+      fm : (q : ℕ) → On (digit r q) ⊎ On (digit (2 ^ k) q) → (q < 64) × (a < n) × On (digit m q) × (numberAt w a q ≡ d)
+      fm q (inl o) = I .from q o
+      fm q (inr o) = let e = bit-off k q o in (let z = L .small in omega arith, l, rw e (A k (L .on)), rw e g)
+
+      al : (q : ℕ) → a < n → On (digit m q) → numberAt w a q ≡ d → (digit left q ≡ 0) ⊎ (q ≡ k) → On (max (digit r q) (digit (2 ^ k) q))
+      al q h o f (inl e) = let z = I .all q h o e f in omega arith
+      al q h o f (inr e) = let z : On (digit (2 ^ k) q) = rw e (bit-at k) in omega arith
+
+-- ---- the smallest step
+pub chosen-none : (cs es w seen : List ℕ) (n r fo d : ℕ) → Chosen cs es w seen n r fo d 0 65536 0
+chosen-none cs es w seen n r fo d = record { from = λ q o. absurd (none-on q o); all = λ j q h. absurd (omega arith); some = λ h. absurd (omega arith); top = omega arith }
+
+pub arc-small : (cs : List ℕ) (j : ℕ) → (arcLetter cs j < 64) × (arcTo cs j < 1024)
+unfolding arcLetter arcTo
+arc-small cs j = (omega arith, omega arith)
+
+module _ {cs es w seen : List ℕ} {n r fo d k word states : ℕ} (I : Chosen cs es w seen n r fo d k word states) where
+  abbrev Leads : ℕ → ℕ → ℕ → ℕ → Type 0
+  Leads word states j q = (word < arcStepWord cs j) ⊎ ((word ≡ arcStepWord cs j) × On (digit states q))
+
+  -- where arc k serves no state, or none that is not there already
+  chosen-same : ((q : ℕ) → Serve cs es w seen n r fo d k q → Leads word states k q) → Chosen cs es w seen n r fo d (k + 1) word states
+  chosen-same at = record { from = λ q o. (let g = I .from q o in (g .0, omega arith, g .2, g .3)); all = λ j q h s. go j q h s (which j k); some = I .some; top = I .top }
+    where
+      go : (j q : ℕ) → j < k + 1 → Serve cs es w seen n r fo d j q → Which j k → Leads word states j q
+      go j q h s (less f) = I .all j q f s
+      go j q h s (same f) = subst (λ (i : ℕ). Leads word states i q) (sym f) (at q (subst (λ (i : ℕ). Serve cs es w seen n r fo d i q) f s))
+      go j q h s (more f) = absurd (omega arith)
+
+  pub chosen-skip : (arcFrom cs k ≡ r → ⊥) → Chosen cs es w seen n r fo d (k + 1) word states
+  chosen-skip n = chosen-same (λ q s. absurd (n (s .from)))
+
+  module _ (K : ℕ) (at : arcFrom cs k ≡ r) (Q : Kept w n (arcTo cs k) (bitAnd (bitAnd fo (getD es (arcLetter cs k) 0)) (getD seen (arcTo cs k) 0)) d 0 K) where
+    -- the states kept are those that serve
+    serves : (q : ℕ) → On (digit K q) → Serve cs es w seen n r fo d k q
+    serves q o =
+        let z = Q .from q o in
+        let b = on-min _ _ (rw digit-and at (z .2)) in
+        let c = on-min _ _ (rw digit-and at (b .0)) in
+        record { from = at; small = z .0; to = z .1; among = c .0; enters = c .1; seen-at = b .1; number = z .3 }
+
+    served : (q : ℕ) → Serve cs es w seen n r fo d k q → On (digit K q)
+    served q s = Q .all q (s .to) (rw (digit-and, digit-and) (let a = s .among in let b = s .enters in let c = s .seen-at in omega arith)) (digit-none q) (s .number)
+
+    pub chosen-more : {word′ states′ : ℕ} → Better word states (arcStepWord cs k) K word′ states′ → Chosen cs es w seen n r fo d (k + 1) word′ states′
+    chosen-more (no-states e) = chosen-same (λ q s. absurd (none-on q (rw e at (served q s))))
+    chosen-more (not-less e) = chosen-same (λ q s. last q s (which word (arcStepWord cs k)))
+      where
+        -- the same word comes from the same letter and record
+        twin : (q : ℕ) → word ≡ arcStepWord cs k → Serve cs es w seen n r fo d k q → On (digit states q)
+        twin q f s =
+            let c = arc-small cs k in
+            let o = I .some (omega arith) in
+            let g = I .from (o .0) (o .1) in
+            let a = arc-small cs (g .0) in
+            let el : arcLetter cs (g .0) ≡ arcLetter cs k = omega (arith, g .2) in
+            let et : arcTo cs (g .0) ≡ arcTo cs k = omega (arith, g .2) in
+            let s′ : Serve cs es w seen n r fo d (g .0) q = record { from = g .3 .from; small = s .small; to = rw et (s .to); among = s .among; enters = rw el (s .enters); seen-at = rw et (s .seen-at); number = rw et (s .number) } in
+            pick (g .0) (g .2) (I .all (g .0) q (g .1) s′)
+          where
+            pick : (j : ℕ) → arcStepWord cs j ≡ word → Leads word states j q → On (digit states q)
+            pick j u (inl v) = absurd (omega arith)
+            pick j u (inr v) = v .1
+
+        last : (q : ℕ) → Serve cs es w seen n r fo d k q → Which word (arcStepWord cs k) → Leads word states k q
+        last q s (less f) = inl f
+        last q s (same f) = inr (f, twin q f s)
+        last q s (more f) = absurd (omega arith)
+    chosen-more (smaller p e) = record { from = λ q o. (k, omega arith, refl, serves q o); all = λ j q h s. go j q h s (which j k); some = λ h. (let z = some-digit K K (below-pow K) p in (z .0, z .2)); top = (let t = I .top in omega arith) }
+      where
+        old : (j q : ℕ) → Leads word states j q → Leads (arcStepWord cs k) K j q
+        old j q (inl f) = inl (omega arith)
+        old j q (inr f) = inl (let g = f .0 in omega arith)
+
+        go : (j q : ℕ) → j < k + 1 → Serve cs es w seen n r fo d j q → Which j k → Leads (arcStepWord cs k) K j q
+        go j q h s (less f) = old j q (I .all j q f s)
+        go j q h s (same f) = inr (ap (arcStepWord cs) (sym f), served q (subst (λ (i : ℕ). Serve cs es w seen n r fo d i q) f s))
+        go j q h s (more f) = absurd (omega arith)

@@ -1,0 +1,260 @@
+// The tables of an expression's automaton, as sets of bits, from its postfix code.
+ghost use mathlib.Core.Path.{_≡_};
+ghost use mathlib.Core.List.{List, _∷_};
+ghost use Prim.Native.Nat.{ℕ, _+_, _<_, _≤_};
+ghost use Rattle.paths.specs.Expressions.{Expr, symbol, letter, inverse, star, plus, optional, alternative, sequence};
+ghost use Rattle.paths.specs.Verdicts.{InLimits};
+ghost use Rattle.reader.specs.Code.{code};
+ghost use Rattle.automaton.specs.Automata.{automaton};
+ghost use Rattle.automaton.specs.Masks.{Masked};
+ghost use Rattle.tables.specs.Rows.{Joined, Mixed, Turned};
+ghost use Rattle.tables.specs.Builds.{Holds, Next};
+
+// The tables so far: of each position those that may follow it and those that it may follow, of each letter those that it may enter; then the
+// stack, for each expression that waits its first, last and own positions and whether it has the empty word; how many wait, and the positions used.
+pub struct Build {
+    pub follow: [u64; 64],
+    pub pred: [u64; 64],
+    pub enter: [u64; 64],
+    pub first: [u64; 19],
+    pub last: [u64; 19],
+    pub own: [u64; 19],
+    pub nullable: [u64; 19],
+    pub top: usize,
+    pub used: usize,
+}
+
+// `to` joined to the rows of the states in `from`.
+fn joined(rows: [u64; 64], from: u64, to: u64) -> [u64; 64]
+    ensures { λ r. ⌜ Joined rows from to 64 r ⌝ }
+{
+    let mut r = rows;
+    let mut p = 0;
+    while p < 64 {
+        if (from >> p) % 2 == 1 {
+            r[p] = r[p] | to;
+        }
+        p += 1;
+    }
+    r
+}
+
+// The rows of b at the states in own, those of a elsewhere.
+fn mixed(a: [u64; 64], b: [u64; 64], own: u64) -> [u64; 64]
+    ensures { λ r. ⌜ Mixed a b own 64 r ⌝ }
+{
+    let mut r = a;
+    let mut p = 0;
+    while p < 64 {
+        if (own >> p) % 2 == 1 {
+            r[p] = b[p];
+        }
+        p += 1;
+    }
+    r
+}
+
+// The states in own entered by each letter in its other sense.
+fn turned(enter: [u64; 64], own: u64) -> [u64; 64]
+    ensures { λ r. ⌜ Turned enter own 64 r ⌝ }
+{
+    let mut r = enter;
+    let mut c = 0;
+    while c < 64 {
+        let d = c + 1 - 2 * (c % 2);
+        r[c] = (enter[c] & !own) | (enter[d] & own);
+        c += 1;
+    }
+    r
+}
+
+// x, or nothing if n is 0.
+fn only(n: u64, x: u64) -> u64
+    ensures { λ r. ⌜ (n ≡ 0 → r ≡ 0) × (0 < n → r ≡ x) ⌝ }
+{
+    if n == 0 {
+        return 0;
+    }
+    x
+}
+
+// A letter: one more position, entered by it.
+fn label(b: Build, k: usize) -> Build
+    requires { ⌜ (b .top < 19) × (b .used < 63) × (k < 26) ⌝ }
+    ensures { λ r. ⌜ ((m : ℕ) (st : List Expr) → Holds b m st → Holds r (m + 1) (symbol (letter k) ∷ st)) ⌝ }
+{
+    let mut r = b;
+    let q = r.used + 1;
+    let i = r.top;
+    let bit = 1 << q;
+    r.first[i] = bit;
+    r.last[i] = bit;
+    r.own[i] = bit;
+    r.nullable[i] = 0;
+    r.enter[k * 2] = r.enter[k * 2] | bit;
+    r.used = q;
+    r.top = i + 1;
+    r
+}
+
+// Alternatives: the two that wait become one.
+fn either(b: Build) -> Build
+    requires { ⌜ (2 ≤ b .top) × (b .top ≤ 19) ⌝ }
+    ensures { λ r. ⌜ ((m : ℕ) (x y : Expr) (st : List Expr) → Holds b m (y ∷ x ∷ st) → Holds r m (alternative x y ∷ st)) ⌝ }
+{
+    let mut r = b;
+    let j = r.top - 1;
+    let i = j - 1;
+    r.first[i] = r.first[i] | r.first[j];
+    r.last[i] = r.last[i] | r.last[j];
+    r.own[i] = r.own[i] | r.own[j];
+    r.nullable[i] = r.nullable[i] | r.nullable[j];
+    r.top = j;
+    r
+}
+
+// A sequence: besides, the first of the right may follow the last of the left.
+fn followed(b: Build) -> Build
+    requires { ⌜ (2 ≤ b .top) × (b .top ≤ 19) ⌝ }
+    ensures { λ r. ⌜ ((m : ℕ) (x y : Expr) (st : List Expr) → Holds b m (y ∷ x ∷ st) → Holds r m (sequence x y ∷ st)) ⌝ }
+{
+    let mut r = b;
+    let j = r.top - 1;
+    let i = j - 1;
+    let last = r.last[i];
+    let first = r.first[j];
+    let follow = r.follow;
+    let pred = r.pred;
+    let onward = joined(follow, last, first);
+    let back = joined(pred, first, last);
+    r.follow = onward;
+    r.pred = back;
+    r.first[i] = r.first[i] | only(r.nullable[i], first);
+    r.last[i] = r.last[j] | only(r.nullable[j], last);
+    r.own[i] = r.own[i] | r.own[j];
+    r.nullable[i] = r.nullable[i] & r.nullable[j];
+    r.top = j;
+    r
+}
+
+// One or more: the first may follow the last.
+fn repeated(b: Build) -> Build
+    requires { ⌜ (1 ≤ b .top) × (b .top ≤ 19) ⌝ }
+    ensures { λ r. ⌜ ((m : ℕ) (x : Expr) (st : List Expr) → Holds b m (x ∷ st) → Holds r m (plus x ∷ st)) × (r .top ≡ b .top) ⌝ }
+{
+    let mut r = b;
+    let j = r.top - 1;
+    let last = r.last[j];
+    let first = r.first[j];
+    let follow = r.follow;
+    let pred = r.pred;
+    let onward = joined(follow, last, first);
+    let back = joined(pred, first, last);
+    r.follow = onward;
+    r.pred = back;
+    r
+}
+
+// Once or not at all.
+fn maybe(b: Build) -> Build
+    requires { ⌜ (1 ≤ b .top) × (b .top ≤ 19) ⌝ }
+    ensures { λ r. ⌜ ((m : ℕ) (x : Expr) (st : List Expr) → Holds b m (x ∷ st) → Holds r m (optional x ∷ st)) × ((m : ℕ) (x : Expr) (st : List Expr) → Holds b m (plus x ∷ st) → Holds r m (star x ∷ st)) ⌝ }
+{
+    let mut r = b;
+    let j = r.top - 1;
+    r.nullable[j] = 1;
+    r
+}
+
+// Inverted: read backwards, each letter in its other sense.
+fn inverted(b: Build) -> Build
+    requires { ⌜ (1 ≤ b .top) × (b .top ≤ 19) ⌝ }
+    ensures { λ r. ⌜ ((m : ℕ) (x : Expr) (st : List Expr) → Holds b m (x ∷ st) → Holds r m (inverse x ∷ st)) ⌝ }
+{
+    let mut r = b;
+    let j = r.top - 1;
+    let own = r.own[j];
+    let follow = r.follow;
+    let pred = r.pred;
+    let enter = r.enter;
+    let onward = mixed(follow, pred, own);
+    let back = mixed(pred, follow, own);
+    let entered = turned(enter, own);
+    r.follow = onward;
+    r.pred = back;
+    r.enter = entered;
+    let first = r.first[j];
+    r.first[j] = r.last[j];
+    r.last[j] = first;
+    r
+}
+
+// One number of the code.
+fn step(b: Build, i: u8) -> Build
+    requires { ⌜ ((c : List ℕ) × (e : Expr) × Next b (i ∷ c) e) ⌝ }
+    ensures { λ r. ⌜ ((c : List ℕ) (e : Expr) → Next b (i ∷ c) e → Next r c e) ⌝ }
+{
+    if i < 26 {
+        return label(b, i as usize);
+    }
+    if i == 26 {
+        return inverted(b);
+    }
+    if i == 27 {
+        return maybe(repeated(b));
+    }
+    if i == 28 {
+        return repeated(b);
+    }
+    if i == 29 {
+        return maybe(b);
+    }
+    if i == 30 {
+        return either(b);
+    }
+    followed(b)
+}
+
+pub struct Tables {
+    pub follow: [u64; 64],
+    pub pred: [u64; 64],
+    pub enter: [u64; 64],
+    pub fin: u64,
+}
+
+// The tables of the automaton of the expression whose code it is.
+pub fn tables_of(numbers: &[u8]) -> Tables
+    requires { ⌜ ((text : List ℕ) × (e : Expr) × InLimits text e × (now numbers ≡ code e)) ⌝ }
+    ensures { λ r. ⌜ ((text : List ℕ) (e : Expr) → InLimits text e → now (numbers .entry) ≡ code e → Masked (r .follow) (r .pred) (r .enter) (r .fin) (automaton e)) ⌝ }
+{
+    let mut b = Build {
+        follow: [0; 64],
+        pred: [0; 64],
+        enter: [0; 64],
+        first: [0; 19],
+        last: [0; 19],
+        own: [0; 19],
+        nullable: [0; 19],
+        top: 0,
+        used: 0,
+    };
+    let mut i = 0;
+    while i < numbers.len() {
+        b = step(b, numbers[i]);
+        i += 1;
+    }
+    let first = b.first[0];
+    let last = b.last[0];
+    let nullable = b.nullable[0];
+    let before = b.pred;
+    let enter = b.enter;
+    let mut follow = b.follow;
+    follow[0] = first;
+    let pred = joined(before, first, 1);
+    Tables {
+        follow,
+        pred,
+        enter,
+        fin: last | nullable,
+    }
+}
