@@ -8,3 +8,4 @@ pub mod Masks
 pub mod Searches
 pub mod LevelLaws
 pub mod WalkLaws
+pub mod ShortChains
