@@ -1,0 +1,30 @@
+-- `report::put_answer` meets its contract: ok for 0, and else the refusal (`refused-text`). Assumes nothing.
+use mathlib.Core.Path.{sym}
+use borrow.Author.Needs.{needs}
+use Rattle.report.specs.Report.{answerText}
+use Rattle.report.specs.ReportLaws.{refused-text}
+use Rattle.report.specs.WrittenLaws.{wrote-as}
+use Rattle.report.proofs.put_answer.Statement.{statement}
+use Rattle.report.proofs.put_answer.Tie as tie
+
+put-ok-requires : tie.Need-put-ok-requires
+put-ok-requires c κs = search needs
+
+same-length : tie.Need-same-length
+same-length c = search needs
+
+returns : tie.Need-returns
+unfolding answerText
+returns c = rw (c .before .before .before .before .if1 .taken) (c .before .before .put-ok .ensures)
+
+put-refused-requires : tie.Need-put-refused-requires
+put-refused-requires c κs = search needs
+
+same-length-2 : tie.Need-same-length-2
+same-length-2 c = search needs
+
+returns-2 : tie.Need-returns-2
+returns-2 c = wrote-as (sym (refused-text (c .before .before .before .before .before .before .args .k) (c .before .before .before .before .if1 .left))) (c .before .before .put-refused .ensures)
+
+pub put-answer-spec : {M : Type 1} → statement M
+put-answer-spec = tie.close (tie.spec put-ok-requires same-length returns put-refused-requires same-length-2 returns-2)

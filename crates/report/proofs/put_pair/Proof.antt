@@ -1,0 +1,55 @@
+-- `report::put_pair` meets its contract: the figures of from, and then a line of a space and to (`pair-line`). Assumes nothing.
+use mathlib.Core.Path.{_≡_}
+use mathlib.Core.List.{[], _∷_}
+use Prim.Native.Nat.{_+_, _/_, _%_, _≤_}
+use native.Mathlib.Omega.{arith}
+use borrow.Author.Needs.{needs}
+use denote.Ref.{now}
+use lib.ListN.{length}
+use Rattle.report.specs.Report.{space}
+use Rattle.report.specs.ReportLaws.{length-decimal, length-counted, pair-line}
+use Rattle.report.specs.WrittenLaws.{wrote-as, wrote-then}
+use Rattle.report.proofs.put_pair.Statement.{statement}
+use Rattle.report.proofs.put_pair.Tie as tie
+
+cast-put-decimal : tie.Need-cast-put-decimal
+cast-put-decimal c = search needs
+
+put-decimal-requires : tie.Need-put-decimal-requires
+put-decimal-requires c κs = omega (arith, length-decimal 6 (c .before .before .args .w / 1024) (omega arith))
+
+slice-aggregate-put-counted : tie.Need-slice-aggregate-put-counted
+slice-aggregate-put-counted c = search needs
+
+cast-put-counted : tie.Need-cast-put-counted
+cast-put-counted c = search needs
+
+put-counted-requires : tie.Need-put-counted-requires
+put-counted-requires c κs =
+    let w = c .before .before .before .before .before .before .before .args .w in
+    let p = c .before .before .before .before .put-decimal in
+    let k : length (p .last .1 .0) ≡ length (now (c .before .before .before .before .before .before .before .args .out)) = p .kept .1 .0 in
+    let f = length-decimal 6 (w / 1024) (omega arith) in
+    let t = length-decimal 3 (w % 1024) (omega arith) in
+    omega (arith, length-counted (space ∷ []) (w % 1024), p .ensures .place)
+
+same-length : tie.Need-same-length
+same-length c = search needs
+
+returns : tie.Need-returns
+returns c =
+    let w = c .before .before .before .before .before .before .before .before .before .before .args .w in
+    let p = c .before .before .before .before .before .before .before .put-decimal in
+    wrote-as (pair-line w) (wrote-then (p .ensures) (c .before .before .put-counted .ensures))
+
+pub put-pair-spec : {M : Type 1} → statement M
+put-pair-spec =
+    tie.close
+    (tie.spec
+    cast-put-decimal
+    put-decimal-requires
+    slice-aggregate-put-counted
+    cast-put-counted
+    put-counted-requires
+    same-length
+    returns)

@@ -1,0 +1,47 @@
+-- `report::put_step` meets its contract: letter and sign with spaces are the name of a line whose number is the record. Assumes nothing.
+use mathlib.Core.Path.{_≡_}
+use mathlib.Core.List.{[], _∷_}
+use Prim.Native.Nat.{_%_}
+use native.Mathlib.Omega.{arith}
+use borrow.Author.Needs.{needs}
+use Rattle.report.specs.Report.{space, counted, stepLine}
+use Rattle.report.specs.ReportLaws.{length-decimal, length-counted}
+use Rattle.report.proofs.put_step.Statement.{statement}
+use Rattle.report.proofs.put_step.Tie as tie
+
+label-letter-requires : tie.Need-label-letter-requires
+label-letter-requires c κs = search needs
+
+sense-sign-requires : tie.Need-sense-sign-requires
+sense-sign-requires c κs = search needs
+
+slice-aggregate-put-counted : tie.Need-slice-aggregate-put-counted
+slice-aggregate-put-counted c = search needs
+
+cast-put-counted : tie.Need-cast-put-counted
+cast-put-counted c = search needs
+
+put-counted-requires : tie.Need-put-counted-requires
+put-counted-requires c κs =
+    let w = c .before .before .before .before .before .args .w in
+    let t = length-decimal 3 (w % 1024) (omega arith) in
+    omega (arith, length-counted (c .before .before .before .label-letter .result ∷ space ∷ c .before .before .sense-sign .result ∷ space ∷ []) (w % 1024))
+
+same-length : tie.Need-same-length
+same-length c = search needs
+
+returns : tie.Need-returns
+unfolding counted stepLine
+returns c = rw (← c .before .before .before .before .before .before .label-letter .ensures, ← c .before .before .before .before .before .sense-sign .ensures) (c .before .before .put-counted .ensures)
+
+pub put-step-spec : {M : Type 1} → statement M
+put-step-spec =
+    tie.close
+    (tie.spec
+    label-letter-requires
+    sense-sign-requires
+    slice-aggregate-put-counted
+    cast-put-counted
+    put-counted-requires
+    same-length
+    returns)

@@ -1,0 +1,5 @@
+pub mod Report
+pub mod ReportLaws
+pub mod Written
+pub mod WrittenLaws
+pub mod ReportCases

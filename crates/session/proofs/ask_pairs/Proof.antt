@@ -1,0 +1,63 @@
+-- `session::ask_pairs` meets its contract: before an open it is refused (`closed-turns`), else the engine's answer is printed (`pairs-turns`).
+-- Assumes nothing.
+use mathlib.Core.Path.{refl}
+use borrow.Author.Tests.{not-true, not-false}
+use denote.Ref.{now}
+use lib.ListN.{length}
+use Rattle.book.specs.Causes.{number}
+use Rattle.session.specs.Program.{asks, pairs, nextSession, printed}
+use Rattle.session.specs.Listing.{listing-is}
+use Rattle.session.specs.TurnLaws.{closed-turns, pairs-turns}
+use borrow.Author.Needs.{needs}
+use Rattle.session.proofs.ask_pairs.Statement.{statement}
+use Rattle.session.proofs.ask_pairs.Tie as tie
+
+refuse-requires : tie.Need-refuse-requires
+refuse-requires c κs = search needs
+
+same-length : tie.Need-same-length
+same-length c = search needs
+
+returns : tie.Need-returns
+unfolding nextSession printed number
+returns c =
+    let s = c .before .before .before .before .before .before .before .before .before .before .args in
+    let w = c .before .before .refuse in
+    closed-turns (s .state) _ _ (now (s .out)) (w .last .1 .1 .0) (w .result) (asks (pairs (now (s .text)))) refl (λ v t. refl) (not-true _ (c .before .before .before .before .if1 .taken)) (w .ensures .0) (w .ensures .1)
+
+pairs-requires : tie.Need-pairs-requires
+pairs-requires c κs = search needs
+
+put-listing-requires : tie.Need-put-listing-requires
+put-listing-requires c κs = search needs
+
+same-length-2 : tie.Need-same-length-2
+same-length-2 c = search needs
+
+same-length-3 : tie.Need-same-length-3
+same-length-3 c = search needs
+
+same-length-4 : tie.Need-same-length-4
+same-length-4 c = search needs
+
+returns-2 : tie.Need-returns-2
+returns-2 c =
+    let s = c .before .before .before .before .before .before .before .before .before .before .before .before .before .before .before .before .before .before .args in
+    let a = c .before .before .before .before .before .before .before .before .before .pairs in
+    let w = c .before .before .put-listing in
+    pairs-turns (s .state) (length (now (s .work))) (length (now (s .list))) (now (s .out)) (w .last .1 .1 .0) _ (now (s .text)) _ (not-false _ (c .before .before .before .before .before .before .before .before .before .before .before .before .if1 .left)) refl
+    (λ b h. listing-is _ (a .result) (now (s .list)) _ (a .ensures .tells b h) (a .ensures .list b h)) (w .ensures)
+
+pub ask-pairs-spec : {M : Type 1} → statement M
+ask-pairs-spec =
+    tie.close
+    (tie.spec
+    refuse-requires
+    same-length
+    returns
+    pairs-requires
+    put-listing-requires
+    same-length-2
+    same-length-3
+    same-length-4
+    returns-2)

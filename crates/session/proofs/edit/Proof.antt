@@ -1,0 +1,58 @@
+-- `session::edit` meets its contract: before an open it is refused (`closed-turns`), else it is the register's call (`call-turns`). Assumes nothing.
+use mathlib.Core.Path.{refl, sym, ap}
+use borrow.Author.Tests.{not-true, not-false}
+use denote.Ref.{now}
+use Rattle.book.specs.Causes.{number}
+use Rattle.report.specs.Report.{answerText}
+use Rattle.report.specs.WrittenLaws.{wrote-as}
+use Rattle.session.specs.Program.{asks, call, nextSession, printed}
+use Rattle.session.specs.Says.{callOf}
+use Rattle.session.specs.TurnLaws.{closed-turns, call-turns}
+use borrow.Author.Needs.{needs}
+use Rattle.session.proofs.edit.Statement.{statement}
+use Rattle.session.proofs.edit.Tie as tie
+
+refuse-requires : tie.Need-refuse-requires
+refuse-requires c κs = search needs
+
+same-length : tie.Need-same-length
+same-length c = search needs
+
+returns : tie.Need-returns
+unfolding nextSession printed number
+returns c =
+    let s = c .before .before .before .before .before .before .before .args in
+    let w = c .before .before .refuse in
+    λ work list. closed-turns (s .state) work list (now (s .out)) (w .last .1 .1 .0) (w .result) (asks (call (callOf (s .call)))) refl (λ v t. refl) (not-true _ (c .before .before .before .before .if1 .taken)) (w .ensures .0) (w .ensures .1)
+
+apply-requires : tie.Need-apply-requires
+apply-requires c κs = search needs
+
+number-of-requires : tie.Need-number-of-requires
+number-of-requires c κs = search needs
+
+put-answer-requires : tie.Need-put-answer-requires
+put-answer-requires c κs = search needs
+
+same-length-2 : tie.Need-same-length-2
+same-length-2 c = search needs
+
+returns-2 : tie.Need-returns-2
+returns-2 c =
+    let s = c .before .before .before .before .before .before .before .before .before .before .args in
+    let o = c .before .before .before .before .before .before .apply in
+    let w = c .before .before .put-answer in
+    λ work list. call-turns (s .state) work list (now (s .out)) (w .last .1 .0) _ (callOf (s .call)) (o .result) (o .ensures) (not-false _ (c .before .before .before .before .before .before .before .if1 .left)) refl refl (wrote-as (ap answerText (c .before .before .before .before .number-of .ensures)) (w .ensures))
+
+pub edit-spec : {M : Type 1} → statement M
+edit-spec =
+    tie.close
+    (tie.spec
+    refuse-requires
+    same-length
+    returns
+    apply-requires
+    number-of-requires
+    put-answer-requires
+    same-length-2
+    returns-2)

@@ -1,0 +1,68 @@
+-- `session::open` meets its contract: n outside 1 to 64 keeps the session (`kept-turns`), else it begins afresh (`fresh-turns`). Assumes nothing.
+use mathlib.Core.Path.{refl}
+use Prim.Native.Nat.{_≤_}
+use native.Mathlib.Omega.{arith}
+use denote.Ref.{now}
+use Rattle.book.specs.Causes.{number}
+use Rattle.session.specs.TurnLaws.{open-none, open-many, open-fine, fresh-fine, kept-turns, fresh-turns}
+use borrow.Author.Needs.{needs}
+use Rattle.session.proofs.open.Statement.{statement}
+use Rattle.session.proofs.open.Tie as tie
+
+refuse-requires : tie.Need-refuse-requires
+refuse-requires c κs = search needs
+
+same-length : tie.Need-same-length
+same-length c = search needs
+
+returns : tie.Need-returns
+unfolding number
+returns c =
+    let s = c .before .before .before .before .before .before .args in
+    let w = c .before .before .refuse in
+    λ work list. kept-turns (s .state) work list (now (s .out)) (w .last .1 .1 .0) (w .result) (s .n) (open-none (s .n) (c .before .before .before .before .if1 .taken)) (w .ensures .0) (w .ensures .1)
+
+refuse-requires-2 : tie.Need-refuse-requires-2
+refuse-requires-2 c κs = search needs
+
+same-length-2 : tie.Need-same-length-2
+same-length-2 c = search needs
+
+returns-2 : tie.Need-returns-2
+unfolding number
+returns-2 c =
+    let s = c .before .before .before .before .before .before .before .args in
+    let w = c .before .before .refuse2 in
+    λ work list. kept-turns (s .state) work list (now (s .out)) (w .last .1 .1 .0) (w .result) (s .n) (open-many (s .n) (c .before .before .before .before .before .if1 .left) (c .before .before .before .before .if2 .taken)) (w .ensures .0) (w .ensures .1)
+
+fresh-requires : tie.Need-fresh-requires
+fresh-requires c κs = search needs
+
+put-ok-requires : tie.Need-put-ok-requires
+put-ok-requires c κs = search needs
+
+same-length-3 : tie.Need-same-length-3
+same-length-3 c = search needs
+
+returns-3 : tie.Need-returns-3
+returns-3 c =
+    let s = c .before .before .before .before .before .before .before .before .before .args in
+    let low : 1 ≤ s .n = omega (arith, c .before .before .before .before .before .before .before .if1 .left) in
+    let high : s .n ≤ 64 = omega (arith, c .before .before .before .before .before .before .if2 .left) in
+    let w = c .before .before .put-ok in
+    λ work list. fresh-turns (s .state) work list (now (s .out)) (w .last .0) _ (s .n) (open-fine (s .n) low high) high refl (c .before .before .before .before .before .fresh .ensures .made (fresh-fine (s .n) low high)) (w .ensures)
+
+pub open-spec : {M : Type 1} → statement M
+open-spec =
+    tie.close
+    (tie.spec
+    refuse-requires
+    same-length
+    returns
+    refuse-requires-2
+    same-length-2
+    returns-2
+    fresh-requires
+    put-ok-requires
+    same-length-3
+    returns-3)

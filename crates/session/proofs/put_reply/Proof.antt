@@ -1,0 +1,77 @@
+-- `session::put_reply` meets its contract: each arm prints its own text, and the list holds the steps. Assumes nothing.
+use mathlib.Core.Path.{sym}
+use Prim.Native.Nat.{_≤_}
+use native.Mathlib.Omega.{arith}
+use denote.Ref.{now}
+use lib.ListN.{length, length-take}
+use lib.Seq.{length-take-le}
+use Rattle.report.specs.Report.{outcomeText}
+use Rattle.chains.specs.Replies.{outcomeOf, answerLength}
+use borrow.Author.Needs.{needs}
+use Rattle.session.proofs.put_reply.Statement.{statement}
+use Rattle.session.proofs.put_reply.Tie as tie
+
+enum-known-answer : tie.Need-enum-known-answer
+enum-known-answer c = search needs
+
+-- the steps are within the list
+fits : (c : tie.After-answer) → c .answer .given .0 .0 ≤ length (now (c .before .before .before .before .args .list))
+unfolding answerLength
+fits c = rw (c .answer .given .1) at (c .before .before .before .before .pre .0)
+
+slice-aggregate-put-chain : tie.Need-slice-aggregate-put-chain
+slice-aggregate-put-chain c = sym (length-take-le _ _ (fits (c .before .before)))
+
+put-chain-requires : tie.Need-put-chain-requires
+put-chain-requires c κs = let p = c .before .before .before .before .before .before .before .pre .1 in simp length-take (omega arith)
+
+enum-told : tie.Need-enum-told
+enum-told c = search needs
+
+put-none-requires : tie.Need-put-none-requires
+put-none-requires c κs = search needs
+
+enum-known-answer-2 : tie.Need-enum-known-answer-2
+enum-known-answer-2 c = search needs
+
+put-refused-requires : tie.Need-put-refused-requires
+put-refused-requires c κs = search needs
+
+same-length : tie.Need-same-length
+same-length c = search needs
+
+returns : tie.Need-returns
+unfolding outcomeText outcomeOf
+returns c = rw (c .before .before .before .before .before .before .answer .given .1) (c .before .before .put-chain .ensures)
+
+same-length-2 : tie.Need-same-length-2
+same-length-2 c = search needs
+
+returns-2 : tie.Need-returns-2
+unfolding outcomeText outcomeOf
+returns-2 c = rw (c .before .before .before .before .enum-told .given .1) (c .before .before .put-none .ensures)
+
+same-length-3 : tie.Need-same-length-3
+same-length-3 c = search needs
+
+returns-3 : tie.Need-returns-3
+unfolding outcomeText outcomeOf
+returns-3 c = rw (c .before .before .before .before .before .answer2 .given .1) (c .before .before .put-refused .ensures)
+
+pub put-reply-spec : {M : Type 1} → statement M
+put-reply-spec =
+    tie.close
+    (tie.spec
+    enum-known-answer
+    slice-aggregate-put-chain
+    put-chain-requires
+    enum-told
+    put-none-requires
+    enum-known-answer-2
+    put-refused-requires
+    same-length
+    returns
+    same-length-2
+    returns-2
+    same-length-3
+    returns-3)

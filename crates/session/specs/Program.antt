@@ -1,0 +1,130 @@
+-- The program: frames, requests, what each does to the session and what it prints.
+--   number16 s p    the two-byte number at place p of the bytes s, little-endian
+--   twoBytes n, frameOf k s
+--                   a number below 65,536 as two bytes, little-endian; the bytes of a frame of kind k with the body s
+--   Request         opening with n; a call of the book; a pair question with its text; a chain question with from, to and its text
+--   Frame           what a frame says: a request, or the cause why it says none
+--   decode k s      what a frame of kind k with the body s says: an unknown kind comes before a wrong body size
+--   Session         no register opened yet, or the book of the one that is
+--   openAnswer n    the answer to opening with n: in the program n is 1 to 64
+--   nextSession s f the session after a frame
+--   Right s f v t   v is the verdict on the frame's text, and t the reply to its chain question, where it has them
+--   printed w r s f v t
+--                   the bytes that the frame prints, if w words of work and a list of r words are lent
+--   Run w r s i o   a run from the session s on: with the bytes i on standard input it prints the bytes o
+-- Assumes nothing: these are definitions.
+use mathlib.Core.List.{List, [], _∷_, _++_}
+use mathlib.Core.Logic.{_⊎_}
+use mathlib.Core.Bool.{Bool, _||_}
+use Prim.Native.Nat.{ℕ, _+_, _-_, _*_, _/_, _%_, _≤_, _<_}
+use lib.ListN.{length, getD, take, drop}
+use lib.Dec.{leb, ltb, eqb}
+use Rattle.book.specs.Basics.{pick}
+use Rattle.book.specs.Causes.{Cause, bad-size, broken-frame, unknown-kind, not-open, number}
+use Rattle.book.specs.Book.{Link, Book, Call, edit, undo, add, remove, lock, unlock, answer, next, fresh}
+use Rattle.paths.specs.Grammar.{Verdict, Judged}
+use Rattle.paths.specs.Chains.{asked, Reply}
+use Rattle.paths.specs.Questions.{pairsAnswer, chainAnswer, ReplyTo}
+use Rattle.report.specs.Report.{refusedText, answerText, outcomeText}
+
+-- the limits
+abbrev pub programRecords : ℕ
+programRecords = 64
+
+abbrev pub minFrame : ℕ
+minFrame = 2
+
+abbrev pub maxFrame : ℕ
+maxFrame = 1024
+
+unfoldable pub number16 : List ℕ → ℕ → ℕ
+number16 s p = getD s p 0 + 256 * getD s (p + 1) 0
+
+unfoldable pub twoBytes : ℕ → List ℕ
+twoBytes n = n % 256 ∷ n / 256 ∷ []
+
+unfoldable pub frameOf : ℕ → List ℕ → List ℕ
+frameOf k s = twoBytes (length s + 2) ++ (twoBytes k ++ s)
+
+pub data Request : Type 0 where
+  opening : ℕ → Request
+  call : Call → Request
+  pairs : List ℕ → Request
+  chain : ℕ → ℕ → List ℕ → Request
+
+pub data Frame : Type 0 where
+  asks : Request → Frame
+  faulty : Cause → Frame
+
+-- a link: from in two bytes, label in one, to in two
+unfoldable pub linkIn : List ℕ → Link
+linkIn s = record { from = number16 s 0; label = getD s 2 0; to = number16 s 3 }
+
+-- a request, if its body has the right size
+abbrev pub sized : Bool → Request → Frame
+sized fits r = pick fits (asks r) (faulty broken-frame)
+
+unfoldable pub decode : ℕ → List ℕ → Frame
+decode k s =
+    pick (eqb k 1) (sized (eqb (length s) 2) (opening (number16 s 0)))
+    (pick (eqb k 2) (sized (eqb (length s) 5) (call (edit (add (linkIn s)))))
+    (pick (eqb k 3) (sized (eqb (length s) 5) (call (edit (remove (linkIn s)))))
+    (pick (eqb k 4) (sized (eqb (length s) 2) (call (edit (lock (number16 s 0)))))
+    (pick (eqb k 5) (sized (eqb (length s) 2) (call (edit (unlock (number16 s 0)))))
+    (pick (eqb k 6) (sized (eqb (length s) 0) (call undo))
+    (pick (eqb k 7) (asks (pairs s))
+    (pick (eqb k 8) (sized (leb 4 (length s)) (chain (number16 s 0) (number16 s 2) (drop 4 s)))
+    (faulty unknown-kind))))))))
+
+pub data Session : Type 0 where
+  unopened : Session
+  opened : Book → Session
+
+unfoldable pub openAnswer : ℕ → ℕ
+openAnswer n = pick (ltb n 1 || ltb programRecords n) (number bad-size) 0
+
+-- a refused open keeps the old register
+unfoldable pub nextSession : Session → Frame → Session
+nextSession s (faulty c) = s
+nextSession s (asks (opening n)) = pick (eqb (openAnswer n) 0) (opened (fresh n)) s
+nextSession unopened (asks (call c)) = unopened
+nextSession (opened b) (asks (call c)) = opened (next b c)
+nextSession s (asks (pairs u)) = s
+nextSession s (asks (chain x y u)) = s
+
+abbrev pub Right : Session → Frame → Verdict → Reply → Type 0
+Right (opened b) (asks (pairs u)) v t = Judged u v
+Right (opened b) (asks (chain x y u)) v t = Judged u v × ReplyTo (asked b) v x y t
+Right (opened b) (asks (opening n)) v t = Unit
+Right (opened b) (asks (call c)) v t = Unit
+Right (opened b) (faulty c) v t = Unit
+Right unopened f v t = Unit
+
+-- the frame's own causes first, then that no register is opened, then those of the call
+unfoldable pub printed : ℕ → ℕ → Session → Frame → Verdict → Reply → List ℕ
+printed work room s (faulty c) v t = refusedText (number c)
+printed work room s (asks (opening n)) v t = answerText (openAnswer n)
+printed work room unopened (asks (call c)) v t = refusedText (number not-open)
+printed work room unopened (asks (pairs u)) v t = refusedText (number not-open)
+printed work room unopened (asks (chain x y u)) v t = refusedText (number not-open)
+printed work room (opened b) (asks (call c)) v t = answerText (answer b c)
+printed work room (opened b) (asks (pairs u)) v t = outcomeText (pairsAnswer b v work room)
+printed work room (opened b) (asks (chain x y u)) v t = outcomeText (chainAnswer b x y v t work room)
+
+-- of bytes that follow a length n: the frame's kind and body
+abbrev pub frameIn : ℕ → List ℕ → Frame
+frameIn n i = decode (number16 i 0) (take (n - 2) (drop 2 i))
+
+pub data Run (work room : ℕ) : Session → List ℕ → List ℕ → Type 0 where
+  -- input that stops between frames
+  ended : {s : Session} → Run work room s [] []
+  -- a frame that is cut in its length, has a length below 2 or above 1,024, or is cut after it
+  lone-byte : {s : Session} {a : ℕ} → Run work room s (a ∷ []) (refusedText (number broken-frame))
+  bad-length : {s : Session} {a b : ℕ} {i : List ℕ} → (a + 256 * b < minFrame) ⊎ (maxFrame < a + 256 * b)
+      → Run work room s (a ∷ b ∷ i) (refusedText (number broken-frame))
+  cut : {s : Session} {a b : ℕ} {i : List ℕ} → length i < a + 256 * b → Run work room s (a ∷ b ∷ i) (refusedText (number broken-frame))
+  framed : {s : Session} {a b : ℕ} {i o : List ℕ} (v : Verdict) (t : Reply)
+      → minFrame ≤ a + 256 * b → a + 256 * b ≤ maxFrame → a + 256 * b ≤ length i
+      → Right s (frameIn (a + 256 * b) i) v t
+      → Run work room (nextSession s (frameIn (a + 256 * b) i)) (drop (a + 256 * b) i) o
+      → Run work room s (a ∷ b ∷ i) (printed work room s (frameIn (a + 256 * b) i) v t ++ o)

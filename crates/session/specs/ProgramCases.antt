@@ -1,0 +1,157 @@
+-- Two runs as theorems, 01's sample and one of refusals: these frames on standard input, these lines on standard output.
+--   input           the frames: open 4; add 0 a 1; add 2 a 1; lock 1; add 1 b 3; pairs a/^a; undo; add 1 b 3; chain 0 to 3 a/b
+--   output          the lines
+--   sample          the run prints them
+--   faults, refusals, refused-run
+--                   a run of refused frames: the order of 15, 14 and 16; a refused open keeps the register; a cut frame ends it
+-- Assumes nothing.
+use mathlib.Core.Path.{_≡_, refl, subst}
+use mathlib.Core.List.{List, [], _∷_, _++_, map}
+use mathlib.Core.Bool.{true, false}
+use Prim.Native.Nat.{ℕ, _+_, _*_}
+use native.Mathlib.Omega.{arith}
+use lib.ListN.{length, drop}
+use lib.Dec.{leb}
+use borrow.Author.Tests.{leb-true}
+use Rattle.book.specs.Basics.{has, without}
+use Rattle.book.specs.Causes.{number, firstNumber}
+use Rattle.book.specs.Book.{Call, edit, undo, add, lock, causes, editAnswer, edited, turned, undoAnswer, undone, answer, next, fresh, after}
+use Rattle.k2.specs.PairSets.{rowPairs, rowsPairs, listed, union, transpose, most, serves, product, over, closure, diagonal}
+use Rattle.k2.specs.Trees.{rise, height, treeUnit}
+use Rattle.paths.specs.Expressions.{Expr, symbol, letter, sequence, standsFor, letters, depth}
+use Rattle.paths.specs.Grammar.{Verdict, accepted, long, outside, Judged, verdictCause}
+use Rattle.paths.specs.Chains.{asked, Step, spell, stepWords, Reply, none, chain, ChainIs, first-chain}
+use Rattle.paths.specs.Relations.{crossed, zeroSteps, cells, pairs}
+use Rattle.paths.specs.Questions.{ReplyTo, pairsOf, pairsCauses, pairsAnswer, steps, chainCauses, chainAnswer}
+use Rattle.paths.specs.Descent.{alternativesIn, readAlternatives}
+use Rattle.paths.specs.Verdicts.{verdict, verdict-right}
+use Rattle.paths.specs.PairLaws.{history-inside}
+use Rattle.paths.specs.ChainOrder.{before}
+use Rattle.paths.specs.Acceptance.{parted, many, accepts}
+use Rattle.paths.specs.FirstChain.{reach, stepsBelow, before-each, after-each, walks, walksTo, end, best, firstTo, chainTo, chain-first}
+use Rattle.report.specs.Report.{bytes, figures, decimal, pairLine, labelLetter, senseSign, stepLine, lines, counted, okText, refusedText, pairsText, chainText, answerText, outcomeText}
+use Rattle.session.specs.Program.{minFrame, maxFrame, number16, twoBytes, frameOf, linkIn, decode, Session, unopened, openAnswer, nextSession, Right, printed, frameIn, Run, framed, ended, lone-byte}
+
+unfoldable pub input : List ℕ
+input =
+    frameOf 1 (4 ∷ 0 ∷ []) ++ (
+    frameOf 2 (0 ∷ 0 ∷ 0 ∷ 1 ∷ 0 ∷ []) ++ (
+    frameOf 2 (2 ∷ 0 ∷ 0 ∷ 1 ∷ 0 ∷ []) ++ (
+    frameOf 4 (1 ∷ 0 ∷ []) ++ (
+    frameOf 2 (1 ∷ 0 ∷ 1 ∷ 3 ∷ 0 ∷ []) ++ (
+    frameOf 7 (bytes "a/^a") ++ (
+    frameOf 6 [] ++ (
+    frameOf 2 (1 ∷ 0 ∷ 1 ∷ 3 ∷ 0 ∷ []) ++ (
+    frameOf 8 (0 ∷ 0 ∷ 3 ∷ 0 ∷ bytes "a/b")))))))))
+
+unfoldable pub output : List ℕ
+output = bytes "ok\nok\nok\nok\nrefused 4\npairs 4\n0 0\n0 2\n2 0\n2 2\nok\nok\nchain 2\na + 1\nb + 3\n"
+
+-- one frame more
+by : {s : Session} {a b : ℕ} {i : List ℕ} (o : List ℕ) (v : Verdict) (t : Reply)
+    → leb minFrame (a + 256 * b) ≡ true → leb (a + 256 * b) maxFrame ≡ true → leb (a + 256 * b) (length i) ≡ true
+    → Right s (frameIn (a + 256 * b) i) v t
+    → Run 4096 4096 (nextSession s (frameIn (a + 256 * b) i)) (drop (a + 256 * b) i) o
+    → Run 4096 4096 s (a ∷ b ∷ i) (printed 4096 4096 s (frameIn (a + 256 * b) i) v t ++ o)
+by {s} {a} {b} {i} o v t h k l r rest = framed v t (leb-true _ _ h) (leb-true _ _ k) (leb-true _ _ l) r rest
+
+-- the register's history in the sample, and the chain that it asks for in the end
+abbrev link : ℕ → ℕ → ℕ → Call
+link f l t = edit (add (record { from = f; label = l; to = t }))
+
+abbrev history : List Call
+history = link 0 0 1 ∷ link 2 0 1 ∷ edit (lock 1) ∷ link 1 1 3 ∷ undo ∷ link 1 1 3 ∷ []
+
+abbrev forward : ℕ → ℕ → Step
+forward l r = record { spelt = record { label = l; inverted = false }; reached = r }
+
+abbrev steps-found : List Step
+steps-found = forward 0 1 ∷ forward 1 3 ∷ []
+
+abbrev a/b : Expr
+a/b = sequence (symbol (letter 0)) (symbol (letter 1))
+
+same-expression : (e f : Expr) → accepted e ≡ accepted f → e ≡ f
+same-expression e f h = cc
+
+asked-last : ReplyTo (asked (after (fresh 4) history)) (accepted a/b) 0 3 (chain (stepWords steps-found))
+unfolding number firstNumber causes editAnswer edited turned undone next fresh after has without asked standsFor parted many accepts before reach stepsBelow before-each after-each walks walksTo end best firstTo chainTo spell stepWords letters cells most
+asked-last e h =
+    subst (λ (f : Expr). ChainIs (asked (after (fresh 4) history)) f 0 3 (chain (stepWords steps-found))) (same-expression a/b e h)
+    (first-chain steps-found (chain-first (asked (after (fresh 4) history)) (history-inside 4 (omega arith) history) 2 a/b 0 3 steps-found refl))
+
+last-right : Judged (bytes "a/b") (verdict (bytes "a/b")) × ReplyTo (asked (after (fresh 4) history)) (verdict (bytes "a/b")) 0 3 (chain (stepWords steps-found))
+unfolding bytes verdict readAlternatives alternativesIn letters depth
+last-right = (verdict-right (bytes "a/b"), asked-last)
+
+pub sample : Run 4096 4096 unopened input output
+unfolding input output twoBytes frameOf bytes number16 linkIn decode openAnswer nextSession printed answerText outcomeText okText refusedText pairsText chainText counted lines pairLine stepLine labelLetter senseSign decimal figures number firstNumber causes editAnswer edited turned undoAnswer undone answer next fresh after has without verdict readAlternatives alternativesIn letters depth verdictCause standsFor asked most crossed zeroSteps diagonal transpose union serves product over closure cells rowPairs rowsPairs listed pairs pairsOf pairsCauses pairsAnswer steps stepWords chainCauses chainAnswer rise height treeUnit
+sample =
+    by (drop 3 output) long none refl refl refl tt
+    (by (drop 6 output) long none refl refl refl tt
+    (by (drop 9 output) long none refl refl refl tt
+    (by (drop 12 output) long none refl refl refl tt
+    (by (drop 22 output) long none refl refl refl tt
+    (by (drop 46 output) (verdict (bytes "a/^a")) none refl refl refl (verdict-right (bytes "a/^a"))
+    (by (drop 49 output) long none refl refl refl tt
+    (by (drop 52 output) long none refl refl refl tt
+    (by [] (verdict (bytes "a/b")) (chain (stepWords steps-found)) refl refl refl last-right
+    ended))))))))
+
+unfoldable pub faults : List ℕ
+faults =
+    frameOf 9 [] ++ (
+    frameOf 6 (7 ∷ []) ++ (
+    frameOf 6 [] ++ (
+    frameOf 7 [] ++ (
+    frameOf 1 (0 ∷ 0 ∷ []) ++ (
+    frameOf 1 (64 ∷ 0 ∷ []) ++ (
+    frameOf 4 (0 ∷ 0 ∷ []) ++ (
+    frameOf 1 (65 ∷ 0 ∷ []) ++ (
+    frameOf 4 (0 ∷ 0 ∷ []) ++ (
+    frameOf 2 (64 ∷ 0 ∷ 26 ∷ 0 ∷ 0 ∷ []) ++ (
+    frameOf 2 (0 ∷ 0 ∷ 26 ∷ 0 ∷ 0 ∷ []) ++ (
+    frameOf 2 (0 ∷ 0 ∷ 0 ∷ 0 ∷ 0 ∷ []) ++ (
+    frameOf 5 (1 ∷ 0 ∷ []) ++ (
+    frameOf 6 [] ++ (
+    frameOf 6 [] ++ (
+    frameOf 7 [] ++ (
+    frameOf 8 (0 ∷ 0 ∷ 3 ∷ []) ++ (
+    frameOf 8 (0 ∷ 0 ∷ 3 ∷ 0 ∷ []) ++ (
+    frameOf 0 (1 ∷ []) ++ (
+    2 ∷ [])))))))))))))))))))
+
+unfoldable pub refusals : List ℕ
+refusals =
+    bytes "refused 15\nrefused 14\nrefused 16\nrefused 16\nrefused 1\nok\nok\nrefused 1\nrefused 5\nrefused 2\nrefused 3\nrefused 4\nrefused 6\nok\nrefused 8\nrefused 9\nrefused 14\nrefused 9\nrefused 15\nrefused 14\n"
+
+outside-none : (e : Expr) → outside ≡ accepted e → ⊥
+outside-none e h = let z : _≡_ {A = ℕ} 0 1 = cc in omega arith
+
+none-asked : Judged [] (verdict []) × ReplyTo (asked (fresh 64)) (verdict []) 0 3 none
+unfolding verdict readAlternatives alternativesIn
+none-asked = (verdict-right [], λ e h. absurd (outside-none e h))
+
+pub refused-run : Run 4096 4096 unopened faults refusals
+unfolding faults refusals twoBytes frameOf bytes number16 linkIn decode openAnswer nextSession printed answerText outcomeText okText refusedText counted decimal figures number firstNumber causes editAnswer edited turned undoAnswer undone answer next fresh has without verdict readAlternatives alternativesIn letters depth verdictCause asked pairsOf pairsCauses pairsAnswer steps chainCauses chainAnswer
+refused-run =
+    by (drop 11 refusals) long none refl refl refl tt
+    (by (drop 22 refusals) long none refl refl refl tt
+    (by (drop 33 refusals) long none refl refl refl tt
+    (by (drop 44 refusals) long none refl refl refl tt
+    (by (drop 54 refusals) long none refl refl refl tt
+    (by (drop 57 refusals) long none refl refl refl tt
+    (by (drop 60 refusals) long none refl refl refl tt
+    (by (drop 70 refusals) long none refl refl refl tt
+    (by (drop 80 refusals) long none refl refl refl tt
+    (by (drop 90 refusals) long none refl refl refl tt
+    (by (drop 100 refusals) long none refl refl refl tt
+    (by (drop 110 refusals) long none refl refl refl tt
+    (by (drop 120 refusals) long none refl refl refl tt
+    (by (drop 123 refusals) long none refl refl refl tt
+    (by (drop 133 refusals) long none refl refl refl tt
+    (by (drop 143 refusals) (verdict []) none refl refl refl (verdict-right [])
+    (by (drop 154 refusals) long none refl refl refl tt
+    (by (drop 164 refusals) (verdict []) none refl refl refl none-asked
+    (by (drop 175 refusals) long none refl refl refl tt
+    lone-byte))))))))))))))))))

@@ -1,0 +1,130 @@
+-- Laws of the program.
+--   Steady s        the session's book, if any, is sound and has at most 64 records; so from the start, after every frame
+--   right-exists    every frame has a verdict and a reply, so that what it prints is always said
+--   pairs-answered, chain-answered
+--                   with 4,096 words of work and list, a question whose expression and records are accepted is not refused: 12 and 13 never come
+-- Assumes nothing.
+use mathlib.Core.Path.{_≡_, refl, sym, ap, subst, _∙_}
+use mathlib.Core.List.{List, [], _∷_, _++_}
+use mathlib.Core.Bool.{Bool, true, false, _||_}
+use Prim.Native.Nat.{ℕ, zero, suc, _+_, _-_, _*_, _/_, _^_, _≤_, _<_}
+use native.Mathlib.Nat.{suc-mul, mul-le-mul}
+use native.Mathlib.Decide.{decLt}
+use native.Mathlib.Omega.{arith}
+use lib.Pow.{pow-mono}
+use lib.ListN.{length, length-append}
+use lib.Dec.{ltb, leb, eqb}
+use borrow.Author.Tests.{le-ltb, lt-leb}
+use Rattle.book.specs.Basics.{pick}
+use Rattle.book.specs.Causes.{number, firstNumber}
+use Rattle.book.specs.Book.{Book, fresh}
+use Rattle.book.specs.BookLaws.{Sound, next-sound, fresh-sound}
+use Rattle.k2.specs.PairSets.{Cells, pairWord, ifSet, rowPairs, rowsPairs, listed}
+use Rattle.k2.specs.Trees.{height, treeUnit}
+use Rattle.k2.specs.HeightLaws.{height-is}
+use Rattle.paths.specs.Expressions.{Expr, letters}
+use Rattle.paths.specs.Grammar.{Verdict, accepted, long, outside, large, Judged, verdictCause}
+use Rattle.paths.specs.Chains.{Graph, asked, Reply, none, chain, ChainIs, no-chain, first-chain, stepWords}
+use Rattle.paths.specs.Relations.{pairs, cells}
+use Rattle.paths.specs.Questions.{paired, replied, unless, pairsOf, pairsCauses, pairsAnswer, steps, ReplyTo, chainCauses, chainAnswer}
+use Rattle.paths.specs.Verdicts.{verdict, verdict-right}
+use Rattle.paths.specs.PairLaws.{fit-inside}
+use Rattle.paths.specs.FirstChain.{reply}
+use Rattle.automaton.specs.WalkLaws.{length-stepWords}
+use Rattle.automaton.specs.ShortChains.{chains-63}
+use Rattle.session.specs.Program.{programRecords, Request, Frame, asks, faulty, opening, call, pairs as pairs-asked, chain as chain-asked, Session, unopened, opened, openAnswer, nextSession, Right}
+use Rattle.session.specs.TurnLaws.{open-none, open-many, open-fine, next-size}
+
+-- ---- at most n × n pairs
+if-set-length : (v w : ℕ) → length (ifSet v w) ≤ 1
+if-set-length zero w = omega arith
+if-set-length (suc v) w = omega arith
+
+row-length : (a : Cells) (x m : ℕ) → length (rowPairs a x m) ≤ m
+unfolding rowPairs
+row-length a x zero = omega arith
+row-length a x (suc m) = omega (arith, length-append (rowPairs a x m) (ifSet (a x m) (pairWord x m)), row-length a x m, if-set-length (a x m) (pairWord x m))
+
+rows-length : (a : Cells) (n m : ℕ) → length (rowsPairs a n m) ≤ m * n
+unfolding rowsPairs
+rows-length a n zero = omega arith
+rows-length a n (suc m) = omega (arith, length-append (rowsPairs a n m) (rowPairs a m n), rows-length a n m, row-length a m n, suc-mul m n)
+
+pub listed-length : (n : ℕ) (a : Cells) → length (listed n a) ≤ n * n
+unfolding listed
+listed-length n a = rows-length a n n
+
+-- ---- the tree of at most 64 records
+small-tree : (n : ℕ) → n ≤ 64 → treeUnit n ≤ 86
+unfolding treeUnit
+small-tree n h =
+    let low : height n ≤ 6 = height-is n .2 6 (omega arith) h in
+    let side : 2 ^ height n ≤ 64 = pow-mono low in
+    let square : 2 ^ height n * 2 ^ height n ≤ 64 * 64 = mul-le-mul side side in
+    omega arith
+
+-- ---- the sessions of a run
+abbrev pub Steady : Session → Type 0
+Steady unopened = Unit
+Steady (opened b) = Sound b × (b .n ≤ programRecords)
+
+pub start-steady : Steady unopened
+start-steady = tt
+
+open-steady : (n : ℕ) (s : Session) → Steady s → Dec (n < 1) → Dec (64 < n) → Steady (pick (eqb (openAnswer n) 0) (opened (fresh n)) s)
+unfolding number fresh
+open-steady n s h (yes i) k = rw (open-none n i) h
+open-steady n s h (no i) (yes k) = rw (open-many n (omega arith) k) h
+open-steady n s h (no i) (no k) = rw (open-fine n (omega arith) (omega arith)) (fresh-sound n (omega arith), omega arith)
+
+pub next-steady : (s : Session) (f : Frame) → Steady s → Steady (nextSession s f)
+unfolding nextSession
+next-steady s (faulty c) h = h
+next-steady s (asks (opening n)) h = open-steady n s h (decLt n 1) (decLt 64 n)
+next-steady unopened (asks (call c)) h = tt
+next-steady (opened b) (asks (call c)) h = (next-sound b c (h .0), rw (next-size b c) (h .1))
+next-steady s (asks (pairs-asked u)) h = h
+next-steady s (asks (chain-asked x y u)) h = h
+
+-- ---- every frame has a verdict and a reply
+same-expression : (e f : Expr) → accepted e ≡ accepted f → e ≡ f
+same-expression e f h = cc
+
+reply-exists : (b : Book) → Sound b → (v : Verdict) (x y : ℕ) → (t : Reply) × ReplyTo (asked b) v x y t
+reply-exists b h (accepted e) x y =
+    let r = reply (asked b) (fit-inside b (h .sheet)) e x y in
+    (r .0, λ f k. subst (λ (d : Expr). ChainIs (asked b) d x y (r .0)) (same-expression e f k) (r .1))
+reply-exists b h long x y = (none, λ e k. absurd (let z : _≡_ {A = ℕ} 0 1 = cc in omega arith))
+reply-exists b h outside x y = (none, λ e k. absurd (let z : _≡_ {A = ℕ} 0 1 = cc in omega arith))
+reply-exists b h large x y = (none, λ e k. absurd (let z : _≡_ {A = ℕ} 0 1 = cc in omega arith))
+
+pub right-exists : (s : Session) (f : Frame) → Steady s → (v : Verdict) × (t : Reply) × Right s f v t
+right-exists unopened f h = (long, none, tt)
+right-exists (opened b) (faulty c) h = (long, none, tt)
+right-exists (opened b) (asks (opening n)) h = (long, none, tt)
+right-exists (opened b) (asks (call c)) h = (long, none, tt)
+right-exists (opened b) (asks (pairs-asked u)) h = (verdict u, none, verdict-right u)
+right-exists (opened b) (asks (chain-asked x y u)) h =
+    let r = reply-exists b (h .0) (verdict u) x y in
+    (verdict u, r .0, (verdict-right u, r .1))
+
+-- ---- with 4,096 words each, no question is refused for room
+pub pairs-answered : (b : Book) (e : Expr) → b .n ≤ programRecords → pairsAnswer b (accepted e) 4096 4096 ≡ paired (pairs (asked b) e)
+unfolding pairsAnswer pairsCauses pairsOf pairs asked verdictCause firstNumber
+pairs-answered b e h =
+    let square : b .n * b .n ≤ 64 * 64 = mul-le-mul h h in
+    let few : length (listed (b .n) (cells (asked b) e)) ≤ 4096 = omega (arith, listed-length (b .n) (cells (asked b) e)) in
+    let work : 32 * treeUnit (b .n) ≤ 4096 = omega (arith, small-tree (b .n) h) in
+    rw (le-ltb 4096 (32 * treeUnit (b .n)) work, le-ltb 4096 (length (listed (b .n) (cells (asked b) e))) few)
+
+steps-few : (b : Book) → Sound b → b .n ≤ programRecords → (e : Expr) → letters e ≤ 63 → (x y : ℕ) (t : Reply) → ChainIs (asked b) e x y t → length (steps t) ≤ 4096
+unfolding steps asked
+steps-few b h m e l x y none r = omega arith
+steps-few b h m e l x y (chain ws) (first-chain ss f) = omega (arith, length-stepWords ss, chains-63 (asked b) (fit-inside b (h .sheet)) e l x y ss f)
+
+pub chain-answered : (b : Book) → Sound b → b .n ≤ programRecords → (e : Expr) → letters e ≤ 63 → (x y : ℕ) → x < b .n → y < b .n → (t : Reply) → ChainIs (asked b) e x y t
+    → chainAnswer b x y (accepted e) t 4096 4096 ≡ replied t
+unfolding chainAnswer chainCauses verdictCause firstNumber
+chain-answered b h m e l x y i j t r =
+    let work : 64 * b .n ≤ 4096 = omega arith in
+    rw (lt-leb (b .n) x i, lt-leb (b .n) y j, le-ltb 4096 (64 * b .n) work, le-ltb 4096 (length (steps t)) (steps-few b h m e l x y t r))

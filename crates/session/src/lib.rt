@@ -1,0 +1,295 @@
+// One frame of the program: what it does to the session, and which bytes it prints. What is right is defined in specs/Program.antt.
+ghost use mathlib.Core.Path.{_≡_};
+ghost use Prim.Native.Nat.{ℕ, _+_, _≤_, _<_};
+ghost use lib.ListN.{length, getD};
+ghost use Rattle.session.specs.Program.{decode as Program·decode, number16 as Program·number16};
+ghost use Rattle.session.specs.Program.{opening, call as Program·call, pairs, chain, asks, unopened as Program·unopened};
+ghost use Rattle.session.specs.Says.{says, Long, callOf};
+ghost use Rattle.session.specs.Turns.{Holds, room, Turns, Framing};
+ghost use Rattle.register.specs.Calls.{Steps};
+ghost use Rattle.report.specs.Report.{refusedText, outcomeText};
+ghost use Rattle.report.specs.Written.{Wrote};
+ghost use Rattle.session.specs.Listing.{listing};
+ghost use Rattle.chains.specs.Replies.{outcomeOf, answerLength};
+use chains::ChainAnswer;
+use pairs::PairsAnswer;
+use register::Outcome;
+use register::Register;
+
+// The numbers of the program's own causes: n outside 1 to 64, frame broken, kind unknown, no register opened; and the most records.
+const BAD_SIZE: u32 = 1;
+
+const BROKEN_FRAME: u32 = 14;
+
+const UNKNOWN_KIND: u32 = 15;
+
+const NOT_OPEN: u32 = 16;
+
+const MOST_RECORDS: u16 = 64;
+
+// Whether a register is opened, and the register.
+pub struct State {
+    opened: bool,
+    register: Register,
+}
+
+// What a frame hands back: the state after it, and how many bytes it printed.
+pub struct Framed {
+    pub state: State,
+    pub written: usize,
+}
+
+// An edit or undo. A link's parts are from, label and to.
+pub enum Call {
+    Add(u16, u8, u16),
+    Remove(u16, u8, u16),
+    Lock(u16),
+    Unlock(u16),
+    Undo,
+}
+
+// A frame's request, or what is wrong with the frame. The text of a question stays in the body.
+pub enum Decoded {
+    Open(u16),
+    Edit(Call),
+    Pairs,
+    Chain(u16, u16),
+    // A body of the wrong size.
+    Broken,
+    Unknown,
+}
+
+// The byte at place p, or 0 past the end.
+fn byte_at(s: &[u8], p: usize) -> u16
+    ensures { λ r. ⌜ (r ≡ getD (now (s .entry)) p 0) × (r < 256) ⌝ }
+{
+    if p < s.len() { s[p] as u16 } else { 0 }
+}
+
+// The two-byte number at place p.
+pub fn number16(s: &[u8], p: usize) -> u16
+    ensures { λ r. ⌜ r ≡ Program·number16 (now (s .entry)) p ⌝ }
+{
+    if s.len() <= p {
+        return 0;
+    }
+    byte_at(s, p) + 256 * byte_at(s, p + 1)
+}
+
+pub fn decode(kind: u16, body: &[u8]) -> Decoded
+    ensures { λ r. ⌜ (says r (now (body .entry)) ≡ Program·decode kind (now (body .entry))) × Long r (now (body .entry)) ⌝ }
+{
+    let n = body.len();
+    match kind {
+        1 => {
+            if n != 2 {
+                return Decoded::Broken;
+            }
+            Decoded::Open(number16(body, 0))
+        }
+        2 => {
+            if n != 5 {
+                return Decoded::Broken;
+            }
+            let label = body[2];
+            Decoded::Edit(Call::Add(number16(body, 0), label, number16(body, 3)))
+        }
+        3 => {
+            if n != 5 {
+                return Decoded::Broken;
+            }
+            let label = body[2];
+            Decoded::Edit(Call::Remove(number16(body, 0), label, number16(body, 3)))
+        }
+        4 => {
+            if n != 2 {
+                return Decoded::Broken;
+            }
+            Decoded::Edit(Call::Lock(number16(body, 0)))
+        }
+        5 => {
+            if n != 2 {
+                return Decoded::Broken;
+            }
+            Decoded::Edit(Call::Unlock(number16(body, 0)))
+        }
+        6 => {
+            if n != 0 {
+                return Decoded::Broken;
+            }
+            Decoded::Edit(Call::Undo)
+        }
+        7 => Decoded::Pairs,
+        8 => {
+            if n < 4 {
+                return Decoded::Broken;
+            }
+            Decoded::Chain(number16(body, 0), number16(body, 2))
+        }
+        _ => Decoded::Unknown,
+    }
+}
+
+// The state at the start of a run.
+pub fn unopened() -> State
+    ensures { λ r. ⌜ Holds r Program·unopened ⌝ }
+{
+    let made = Register::fresh(1);
+    let register = made.register;
+    State {
+        opened: false,
+        register,
+    }
+}
+
+// A refusal, which leaves the state as it was.
+fn refuse(state: State, number: u32, out: &mut [u8]) -> Framed
+    requires { ⌜ 29 ≤ length (now out) ⌝ }
+    ensures { λ r. ⌜ (r .state ≡ state) × Wrote 0 (refusedText number) (now (out .entry)) (now (out .exit)) (r .written) ⌝ }
+{
+    let written = report::put_refused(number, out, 0);
+    Framed { state, written }
+}
+
+fn apply(register: Register, call: Call) -> Outcome
+    ensures { λ r. ⌜ Steps register (callOf call) r ⌝ }
+{
+    match call {
+        Call::Add(x, l, y) => register.add(x, l, y),
+        Call::Remove(x, l, y) => register.remove(x, l, y),
+        Call::Lock(r) => register.lock(r),
+        Call::Unlock(r) => register.unlock(r),
+        Call::Undo => register.undo(),
+    }
+}
+
+fn open(state: State, n: u16, out: &mut [u8]) -> Framed
+    requires { ⌜ 29 ≤ length (now out) ⌝ }
+    ensures { λ r. ⌜ ((work list : ℕ) → Turns state (asks (opening n)) work list (now (out .entry)) (now (out .exit)) r) ⌝ }
+{
+    if n < 1 {
+        return refuse(state, BAD_SIZE, out);
+    }
+    if MOST_RECORDS < n {
+        return refuse(state, BAD_SIZE, out);
+    }
+    let made = Register::fresh(n);
+    let register = made.register;
+    let written = report::put_ok(out, 0);
+    Framed {
+        state: State {
+            opened: true,
+            register,
+        },
+        written,
+    }
+}
+
+fn edit(state: State, call: Call, out: &mut [u8]) -> Framed
+    requires { ⌜ 29 ≤ length (now out) ⌝ }
+    ensures { λ r. ⌜ ((work list : ℕ) → Turns state (asks (Program·call (callOf call))) work list (now (out .entry)) (now (out .exit)) r) ⌝ }
+{
+    if !state.opened {
+        return refuse(state, NOT_OPEN, out);
+    }
+    let outcome = apply(state.register, call);
+    let answer = outcome.answer;
+    let register = outcome.register;
+    let written = report::put_answer(register::number_of(answer), out, 0);
+    Framed {
+        state: State {
+            opened: true,
+            register,
+        },
+        written,
+    }
+}
+
+fn put_reply(answer: ChainAnswer, list: &[u32], out: &mut [u8]) -> usize
+    requires { ⌜ (answerLength answer ≤ length (now list)) × (room (length (now list)) ≤ length (now out)) ⌝ }
+    ensures { λ r. ⌜ Wrote 0 (outcomeText (outcomeOf answer (now (list .entry)))) (now (out .entry)) (now (out .exit)) r ⌝ }
+{
+    match answer {
+        ChainAnswer::Chain(k) => report::put_chain(&list[..k], out, 0),
+        ChainAnswer::NoChain => report::put_none(out, 0),
+        ChainAnswer::Refused(k) => report::put_refused(k, out, 0),
+    }
+}
+
+fn ask_chain(
+    state: State,
+    x: u16,
+    y: u16,
+    text: &[u8],
+    work: &mut [u64],
+    list: &mut [u32],
+    out: &mut [u8],
+) -> Framed
+    requires { ⌜ room (length (now list)) ≤ length (now out) ⌝ }
+    ensures { λ r. ⌜ Turns state (asks (chain x y (now (text .entry)))) (length (now (work .entry))) (length (now (list .entry))) (now (out .entry)) (now (out .exit)) r ⌝ }
+{
+    if !state.opened {
+        return refuse(state, NOT_OPEN, out);
+    }
+    let answer = chains::chain(state.register, x, y, text, work, list);
+    let written = put_reply(answer, list, out);
+    Framed { state, written }
+}
+
+fn put_listing(answer: PairsAnswer, list: &[u32], out: &mut [u8]) -> usize
+    requires { ⌜ room (length (now list)) ≤ length (now out) ⌝ }
+    ensures { λ r. ⌜ Wrote 0 (outcomeText (listing answer (now (list .entry)))) (now (out .entry)) (now (out .exit)) r ⌝ }
+{
+    match answer {
+        PairsAnswer::Pairs(k) => {
+            if list.len() < k {
+                return report::put_pairs(list, out, 0);
+            }
+            report::put_pairs(&list[..k], out, 0)
+        }
+        PairsAnswer::Refused(k) => report::put_refused(k, out, 0),
+    }
+}
+
+fn ask_pairs(
+    state: State,
+    text: &[u8],
+    work: &mut [u64],
+    list: &mut [u32],
+    out: &mut [u8],
+) -> Framed
+    requires { ⌜ room (length (now list)) ≤ length (now out) ⌝ }
+    ensures { λ r. ⌜ Turns state (asks (pairs (now (text .entry)))) (length (now (work .entry))) (length (now (list .entry))) (now (out .entry)) (now (out .exit)) r ⌝ }
+{
+    if !state.opened {
+        return refuse(state, NOT_OPEN, out);
+    }
+    let answer = pairs::pairs(state.register, text, work, list);
+    let written = put_listing(answer, list, out);
+    Framed { state, written }
+}
+
+// What one frame does to the state, and the bytes that it prints into out.
+pub fn frame(
+    state: State,
+    kind: u16,
+    body: &[u8],
+    work: &mut [u64],
+    list: &mut [u32],
+    out: &mut [u8],
+) -> Framed
+    ensures { λ r. ⌜ Framing state (Program·decode kind (now (body .entry))) (length (now (work .entry))) (length (now (list .entry))) (now (out .entry)) (now (out .exit)) r ⌝ }
+{
+    if out.len() / 13 < list.len() + 3 {
+        return Framed { state, written: 0 };
+    }
+    let decoded = decode(kind, body);
+    match decoded {
+        Decoded::Open(n) => open(state, n, out),
+        Decoded::Edit(call) => edit(state, call, out),
+        Decoded::Pairs => ask_pairs(state, body, work, list, out),
+        Decoded::Chain(x, y) => ask_chain(state, x, y, &body[4..], work, list, out),
+        Decoded::Broken => refuse(state, BROKEN_FRAME, out),
+        Decoded::Unknown => refuse(state, UNKNOWN_KIND, out),
+    }
+}
