@@ -41,7 +41,8 @@ struct Engine {
 
 impl Engine {
     fn of(sheet: &Sheet) -> Engine {
-        let calls: Vec<u64> = sheet.links.iter().map(|l| u64::from(l.from) << 24 | u64::from(l.label) << 16 | u64::from(l.to)).collect();
+        let calls: Vec<u64> =
+            sheet.links.iter().map(|l| u64::from(l.from) << 24 | u64::from(l.label) << 16 | u64::from(l.to)).collect();
         let answers = vec![0; calls.len()];
         Engine { n: sheet.n as u16, calls, answers, work: vec![u64::MAX; 64 * sheet.n as usize] }
     }
@@ -105,7 +106,9 @@ fn run(path: &Path) -> Result<bool, String> {
         let (reply, time) = engine.timed(*from, *to, expression.as_bytes(), &mut list);
         let line = line(index, question, reply, &list);
         let length = reply.ok().flatten().unwrap_or(0);
-        let good = stored.0.get(&index) == Some(&line) && list[length..].iter().all(|&word| word == CLEAR) && engine.answers.iter().all(|&a| a == 0);
+        let good = stored.0.get(&index) == Some(&line)
+            && list[length..].iter().all(|&word| word == CLEAR)
+            && engine.answers.iter().all(|&a| a == 0);
         right &= good;
         let (time, beside) = (microseconds(time), microseconds(beside));
         println!("{line} {time:.1} plain {beside:.1} ratio {:.1}{}", time / beside, if good { "" } else { " WRONG" });
