@@ -6,8 +6,9 @@ use mathlib.Core.List.{List, [], _∷_, _++_, append-assoc, append-nil}
 use mathlib.Core.Bool.{true, false}
 use Prim.Native.Nat.{ℕ, zero, suc, _+_, _-_, _*_, _≤_, _<_}
 use native.Mathlib.Nat.{zero-add}
+use native.Mathlib.Decide.{decLt}
 use native.Mathlib.Omega.{arith}
-use lib.ListN.{length, take, drop, length-append, length-drop, drop-of-length-le}
+use lib.ListN.{length, take, drop, length-append, length-take, length-drop, drop-of-length-le}
 use lib.Seq.{take-all, take-append-le, drop-append-le, drop-drop}
 use borrow.Rule.Slice.PartMut.{putMid}
 use Rattle.book.specs.Causes.{broken-frame, number}
@@ -22,7 +23,7 @@ use Rattle.session.specs.Program.{minFrame, maxFrame, number16, Frame, d
 use Rattle.session.specs.ProgramLaws.{Steady, right-exists}
 use Rattle.session.specs.RunLaws.{framed-as}
 use Rattle.session.specs.TurnLaws.{both-ways}
-use Rattle.session.specs.Turns.{Holds, is-closed, is-open, Turns}
+use Rattle.session.specs.Turns.{Holds, is-closed, is-open, room, Turns}
 use Rattle.session.specs.Runs.{Advances, Front, no-frame, a-frame}
 use Rattle.session.specs.declared.State.{State}
 use Rattle.session.specs.declared.Framed.{Framed}
@@ -182,3 +183,15 @@ module _ (work list : ℕ) where
       let input : take (length i - r .read) (drop (r .read) i) ≡ drop (r .read) i = take-all (length i - r .read) (drop (r .read) i) (omega (arith, length-drop (r .read) i)) in
       let rest : take (length m - r .written) (drop (r .written) m) ≡ drop (r .written) m = take-all (length m - r .written) (drop (r .written) m) (omega (arith, length-drop (r .written) m)) in
       goes-on st i out m part r q more same a (rw (ew, el, input, rest) at b)
+
+  -- a turn that read nothing, though there is more to do, had too little room
+  pub no-room : (q : Ran) (n : ℕ) → (room list ≤ n → q .more ≡ true → 0 < q .read) → q .more ≡ true → q .read ≡ 0 → n < room list
+  no-room q n turn more none = short (decLt n (room list))
+    where
+      short : Dec (n < room list) → n < room list
+      short (yes h) = h
+      short (no h) = absurd (let z = turn (omega arith) more in omega arith)
+
+-- the room that was too little, as the rest of a whole
+pub rest-short : (m : List ℕ) (n w q k : ℕ) → w ≤ n → length m ≡ n → length (take (length m - w) (drop w m)) < k → n < w + q + k
+rest-short m n w q k h e l = omega (arith, length-take (length m - w) (drop w m), length-drop w m)
