@@ -128,9 +128,13 @@ module _ (work list : ℕ) where
         within = turned .within;
         ends = λ e s h. absurd (both-ways true refl e);
         goes = λ e s h.
-        let r = right-exists s (frontFrame i n) (holds-steady h) in
-        (printed work list s (frontFrame i n) (r .0) (r .1), nextSession s (frontFrame i n), right .prints s h (r .0) (r .1) (r .2), right .next s h,
-        λ j p run. front-run i n j p (r .0) (r .1) (facts .0) (facts .1) (facts .2) (facts .3) (r .2) run);
+            let r = right-exists s (frontFrame i n) (holds-steady h) in (
+              printed work list s (frontFrame i n) (r .0) (r .1),
+              nextSession s (frontFrame i n),
+              right .prints s h (r .0) (r .1) (r .2),
+              right .next s h,
+              λ j p run. front-run i n j p (r .0) (r .1) (facts .0) (facts .1) (facts .2) (facts .3) (r .2) run,
+            );
       }
     where
       right : Turns st (frontFrame i n) work list out out′ f
@@ -162,18 +166,24 @@ module _ (work list : ℕ) where
           → (o : List ℕ) × Wrote 0 o out (putMid (r .written) (length m - r .written) m part) (r .written + q .written) × Run work list s i o
       ending e s h =
           let x = a .goes more s h in
-          let y = b .ends e (x .1) (x .3) in
-          (x .0 ++ y .0, wrote (x .0) (y .0) (x .2) (y .1),
-          subst (λ (l : List ℕ). Run work list s l (x .0 ++ y .0)) (append-nil i) (x .4 [] (y .0) (subst (λ (l : List ℕ). Run work list (x .1) l (y .0)) (sym (append-nil (drop (r .read) i))) (y .2))))
+          let y = b .ends e (x .1) (x .3) in (
+            x .0 ++ y .0,
+            wrote (x .0) (y .0) (x .2) (y .1),
+            subst (λ (l : List ℕ). Run work list s l (x .0 ++ y .0)) (append-nil i) (x .4 [] (y .0) (subst (λ (l : List ℕ). Run work list (x .1) l (y .0)) (sym (append-nil (drop (r .read) i))) (y .2))),
+          )
 
       going : q .more ≡ true → (s : Session) → Holds st s
           → (o : List ℕ) × (s′ : Session) × Wrote 0 o out (putMid (r .written) (length m - r .written) m part) (r .written + q .written) × Holds (q .state) s′
           × ((j p : List ℕ) → Run work list s′ (drop (r .read + q .read) i ++ j) p → Run work list s (i ++ j) (o ++ p))
       going e s h =
           let x = a .goes more s h in
-          let y = b .goes e (x .1) (x .3) in
-          (x .0 ++ y .0, y .1, wrote (x .0) (y .0) (x .2) (y .2), y .3,
-          λ j p run. subst (λ (l : List ℕ). Run work list s (i ++ j) l) (sym (append-assoc (x .0) (y .0) p)) (x .4 j (y .0 ++ p) (y .4 j p (subst (λ (l : List ℕ). Run work list (y .1) (l ++ j) p) (sym (drop-drop (q .read) (r .read) i)) run))))
+          let y = b .goes e (x .1) (x .3) in (
+            x .0 ++ y .0,
+            y .1,
+            wrote (x .0) (y .0) (x .2) (y .2),
+            y .3,
+            λ j p run. subst (λ (l : List ℕ). Run work list s (i ++ j) l) (sym (append-assoc (x .0) (y .0) p)) (x .4 j (y .0 ++ p) (y .4 j p (subst (λ (l : List ℕ). Run work list (y .1) (l ++ j) p) (sym (drop-drop (q .read) (r .read) i)) run))),
+          )
 
   -- the same, where the rest of the input and of out are lent as parts
   pub goes-on-part : (st : State) (i out m part : List ℕ) (r q : Ran) (w l : ℕ) → r .more ≡ true → length m ≡ length out → w ≡ work → l ≡ list → Advances st i work list out m r

@@ -332,13 +332,7 @@ fn front(input: &[u8]) -> usize
 }
 
 // One turn of a run: the frame at the front of the input, or the run's end. With too little room for what a frame may print, nothing.
-pub fn step(
-    state: State,
-    input: &[u8],
-    work: &mut [u64],
-    list: &mut [u32],
-    out: &mut [u8],
-) -> Ran
+pub fn step(state: State, input: &[u8], work: &mut [u64], list: &mut [u32], out: &mut [u8]) -> Ran
     ensures { λ r. ⌜ Advances state (now (input .entry)) (length (now (work .entry))) (length (now (list .entry))) (now (out .entry)) (now (out .exit)) r ⌝ }
     ensures { λ r. ⌜ (room (length (now (list .entry))) ≤ length (now (out .entry)) → r .more ≡ true → 0 < r .read) ⌝ }
 {
@@ -382,13 +376,7 @@ pub fn step(
 }
 
 // A run over the whole input, as far as there is room for what it prints.
-pub fn run(
-    state: State,
-    input: &[u8],
-    work: &mut [u64],
-    list: &mut [u32],
-    out: &mut [u8],
-) -> Ran
+pub fn run(state: State, input: &[u8], work: &mut [u64], list: &mut [u32], out: &mut [u8]) -> Ran
     ensures { λ r. ⌜ Advances state (now (input .entry)) (length (now (work .entry))) (length (now (list .entry))) (now (out .entry)) (now (out .exit)) r ⌝ }
     ensures { λ r. ⌜ (r .more ≡ true → length (now (out .entry)) < r .written + room (length (now (list .entry)))) ⌝ }
 {

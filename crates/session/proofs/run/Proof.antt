@@ -51,9 +51,9 @@ step-requires c κs = tt
 -- how far the run came with this turn
 went : (c : tie.After-step Inv-loop μ-loop) (more : Bool) → c .step .result .more ≡ more
     → let l = c .before .before .before .before .before .loop in let q = c .step .result in let s = c .before .before .before .before .before .before .before .before .before .before .args in
-      Advances (s .state) (now (s .input)) (length (now (s .work))) (length (now (s .list))) (now (s .out))
-      (putMid (l .written) (length (l .out) - l .written) (l .out) (c .step .last .1 .1 .1 .1 .0))
-      (record { state = q .state; read = l .read + q .read; written = l .written + q .written; more = more })
+    Advances (s .state) (now (s .input)) (length (now (s .work))) (length (now (s .list))) (now (s .out))
+    (putMid (l .written) (length (l .out) - l .written) (l .out) (c .step .last .1 .1 .1 .1 .0))
+    (record { state = q .state; read = l .read + q .read; written = l .written + q .written; more = more })
 went c more e =
     let l = c .before .before .before .before .before .loop in
     let s = c .before .before .before .before .before .before .before .before .before .before .args in
@@ -104,13 +104,15 @@ same-length-6 : tie.Need-same-length-6 Inv-loop μ-loop
 same-length-6 c = outs (c .before .before .before .before .before .before .before .before .before .before .before .before .before)
 
 returns-2 : tie.Need-returns-2 Inv-loop μ-loop
-returns-2 c = (went (c .before .before .before .before .before .before .before .before .before .before .before .before .before) true (not-false _ (c .before .before .if1 .left)),
-    λ e.
-    let l = c .before .before .before .before .before .before .before .before .before .before .before .before .before .before .before .before .before .before .loop in
-    let q = c .before .before .before .before .before .before .before .before .before .before .before .before .before .step .result in
-    let short = no-room 0 _ q _ (c .before .before .before .before .before .before .before .before .before .before .before .before .before .step .ensures .1) (not-false _ (c .before .before .if1 .left)) (omega arith) in
-    subst (λ (k : ℕ). length (now (c .before .before .before .before .before .before .before .before .before .before .before .before .before .before .before .before .before .before .before .before .before .before .before .args .out)) < l .written + q .written + room k) (l .inv .2)
-    (rest-short (l .out) (length (now (c .before .before .before .before .before .before .before .before .before .before .before .before .before .before .before .before .before .before .before .before .before .before .before .args .out))) (l .written) (q .written) (room (length (l .list))) (l .inv .0 .within) (l .inv .3) short))
+returns-2 c = (
+  went (c .before .before .before .before .before .before .before .before .before .before .before .before .before) true (not-false _ (c .before .before .if1 .left)),
+  λ e.
+      let l = c .before .before .before .before .before .before .before .before .before .before .before .before .before .before .before .before .before .before .loop in
+      let q = c .before .before .before .before .before .before .before .before .before .before .before .before .before .step .result in
+      let short = no-room 0 _ q _ (c .before .before .before .before .before .before .before .before .before .before .before .before .before .step .ensures .1) (not-false _ (c .before .before .if1 .left)) (omega arith) in
+      subst (λ (k : ℕ). length (now (c .before .before .before .before .before .before .before .before .before .before .before .before .before .before .before .before .before .before .before .before .before .before .before .args .out)) < l .written + q .written + room k) (l .inv .2)
+      (rest-short (l .out) (length (now (c .before .before .before .before .before .before .before .before .before .before .before .before .before .before .before .before .before .before .before .before .before .before .before .args .out))) (l .written) (q .written) (room (length (l .list))) (l .inv .0 .within) (l .inv .3) short),
+)
 
 loop-less : tie.Need-loop-less Inv-loop μ-loop
 loop-less c = omega (arith, went (c .before .before .before .before .before .before .before .before .before .before .before .before .before) _ refl .inside)

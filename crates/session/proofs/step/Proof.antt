@@ -68,9 +68,10 @@ same-length-4 : tie.Need-same-length-4
 same-length-4 c = search needs
 
 returns-4 : tie.Need-returns-4
-returns-4 c =
-    (one-frame _ _ (c .before .before .before .before .before .before .before .before .before .before .before .before .before .before .before .before .before .before .before .before .before .args .state) (now (c .before .before .before .before .before .before .before .before .before .before .before .before .before .before .before .before .before .before .before .before .before .args .input)) (now (c .before .before .before .before .before .before .before .before .before .before .before .before .before .before .before .before .before .before .before .before .before .args .out)) _ (c .before .before .before .before .before .before .before .before .before .before .before .before .before .before .front .result) _ (c .before .before .before .before .before .before .before .frame .result) (facts (c .before .before .before .before .before .before .before .before .before .before .before .before .before)) (c .before .before .before .before .before .before .before .before .before .before .before .before .number16 .ensures) (c .before .before .before .before .before .before .before .frame .ensures .turns (omega arith)),
-    λ h e. omega arith)
+returns-4 c = (
+  one-frame _ _ (c .before .before .before .before .before .before .before .before .before .before .before .before .before .before .before .before .before .before .before .before .before .args .state) (now (c .before .before .before .before .before .before .before .before .before .before .before .before .before .before .before .before .before .before .before .before .before .args .input)) (now (c .before .before .before .before .before .before .before .before .before .before .before .before .before .before .before .before .before .before .before .before .before .args .out)) _ (c .before .before .before .before .before .before .before .before .before .before .before .before .before .before .front .result) _ (c .before .before .before .before .before .before .before .frame .result) (facts (c .before .before .before .before .before .before .before .before .before .before .before .before .before)) (c .before .before .before .before .before .before .before .before .before .before .before .before .number16 .ensures) (c .before .before .before .before .before .before .before .frame .ensures .turns (omega arith)),
+  λ h e. omega arith,
+)
 
 pub step-spec : {M : Type 1} → statement M
 step-spec =
