@@ -12,7 +12,7 @@ ghost use Rattle.register.specs.Packed.{insert};
 ghost use Rattle.register.specs.Calls.{answerNumber, packedOf, Represents, Opens, Steps, wordCall};
 ghost use Rattle.register.specs.Inner.{putAt, cutAt, Seam, standsAt, linkCauses, hasAt, Guarded, Checks, Holding, Changed, TakenBack};
 ghost use Rattle.register.specs.History.{Replays};
-ghost use Rattle.register.specs.Questions.{Sized, Listing, LabelPart, nextPlace, NextLink, start, end};
+ghost use Rattle.register.specs.Questions.{Sized, Listing, Locks, Locking, LabelPart, nextPlace, NextLink, start, end};
 
 // n records; the first count words of links, ascending, are the links present; of ring, the held words before top are the latest accepted edits.
 pub struct Register {
@@ -520,6 +520,23 @@ impl Register {
             words,
             count: self.count,
         }
+    }
+
+    // Whether each record is locked.
+    pub fn locks(self) -> [bool; 1024]
+        ensures { λ r. ⌜ Locks self r ⌝ }
+    {
+        self.locks
+    }
+
+    // Whether a record is locked.
+    pub fn is_locked(self, record: u16) -> bool
+        ensures { λ r. ⌜ Locking self «record» r ⌝ }
+    {
+        if 1024 <= record {
+            return false;
+        }
+        self.locks[record as usize]
     }
 }
 
