@@ -149,7 +149,7 @@ pub fn decode(kind: u16, body: &[u8]) -> Decoded
 pub fn unopened() -> State
     ensures { λ r. ⌜ Holds r Program·unopened ⌝ }
 {
-    let made = Register::fresh(1);
+    let made = engine::open(1);
     let register = made.register;
     State {
         opened: false,
@@ -170,11 +170,11 @@ fn apply(register: Register, call: Call) -> Outcome
     ensures { λ r. ⌜ Steps register (callOf call) r ⌝ }
 {
     match call {
-        Call::Add(x, l, y) => register.add(x, l, y),
-        Call::Remove(x, l, y) => register.remove(x, l, y),
-        Call::Lock(r) => register.lock(r),
-        Call::Unlock(r) => register.unlock(r),
-        Call::Undo => register.undo(),
+        Call::Add(x, l, y) => engine::add(register, x, l, y),
+        Call::Remove(x, l, y) => engine::remove(register, x, l, y),
+        Call::Lock(r) => engine::lock(register, r),
+        Call::Unlock(r) => engine::unlock(register, r),
+        Call::Undo => engine::undo(register),
     }
 }
 
@@ -188,7 +188,7 @@ fn open(state: State, n: u16, out: &mut [u8]) -> Framed
     if MOST_RECORDS < n {
         return refuse(state, BAD_SIZE, out);
     }
-    let made = Register::fresh(n);
+    let made = engine::open(n);
     let register = made.register;
     let written = report::put_ok(out, 0);
     Framed {
@@ -246,7 +246,7 @@ fn ask_chain(
     if !state.opened {
         return refuse(state, NOT_OPEN, out);
     }
-    let answer = chains::chain(state.register, x, y, text, work, list);
+    let answer = engine::chain(state.register, x, y, text, work, list);
     let written = put_reply(answer, list, out);
     Framed { state, written }
 }
@@ -279,7 +279,7 @@ fn ask_pairs(
     if !state.opened {
         return refuse(state, NOT_OPEN, out);
     }
-    let answer = pairs::pairs(state.register, text, work, list);
+    let answer = engine::pairs(state.register, text, work, list);
     let written = put_listing(answer, list, out);
     Framed { state, written }
 }
