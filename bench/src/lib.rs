@@ -3,11 +3,13 @@
 //! * `sheet`, `answer`: the files and result lines of `../shared/bench/README.md`.
 //! * `system`: what a system under test has to offer, and the list of those that are compared.
 //! * `runner`, `comparison`, `made`, `memory`: one system on one file; all systems side by side; made-up sheets; memory in use.
+//! * `engine`: the engine, through the crate `dating`.
 //! * `plain`, over `register`, `expression`, `rows` and `chains`: the baseline, written from the meaning in the scope paper (01).
 
 pub mod answer;
 pub mod chains;
 pub mod comparison;
+pub mod engine;
 pub mod expression;
 pub mod made;
 pub mod memory;
