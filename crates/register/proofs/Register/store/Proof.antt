@@ -1,0 +1,70 @@
+use native.Mathlib.Omega.{arith}
+use Rattle.register.specs.Calls.{Ranged}
+use Rattle.register.proofs.Stepping.{inside}
+use borrow.Author.Needs.{needs}
+use Rattle.register.proofs.Register.store.Statement.{statement}
+use Rattle.register.proofs.Register.store.Tie as tie
+
+in-range : (c : tie.Else2) → Ranged (c .before .before .before .before .args .t1 .n) (c .before .before .before .before .args .t1 .count) (c .before .before .before .before .args .t1 .top) (c .before .before .before .before .args .t1 .held)
+in-range c = inside (c .before .before .before .before .args .t1) (c .before .ranged .result) (c .before .ranged .ensures) (c .if2 .left)
+
+returns : tie.Need-returns
+returns c = search needs
+
+ranged-requires : tie.Need-ranged-requires
+ranged-requires c κs = search needs
+
+returns-2 : tie.Need-returns-2
+returns-2 c = search needs
+
+cast-t11 : tie.Need-cast-t11
+cast-t11 c = search needs
+
+cast-t12 : tie.Need-cast-t12
+cast-t12 c = omega (arith, in-range c .count)
+
+cast-t13 : tie.Need-cast-t13
+cast-t13 c = omega (arith, in-range c .top)
+
+cast-t14 : tie.Need-cast-t14
+cast-t14 c = omega (arith, in-range c .held)
+
+slice-aggregate-copy : tie.Need-slice-aggregate-copy
+slice-aggregate-copy c = search needs
+
+copy-requires : tie.Need-copy-requires
+copy-requires c κs = search needs
+
+copy-requires-2 : tie.Need-copy-requires-2
+copy-requires-2 c κs = search needs
+
+copy-requires-3 : tie.Need-copy-requires-3
+copy-requires-3 c κs = search needs
+
+write-locks-requires : tie.Need-write-locks-requires
+write-locks-requires c κs = search needs
+
+same-length : tie.Need-same-length
+same-length c = search needs
+
+returns-3 : tie.Need-returns-3
+returns-3 c = search needs
+
+pub store-spec : {M : Type 1} → statement M
+store-spec =
+    tie.close
+    (tie.spec
+    returns
+    ranged-requires
+    returns-2
+    cast-t11
+    cast-t12
+    cast-t13
+    cast-t14
+    slice-aggregate-copy
+    copy-requires
+    copy-requires-2
+    copy-requires-3
+    write-locks-requires
+    same-length
+    returns-3)
