@@ -62,7 +62,9 @@ impl<T: Word> Lender<T> {
             assert_eq!(mprotect(start.byte_add(length), PAGE, NO_ACCESS), 0);
             std::slice::from_raw_parts_mut(start.cast::<T>(), length / size_of::<T>())
         };
-        Lender::Guarded { words, lent: 0 }
+        let mut lender = Lender::Guarded { words, lent: 0 };
+        lender.lend(0);
+        lender
     }
 
     pub fn heap() -> Lender<T> {
