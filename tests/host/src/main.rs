@@ -18,7 +18,7 @@ type Kind = (&'static str, fn(&mut Run, u64, Size), Size, [u64; 3]);
 
 /// Each kind of case with its size, and how many there are: in the short run, in the long one, on the heap.
 const KINDS: [Kind; 11] = [
-    ("history of few records", history::history, Size(1, 64), [300, 1500, 3]),
+    ("history of few records", history::history, Size(1, 64), [200, 1200, 3]),
     ("history of some records", history::history, Size(65, 256), [80, 600, 0]),
     ("history of many records", history::history, Size(257, 1024), [40, 400, 0]),
     ("full register", history::full, Size(16, 1024), [6, 40, 0]),
