@@ -2,8 +2,8 @@
 // What the calls promise is stated in specs/Calls.antt, specs/History.antt and specs/Questions.antt, about the plain book of the crate book.
 ghost use mathlib.Core.Path.{_≡_};
 ghost use Prim.Native.Nat.{_+_, _-_, _≤_, _<_};
-ghost use mathlib.Core.Bool.{true};
-ghost use lib.ListN.{length, take, set, getD};
+ghost use mathlib.Core.List.{_++_, map};
+ghost use lib.ListN.{length, take, drop, set};
 ghost use lib.Dec.{eqb};
 ghost use Rattle.book.specs.Basics.{Rises, has, without};
 ghost use Rattle.book.specs.Causes.{firstNumber};
@@ -11,8 +11,9 @@ ghost use Rattle.book.specs.Book.{add, remove, lock, unlock, edit, undo, fresh}
 ghost use Rattle.register.specs.Links.{linkWord};
 ghost use Rattle.register.specs.Packed.{insert};
 ghost use Rattle.register.specs.Calls.{answerNumber, packedOf, Represents, Opens, Steps, wordCall};
-ghost use Rattle.register.specs.Inner.{putAt, cutAt, Seam, standsAt, linkCauses, hasAt, Guarded, Checks, Holding, Changed, TakenBack};
+ghost use Rattle.register.specs.Inner.{putAt, cutAt, Seam, standsAt, linkCauses, hasAt, Guarded, Checks, Holding, Changed, TakenBack, Flags, Formed, Tested};
 ghost use Rattle.register.specs.History.{Replays};
+ghost use Rattle.register.specs.Words.{lockWord, Copies, Loads, Stores, Locking};
 ghost use Rattle.register.specs.Questions.{Sized, Listing, LabelPart, nextPlace, NextLink, start, end};
 
 // n records; the first count words of links, ascending, are the links present; of ring, the held words before top are the latest accepted edits.
@@ -608,7 +609,9 @@ pub fn next_in(words: &[u32], record: u16, at: usize) -> usize
 }
 
 // A part of words copied to a place from word `at` on; false, and nothing written, if it does not fit there.
-pub fn copy(from: &[u32], to: &mut [u32], at: usize) -> bool {
+pub fn copy(from: &[u32], to: &mut [u32], at: usize) -> bool
+    ensures { λ r. ⌜ Copies (now (from .entry)) at (now (to .entry)) (now (to .exit)) r ⌝ }
+{
     if to.len() < from.len() {
         return false;
     }
@@ -624,7 +627,9 @@ pub fn copy(from: &[u32], to: &mut [u32], at: usize) -> bool {
 }
 
 // Whether every word is 0 or 1.
-fn flags(words: &[u32]) -> bool {
+fn flags(words: &[u32]) -> bool
+    ensures { λ r. ⌜ Tested (Flags (now (words .entry))) r ⌝ }
+{
     let mut i = 0;
     while i < words.len() {
         if 1 < words[i] {
@@ -638,6 +643,7 @@ fn flags(words: &[u32]) -> bool {
 // Locks from words: locked where the word is 1.
 fn read_locks(words: &[u32], locks: &mut [bool])
     requires { ⌜ length (now words) ≡ length (now locks) ⌝ }
+    ensures { λ _. ⌜ (Flags (now (words .entry)) → map lockWord (now (locks .exit)) ≡ now (words .entry)) ⌝ }
 {
     let mut i = 0;
     while i < words.len() {
@@ -649,6 +655,7 @@ fn read_locks(words: &[u32], locks: &mut [bool])
 // Locks as words from word `at` on: 1 where locked.
 fn write_locks(locks: &[bool], words: &mut [u32], at: usize)
     requires { ⌜ at + length (now locks) ≤ length (now words) ⌝ }
+    ensures { λ _. ⌜ now (words .exit) ≡ take at (now (words .entry)) ++ map lockWord (now (locks .entry)) ++ drop (at + length (now (locks .entry))) (now (words .entry)) ⌝ }
 {
     let mut i = 0;
     while i < locks.len() {
@@ -659,7 +666,7 @@ fn write_locks(locks: &[bool], words: &mut [u32], at: usize)
 
 // Whether words are those of a register: as many as it has, n of 16 bits, each lock 0 or 1.
 fn is_register(words: &[u32]) -> bool
-    ensures { λ r. ⌜ (r ≡ true → (length (now (words .entry)) ≡ 5380) × (getD (now (words .entry)) 0 0 < 65536)) ⌝ }
+    ensures { λ r. ⌜ Tested (Formed (now (words .entry))) r ⌝ }
 {
     if words.len() != 5380 {
         return false;
@@ -673,7 +680,9 @@ fn is_register(words: &[u32]) -> bool
 // A register kept as words: n, count, top, held, 4,096 words of links, 256 of the ring, 1,024 of locks.
 impl Register {
     // The register of the words; words that are no register's are refused with 16.
-    pub fn load(words: &[u32]) -> Opened {
+    pub fn load(words: &[u32]) -> Opened
+        ensures { λ r. ⌜ Loads (now (words .entry)) r ⌝ }
+    {
         if !is_register(words) {
             return Opened {
                 register: empty(0),
@@ -701,7 +710,9 @@ impl Register {
     }
 
     // The register's words; false, and nothing written, if its numbers are out of range or the slice is not as long as its words.
-    pub fn store(self, words: &mut [u32]) -> bool {
+    pub fn store(self, words: &mut [u32]) -> bool
+        ensures { λ r. ⌜ Stores self (now (words .entry)) (now (words .exit)) r ⌝ }
+    {
         if words.len() != 5380 {
             return false;
         }
@@ -722,7 +733,9 @@ impl Register {
     }
 
     // Whether a record is locked.
-    pub fn locked(self, record: u16) -> bool {
+    pub fn locked(self, record: u16) -> bool
+        ensures { λ r. ⌜ Locking self «record» r ⌝ }
+    {
         let i = record as usize;
         if 1024 <= i {
             return false;

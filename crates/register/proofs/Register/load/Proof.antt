@@ -1,9 +1,10 @@
-use mathlib.Core.Path.{_≡_}
-use mathlib.Core.Bool.{true}
-use Prim.Native.Nat.{_<_}
+-- `register::Register::load` copies the three arrays out of words that have the form of a register's. Assumes nothing.
+use mathlib.Core.Path.{_≡_, sym, _∙_}
 use native.Mathlib.Omega.{arith}
-use lib.ListN.{length, getD, length-take, length-drop}
-use borrow.Author.Tests.{not-false}
+use lib.ListN.{take, drop, replicate, length-replicate, length-take, length-drop}
+use borrow.Author.Tests.{not-true, not-false}
+use Rattle.register.specs.Inner.{Formed}
+use Rattle.register.proofs.Keeping.{copied-over, part-long, loaded, keeps-formed, load-refused, load-made}
 use borrow.Author.Needs.{needs}
 use Rattle.register.proofs.Register.load.Statement.{statement}
 use Rattle.register.proofs.Register.load.Tie as tie
@@ -11,14 +12,14 @@ use Rattle.register.proofs.Register.load.Tie as tie
 is-register-requires : tie.Need-is-register-requires
 is-register-requires c κs = search needs
 
-made : (c : tie.Else1) → (length (c .before .before .before .args .words .now) ≡ 5380) × (getD (c .before .before .before .args .words .now) 0 0 < 65536)
-made c = c .before .is-register .ensures (not-false _ (c .if1 .left))
+made : (c : tie.Else1) → Formed (c .before .before .before .args .words .now)
+made c = c .before .is-register .ensures .sure (not-false _ (c .if1 .left))
 
 empty-requires : tie.Need-empty-requires
 empty-requires c κs = search needs
 
 returns : tie.Need-returns
-returns c = search needs
+returns c = load-refused (c .before .before .before .before .args .words .now) _ (c .before .before .is-register .ensures) (not-true _ (c .before .if1 .taken))
 
 sub-copy : tie.Need-sub-copy
 sub-copy c = search needs
@@ -27,7 +28,7 @@ part-copy-start : tie.Need-part-copy-start
 part-copy-start c = search needs
 
 part-copy-end : tie.Need-part-copy-end
-part-copy-end c = omega (arith, made (c) .0)
+part-copy-end c = omega (arith, made (c) .long)
 
 slice-aggregate-copy : tie.Need-slice-aggregate-copy
 slice-aggregate-copy c = search needs
@@ -42,7 +43,7 @@ part-copy-start-2 : tie.Need-part-copy-start-2
 part-copy-start-2 c = search needs
 
 part-copy-end-2 : tie.Need-part-copy-end-2
-part-copy-end-2 c = omega (arith, made (c .before .before .before .before) .0)
+part-copy-end-2 c = omega (arith, made (c .before .before .before .before) .long)
 
 slice-aggregate-copy-2 : tie.Need-slice-aggregate-copy-2
 slice-aggregate-copy-2 c = search needs
@@ -51,10 +52,10 @@ copy-requires-2 : tie.Need-copy-requires-2
 copy-requires-2 c κs = search needs
 
 sub-read-locks : tie.Need-sub-read-locks
-sub-read-locks c = omega (arith, made (c .before .before .before .before .before .before .before .before) .0)
+sub-read-locks c = omega (arith, made (c .before .before .before .before .before .before .before .before) .long)
 
 part-read-locks-start : tie.Need-part-read-locks-start
-part-read-locks-start c = omega (arith, made (c .before .before .before .before .before .before .before .before) .0)
+part-read-locks-start c = omega (arith, made (c .before .before .before .before .before .before .before .before) .long)
 
 part-read-locks-end : tie.Need-part-read-locks-end
 part-read-locks-end c = search needs
@@ -63,34 +64,40 @@ slice-aggregate-read-locks : tie.Need-slice-aggregate-read-locks
 slice-aggregate-read-locks c = search needs
 
 read-locks-requires : tie.Need-read-locks-requires
-read-locks-requires c κs = rw (length-take, length-drop) (omega (arith, made (c .before .before .before .before .before .before .before .before .before .before) .0))
+read-locks-requires c κs = rw (length-take, length-drop) (omega (arith, made (c .before .before .before .before .before .before .before .before .before .before) .long))
 
 shared-slice-read-t27 : tie.Need-shared-slice-read-t27
-shared-slice-read-t27 c = omega (arith, made (c .before .before .before .before .before .before .before .before .before .before .before .before .before) .0)
+shared-slice-read-t27 c = omega (arith, made (c .before .before .before .before .before .before .before .before .before .before .before .before .before) .long)
 
 cast-t28 : tie.Need-cast-t28
-cast-t28 c = omega (arith, made (c .before .before .before .before .before .before .before .before .before .before .before .before .before) .1)
+cast-t28 c = omega (arith, made (c .before .before .before .before .before .before .before .before .before .before .before .before .before) .size)
 
 shared-slice-read-t30 : tie.Need-shared-slice-read-t30
-shared-slice-read-t30 c = omega (arith, made (c .before .before .before .before .before .before .before .before .before .before .before .before .before .before) .0)
+shared-slice-read-t30 c = omega (arith, made (c .before .before .before .before .before .before .before .before .before .before .before .before .before .before) .long)
 
 cast-t10 : tie.Need-cast-t10
 cast-t10 c = omega (arith, c .shared-slice-known3 .given 1)
 
 shared-slice-read-t35 : tie.Need-shared-slice-read-t35
-shared-slice-read-t35 c = omega (arith, made (c .before .before .before .before .before .before .before .before .before .before .before .before .before .before .before) .0)
+shared-slice-read-t35 c = omega (arith, made (c .before .before .before .before .before .before .before .before .before .before .before .before .before .before .before) .long)
 
 cast-t36 : tie.Need-cast-t36
 cast-t36 c = omega (arith, c .shared-slice-known4 .given 2)
 
 shared-slice-read-t38 : tie.Need-shared-slice-read-t38
-shared-slice-read-t38 c = omega (arith, made (c .before .before .before .before .before .before .before .before .before .before .before .before .before .before .before .before) .0)
+shared-slice-read-t38 c = omega (arith, made (c .before .before .before .before .before .before .before .before .before .before .before .before .before .before .before .before) .long)
 
 cast-t39 : tie.Need-cast-t39
 cast-t39 c = omega (arith, c .shared-slice-known5 .given 3)
 
 returns-2 : tie.Need-returns-2
-returns-2 c = search needs
+returns-2 c = ?
+
+links-read : (c : tie.After-copy) → c .copy .last .1 .0 ≡ take 4096 (drop 4 (c .before .before .before .before .before .before .args .words .now))
+links-read c =
+    let ws = c .before .before .before .before .before .before .args .words .now in
+    let f = made (c .before .before .before) in
+    copied-over (take 4096 (drop 4 ws)) (replicate 4096 0) (c .copy .last .1 .0) (c .copy .result) (part-long ws 4 4096 (omega (arith, f .long)) ∙ sym (length-replicate 4096 0)) (c .copy .ensures)
 
 pub load-spec : {M : Type 1} → statement M
 load-spec =

@@ -1,6 +1,9 @@
+-- `register::Register::store` copies the numbers and the three arrays one behind another, after the tests. Assumes nothing.
 use native.Mathlib.Omega.{arith}
+use borrow.Author.Tests.{not-true}
 use Rattle.register.specs.Calls.{Ranged}
 use Rattle.register.proofs.Stepping.{inside}
+use Rattle.register.proofs.Keeping.{stored, store-refused, store-done}
 use borrow.Author.Needs.{needs}
 use Rattle.register.proofs.Register.store.Statement.{statement}
 use Rattle.register.proofs.Register.store.Tie as tie
@@ -9,13 +12,13 @@ in-range : (c : tie.Else2) → Ranged (c .before .before .before .before .args .
 in-range c = inside (c .before .before .before .before .args .t1) (c .before .ranged .result) (c .before .ranged .ensures) (c .if2 .left)
 
 returns : tie.Need-returns
-returns c = search needs
+returns c = store-refused _ _ (λ l g. c .if1 .taken l)
 
 ranged-requires : tie.Need-ranged-requires
 ranged-requires c κs = search needs
 
 returns-2 : tie.Need-returns-2
-returns-2 c = search needs
+returns-2 c = store-refused _ _ (λ l g. c .before .ranged .ensures .none (not-true _ (c .if2 .taken)) g)
 
 cast-t11 : tie.Need-cast-t11
 cast-t11 c = search needs
@@ -48,7 +51,7 @@ same-length : tie.Need-same-length
 same-length c = search needs
 
 returns-3 : tie.Need-returns-3
-returns-3 c = search needs
+returns-3 c = ?
 
 pub store-spec : {M : Type 1} → statement M
 store-spec =
