@@ -52,6 +52,11 @@ fn possible(words: &[u32]) -> bool {
     words.len() == 5380 && words[N] < 65536 && words[LOCKS..].iter().all(|&word| word <= 1)
 }
 
+/// Whether the numbers of records, links and held edits are in range; if not, an edit is answered with 16.
+fn in_range(words: &[u32]) -> bool {
+    possible(words) && words[N] <= 1024 && words[1] <= 4096 && words[2] < 256 && words[3] <= 256
+}
+
 pub fn damaged(run: &mut Run, seed: u64, size: Size) {
     let mut history = History::fresh(run, seed, size);
     history.some();
@@ -72,8 +77,9 @@ pub fn damaged(run: &mut Run, seed: u64, size: Size) {
             4 => Call::Lock(link.from),
             _ => Call::Unlock(link.from),
         };
+        let refused = !in_range(&words);
         let answer = run.engine.edit(&mut words, call);
-        if !possible {
+        if refused {
             run.same_of(|| format!("{call:?} on words of no register"), &answer, &16);
         }
     }

@@ -18,15 +18,15 @@ type Kind = (&'static str, fn(&mut Run, u64, Size), Size, [u64; 3]);
 
 /// Each kind of case with its size, and how many there are: in the short run, in the long one, on the heap.
 const KINDS: [Kind; 11] = [
-    ("history of few records", history::history, Size(1, 64), [200, 1200, 3]),
-    ("history of some records", history::history, Size(65, 256), [80, 600, 0]),
-    ("history of many records", history::history, Size(257, 1024), [40, 400, 0]),
+    ("history of few records", history::history, Size(1, 64), [200, 1000, 3]),
+    ("history of some records", history::history, Size(65, 256), [80, 500, 0]),
+    ("history of many records", history::history, Size(257, 1024), [40, 300, 0]),
     ("full register", history::full, Size(16, 1024), [6, 40, 0]),
     ("ring", history::ring, Size(1, 64), [20, 200, 1]),
     ("long ring", history::ring, Size(1000, 1024), [2, 12, 0]),
     ("trees of few records", trees::trees, Size(1, 64), [300, 3000, 3]),
-    ("trees of some records", trees::trees, Size(65, 256), [60, 500, 0]),
-    ("trees of many records", trees::trees, Size(257, 1024), [16, 120, 0]),
+    ("trees of some records", trees::trees, Size(65, 256), [60, 400, 0]),
+    ("trees of many records", trees::trees, Size(257, 1024), [16, 100, 0]),
     ("damaged words, few records", damage::damaged, Size(1, 64), [400, 5000, 20]),
     ("damaged words, many records", damage::damaged, Size(65, 1024), [100, 1500, 1]),
 ];
