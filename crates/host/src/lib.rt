@@ -281,12 +281,22 @@ pub extern "C" fn dating_tree_product(
 
 // The tree of the pairs exchanged.
 #[no_mangle]
-pub extern "C" fn dating_tree_transpose(n: usize, a: &[u64], out: &mut [u64], work: &mut [u64]) -> u64 {
+pub extern "C" fn dating_tree_transpose(
+    n: usize,
+    a: &[u64],
+    out: &mut [u64],
+    work: &mut [u64],
+) -> u64 {
     told_tree(tree::transpose(n, a, out, work))
 }
 
 // The tree of the closure: one or more pairs that lead from one to the other.
 #[no_mangle]
-pub extern "C" fn dating_tree_closure(n: usize, a: &[u64], out: &mut [u64], work: &mut [u64]) -> u64 {
+pub extern "C" fn dating_tree_closure(
+    n: usize,
+    a: &[u64],
+    out: &mut [u64],
+    work: &mut [u64],
+) -> u64 {
     told_tree(tree::closure(n, a, out, work))
 }

@@ -92,14 +92,20 @@ locks-written ls at before after e =
     e ∙ ap (λ (t : List ℕ). take at before ++ t ++ drop (at + length ls) before) (take-all (length ls) (map lockWord ls) (omega (arith, length-map ls lockWord)))
 
 -- ---- load
+to-end : (ws : List ℕ) → take (length ws - 4356) (drop 4356 ws) ≡ drop 4356 ws
+to-end ws = take-all (length ws - 4356) (drop 4356 ws) (omega (arith, length-drop 4356 ws))
+
 pub formed-by : (ws : List ℕ) (ok : Bool) → length ws ≡ 5380 → getD ws 0 0 < 65536 → Tested (Flags (take (length ws - 4356) (drop 4356 ws))) ok → Tested (Formed ws) ok
 formed-by ws ok l n t = record {
-  sure = λ e. record { long = l; size = n; flags = rw (all ws) at (t .sure e) };
-  none = λ e f. t .none e (rw (all ws) (f .flags));
+  sure = λ e. record { long = l; size = n; flags = rw (to-end ws) at (t .sure e) };
+  none = λ e f. t .none e (rw (to-end ws) (f .flags));
 }
-  where
-    all : (ws : List ℕ) → take (length ws - 4356) (drop 4356 ws) ≡ drop 4356 ws
-    all ws = take-all (length ws - 4356) (drop 4356 ws) (omega (arith, length-drop 4356 ws))
+
+pub locks-loaded : (ws : List ℕ) (ks : List Bool) → Formed ws → (Flags (take (length ws - 4356) (drop 4356 ws)) → map lockWord ks ≡ take (length ws - 4356) (drop 4356 ws))
+    → map lockWord ks ≡ take 1024 (drop 4356 ws)
+locks-loaded ws ks f g =
+    let e : length ws - 4356 ≡ 1024 = omega (arith, f .long) in
+    g (rw (to-end ws) (f .flags)) ∙ ap (λ (k : ℕ). take k (drop 4356 ws)) e
 
 four : (ws : List ℕ) → 4 ≤ length ws → take 4 ws ≡ getD ws 0 0 ∷ getD ws 1 0 ∷ getD ws 2 0 ∷ getD ws 3 0 ∷ []
 four [] h = absurd (omega arith)
@@ -165,8 +171,8 @@ stored r w₀ w₁ w₂ w₃ w₄ g ls rs ks l a b c d =
     let l₃ : length (numbersOf r ++ r .links ++ r .ring) ≡ 4356 = length-append (numbersOf r ++ r .links) (r .ring) ∙ omega (arith, l₂, rs) in
     let e₃ : take 4356 w₃ ≡ numbersOf r ++ r .links ++ r .ring = behind (numbersOf r ++ r .links) (r .ring) w₂ w₃ 4100 4356 e₂ l₂ (omega (arith, rs)) c in
     let e₄ : take 5380 w₄ ≡ wordsOf r =
-            behind (numbersOf r ++ r .links ++ r .ring) (map lockWord (r .locks)) w₃ w₄ 4356 5380 e₃ l₃ (omega (arith, m, ks))
-            (rw m d) in
+    behind (numbersOf r ++ r .links ++ r .ring) (map lockWord (r .locks)) w₃ w₄ 4356 5380 e₃ l₃ (omega (arith, m, ks))
+    (rw m d) in
     record { size = omega (arith, g .size); links = ls; ring = rs; locks = ks; words = sym (take-all 5380 w₄ (omega (arith, l))) ∙ e₄ }
 
 pub store-refused : (r : Register) (ws : List ℕ) → (length ws ≡ 5380 → Ranged (r .n) (r .count) (r .top) (r .held) → ⊥) → Stores r ws ws false

@@ -38,9 +38,9 @@ module _ {ws : List ℕ} where
   pub keeps-same : {r s : Register} → Keeps ws r → Keeps ws s → r ≡ s
   keeps-same {r} {s} k l =
       let front : length (numbersOf r ++ r .links) ≡ length (numbersOf s ++ s .links)
-          = length-append (numbersOf r) (r .links) ∙ ap (λ (t : ℕ). 4 + t) (k .links ∙ sym (l .links)) ∙ sym (length-append (numbersOf s) (s .links)) in
+      = length-append (numbersOf r) (r .links) ∙ ap (λ (t : ℕ). 4 + t) (k .links ∙ sym (l .links)) ∙ sym (length-append (numbersOf s) (s .links)) in
       let ringed : length (numbersOf r ++ r .links ++ r .ring) ≡ length (numbersOf s ++ s .links ++ s .ring)
-          = length-append (numbersOf r ++ r .links) (r .ring) ∙ omega (arith, front, k .ring, l .ring) ∙ sym (length-append (numbersOf s ++ s .links) (s .ring)) in
+      = length-append (numbersOf r ++ r .links) (r .ring) ∙ omega (arith, front, k .ring, l .ring) ∙ sym (length-append (numbersOf s ++ s .links) (s .ring)) in
       let a = parted (numbersOf r ++ r .links ++ r .ring) (map lockWord (r .locks)) (numbersOf s ++ s .links ++ s .ring) (map lockWord (s .locks)) ringed (sym (k .words) ∙ l .words) in
       let b = parted (numbersOf r ++ r .links) (r .ring) (numbersOf s ++ s .links) (s .ring) front (a .0) in
       let c = parted (numbersOf r) (r .links) (numbersOf s) (s .links) refl (b .0) in

@@ -1,10 +1,11 @@
 -- `register::Register::load` copies the three arrays out of words that have the form of a register's. Assumes nothing.
 use mathlib.Core.Path.{_≡_, sym, _∙_}
+use Prim.Native.Nat.{ℕ}
 use native.Mathlib.Omega.{arith}
 use lib.ListN.{take, drop, replicate, length-replicate, length-take, length-drop}
 use borrow.Author.Tests.{not-true, not-false}
 use Rattle.register.specs.Inner.{Formed}
-use Rattle.register.proofs.Keeping.{copied-over, part-long, loaded, keeps-formed, load-refused, load-made}
+use Rattle.register.proofs.Keeping.{copied-over, part-long, locks-loaded, loaded, load-refused, load-made}
 use borrow.Author.Needs.{needs}
 use Rattle.register.proofs.Register.load.Statement.{statement}
 use Rattle.register.proofs.Register.load.Tie as tie
@@ -90,14 +91,25 @@ shared-slice-read-t38 c = omega (arith, made (c .before .before .before .before 
 cast-t39 : tie.Need-cast-t39
 cast-t39 c = omega (arith, c .shared-slice-known5 .given 3)
 
-returns-2 : tie.Need-returns-2
-returns-2 c = ?
-
 links-read : (c : tie.After-copy) → c .copy .last .1 .0 ≡ take 4096 (drop 4 (c .before .before .before .before .before .before .args .words .now))
 links-read c =
     let ws = c .before .before .before .before .before .before .args .words .now in
-    let f = made (c .before .before .before) in
-    copied-over (take 4096 (drop 4 ws)) (replicate 4096 0) (c .copy .last .1 .0) (c .copy .result) (part-long ws 4 4096 (omega (arith, f .long)) ∙ sym (length-replicate 4096 0)) (c .copy .ensures)
+    copied-over (take 4096 (drop 4 ws)) (replicate 4096 0) (c .copy .last .1 .0) (c .copy .result)
+    (part-long ws 4 4096 (omega (arith, made (c .before .before .before) .long)) ∙ sym (length-replicate {A = ℕ} 4096 0)) (c .copy .ensures)
+
+ring-read : (c : tie.After-copy2) → c .copy2 .last .1 .0 ≡ take 256 (drop 4100 (c .before .before .before .before .before .before .before .before .before .before .args .words .now))
+ring-read c =
+    let ws = c .before .before .before .before .before .before .before .before .before .before .args .words .now in
+    copied-over (take 256 (drop 4100 ws)) (replicate 256 0) (c .copy2 .last .1 .0) (c .copy2 .result)
+    (part-long ws 4100 256 (omega (arith, made (c .before .before .before .before .before .before .before) .long)) ∙ sym (length-replicate {A = ℕ} 256 0)) (c .copy2 .ensures)
+
+returns-2 : tie.Need-returns-2
+returns-2 c =
+    let ws = c .before .before .before .before .before .before .before .before .before .before .before .before .before .before .before .before .before .before .before .args .words .now in
+    let f = made (c .before .before .before .before .before .before .before .before .before .before .before .before .before .before .before .before) in
+    load-made (
+    loaded ws (c .before .before .before .before .before .before .before .before .before .before .before .before .before .copy .last .1 .0) (c .before .before .before .before .before .before .before .before .before .copy2 .last .1 .0) (c .before .before .before .before .before .read-locks .last .1 .0) f (links-read (c .before .before .before .before .before .before .before .before .before .before .before .before .before)) (ring-read (c .before .before .before .before .before .before .before .before .before))
+    (locks-loaded ws (c .before .before .before .before .before .read-locks .last .1 .0) f (c .before .before .before .before .before .read-locks .ensures)))
 
 pub load-spec : {M : Type 1} → statement M
 load-spec =
