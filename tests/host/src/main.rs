@@ -1,7 +1,8 @@
 //! `differences [long | heap]`: the engine's exported calls against the oracle, and over damaged words. Every slice that is
 //! lent ends right before a page that may not be touched; with `heap`, which is for valgrind, each is a block of the heap,
 //! and there are few cases. Every case is made from its seed, and is the same in every run. Fails if there is a difference.
-//! All calls are made on a stack of 1 MB. With VERBOSE in the environment each case is named before it is run.
+//! All calls are made on a stack of 1 MB. With VERBOSE in the environment each case is named before it is run; SEED is the
+//! first seed of each kind.
 
 mod damage;
 mod engine;
@@ -51,12 +52,13 @@ fn run_all() -> ExitCode {
         }
     };
     let verbose = std::env::var_os("VERBOSE").is_some();
+    let first = std::env::var("SEED").map_or(0, |seed| seed.parse().expect("SEED is a number"));
     let mut run = Run::new(name == "heap");
     let mut cases = 0;
     trees::sizes(&mut run);
     for (kind, case, size, counts) in KINDS {
         let start = Instant::now();
-        for seed in 0..counts[place] {
+        for seed in first..first + counts[place] {
             run.case = format!("{kind}, seed {seed}");
             if verbose {
                 eprintln!("{}", run.case);
