@@ -1,5 +1,16 @@
 // The engine for Rust and C: the caller keeps a register as 5,380 words, and every call takes numbers and slices.
 // A number told as 64 bits is a count; 2^32 for no chain; 2^33 and the number of the cause for a refusal.
+ghost use mathlib.Core.Path.{_≡_};
+ghost use mathlib.Core.List.{[], _∷_};
+ghost use Prim.Native.Nat.{_<_};
+ghost use lib.ListN.{length};
+ghost use Rattle.book.specs.Book.{add, remove, lock, unlock, edit, undo};
+ghost use Rattle.k2.specs.PairSets.{union, intersection, difference, product, transpose, closure};
+ghost use Rattle.tree.specs.Calls.{Answered, TreeOf, ListOf, TreeOfOne, TreeOfTwo};
+ghost use Rattle.pairs.specs.Asking.{AsksPairs};
+ghost use Rattle.chains.specs.Replies.{Replies};
+ghost use Rattle.host.specs.Host.{Freshens, Edits, refusal, toldPairs, toldChain, toldTree, Told, Asked, Lists, Sizes, Locks};
+ghost use Rattle.host.specs.Inner.{Finishes};
 use chains::ChainAnswer;
 use pairs::PairsAnswer;
 use register::Outcome;
@@ -13,18 +24,24 @@ const SHORT_LIST: u32 = 13;
 const NOT_OPEN: u32 = 16;
 
 // A refusal told as 64 bits.
-fn told_refusal(number: u32) -> u64 {
+fn told_refusal(number: u32) -> u64
+    ensures { λ k. ⌜ k ≡ refusal number ⌝ }
+{
     8589934592 + number as u64
 }
 
-fn told_pairs(answer: PairsAnswer) -> u64 {
+fn told_pairs(answer: PairsAnswer) -> u64
+    ensures { λ k. ⌜ k ≡ toldPairs answer ⌝ }
+{
     match answer {
         PairsAnswer::Pairs(count) => count as u64,
         PairsAnswer::Refused(number) => told_refusal(number),
     }
 }
 
-fn told_chain(answer: ChainAnswer) -> u64 {
+fn told_chain(answer: ChainAnswer) -> u64
+    ensures { λ k. ⌜ k ≡ toldChain answer ⌝ }
+{
     match answer {
         ChainAnswer::Chain(steps) => steps as u64,
         ChainAnswer::NoChain => 4294967296,
@@ -32,7 +49,9 @@ fn told_chain(answer: ChainAnswer) -> u64 {
     }
 }
 
-fn told_tree(answer: tree::Answer) -> u64 {
+fn told_tree(answer: tree::Answer) -> u64
+    ensures { λ k. ⌜ k ≡ toldTree answer ⌝ }
+{
     match answer {
         tree::Answer::Done(count) => count as u64,
         tree::Answer::Refused(number) => told_refusal(number),
@@ -40,7 +59,9 @@ fn told_tree(answer: tree::Answer) -> u64 {
 }
 
 // The outcome of an edit: its number, and the register's words if it was accepted.
-fn keep(outcome: Outcome, state: &mut [u32]) -> u32 {
+fn keep(outcome: Outcome, state: &mut [u32]) -> u32
+    ensures { λ k. ⌜ Finishes outcome (now (state .entry)) (now (state .exit)) k ⌝ }
+{
     let answer = outcome.answer;
     let number = register::number_of(answer);
     if number != 0 {
@@ -55,7 +76,9 @@ fn keep(outcome: Outcome, state: &mut [u32]) -> u32 {
 
 // The words of a fresh register of n records.
 #[no_mangle]
-pub extern "C" fn dating_fresh(n: u16, state: &mut [u32]) -> u32 {
+pub extern "C" fn dating_fresh(n: u16, state: &mut [u32]) -> u32
+    ensures { λ k. ⌜ Freshens n (now (state .entry)) (now (state .exit)) k ⌝ }
+{
     let opened = Register::fresh(n);
     let answer = opened.answer;
     let number = register::number_of(answer);
@@ -71,7 +94,9 @@ pub extern "C" fn dating_fresh(n: u16, state: &mut [u32]) -> u32 {
 
 // A link put in.
 #[no_mangle]
-pub extern "C" fn dating_add(state: &mut [u32], from: u16, label: u8, to: u16) -> u32 {
+pub extern "C" fn dating_add(state: &mut [u32], from: u16, label: u8, to: u16) -> u32
+    ensures { λ k. ⌜ Edits (edit (add (record { from = from; label = label; to = to }))) (now (state .entry)) (now (state .exit)) k ⌝ }
+{
     let loaded = Register::load(state);
     let answer = loaded.answer;
     if register::number_of(answer) != 0 {
@@ -83,7 +108,9 @@ pub extern "C" fn dating_add(state: &mut [u32], from: u16, label: u8, to: u16) -
 
 // A link taken out.
 #[no_mangle]
-pub extern "C" fn dating_remove(state: &mut [u32], from: u16, label: u8, to: u16) -> u32 {
+pub extern "C" fn dating_remove(state: &mut [u32], from: u16, label: u8, to: u16) -> u32
+    ensures { λ k. ⌜ Edits (edit (remove (record { from = from; label = label; to = to }))) (now (state .entry)) (now (state .exit)) k ⌝ }
+{
     let loaded = Register::load(state);
     let answer = loaded.answer;
     if register::number_of(answer) != 0 {
@@ -95,7 +122,9 @@ pub extern "C" fn dating_remove(state: &mut [u32], from: u16, label: u8, to: u16
 
 // A record locked.
 #[no_mangle]
-pub extern "C" fn dating_lock(state: &mut [u32], record: u16) -> u32 {
+pub extern "C" fn dating_lock(state: &mut [u32], record: u16) -> u32
+    ensures { λ k. ⌜ Edits (edit (lock «record»)) (now (state .entry)) (now (state .exit)) k ⌝ }
+{
     let loaded = Register::load(state);
     let answer = loaded.answer;
     if register::number_of(answer) != 0 {
@@ -107,7 +136,9 @@ pub extern "C" fn dating_lock(state: &mut [u32], record: u16) -> u32 {
 
 // A record unlocked.
 #[no_mangle]
-pub extern "C" fn dating_unlock(state: &mut [u32], record: u16) -> u32 {
+pub extern "C" fn dating_unlock(state: &mut [u32], record: u16) -> u32
+    ensures { λ k. ⌜ Edits (edit (unlock «record»)) (now (state .entry)) (now (state .exit)) k ⌝ }
+{
     let loaded = Register::load(state);
     let answer = loaded.answer;
     if register::number_of(answer) != 0 {
@@ -119,7 +150,9 @@ pub extern "C" fn dating_unlock(state: &mut [u32], record: u16) -> u32 {
 
 // The latest edit still held taken back.
 #[no_mangle]
-pub extern "C" fn dating_undo(state: &mut [u32]) -> u32 {
+pub extern "C" fn dating_undo(state: &mut [u32]) -> u32
+    ensures { λ k. ⌜ Edits undo (now (state .entry)) (now (state .exit)) k ⌝ }
+{
     let loaded = Register::load(state);
     let answer = loaded.answer;
     if register::number_of(answer) != 0 {
@@ -131,7 +164,9 @@ pub extern "C" fn dating_undo(state: &mut [u32]) -> u32 {
 
 // The number of records; 0 if the words are no register's.
 #[no_mangle]
-pub extern "C" fn dating_size(state: &[u32]) -> u32 {
+pub extern "C" fn dating_size(state: &[u32]) -> u32
+    ensures { λ k. ⌜ Sizes (now (state .entry)) k ⌝ }
+{
     let loaded = Register::load(state);
     let answer = loaded.answer;
     if register::number_of(answer) != 0 {
@@ -147,7 +182,9 @@ pub extern "C" fn dating_size(state: &[u32]) -> u32 {
 
 // The links' words, ascending.
 #[no_mangle]
-pub extern "C" fn dating_links(state: &[u32], list: &mut [u32]) -> u64 {
+pub extern "C" fn dating_links(state: &[u32], list: &mut [u32]) -> u64
+    ensures { λ k. ⌜ Asked (now (state .entry)) (Lists (now (list .entry)) (now (list .exit))) toldPairs (now (list .entry)) (now (list .exit)) k ⌝ }
+{
     let loaded = Register::load(state);
     let answer = loaded.answer;
     if register::number_of(answer) != 0 {
@@ -165,7 +202,9 @@ pub extern "C" fn dating_links(state: &[u32], list: &mut [u32]) -> u64 {
 
 // Whether a record is locked: 1 or 0; 0 if the words are no register's.
 #[no_mangle]
-pub extern "C" fn dating_locked(state: &[u32], record: u16) -> u32 {
+pub extern "C" fn dating_locked(state: &[u32], record: u16) -> u32
+    ensures { λ k. ⌜ Locks (now (state .entry)) «record» k ⌝ }
+{
     let loaded = Register::load(state);
     let answer = loaded.answer;
     if register::number_of(answer) != 0 {
@@ -182,7 +221,9 @@ pub extern "C" fn dating_pairs(
     text: &[u8],
     work: &mut [u64],
     list: &mut [u32],
-) -> u64 {
+) -> u64
+    ensures { λ k. ⌜ Asked (now (state .entry)) (λ r. AsksPairs r (now (text .entry)) (length (now (work .entry))) (now (list .entry)) (now (list .exit))) toldPairs (now (list .entry)) (now (list .exit)) k ⌝ }
+{
     let loaded = Register::load(state);
     let answer = loaded.answer;
     if register::number_of(answer) != 0 {
@@ -200,7 +241,9 @@ pub extern "C" fn dating_chain(
     text: &[u8],
     work: &mut [u64],
     list: &mut [u32],
-) -> u64 {
+) -> u64
+    ensures { λ k. ⌜ Asked (now (state .entry)) (λ r. Replies r from to (now (text .entry)) (length (now (work .entry))) (now (list .entry)) (now (list .exit))) toldChain (now (list .entry)) (now (list .exit)) k ⌝ }
+{
     let loaded = Register::load(state);
     let answer = loaded.answer;
     if register::number_of(answer) != 0 {
@@ -216,7 +259,9 @@ pub extern "C" fn dating_tree_make(
     pairs: &[u32],
     tree: &mut [u64],
     work: &mut [u64],
-) -> u64 {
+) -> u64
+    ensures { λ k. ⌜ Told (Answered n (now (pairs .entry)) [] (length (now (work .entry))) (TreeOf n (now (pairs .entry))) (now (tree .entry)) (now (tree .exit))) toldTree k ⌝ }
+{
     told_tree(tree::make(n, pairs, tree, work))
 }
 
@@ -227,7 +272,9 @@ pub extern "C" fn dating_tree_list(
     tree: &[u64],
     list: &mut [u32],
     work: &mut [u64],
-) -> u64 {
+) -> u64
+    ensures { λ k. ⌜ Told (Answered n [] (now (tree .entry) ∷ []) (length (now (work .entry))) (ListOf n (now (tree .entry))) (now (list .entry)) (now (list .exit))) toldTree k ⌝ }
+{
     told_tree(tree::list(n, tree, list, work))
 }
 
@@ -239,7 +286,9 @@ pub extern "C" fn dating_tree_union(
     b: &[u64],
     out: &mut [u64],
     work: &mut [u64],
-) -> u64 {
+) -> u64
+    ensures { λ k. ⌜ Told (Answered n [] (now (a .entry) ∷ now (b .entry) ∷ []) (length (now (work .entry))) (TreeOfTwo union n (now (a .entry)) (now (b .entry))) (now (out .entry)) (now (out .exit))) toldTree k ⌝ }
+{
     told_tree(tree::union(n, a, b, out, work))
 }
 
@@ -251,7 +300,9 @@ pub extern "C" fn dating_tree_intersection(
     b: &[u64],
     out: &mut [u64],
     work: &mut [u64],
-) -> u64 {
+) -> u64
+    ensures { λ k. ⌜ Told (Answered n [] (now (a .entry) ∷ now (b .entry) ∷ []) (length (now (work .entry))) (TreeOfTwo intersection n (now (a .entry)) (now (b .entry))) (now (out .entry)) (now (out .exit))) toldTree k ⌝ }
+{
     told_tree(tree::intersection(n, a, b, out, work))
 }
 
@@ -263,7 +314,9 @@ pub extern "C" fn dating_tree_difference(
     b: &[u64],
     out: &mut [u64],
     work: &mut [u64],
-) -> u64 {
+) -> u64
+    ensures { λ k. ⌜ Told (Answered n [] (now (a .entry) ∷ now (b .entry) ∷ []) (length (now (work .entry))) (TreeOfTwo difference n (now (a .entry)) (now (b .entry))) (now (out .entry)) (now (out .exit))) toldTree k ⌝ }
+{
     told_tree(tree::difference(n, a, b, out, work))
 }
 
@@ -275,7 +328,9 @@ pub extern "C" fn dating_tree_product(
     b: &[u64],
     out: &mut [u64],
     work: &mut [u64],
-) -> u64 {
+) -> u64
+    ensures { λ k. ⌜ Told (Answered n [] (now (a .entry) ∷ now (b .entry) ∷ []) (length (now (work .entry))) (TreeOfTwo (product n) n (now (a .entry)) (now (b .entry))) (now (out .entry)) (now (out .exit))) toldTree k ⌝ }
+{
     told_tree(tree::product(n, a, b, out, work))
 }
 
@@ -286,7 +341,9 @@ pub extern "C" fn dating_tree_transpose(
     a: &[u64],
     out: &mut [u64],
     work: &mut [u64],
-) -> u64 {
+) -> u64
+    ensures { λ k. ⌜ Told (Answered n [] (now (a .entry) ∷ []) (length (now (work .entry))) (TreeOfOne transpose n (now (a .entry))) (now (out .entry)) (now (out .exit))) toldTree k ⌝ }
+{
     told_tree(tree::transpose(n, a, out, work))
 }
 
@@ -297,6 +354,8 @@ pub extern "C" fn dating_tree_closure(
     a: &[u64],
     out: &mut [u64],
     work: &mut [u64],
-) -> u64 {
+) -> u64
+    ensures { λ k. ⌜ Told (Answered n [] (now (a .entry) ∷ []) (length (now (work .entry))) (TreeOfOne (closure n) n (now (a .entry))) (now (out .entry)) (now (out .exit))) toldTree k ⌝ }
+{
     told_tree(tree::closure(n, a, out, work))
 }
