@@ -349,12 +349,7 @@ pub extern "C" fn dating_tree_transpose(
 
 // The tree of the closure: one or more pairs that lead from one to the other.
 #[no_mangle]
-pub extern "C" fn dating_tree_closure(
-    n: usize,
-    a: &[u64],
-    out: &mut [u64],
-    work: &mut [u64],
-) -> u64
+pub extern "C" fn dating_tree_closure(n: usize, a: &[u64], out: &mut [u64], work: &mut [u64]) -> u64
     ensures { λ k. ⌜ Told (Answered n [] (now (a .entry) ∷ []) (length (now (work .entry))) (TreeOfOne (closure n) n (now (a .entry))) (now (out .entry)) (now (out .exit))) toldTree k ⌝ }
 {
     told_tree(tree::closure(n, a, out, work))

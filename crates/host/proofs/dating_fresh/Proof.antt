@@ -1,43 +1,34 @@
+-- `host::dating_fresh` stores the register that `register::Register::fresh` makes. Assumes nothing.
+use mathlib.Core.Path.{sym, _∙_}
+use borrow.Author.Tests.{not-true, not-false}
+use Rattle.host.proofs.Carrying.{fresh-refused, fresh-short, fresh-made}
 use borrow.Author.Needs.{needs}
 use Rattle.host.proofs.dating_fresh.Statement.{statement}
 use Rattle.host.proofs.dating_fresh.Tie as tie
-use Rattle.host.proofs.dating_fresh.Reads as reads
-use Rattle.host.proofs.dating_fresh.Lts as lts
-use Rattle.register.proofs.Register.fresh.Reads as fresh-reads
-use Rattle.register.proofs.Register.store.Reads as store-reads
-use Rattle.register.proofs.number_of.Reads as number-of-reads
 
--- src/lib.rt:82:9
 fresh-requires : tie.Need-fresh-requires
 fresh-requires c κs = search needs
 
--- src/lib.rt:84:9
 number-of-requires : tie.Need-number-of-requires
 number-of-requires c κs = search needs
 
--- src/lib.rt:86:9
 returns : tie.Need-returns
-returns c = ?
+returns c = fresh-refused (c .before .before .fresh .ensures) _ (c .before .number-of .ensures) (c .if1 .taken)
 
--- src/lib.rt:89:9
 store-requires : tie.Need-store-requires
 store-requires c κs = search needs
 
--- src/lib.rt:90:9
 same-length : tie.Need-same-length
 same-length c = search needs
 
--- src/lib.rt:90:9
 returns-2 : tie.Need-returns-2
-returns-2 c = ?
+returns-2 c = fresh-short (c .before .before .before .before .before .before .before .before .fresh .ensures) _ (sym (c .before .before .before .before .before .before .before .number-of .ensures) ∙ c .before .before .before .before .before .before .if1 .left) _ _ (c .before .before .before .store .ensures) (not-true _ (c .if2 .taken))
 
--- src/lib.rt:78:1
 same-length-2 : tie.Need-same-length-2
 same-length-2 c = search needs
 
--- src/lib.rt:78:1
 returns-3 : tie.Need-returns-3
-returns-3 c = ?
+returns-3 c = fresh-made (c .before .before .before .before .before .before .before .before .fresh .ensures) _ (sym (c .before .before .before .before .before .before .before .number-of .ensures) ∙ c .before .before .before .before .before .before .if1 .left) _ _ (c .before .before .before .store .kept .1 .0) (c .before .before .before .store .ensures) (not-false _ (c .if2 .left))
 
 pub dating-fresh-spec : {M : Type 1} → statement M
 dating-fresh-spec =

@@ -1,65 +1,55 @@
+-- `host::dating_links` copies the words of the links to the front of the list. Assumes nothing.
+use mathlib.Core.Path.{_≡_, refl, sym}
+use native.Mathlib.Omega.{arith}
+use borrow.Author.Tests.{not-true, not-false}
+use lib.ListN.{length, take}
+use lib.Seq.{length-take-le}
+use Rattle.host.proofs.Carrying.{load-none, load-some, asked-foreign, links-short, links-given}
 use borrow.Author.Needs.{needs}
 use Rattle.host.proofs.dating_links.Statement.{statement}
 use Rattle.host.proofs.dating_links.Tie as tie
-use Rattle.host.proofs.dating_links.Reads as reads
-use Rattle.host.proofs.dating_links.Lts as lts
-use Rattle.host.proofs.told_refusal.Reads as told-refusal-reads
-use Rattle.register.proofs.Register.links.Reads as links-reads
-use Rattle.register.proofs.Register.load.Reads as load-reads
-use Rattle.register.proofs.copy.Reads as copy-reads
-use Rattle.register.proofs.number_of.Reads as number-of-reads
 
--- src/lib.rt:188:9
+counted : (c : tie.After-links) → length (take (c .links .result .count) (c .links .result .words)) ≡ c .links .result .count
+counted c = let l = c .links .ensures in length-take-le _ _ (omega (arith, l .few, l .long))
+
 load-requires : tie.Need-load-requires
 load-requires c κs = search needs
 
--- src/lib.rt:190:8
 number-of-requires : tie.Need-number-of-requires
 number-of-requires c κs = search needs
 
--- src/lib.rt:191:9
 told-refusal-requires : tie.Need-told-refusal-requires
 told-refusal-requires c κs = search needs
 
--- src/lib.rt:191:9
 returns : tie.Need-returns
-returns c = ?
+returns c = asked-foreign (load-none (c .before .before .before .load .ensures) (c .before .before .number-of .ensures) (c .before .if1 .taken)) (c .told-refusal .ensures) refl
 
--- src/lib.rt:194:9
 links-requires : tie.Need-links-requires
 links-requires c κs = search needs
 
--- src/lib.rt:197:24
 array-share-prefix-words : tie.Need-array-share-prefix-words
 array-share-prefix-words c = search needs
 
--- src/lib.rt:197:24
 slice-aggregate-copy : tie.Need-slice-aggregate-copy
-slice-aggregate-copy c = ?
+slice-aggregate-copy c = sym (counted (c .before .before))
 
--- src/lib.rt:197:9
 copy-requires : tie.Need-copy-requires
 copy-requires c κs = search needs
 
--- src/lib.rt:198:9
 told-refusal-requires-2 : tie.Need-told-refusal-requires-2
 told-refusal-requires-2 c κs = search needs
 
--- src/lib.rt:198:9
 same-length : tie.Need-same-length
 same-length c = search needs
 
--- src/lib.rt:198:9
 returns-2 : tie.Need-returns-2
-returns-2 c = ?
+returns-2 c = links-short (load-some (c .before .before .before .before .before .before .before .before .before .before .before .before .load .ensures) (c .before .before .before .before .before .before .before .before .before .before .before .number-of .ensures) (c .before .before .before .before .before .before .before .before .before .before .if1 .left)) (c .before .before .before .before .before .before .before .before .links .result) (c .before .before .before .before .before .before .before .before .links .ensures) (c .before .before .before .before .copy .ensures) (not-true _ (c .before .if2 .taken)) (c .told-refusal2 .ensures)
 
--- src/lib.rt:184:1
 same-length-2 : tie.Need-same-length-2
 same-length-2 c = search needs
 
--- src/lib.rt:184:1
 returns-3 : tie.Need-returns-3
-returns-3 c = ?
+returns-3 c = links-given (load-some (c .before .before .before .before .before .before .before .before .before .before .before .load .ensures) (c .before .before .before .before .before .before .before .before .before .before .number-of .ensures) (c .before .before .before .before .before .before .before .before .before .if1 .left)) (c .before .before .before .before .before .before .before .links .result) (c .before .before .before .before .before .before .before .links .ensures) (c .before .before .before .copy .ensures) (not-false _ (c .if2 .left)) (sym (counted (c .before .before .before .before .before .before .before)))
 
 pub dating-links-spec : {M : Type 1} → statement M
 dating-links-spec =
