@@ -5,6 +5,8 @@
 --   Edits c before after k
 --                   what an edit or undo promises: over any words a refused one leaves them; words that are no register's are refused with 16; of a
 --                   register's words the number and the words after it are those of an outcome that the call c promises
+--   Calls cs ws vs ks
+--                   the calls cs, each given the words that the one before left, from the words ws on: the words vs at the end, and the numbers ks
 --   refusal k       a refusal told as a number of 64 bits
 --   toldPairs, toldChain, toldTree
 --                   an answer told as a number of 64 bits: a count, 2^32 for no chain, or a refusal
@@ -18,7 +20,7 @@
 --                   the number of records; whether a record is locked: 0 if the words are no register's
 -- Assumes nothing: these are definitions.
 use mathlib.Core.Path.{_≡_}
-use mathlib.Core.List.{List}
+use mathlib.Core.List.{List, [], _∷_}
 use Prim.Native.Nat.{ℕ, _+_}
 use lib.ListN.{length, take}
 use Rattle.book.specs.Book.{Book, Call, isLocked, freshAnswer, fresh}
@@ -49,6 +51,10 @@ pub record Edits (c : Call) (before after : List ℕ) (k : ℕ) : Type 0 where
   pub refused : (k ≡ 0 → ⊥) → after ≡ before
   pub foreign : Foreign before → k ≡ 16
   pub steps : (r : Register) → Keeps before r → (o : Outcome) × Steps r c o × (k ≡ answerNumber (o .answer)) × Keeps after (o .register)
+
+pub data Calls : List Call → List ℕ → List ℕ → List ℕ → Type 0 where
+  none : {ws : List ℕ} → Calls [] ws ws []
+  then : {c : Call} {cs : List Call} {ws us vs ks : List ℕ} {k : ℕ} → Edits c ws us k → Calls cs us vs ks → Calls (c ∷ cs) ws vs (k ∷ ks)
 
 abbrev pub refusal : ℕ → ℕ
 refusal k = 8589934592 + k

@@ -64,7 +64,7 @@ fn keep(outcome: Outcome, state: &mut [u32]) -> u32
 {
     let answer = outcome.answer;
     let number = register::number_of(answer);
-    if number != 0 {
+    if 0 < number {
         return number;
     }
     let register = outcome.register;

@@ -1,5 +1,6 @@
 -- `host::keep` tells a refusal, and otherwise stores. Assumes nothing.
-use mathlib.Core.Path.{refl, sym, _∙_}
+use mathlib.Core.Path.{refl}
+use native.Mathlib.Omega.{arith}
 use borrow.Author.Tests.{not-true, not-false}
 use Rattle.host.specs.Inner.{refused, kept, lost}
 use borrow.Author.Needs.{needs}
@@ -10,7 +11,7 @@ number-of-requires : tie.Need-number-of-requires
 number-of-requires c κs = search needs
 
 returns : tie.Need-returns
-returns c = refused (λ y. c .if1 .taken (c .before .number-of .ensures ∙ y)) (c .before .number-of .ensures) refl
+returns c = let n = c .before .number-of .ensures in refused (λ y. omega (arith, n, y, c .if1 .taken)) n refl
 
 store-requires : tie.Need-store-requires
 store-requires c κs = search needs
@@ -25,7 +26,7 @@ same-length-2 : tie.Need-same-length-2
 same-length-2 c = search needs
 
 returns-3 : tie.Need-returns-3
-returns-3 c = kept (sym (c .before .before .before .before .before .before .before .number-of .ensures) ∙ c .before .before .before .before .before .before .if1 .left) refl (c .before .before .before .store .ensures .done (not-false _ (c .if2 .left)))
+returns-3 c = kept (omega (arith, c .before .before .before .before .before .before .before .number-of .ensures, c .before .before .before .before .before .before .if1 .left)) refl (c .before .before .before .store .ensures .done (not-false _ (c .if2 .left)))
 
 pub keep-spec : {M : Type 1} → statement M
 keep-spec =
