@@ -13,7 +13,7 @@ use lib.Seq.{ext-getD, getD-set-same, getD-set-other, take-at, drop-at, take-all
 use Rattle.register.specs.Calls.{Ranged}
 use Rattle.register.specs.Inner.{Flags, Formed, Tested}
 use Rattle.register.specs.Words.{lockWord, numbersOf, wordsOf, Keeps, Copies, Loads, Stores}
-use Rattle.register.specs.WordLaws.{keeps-long}
+use Rattle.register.specs.WordLaws.{lock-back, keeps-formed}
 use Rattle.register.specs.declared.Register.{Register}
 use Rattle.register.specs.declared.Answer.the-variants.{Done, Refused}
 
@@ -51,18 +51,6 @@ flags-all ws f i = go (decLt i (length ws))
     go : Dec (i < length ws) → getD ws i 0 ≤ 1
     go (yes h) = f i h
     go (no h) = let e : getD ws i 0 ≡ 0 = List·getD-eq-default ws 0 (omega arith) in omega arith
-
-lock-small : (l : Bool) → lockWord l ≤ 1
-lock-small true = omega arith
-lock-small false = omega arith
-
-lock-back : (w : ℕ) → w ≤ 1 → lockWord (eqb w 1) ≡ w
-lock-back zero h = refl
-lock-back (suc zero) h = refl
-lock-back (suc (suc w)) h = absurd (omega arith)
-
-pub lock-flags : (ls : List Bool) → Flags (map lockWord ls)
-lock-flags ls i = let e : getD (map lockWord ls) i 0 ≡ lockWord (getD ls i false) = List·getD-map lockWord ls i false in omega (arith, lock-small (getD ls i false))
 
 pub lock-more : (ws : List ℕ) (ls : List Bool) (i : ℕ) → i < length ls → ((j : ℕ) → j < i → getD ls j false ≡ eqb (getD ws j 0) 1)
     → (j : ℕ) → j < i + 1 → getD (set ls i (eqb (getD ws i 0) 1)) j false ≡ eqb (getD ws j 0) 1
@@ -106,41 +94,6 @@ pub locks-loaded : (ws : List ℕ) (ks : List Bool) → Formed ws → (Flags (ta
 locks-loaded ws ks f g =
     let e : length ws - 4356 ≡ 1024 = omega (arith, f .long) in
     g (rw (to-end ws) (f .flags)) ∙ ap (λ (k : ℕ). take k (drop 4356 ws)) e
-
-four : (ws : List ℕ) → 4 ≤ length ws → take 4 ws ≡ getD ws 0 0 ∷ getD ws 1 0 ∷ getD ws 2 0 ∷ getD ws 3 0 ∷ []
-four [] h = absurd (omega arith)
-four (a ∷ []) h = absurd (omega arith)
-four (a ∷ b ∷ []) h = absurd (omega arith)
-four (a ∷ b ∷ c ∷ []) h = absurd (omega arith)
-four (a ∷ b ∷ c ∷ d ∷ ws) h = refl
-
-pub part-long : (ws : List ℕ) (i k : ℕ) → i + k ≤ length ws → length (take k (drop i ws)) ≡ k
-part-long ws i k h = length-take-le k (drop i ws) (omega (arith, length-drop i ws))
-
-pub loaded : (ws ls rs : List ℕ) (ks : List Bool) → Formed ws → ls ≡ take 4096 (drop 4 ws) → rs ≡ take 256 (drop 4100 ws) → map lockWord ks ≡ take 1024 (drop 4356 ws)
-    → Keeps ws (record { n = getD ws 0 0; count = getD ws 1 0; links = ls; locks = ks; ring = rs; top = getD ws 2 0; held = getD ws 3 0 })
-loaded ws ls rs ks f e g h = record {
-  size = f .size;
-  links = ap length e ∙ part-long ws 4 4096 (omega (arith, f .long));
-  ring = ap length g ∙ part-long ws 4100 256 (omega (arith, f .long));
-  locks = sym (length-map ks lockWord) ∙ ap length h ∙ part-long ws 4356 1024 (omega (arith, f .long));
-  words = sym (take-all 5380 ws (omega (arith, f .long))) ∙ take-add 4356 1024 ws ∙ ap (λ (t : List ℕ). take 4356 ws ++ t) (sym h) ∙ ap (λ (t : List ℕ). t ++ map lockWord ks) front;
-}
-  where
-    front : take 4356 ws ≡ (getD ws 0 0 ∷ getD ws 1 0 ∷ getD ws 2 0 ∷ getD ws 3 0 ∷ []) ++ ls ++ rs
-    front =
-        take-add 4100 256 ws ∙ ap (λ (t : List ℕ). take 4100 ws ++ t) (sym g)
-        ∙ ap (λ (t : List ℕ). t ++ rs) (take-add 4 4096 ws ∙ ap (λ (t : List ℕ). take 4 ws ++ t) (sym e) ∙ ap (λ (t : List ℕ). t ++ ls) (four ws (omega (arith, f .long))))
-
-pub keeps-formed : (ws : List ℕ) (r : Register) → Keeps ws r → Formed ws
-keeps-formed ws r k = record {
-  long = keeps-long k;
-  size = let e : getD ws 0 0 ≡ r .n = ap (λ (t : List ℕ). getD t 0 0) (k .words) in omega (arith, k .size);
-  flags = rw (ap (drop 4356) (k .words) ∙ drop-at (numbersOf r ++ r .links ++ r .ring) (map lockWord (r .locks)) 4356 long) (lock-flags (r .locks));
-}
-  where
-    long : length (numbersOf r ++ r .links ++ r .ring) ≡ 4356
-    long = length-append (numbersOf r ++ r .links) (r .ring) ∙ omega (arith, length-append (numbersOf r) (r .links), k .links, k .ring)
 
 pub load-refused : (ws : List ℕ) (ok : Bool) {r : Register} → Tested (Formed ws) ok → ok ≡ false → Loads ws (record { register = r; answer = Refused 16 })
 load-refused ws ok t e = record { loaded = λ z. absurd (omega (arith, z)); refused = λ _. (refl, λ r k. t .none e (keeps-formed ws r k)) }

@@ -1,13 +1,14 @@
--- Laws of a register's words: how many they are, and that they are the words of one register. Assumes nothing.
+-- Laws of a register's words: how many they are, that they are the words of one register, and which words are a register's. Assumes nothing.
 use mathlib.Core.Path.{_≡_, refl, sym, ap, _∙_}
 use mathlib.Core.List.{List, [], _∷_, _++_, map}
 use mathlib.Core.Bool.{Bool, true, false}
-use Prim.Native.Nat.{ℕ, _+_}
+use Prim.Native.Nat.{ℕ, zero, suc, _+_, _≤_}
 use native.Mathlib.Omega.{arith}
 use lib.Dec.{eqb}
-use lib.ListN.{length, take, drop, getD, length-append, length-map}
-use lib.Seq.{take-at, drop-at}
-use Rattle.register.specs.Words.{stateWords, lockWord, numbersOf, wordsOf, Keeps}
+use lib.ListN.{length, take, drop, getD, length-append, length-drop, length-map, List·getD-map}
+use lib.Seq.{take-at, drop-at, take-all, take-add, length-take-le}
+use Rattle.register.specs.Inner.{Flags, Formed}
+use Rattle.register.specs.Words.{stateWords, lockWord, numbersOf, wordsOf, Keeps, Foreign}
 use Rattle.register.specs.declared.Register.{Register}
 
 -- the halves of two lists that are the same, parted at the same place
@@ -50,3 +51,65 @@ module _ {ws : List ℕ} where
       let held : r .held ≡ s .held = ap (λ (t : List ℕ). getD t 3 0) (c .0) in
       let locks : r .locks ≡ s .locks = locks-same (r .locks) (s .locks) (a .1) in
       λ i. record { n = n i; count = count i; links = c .1 i; locks = locks i; ring = b .1 i; top = top i; held = held i }
+
+-- ---- which words are a register's: those of the form, no others
+lock-small : (l : Bool) → lockWord l ≤ 1
+lock-small true = omega arith
+lock-small false = omega arith
+
+pub lock-back : (w : ℕ) → w ≤ 1 → lockWord (eqb w 1) ≡ w
+lock-back zero h = refl
+lock-back (suc zero) h = refl
+lock-back (suc (suc w)) h = absurd (omega arith)
+
+pub lock-flags : (ls : List Bool) → Flags (map lockWord ls)
+lock-flags ls i = let e : getD (map lockWord ls) i 0 ≡ lockWord (getD ls i false) = List·getD-map lockWord ls i false in omega (arith, lock-small (getD ls i false))
+
+four : (ws : List ℕ) → 4 ≤ length ws → take 4 ws ≡ getD ws 0 0 ∷ getD ws 1 0 ∷ getD ws 2 0 ∷ getD ws 3 0 ∷ []
+four [] h = absurd (omega arith)
+four (a ∷ []) h = absurd (omega arith)
+four (a ∷ b ∷ []) h = absurd (omega arith)
+four (a ∷ b ∷ c ∷ []) h = absurd (omega arith)
+four (a ∷ b ∷ c ∷ d ∷ ws) h = refl
+
+pub part-long : (ws : List ℕ) (i k : ℕ) → i + k ≤ length ws → length (take k (drop i ws)) ≡ k
+part-long ws i k h = length-take-le k (drop i ws) (omega (arith, length-drop i ws))
+
+pub loaded : (ws ls rs : List ℕ) (ks : List Bool) → Formed ws → ls ≡ take 4096 (drop 4 ws) → rs ≡ take 256 (drop 4100 ws) → map lockWord ks ≡ take 1024 (drop 4356 ws)
+    → Keeps ws (record { n = getD ws 0 0; count = getD ws 1 0; links = ls; locks = ks; ring = rs; top = getD ws 2 0; held = getD ws 3 0 })
+loaded ws ls rs ks f e g h = record {
+  size = f .size;
+  links = ap length e ∙ part-long ws 4 4096 (omega (arith, f .long));
+  ring = ap length g ∙ part-long ws 4100 256 (omega (arith, f .long));
+  locks = sym (length-map ks lockWord) ∙ ap length h ∙ part-long ws 4356 1024 (omega (arith, f .long));
+  words = sym (take-all 5380 ws (omega (arith, f .long))) ∙ take-add 4356 1024 ws ∙ ap (λ (t : List ℕ). take 4356 ws ++ t) (sym h) ∙ ap (λ (t : List ℕ). t ++ map lockWord ks) front;
+}
+  where
+    front : take 4356 ws ≡ (getD ws 0 0 ∷ getD ws 1 0 ∷ getD ws 2 0 ∷ getD ws 3 0 ∷ []) ++ ls ++ rs
+    front =
+        take-add 4100 256 ws ∙ ap (λ (t : List ℕ). take 4100 ws ++ t) (sym g)
+        ∙ ap (λ (t : List ℕ). t ++ rs) (take-add 4 4096 ws ∙ ap (λ (t : List ℕ). take 4 ws ++ t) (sym e) ∙ ap (λ (t : List ℕ). t ++ ls) (four ws (omega (arith, f .long))))
+
+pub keeps-formed : (ws : List ℕ) (r : Register) → Keeps ws r → Formed ws
+keeps-formed ws r k = record {
+  long = keeps-long k;
+  size = let e : getD ws 0 0 ≡ r .n = ap (λ (t : List ℕ). getD t 0 0) (k .words) in omega (arith, k .size);
+  flags = rw (ap (drop 4356) (k .words) ∙ drop-at (numbersOf r ++ r .links ++ r .ring) (map lockWord (r .locks)) 4356 long) (lock-flags (r .locks));
+}
+  where
+    long : length (numbersOf r ++ r .links ++ r .ring) ≡ 4356
+    long = length-append (numbersOf r ++ r .links) (r .ring) ∙ omega (arith, length-append (numbersOf r) (r .links), k .links, k .ring)
+
+pub formed-keeps : (ws : List ℕ) → Formed ws → (r : Register) × Keeps ws r
+formed-keeps ws f = (_, loaded ws (take 4096 (drop 4 ws)) (take 256 (drop 4100 ws)) (map (λ w. eqb w 1) (take 1024 (drop 4356 ws))) f refl refl (locks (drop 4356 ws) (f .flags) 1024))
+  where
+    locks : (vs : List ℕ) → Flags vs → (k : ℕ) → map lockWord (map (λ w. eqb w 1) (take k vs)) ≡ take k vs
+    locks vs g zero = refl
+    locks [] g (suc k) = refl
+    locks (v ∷ vs) g (suc k) = ap (λ (t : List ℕ). lockWord (eqb v 1) ∷ t) (locks vs (λ i. g (suc i)) k) ∙ ap (λ (w : ℕ). w ∷ take k vs) (lock-back v (g 0))
+
+pub foreign-form : {ws : List ℕ} → Foreign ws → Formed ws → ⊥
+foreign-form {ws} g f = let k = formed-keeps ws f in g (k .0) (k .1)
+
+pub form-foreign : {ws : List ℕ} → (Formed ws → ⊥) → Foreign ws
+form-foreign {ws} g r k = g (keeps-formed ws r k)

@@ -5,7 +5,8 @@ use native.Mathlib.Omega.{arith}
 use lib.ListN.{take, drop, replicate, length-replicate, length-take, length-drop}
 use borrow.Author.Tests.{not-true, not-false}
 use Rattle.register.specs.Inner.{Formed}
-use Rattle.register.proofs.Keeping.{copied-over, part-long, locks-loaded, loaded, load-refused, load-made}
+use Rattle.register.proofs.Keeping.{copied-over, locks-loaded, load-refused, load-made}
+use Rattle.register.specs.WordLaws.{part-long, loaded}
 use borrow.Author.Needs.{needs}
 use Rattle.register.proofs.Register.load.Statement.{statement}
 use Rattle.register.proofs.Register.load.Tie as tie
