@@ -28,7 +28,7 @@ use lib.Dec.{eqb}
 use Rattle.book.specs.Basics.{pick, In, Rises}
 use Rattle.book.specs.Causes.{maxRecords, maxLinks}
 use Rattle.book.specs.Book.{Link, Sheet, Book, present, isLocked}
-use Rattle.book.specs.BookLaws.{Fit}
+use Rattle.book.specs.Sheets.{Fit}
 use Rattle.register.specs.Links.{linkWord, linkOf, Linked}
 use Rattle.register.specs.Calls.{Represents}
 use Rattle.register.specs.declared.Register.{Register}
