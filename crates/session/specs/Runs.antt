@@ -5,13 +5,16 @@
 --                   out, the state then, and whether there is more to do. Over any contents it keeps within i and out. For every session that
 --                   st holds: if there is no more to do, then what it printed is what a run over i prints; if there is, then what it printed,
 --                   followed by what a run prints from the session that it left over the rest of i, and whatever input comes after it, is
+--   Loop work list st i o
+--                   what the program's loop does with `step`, from the state st: it lends a part of the input, prints what was written, and goes on
+--                   with the rest, if there is more to do and the part was read whole. In all it lends i and prints o
 --   Front i n       the length of the frame at the front of i, if a whole one of a right length stands there; 0 if i has bytes, but no such frame
 -- Assumes nothing: these are definitions.
 use mathlib.Core.Path.{_≡_}
 use mathlib.Core.List.{List, _++_}
 use mathlib.Core.Bool.{true, false}
 use Prim.Native.Nat.{ℕ, _+_, _≤_, _<_}
-use lib.ListN.{length, drop}
+use lib.ListN.{length, take, drop}
 use Rattle.book.specs.Causes.{broken-frame, number}
 use Rattle.report.specs.Report.{refusedText}
 use Rattle.report.specs.Written.{Wrote}
@@ -30,6 +33,11 @@ pub record Advances (st : State) (i : List ℕ) (work list : ℕ) (out out′ : 
   pub goes : r .more ≡ true → (s : Session) → Holds st s
       → (o : List ℕ) × (s′ : Session) × Wrote 0 o out out′ (r .written) × Holds (r .state) s′
       × ((j p : List ℕ) → Run work list s′ (drop (r .read) i ++ j) p → Run work list s (i ++ j) (o ++ p))
+
+pub data Loop (work list : ℕ) : State → List ℕ → List ℕ → Type 0 where
+  stops : {st : State} {i out out′ : List ℕ} {r : Ran} → Advances st i work list out out′ r → r .more ≡ false → Loop work list st i (take (r .written) out′)
+  goes-on : {st : State} {i j o out out′ : List ℕ} {r : Ran} → Advances st i work list out out′ r → r .more ≡ true → r .read ≡ length i
+      → Loop work list (r .state) j o → Loop work list st (i ++ j) (take (r .written) out′ ++ o)
 
 pub data Front (i : List ℕ) (n : ℕ) : Type 0 where
   no-frame : n ≡ 0 → ((work list : ℕ) (s : Session) → Run work list s i (refusedText (number broken-frame))) → Front i n

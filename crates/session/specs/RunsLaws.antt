@@ -1,4 +1,6 @@
 -- Laws of runs over lent input: how a turn and a run keep their promise.
+--   prints-run      a run with no more to do has printed the one output that the definition of a run says
+--   loop-runs       so has the program's loop, if what it lends is its input and what it prints its output
 -- Assumes nothing.
 use mathlib.Core.Path.{_≡_, refl, sym, ap, subst, _∙_}
 use mathlib.Core.Logic.{_⊎_, inl, inr}
@@ -9,7 +11,7 @@ use native.Mathlib.Nat.{zero-add}
 use native.Mathlib.Decide.{decLt}
 use native.Mathlib.Omega.{arith}
 use lib.ListN.{length, take, drop, length-append, length-take, length-drop, drop-of-length-le}
-use lib.Seq.{take-all, take-append-le, drop-append-le, drop-drop}
+use lib.Seq.{take-all, take-at, take-append-le, drop-append-le, drop-drop}
 use borrow.Rule.Slice.PartMut.{putMid}
 use Rattle.book.specs.Causes.{broken-frame, number}
 use Rattle.book.specs.Book.{Book}
@@ -18,13 +20,13 @@ use Rattle.paths.specs.Chains.{Reply}
 use Rattle.register.specs.HistoryLaws.{represents-sound}
 use Rattle.report.specs.Report.{refusedText}
 use Rattle.report.specs.Written.{written, Wrote}
-use Rattle.report.specs.WrittenLaws.{wrote-none, wrote-then}
+use Rattle.report.specs.WrittenLaws.{wrote-as, wrote-none, wrote-then}
 use Rattle.session.specs.Program.{minFrame, maxFrame, number16, Frame, decode, Session, unopened, opened, nextSession, Right, printed, frameIn, Run, ended, lone-byte, bad-length, cut}
 use Rattle.session.specs.ProgramLaws.{Steady, right-exists}
-use Rattle.session.specs.RunLaws.{framed-as}
+use Rattle.session.specs.RunLaws.{run-only, framed-as}
 use Rattle.session.specs.TurnLaws.{both-ways}
 use Rattle.session.specs.Turns.{Holds, is-closed, is-open, room, Turns}
-use Rattle.session.specs.Runs.{Advances, Front, no-frame, a-frame}
+use Rattle.session.specs.Runs.{Advances, Loop, stops, goes-on, Front, no-frame, a-frame}
 use Rattle.session.specs.declared.State.{State}
 use Rattle.session.specs.declared.Framed.{Framed}
 use Rattle.session.specs.declared.Ran.{Ran}
@@ -153,10 +155,10 @@ module _ (work list : ℕ) where
         fits = omega (arith, r .fits, length-drop w m);
       }
 
-  pub goes-on : (st : State) (i out m part : List ℕ) (r q : Ran) → r .more ≡ true → length m ≡ length out → Advances st i work list out m r
+  pub goes-further : (st : State) (i out m part : List ℕ) (r q : Ran) → r .more ≡ true → length m ≡ length out → Advances st i work list out m r
       → Advances (r .state) (drop (r .read) i) work list (drop (r .written) m) part q
       → Advances st i work list out (putMid (r .written) (length m - r .written) m part) (record { state = q .state; read = r .read + q .read; written = r .written + q .written; more = q .more })
-  goes-on st i out m part r q more same a b =
+  goes-further st i out m part r q more same a b =
       record { inside = omega (arith, a .inside, b .inside, length-drop (r .read) i); within = omega (arith, a .within, b .within, length-drop (r .written) m); ends = ending; goes = going }
     where
       wrote : (o p : List ℕ) → Wrote 0 o out m (r .written) → Wrote 0 p (drop (r .written) m) part (q .written) → Wrote 0 (o ++ p) out (putMid (r .written) (length m - r .written) m part) (r .written + q .written)
@@ -192,7 +194,7 @@ module _ (work list : ℕ) where
   goes-on-part st i out m part r q w l more same ew el a b =
       let input : take (length i - r .read) (drop (r .read) i) ≡ drop (r .read) i = take-all (length i - r .read) (drop (r .read) i) (omega (arith, length-drop (r .read) i)) in
       let rest : take (length m - r .written) (drop (r .written) m) ≡ drop (r .written) m = take-all (length m - r .written) (drop (r .written) m) (omega (arith, length-drop (r .written) m)) in
-      goes-on st i out m part r q more same a (rw (ew, el, input, rest) at b)
+      goes-further st i out m part r q more same a (rw (ew, el, input, rest) at b)
 
   -- a turn that read nothing, though there is more to do, had too little room
   pub no-room : (q : Ran) (n : ℕ) → (room list ≤ n → q .more ≡ true → 0 < q .read) → q .more ≡ true → q .read ≡ 0 → n < room list
@@ -205,3 +207,22 @@ module _ (work list : ℕ) where
 -- the room that was too little, as the rest of a whole
 pub rest-short : (m : List ℕ) (n w q k : ℕ) → w ≤ n → length m ≡ n → length (take (length m - w) (drop w m)) < k → n < w + q + k
 rest-short m n w q k h e l = omega (arith, length-take (length m - w) (drop w m), length-drop w m)
+
+module _ (work list : ℕ) where
+  -- ---- what is printed
+  -- what stands at the front of out is the text
+  printed-is : {o out out′ : List ℕ} {w : ℕ} → Wrote 0 o out out′ w → take w out′ ≡ o
+  unfolding written
+  printed-is {o} {out} {out′} {w} h = ap (λ (l : List ℕ). take w l) (h .contents) ∙ take-at o (drop (0 + length o) out) w (omega (arith, h .place))
+
+  pub prints-run : {st : State} {s : Session} {i out out′ : List ℕ} {r : Ran} → Advances st i work list out out′ r → r .more ≡ false → Holds st s
+      → (o : List ℕ) → Run work list s i o → Wrote 0 o out out′ (r .written)
+  prints-run {s = s} a e h o run = let x = a .ends e s h in wrote-as (run-only work list (x .2) run) (x .1)
+
+  pub loop-runs : {st : State} {i o : List ℕ} → Loop work list st i o → (s : Session) → Holds st s → Run work list s i o
+  loop-runs (stops {i = i} a e) s h = let x = a .ends e s h in subst (λ (l : List ℕ). Run work list s i l) (sym (printed-is (x .1))) (x .2)
+  loop-runs (goes-on {i = i} {j = j} {o = o} {r = r} a e whole more) s h =
+      let x = a .goes e s h in
+      let none : drop (r .read) i ≡ [] = drop-of-length-le i {i = r .read} (omega arith) in
+      let run : Run work list (x .1) (drop (r .read) i ++ j) o = subst (λ (l : List ℕ). Run work list (x .1) (l ++ j) o) (sym none) (loop-runs more (x .1) (x .3)) in
+      subst (λ (l : List ℕ). Run work list s (i ++ j) (l ++ o)) (sym (printed-is (x .2))) (x .4 j o run)
