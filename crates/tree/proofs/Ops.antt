@@ -14,7 +14,7 @@ use Rattle.bits.specs.BitSetLaws.{bits-none}
 use Rattle.rows.specs.Rows.{flat, noPairs, linkPair}
 use Rattle.rows.specs.RowLaws.{flat-none, union-none}
 use Rattle.packing.specs.Reading.{sensed}
-use Rattle.tree.specs.Inner.{Room, TreeAt, outcome}
+use Rattle.tree.specs.Inner.{Room, TreeAt, outcome, Guarded}
 
 pub rows-none : bitAt (replicate 16384 0) ≡ flat noPairs
 rows-none = bits-none 16384 ∙ sym flat-none
@@ -66,3 +66,9 @@ outcome-last (suc (suc (suc (suc (suc (suc k)))))) n a b c l = refl
 
 pub tree-same : {n r : ℕ} {a b : Cells} {ws : List ℕ} → a ≡ b → TreeAt n a ws r → TreeAt n b ws r
 tree-same {n} {r} {a} {b} {ws} e t = subst (λ (s : Cells). TreeAt n s ws r) e t
+
+pub guarded-as : {R M N : Type 0} {ws us : List ℕ} {r : ℕ} → Guarded R ws us r M → (M → N) → Guarded R ws us r N
+guarded-as g f = record { most = g .most; done = λ i. f (g .done i); left = g .left }
+
+pub without : {R M : Type 0} {ws : List ℕ} → (R → ⊥) → Guarded R ws ws 0 M
+without f = record { most = omega arith; done = λ r. absurd (f r); left = λ g. (refl, refl) }

@@ -8,11 +8,13 @@
 --                   of a tree of la words at the front of ws, r words of us are the tree of op's set
 --   TwoTrees op n la lb ws us r
 --                   the same of two, of la words and then lb
+--   Guarded room ws us r made
+--                   with room it is made; without, nothing is done, us are the words ws as they were and r is 0
 -- Assumes nothing: these are definitions.
 use mathlib.Core.Path.{_≡_}
 use mathlib.Core.List.{List}
 use Prim.Native.Nat.{ℕ, zero, suc, _*_, _≤_}
-use lib.ListN.{take, drop}
+use lib.ListN.{length, take, drop}
 use Rattle.k2.specs.PairSets.{Cells, IsSet, union, intersection, difference, product, closure}
 use Rattle.rows.specs.Rows.{identity}
 use Rattle.k2.specs.Trees.{treeWords, treeUnit}
@@ -42,3 +44,8 @@ OneTree op n la ws us r = (a : Cells) → IsSet n a → take la ws ≡ treeWords
 abbrev pub TwoTrees : (Cells → Cells → Cells) → ℕ → ℕ → ℕ → List ℕ → List ℕ → ℕ → Type 0
 TwoTrees op n la lb ws us r =
     (a b : Cells) → IsSet n a → IsSet n b → take la ws ≡ treeWords n a → take lb (drop la ws) ≡ treeWords n b → TreeAt n (op a b) us r
+
+pub record Guarded (room : Type 0) (ws us : List ℕ) (r : ℕ) (made : Type 0) : Type 0 where
+  pub most : r ≤ length ws
+  pub done : room → made
+  pub left : (room → ⊥) → (us ≡ ws) × (r ≡ 0)

@@ -10,7 +10,7 @@ ghost use Rattle.k2.specs.PairSetLaws.{PairsBelow};
 ghost use Rattle.k2.specs.Trees.{treeWords, treeUnit, WellFormed};
 ghost use Rattle.rows.specs.Rows.{flat, noPairs, identity, linkPair};
 ghost use Rattle.packing.specs.Reading.{sensed};
-ghost use Rattle.tree.specs.Inner.{Room, TreeAt, outcome, OneTree, TwoTrees};
+ghost use Rattle.tree.specs.Inner.{Room, TreeAt, outcome, OneTree, TwoTrees, Guarded};
 ghost use Rattle.tree.specs.Calls.{Found, Settled, Answered, TreeOf, ListOf, TreeOfOne, TreeOfTwo};
 
 pub enum Answer {
@@ -96,6 +96,47 @@ fn operate(
     packing::pack(&rows, n, work)
 }
 
+// Is there room for an operation on operands of la and lb words in k words of work?
+fn room(n: usize, la: usize, lb: usize, k: usize) -> bool
+    ensures { λ r. ⌜ (r ≡ true → Room n la lb k) × (Room n la lb k → r ≡ true) ⌝ }
+{
+    if 1024 < n {
+        return false;
+    }
+    let unit = packing::tree_unit(n);
+    if unit < la {
+        return false;
+    }
+    if unit < lb {
+        return false;
+    }
+    2 * unit <= k
+}
+
+// The same if there is room for it; otherwise nothing is done, and the number is 0.
+fn guarded(
+    kind: u8,
+    work: &mut [u64],
+    n: usize,
+    la: usize,
+    lb: usize,
+    sa: usize,
+    sb: usize,
+    words: &[u32],
+) -> usize
+    requires { ⌜ (sa ≤ 1) × (sb ≤ 1) ⌝ }
+    ensures { λ r. ⌜ Guarded (Room n la lb (length (now (work .entry)))) (now (work .entry)) (now (work .exit)) r
+        ((a b : Cells) → IsSet n a → IsSet n b
+        → take la (now (work .entry)) ≡ treeWords n a → take lb (drop la (now (work .entry))) ≡ treeWords n b
+        → IsSet n (setOf (map linkPair (now (words .entry))))
+        → TreeAt n (outcome kind n (sensed sa a) (sensed sb b) (setOf (map linkPair (now (words .entry))))) (now (work .exit)) r) ⌝ }
+{
+    if room(n, la, lb, work.len()) {
+        return operate(kind, work, n, la, lb, sa, sb, words);
+    }
+    0
+}
+
 // The same with no link words.
 fn operate_on(
     kind: u8,
@@ -106,78 +147,83 @@ fn operate_on(
     sa: usize,
     sb: usize,
 ) -> usize
-    requires { ⌜ Room n la lb (length (now work)) × (sa ≤ 1) × (sb ≤ 1) ⌝ }
-    ensures { λ r. ⌜ (r ≤ length (now (work .entry)))
-        × TwoTrees (λ a b. outcome kind n (sensed sa a) (sensed sb b) noPairs) n la lb (now (work .entry)) (now (work .exit)) r ⌝ }
+    requires { ⌜ (sa ≤ 1) × (sb ≤ 1) ⌝ }
+    ensures { λ r. ⌜ Guarded (Room n la lb (length (now (work .entry)))) (now (work .entry)) (now (work .exit)) r
+        (TwoTrees (λ a b. outcome kind n (sensed sa a) (sensed sb b) noPairs) n la lb (now (work .entry)) (now (work .exit)) r) ⌝ }
 {
     let none: [u32; 1] = [0; 1];
-    operate(kind, work, n, la, lb, sa, sb, &none[..0])
+    guarded(kind, work, n, la, lb, sa, sb, &none[..0])
 }
 
 // The union of two trees at the front of work, left there; how many words it has.
 pub fn union_in(work: &mut [u64], n: usize, la: usize, lb: usize) -> usize
-    requires { ⌜ Room n la lb (length (now work)) ⌝ }
-    ensures { λ r. ⌜ (r ≤ length (now (work .entry))) × TwoTrees union n la lb (now (work .entry)) (now (work .exit)) r ⌝ }
+    ensures { λ r. ⌜ Guarded (Room n la lb (length (now (work .entry)))) (now (work .entry)) (now (work .exit)) r
+        (TwoTrees union n la lb (now (work .entry)) (now (work .exit)) r) ⌝ }
 {
     operate_on(0, work, n, la, lb, 0, 0)
 }
 
 // Their intersection.
 pub fn intersection_in(work: &mut [u64], n: usize, la: usize, lb: usize) -> usize
-    requires { ⌜ Room n la lb (length (now work)) ⌝ }
-    ensures { λ r. ⌜ (r ≤ length (now (work .entry))) × TwoTrees intersection n la lb (now (work .entry)) (now (work .exit)) r ⌝ }
+    ensures { λ r. ⌜ Guarded (Room n la lb (length (now (work .entry)))) (now (work .entry)) (now (work .exit)) r
+        (TwoTrees intersection n la lb (now (work .entry)) (now (work .exit)) r) ⌝ }
 {
     operate_on(1, work, n, la, lb, 0, 0)
 }
 
 // Their difference.
 pub fn difference_in(work: &mut [u64], n: usize, la: usize, lb: usize) -> usize
-    requires { ⌜ Room n la lb (length (now work)) ⌝ }
-    ensures { λ r. ⌜ (r ≤ length (now (work .entry))) × TwoTrees difference n la lb (now (work .entry)) (now (work .exit)) r ⌝ }
+    ensures { λ r. ⌜ Guarded (Room n la lb (length (now (work .entry)))) (now (work .entry)) (now (work .exit)) r
+        (TwoTrees difference n la lb (now (work .entry)) (now (work .exit)) r) ⌝ }
 {
     operate_on(2, work, n, la, lb, 0, 0)
 }
 
-// Their product, each read with a sense.
+// Their product, each read with a sense, 0 or 1.
 pub fn product_in(work: &mut [u64], n: usize, la: usize, lb: usize, sa: usize, sb: usize) -> usize
-    requires { ⌜ Room n la lb (length (now work)) × (sa ≤ 1) × (sb ≤ 1) ⌝ }
-    ensures { λ r. ⌜ (r ≤ length (now (work .entry)))
-        × TwoTrees (λ a b. product n (sensed sa a) (sensed sb b)) n la lb (now (work .entry)) (now (work .exit)) r ⌝ }
+    ensures { λ r. ⌜ Guarded (Room n la lb (length (now (work .entry))) × (sa ≤ 1) × (sb ≤ 1)) (now (work .entry)) (now (work .exit)) r
+        (TwoTrees (λ a b. product n (sensed sa a) (sensed sb b)) n la lb (now (work .entry)) (now (work .exit)) r) ⌝ }
 {
+    if 1 < sa {
+        return 0;
+    }
+    if 1 < sb {
+        return 0;
+    }
     operate_on(3, work, n, la, lb, sa, sb)
 }
 
 // The transpose of the tree at the front of work: read with sense 1, and joined with none.
 pub fn transpose_in(work: &mut [u64], n: usize, la: usize) -> usize
-    requires { ⌜ Room n la 0 (length (now work)) ⌝ }
-    ensures { λ r. ⌜ (r ≤ length (now (work .entry))) × OneTree transpose n la (now (work .entry)) (now (work .exit)) r ⌝ }
+    ensures { λ r. ⌜ Guarded (Room n la 0 (length (now (work .entry)))) (now (work .entry)) (now (work .exit)) r
+        (OneTree transpose n la (now (work .entry)) (now (work .exit)) r) ⌝ }
 {
     operate_on(0, work, n, la, 0, 1, 0)
 }
 
 // Its closure: one or more steps.
 pub fn closure_in(work: &mut [u64], n: usize, la: usize) -> usize
-    requires { ⌜ Room n la 0 (length (now work)) ⌝ }
-    ensures { λ r. ⌜ (r ≤ length (now (work .entry))) × OneTree (closure n) n la (now (work .entry)) (now (work .exit)) r ⌝ }
+    ensures { λ r. ⌜ Guarded (Room n la 0 (length (now (work .entry)))) (now (work .entry)) (now (work .exit)) r
+        (OneTree (closure n) n la (now (work .entry)) (now (work .exit)) r) ⌝ }
 {
     operate_on(4, work, n, la, 0, 0, 0)
 }
 
 // With it each record below n joined to itself.
 pub fn identity_in(work: &mut [u64], n: usize, la: usize) -> usize
-    requires { ⌜ Room n la 0 (length (now work)) ⌝ }
-    ensures { λ r. ⌜ (r ≤ length (now (work .entry))) × OneTree (λ a. union a (identity n)) n la (now (work .entry)) (now (work .exit)) r ⌝ }
+    ensures { λ r. ⌜ Guarded (Room n la 0 (length (now (work .entry)))) (now (work .entry)) (now (work .exit)) r
+        (OneTree (λ a. union a (identity n)) n la (now (work .entry)) (now (work .exit)) r) ⌝ }
 {
     operate_on(5, work, n, la, 0, 0, 0)
 }
 
 // The tree of the pairs of link words, at the front of work. Pair words are their own.
 pub fn letter_in(work: &mut [u64], n: usize, words: &[u32]) -> usize
-    requires { ⌜ Room n 0 0 (length (now work)) ⌝ }
-    ensures { λ r. ⌜ (r ≤ length (now (work .entry))) × (IsSet n (setOf (map linkPair (now (words .entry))))
+    ensures { λ r. ⌜ Guarded (Room n 0 0 (length (now (work .entry)))) (now (work .entry)) (now (work .exit)) r
+        (IsSet n (setOf (map linkPair (now (words .entry))))
         → TreeAt n (setOf (map linkPair (now (words .entry)))) (now (work .exit)) r) ⌝ }
 {
-    operate(6, work, n, 0, 0, 0, 0, words)
+    guarded(6, work, n, 0, 0, 0, 0, words)
 }
 
 // Are both ends of each pair below n?

@@ -1,28 +1,25 @@
 // The tree calls for a Rust or C program: what `rt staticlib treelib` exports. An answer is one number: the number of words or pairs, or
-// 4,294,967,296 and the number of a cause.
-ghost use mathlib.Core.Path.{_≡_};
-ghost use mathlib.Core.Bool.{true};
-ghost use Rattle.tree.specs.Inner.{Room};
+// 8,589,934,592 and the number of a cause.
 
 fn told(answer: tree::Answer) -> u64 {
     match answer {
         tree::Answer::Done(k) => k as u64,
-        tree::Answer::Refused(c) => c as u64 + 4294967296,
+        tree::Answer::Refused(c) => c as u64 + 8589934592,
     }
 }
 
 #[no_mangle]
-pub extern "C" fn tree_make(n: usize, pairs: &[u32], out: &mut [u64], work: &mut [u64]) -> u64 {
+pub extern "C" fn dating_tree_make(n: usize, pairs: &[u32], out: &mut [u64], work: &mut [u64]) -> u64 {
     told(tree::make(n, pairs, out, work))
 }
 
 #[no_mangle]
-pub extern "C" fn tree_list(n: usize, a: &[u64], out: &mut [u32], work: &mut [u64]) -> u64 {
+pub extern "C" fn dating_tree_list(n: usize, a: &[u64], out: &mut [u32], work: &mut [u64]) -> u64 {
     told(tree::list(n, a, out, work))
 }
 
 #[no_mangle]
-pub extern "C" fn tree_union(
+pub extern "C" fn dating_tree_union(
     n: usize,
     a: &[u64],
     b: &[u64],
@@ -33,7 +30,7 @@ pub extern "C" fn tree_union(
 }
 
 #[no_mangle]
-pub extern "C" fn tree_intersection(
+pub extern "C" fn dating_tree_intersection(
     n: usize,
     a: &[u64],
     b: &[u64],
@@ -44,7 +41,7 @@ pub extern "C" fn tree_intersection(
 }
 
 #[no_mangle]
-pub extern "C" fn tree_difference(
+pub extern "C" fn dating_tree_difference(
     n: usize,
     a: &[u64],
     b: &[u64],
@@ -55,7 +52,7 @@ pub extern "C" fn tree_difference(
 }
 
 #[no_mangle]
-pub extern "C" fn tree_product(
+pub extern "C" fn dating_tree_product(
     n: usize,
     a: &[u64],
     b: &[u64],
@@ -66,39 +63,29 @@ pub extern "C" fn tree_product(
 }
 
 #[no_mangle]
-pub extern "C" fn tree_transpose(n: usize, a: &[u64], out: &mut [u64], work: &mut [u64]) -> u64 {
+pub extern "C" fn dating_tree_transpose(n: usize, a: &[u64], out: &mut [u64], work: &mut [u64]) -> u64 {
     told(tree::transpose(n, a, out, work))
 }
 
 #[no_mangle]
-pub extern "C" fn tree_closure(n: usize, a: &[u64], out: &mut [u64], work: &mut [u64]) -> u64 {
+pub extern "C" fn dating_tree_closure(n: usize, a: &[u64], out: &mut [u64], work: &mut [u64]) -> u64 {
     told(tree::closure(n, a, out, work))
 }
 
-// Is there room for an inner operation?
-fn room(n: usize, la: usize, lb: usize, k: usize) -> bool
-    ensures { λ r. ⌜ (r ≡ true → Room n la lb k) ⌝ }
-{
-    if 1024 < n {
-        return false;
-    }
-    let unit = packing::tree_unit(n);
-    if unit < la {
-        return false;
-    }
-    if unit < lb {
-        return false;
-    }
-    2 * unit <= k
+// The inner operations.
+#[no_mangle]
+pub extern "C" fn tree_union_in(work: &mut [u64], n: usize, la: usize, lb: usize) -> usize {
+    tree::union_in(work, n, la, lb)
 }
 
-// The inner operations, to be measured; 4,294,967,296 if there is no room.
 #[no_mangle]
-pub extern "C" fn tree_union_in(work: &mut [u64], n: usize, la: usize, lb: usize) -> u64 {
-    if room(n, la, lb, work.len()) {
-        return tree::union_in(work, n, la, lb) as u64;
-    }
-    4294967296
+pub extern "C" fn tree_intersection_in(work: &mut [u64], n: usize, la: usize, lb: usize) -> usize {
+    tree::intersection_in(work, n, la, lb)
+}
+
+#[no_mangle]
+pub extern "C" fn tree_difference_in(work: &mut [u64], n: usize, la: usize, lb: usize) -> usize {
+    tree::difference_in(work, n, la, lb)
 }
 
 #[no_mangle]
@@ -109,47 +96,26 @@ pub extern "C" fn tree_product_in(
     lb: usize,
     sa: usize,
     sb: usize,
-) -> u64 {
-    if 1 < sa {
-        return 4294967296;
-    }
-    if 1 < sb {
-        return 4294967296;
-    }
-    if room(n, la, lb, work.len()) {
-        return tree::product_in(work, n, la, lb, sa, sb) as u64;
-    }
-    4294967296
+) -> usize {
+    tree::product_in(work, n, la, lb, sa, sb)
 }
 
 #[no_mangle]
-pub extern "C" fn tree_closure_in(work: &mut [u64], n: usize, la: usize) -> u64 {
-    if room(n, la, 0, work.len()) {
-        return tree::closure_in(work, n, la) as u64;
-    }
-    4294967296
+pub extern "C" fn tree_transpose_in(work: &mut [u64], n: usize, la: usize) -> usize {
+    tree::transpose_in(work, n, la)
 }
 
 #[no_mangle]
-pub extern "C" fn tree_transpose_in(work: &mut [u64], n: usize, la: usize) -> u64 {
-    if room(n, la, 0, work.len()) {
-        return tree::transpose_in(work, n, la) as u64;
-    }
-    4294967296
+pub extern "C" fn tree_closure_in(work: &mut [u64], n: usize, la: usize) -> usize {
+    tree::closure_in(work, n, la)
 }
 
 #[no_mangle]
-pub extern "C" fn tree_identity_in(work: &mut [u64], n: usize, la: usize) -> u64 {
-    if room(n, la, 0, work.len()) {
-        return tree::identity_in(work, n, la) as u64;
-    }
-    4294967296
+pub extern "C" fn tree_identity_in(work: &mut [u64], n: usize, la: usize) -> usize {
+    tree::identity_in(work, n, la)
 }
 
 #[no_mangle]
-pub extern "C" fn tree_letter_in(work: &mut [u64], n: usize, words: &[u32]) -> u64 {
-    if room(n, 0, 0, work.len()) {
-        return tree::letter_in(work, n, words) as u64;
-    }
-    4294967296
+pub extern "C" fn tree_letter_in(work: &mut [u64], n: usize, words: &[u32]) -> usize {
+    tree::letter_in(work, n, words)
 }

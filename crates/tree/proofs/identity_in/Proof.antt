@@ -1,15 +1,14 @@
 -- `identity_in` joins each record to itself; the second tree has no words. Assumes nothing.
-use mathlib.Core.Path.{refl}
 use native.Mathlib.Omega.{arith}
 use borrow.Author.Needs.{needs}
 use Rattle.rows.specs.Rows.{noPairs}
 use Rattle.rows.specs.RowLaws.{none-set}
-use Rattle.tree.proofs.Ops.{none-tree, tree-same}
+use Rattle.tree.proofs.Ops.{none-tree, guarded-as}
 use Rattle.tree.proofs.identity_in.Statement.{statement}
 use Rattle.tree.proofs.identity_in.Tie as tie
 
 operate-on-requires : tie.Need-operate-on-requires
-operate-on-requires c κs = (c .before .before .pre, omega arith, omega arith)
+operate-on-requires c κs = (omega arith, omega arith)
 
 same-length : tie.Need-same-length
 same-length c = search needs
@@ -18,7 +17,7 @@ returns : tie.Need-returns
 returns c =
     let n = c .before .before .before .before .before .args .n in
     let o = c .before .before .operate-on in
-    (o .ensures .0, λ a ia ea. tree-same (refl) (o .ensures .1 a noPairs ia (none-set n) ea (none-tree n)))
+    guarded-as (o .ensures) (λ m a ia ea. m a noPairs ia (none-set n) ea (none-tree n))
 
 pub identity-in-spec : {M : Type 1} → statement M
 identity-in-spec = tie.close (tie.spec operate-on-requires same-length returns)

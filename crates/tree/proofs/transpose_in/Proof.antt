@@ -3,12 +3,12 @@ use native.Mathlib.Omega.{arith}
 use borrow.Author.Needs.{needs}
 use Rattle.rows.specs.Rows.{noPairs}
 use Rattle.rows.specs.RowLaws.{none-set}
-use Rattle.tree.proofs.Ops.{none-tree, tree-same, union-right}
+use Rattle.tree.proofs.Ops.{none-tree, tree-same, union-right, guarded-as}
 use Rattle.tree.proofs.transpose_in.Statement.{statement}
 use Rattle.tree.proofs.transpose_in.Tie as tie
 
 operate-on-requires : tie.Need-operate-on-requires
-operate-on-requires c κs = (c .before .before .pre, omega arith, omega arith)
+operate-on-requires c κs = (omega arith, omega arith)
 
 same-length : tie.Need-same-length
 same-length c = search needs
@@ -17,7 +17,7 @@ returns : tie.Need-returns
 returns c =
     let n = c .before .before .before .before .before .args .n in
     let o = c .before .before .operate-on in
-    (o .ensures .0, λ a ia ea. tree-same (union-right _) (o .ensures .1 a noPairs ia (none-set n) ea (none-tree n)))
+    guarded-as (o .ensures) (λ m a ia ea. tree-same (union-right _) (m a noPairs ia (none-set n) ea (none-tree n)))
 
 pub transpose-in-spec : {M : Type 1} → statement M
 transpose-in-spec = tie.close (tie.spec operate-on-requires same-length returns)
