@@ -9,7 +9,12 @@ fn told(answer: tree::Answer) -> u64 {
 }
 
 #[no_mangle]
-pub extern "C" fn dating_tree_make(n: usize, pairs: &[u32], out: &mut [u64], work: &mut [u64]) -> u64 {
+pub extern "C" fn dating_tree_make(
+    n: usize,
+    pairs: &[u32],
+    out: &mut [u64],
+    work: &mut [u64],
+) -> u64 {
     told(tree::make(n, pairs, out, work))
 }
 
@@ -63,12 +68,22 @@ pub extern "C" fn dating_tree_product(
 }
 
 #[no_mangle]
-pub extern "C" fn dating_tree_transpose(n: usize, a: &[u64], out: &mut [u64], work: &mut [u64]) -> u64 {
+pub extern "C" fn dating_tree_transpose(
+    n: usize,
+    a: &[u64],
+    out: &mut [u64],
+    work: &mut [u64],
+) -> u64 {
     told(tree::transpose(n, a, out, work))
 }
 
 #[no_mangle]
-pub extern "C" fn dating_tree_closure(n: usize, a: &[u64], out: &mut [u64], work: &mut [u64]) -> u64 {
+pub extern "C" fn dating_tree_closure(
+    n: usize,
+    a: &[u64],
+    out: &mut [u64],
+    work: &mut [u64],
+) -> u64 {
     told(tree::closure(n, a, out, work))
 }
 
