@@ -4,7 +4,7 @@
 --   inside h x y a  the pairs of a in the square of side 2 ^ h at row x and column y
 --   quartersTo k h x y a
 --                   the pairs of a in the first k quarters, of side 2 ^ h, of the square at row x and column y
---   Counted ws ns   for each word of ws, the number of ones before it
+--   Counted ws ns   for each block of four words of ws, the number of ones before it
 --   Reads s ws h b x y a
 --                   in a tree with the words ws, read with the sense s, the four bits from bit b on are those of the square of a set whose cells are those
 --                   of a from row x and column y on; the square has the side 2 ^ h
@@ -37,7 +37,7 @@ quartersTo zero h x y a = noPairs
 quartersTo (suc k) h x y a = union (quartersTo k h x y a) (inside h (x + k / 2 * 2 ^ h) (y + k % 2 * 2 ^ h) a)
 
 abbrev pub Counted : List ℕ → List ℕ → Type 0
-Counted ws ns = (i : ℕ) → i < length ws → getD ns i 0 ≡ onesBelow (bitAt ws) (i * 64)
+Counted ws ns = (i : ℕ) → 4 * i < length ws → getD ns i 0 ≡ onesBelow (bitAt ws) (i * 256)
 
 pub record Reads (s : ℕ) (ws : List ℕ) (h b x y : ℕ) (a : Cells) : Type 0 where
   pub side : ℕ

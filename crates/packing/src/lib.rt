@@ -339,15 +339,17 @@ pub fn pack(rows: &[u64], n: usize, out: &mut [u64]) -> usize
     pack_part(rows, h, &mut out[..end])
 }
 
-// The ones before each word of a tree.
+// The ones before each block of four words of a tree.
 fn count(tree: &[u64], before: &mut [u32])
-    requires { ⌜ (length (now tree) ≤ 21846) × (length (now before) ≡ 21846) ⌝ }
+    requires { ⌜ (length (now tree) ≤ 21846) × (length (now before) ≡ 5462) ⌝ }
     ensures { λ _. ⌜ Counted (now (tree .entry)) (now (before .exit)) ⌝ }
 {
     let mut n: u32 = 0;
     let mut i = 0;
     while i < tree.len() {
-        before[i] = n;
+        if i % 4 == 0 {
+            before[i / 4] = n;
+        }
         n += u64::count_ones(tree[i]);
         i += 1;
     }
@@ -355,11 +357,17 @@ fn count(tree: &[u64], before: &mut [u32])
 
 // Where the children of the 1 at bit p begin: four times the count of ones in bits 0 to p.
 fn child(tree: &[u64], before: &[u32], p: usize) -> usize
-    requires { ⌜ (p / 64 < length (now tree)) × (length (now tree) ≤ 21846) × (length (now before) ≡ 21846) × Counted (now tree) (now before) ⌝ }
+    requires { ⌜ (p / 64 < length (now tree)) × (length (now tree) ≤ 21846) × (length (now before) ≡ 5462) × Counted (now tree) (now before) ⌝ }
     ensures { λ r. ⌜ (r ≡ childPlace (bitAt (now (tree .entry))) p) × (r ≤ 5592576) ⌝ }
 {
     let q = p / 64;
-    4 * (before[q] as usize + u64::count_ones(tree[q] << (63 - p % 64)) as usize)
+    let mut i = q / 4 * 4;
+    let mut n = before[q / 4] as usize;
+    while i < q {
+        n += u64::count_ones(tree[i]) as usize;
+        i += 1;
+    }
+    4 * (n + u64::count_ones(tree[q] << (63 - p % 64)) as usize)
 }
 
 // The quarter that is read as quarter q; with sense 1 the second and the third are exchanged.
@@ -425,7 +433,7 @@ fn dive(
     rows: &mut [u64],
 )
     requires { ⌜ (1 ≤ h) × (h ≤ 10) × (b % 4 ≡ 0) × (b ≤ 5592576) × (x + 2 ^ h ≤ 1024) × (y + 2 ^ h ≤ 1024) × (y % 2 ≡ 0) × (sense ≤ 1)
-        × (length (now rows) ≡ 16384) × (length (now tree) ≤ 21846) × (length (now before) ≡ 21846) × Counted (now tree) (now before) ⌝ }
+        × (length (now rows) ≡ 16384) × (length (now tree) ≤ 21846) × (length (now before) ≡ 5462) × Counted (now tree) (now before) ⌝ }
     ensures { λ _. ⌜ ((a t : Cells) → bitAt (now (rows .entry)) ≡ flat a → Reads sense (now (tree .entry)) h b x y t
         → bitAt (now (rows .exit)) ≡ flat (union a (inside h x y t))) ⌝ }
 {
@@ -460,7 +468,7 @@ pub fn load(tree: &[u64], n: usize, sense: usize, rows: &mut [u64])
     ensures { λ _. ⌜ ((a x : Cells) → IsSet n a → now (tree .entry) ≡ treeWords n a → bitAt (now (rows .entry)) ≡ flat x
         → bitAt (now (rows .exit)) ≡ flat (union x (sensed sense a))) ⌝ }
 {
-    let mut before: [u32; 21846] = [0; 21846];
+    let mut before: [u32; 5462] = [0; 5462];
     count(tree, &mut before);
     dive(tree, &before, height(n), 0, 0, 0, sense, rows);
 }
