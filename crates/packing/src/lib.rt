@@ -11,7 +11,7 @@ ghost use Rattle.k2.specs.Heap.{fullSize, place, rowAt, columnAt, cells, anyFou
 ghost use Rattle.bits.specs.BitSets.{none, either};
 ghost use Rattle.rows.specs.Rows.{flat};
 ghost use Rattle.packing.specs.Image.{Together, raised, above, setFour, blocksTo, swapPlace, Heaped, Squeezing};
-ghost use Rattle.packing.specs.Reading.{sensed, turned, inside, Counted, Reads};
+ghost use Rattle.packing.specs.Reading.{sensed, turned, inside, WordsCounted, BlocksCounted, Counted, Reads};
 
 // The height of the trees for n records: the side is 2 ^ height.
 pub fn height(n: usize) -> usize
@@ -339,10 +339,24 @@ pub fn pack(rows: &[u64], n: usize, out: &mut [u64]) -> usize
     pack_part(rows, h, &mut out[..end])
 }
 
+// The ones before each word of a tree.
+fn count_words(tree: &[u64], before: &mut [u32])
+    requires { ⌜ (length (now tree) ≤ 5462) × (length (now before) ≡ 5462) ⌝ }
+    ensures { λ _. ⌜ WordsCounted (now (tree .entry)) (now (before .exit)) ⌝ }
+{
+    let mut n: u32 = 0;
+    let mut i = 0;
+    while i < tree.len() {
+        before[i] = n;
+        n += u64::count_ones(tree[i]);
+        i += 1;
+    }
+}
+
 // The ones before each block of four words of a tree.
-fn count(tree: &[u64], before: &mut [u32])
+fn count_blocks(tree: &[u64], before: &mut [u32])
     requires { ⌜ (length (now tree) ≤ 21846) × (length (now before) ≡ 5462) ⌝ }
-    ensures { λ _. ⌜ Counted (now (tree .entry)) (now (before .exit)) ⌝ }
+    ensures { λ _. ⌜ BlocksCounted (now (tree .entry)) (now (before .exit)) ⌝ }
 {
     let mut n: u32 = 0;
     let mut i = 0;
@@ -355,9 +369,30 @@ fn count(tree: &[u64], before: &mut [u32])
     }
 }
 
-// Where the children of the 1 at bit p begin: four times the count of ones in bits 0 to p.
-fn child(tree: &[u64], before: &[u32], p: usize) -> usize
-    requires { ⌜ (p / 64 < length (now tree)) × (length (now tree) ≤ 21846) × (length (now before) ≡ 5462) × Counted (now tree) (now before) ⌝ }
+// The ones before each word of a tree, or of a long one before each block of four: there is room for 5,462 counts.
+fn count(tree: &[u64], before: &mut [u32])
+    requires { ⌜ (length (now tree) ≤ 21846) × (length (now before) ≡ 5462) ⌝ }
+    ensures { λ _. ⌜ Counted (now (tree .entry)) (now (before .exit)) ⌝ }
+{
+    if 5462 < tree.len() {
+        count_blocks(tree, before);
+        return;
+    }
+    count_words(tree, before);
+}
+
+// Where the children of the 1 at bit p begin: four times the count of ones in bits 0 to p. From the ones before its word:
+fn child_by_word(tree: &[u64], before: &[u32], p: usize) -> usize
+    requires { ⌜ (p / 64 < length (now tree)) × (length (now tree) ≤ 5462) × (length (now before) ≡ 5462) × WordsCounted (now tree) (now before) ⌝ }
+    ensures { λ r. ⌜ (r ≡ childPlace (bitAt (now (tree .entry))) p) × (r ≤ 5592576) ⌝ }
+{
+    let q = p / 64;
+    4 * (before[q] as usize + u64::count_ones(tree[q] << (63 - p % 64)) as usize)
+}
+
+// From the ones before its block of four words:
+fn child_by_block(tree: &[u64], before: &[u32], p: usize) -> usize
+    requires { ⌜ (p / 64 < length (now tree)) × (length (now tree) ≤ 21846) × (length (now before) ≡ 5462) × BlocksCounted (now tree) (now before) ⌝ }
     ensures { λ r. ⌜ (r ≡ childPlace (bitAt (now (tree .entry))) p) × (r ≤ 5592576) ⌝ }
 {
     let q = p / 64;
@@ -368,6 +403,17 @@ fn child(tree: &[u64], before: &[u32], p: usize) -> usize
         i += 1;
     }
     4 * (n + u64::count_ones(tree[q] << (63 - p % 64)) as usize)
+}
+
+// From what was counted.
+fn child(tree: &[u64], before: &[u32], p: usize) -> usize
+    requires { ⌜ (p / 64 < length (now tree)) × (length (now tree) ≤ 21846) × (length (now before) ≡ 5462) × Counted (now tree) (now before) ⌝ }
+    ensures { λ r. ⌜ (r ≡ childPlace (bitAt (now (tree .entry))) p) × (r ≤ 5592576) ⌝ }
+{
+    if 5462 < tree.len() {
+        return child_by_block(tree, before, p);
+    }
+    child_by_word(tree, before, p)
 }
 
 // The quarter that is read as quarter q; with sense 1 the second and the third are exchanged.

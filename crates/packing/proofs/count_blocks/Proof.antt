@@ -1,4 +1,4 @@
--- `count` sums the ones word by word. The loop's invariant: n is the number of ones before word i, and each block that has begun has its own.
+-- `count_blocks` sums the ones word by word. The loop's invariant: n is the number of ones before word i, and each block that has begun has its own.
 -- The measure is the words left. It rests on `ones-word`. Assumes nothing.
 use mathlib.Core.Path.{_≡_, refl, sym, ap, _∙_}
 use mathlib.Core.Logic.{⊎-elim}
@@ -11,8 +11,8 @@ use Rattle.k2.specs.Bits.{bitAt, onesBelow}
 use Rattle.k2.specs.BitLaws.{bit-lt, ones-word}
 use Rattle.k2.specs.BitLaws as laws
 use Rattle.packing.proofs.Loads.{count-begun, count-in}
-use Rattle.packing.proofs.count.Statement.{statement}
-use Rattle.packing.proofs.count.Tie as tie
+use Rattle.packing.proofs.count_blocks.Statement.{statement}
+use Rattle.packing.proofs.count_blocks.Tie as tie
 
 abbrev Inv-loop : tie.InvT-loop
 Inv-loop tree before₀ n₀ i₀ before n i = (i ≤ length tree) × (length before ≡ length before₀) × (n ≡ onesBelow (bitAt tree) (i * 64)) × ((k : ℕ) → 4 * k < i → getD before k 0 ≡ onesBelow (bitAt tree) (k * 256))
@@ -73,8 +73,8 @@ returns c =
     let e : l .i ≡ length (c .before .before .args .tree .now) = omega arith in
     λ k h. l .inv .3 k (omega arith)
 
-pub count-spec : {M : Type 1} → statement M
-count-spec =
+pub count-blocks-spec : {M : Type 1} → statement M
+count-blocks-spec =
     tie.close
     (tie.spec
     Inv-loop
