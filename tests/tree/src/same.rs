@@ -5,6 +5,8 @@ use crate::plain;
 
 const WORDS: usize = 16;
 const ROWS: usize = 1024 * WORDS;
+/// Room for the ones before each word, or of a long tree before each block of four.
+const COUNTS: usize = 5462;
 
 type Rows = [u64; ROWS];
 
@@ -115,7 +117,7 @@ pub fn pack(rows: &Rows, n: usize, out: &mut [u64]) -> usize {
 
 struct Tree<'a> {
     words: &'a [u64],
-    before: &'a [u32; 5462],
+    before: &'a [u32; COUNTS],
     sense: usize,
 }
 
@@ -126,7 +128,11 @@ impl Tree<'_> {
 
     fn child(&self, p: usize) -> usize {
         let q = p / 64;
-        let counted = self.words[q / 4 * 4..q].iter().fold(self.before[q / 4], |n, w| n + w.count_ones());
+        let counted = if self.words.len() <= COUNTS {
+            self.before[q]
+        } else {
+            self.words[q / 4 * 4..q].iter().fold(self.before[q / 4], |n, w| n + w.count_ones())
+        };
         4 * (counted + (self.words[q] << (63 - p % 64)).count_ones()) as usize
     }
 
@@ -151,10 +157,12 @@ impl Tree<'_> {
 }
 
 pub fn load(words: &[u64], n: usize, sense: usize, rows: &mut Rows) {
-    let mut before = [0; 5462];
+    let mut before = [0; COUNTS];
     let mut ones = 0;
     for (i, w) in words.iter().enumerate() {
-        if i % 4 == 0 {
+        if words.len() <= COUNTS {
+            before[i] = ones;
+        } else if i % 4 == 0 {
             before[i / 4] = ones;
         }
         ones += w.count_ones();
