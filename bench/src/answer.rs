@@ -1,5 +1,6 @@
 //! Checksums, result lines, and how an answer is timed.
 
+use crate::clock::now;
 use crate::sheet::Question;
 use crate::system::{ask, Reply, System};
 use std::env;
@@ -54,9 +55,9 @@ pub fn timed_ask(once: bool, system: &mut dyn System, question: &Question, list:
 /// with `once`, stands for itself.
 pub fn timed<T>(once: bool, mut run: impl FnMut() -> T) -> (T, Duration) {
     let mut run = || {
-        let start = Instant::now();
+        let start = now();
         let result = run();
-        (result, start.elapsed())
+        (result, now() - start)
     };
     let (result, first) = run();
     if once || first > Duration::from_millis(500) {

@@ -1,7 +1,7 @@
 //! What a system under test has to offer, and the systems that are compared.
 
-use crate::plain;
 use crate::sheet::{Link, Question};
+use crate::{engine, plain};
 
 /// The number of a refusal, from the scope paper's table of causes.
 pub type Refusal = u32;
@@ -30,7 +30,7 @@ pub struct Peer {
 }
 
 /// The systems that are compared, the baseline first.
-pub const PEERS: &[Peer] = &[plain::PEER];
+pub const PEERS: &[Peer] = &[plain::PEER, engine::PEER];
 
 /// The length of a list in which every answer has room: 1,024 × 1,024 pairs; the longest chain has 63 × 1,024 steps.
 pub const LIST: usize = 1 << 20;

@@ -16,7 +16,8 @@ use lib.ListN.{length}
 use lib.Dec.{eqb}
 use borrow.Author.Tests.{eq-eqb, eqb-true}
 use Rattle.book.specs.Basics.{has, without}
-use Rattle.book.specs.SetLaws.{and-both, eqb-test, has-without, Distinct, without-absent, distinct-without, length-without}
+use Rattle.book.specs.Sheets.{Distinct}
+use Rattle.book.specs.SetLaws.{and-both, eqb-test, has-without, without-absent, distinct-without, length-without}
 use Rattle.paths.specs.Expressions.{Expr, letters}
 use Rattle.paths.specs.Chains.{Graph, Step, spell, stepWords, Answers, NotAfter, shorter, as-long, First}
 use Rattle.paths.specs.ChainLaws.{Inside, crossing-in}

@@ -1,7 +1,4 @@
 -- Laws of the plain book: what holds of the sheets of every history, what a refused edit and an undo leave, and the order of the causes. Assumes nothing.
---   Proper n k      a link between records below n, with a letter's label
---   Fit n s         a sheet's links are proper, its locks are of records, none stands twice, and there are at most 4,096 links
---   Sound b         n is at most 1,024, and every sheet of the book fits
 use mathlib.Core.Path.{_≡_, refl, sym, ap, _∙_, subst}
 use mathlib.Core.List.{List, [], _∷_, _++_}
 use mathlib.Core.Bool.{Bool, true, false, not, _||_, false≢true}
@@ -13,7 +10,8 @@ use borrow.Author.Tests.{leb-false, not-false}
 use Rattle.book.specs.Basics.{has, without}
 use Rattle.book.specs.Causes.{Cause, bad-size, no-record, bad-label, locked-end, already, missing, full, none-held, no-expression, too-many-bytes, too-large, bad-tree, short-work, short-list, broken-frame, unknown-kind, not-open, number, editOrder, firstNumber, InOrder, none-left, same-cause, passed-over, maxRecords, labels, maxLinks, maxHeld}
 use Rattle.book.specs.Book.{Link, sameLink, Sheet, Book, Edit, add, remove, lock, unlock, Call, edit, undo, present, isLocked, causes, editAnswer, edited, turned, undoAnswer, undone, answer, next, fresh, answers, after}
-use Rattle.book.specs.SetLaws.{sameLink-test, eqb-test, and-both, or-neither, has-without, Distinct, distinct-without, length-without}
+use Rattle.book.specs.Sheets.{Distinct, Proper, Fit, All, all-none, all-more, Sound}
+use Rattle.book.specs.SetLaws.{sameLink-test, eqb-test, and-both, or-neither, has-without, distinct-without, length-without}
 
 -- ---- causes
 -- every edit's causes are looked for in the order of 01
@@ -88,18 +86,6 @@ answers-length b [] = refl
 answers-length b (c ∷ cs) = ap suc (answers-length (next b c) cs)
 
 -- ---- what holds of every sheet
-pub record Proper (n : ℕ) (k : Link) : Type 0 where
-  pub from : k .from < n
-  pub label : k .label < labels
-  pub to : k .to < n
-
-pub record Fit (n : ℕ) (s : Sheet) : Type 0 where
-  pub links : (k : Link) → present s k ≡ true → Proper n k
-  pub locks : (r : ℕ) → isLocked s r ≡ true → r < n
-  pub once : Distinct sameLink (s .links)
-  pub single : Distinct eqb (s .locks)
-  pub room : length (s .links) ≤ maxLinks
-
 -- the link of an edit that the causes 2 and 3 let pass
 pub first-proper : (n : ℕ) (k : Link) (cs : List (Cause × Bool))
     → firstNumber ((no-record, leb n (k .from) || leb n (k .to)) ∷ (bad-label, leb labels (k .label)) ∷ cs) ≡ 0
@@ -158,19 +144,10 @@ edited-fit n s (unlock r) f e = record {
 }
 
 -- ---- what holds of every book
-pub data All (P : Sheet → Type 0) : List Sheet → Type 0 where
-  all-none : All P []
-  all-more : {s : Sheet} {ss : List Sheet} → P s → All P ss → All P (s ∷ ss)
-
 pub all-take : {P : Sheet → Type 0} (k : ℕ) {ss : List Sheet} → All P ss → All P (take k ss)
 all-take zero a = all-none
 all-take (suc k) all-none = all-none
 all-take (suc k) (all-more p a) = all-more p (all-take k a)
-
-pub record Sound (b : Book) : Type 0 where
-  pub small : b .n ≤ maxRecords
-  pub sheet : Fit (b .n) (b .sheet)
-  pub pile : All (Fit (b .n)) (b .pile)
 
 turned-sound : (b : Book) (s : Sheet) (z c : ℕ) → Sound b → c ≡ z → (c ≡ 0 → Fit (b .n) s) → Sound (turned z b s)
 unfolding turned

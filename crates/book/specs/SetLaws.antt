@@ -8,6 +8,7 @@ use lib.Dec.{eqb}
 use borrow.Author.Tests.{eq-eqb, eqb-true}
 use Rattle.book.specs.Basics.{pick, In, here, there, has, without}
 use Rattle.book.specs.Book.{Link, sameLink}
+use Rattle.book.specs.Sheets.{Distinct}
 
 pub and-both : (a b : Bool) → (a && b) ≡ true → (a ≡ true) × (b ≡ true)
 and-both true b e = (refl, e)
@@ -73,11 +74,6 @@ module _ {A : Type 0} {same : A → A → Bool} (T : EqualityTest same) where
           go2 false q = refl
           go2 true q = absurd (false≢true (sym e ∙ ap (λ (v : A). same v x) (T .sound z y f) ∙ ap (λ (v : A). same v x) (sym (T .sound x y q)) ∙ T .reflexive x))
       go false e false f ih = rw f ih
-
--- none is there twice
-unfoldable pub Distinct : {A : Type 0} → (A → A → Bool) → List A → Type 0
-Distinct same [] = Unit {0}
-Distinct same (x ∷ xs) = (has same x xs ≡ false) × Distinct same xs
 
 module _ {A : Type 0} {same : A → A → Bool} (T : EqualityTest same) where
   pub without-absent : (x : A) (l : List A) → has same x l ≡ false → without same x l ≡ l

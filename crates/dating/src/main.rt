@@ -1,71 +1,67 @@
 // The program of the dating register: frames on standard input, lines on standard output.
-// What a frame does and prints is proved of session::frame, against crates/session/specs/Program.antt; here bytes are only read and written.
+// What a frame does and prints, and where a run ends, is proved of session::step, against crates/session/specs/Program.antt; here bytes are only read and written.
 use libc::STDIN_FILENO;
 use libc::STDOUT_FILENO;
 use session::State;
+ghost use mathlib.Core.Path.{_≡_};
+ghost use mathlib.Core.Bool.{true};
+ghost use Prim.Native.Nat.{_≤_};
+ghost use lib.ListN.{length};
+ghost use Rattle.session.specs.Runs.{Lives};
+
+// The most bytes of a frame after its length.
+const MAX_FRAME: usize = 1024;
 
 // The state after a frame, and whether to go on.
-struct Turn {
+struct Turned {
     state: State,
     more: bool,
 }
 
-// A broken frame ends the run.
-fn broken(state: State) -> Turn {
-    let mut out = [0u8; 32];
-    let written = report::put_refused(14, &mut out, 0);
-    io::write_all(STDOUT_FILENO, &out[..written]);
-    Turn { state, more: false }
+// Reads the next frame, to its end even if it comes in small pieces, and answers how many bytes it is: two for the length, and, if that is
+// no more than a frame's, as many as it says. Fewer where the input ends.
+fn read_frame(bytes: &mut [u8]) -> usize
+    requires { ⌜ 1026 ≤ length (now bytes) ⌝ }
+    ensures { λ r. ⌜ r ≤ 1026 ⌝ }
+{
+    let got = io::read_full(STDIN_FILENO, &mut bytes[..2]);
+    if got < 2 {
+        return got;
+    }
+    let n = session::number16(bytes, 0) as usize;
+    if n > MAX_FRAME {
+        return got;
+    }
+    got + io::read_full(STDIN_FILENO, &mut bytes[2..n + 2])
 }
 
-// Answers a frame of n bytes, which stands at the front of bytes.
-fn answer(state: State, bytes: &[u8]) -> Turn {
-    if bytes.len() < 2 {
-        return broken(state);
-    }
+// Reads a frame and answers it.
+fn turn(state: State) -> Turned
+    ensures { λ r. ⌜ (Lives state → r .more ≡ true → Lives (r .state)) ⌝ }
+{
+    let mut bytes = [0u8; 1026];
     let mut work = [0u64; 4096];
     let mut list = [0u32; 4096];
     let mut out = [0u8; 65536];
-    let kind = session::number16(bytes, 0);
-    let framed = session::frame(state, kind, &bytes[2..], &mut work, &mut list, &mut out);
-    let written = framed.written;
-    let next = framed.state;
-    let more = io::write_all(STDOUT_FILENO, &out[..written]);
-    Turn { state: next, more }
-}
-
-// Reads a frame, to its end even if it comes in small pieces, and answers it.
-fn read_frame(state: State) -> Turn {
-    let mut head = [0u8; 2];
-    let got = io::read_full(STDIN_FILENO, &mut head);
-    if got == 0 {
-        return Turn { state, more: false };
+    let got = read_frame(&mut bytes);
+    let ran = session::step(state, &bytes[..got], &mut work, &mut list, &mut out);
+    let next = ran.state;
+    let written = ran.written;
+    let sent = io::write_all(STDOUT_FILENO, &out[..written]);
+    Turned {
+        state: next,
+        more: sent && ran.more,
     }
-    if got < 2 {
-        return broken(state);
-    }
-    let n = session::number16(&head, 0) as usize;
-    if n < 2 {
-        return broken(state);
-    }
-    if n > 1024 {
-        return broken(state);
-    }
-    let mut bytes = [0u8; 1024];
-    if io::read_full(STDIN_FILENO, &mut bytes[..n]) < n {
-        return broken(state);
-    }
-    answer(state, &bytes[..n])
 }
 
 fn main() {
     let mut state = session::unopened();
     let mut turns = u64::MAX;
     while turns > 0 {
-        let turn = read_frame(state);
-        let next = turn.state;
+        let turned = turn(state);
+        let next = turned.state;
         state = next;
-        if !turn.more {
+        if !turned.more {
             return;
         }
         turns -= 1;

@@ -2,8 +2,9 @@
 --   pairs-claim, chain-claim
 --                   what the questions promise gives what is claimed of them
 --   claims          answers and register of the book are all that is needed
---   replayed        what `replay` promises gives the claim for its words
---   demand-3        for every n from 1 to 1,024 and every list of calls
+--   demand-3        for every n from 1 to 1,024, every list of calls, and every question asked of the register at the end
+--   replayed-told, replayed-past
+--                   what `replay` promises of its list: the answers at the front, and the rest as it was
 -- Assumes nothing.
 use mathlib.Core.Path.{_≡_, refl, sym, ap, _∙_, subst}
 use mathlib.Core.List.{List, [], _∷_, _++_, map}
@@ -12,7 +13,7 @@ use Prim.Native.Nat.{ℕ, zero, suc, _+_, _*_, _≤_, _<_}
 use native.Mathlib.Omega.{arith}
 use lib.Dec.{leb, ltb}
 use lib.ListN.{length, take, drop, length-append, length-drop, length-map}
-use lib.Seq.{length-take-le, take-append-seam}
+use lib.Seq.{length-take-le, take-append-seam, drop-append-seam}
 use borrow.Author.Tests.{lt-leb, le-ltb}
 use Rattle.book.specs.Causes.{number, firstNumber}
 use Rattle.book.specs.Book.{Book, Call, fresh, answers, after, freshAnswer}
@@ -21,14 +22,16 @@ use Rattle.paths.specs.Expressions.{Expr}
 use Rattle.paths.specs.Grammar.{Verdict, accepted, Judged, verdictCause}
 use Rattle.paths.specs.Chains.{asked, Step, stepWords, Answers, First, Reply, none, chain, ChainIs, no-chain, first-chain}
 use Rattle.paths.specs.Relations.{PairsAre, pairs}
-use Rattle.paths.specs.PairLaws.{fit-inside, pairs-only}
+use Rattle.paths.specs.PairLaws.{fit-inside, pairs-are}
 use Rattle.paths.specs.FirstChain.{has-first}
 use Rattle.paths.specs.Verdicts.{verdict, verdict-only}
 use Rattle.paths.specs.Questions.{Outcome, refused, paired, replied, unless, pairsWork, chainWork, ReplyTo, steps, chainCauses, chainAnswer, pairsAnswer, over, listAfter}
 use Rattle.register.specs.Calls.{Represents, Opens, wordCall}
 use Rattle.register.specs.History.{Run, replayNumber, Replays}
 use Rattle.register.specs.HistoryLaws.{history}
+use Rattle.register.specs.Questions.{Listing, Locks}
 use Rattle.register.specs.declared.Register.{Register}
+use Rattle.register.specs.declared.Links.{Links}
 use Rattle.register.specs.declared.Opened.{Opened}
 use Rattle.pairs.specs.Asking.{Tells, told-number, told-pairs, AsksPairs}
 use Rattle.pairs.specs.AskingLaws.{asks-paired}
@@ -38,7 +41,7 @@ use Rattle.automaton.specs.WalkLaws.{length-stepWords}
 use Rattle.chains.specs.Replies.{outcomeOf, answerLength, Replies}
 use Rattle.chains.specs.declared.ChainAnswer.{ChainAnswer}
 use Rattle.chains.specs.declared.ChainAnswer.the-variants.{Chain, NoChain, Refused as NotAnswered}
-use Rattle.engine.specs.Demand.{PairsClaim, ChainClaim, Demand, History}
+use Rattle.engine.specs.Demand.{PairsClaim, ChainClaim, Demand}
 
 -- what a register shows lies within its records
 small : {e : Register} {b : Book} → Represents e b → b .n ≤ 1024
@@ -51,12 +54,16 @@ told-as ws (told-pairs {ws = vs}) e = let z : vs ≡ ws = cc in ap (λ (l : List
 
 pub pairs-claim : {e : Register} {b : Book} → Represents e b → (text : List ℕ) (work : ℕ) (before after′ : List ℕ) (a : PairsAnswer) → AsksPairs e text work before after′ a → PairsClaim b text work before after′ a
 unfolding listAfter asked
-pairs-claim {e} {b} R text work before after′ a Q f J w l P h =
+pairs-claim {e} {b} R text work before after′ a Q f J w =
     let v : accepted f ≡ verdict text = verdict-only J in
-    let s : l ≡ pairs (asked b) f = pairs-only (asked b) (fit-inside b (R .sheet .fit)) (small R) f l P in
-    let o : pairsAnswer b (verdict text) work (length before) ≡ paired l =
-    ap (λ (u : Verdict). pairsAnswer b u work (length before)) (sym v) ∙ asks-paired b work (length before) f w (subst (λ (m : List ℕ). length m ≤ length before) s h) ∙ ap paired (sym s) in
-    (told-as l (Q .tells b R) o, Q .list b R ∙ ap (λ (u : Outcome). listAfter u before) o)
+    let l = pairs (asked b) f in (
+      l,
+      pairs-are (asked b) (fit-inside b (R .sheet .fit)) (small R) f,
+      λ h.
+          let o : pairsAnswer b (verdict text) work (length before) ≡ paired l =
+          ap (λ (u : Verdict). pairsAnswer b u work (length before)) (sym v) ∙ asks-paired b work (length before) f w h in
+          (told-as l (Q .tells b R) o, Q .list b R ∙ ap (λ (u : Outcome). listAfter u before) o),
+    )
 
 -- ---- chain questions
 module _ {e : Register} {b : Book} (R : Represents e b) (x y : ℕ) (text : List ℕ) (work : ℕ) (before after′ : List ℕ) (a : ChainAnswer) (Q : Replies e x y text work before after′ a)
@@ -125,33 +132,56 @@ module _ {e : Register} {b : Book} (R : Represents e b) (x y : ℕ) (text : List
       let o = Q .answers b R t (reply-to t (first-chain (F .0) (F .1))) .0 in
       not-none (firstNumber (chainCauses b x y (verdict text) t work (length before))) (stepWords (F .0)) (sym (ap (λ (r : ChainAnswer). outcomeOf r after′) q) ∙ o)
 
+  -- where there is a chain there is a first one
+  first-of : (ts : List Step) → Answers (asked b) f x y ts
+      → (ss : List Step) × First (asked b) f x y ss × (length ss ≤ length before → (a ≡ Chain (length ss)) × (after′ ≡ over (stepWords ss) before))
+  first-of ts A = let F = has-first (asked b) (fit-inside b (R .sheet .fit)) f x y (ts, A) in (F .0, F .1, λ h. first-handed (F .0) (F .1) h)
+
 pub chain-claim : {e : Register} {b : Book} → Represents e b → (x y : ℕ) (text : List ℕ) (work : ℕ) (before after′ : List ℕ) (a : ChainAnswer) → Replies e x y text work before after′ a
     → ChainClaim b x y text work before after′ a
 chain-claim R x y text work before after′ a Q = record {
-  first = λ f J hx hy w ss F h. first-handed R x y text work before after′ a Q f J hx hy w ss F h;
+  first = λ f J hx hy w ts A. first-of R x y text work before after′ a Q f J hx hy w ts A;
   none = λ f J hx hy w n. none-handed R x y text work before after′ a Q f J hx hy w n;
   no-other = λ f J hx hy w q ss A. none-only R x y text work before after′ a Q f J hx hy w q ss A;
 }
 
 -- ---- the whole claim
-pub claims : (n : ℕ) (cs : List Call) {told : List ℕ} {e : Register} → told ≡ answers (fresh n) cs → Represents e (after (fresh n) cs) → Demand n cs told e
-claims n cs t R = record {
-  answers = t;
-  links = λ ls L. L .linked (after (fresh n) cs) R;
-  locks = R .sheet .locks;
-  pairs = pairs-claim R;
-  chains = chain-claim R;
-}
+module _ (n : ℕ) (cs : List Call) {told : List ℕ} {e : Register} {ls : Links} {locks : List Bool} (L : Listing e ls) (K : Locks e locks)
+    (text : List ℕ) (work : ℕ) (list list′ : List ℕ) (p : PairsAnswer) (P : AsksPairs e text work list list′ p)
+    (u : List ℕ) (x y work′ : ℕ) (steps steps′ : List ℕ) (t : ChainAnswer) (C : Replies e x y u work′ steps steps′ t) where
+  pub claims : told ≡ answers (fresh n) cs → Represents e (after (fresh n) cs)
+      → Demand n cs told (take (ls .count) (ls .words)) locks text work list list′ p u x y work′ steps steps′ t
+  claims a R = record {
+    answers = a;
+    links = L .linked (after (fresh n) cs) R;
+    locks = K .locked (after (fresh n) cs) R;
+    pairs = pairs-claim R text work list list′ p P;
+    chain = chain-claim R x y u work′ steps steps′ t C;
+  }
 
-pub demand-3 : (n : ℕ) {out : Opened} {e : Register} {cs : List Call} {told : List ℕ} → 1 ≤ n → n ≤ 1024 → Opens n out → Run (out .register) cs told e → Demand n cs told e
-unfolding freshAnswer
-demand-3 n {cs = cs} l h O run =
-    let z : freshAnswer n ≡ 0 = rw (le-ltb n 1 l, le-ltb 1024 n h) in
-    let o = history n (O .made z) run in
-    claims n cs (o .0) (o .1)
+  pub demand-3 : {out : Opened} → 1 ≤ n → n ≤ 1024 → Opens n out → Run (out .register) cs told e
+      → Demand n cs told (take (ls .count) (ls .words)) locks text work list list′ p u x y work′ steps steps′ t
+  unfolding freshAnswer
+  demand-3 l h O run =
+      let z : freshAnswer n ≡ 0 = rw (le-ltb n 1 l, le-ltb 1024 n h) in
+      let o = history n (O .made z) run in
+      claims (o .0) (o .1)
 
-pub replayed : (n : ℕ) (words old new : List ℕ) {out : Opened} → Replays n words old new out → replayNumber n words old ≡ 0 → History n words new (out .register)
-replayed n words old new P z =
+-- of a replay: the front of the list has the answers, and the rest is as it was
+pub replayed-told : (n : ℕ) (words old new : List ℕ) {out : Opened} → Replays n words old new out → replayNumber n words old ≡ 0 → take (length words) new ≡ answers (fresh n) (map wordCall words)
+replayed-told n words old new P z =
     let told = answers (fresh n) (map wordCall words) in
     let l : length told ≡ length words = answers-length (fresh n) (map wordCall words) ∙ length-map words wordCall in
-    claims n (map wordCall words) (ap (take (length words)) (P .told z) ∙ ap (λ (k : ℕ). take k (told ++ drop (length words) old)) (sym l) ∙ take-append-seam told (drop (length words) old)) (P .book z)
+    ap (take (length words)) (P .told z) ∙ ap (λ (k : ℕ). take k (told ++ drop (length words) old)) (sym l) ∙ take-append-seam told (drop (length words) old)
+
+pub replayed-past : (n : ℕ) (words old new : List ℕ) {out : Opened} → Replays n words old new out → drop (length words) new ≡ drop (length words) old
+replayed-past n words old new P = go (replayNumber n words old) refl
+  where
+    told : List ℕ
+    told = answers (fresh n) (map wordCall words)
+
+    go : (k : ℕ) → replayNumber n words old ≡ k → drop (length words) new ≡ drop (length words) old
+    go zero z =
+        let l : length told ≡ length words = answers-length (fresh n) (map wordCall words) ∙ length-map words wordCall in
+        ap (drop (length words)) (P .told z) ∙ ap (λ (k : ℕ). drop k (told ++ drop (length words) old)) (sym l) ∙ drop-append-seam told (drop (length words) old)
+    go (suc k) z = ap (drop (length words)) (P .refused (λ q. let w : _≡_ {A = ℕ} 0 (suc k) = sym q ∙ z in omega arith))

@@ -1,12 +1,237 @@
-// A whole history in one call, with everything that is claimed of it and of the questions asked after it.
+// The dating register: the calls that programs make. A register is a value; an edit hands the next one back, and a question changes nothing.
+// Every call takes any contents and any arguments, and what it promises is the whole of what it does: the answer, and everything that it was lent.
 ghost use mathlib.Core.Path.{_≡_};
-ghost use Rattle.register.specs.History.{replayNumber, Replays};
-ghost use Rattle.engine.specs.Demand.{History};
+ghost use mathlib.Core.List.{[], _∷_};
+ghost use lib.ListN.{length};
+ghost use Rattle.book.specs.Book.{add, remove, lock, unlock, edit, undo};
+ghost use Rattle.k2.specs.PairSets.{union, intersection, difference, product, transpose, closure};
+ghost use Rattle.tree.specs.Calls.{Answered, TreeOf, ListOf, TreeOfOne, TreeOfTwo};
+ghost use Rattle.register.specs.Calls.{Opens, Steps};
+ghost use Rattle.register.specs.Questions.{Sized, Listing, Locking};
+ghost use Rattle.pairs.specs.Asking.{AsksPairs};
+ghost use Rattle.chains.specs.Replies.{Replies};
+ghost use Rattle.engine.specs.Inquiries.{Inquires};
+use chains::ChainAnswer;
+use pairs::PairsAnswer;
+use register::Answer;
+use register::Links;
 use register::Opened;
+use register::Outcome;
+use register::Register;
 
-// The calls, as words, on a fresh register of n records; told takes the number of each answer.
-pub fn history(n: u16, calls: &[u64], told: &mut [u32]) -> Opened
-    ensures { λ r. ⌜ Replays n (now (calls .entry)) (now (told .entry)) (now (told .exit)) r × (replayNumber n (now (calls .entry)) (now (told .entry)) ≡ 0 → History n (now (calls .entry)) (now (told .exit)) (r .register)) ⌝ }
+// A fresh register of n records.
+pub fn open(n: u16) -> Opened
+    ensures { λ r. ⌜ Opens n r ⌝ }
 {
-    register::replay(n, calls, told)
+    Register::fresh(n)
+}
+
+// Adds a link.
+pub fn add(register: Register, from: u16, label: u8, to: u16) -> Outcome
+    ensures { λ r. ⌜ Steps register (edit (add (record { from = from; label = label; to = to }))) r ⌝ }
+{
+    register.add(from, label, to)
+}
+
+// Removes a link.
+pub fn remove(register: Register, from: u16, label: u8, to: u16) -> Outcome
+    ensures { λ r. ⌜ Steps register (edit (remove (record { from = from; label = label; to = to }))) r ⌝ }
+{
+    register.remove(from, label, to)
+}
+
+// Locks a record.
+pub fn lock(register: Register, record: u16) -> Outcome
+    ensures { λ r. ⌜ Steps register (edit (lock «record»)) r ⌝ }
+{
+    register.lock(record)
+}
+
+// Unlocks a record.
+pub fn unlock(register: Register, record: u16) -> Outcome
+    ensures { λ r. ⌜ Steps register (edit (unlock «record»)) r ⌝ }
+{
+    register.unlock(record)
+}
+
+// Takes the latest accepted edit back.
+pub fn undo(register: Register) -> Outcome
+    ensures { λ r. ⌜ Steps register undo r ⌝ }
+{
+    register.undo()
+}
+
+// The number of records.
+pub fn size(register: Register) -> usize
+    ensures { λ r. ⌜ Sized register r ⌝ }
+{
+    register.size()
+}
+
+// The links.
+pub fn links(register: Register) -> Links
+    ensures { λ r. ⌜ Listing register r ⌝ }
+{
+    register.links()
+}
+
+// Whether a record is locked.
+pub fn is_locked(register: Register, record: u16) -> bool
+    ensures { λ r. ⌜ Locking register «record» r ⌝ }
+{
+    register.is_locked(record)
+}
+
+// The pairs of an expression, ascending, each once.
+pub fn pairs(register: Register, text: &[u8], work: &mut [u64], list: &mut [u32]) -> PairsAnswer
+    ensures { λ a. ⌜ AsksPairs register (now (text .entry)) (length (now (work .entry))) (now (list .entry)) (now (list .exit)) a ⌝ }
+{
+    pairs::pairs(register, text, work, list)
+}
+
+// The first chain of an expression between two records.
+pub fn chain(
+    register: Register,
+    from: u16,
+    to: u16,
+    text: &[u8],
+    work: &mut [u64],
+    list: &mut [u32],
+) -> ChainAnswer
+    ensures { λ a. ⌜ Replies register from to (now (text .entry)) (length (now (work .entry))) (now (list .entry)) (now (list .exit)) a ⌝ }
+{
+    chains::chain(register, from, to, text, work, list)
+}
+
+// The tree of a list of pair words, in any order and with repeats.
+pub fn tree_make(n: usize, pairs: &[u32], out: &mut [u64], work: &mut [u64]) -> tree::Answer
+    ensures { λ r. ⌜ Answered n (now (pairs .entry)) [] (length (now (work .entry)))
+        (TreeOf n (now (pairs .entry))) (now (out .entry)) (now (out .exit)) r ⌝ }
+{
+    tree::make(n, pairs, out, work)
+}
+
+// The pairs of a tree, ascending.
+pub fn tree_list(n: usize, a: &[u64], out: &mut [u32], work: &mut [u64]) -> tree::Answer
+    ensures { λ r. ⌜ Answered n [] (now (a .entry) ∷ []) (length (now (work .entry)))
+        (ListOf n (now (a .entry))) (now (out .entry)) (now (out .exit)) r ⌝ }
+{
+    tree::list(n, a, out, work)
+}
+
+// The tree of the pairs in either.
+pub fn tree_union(n: usize, a: &[u64], b: &[u64], out: &mut [u64], work: &mut [u64]) -> tree::Answer
+    ensures { λ r. ⌜ Answered n [] (now (a .entry) ∷ now (b .entry) ∷ []) (length (now (work .entry)))
+        (TreeOfTwo union n (now (a .entry)) (now (b .entry))) (now (out .entry)) (now (out .exit)) r ⌝ }
+{
+    tree::union(n, a, b, out, work)
+}
+
+// The tree of the pairs in both.
+pub fn tree_intersection(
+    n: usize,
+    a: &[u64],
+    b: &[u64],
+    out: &mut [u64],
+    work: &mut [u64],
+) -> tree::Answer
+    ensures { λ r. ⌜ Answered n [] (now (a .entry) ∷ now (b .entry) ∷ []) (length (now (work .entry)))
+        (TreeOfTwo intersection n (now (a .entry)) (now (b .entry))) (now (out .entry)) (now (out .exit)) r ⌝ }
+{
+    tree::intersection(n, a, b, out, work)
+}
+
+// The tree of the pairs in the first and not in the second.
+pub fn tree_difference(
+    n: usize,
+    a: &[u64],
+    b: &[u64],
+    out: &mut [u64],
+    work: &mut [u64],
+) -> tree::Answer
+    ensures { λ r. ⌜ Answered n [] (now (a .entry) ∷ now (b .entry) ∷ []) (length (now (work .entry)))
+        (TreeOfTwo difference n (now (a .entry)) (now (b .entry))) (now (out .entry)) (now (out .exit)) r ⌝ }
+{
+    tree::difference(n, a, b, out, work)
+}
+
+// The tree of the product: the pairs for which some middle record serves.
+pub fn tree_product(
+    n: usize,
+    a: &[u64],
+    b: &[u64],
+    out: &mut [u64],
+    work: &mut [u64],
+) -> tree::Answer
+    ensures { λ r. ⌜ Answered n [] (now (a .entry) ∷ now (b .entry) ∷ []) (length (now (work .entry)))
+        (TreeOfTwo (product n) n (now (a .entry)) (now (b .entry))) (now (out .entry)) (now (out .exit)) r ⌝ }
+{
+    tree::product(n, a, b, out, work)
+}
+
+// The tree of the pairs exchanged.
+pub fn tree_transpose(n: usize, a: &[u64], out: &mut [u64], work: &mut [u64]) -> tree::Answer
+    ensures { λ r. ⌜ Answered n [] (now (a .entry) ∷ []) (length (now (work .entry)))
+        (TreeOfOne transpose n (now (a .entry))) (now (out .entry)) (now (out .exit)) r ⌝ }
+{
+    tree::transpose(n, a, out, work)
+}
+
+// The tree of the closure: one or more pairs that lead from one to the other.
+pub fn tree_closure(n: usize, a: &[u64], out: &mut [u64], work: &mut [u64]) -> tree::Answer
+    ensures { λ r. ⌜ Answered n [] (now (a .entry) ∷ []) (length (now (work .entry)))
+        (TreeOfOne (closure n) n (now (a .entry))) (now (out .entry)) (now (out .exit)) r ⌝ }
+{
+    tree::closure(n, a, out, work)
+}
+
+// What a history and the questions asked after it gave.
+pub struct Inquiry {
+    pub answer: Answer,
+    pub links: Links,
+    pub locks: [bool; 1024],
+    pub pairs: PairsAnswer,
+    pub chain: ChainAnswer,
+}
+
+// A whole history, its calls as words on a fresh register of n records, and then both questions about one expression: `told` takes the number of each
+// call's answer, `list` the pairs, `steps` the chain.
+pub fn inquire(
+    n: u16,
+    calls: &[u64],
+    told: &mut [u32],
+    text: &[u8],
+    from: u16,
+    to: u16,
+    work: &mut [u64],
+    list: &mut [u32],
+    steps: &mut [u32],
+) -> Inquiry
+    ensures { λ r. ⌜ Inquires n (now (calls .entry)) (now (told .entry)) (now (told .exit)) (now (text .entry)) from to (length (now (work .entry)))
+        (now (list .entry)) (now (list .exit)) (now (steps .entry)) (now (steps .exit)) r ⌝ }
+{
+    let opened = register::replay(n, calls, told);
+    let answer = opened.answer;
+    let register = opened.register;
+    let number = register::number_of(answer);
+    let links = register.links();
+    let locks = register.locks();
+    if number != 0 {
+        return Inquiry {
+            answer,
+            links,
+            locks,
+            pairs: PairsAnswer::Refused(number),
+            chain: ChainAnswer::Refused(number),
+        };
+    }
+    let pairs = pairs::pairs(register, text, work, list);
+    let chain = chains::chain(register, from, to, text, work, steps);
+    Inquiry {
+        answer,
+        links,
+        locks,
+        pairs,
+        chain,
+    }
 }

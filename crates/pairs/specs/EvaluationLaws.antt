@@ -22,7 +22,7 @@ use borrow.Author.Tests.{eq-eqb, ne-eqb, eqb-false}
 use lib.Seq.{getD-set-same, getD-set-other, take-take, take-add, take-append-seam, drop-append-seam}
 use Rattle.book.specs.Basics.{pick, bit}
 use Rattle.book.specs.Book.{Book, present}
-use Rattle.book.specs.BookLaws.{Fit}
+use Rattle.book.specs.Sheets.{Fit}
 use Rattle.k2.specs.PairSets.{Cells, IsSet, pairWord, setOf, union, transpose, product, closure}
 use Rattle.k2.specs.PairSetLaws.{union-set, product-set, transpose-set, closure-set, set-in, in-set, set-past}
 use Rattle.k2.specs.Trees.{treeWords, treeUnit}

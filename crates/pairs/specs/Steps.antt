@@ -13,7 +13,7 @@ use mathlib.Core.List.{List, _∷_}
 use Prim.Native.Nat.{ℕ, _≤_}
 use lib.ListN.{take, drop}
 use Rattle.book.specs.Book.{Book}
-use Rattle.book.specs.BookLaws.{Fit}
+use Rattle.book.specs.Sheets.{Fit}
 use Rattle.k2.specs.PairSets.{Cells}
 use Rattle.k2.specs.Trees.{treeUnit, treeWords}
 use Rattle.paths.specs.Expressions.{Expr, depth}

@@ -16,7 +16,8 @@ use borrow.Author.Tests.{ltb-true, lt-ltb}
 use Rattle.book.specs.Causes.{Cause, no-expression, too-many-bytes, too-large, short-work, short-list, questionOrder, InOrder, none-left, same-cause, passed-over}
 use Rattle.book.specs.Book.{Sheet, Book, Call, fresh, after}
 use Rattle.book.specs.ListLaws.{rises-same}
-use Rattle.book.specs.BookLaws.{Fit, fresh-sound, after-sound}
+use Rattle.book.specs.Sheets.{Fit}
+use Rattle.book.specs.BookLaws.{fresh-sound, after-sound}
 use Rattle.k2.specs.PairSetLaws.{in-listed, listed-in, listed-rises}
 use Rattle.paths.specs.Expressions.{Expr}
 use Rattle.paths.specs.Grammar.{Verdict, accepted, long, outside, large, verdictCause}

@@ -15,7 +15,7 @@ use Rattle.book.specs.Basics.{pick, In, here, there, Rises, ended, rises}
 use Rattle.book.specs.Causes.{maxRecords}
 use Rattle.book.specs.Book.{Link, Sheet, present}
 use Rattle.book.specs.ListLaws.{in-front, in-none, in-at, at-in, map-in, in-map, rises-least}
-use Rattle.book.specs.BookLaws.{Fit}
+use Rattle.book.specs.Sheets.{Fit}
 use Rattle.register.specs.Links.{linkWord, linkOf, Linked}
 use Rattle.register.specs.LinkLaws.{word-link}
 use Rattle.register.specs.Inner.{Seam}

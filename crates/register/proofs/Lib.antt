@@ -5,3 +5,4 @@ pub mod Showing
 pub mod Stepping
 pub mod Replaying
 pub mod Asking
+pub mod Keeping

@@ -17,7 +17,8 @@ use Rattle.book.specs.Basics.{pick, In, has, without}
 use Rattle.book.specs.Causes.{Cause, no-record, locked-end, already, missing, full, number, firstNumber, maxRecords, labels, maxLinks}
 use Rattle.book.specs.Book.{Link, sameLink, Sheet, Edit, add, remove, lock, unlock, present, isLocked, causes, editAnswer, edited}
 use Rattle.book.specs.SetLaws.{eqb-test, sameLink-test, and-both, or-neither, has-in, in-has, has-without, length-without, without-absent}
-use Rattle.book.specs.BookLaws.{first-none, first-proper, Proper, Fit, edited-fit}
+use Rattle.book.specs.Sheets.{Proper, Fit}
+use Rattle.book.specs.BookLaws.{first-none, first-proper, edited-fit}
 use Rattle.register.specs.Links.{linkWord, Linked}
 use Rattle.register.specs.Packed.{Packed, insert, kindUnit, heldWord, takeBackKind, takeBack, Shows}
 use Rattle.register.specs.Inner.{linkCauses}

@@ -10,7 +10,8 @@ use borrow.Author.Tests.{not-true, not-false}
 use Rattle.book.specs.Basics.{Rises, has}
 use Rattle.book.specs.Causes.{already, missing, full, firstNumber, number, maxRecords, maxLinks, maxHeld}
 use Rattle.book.specs.Book.{Link, Sheet, Book, Edit, add, remove, Call, edit, undo, editAnswer, turned, undoAnswer, undone, freshAnswer, fresh, answer, next}
-use Rattle.book.specs.BookLaws.{Proper, first-proper}
+use Rattle.book.specs.Sheets.{Proper}
+use Rattle.book.specs.BookLaws.{first-proper}
 use Rattle.register.specs.Links.{linkWord}
 use Rattle.register.specs.Packed.{Packed, heldWord, takeBackKind, takeBack, Piled}
 use Rattle.register.specs.Calls.{heldWords, packedOf, Ranged, Represents, Opens, Steps}

@@ -10,8 +10,7 @@ use native.Mathlib.Omega.{arith}
 use lib.Dec.{eqb}
 use lib.ListN.{length, take, getD}
 use Rattle.book.specs.Book.{sameLink, Sheet, Book, add, remove, lock, unlock, Call, edit, undo, isLocked, next, fresh, answers, after}
-use Rattle.book.specs.SetLaws.{Distinct}
-use Rattle.book.specs.BookLaws.{Fit, All, all-none, all-more, Sound}
+use Rattle.book.specs.Sheets.{Distinct, Fit, All, all-none, all-more, Sound}
 use Rattle.register.specs.Links.{Linked}
 use Rattle.register.specs.Packed.{Packed, takeBack, Piled}
 use Rattle.register.specs.Calls.{heldWords, packedOf, Represents, callOf, wordCall}

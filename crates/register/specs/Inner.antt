@@ -7,6 +7,9 @@
 --   linkCauses n locks k
 --                   the causes against the ends and the label of a link, in their order
 --   hasAt unit r w  whether a word has the record r in the ten bits from unit on
+--   Flags ws        every word is 0 or 1
+--   Formed ws       the words of a register, as they are told: their number, n of 16 bits, each lock 0 or 1
+--   Tested P ok     ok is whether P
 --   Guarded, Checks, Holding, Changed, TakenBack
 --                   what `ranged`, `check_link`, `hold`, the inner edits and `taken_back` promise
 -- Assumes nothing: these are definitions.
@@ -84,3 +87,15 @@ pub record Changed (self : Register) (p : Packed) (r : Register) : Type 0 where
 pub record TakenBack (self : Register) (kind x : ℕ) (r : Register) : Type 0 where
   pub kept : Kept self r
   pub sheet : Rises 0 (packedOf self .links) → length (takeBackKind kind x (packedOf self) .links) ≤ maxLinks → packedOf r ≡ takeBackKind kind x (packedOf self)
+
+abbrev pub Flags : List ℕ → Type 0
+Flags ws = (i : ℕ) → getD ws i 0 ≤ 1
+
+pub record Formed (ws : List ℕ) : Type 0 where
+  pub long : length ws ≡ 5380
+  pub size : getD ws 0 0 < 65536
+  pub flags : Flags (drop 4356 ws)
+
+pub record Tested (P : Type 0) (ok : Bool) : Type 0 where
+  pub sure : ok ≡ true → P
+  pub none : ok ≡ false → P → ⊥

@@ -6,3 +6,5 @@ pub mod History
 pub mod Questions
 pub mod LinkLaws
 pub mod HistoryLaws
+pub mod Words
+pub mod WordLaws

@@ -11,7 +11,7 @@ use Rattle.book.specs.Causes.{maxRecords}
 use Rattle.book.specs.Book.{Link, sameLink, Sheet, present}
 use Rattle.book.specs.ListLaws.{rises-same}
 use Rattle.book.specs.SetLaws.{eqb-test, sameLink-test, has-in, in-has}
-use Rattle.book.specs.BookLaws.{Proper, Fit}
+use Rattle.book.specs.Sheets.{Proper, Fit}
 use Rattle.register.specs.Links.{linkWord, linkOf, Linked}
 
 pub linkOf-word : (k : Link) → k .from < 1024 → k .to < 1024 → linkOf (linkWord k) ≡ k

@@ -16,7 +16,7 @@ use lib.ListN.{length, getD, set}
 use lib.Dec.{eqb, ltb}
 use Rattle.book.specs.Basics.{pick, without}
 use Rattle.book.specs.Book.{Sheet, Edit, add, remove, lock, unlock, isLocked}
-use Rattle.book.specs.BookLaws.{Fit}
+use Rattle.book.specs.Sheets.{Fit}
 use Rattle.register.specs.Links.{linkWord, Linked}
 
 pub record Packed : Type 0 where

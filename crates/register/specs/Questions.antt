@@ -1,6 +1,9 @@
--- What the questions are given of a register: its links as a slice of words, the part of one label, and the next link out of or into a record.
+-- What is read of a register: its size, its locks, its links as a slice of words, the part of one label, and the next link out of or into a record.
 --   Sized self n    what `size` promises: at most 1,024, and the number of records of every book that the register represents
 --   Listing self r  what `links` promises: at most 4,096 words, and for every book that the register represents, the words of its links
+--   Locks self r    what `locks` promises: for every book that the register represents, whether each record is locked
+--   Locking self k r
+--                   what `is_locked` promises: the same of the record k
 --   pairOf w        the pair of a link's word, from × 1,024 + to
 --   PairsOf s l ps  ps are the pairs x × 1,024 + y of the links x l y of the sheet s, ascending, each once
 --   LabelPart ws l part
@@ -18,14 +21,14 @@
 use mathlib.Core.Path.{_≡_}
 use mathlib.Core.Logic.{_⊎_}
 use mathlib.Core.List.{List, [], _∷_, map}
-use mathlib.Core.Bool.{Bool, true}
+use mathlib.Core.Bool.{Bool, true, false}
 use Prim.Native.Nat.{ℕ, suc, _+_, _*_, _%_, _≤_, _<_, min}
 use lib.ListN.{length, take, drop, getD}
 use lib.Dec.{eqb}
 use Rattle.book.specs.Basics.{pick, In, Rises}
 use Rattle.book.specs.Causes.{maxRecords, maxLinks}
-use Rattle.book.specs.Book.{Link, Sheet, Book, present}
-use Rattle.book.specs.BookLaws.{Fit}
+use Rattle.book.specs.Book.{Link, Sheet, Book, present, isLocked}
+use Rattle.book.specs.Sheets.{Fit}
 use Rattle.register.specs.Links.{linkWord, linkOf, Linked}
 use Rattle.register.specs.Calls.{Represents}
 use Rattle.register.specs.declared.Register.{Register}
@@ -39,6 +42,13 @@ pub record Listing (self : Register) (r : Links) : Type 0 where
   pub few : r .count ≤ maxLinks
   pub long : length (r .words) ≡ maxLinks
   pub linked : (b : Book) → Represents self b → Linked (take (r .count) (r .words)) (b .sheet)
+
+pub record Locks (self : Register) (r : List Bool) : Type 0 where
+  pub long : length r ≡ maxRecords
+  pub locked : (b : Book) → Represents self b → (k : ℕ) → getD r k false ≡ isLocked (b .sheet) k
+
+abbrev pub Locking : Register → ℕ → Bool → Type 0
+Locking self k r = (b : Book) → Represents self b → r ≡ isLocked (b .sheet) k
 
 abbrev pub pairOf : ℕ → ℕ
 pairOf w = w % 1048576

@@ -7,9 +7,11 @@ use native.Mathlib.Numerals.{add-one}
 use native.Mathlib.Decide.{decLt, ℕ-discrete}
 use native.Mathlib.Omega.{arith}
 use lib.Bits.{bitAnd, bitOr}
+use lib.Count.{trailingZeros, trailing-le}
 use lib.ListN.{getD}
 use borrow.Author.Tests.{lt-ltb, le-ltb, eq-eqb, ne-eqb}
 use Rattle.k2.specs.Bits.{digit, bitAt}
+use Rattle.k2.specs.WordLaws.{trailing-clear}
 use Rattle.k2.specs.DigitLaws.{digit-and, digit-none}
 use Rattle.k2.specs.BitLaws.{Bits, bit-lt, bit-in, bit-zero}
 use Rattle.k2.specs.PairSets.{Cells, IsSet, transpose, most, serves, product}
@@ -66,6 +68,14 @@ module _ (a b : List ℕ) (i j : ℕ) where
   meets-word s z k l h =
       let e : k ≡ s * 64 + (k - s * 64) = omega arith in
       rw e (meets-in s (k - s * 64) (omega arith) ∙ rw z (digit-none (k - s * 64)))
+
+  -- nor do the records before the first bit in common
+  pub meets-passed : (s k : ℕ) → s * 64 ≤ k → k < s * 64 + trailingZeros 64 (bitAnd (getD a (i * 16 + s) 0) (getD b (j * 16 + s) 0))
+      → meets (bitAt a) (bitAt b) i j k ≡ 0
+  meets-passed s k l h =
+      let both = bitAnd (getD a (i * 16 + s) 0) (getD b (j * 16 + s) 0) in
+      let e : k ≡ s * 64 + (k - s * 64) = omega arith in
+      rw e (meets-in s (k - s * 64) (omega (arith, trailing-le 64 both)) ∙ trailing-clear 64 both (k - s * 64) (omega arith))
 
 pub served-bit : (a b : List ℕ) (i j : ℕ) → served (bitAt a) (bitAt b) i j < 2
 unfolding served

@@ -161,7 +161,7 @@ fn occupied(rows: &[u64], n: usize, list: &mut [u32]) -> usize
 }
 
 // 1 if some middle record serves, that is, row i of a and row j of b have a column in common, else 0. The search goes over the squares, and
-// in a square that has such a column over its records, and is left at the first that serves.
+// in a square that has such a column over its records, those before its first one passed at once, and is left at the first that serves.
 fn serves(a: &[u64], i: usize, b: &[u64], j: usize) -> u64
     requires { ⌜ (length (now a) ≡ 16384) × (i < 1024) × (length (now b) ≡ 16384) × (j < 1024) ⌝ }
     ensures { λ r. ⌜ r ≡ served (bitAt (now (a .entry))) (bitAt (now (b .entry))) i j ⌝ }
@@ -171,7 +171,7 @@ fn serves(a: &[u64], i: usize, b: &[u64], j: usize) -> u64
     'search: while s < 16 {
         let both = a[i * 16 + s] & b[j * 16 + s];
         if both != 0 {
-            let mut k: u32 = 0;
+            let mut k = u64::trailing_zeros(both);
             while k < 64 {
                 if (both >> k) % 2 == 1 {
                     found = 1;

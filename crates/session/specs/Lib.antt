@@ -6,3 +6,5 @@ pub mod TurnLaws
 pub mod ProgramLaws
 pub mod RunLaws
 pub mod Listing
+pub mod Runs
+pub mod RunsLaws

@@ -18,7 +18,8 @@ use borrow.Author.Tests.{le-ltb, lt-leb}
 use Rattle.book.specs.Basics.{pick}
 use Rattle.book.specs.Causes.{number, firstNumber}
 use Rattle.book.specs.Book.{Book, fresh}
-use Rattle.book.specs.BookLaws.{Sound, next-sound, fresh-sound}
+use Rattle.book.specs.Sheets.{Sound}
+use Rattle.book.specs.BookLaws.{next-sound, fresh-sound}
 use Rattle.k2.specs.PairSets.{Cells, pairWord, ifSet, rowPairs, rowsPairs, listed}
 use Rattle.k2.specs.Trees.{height, treeUnit}
 use Rattle.k2.specs.HeightLaws.{height-is}

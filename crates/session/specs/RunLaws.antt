@@ -1,6 +1,7 @@
 -- A run is determined: for every input there is one output, and only one.
 --   run-exists      there is an output
 --   run-only        there is no other
+--   framed-as       a turn of a run, if it is known which frame stands in the bytes and what follows it
 -- Assumes nothing.
 use mathlib.Core.Path.{_≡_, refl, sym, ap, ap₂, subst, _∙_}
 use mathlib.Core.Logic.{_⊎_, inl, inr}
@@ -98,3 +99,10 @@ module _ (work room : ℕ) where
   run-only (framed v t j k l r m) (cut h) = absurd (omega arith)
   run-only (framed {s = s} {a = a} {b = b} {i = i} v t j k l r m) (framed w u j′ k′ l′ r′ m′) =
       ap₂ (λ (x y : List ℕ). x ++ y) (printed-only s (frameIn (a + 256 * b) i) v w t u r r′) (run-only m m′)
+
+  pub framed-as : {s : Session} (a b : ℕ) (i j o : List ℕ) (f : Frame) (v : Verdict) (t : Reply) → frameIn (a + 256 * b) i ≡ f → drop (a + 256 * b) i ≡ j
+      → minFrame ≤ a + 256 * b → a + 256 * b ≤ maxFrame → a + 256 * b ≤ length i → Right s f v t → Run work room (nextSession s f) j o
+      → Run work room s (a ∷ b ∷ i) (printed work room s f v t ++ o)
+  framed-as {s} a b i j o f v t e d h k l =
+      subst (λ (g : Frame). Right s g v t → Run work room (nextSession s g) j o → Run work room s (a ∷ b ∷ i) (printed work room s g v t ++ o)) e
+      (λ r m. framed {a = a} {b = b} {i = i} v t h k l r (subst (λ (x : List ℕ). Run work room (nextSession s (frameIn (a + 256 * b) i)) x o) (sym d) m))

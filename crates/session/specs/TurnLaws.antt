@@ -26,7 +26,7 @@ use Rattle.session.specs.Turns.{Holds, is-closed, is-open, room, Turns, 
 use Rattle.session.specs.declared.State.{State}
 use Rattle.session.specs.declared.Framed.{Framed}
 
-both-ways : (b : Bool) → b ≡ true → b ≡ false → ⊥
+pub both-ways : (b : Bool) → b ≡ true → b ≡ false → ⊥
 both-ways b h k = let z : _≡_ {A = ℕ} 0 1 = cc in omega arith
 
 -- ---- opening

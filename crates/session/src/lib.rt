@@ -1,11 +1,13 @@
 // One frame of the program: what it does to the session, and which bytes it prints. What is right is defined in specs/Program.antt.
 ghost use mathlib.Core.Path.{_≡_};
+ghost use mathlib.Core.Bool.{true};
 ghost use Prim.Native.Nat.{ℕ, _+_, _≤_, _<_};
 ghost use lib.ListN.{length, getD};
 ghost use Rattle.session.specs.Program.{decode as Program·decode, number16 as Program·number16};
 ghost use Rattle.session.specs.Program.{opening, call as Program·call, pairs, chain, asks, unopened as Program·unopened};
 ghost use Rattle.session.specs.Says.{says, Long, callOf};
 ghost use Rattle.session.specs.Turns.{Holds, room, Turns, Framing};
+ghost use Rattle.session.specs.Runs.{Advances, Front};
 ghost use Rattle.register.specs.Calls.{Steps};
 ghost use Rattle.report.specs.Report.{refusedText, outcomeText};
 ghost use Rattle.report.specs.Written.{Wrote};
@@ -27,6 +29,11 @@ const NOT_OPEN: u32 = 16;
 
 const MOST_RECORDS: u16 = 64;
 
+// The least and the most that the length of a frame may be.
+const MIN_FRAME: usize = 2;
+
+const MAX_FRAME: usize = 1024;
+
 // Whether a register is opened, and the register.
 pub struct State {
     opened: bool,
@@ -37,6 +44,14 @@ pub struct State {
 pub struct Framed {
     pub state: State,
     pub written: usize,
+}
+
+// How far a run came: the state then, how many bytes of input it read and of output it printed, and whether there is more to do.
+pub struct Ran {
+    pub state: State,
+    pub read: usize,
+    pub written: usize,
+    pub more: bool,
 }
 
 // An edit or undo. A link's parts are from, label and to.
@@ -134,7 +149,7 @@ pub fn decode(kind: u16, body: &[u8]) -> Decoded
 pub fn unopened() -> State
     ensures { λ r. ⌜ Holds r Program·unopened ⌝ }
 {
-    let made = Register::fresh(1);
+    let made = engine::open(1);
     let register = made.register;
     State {
         opened: false,
@@ -155,11 +170,11 @@ fn apply(register: Register, call: Call) -> Outcome
     ensures { λ r. ⌜ Steps register (callOf call) r ⌝ }
 {
     match call {
-        Call::Add(x, l, y) => register.add(x, l, y),
-        Call::Remove(x, l, y) => register.remove(x, l, y),
-        Call::Lock(r) => register.lock(r),
-        Call::Unlock(r) => register.unlock(r),
-        Call::Undo => register.undo(),
+        Call::Add(x, l, y) => engine::add(register, x, l, y),
+        Call::Remove(x, l, y) => engine::remove(register, x, l, y),
+        Call::Lock(r) => engine::lock(register, r),
+        Call::Unlock(r) => engine::unlock(register, r),
+        Call::Undo => engine::undo(register),
     }
 }
 
@@ -173,7 +188,7 @@ fn open(state: State, n: u16, out: &mut [u8]) -> Framed
     if MOST_RECORDS < n {
         return refuse(state, BAD_SIZE, out);
     }
-    let made = Register::fresh(n);
+    let made = engine::open(n);
     let register = made.register;
     let written = report::put_ok(out, 0);
     Framed {
@@ -231,7 +246,7 @@ fn ask_chain(
     if !state.opened {
         return refuse(state, NOT_OPEN, out);
     }
-    let answer = chains::chain(state.register, x, y, text, work, list);
+    let answer = engine::chain(state.register, x, y, text, work, list);
     let written = put_reply(answer, list, out);
     Framed { state, written }
 }
@@ -264,7 +279,7 @@ fn ask_pairs(
     if !state.opened {
         return refuse(state, NOT_OPEN, out);
     }
-    let answer = pairs::pairs(state.register, text, work, list);
+    let answer = engine::pairs(state.register, text, work, list);
     let written = put_listing(answer, list, out);
     Framed { state, written }
 }
@@ -291,5 +306,104 @@ pub fn frame(
         Decoded::Chain(x, y) => ask_chain(state, x, y, &body[4..], work, list, out),
         Decoded::Broken => refuse(state, BROKEN_FRAME, out),
         Decoded::Unknown => refuse(state, UNKNOWN_KIND, out),
+    }
+}
+
+// The length of the frame at the front of the input, or 0 where no whole frame of a right length stands there.
+fn front(input: &[u8]) -> usize
+    requires { ⌜ 0 < length (now input) ⌝ }
+    ensures { λ r. ⌜ Front (now (input .entry)) r ⌝ }
+{
+    let most = input.len();
+    if most < 2 {
+        return 0;
+    }
+    let n = number16(input, 0) as usize;
+    if n < MIN_FRAME {
+        return 0;
+    }
+    if n > MAX_FRAME {
+        return 0;
+    }
+    if most - 2 < n {
+        return 0;
+    }
+    n
+}
+
+// One turn of a run: the frame at the front of the input, or the run's end. With too little room for what a frame may print, nothing.
+pub fn step(state: State, input: &[u8], work: &mut [u64], list: &mut [u32], out: &mut [u8]) -> Ran
+    ensures { λ r. ⌜ Advances state (now (input .entry)) (length (now (work .entry))) (length (now (list .entry))) (now (out .entry)) (now (out .exit)) r ⌝ }
+    ensures { λ r. ⌜ (room (length (now (list .entry))) ≤ length (now (out .entry)) → r .more ≡ true → 0 < r .read) ⌝ }
+{
+    if out.len() / 13 < list.len() + 3 {
+        return Ran {
+            state,
+            read: 0,
+            written: 0,
+            more: true,
+        };
+    }
+    if input.len() == 0 {
+        return Ran {
+            state,
+            read: 0,
+            written: 0,
+            more: false,
+        };
+    }
+    let n = front(input);
+    if n == 0 {
+        let written = report::put_refused(BROKEN_FRAME, out, 0);
+        return Ran {
+            state,
+            read: 0,
+            written,
+            more: false,
+        };
+    }
+    let read = n + 2;
+    let kind = number16(input, 2);
+    let framed = frame(state, kind, &input[4..read], work, list, out);
+    let next = framed.state;
+    let written = framed.written;
+    Ran {
+        state: next,
+        read,
+        written,
+        more: true,
+    }
+}
+
+// A run over the whole input, as far as there is room for what it prints.
+pub fn run(state: State, input: &[u8], work: &mut [u64], list: &mut [u32], out: &mut [u8]) -> Ran
+    ensures { λ r. ⌜ Advances state (now (input .entry)) (length (now (work .entry))) (length (now (list .entry))) (now (out .entry)) (now (out .exit)) r ⌝ }
+    ensures { λ r. ⌜ (r .more ≡ true → length (now (out .entry)) < r .written + room (length (now (list .entry)))) ⌝ }
+{
+    let mut state = state;
+    let mut read = 0;
+    let mut written = 0;
+    loop {
+        let ran = step(state, &input[read..], work, list, &mut out[written..]);
+        let next = ran.state;
+        state = next;
+        read += ran.read;
+        written += ran.written;
+        if !ran.more {
+            return Ran {
+                state,
+                read,
+                written,
+                more: false,
+            };
+        }
+        if ran.read == 0 {
+            return Ran {
+                state,
+                read,
+                written,
+                more: true,
+            };
+        }
     }
 }

@@ -1,27 +1,29 @@
--- `main` is safe and ends. The loop's invariant: turns only fall. The measure is the number of turns left. Assumes nothing.
-use Prim.Native.Nat.{_≤_}
+-- `dating::main` is safe and ends. The loop's invariant: the state is that of some session. The measure is the number of turns left. Assumes nothing.
 use native.Mathlib.Omega.{arith}
+use Rattle.session.specs.Program.{unopened}
+use Rattle.session.specs.Runs.{Lives}
+use borrow.Author.Tests.{not-false}
 use borrow.Author.Needs.{needs}
 use Rattle.dating.proofs.main.Statement.{statement}
 use Rattle.dating.proofs.main.Tie as tie
 
 abbrev Inv-loop : tie.InvT-loop
-Inv-loop state₀ turns₀ state turns = turns ≤ turns₀
+Inv-loop state₀ turns₀ state turns = Lives state
 
 abbrev μ-loop : tie.MeasureT-loop
 μ-loop state₀ turns₀ state turns = turns
 
 unopened-requires : tie.Need-unopened-requires Inv-loop μ-loop
-unopened-requires c κs = search needs
+unopened-requires c κs = tt
 
 loop-holds : tie.Need-loop-holds Inv-loop μ-loop
-loop-holds c = omega arith
+loop-holds c = (unopened, c .«unopened» .ensures)
 
-read-frame-requires : tie.Need-read-frame-requires Inv-loop μ-loop
-read-frame-requires c κs = search needs
+turn-requires : tie.Need-turn-requires Inv-loop μ-loop
+turn-requires c κs = tt
 
 returns : tie.Need-returns Inv-loop μ-loop
-returns c = search needs
+returns c = tt
 
 sub-turns : tie.Need-sub-turns Inv-loop μ-loop
 sub-turns c = omega arith
@@ -30,10 +32,10 @@ loop-less : tie.Need-loop-less Inv-loop μ-loop
 loop-less c = omega arith
 
 loop-again : tie.Need-loop-again Inv-loop μ-loop
-loop-again c = omega arith
+loop-again c = c .before .before .before .turn .ensures (c .before .before .before .before .before .loop .inv) (not-false _ (c .if1 .left))
 
 returns-2 : tie.Need-returns-2 Inv-loop μ-loop
-returns-2 c = search needs
+returns-2 c = tt
 
 pub main-spec : {M : Type 1} → statement M
 main-spec =
@@ -43,7 +45,7 @@ main-spec =
     μ-loop
     unopened-requires
     loop-holds
-    read-frame-requires
+    turn-requires
     returns
     sub-turns
     loop-less

@@ -1,29 +1,29 @@
--- `read_frame` is safe and ends: a frame has at most 1,024 bytes, which the buffer holds. Assumes nothing.
+-- `dating::read_frame` meets its contract: two bytes, and at most 1,024 after them, which the buffer has room for. Assumes nothing.
 use mathlib.Core.Path.{sym}
+use mathlib.Core.List.{_++_}
+use Prim.Native.Nat.{_+_, _-_, _≤_}
 use native.Mathlib.Omega.{arith}
-use lib.ListN.{length-append}
+use denote.Ref.{now}
+use lib.ListN.{drop, length-take}
 use lib.Seq.{length-take-le}
 use borrow.Author.Needs.{needs}
 use Rattle.dating.proofs.read_frame.Statement.{statement}
 use Rattle.dating.proofs.read_frame.Tie as tie
 
+slice-relend-prefix-read-full : tie.Need-slice-relend-prefix-read-full
+slice-relend-prefix-read-full c = search needs
+
 slice-aggregate-read-full : tie.Need-slice-aggregate-read-full
-slice-aggregate-read-full c = search needs
+slice-aggregate-read-full c = sym (length-take-le 2 (now (c .before .before .args .bytes)) (omega arith))
 
 read-full-requires : tie.Need-read-full-requires
 read-full-requires c κs = search needs
 
+same-length : tie.Need-same-length
+same-length c = search needs
+
 returns : tie.Need-returns
 returns c = search needs
-
-broken-requires : tie.Need-broken-requires
-broken-requires c κs = search needs
-
-returns-2 : tie.Need-returns-2
-returns-2 c = search needs
-
-slice-aggregate-number16 : tie.Need-slice-aggregate-number16
-slice-aggregate-number16 c = search needs
 
 number16-requires : tie.Need-number16-requires
 number16-requires c κs = search needs
@@ -31,71 +31,67 @@ number16-requires c κs = search needs
 cast-n : tie.Need-cast-n
 cast-n c = search needs
 
-broken-requires-2 : tie.Need-broken-requires-2
-broken-requires-2 c κs = search needs
+same-length-2 : tie.Need-same-length-2
+same-length-2 c = search needs
 
-returns-3 : tie.Need-returns-3
-returns-3 c = search needs
+-- the length is at most two bytes
+two : (c : tie.After-read-full) → c .read-full .result ≤ 2
+two c =
+    let k = c .read-full .kept .1 .0 in
+    omega (arith, c .read-full .ensures .0, k, length-take 2 (now (c .before .before .before .args .bytes)))
 
-broken-requires-3 : tie.Need-broken-requires-3
-broken-requires-3 c κs = search needs
+returns-2 : tie.Need-returns-2
+returns-2 c = omega (arith, two (c .before .before .before .before .before .before))
 
-returns-4 : tie.Need-returns-4
-returns-4 c = search needs
+add-read-full : tie.Need-add-read-full
+add-read-full c = search needs
 
-array-borrow-prefix-bytes : tie.Need-array-borrow-prefix-bytes
-array-borrow-prefix-bytes c = search needs
+sub-read-full : tie.Need-sub-read-full
+sub-read-full c = search needs
 
-slice-aggregate-read-full-2 : tie.Need-slice-aggregate-read-full-2
-slice-aggregate-read-full-2 c = sym (length-take-le _ _ (array-borrow-prefix-bytes (c .before)))
+part-read-full-start : tie.Need-part-read-full-start
+part-read-full-start c = search needs
+
+part-read-full-end : tie.Need-part-read-full-end
+part-read-full-end c = search needs
 
 read-full-requires-2 : tie.Need-read-full-requires-2
 read-full-requires-2 c κs = search needs
 
-broken-requires-4 : tie.Need-broken-requires-4
-broken-requires-4 c κs = search needs
+-- and what follows at most as many as it says
+rest : (c : tie.After-read-full2) → c .read-full2 .result ≤ 1024
+rest c =
+    let k = c .read-full2 .kept .1 .0 in
+    let n = c .before .before .before .number16 .result in
+    omega (arith, c .read-full2 .ensures .0, k, length-take (n + 2 - 2) (drop 2 (c .before .before .before .before .before .before .before .before .read-full .last .1 .0 ++ drop 2 (now (c .before .before .before .before .before .before .before .before .before .before .before .args .bytes)))))
 
-returns-5 : tie.Need-returns-5
-returns-5 c = search needs
+add-result : tie.Need-add-result
+add-result c = omega (arith, two (c .before .before .before .before .before .before .before .before .before .before), rest (c .before .before))
 
-array-share-prefix-bytes : tie.Need-array-share-prefix-bytes
-array-share-prefix-bytes c =
-    let r = c .before .before in
-    let k = r .read-full2 .kept .1 .0 in
-    let l = slice-aggregate-read-full-2 (r .before) in
-    rw (length-append (r .read-full2 .last .1 .0) _) (omega (arith, k, l))
+same-length-3 : tie.Need-same-length-3
+same-length-3 c = search needs
 
-slice-aggregate-answer : tie.Need-slice-aggregate-answer
-slice-aggregate-answer c = sym (length-take-le _ _ (array-share-prefix-bytes (c .before)))
-
-answer-requires : tie.Need-answer-requires
-answer-requires c κs = search needs
-
-returns-6 : tie.Need-returns-6
-returns-6 c = search needs
+returns-3 : tie.Need-returns-3
+returns-3 c = omega (arith, two (c .before .before .before .before .before .before .before .before .before .before), rest (c .before .before))
 
 pub read-frame-spec : {M : Type 1} → statement M
 read-frame-spec =
     tie.close
     (tie.spec
+    slice-relend-prefix-read-full
     slice-aggregate-read-full
     read-full-requires
+    same-length
     returns
-    broken-requires
-    returns-2
-    slice-aggregate-number16
     number16-requires
     cast-n
-    broken-requires-2
-    returns-3
-    broken-requires-3
-    returns-4
-    array-borrow-prefix-bytes
-    slice-aggregate-read-full-2
+    same-length-2
+    returns-2
+    add-read-full
+    sub-read-full
+    part-read-full-start
+    part-read-full-end
     read-full-requires-2
-    broken-requires-4
-    returns-5
-    array-share-prefix-bytes
-    slice-aggregate-answer
-    answer-requires
-    returns-6)
+    add-result
+    same-length-3
+    returns-3)

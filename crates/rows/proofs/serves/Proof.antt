@@ -4,10 +4,13 @@ use mathlib.Core.Path.{_≡_, refl, sym, _∙_}
 use mathlib.Core.Logic.{⊎-elim}
 use Prim.Native.Nat.{_≤_, _+_, _-_, _*_}
 use native.Mathlib.Omega.{arith}
+use lib.Bits.{bitAnd}
+use lib.Count.{trailingZeros, trailing-le}
+use lib.ListN.{getD}
 use Rattle.k2.specs.Bits.{digit, bitAt}
 use Rattle.k2.specs.PairSets.{most}
 use Rattle.rows.specs.Steps.{meets, served}
-use Rattle.rows.proofs.Search.{most-more, most-hit, most-far, meets-bits, meets-in, meets-word}
+use Rattle.rows.proofs.Search.{most-more, most-hit, most-far, meets-bits, meets-in, meets-word, meets-passed}
 use Rattle.rows.proofs.serves.Statement.{statement}
 use Rattle.rows.proofs.serves.Tie as tie
 
@@ -54,8 +57,12 @@ shared-slice-read-both-2 c = omega arith
 loop-holds : tie.Need-loop-holds Inv-loop μ-loop Inv-search μ-search
 loop-holds c =
     let S = c .before .before .before .before .search in
-    let e : S .s * 64 + 0 ≡ S .s * 64 = omega arith in
-    (omega arith, S .inv .1, rw e (S .inv .2))
+    let a = c .before .before .before .before .before .args in
+    let both = bitAnd (getD (a .a .now) (a .i * 16 + S .s) 0) (getD (a .b .now) (a .j * 16 + S .s) 0) in (
+      trailing-le 64 both,
+      S .inv .1,
+      most-far (S .s * 64) (trailingZeros 64 both) _ (S .inv .2) (meets-passed (a .a .now) (a .b .now) (a .i) (a .j) (S .s)),
+    )
 
 cast-if2 : tie.Need-cast-if2 Inv-loop μ-loop Inv-search μ-search
 cast-if2 c = omega arith

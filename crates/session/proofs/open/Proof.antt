@@ -35,8 +35,8 @@ returns-2 c =
     let w = c .before .before .refuse2 in
     λ work list. kept-turns (s .state) work list (now (s .out)) (w .last .1 .1 .0) (w .result) (s .n) (open-many (s .n) (c .before .before .before .before .before .if1 .left) (c .before .before .before .before .if2 .taken)) (w .ensures .0) (w .ensures .1)
 
-fresh-requires : tie.Need-fresh-requires
-fresh-requires c κs = search needs
+open-requires : tie.Need-open-requires
+open-requires c κs = search needs
 
 put-ok-requires : tie.Need-put-ok-requires
 put-ok-requires c κs = search needs
@@ -50,7 +50,7 @@ returns-3 c =
     let low : 1 ≤ s .n = omega (arith, c .before .before .before .before .before .before .before .if1 .left) in
     let high : s .n ≤ 64 = omega (arith, c .before .before .before .before .before .before .if2 .left) in
     let w = c .before .before .put-ok in
-    λ work list. fresh-turns (s .state) work list (now (s .out)) (w .last .0) _ (s .n) (open-fine (s .n) low high) high refl (c .before .before .before .before .before .fresh .ensures .made (fresh-fine (s .n) low high)) (w .ensures)
+    λ work list. fresh-turns (s .state) work list (now (s .out)) (w .last .0) _ (s .n) (open-fine (s .n) low high) high refl (c .before .before .before .before .before .«open» .ensures .made (fresh-fine (s .n) low high)) (w .ensures)
 
 pub open-spec : {M : Type 1} → statement M
 open-spec =
@@ -62,7 +62,7 @@ open-spec =
     refuse-requires-2
     same-length-2
     returns-2
-    fresh-requires
+    open-requires
     put-ok-requires
     same-length-3
     returns-3)

@@ -1,0 +1,92 @@
+-- `engine::inquire` meets its contract: `replay` and the questions keep their promises, and demand 3 follows from them. Assumes nothing.
+use mathlib.Core.Path.{_≡_, sym, refl, _∙_, subst}
+use mathlib.Core.List.{List}
+use Prim.Native.Nat.{ℕ}
+use borrow.Author.Needs.{needs}
+use Rattle.register.specs.declared.Register.{Register}
+use Rattle.chains.specs.Replies.{Replies}
+use Rattle.chains.specs.declared.ChainAnswer.{ChainAnswer}
+use Rattle.engine.specs.DemandLaws.{claims, replayed-told, replayed-past}
+use Rattle.engine.proofs.inquire.Statement.{statement}
+use Rattle.engine.proofs.inquire.Tie as tie
+
+replay-requires : tie.Need-replay-requires
+replay-requires c κs = search needs
+
+number-of-requires : tie.Need-number-of-requires
+number-of-requires c κs = search needs
+
+links-requires : tie.Need-links-requires
+links-requires c κs = search needs
+
+locks-requires : tie.Need-locks-requires
+locks-requires c κs = search needs
+
+same-length : tie.Need-same-length
+same-length c = search needs
+
+returns : tie.Need-returns
+returns c =
+    let told = c .before .before .before .number-of .ensures in
+    let p = c .before .before .before .before .before .before .before .replay .ensures in
+    record {
+      number = p .answer;
+      refused = λ n. (p .refused n, refl, refl);
+      past = replayed-past _ _ _ _ p;
+      demand = λ z. absurd (c .if1 .taken (told ∙ p .answer ∙ z));
+    }
+
+pairs-requires : tie.Need-pairs-requires
+pairs-requires c κs = search needs
+
+chain-requires : tie.Need-chain-requires
+chain-requires c κs = search needs
+
+same-length-2 : tie.Need-same-length-2
+same-length-2 c = search needs
+
+same-length-3 : tie.Need-same-length-3
+same-length-3 c = search needs
+
+same-length-4 : tie.Need-same-length-4
+same-length-4 c = search needs
+
+same-length-5 : tie.Need-same-length-5
+same-length-5 c = search needs
+
+-- the questions are lent the same work
+lent : {e : Register} {x y : ℕ} {u : List ℕ} {k m : ℕ} {l l′ : List ℕ} {t : ChainAnswer} → k ≡ m → Replies e x y u k l l′ t → Replies e x y u m l l′ t
+lent {e} {x} {y} {u} {l = l} {l′} {t} q R = subst (λ (j : ℕ). Replies e x y u j l l′ t) q R
+
+returns-2 : tie.Need-returns-2
+returns-2 c =
+    let replied = c .before .before .before .before .chain .ensures in
+    let long = c .before .before .before .before .before .before .before .before .before .before .before .pairs .kept .1 .1 .0 in
+    let asked = c .before .before .before .before .before .before .before .before .before .before .before .pairs .ensures in
+    let s = c .before .before .before .before .before .before .before .before .before .before .before .before .before .before in
+    let p = s .before .before .before .before .before .before .before .replay .ensures in
+    let zero = sym (p .answer) ∙ sym (s .before .before .before .number-of .ensures) ∙ s .if1 .left in
+    record {
+      number = p .answer;
+      refused = λ n. absurd (n zero);
+      past = replayed-past _ _ _ _ p;
+      demand = λ z. claims _ _ (s .before .before .links .ensures) (s .before .locks .ensures) _ _ _ _ _ asked _ _ _ _ _ _ _ (lent long replied) (replayed-told _ _ _ _ p z) (p .book z);
+    }
+
+pub inquire-spec : {M : Type 1} → statement M
+inquire-spec =
+    tie.close
+    (tie.spec
+    replay-requires
+    number-of-requires
+    links-requires
+    locks-requires
+    same-length
+    returns
+    pairs-requires
+    chain-requires
+    same-length-2
+    same-length-3
+    same-length-4
+    same-length-5
+    returns-2)

@@ -1,0 +1,128 @@
+-- Laws by which a promise of the engine is carried over to words: words have one register (`keeps-same`), so what holds of the one that was loaded holds of
+-- every register whose words they are. Assumes nothing.
+use mathlib.Core.Path.{_≡_, refl, sym, ap, subst, _∙_}
+use mathlib.Core.Bool.{Bool, true, false, true≢false, false≢true}
+use mathlib.Core.List.{List, _++_}
+use Prim.Native.Nat.{ℕ, _+_, _<_}
+use native.Mathlib.Decide.{decLt}
+use native.Mathlib.Omega.{arith}
+use mir.Val.{boolByte}
+use lib.ListN.{length, take, drop}
+use Rattle.book.specs.Book.{Book, Call, freshAnswer, fresh}
+use Rattle.register.specs.Calls.{answerNumber, Ranged, Represents, Opens, Steps}
+use Rattle.register.specs.Questions.{Sized, Listing, Locking}
+use Rattle.register.specs.Words.{stateWords, lockWord, Keeps, Foreign, Copies, Loads, Stores}
+use Rattle.register.specs.WordLaws.{keeps-long, keeps-same}
+use Rattle.register.specs.declared.Register.{Register}
+use Rattle.register.specs.declared.Outcome.{Outcome}
+use Rattle.register.specs.declared.Opened.{Opened}
+use Rattle.register.specs.declared.Links.{Links}
+use Rattle.register.specs.declared.Answer.the-variants.{Refused}
+use Rattle.pairs.specs.Asking.{Handed, too-long, handed}
+use Rattle.pairs.specs.declared.PairsAnswer.the-variants.{Pairs, Refused as Unpaired}
+use Rattle.host.specs.Host.{Freshens, Edits, refusal, toldPairs, Told, Asked, Lists, Sizes, Locks}
+use Rattle.host.specs.Inner.{Finishes, refused, kept, lost}
+
+-- ---- what was loaded, by the number of the answer
+module _ {ws : List ℕ} {o : Opened} {k : ℕ} (l : Loads ws o) (e : k ≡ answerNumber (o .answer)) where
+  pub load-none : (k ≡ 0 → ⊥) → Foreign ws
+  load-none z = l .refused (λ y. z (e ∙ y)) .1
+
+  pub load-some : k ≡ 0 → Keeps ws (o .register)
+  load-some z = l .loaded (sym e ∙ z)
+
+-- ---- edits
+pub edit-foreign : (c : Call) (ws : List ℕ) → Foreign ws → Edits c ws ws 16
+edit-foreign c ws f = record { refused = λ _. refl; foreign = λ _. refl; steps = λ r k. absurd (f r k) }
+
+abbrev Stepped : Call → List ℕ → ℕ → Register → Type 0
+Stepped c after k s = (o : Outcome) × Steps s c o × (k ≡ answerNumber (o .answer)) × Keeps after (o .register)
+
+module _ {c : Call} {before after : List ℕ} {k : ℕ} {r : Register} (w : Keeps before r) where
+  stepped : ((k ≡ 0 → ⊥) → after ≡ before) → Stepped c after k r → Edits c before after k
+  stepped e t = record { refused = e; foreign = λ f. absurd (f r w); steps = λ s v. subst (Stepped c after k) (keeps-same w v) t }
+
+  pub edit-kept : {o : Outcome} → Steps r c o → Finishes o before after k → Edits c before after k
+  edit-kept {o} t (refused n e a) = stepped (λ _. a) (o, t, e, subst (λ (ws : List ℕ). Keeps ws (o .register)) (sym a) (subst (Keeps before) (sym (t .refused n)) w))
+  edit-kept {o} t (kept n e v) = stepped (λ z. absurd (z e)) (o, t, e ∙ sym n, v)
+  edit-kept {o} t (lost e a g) = stepped (λ _. a) (record { register = r; answer = Refused 16 }, unmet, e, subst (λ (ws : List ℕ). Keeps ws r) (sym a) w)
+    where
+      none : (b : Book) → Represents r b → ⊥
+      none b h = g (keeps-long w) (t .follows b h .ranged)
+
+      unmet : Steps r c (record { register = r; answer = Refused 16 })
+      unmet = record { refused = λ _. refl; answers = λ b h. absurd (none b h); follows = λ b h. absurd (none b h) }
+
+-- ---- a fresh register
+module _ {n : ℕ} {o : Opened} (p : Opens n o) (before : List ℕ) where
+  pub fresh-refused : {k : ℕ} → k ≡ answerNumber (o .answer) → (k ≡ 0 → ⊥) → Freshens n before before k
+  fresh-refused {k} e z = record {
+    refused = λ _. refl;
+    bad-size = λ _. e ∙ p .answers;
+    short = λ y. absurd (z (e ∙ p .answers ∙ y));
+    made = λ y. absurd (z (e ∙ p .answers ∙ y));
+  }
+
+  pub fresh-short : answerNumber (o .answer) ≡ 0 → (after : List ℕ) (ok : Bool) → Stores (o .register) before after ok → ok ≡ false → Freshens n before after 12
+  fresh-short e after ok s f =
+      let z : freshAnswer n ≡ 0 = sym (p .answers) ∙ e in
+      let q = s .refused f in
+      record { refused = λ _. q .0; bad-size = λ y. absurd (y z); short = λ _ _. refl; made = λ _ l. absurd (q .1 l (p .made z .ranged)) }
+
+  pub fresh-made : answerNumber (o .answer) ≡ 0 → (after : List ℕ) (ok : Bool) → length after ≡ length before → Stores (o .register) before after ok → ok ≡ true → Freshens n before after 0
+  fresh-made e after ok l s f =
+      let z : freshAnswer n ≡ 0 = sym (p .answers) ∙ e in
+      let w = s .done f in
+      record {
+        refused = λ y. absurd (y refl);
+        bad-size = λ y. absurd (y z);
+        short = λ _ y. absurd (y (sym l ∙ keeps-long w));
+        made = λ _ _. (refl, (o .register, w, p .made z));
+      }
+
+-- ---- questions
+module _ {A : Type 0} {ws : List ℕ} {P : Register → A → Type 0} {f : A → ℕ} {before after : List ℕ} {k : ℕ} where
+  pub asked-foreign : Foreign ws → k ≡ refusal 16 → after ≡ before → Asked ws P f before after k
+  asked-foreign g e a = record { answers = λ r w. absurd (g r w); foreign = λ _. (e, a) }
+
+  pub asked : {r : Register} → Keeps ws r → (a : A) → P r a → k ≡ f a → Asked ws P f before after k
+  asked {r} w a p e = record { answers = λ s v. subst (λ (t : Register). Told (P t) f k) (keeps-same w v) (a, p, e); foreign = λ g. absurd (g r w) }
+
+-- the links: the first words of an array copied to the front of a list
+abbrev front : Links → List ℕ
+front ls = take (ls .count) (ls .words)
+
+module _ {ws before after : List ℕ} {r : Register} (w : Keeps ws r) (ls : Links) (g : Listing r ls) {ok : Bool} (c : Copies (front ls) 0 before after ok) {k : ℕ} where
+  pub links-short : ok ≡ false → k ≡ refusal 13 → Asked ws (Lists before after) toldPairs before after k
+  links-short f e = asked w (Unpaired 13) (ls, g, go (decLt (length before) (length (front ls)))) e
+    where
+      go : Dec (length before < length (front ls)) → Handed (front ls) before after (Unpaired 13)
+      go (yes l) = too-long l (c .short (omega (arith, l)) .1)
+      go (no l) = absurd (false≢true (sym f ∙ c .fits (omega (arith, l)) .0))
+
+  pub links-given : ok ≡ true → k ≡ length (front ls) → Asked ws (Lists before after) toldPairs before after k
+  links-given f e = asked w (Pairs (length (front ls))) (ls, g, go (decLt (length before) (length (front ls)))) e
+    where
+      go : Dec (length before < length (front ls)) → Handed (front ls) before after (Pairs (length (front ls)))
+      go (yes l) = absurd (true≢false (sym f ∙ c .short (omega (arith, l)) .0))
+      go (no l) = let z : 0 + length (front ls) ≡ length (front ls) = omega arith in handed (omega (arith, l)) (c .fits (omega (arith, l)) .1 ∙ ap (λ (j : ℕ). front ls ++ drop j before) z)
+
+byte : (l : Bool) → boolByte l ≡ lockWord l
+byte true = refl
+byte false = refl
+
+module _ {ws : List ℕ} where
+  pub size-foreign : Foreign ws → Sizes ws 0
+  size-foreign g = record { size = λ r w. absurd (g r w); foreign = λ _. refl }
+
+  pub sized : {r : Register} {k : ℕ} → Keeps ws r → Sized r k → Sizes ws k
+  sized {r} {k} w z = record { size = λ s v. subst (λ (t : Register). Sized t k) (keeps-same w v) z; foreign = λ g. absurd (g r w) }
+
+  pub lock-foreign : (x : ℕ) → Foreign ws → Locks ws x 0
+  lock-foreign x g = record { locked = λ b h. absurd (g (h .0) (h .1)); foreign = λ _. refl }
+
+  pub locked-word : {r : Register} {x : ℕ} (l : Bool) → Keeps ws r → Locking r x l → Locks ws x (boolByte l)
+  locked-word {r} {x} l w z = record {
+    locked = λ b h. byte l ∙ ap lockWord (subst (λ (t : Register). Locking t x l) (keeps-same w (h .1)) z b (h .2));
+    foreign = λ g. absurd (g r w);
+  }

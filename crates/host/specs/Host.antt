@@ -1,0 +1,91 @@
+-- What the exported calls promise of the words that a caller keeps: the promises of the engine, carried over to words.
+--   Holds ws b      ws are the words of a register that represents the book b
+--   Freshens n before after k
+--                   what asking for a fresh register promises: the number k, and the words after it
+--   Edits c before after k
+--                   what an edit or undo promises: over any words a refused one leaves them; words that are no register's are refused with 16; of a
+--                   register's words the number and the words after it are those of an outcome that the call c promises
+--   Calls cs ws vs ks
+--                   the calls cs, each given the words that the one before left, from the words ws on: the words vs at the end, and the numbers ks
+--   refusal k       a refusal told as a number of 64 bits
+--   toldPairs, toldChain, toldTree
+--                   an answer told as a number of 64 bits: a count, 2^32 for no chain, or a refusal
+--   Told P f k      k tells an answer, by f, that P promises
+--   Asked ws P f before after k
+--                   what a question promises: of a register's words the answer is one that P promises of that register; words that are no register's
+--                   are refused with 16, and the list is left
+--   Lists r before after a
+--                   the words of the links of the register r, handed over into a list that held `before`
+--   Sizes ws k, Locks ws x k
+--                   the number of records; whether a record is locked: 0 if the words are no register's
+-- Assumes nothing: these are definitions.
+use mathlib.Core.Path.{_≡_}
+use mathlib.Core.List.{List, [], _∷_}
+use Prim.Native.Nat.{ℕ, _+_}
+use lib.ListN.{length, take}
+use Rattle.book.specs.Book.{Book, Call, isLocked, freshAnswer, fresh}
+use Rattle.register.specs.Calls.{answerNumber, Represents, Steps}
+use Rattle.register.specs.Questions.{Sized, Listing}
+use Rattle.register.specs.Words.{stateWords, lockWord, Keeps, Foreign}
+use Rattle.register.specs.declared.Register.{Register}
+use Rattle.register.specs.declared.Outcome.{Outcome}
+use Rattle.register.specs.declared.Links.{Links}
+use Rattle.pairs.specs.Asking.{Handed}
+use Rattle.pairs.specs.declared.PairsAnswer.{PairsAnswer}
+use Rattle.pairs.specs.declared.PairsAnswer.the-variants.{Pairs, Refused}
+use Rattle.chains.specs.declared.ChainAnswer.{ChainAnswer}
+use Rattle.chains.specs.declared.ChainAnswer.the-variants.{Chain, NoChain, Refused as Unchained}
+use Rattle.tree.specs.declared.Answer.{Answer}
+use Rattle.tree.specs.declared.Answer.the-variants.{Done, Refused as Untreed}
+
+abbrev pub Holds : List ℕ → Book → Type 0
+Holds ws b = (r : Register) × Keeps ws r × Represents r b
+
+pub record Freshens (n : ℕ) (before after : List ℕ) (k : ℕ) : Type 0 where
+  pub refused : (k ≡ 0 → ⊥) → after ≡ before
+  pub bad-size : (freshAnswer n ≡ 0 → ⊥) → k ≡ freshAnswer n
+  pub short : freshAnswer n ≡ 0 → (length before ≡ stateWords → ⊥) → k ≡ 12
+  pub made : freshAnswer n ≡ 0 → length before ≡ stateWords → (k ≡ 0) × Holds after (fresh n)
+
+pub record Edits (c : Call) (before after : List ℕ) (k : ℕ) : Type 0 where
+  pub refused : (k ≡ 0 → ⊥) → after ≡ before
+  pub foreign : Foreign before → k ≡ 16
+  pub steps : (r : Register) → Keeps before r → (o : Outcome) × Steps r c o × (k ≡ answerNumber (o .answer)) × Keeps after (o .register)
+
+pub data Calls : List Call → List ℕ → List ℕ → List ℕ → Type 0 where
+  none : {ws : List ℕ} → Calls [] ws ws []
+  then : {c : Call} {cs : List Call} {ws us vs ks : List ℕ} {k : ℕ} → Edits c ws us k → Calls cs us vs ks → Calls (c ∷ cs) ws vs (k ∷ ks)
+
+abbrev pub refusal : ℕ → ℕ
+refusal k = 8589934592 + k
+
+abbrev pub toldPairs : PairsAnswer → ℕ
+toldPairs (Pairs k) = k
+toldPairs (Refused k) = refusal k
+
+abbrev pub toldChain : ChainAnswer → ℕ
+toldChain (Chain k) = k
+toldChain NoChain = 4294967296
+toldChain (Unchained k) = refusal k
+
+abbrev pub toldTree : Answer → ℕ
+toldTree (Done k) = k
+toldTree (Untreed k) = refusal k
+
+abbrev pub Told : {A : Type 0} → (A → Type 0) → (A → ℕ) → ℕ → Type 0
+Told {A} P f k = (a : A) × P a × (k ≡ f a)
+
+pub record Asked {A : Type 0} (ws : List ℕ) (P : Register → A → Type 0) (f : A → ℕ) (before after : List ℕ) (k : ℕ) : Type 0 where
+  pub answers : (r : Register) → Keeps ws r → Told (P r) f k
+  pub foreign : Foreign ws → (k ≡ refusal 16) × (after ≡ before)
+
+abbrev pub Lists : List ℕ → List ℕ → Register → PairsAnswer → Type 0
+Lists before after r a = (ls : Links) × Listing r ls × Handed (take (ls .count) (ls .words)) before after a
+
+pub record Sizes (ws : List ℕ) (k : ℕ) : Type 0 where
+  pub size : (r : Register) → Keeps ws r → Sized r k
+  pub foreign : Foreign ws → k ≡ 0
+
+pub record Locks (ws : List ℕ) (x k : ℕ) : Type 0 where
+  pub locked : (b : Book) → Holds ws b → k ≡ lockWord (isLocked (b .sheet) x)
+  pub foreign : Foreign ws → k ≡ 0

@@ -1,0 +1,3 @@
+pub mod Host
+pub mod Inner
+pub mod HostLaws

@@ -1,0 +1,144 @@
+-- `register::Register::load` copies the three arrays out of words that have the form of a register's. Assumes nothing.
+use mathlib.Core.Path.{_≡_, sym, _∙_}
+use Prim.Native.Nat.{ℕ}
+use native.Mathlib.Omega.{arith}
+use lib.ListN.{take, drop, replicate, length-replicate, length-take, length-drop}
+use borrow.Author.Tests.{not-true, not-false}
+use Rattle.register.specs.Inner.{Formed}
+use Rattle.register.proofs.Keeping.{copied-over, part-long, locks-loaded, loaded, load-refused, load-made}
+use borrow.Author.Needs.{needs}
+use Rattle.register.proofs.Register.load.Statement.{statement}
+use Rattle.register.proofs.Register.load.Tie as tie
+
+is-register-requires : tie.Need-is-register-requires
+is-register-requires c κs = search needs
+
+made : (c : tie.Else1) → Formed (c .before .before .before .args .words .now)
+made c = c .before .is-register .ensures .sure (not-false _ (c .if1 .left))
+
+empty-requires : tie.Need-empty-requires
+empty-requires c κs = search needs
+
+returns : tie.Need-returns
+returns c = load-refused (c .before .before .before .before .args .words .now) _ (c .before .before .is-register .ensures) (not-true _ (c .before .if1 .taken))
+
+sub-copy : tie.Need-sub-copy
+sub-copy c = search needs
+
+part-copy-start : tie.Need-part-copy-start
+part-copy-start c = search needs
+
+part-copy-end : tie.Need-part-copy-end
+part-copy-end c = omega (arith, made (c) .long)
+
+slice-aggregate-copy : tie.Need-slice-aggregate-copy
+slice-aggregate-copy c = search needs
+
+copy-requires : tie.Need-copy-requires
+copy-requires c κs = search needs
+
+sub-copy-2 : tie.Need-sub-copy-2
+sub-copy-2 c = search needs
+
+part-copy-start-2 : tie.Need-part-copy-start-2
+part-copy-start-2 c = search needs
+
+part-copy-end-2 : tie.Need-part-copy-end-2
+part-copy-end-2 c = omega (arith, made (c .before .before .before .before) .long)
+
+slice-aggregate-copy-2 : tie.Need-slice-aggregate-copy-2
+slice-aggregate-copy-2 c = search needs
+
+copy-requires-2 : tie.Need-copy-requires-2
+copy-requires-2 c κs = search needs
+
+sub-read-locks : tie.Need-sub-read-locks
+sub-read-locks c = omega (arith, made (c .before .before .before .before .before .before .before .before) .long)
+
+part-read-locks-start : tie.Need-part-read-locks-start
+part-read-locks-start c = omega (arith, made (c .before .before .before .before .before .before .before .before) .long)
+
+part-read-locks-end : tie.Need-part-read-locks-end
+part-read-locks-end c = search needs
+
+slice-aggregate-read-locks : tie.Need-slice-aggregate-read-locks
+slice-aggregate-read-locks c = search needs
+
+read-locks-requires : tie.Need-read-locks-requires
+read-locks-requires c κs = rw (length-take, length-drop) (omega (arith, made (c .before .before .before .before .before .before .before .before .before .before) .long))
+
+shared-slice-read-t27 : tie.Need-shared-slice-read-t27
+shared-slice-read-t27 c = omega (arith, made (c .before .before .before .before .before .before .before .before .before .before .before .before .before) .long)
+
+cast-t28 : tie.Need-cast-t28
+cast-t28 c = omega (arith, made (c .before .before .before .before .before .before .before .before .before .before .before .before .before) .size)
+
+shared-slice-read-t30 : tie.Need-shared-slice-read-t30
+shared-slice-read-t30 c = omega (arith, made (c .before .before .before .before .before .before .before .before .before .before .before .before .before .before) .long)
+
+cast-t10 : tie.Need-cast-t10
+cast-t10 c = omega (arith, c .shared-slice-known3 .given 1)
+
+shared-slice-read-t35 : tie.Need-shared-slice-read-t35
+shared-slice-read-t35 c = omega (arith, made (c .before .before .before .before .before .before .before .before .before .before .before .before .before .before .before) .long)
+
+cast-t36 : tie.Need-cast-t36
+cast-t36 c = omega (arith, c .shared-slice-known4 .given 2)
+
+shared-slice-read-t38 : tie.Need-shared-slice-read-t38
+shared-slice-read-t38 c = omega (arith, made (c .before .before .before .before .before .before .before .before .before .before .before .before .before .before .before .before) .long)
+
+cast-t39 : tie.Need-cast-t39
+cast-t39 c = omega (arith, c .shared-slice-known5 .given 3)
+
+links-read : (c : tie.After-copy) → c .copy .last .1 .0 ≡ take 4096 (drop 4 (c .before .before .before .before .before .before .args .words .now))
+links-read c =
+    let ws = c .before .before .before .before .before .before .args .words .now in
+    copied-over (take 4096 (drop 4 ws)) (replicate 4096 0) (c .copy .last .1 .0) (c .copy .result)
+    (part-long ws 4 4096 (omega (arith, made (c .before .before .before) .long)) ∙ sym (length-replicate {A = ℕ} 4096 0)) (c .copy .ensures)
+
+ring-read : (c : tie.After-copy2) → c .copy2 .last .1 .0 ≡ take 256 (drop 4100 (c .before .before .before .before .before .before .before .before .before .before .args .words .now))
+ring-read c =
+    let ws = c .before .before .before .before .before .before .before .before .before .before .args .words .now in
+    copied-over (take 256 (drop 4100 ws)) (replicate 256 0) (c .copy2 .last .1 .0) (c .copy2 .result)
+    (part-long ws 4100 256 (omega (arith, made (c .before .before .before .before .before .before .before) .long)) ∙ sym (length-replicate {A = ℕ} 256 0)) (c .copy2 .ensures)
+
+returns-2 : tie.Need-returns-2
+returns-2 c =
+    let ws = c .before .before .before .before .before .before .before .before .before .before .before .before .before .before .before .before .before .before .before .args .words .now in
+    let f = made (c .before .before .before .before .before .before .before .before .before .before .before .before .before .before .before .before) in
+    load-made (
+    loaded ws (c .before .before .before .before .before .before .before .before .before .before .before .before .before .copy .last .1 .0) (c .before .before .before .before .before .before .before .before .before .copy2 .last .1 .0) (c .before .before .before .before .before .read-locks .last .1 .0) f (links-read (c .before .before .before .before .before .before .before .before .before .before .before .before .before)) (ring-read (c .before .before .before .before .before .before .before .before .before))
+    (locks-loaded ws (c .before .before .before .before .before .read-locks .last .1 .0) f (c .before .before .before .before .before .read-locks .ensures)))
+
+pub load-spec : {M : Type 1} → statement M
+load-spec =
+    tie.close
+    (tie.spec
+    is-register-requires
+    empty-requires
+    returns
+    sub-copy
+    part-copy-start
+    part-copy-end
+    slice-aggregate-copy
+    copy-requires
+    sub-copy-2
+    part-copy-start-2
+    part-copy-end-2
+    slice-aggregate-copy-2
+    copy-requires-2
+    sub-read-locks
+    part-read-locks-start
+    part-read-locks-end
+    slice-aggregate-read-locks
+    read-locks-requires
+    shared-slice-read-t27
+    cast-t28
+    shared-slice-read-t30
+    cast-t10
+    shared-slice-read-t35
+    cast-t36
+    shared-slice-read-t38
+    cast-t39
+    returns-2)

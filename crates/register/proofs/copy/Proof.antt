@@ -1,0 +1,86 @@
+-- `register::copy` writes word by word. The loop's invariant: the first i words are pasted into what was lent. The measure is the words left. Assumes nothing.
+use lib.Seq.{paste, paste-zero}
+use Rattle.register.proofs.Keeping.{copied-none, copied-more, copied-all}
+use mathlib.Core.Path.{_≡_, refl}
+use Prim.Native.Nat.{_+_, _-_, _≤_}
+use native.Mathlib.Omega.{arith}
+use borrow.Author.Needs.{needs}
+use lib.ListN.{length, length-set}
+use Rattle.register.proofs.copy.Statement.{statement}
+use Rattle.register.proofs.copy.Tie as tie
+
+abbrev Inv-loop : tie.InvT-loop
+Inv-loop from to₀ at i₀ to i = (i ≤ length from) × (length to ≡ length to₀) × (at + length from ≤ length to₀) × (to ≡ paste to₀ at from i)
+
+abbrev μ-loop : tie.MeasureT-loop
+μ-loop from to₀ at i₀ to i = length from - i
+
+returns : tie.Need-returns Inv-loop μ-loop
+returns c = let a = c .before .args in copied-none (a .from .now) (a .at) (a .to .now) (omega arith)
+
+sub-if2 : tie.Need-sub-if2 Inv-loop μ-loop
+sub-if2 c = omega arith
+
+returns-2 : tie.Need-returns-2 Inv-loop μ-loop
+returns-2 c = let a = c .before .before .args in copied-none (a .from .now) (a .at) (a .to .now) (omega arith)
+
+loop-holds : tie.Need-loop-holds Inv-loop μ-loop
+loop-holds c = let a = c .before .before .args in (omega arith, refl, omega arith, paste-zero (a .to .now) (a .at) (a .from .now))
+
+mul-to : tie.Need-mul-to Inv-loop μ-loop
+mul-to c = omega arith
+
+shared-slice-read-to : tie.Need-shared-slice-read-to Inv-loop μ-loop
+shared-slice-read-to c = omega arith
+
+add-to : tie.Need-add-to Inv-loop μ-loop
+add-to c = omega arith
+
+mul-to-2 : tie.Need-mul-to-2 Inv-loop μ-loop
+mul-to-2 c = omega arith
+
+slice-write-to : tie.Need-slice-write-to Inv-loop μ-loop
+slice-write-to c = omega (arith, c .before .before .loop .inv .1)
+
+add-i : tie.Need-add-i Inv-loop μ-loop
+add-i c = omega arith
+
+loop-less : tie.Need-loop-less Inv-loop μ-loop
+loop-less c = omega arith
+
+loop-again : tie.Need-loop-again Inv-loop μ-loop
+loop-again c =
+    let a = c .before .before .before .before .before .args in
+    let l = c .before .before .loop in
+    (omega arith, simp length-set (l .inv .1), l .inv .2, copied-more (a .from .now) (a .at) (a .to .now) (l .to) (l .i) (l .inv .3) (omega arith) (omega (arith, l .inv .2)))
+
+same-length : tie.Need-same-length Inv-loop μ-loop
+same-length c = search needs
+
+returns-3 : tie.Need-returns-3 Inv-loop μ-loop
+returns-3 c =
+    let a = c .before .before .before .before .args in
+    let l = c .before .loop in
+    let e : l .i ≡ length (a .from .now) = omega arith in
+    copied-all (a .from .now) (a .at) (a .to .now) (l .to) (l .inv .2) (rw e at (l .inv .3))
+
+pub copy-spec : {M : Type 1} → statement M
+copy-spec =
+    tie.close
+    (tie.spec
+    Inv-loop
+    μ-loop
+    returns
+    sub-if2
+    returns-2
+    loop-holds
+    mul-to
+    shared-slice-read-to
+    add-to
+    mul-to-2
+    slice-write-to
+    add-i
+    loop-less
+    loop-again
+    same-length
+    returns-3)

@@ -1,0 +1,96 @@
+-- `session::step` meets its contract: with too little room it stays (`stays`), else it is at the end of the input (`at-end`), at no frame (`is-broken`),
+-- or at one, which `frame` does (`one-frame`). Assumes nothing.
+use mathlib.Core.Path.{_≡_, refl}
+use Prim.Native.Nat.{_+_, _≤_}
+use native.Mathlib.Omega.{arith}
+use denote.Ref.{now}
+use lib.ListN.{length}
+use Rattle.book.specs.Causes.{number, broken-frame}
+use Rattle.session.specs.Program.{minFrame, maxFrame, number16}
+use Rattle.session.specs.TurnLaws.{both-ways}
+use Rattle.session.specs.RunsLaws.{front-frame, front-none, stays, at-end, is-broken, one-frame}
+use borrow.Author.Needs.{needs}
+use Rattle.session.proofs.step.Statement.{statement}
+use Rattle.session.proofs.step.Tie as tie
+
+add-if1 : tie.Need-add-if1
+add-if1 c = search needs
+
+returns : tie.Need-returns
+returns c = (stays _ _ (c .before .before .before .before .before .args .state) (now (c .before .before .before .before .before .args .input)) (now (c .before .before .before .before .before .args .out)), λ h e. absurd (omega arith))
+
+returns-2 : tie.Need-returns-2
+returns-2 c = (at-end _ _ (c .before .before .before .before .before .before .args .state) (now (c .before .before .before .before .before .before .args .input)) (now (c .before .before .before .before .before .before .args .out)) (omega arith), λ h e. absurd (both-ways _ e refl))
+
+front-requires : tie.Need-front-requires
+front-requires c κs = search needs
+
+put-refused-requires : tie.Need-put-refused-requires
+put-refused-requires c κs = search needs
+
+same-length : tie.Need-same-length
+same-length c = search needs
+
+returns-3 : tie.Need-returns-3
+unfolding number
+returns-3 c =
+    (is-broken _ _ (c .before .before .before .before .before .before .before .before .before .before .before .before .args .state) (now (c .before .before .before .before .before .before .before .before .before .before .before .before .args .input)) (now (c .before .before .before .before .before .before .before .before .before .before .before .before .args .out)) _ _ (c .before .before .put-refused .ensures) (front-none (c .before .before .before .before .before .front .ensures) (omega arith) _ _), λ h e. absurd (both-ways _ e refl))
+
+-- the frame's length, and that it is whole
+facts : (c : tie.Else3) → let n = c .before .front .result in let i = now (c .before .before .before .before .before .before .before .before .args .input) in (n ≡ number16 i 0) × (minFrame ≤ n) × (n ≤ maxFrame) × (n + 2 ≤ length i)
+facts c = front-frame (c .before .front .ensures) (λ e. omega arith)
+
+add-read : tie.Need-add-read
+add-read c = omega (arith, facts (c))
+
+number16-requires : tie.Need-number16-requires
+number16-requires c κs = search needs
+
+sub-frame : tie.Need-sub-frame
+sub-frame c = omega (arith, facts (c .before))
+
+part-frame-start : tie.Need-part-frame-start
+part-frame-start c = omega (arith, facts (c .before))
+
+part-frame-end : tie.Need-part-frame-end
+part-frame-end c = omega (arith, facts (c .before))
+
+frame-requires : tie.Need-frame-requires
+frame-requires c κs = search needs
+
+same-length-2 : tie.Need-same-length-2
+same-length-2 c = search needs
+
+same-length-3 : tie.Need-same-length-3
+same-length-3 c = search needs
+
+same-length-4 : tie.Need-same-length-4
+same-length-4 c = search needs
+
+returns-4 : tie.Need-returns-4
+returns-4 c = (
+  one-frame _ _ (c .before .before .before .before .before .before .before .before .before .before .before .before .before .before .before .before .before .before .before .before .before .args .state) (now (c .before .before .before .before .before .before .before .before .before .before .before .before .before .before .before .before .before .before .before .before .before .args .input)) (now (c .before .before .before .before .before .before .before .before .before .before .before .before .before .before .before .before .before .before .before .before .before .args .out)) _ (c .before .before .before .before .before .before .before .before .before .before .before .before .before .before .front .result) _ (c .before .before .before .before .before .before .before .frame .result) (facts (c .before .before .before .before .before .before .before .before .before .before .before .before .before)) (c .before .before .before .before .before .before .before .before .before .before .before .before .number16 .ensures) (c .before .before .before .before .before .before .before .frame .ensures .turns (omega arith)),
+  λ h e. omega arith,
+)
+
+pub step-spec : {M : Type 1} → statement M
+step-spec =
+    tie.close
+    (tie.spec
+    add-if1
+    returns
+    returns-2
+    front-requires
+    put-refused-requires
+    same-length
+    returns-3
+    add-read
+    number16-requires
+    sub-frame
+    part-frame-start
+    part-frame-end
+    frame-requires
+    same-length-2
+    same-length-3
+    same-length-4
+    returns-4)

@@ -1,0 +1,299 @@
+//! The engine's functions as they are exported from `crates/host`: numbers and slices.
+//!
+//! A `u32` answer is 0 or the number of a refusal. A `u64` answer is the number of words written to the list; [`NO_CHAIN`] if there is no
+//! chain; [`REFUSED`] + the number of a refusal. A refused call leaves the state and the list as they were, and words of a list past
+//! the answer are never touched; work may hold anything after a call. Words that are no register's (another length, a number of records
+//! of 65,536 or more, a lock above 1) are refused with 16.
+
+use crate::Refusal;
+
+/// The words of a register: n, the number of links, the place of the next held edit, the number of held edits, then 4,096 words of links,
+/// 256 of held edits, 1,024 of locks.
+pub const STATE_WORDS: usize = 5380;
+
+/// The answer to a chain question if there is no chain.
+pub const NO_CHAIN: u64 = 1 << 32;
+
+/// What is added to the number of a refusal in a `u64` answer.
+pub const REFUSED: u64 = 1 << 33;
+
+/// An answer of 0 or a number.
+pub fn done(answer: u32) -> Result<(), Refusal> {
+    match answer {
+        0 => Ok(()),
+        number => Err(refusal(number)),
+    }
+}
+
+/// An answer that is a count or refused.
+pub fn counted(answer: u64) -> Result<usize, Refusal> {
+    told(answer).map(|count| count.expect("only a chain question is answered with no chain"))
+}
+
+/// An answer that is a count, no chain, or refused.
+pub fn told(answer: u64) -> Result<Option<usize>, Refusal> {
+    match answer {
+        0..NO_CHAIN => Ok(Some(answer as usize)),
+        NO_CHAIN => Ok(None),
+        _ => Err(refusal(answer.wrapping_sub(REFUSED) as u32)),
+    }
+}
+
+fn refusal(number: u32) -> Refusal {
+    Refusal::of(number).expect("a refusal has a number from 1 to 16")
+}
+
+// A slice is lent as a pointer to its first word and its length. `tests/declarations.rs` holds these to the Rattle source.
+extern "C" {
+    fn dating_fresh(n: u16, state: *mut u32, state_len: usize) -> u32;
+    fn dating_add(state: *mut u32, state_len: usize, from: u16, label: u8, to: u16) -> u32;
+    fn dating_remove(state: *mut u32, state_len: usize, from: u16, label: u8, to: u16) -> u32;
+    fn dating_lock(state: *mut u32, state_len: usize, record: u16) -> u32;
+    fn dating_unlock(state: *mut u32, state_len: usize, record: u16) -> u32;
+    fn dating_undo(state: *mut u32, state_len: usize) -> u32;
+    fn dating_size(state: *const u32, state_len: usize) -> u32;
+    fn dating_links(state: *const u32, state_len: usize, list: *mut u32, list_len: usize) -> u64;
+    fn dating_locked(state: *const u32, state_len: usize, record: u16) -> u32;
+    fn dating_pairs(
+        state: *const u32,
+        state_len: usize,
+        text: *const u8,
+        text_len: usize,
+        work: *mut u64,
+        work_len: usize,
+        list: *mut u32,
+        list_len: usize,
+    ) -> u64;
+    fn dating_chain(
+        state: *const u32,
+        state_len: usize,
+        from: u16,
+        to: u16,
+        text: *const u8,
+        text_len: usize,
+        work: *mut u64,
+        work_len: usize,
+        list: *mut u32,
+        list_len: usize,
+    ) -> u64;
+    fn dating_tree_make(
+        n: usize,
+        pairs: *const u32,
+        pairs_len: usize,
+        tree: *mut u64,
+        tree_len: usize,
+        work: *mut u64,
+        work_len: usize,
+    ) -> u64;
+    fn dating_tree_list(
+        n: usize,
+        tree: *const u64,
+        tree_len: usize,
+        list: *mut u32,
+        list_len: usize,
+        work: *mut u64,
+        work_len: usize,
+    ) -> u64;
+    fn dating_tree_union(
+        n: usize,
+        a: *const u64,
+        a_len: usize,
+        b: *const u64,
+        b_len: usize,
+        out: *mut u64,
+        out_len: usize,
+        work: *mut u64,
+        work_len: usize,
+    ) -> u64;
+    fn dating_tree_intersection(
+        n: usize,
+        a: *const u64,
+        a_len: usize,
+        b: *const u64,
+        b_len: usize,
+        out: *mut u64,
+        out_len: usize,
+        work: *mut u64,
+        work_len: usize,
+    ) -> u64;
+    fn dating_tree_difference(
+        n: usize,
+        a: *const u64,
+        a_len: usize,
+        b: *const u64,
+        b_len: usize,
+        out: *mut u64,
+        out_len: usize,
+        work: *mut u64,
+        work_len: usize,
+    ) -> u64;
+    fn dating_tree_product(
+        n: usize,
+        a: *const u64,
+        a_len: usize,
+        b: *const u64,
+        b_len: usize,
+        out: *mut u64,
+        out_len: usize,
+        work: *mut u64,
+        work_len: usize,
+    ) -> u64;
+    fn dating_tree_transpose(
+        n: usize,
+        a: *const u64,
+        a_len: usize,
+        out: *mut u64,
+        out_len: usize,
+        work: *mut u64,
+        work_len: usize,
+    ) -> u64;
+    fn dating_tree_closure(
+        n: usize,
+        a: *const u64,
+        a_len: usize,
+        out: *mut u64,
+        out_len: usize,
+        work: *mut u64,
+        work_len: usize,
+    ) -> u64;
+}
+
+// SAFETY, of each: the function is the declared one, and has no `requires`; it is proved to end, and to read and write nothing but the
+// slices that it is lent, which are valid for the length that stands beside them and, where they are written, lent to nobody else.
+
+/// A fresh register's words: 0, or 1; 12 if there are not [`STATE_WORDS`].
+pub fn fresh(n: u16, state: &mut [u32]) -> u32 {
+    unsafe { dating_fresh(n, state.as_mut_ptr(), state.len()) }
+}
+
+/// 0, or the number of the refusal; so are all edits answered.
+pub fn add(state: &mut [u32], from: u16, label: u8, to: u16) -> u32 {
+    unsafe { dating_add(state.as_mut_ptr(), state.len(), from, label, to) }
+}
+
+pub fn remove(state: &mut [u32], from: u16, label: u8, to: u16) -> u32 {
+    unsafe { dating_remove(state.as_mut_ptr(), state.len(), from, label, to) }
+}
+
+pub fn lock(state: &mut [u32], record: u16) -> u32 {
+    unsafe { dating_lock(state.as_mut_ptr(), state.len(), record) }
+}
+
+pub fn unlock(state: &mut [u32], record: u16) -> u32 {
+    unsafe { dating_unlock(state.as_mut_ptr(), state.len(), record) }
+}
+
+pub fn undo(state: &mut [u32]) -> u32 {
+    unsafe { dating_undo(state.as_mut_ptr(), state.len()) }
+}
+
+/// n; 0 if the words are no register's.
+pub fn size(state: &[u32]) -> u32 {
+    unsafe { dating_size(state.as_ptr(), state.len()) }
+}
+
+/// The links' words, (label × 1,024 + from) × 1,024 + to, ascending.
+pub fn links(state: &[u32], list: &mut [u32]) -> u64 {
+    unsafe { dating_links(state.as_ptr(), state.len(), list.as_mut_ptr(), list.len()) }
+}
+
+/// 1 if the record is locked, else 0.
+pub fn locked(state: &[u32], record: u16) -> u32 {
+    unsafe { dating_locked(state.as_ptr(), state.len(), record) }
+}
+
+/// The pair words, from × 1,024 + to, ascending. Work: [`tree_work`](crate::tree_work).
+pub fn pairs(state: &[u32], text: &[u8], work: &mut [u64], list: &mut [u32]) -> u64 {
+    unsafe {
+        dating_pairs(
+            state.as_ptr(),
+            state.len(),
+            text.as_ptr(),
+            text.len(),
+            work.as_mut_ptr(),
+            work.len(),
+            list.as_mut_ptr(),
+            list.len(),
+        )
+    }
+}
+
+/// The step words, (label × 2 + sense) × 1,024 + record reached. Work: [`chain_work`](crate::chain_work).
+pub fn chain(state: &[u32], from: u16, to: u16, text: &[u8], work: &mut [u64], list: &mut [u32]) -> u64 {
+    unsafe {
+        dating_chain(
+            state.as_ptr(),
+            state.len(),
+            from,
+            to,
+            text.as_ptr(),
+            text.len(),
+            work.as_mut_ptr(),
+            work.len(),
+            list.as_mut_ptr(),
+            list.len(),
+        )
+    }
+}
+
+/// The tree of pair words in any order. Work of every tree call: [`tree_work`](crate::tree_work).
+pub fn tree_make(n: usize, pairs: &[u32], tree: &mut [u64], work: &mut [u64]) -> u64 {
+    unsafe { dating_tree_make(n, pairs.as_ptr(), pairs.len(), tree.as_mut_ptr(), tree.len(), work.as_mut_ptr(), work.len()) }
+}
+
+/// The pair words of a tree, ascending.
+pub fn tree_list(n: usize, tree: &[u64], list: &mut [u32], work: &mut [u64]) -> u64 {
+    unsafe { dating_tree_list(n, tree.as_ptr(), tree.len(), list.as_mut_ptr(), list.len(), work.as_mut_ptr(), work.len()) }
+}
+
+pub fn tree_union(n: usize, a: &[u64], b: &[u64], out: &mut [u64], work: &mut [u64]) -> u64 {
+    unsafe {
+        dating_tree_union(n, a.as_ptr(), a.len(), b.as_ptr(), b.len(), out.as_mut_ptr(), out.len(), work.as_mut_ptr(), work.len())
+    }
+}
+
+pub fn tree_intersection(n: usize, a: &[u64], b: &[u64], out: &mut [u64], work: &mut [u64]) -> u64 {
+    unsafe {
+        dating_tree_intersection(
+            n,
+            a.as_ptr(),
+            a.len(),
+            b.as_ptr(),
+            b.len(),
+            out.as_mut_ptr(),
+            out.len(),
+            work.as_mut_ptr(),
+            work.len(),
+        )
+    }
+}
+
+pub fn tree_difference(n: usize, a: &[u64], b: &[u64], out: &mut [u64], work: &mut [u64]) -> u64 {
+    unsafe {
+        dating_tree_difference(
+            n,
+            a.as_ptr(),
+            a.len(),
+            b.as_ptr(),
+            b.len(),
+            out.as_mut_ptr(),
+            out.len(),
+            work.as_mut_ptr(),
+            work.len(),
+        )
+    }
+}
+
+pub fn tree_product(n: usize, a: &[u64], b: &[u64], out: &mut [u64], work: &mut [u64]) -> u64 {
+    unsafe {
+        dating_tree_product(n, a.as_ptr(), a.len(), b.as_ptr(), b.len(), out.as_mut_ptr(), out.len(), work.as_mut_ptr(), work.len())
+    }
+}
+
+pub fn tree_transpose(n: usize, a: &[u64], out: &mut [u64], work: &mut [u64]) -> u64 {
+    unsafe { dating_tree_transpose(n, a.as_ptr(), a.len(), out.as_mut_ptr(), out.len(), work.as_mut_ptr(), work.len()) }
+}
+
+pub fn tree_closure(n: usize, a: &[u64], out: &mut [u64], work: &mut [u64]) -> u64 {
+    unsafe { dating_tree_closure(n, a.as_ptr(), a.len(), out.as_mut_ptr(), out.len(), work.as_mut_ptr(), work.len()) }
+}

@@ -1,0 +1,43 @@
+//! The dating register and its path engine, from Rust.
+//!
+//! A [`Register`] has records 0 to n − 1, links between them with letters a to z, locks, and undo. Two questions are asked of it: which
+//! pairs of records are joined by a path expression, and which is the first of the shortest chains between two records. The engine is
+//! written in Rattle, and every function of it is proved to meet its contract; this crate only lends it memory.
+//!
+//! ```
+//! use dating::Register;
+//!
+//! let mut register = Register::fresh(4)?;
+//! register.add(0, 'a', 1)?;
+//! register.add(2, 'a', 1)?;
+//! register.add(1, 'b', 3)?;
+//! let pairs: Vec<(u16, u16)> = register.pairs("a/^a")?.collect();
+//! assert_eq!(pairs, [(0, 0), (0, 2), (2, 0), (2, 2)]);
+//! let steps: Vec<String> = register.chain(0, 3, "a/b")?.expect("a chain").map(|step| step.to_string()).collect();
+//! assert_eq!(steps, ["a + 1", "b + 3"]);
+//! # Ok::<(), dating::Refusal>(())
+//! ```
+//!
+//! Expressions, from loosest to closest: `|` between alternatives; `/` between the parts of a sequence; a part is an optional `^`
+//! (inverse), a letter or a group in parentheses, and at most one of `*`, `+`, `?`. At most 256 bytes, 63 letters, groups 8 deep.
+//!
+//! A call that cannot be done is refused with the first of its causes, a [`Refusal`], and then nothing is changed.
+//!
+//! * [`Register`]: edits, undo, and both questions
+//! * [`Trees`] and [`Tree`]: sets of pairs as k2-trees, and their algebra
+//! * [`calls`]: the engine's functions as they are exported, on plain slices
+//!
+//! A call takes up to 750 KB of stack (a pair question 600, a chain question 150, an edit 100).
+
+pub mod calls;
+mod items;
+mod refusal;
+mod register;
+mod space;
+mod tree;
+
+pub use items::{Link, Links, Pairs, Step, Steps};
+pub use refusal::Refusal;
+pub use register::Register;
+pub use space::{chain_work, longest_chain, most_pairs, tree_words, tree_work};
+pub use tree::{Tree, Trees};

@@ -1,0 +1,87 @@
+//! Why a call was refused.
+
+use std::error::Error;
+use std::fmt::{self, Display, Formatter};
+
+/// The cause of a refusal. The engine names each by its number.
+#[derive(Clone, Copy, Debug, PartialEq, Eq, PartialOrd, Ord, Hash)]
+#[repr(u32)]
+pub enum Refusal {
+    Size = 1,
+    Record = 2,
+    Label = 3,
+    Locked = 4,
+    Already = 5,
+    Absent = 6,
+    Full = 7,
+    NoneHeld = 8,
+    Grammar = 9,
+    Limits = 10,
+    Tree = 11,
+    Work = 12,
+    List = 13,
+    Frame = 14,
+    Kind = 15,
+    NotOpened = 16,
+}
+
+/// Every cause, by ascending number, with its meaning.
+const CAUSES: [(Refusal, &str); 16] = [
+    (Refusal::Size, "the number of records is outside 1 to 1,024"),
+    (Refusal::Record, "a record is not below the number of records"),
+    (Refusal::Label, "the label is above 25: it is no letter from a to z"),
+    (Refusal::Locked, "an end of the link is locked"),
+    (Refusal::Already, "the link is present, or the record is locked, already"),
+    (Refusal::Absent, "the link is absent, or the record is not locked"),
+    (Refusal::Full, "4,096 links are present"),
+    (Refusal::NoneHeld, "no edit is held that could be undone"),
+    (Refusal::Grammar, "the expression is outside the grammar"),
+    (Refusal::Limits, "the expression is over 256 bytes, 63 letters or 8 deep"),
+    (Refusal::Tree, "the tree is not well formed"),
+    (Refusal::Work, "the work is shorter than stated"),
+    (Refusal::List, "the answer is longer than its list"),
+    (Refusal::Frame, "the frame is broken"),
+    (Refusal::Kind, "the kind is unknown"),
+    (Refusal::NotOpened, "no register is opened: the words are not those of a register"),
+];
+
+impl Refusal {
+    /// The cause with this number, from 1 to 16.
+    pub fn of(number: u32) -> Option<Refusal> {
+        let (cause, _) = CAUSES.get((number as usize).checked_sub(1)?)?;
+        Some(*cause)
+    }
+
+    /// From 1 to 16.
+    pub fn number(self) -> u32 {
+        self as u32
+    }
+
+    /// What the number means.
+    pub fn meaning(self) -> &'static str {
+        CAUSES[self as usize - 1].1
+    }
+}
+
+impl Display for Refusal {
+    fn fmt(&self, f: &mut Formatter) -> fmt::Result {
+        write!(f, "refused {}: {}", self.number(), self.meaning())
+    }
+}
+
+impl Error for Refusal {}
+
+#[cfg(test)]
+mod tests {
+    use super::*;
+
+    #[test]
+    fn numbers_and_causes_belong_together() {
+        for number in 1..=16 {
+            let cause = Refusal::of(number).unwrap();
+            assert_eq!((cause.number(), CAUSES[number as usize - 1].0), (number, cause));
+        }
+        assert_eq!((Refusal::of(0), Refusal::of(17), Refusal::of(u32::MAX)), (None, None, None));
+        assert_eq!(Refusal::Locked.to_string(), "refused 4: an end of the link is locked");
+    }
+}

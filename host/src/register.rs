@@ -1,0 +1,162 @@
+//! The register.
+
+use crate::calls::{self, counted, done, told, STATE_WORDS};
+use crate::space::{chain_work, longest_chain, most_pairs, tree_work};
+use crate::{Links, Pairs, Refusal, Steps};
+use std::fmt::{self, Debug, Formatter};
+
+/// A register of n records, with its links, its locks and the latest 256 edits.
+///
+/// It takes 21,520 bytes, and with the first question of each kind the space for it: for 1,024 records 5.6 MB and 4.2 MB (pairs), or
+/// 0.5 MB and 0.3 MB (chains), of which the system gives what is written to. [`pairs_in`](Register::pairs_in) and
+/// [`chain_in`](Register::chain_in) take the caller's space instead.
+pub struct Register {
+    words: Box<[u32]>,
+    work: Vec<u64>,
+    list: Vec<u32>,
+}
+
+impl Register {
+    /// A register of n records, n from 1 to 1,024, with no links and no locks.
+    pub fn fresh(n: u16) -> Result<Register, Refusal> {
+        let mut words = vec![0; STATE_WORDS].into_boxed_slice();
+        done(calls::fresh(n, &mut words))?;
+        Ok(Register { words, work: Vec::new(), list: Vec::new() })
+    }
+
+    /// A register from the words of one. What is promised is promised of words that a register had; any others do no harm.
+    pub fn of_words(words: &[u32]) -> Result<Register, Refusal> {
+        if calls::size(words) == 0 {
+            return Err(Refusal::NotOpened);
+        }
+        Ok(Register { words: words.into(), work: Vec::new(), list: Vec::new() })
+    }
+
+    /// The words, to be kept; [`of_words`](Register::of_words) takes them.
+    pub fn words(&self) -> &[u32] {
+        &self.words
+    }
+
+    /// The number of records.
+    pub fn size(&self) -> u16 {
+        calls::size(&self.words) as u16
+    }
+
+    /// Puts a link in.
+    pub fn add(&mut self, from: u16, letter: char, to: u16) -> Result<(), Refusal> {
+        done(calls::add(&mut self.words, from, label(letter), to))
+    }
+
+    /// Takes a link out.
+    pub fn remove(&mut self, from: u16, letter: char, to: u16) -> Result<(), Refusal> {
+        done(calls::remove(&mut self.words, from, label(letter), to))
+    }
+
+    /// Locks a record: links at it are neither added nor removed.
+    pub fn lock(&mut self, record: u16) -> Result<(), Refusal> {
+        done(calls::lock(&mut self.words, record))
+    }
+
+    pub fn unlock(&mut self, record: u16) -> Result<(), Refusal> {
+        done(calls::unlock(&mut self.words, record))
+    }
+
+    /// Takes back the latest edit that is still held: a link or a lock. At most 256 are held.
+    pub fn undo(&mut self) -> Result<(), Refusal> {
+        done(calls::undo(&mut self.words))
+    }
+
+    pub fn is_locked(&self, record: u16) -> bool {
+        calls::locked(&self.words, record) == 1
+    }
+
+    /// The links present.
+    pub fn links(&mut self) -> Result<Links<'_>, Refusal> {
+        grow(&mut self.list, 4096);
+        let count = counted(calls::links(&self.words, &mut self.list))?;
+        Ok(Links::new(&self.list[..count]))
+    }
+
+    /// The pairs of records that the expression joins.
+    ///
+    /// ```
+    /// # let mut register = dating::Register::fresh(3)?;
+    /// register.add(0, 'a', 1)?;
+    /// register.add(1, 'a', 2)?;
+    /// assert_eq!(register.pairs("a+")?.collect::<Vec<_>>(), [(0, 1), (0, 2), (1, 2)]);
+    /// # Ok::<(), dating::Refusal>(())
+    /// ```
+    pub fn pairs(&mut self, expression: impl AsRef<[u8]>) -> Result<Pairs<'_>, Refusal> {
+        let n = self.size();
+        grow(&mut self.work, tree_work(n));
+        grow(&mut self.list, most_pairs(n));
+        let count = counted(calls::pairs(&self.words, expression.as_ref(), &mut self.work, &mut self.list))?;
+        Ok(Pairs::new(&self.list[..count]))
+    }
+
+    /// The first of the shortest chains from one record to another that spell a word of the expression; none if there is no chain.
+    ///
+    /// ```
+    /// # let mut register = dating::Register::fresh(3)?;
+    /// register.add(0, 'a', 1)?;
+    /// register.add(2, 'b', 1)?;
+    /// let steps = register.chain(0, 2, "a/^b")?.expect("a chain");
+    /// assert_eq!(steps.map(|step| step.to_string()).collect::<Vec<_>>(), ["a + 1", "b - 2"]);
+    /// assert!(register.chain(2, 0, "a+")?.is_none());
+    /// # Ok::<(), dating::Refusal>(())
+    /// ```
+    pub fn chain(&mut self, from: u16, to: u16, expression: impl AsRef<[u8]>) -> Result<Option<Steps<'_>>, Refusal> {
+        let n = self.size();
+        grow(&mut self.work, chain_work(n));
+        grow(&mut self.list, longest_chain(n));
+        let length = told(calls::chain(&self.words, from, to, expression.as_ref(), &mut self.work, &mut self.list))?;
+        Ok(length.map(|length| Steps::new(&self.list[..length])))
+    }
+
+    /// The pairs of an expression in lent space: work of [`tree_work`] words, and a list, which is left as it was with a refusal.
+    pub fn pairs_in<'a>(&self, expression: impl AsRef<[u8]>, work: &mut [u64], list: &'a mut [u32]) -> Result<Pairs<'a>, Refusal> {
+        let count = counted(calls::pairs(&self.words, expression.as_ref(), work, list))?;
+        Ok(Pairs::new(&list[..count]))
+    }
+
+    /// The first chain in lent space: work of [`chain_work`] words, and a list, which is left as it was if there is no chain.
+    pub fn chain_in<'a>(
+        &self,
+        from: u16,
+        to: u16,
+        expression: impl AsRef<[u8]>,
+        work: &mut [u64],
+        list: &'a mut [u32],
+    ) -> Result<Option<Steps<'a>>, Refusal> {
+        let length = told(calls::chain(&self.words, from, to, expression.as_ref(), work, list))?;
+        Ok(length.map(|length| Steps::new(&list[..length])))
+    }
+}
+
+/// The same links, locks and held edits; the space for questions is its own.
+impl Clone for Register {
+    fn clone(&self) -> Register {
+        Register { words: self.words.clone(), work: Vec::new(), list: Vec::new() }
+    }
+}
+
+impl Debug for Register {
+    fn fmt(&self, f: &mut Formatter) -> fmt::Result {
+        f.debug_struct("Register").field("size", &self.size()).finish_non_exhaustive()
+    }
+}
+
+/// 0 to 25 for a to z; 255, which the engine refuses with 3, for any other.
+fn label(letter: char) -> u8 {
+    match letter {
+        'a'..='z' => letter as u8 - b'a',
+        _ => 255,
+    }
+}
+
+/// Room for so many words.
+fn grow<T: Clone + Default>(space: &mut Vec<T>, words: usize) {
+    if space.len() < words {
+        *space = vec![T::default(); words];
+    }
+}

@@ -1,0 +1,49 @@
+//! How much space calls need. Each is for n from 1 to 1,024, and 0 for any other n, which the engine refuses.
+
+/// D, the words of the longest tree: 4 × (s² − 1) / 3 bits, where s is the smallest power of two that is at least n, and at least 2.
+pub fn tree_words(n: u16) -> usize {
+    let side = in_range(n).next_power_of_two().max(2);
+    if in_range(n) == 0 {
+        return 0;
+    }
+    (4 * (side * side - 1) / 3).div_ceil(64)
+}
+
+/// The words of work for a tree operation or a pair question.
+pub fn tree_work(n: u16) -> usize {
+    32 * tree_words(n)
+}
+
+/// The words of work for a chain question.
+pub fn chain_work(n: u16) -> usize {
+    64 * in_range(n)
+}
+
+/// The length of a list that has room for every answer to a pair question.
+pub fn most_pairs(n: u16) -> usize {
+    in_range(n) * in_range(n)
+}
+
+/// The length of a list that has room for every chain.
+pub fn longest_chain(n: u16) -> usize {
+    63 * in_range(n)
+}
+
+fn in_range(n: u16) -> usize {
+    if n <= 1024 {
+        n.into()
+    } else {
+        0
+    }
+}
+
+#[cfg(test)]
+mod tests {
+    use super::*;
+
+    #[test]
+    fn sizes_of_the_scope_paper() {
+        assert_eq!((tree_words(1024), tree_words(64), tree_words(1)), (21_846, 86, 1));
+        assert_eq!((tree_work(0), tree_work(1025), chain_work(1024)), (0, 0, 65_536));
+    }
+}

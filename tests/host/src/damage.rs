@@ -1,0 +1,111 @@
+//! Words that no call made: every call must end, keep to what it was lent, and answer in the form that is promised.
+
+use crate::history::History;
+use crate::run::{Run, Size};
+use oracle::book::{Call, Link};
+use oracle::random::{in_grammar, Random};
+use oracle::{tree, Space};
+
+const N: usize = 0;
+const LINKS: usize = 4;
+const RING: usize = LINKS + 4096;
+const LOCKS: usize = RING + 256;
+
+fn any(random: &mut Random) -> u32 {
+    let word = random.word() as u32;
+    match random.below(6) {
+        0 => {
+            random.pick(&[0, 1, 2, 255, 256, 257, 1023, 1024, 1025, 4095, 4096, 4097, 65535, 65536, 1 << 31, u32::MAX])
+        }
+        1 => word % 1025,
+        2 => word % 4098,
+        3 => word % (1 << 26),
+        _ => word,
+    }
+}
+
+fn damage(random: &mut Random, words: &mut Vec<u32>) {
+    for _ in 0..random.between(1, 4) {
+        let at = match random.below(5) {
+            0 => random.below(LINKS),
+            1 => random.between(LINKS, LINKS + 40),
+            2 => random.between(LINKS, RING - 1),
+            3 => random.between(RING, LOCKS - 1),
+            _ => random.between(LOCKS, words.len() - 1),
+        };
+        words[at] = if at < LOCKS || random.chance(20) { any(random) } else { random.below(2) as u32 };
+    }
+    match random.below(12) {
+        0 => words[LINKS..RING].iter_mut().for_each(|word| *word = any(random)),
+        1 => words[RING..LOCKS].iter_mut().for_each(|word| *word = any(random)),
+        2 => words.iter_mut().for_each(|word| *word = any(random)),
+        3 => words.truncate(random.below(5380)),
+        4 => words.resize(random.between(5381, 6000), 0),
+        5 => words[1] = 4096,
+        6 => words[3] = 256,
+        _ => {}
+    }
+}
+
+/// Whether these could be the words of a register at all; if not, the answer is 16.
+fn possible(words: &[u32]) -> bool {
+    words.len() == 5380 && words[N] < 65536 && words[LOCKS..].iter().all(|&word| word <= 1)
+}
+
+/// Whether the numbers of records, links and held edits are in range; if not, an edit is answered with 16.
+fn in_range(words: &[u32]) -> bool {
+    possible(words) && words[N] <= 1024 && words[1] <= 4096 && words[2] < 256 && words[3] <= 256
+}
+
+pub fn damaged(run: &mut Run, seed: u64, size: Size) {
+    let mut history = History::fresh(run, seed, size);
+    history.some();
+    let made = std::mem::take(&mut history.words);
+    let random = &mut Random::new(!seed);
+    let mut words = made.clone();
+    damage(random, &mut words);
+    let possible = possible(&words);
+    let n = size.records(random);
+    for _ in 0..random.between(1, 30) {
+        let mut record = || if random.chance(90) { random.record(n) } else { random.word() as u32 % 65536 };
+        let link = Link { from: record(), label: 0, to: record() };
+        let link = Link { label: random.below(27) as u32, ..link };
+        let call = match random.below(6) {
+            0..=1 => Call::Undo,
+            2 => Call::Add(link),
+            3 => Call::Remove(link),
+            4 => Call::Lock(link.from),
+            _ => Call::Unlock(link.from),
+        };
+        let refused = !in_range(&words);
+        let answer = run.engine.edit(&mut words, call);
+        if refused {
+            run.same_of(|| format!("{call:?} on words of no register"), &answer, &16);
+        }
+    }
+    let text = in_grammar(random, &[0, 1, 25], 4, 2);
+    let sized = run.engine.size(&words);
+    run.same_of(|| format!("size {sized} is at most 1,024"), &(sized <= 1024), &true);
+    let sized = sized.clamp(1, 1024);
+    for list in [0, 3, 5000] {
+        let spaces = [(tree::work(sized), 64 * sized as usize), (tree::work(sized) - 1, 64 * sized as usize - 1)];
+        for (pairs, chains) in spaces {
+            let (from, to) = (random.record(sized), random.record(sized));
+            let answers = [
+                run.engine.links(&words, list),
+                run.engine.pairs(&words, &text, Space { work: pairs, list }),
+                run.engine.chain(&words, from, to, &text, Space { work: chains, list }),
+            ];
+            for answer in answers {
+                if !possible {
+                    run.same("a question of words of no register", &answer, &Err(16));
+                }
+            }
+        }
+    }
+    let locked = run.engine.locked(&words, random.record(n) as u16);
+    if !possible {
+        run.same("whether a record of no register is locked", &locked, &0);
+    }
+    run.counts.damaged += 1;
+}

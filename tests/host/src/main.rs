@@ -1,0 +1,98 @@
+//! `differences [long | heap]`: the engine's exported calls against the oracle, and over damaged words. Every slice that is
+//! lent ends right before a page that may not be touched; with `heap`, which is for valgrind, each is a block of the heap,
+//! and there are few cases. Every case is made from its seed, and is the same in every run. Fails if there is a difference.
+//! All calls are made on a stack of 1 MB. With VERBOSE in the environment each case is named before it is run; SEED is the
+//! first seed of each kind.
+
+mod damage;
+mod engine;
+mod history;
+mod lent;
+mod run;
+mod trees;
+
+use run::{Run, Size};
+use std::process::ExitCode;
+use std::time::Instant;
+
+type Kind = (&'static str, fn(&mut Run, u64, Size), Size, [u64; 3]);
+
+/// Each kind of case with its size, and how many there are: in the short run, in the long one, on the heap.
+const KINDS: [Kind; 11] = [
+    ("history of few records", history::history, Size(1, 64), [200, 1000, 3]),
+    ("history of some records", history::history, Size(65, 256), [80, 500, 0]),
+    ("history of many records", history::history, Size(257, 1024), [40, 300, 0]),
+    ("full register", history::full, Size(16, 1024), [6, 40, 0]),
+    ("ring", history::ring, Size(1, 64), [20, 200, 1]),
+    ("long ring", history::ring, Size(1000, 1024), [2, 12, 0]),
+    ("trees of few records", trees::trees, Size(1, 64), [300, 3000, 3]),
+    ("trees of some records", trees::trees, Size(65, 256), [60, 400, 0]),
+    ("trees of many records", trees::trees, Size(257, 1024), [16, 100, 0]),
+    ("damaged words, few records", damage::damaged, Size(1, 64), [400, 5000, 20]),
+    ("damaged words, many records", damage::damaged, Size(65, 1024), [100, 1500, 1]),
+];
+
+/// What a call may take of the stack, and this program beside it.
+const STACK: usize = 1024 * 1024;
+
+fn main() -> ExitCode {
+    let run = std::thread::Builder::new().stack_size(STACK).spawn(run_all).expect("a thread");
+    run.join().unwrap_or(ExitCode::FAILURE)
+}
+
+fn run_all() -> ExitCode {
+    let arguments: Vec<String> = std::env::args().skip(1).collect();
+    let (name, place) = match arguments.iter().map(String::as_str).collect::<Vec<_>>()[..] {
+        [] => ("short", 0),
+        ["long"] => ("long", 1),
+        ["heap"] => ("heap", 2),
+        _ => {
+            eprintln!("usage: differences [long | heap]");
+            return ExitCode::from(2);
+        }
+    };
+    let verbose = std::env::var_os("VERBOSE").is_some();
+    let first = std::env::var("SEED").map_or(0, |seed| seed.parse().expect("SEED is a number"));
+    let mut run = Run::new(name == "heap");
+    let mut cases = 0;
+    trees::sizes(&mut run);
+    for (kind, case, size, counts) in KINDS {
+        let start = Instant::now();
+        for seed in first..first + counts[place] {
+            run.case = format!("{kind}, seed {seed}");
+            if verbose {
+                eprintln!("{}", run.case);
+            }
+            case(&mut run, seed, size);
+            run.same("what every call keeps to", &(), &());
+        }
+        cases += counts[place];
+        if counts[place] > 0 {
+            println!(
+                "{kind} (n {} to {}): {} cases, {:.1} s",
+                size.0,
+                size.1,
+                counts[place],
+                start.elapsed().as_secs_f64()
+            );
+        }
+    }
+    let counts = &run.counts;
+    println!(
+        "{cases} cases: {} edits, {} registers read, {} pair questions, {} chain questions, {} tree calls, {} damaged registers; \
+         {} calls, {} differences",
+        counts.edits,
+        counts.contents,
+        counts.pairs,
+        counts.chains,
+        counts.trees,
+        counts.damaged,
+        run.engine.calls,
+        run.differences
+    );
+    if run.differences == 0 {
+        ExitCode::SUCCESS
+    } else {
+        ExitCode::FAILURE
+    }
+}
