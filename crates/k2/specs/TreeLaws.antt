@@ -129,11 +129,15 @@ unfolding filled quadrant
 filled-none zero = refl
 filled-none (suc h) = omega (arith, filled-none h)
 
+pub treeWords-none : (n : ℕ) → treeWords n blank ≡ []
+unfolding treeWords treeBits keep wordsOf packed
+treeWords-none n = rw (filled-none (height n), levels-none (height n))
+
 pub tree-none : (n : ℕ) → WellFormed n []
 tree-none n = record {
   set = blank;
   is-set = record { bit = λ x y. omega arith; row = λ x y l. refl; column = λ x y l. refl };
-  tree = unfold treeWords treeBits keep wordsOf packed in (rw (filled-none (height n), levels-none (height n)));
+  tree = sym (treeWords-none n);
 }
 
 -- ---- the tree of a transpose: quarters 1 and 2 are exchanged at every level

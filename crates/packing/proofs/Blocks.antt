@@ -20,7 +20,8 @@ use Rattle.k2.specs.Heap.{place, rowAt, columnAt, cells}
 use Rattle.k2.specs.PlaceLaws.{place-lt, row-place, column-place, row-lt, column-lt, place-at, row-block, column-block}
 use Rattle.bits.specs.BitSets.{either, none}
 use Rattle.rows.specs.Rows.{flat}
-use Rattle.packing.specs.Image.{raised, blocksTo}
+use Rattle.packing.specs.Image.{Together, raised, blocksTo}
+use Rattle.packing.proofs.Stores.{byte-digit}
 
 -- ---- raised and cells
 module _ (b : ℕ) (f : ℕ → ℕ) (k : ℕ) where
@@ -223,6 +224,11 @@ module _ (rows : List ℕ) (a : Cells) (e : bitAt rows ≡ flat a) (r c : ℕ) (
       let x : p / 1024 ≡ 8 * r + j / 8 = omega arith in
       let y : p % 1024 ≡ 8 * c + j % 8 = omega arith in
       sym (bit-in rows (i + 16 * (j / 8)) (8 * (c % 8) + j % 8) (omega arith)) ∙ ap (λ (f : ℕ → ℕ). f p) e ∙ ap₂ a x y
+
+  -- a byte that none of the rows has
+  pub byte-none : (w : ℕ) → Together rows i 16 8 w → w / 2 ^ (8 * (c % 8)) % 256 ≡ 0
+      → (j : ℕ) → j < 64 → digit 0 j ≡ digit (getD rows (i + 16 * (j / 8)) 0) (8 * (c % 8) + j % 8)
+  byte-none w t z j l = digit-none j ∙ sym (t (8 * (c % 8) + j % 8) (j / 8) (omega arith) (byte-digit w (8 * (c % 8)) (j % 8) z (omega arith)))
 
   -- a turn: v is the block's word, w the same in the order of the tree
   module _ (g : ℕ) (gl : g ≤ 7) (is : IsSet (2 ^ (g + 3)) a) (rl : r < 2 ^ g) (base v : ℕ) (vl : v < 2 ^ 64)

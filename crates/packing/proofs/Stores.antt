@@ -1,4 +1,4 @@
--- Laws of what `any_of_eight` and `quiet` find, of the loop of `block`, and of the stores of `or_word` and `set_four`. Assumes nothing.
+-- Laws of what `together` finds, of the loop of `block`, and of the stores of `or_word` and `set_four`. Assumes nothing.
 use mathlib.Core.Path.{_≡_, refl, sym, ap, ap₂, _∙_, fun-ext}
 use mathlib.Core.Bool.{true, false}
 use mathlib.Core.List.{List, [], _∷_}
@@ -36,6 +36,20 @@ or-more x w k ih e j l = go (or-none w (x k) e) (decLt j k)
     go : (w ≡ 0) × (x k ≡ 0) → Dec (j < k) → x j ≡ 0
     go b (yes g) = ih (b .0) j g
     go b (no g) = let z : j ≡ k = omega arith in ap x z ∙ b .1
+
+pub or-digits : (x : ℕ → ℕ) (w k : ℕ) → ((d j : ℕ) → j < k → digit w d ≡ 0 → digit (x j) d ≡ 0) → (d j : ℕ) → j < k + 1 → digit (bitOr w (x k)) d ≡ 0 → digit (x j) d ≡ 0
+or-digits x w k ih d j l e = go (decLt j k)
+  where
+    m : max (digit w d) (digit (x k) d) ≡ 0
+    m = sym (digit-or w (x k) d) ∙ e
+
+    go : Dec (j < k) → digit (x j) d ≡ 0
+    go (yes g) = ih d j g (omega (arith, m))
+    go (no g) = let z : j ≡ k = omega arith in let y : digit (x k) d ≡ 0 = omega (arith, m) in ap (λ (t : ℕ). digit (x t) d) z ∙ y
+
+-- a byte of 0
+pub byte-digit : (w p t : ℕ) → w / 2 ^ p % 256 ≡ 0 → t < 8 → digit w (p + t) ≡ 0
+byte-digit w p t z l = digit-add w p t ∙ sym (digit-mod 8 (w / 2 ^ p) t l) ∙ ap (λ (v : ℕ). digit v t) z ∙ digit-none t
 
 -- ---- block: after r rows, their bytes
 abbrev pub Bytes : List ℕ → ℕ → ℕ → ℕ → ℕ → Type 0

@@ -1,4 +1,6 @@
 -- What the functions on the full tree's bits make of them.
+--   Together ws i step count w
+--                   a bit that w lacks is in none of the words of ws at i, i + step and so on, count of them
 --   raised b f      the bits of f moved up by b places
 --   above b f       the bits of f from place b on, and 0 below
 --   setFour g v f   f with the digits 0 to 3 of v as its group g of four bits
@@ -12,10 +14,14 @@ use mathlib.Core.Path.{_≡_}
 use mathlib.Core.List.{List}
 use Prim.Native.Nat.{ℕ, _+_, _-_, _*_, _/_, _%_, _≤_, _<_}
 use lib.Dec.{leb, ltb, eqb}
+use lib.ListN.{getD}
 use Rattle.book.specs.Basics.{pick}
 use Rattle.k2.specs.Bits.{digit, bitAt, bitsOf}
 use Rattle.k2.specs.PairSets.{Cells}
 use Rattle.k2.specs.Heap.{anyFour, squeezed, groups}
+
+abbrev pub Together : List ℕ → ℕ → ℕ → ℕ → ℕ → Type 0
+Together ws i step count w = (d k : ℕ) → k < count → digit w d ≡ 0 → digit (getD ws (i + step * k) 0) d ≡ 0
 
 unfoldable pub raised : ℕ → (ℕ → ℕ) → ℕ → ℕ
 raised b f p = pick (leb b p) (f (p - b)) 0

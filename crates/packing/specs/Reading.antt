@@ -4,14 +4,16 @@
 --   inside h x y a  the pairs of a in the square of side 2 ^ h at row x and column y
 --   quartersTo k h x y a
 --                   the pairs of a in the first k quarters, of side 2 ^ h, of the square at row x and column y
---   Counted ws ns   for each word of ws, the number of ones before it
+--   WordsCounted ws ns, BlocksCounted ws ns
+--                   for each word of ws, or for each block of four, the number of ones before it
+--   Counted ws ns   for each word, or if ws has more than 5,462 words for each block of four
 --   Reads s ws h b x y a
 --                   in a tree with the words ws, read with the sense s, the four bits from bit b on are those of the square of a set whose cells are those
 --                   of a from row x and column y on; the square has the side 2 ^ h
 -- Assumes nothing: these are definitions.
 use mathlib.Core.Path.{_≡_}
 use mathlib.Core.List.{List}
-use Prim.Native.Nat.{ℕ, zero, suc, _+_, _*_, _/_, _%_, _^_, _<_}
+use Prim.Native.Nat.{ℕ, zero, suc, _+_, _*_, _/_, _%_, _^_, _≤_, _<_}
 use lib.Dec.{leb, ltb}
 use lib.ListN.{length, getD}
 use Rattle.book.specs.Basics.{pick}
@@ -36,8 +38,14 @@ unfoldable pub quartersTo : ℕ → ℕ → ℕ → ℕ → Cells → Cells
 quartersTo zero h x y a = noPairs
 quartersTo (suc k) h x y a = union (quartersTo k h x y a) (inside h (x + k / 2 * 2 ^ h) (y + k % 2 * 2 ^ h) a)
 
+abbrev pub WordsCounted : List ℕ → List ℕ → Type 0
+WordsCounted ws ns = (i : ℕ) → i < length ws → getD ns i 0 ≡ onesBelow (bitAt ws) (i * 64)
+
+abbrev pub BlocksCounted : List ℕ → List ℕ → Type 0
+BlocksCounted ws ns = (i : ℕ) → 4 * i < length ws → getD ns i 0 ≡ onesBelow (bitAt ws) (i * 256)
+
 abbrev pub Counted : List ℕ → List ℕ → Type 0
-Counted ws ns = (i : ℕ) → i < length ws → getD ns i 0 ≡ onesBelow (bitAt ws) (i * 64)
+Counted ws ns = (length ws ≤ 5462 → WordsCounted ws ns) × (5462 < length ws → BlocksCounted ws ns)
 
 pub record Reads (s : ℕ) (ws : List ℕ) (h b x y : ℕ) (a : Cells) : Type 0 where
   pub side : ℕ

@@ -10,8 +10,8 @@ ghost use Rattle.k2.specs.Trees.{height, treeBits, treeUnit, treeWords, WellFor
 ghost use Rattle.k2.specs.Heap.{fullSize, place, rowAt, columnAt, cells, anyFour, squeezed, groups};
 ghost use Rattle.bits.specs.BitSets.{none, either};
 ghost use Rattle.rows.specs.Rows.{flat};
-ghost use Rattle.packing.specs.Image.{raised, above, setFour, blocksTo, swapPlace, Heaped, Squeezing};
-ghost use Rattle.packing.specs.Reading.{sensed, turned, inside, Counted, Reads};
+ghost use Rattle.packing.specs.Image.{Together, raised, above, setFour, blocksTo, swapPlace, Heaped, Squeezing};
+ghost use Rattle.packing.specs.Reading.{sensed, turned, inside, WordsCounted, BlocksCounted, Counted, Reads};
 
 // The height of the trees for n records: the side is 2 ^ height.
 pub fn height(n: usize) -> usize
@@ -65,10 +65,11 @@ fn place(h: usize, x: usize, y: usize) -> usize
     z
 }
 
-// Is one of `count` words, `step` apart from word i on, not 0?
-fn any(words: &[u64], i: usize, step: usize, count: usize) -> bool
+// The bits that one of `count` words, `step` apart from word i on, has.
+fn together(words: &[u64], i: usize, step: usize, count: usize) -> u64
     requires { ⌜ ((k : ℕ) → k < count → i + step * k < length (now words)) ⌝ }
-    ensures { λ r. ⌜ (r ≡ false → (k : ℕ) → k < count → getD (now (words .entry)) (i + step * k) 0 ≡ 0) ⌝ }
+    ensures { λ r. ⌜ (r ≡ 0 → (k : ℕ) → k < count → getD (now (words .entry)) (i + step * k) 0 ≡ 0)
+        × Together (now (words .entry)) i step count r ⌝ }
 {
     let mut w: u64 = 0;
     let mut k = 0;
@@ -76,7 +77,7 @@ fn any(words: &[u64], i: usize, step: usize, count: usize) -> bool
         w = w | words[i + step * k];
         k += 1;
     }
-    w != 0
+    w
 }
 
 // Eight bits from bit 8 * k on of each of eight words, 16 apart from word i on, as one word.
@@ -121,14 +122,17 @@ fn or_word(words: &mut [u64], p: usize, v: u64)
     words[q + 1] = words[q + 1] | v >> 1 >> (63 - k);
 }
 
-// The cells of the block of 8 x 8 in row r and column c of blocks, put in from bit base on.
-fn fill_block(rows: &[u64], r: usize, c: usize, g: usize, base: usize, heap: &mut [u64])
+// The cells of the block of 8 x 8 in row r and column c of blocks, put in from bit base on; `seen` are the bits that its rows have.
+fn fill_block(rows: &[u64], seen: u64, r: usize, c: usize, g: usize, base: usize, heap: &mut [u64])
     requires { ⌜ (g ≤ 7) × (r < 2 ^ g) × (c < 128) × (length (now rows) ≡ 16384)
-        × (base ≤ 1398100) × (base / 64 + 4 ^ g < length (now heap)) ⌝ }
+        × (base ≤ 1398100) × (base / 64 + 4 ^ g < length (now heap)) × Together (now rows) (r * 128 + c / 8) 16 8 seen ⌝ }
     ensures { λ _. ⌜ ((a : Cells) → IsSet (2 ^ (g + 3)) a → bitAt (now (rows .entry)) ≡ flat a
         → bitAt (now (heap .entry)) ≡ raised base (cells (g + 3) (blocksTo (r * 128 + c) a))
         → bitAt (now (heap .exit)) ≡ raised base (cells (g + 3) (blocksTo (r * 128 + c + 1) a))) ⌝ }
 {
+    if (seen >> (8 * (c % 8))) % 256 == 0 {
+        return;
+    }
     let v = block(rows, r * 128 + c / 8, c % 8);
     if v != 0 {
         let z = place(g, r, c);
@@ -144,10 +148,11 @@ fn fill_eight(rows: &[u64], r: usize, c: usize, g: usize, base: usize, heap: &mu
         → bitAt (now (heap .entry)) ≡ raised base (cells (g + 3) (blocksTo (r * 128 + c) a))
         → bitAt (now (heap .exit)) ≡ raised base (cells (g + 3) (blocksTo (r * 128 + c + 8) a))) ⌝ }
 {
-    if any(rows, r * 128 + c / 8, 16, 8) {
+    let seen = together(rows, r * 128 + c / 8, 16, 8);
+    if seen != 0 {
         let mut k = 0;
         while k < 8 {
-            fill_block(rows, r, c + k, g, base, heap);
+            fill_block(rows, seen, r, c + k, g, base, heap);
             k += 1;
         }
     }
@@ -194,7 +199,7 @@ fn quiet(words: &[u64], i: usize) -> bool
     if words.len() - 4 < i {
         return false;
     }
-    !any(words, i, 1, 4)
+    together(words, i, 1, 4) == 0
 }
 
 // The bits that tell of the groups of word i, which is not the first.
@@ -335,9 +340,9 @@ pub fn pack(rows: &[u64], n: usize, out: &mut [u64]) -> usize
 }
 
 // The ones before each word of a tree.
-fn count(tree: &[u64], before: &mut [u32])
-    requires { ⌜ (length (now tree) ≤ 21846) × (length (now before) ≡ 21846) ⌝ }
-    ensures { λ _. ⌜ Counted (now (tree .entry)) (now (before .exit)) ⌝ }
+fn count_words(tree: &[u64], before: &mut [u32])
+    requires { ⌜ (length (now tree) ≤ 5462) × (length (now before) ≡ 5462) ⌝ }
+    ensures { λ _. ⌜ WordsCounted (now (tree .entry)) (now (before .exit)) ⌝ }
 {
     let mut n: u32 = 0;
     let mut i = 0;
@@ -348,13 +353,67 @@ fn count(tree: &[u64], before: &mut [u32])
     }
 }
 
-// Where the children of the 1 at bit p begin: four times the count of ones in bits 0 to p.
-fn child(tree: &[u64], before: &[u32], p: usize) -> usize
-    requires { ⌜ (p / 64 < length (now tree)) × (length (now tree) ≤ 21846) × (length (now before) ≡ 21846) × Counted (now tree) (now before) ⌝ }
+// The ones before each block of four words of a tree.
+fn count_blocks(tree: &[u64], before: &mut [u32])
+    requires { ⌜ (length (now tree) ≤ 21846) × (length (now before) ≡ 5462) ⌝ }
+    ensures { λ _. ⌜ BlocksCounted (now (tree .entry)) (now (before .exit)) ⌝ }
+{
+    let mut n: u32 = 0;
+    let mut i = 0;
+    while i < tree.len() {
+        if i % 4 == 0 {
+            before[i / 4] = n;
+        }
+        n += u64::count_ones(tree[i]);
+        i += 1;
+    }
+}
+
+// The ones before each word of a tree, or of a long one before each block of four: there is room for 5,462 counts.
+fn count(tree: &[u64], before: &mut [u32])
+    requires { ⌜ (length (now tree) ≤ 21846) × (length (now before) ≡ 5462) ⌝ }
+    ensures { λ _. ⌜ Counted (now (tree .entry)) (now (before .exit)) ⌝ }
+{
+    if 5462 < tree.len() {
+        count_blocks(tree, before);
+        return;
+    }
+    count_words(tree, before);
+}
+
+// Where the children of the 1 at bit p begin: four times the count of ones in bits 0 to p. From the ones before its word:
+fn child_by_word(tree: &[u64], before: &[u32], p: usize) -> usize
+    requires { ⌜ (p / 64 < length (now tree)) × (length (now tree) ≤ 5462) × (length (now before) ≡ 5462) × WordsCounted (now tree) (now before) ⌝ }
     ensures { λ r. ⌜ (r ≡ childPlace (bitAt (now (tree .entry))) p) × (r ≤ 5592576) ⌝ }
 {
     let q = p / 64;
     4 * (before[q] as usize + u64::count_ones(tree[q] << (63 - p % 64)) as usize)
+}
+
+// From the ones before its block of four words:
+fn child_by_block(tree: &[u64], before: &[u32], p: usize) -> usize
+    requires { ⌜ (p / 64 < length (now tree)) × (length (now tree) ≤ 21846) × (length (now before) ≡ 5462) × BlocksCounted (now tree) (now before) ⌝ }
+    ensures { λ r. ⌜ (r ≡ childPlace (bitAt (now (tree .entry))) p) × (r ≤ 5592576) ⌝ }
+{
+    let q = p / 64;
+    let mut i = q / 4 * 4;
+    let mut n = before[q / 4] as usize;
+    while i < q {
+        n += u64::count_ones(tree[i]) as usize;
+        i += 1;
+    }
+    4 * (n + u64::count_ones(tree[q] << (63 - p % 64)) as usize)
+}
+
+// From what was counted.
+fn child(tree: &[u64], before: &[u32], p: usize) -> usize
+    requires { ⌜ (p / 64 < length (now tree)) × (length (now tree) ≤ 21846) × (length (now before) ≡ 5462) × Counted (now tree) (now before) ⌝ }
+    ensures { λ r. ⌜ (r ≡ childPlace (bitAt (now (tree .entry))) p) × (r ≤ 5592576) ⌝ }
+{
+    if 5462 < tree.len() {
+        return child_by_block(tree, before, p);
+    }
+    child_by_word(tree, before, p)
 }
 
 // The quarter that is read as quarter q; with sense 1 the second and the third are exchanged.
@@ -420,7 +479,7 @@ fn dive(
     rows: &mut [u64],
 )
     requires { ⌜ (1 ≤ h) × (h ≤ 10) × (b % 4 ≡ 0) × (b ≤ 5592576) × (x + 2 ^ h ≤ 1024) × (y + 2 ^ h ≤ 1024) × (y % 2 ≡ 0) × (sense ≤ 1)
-        × (length (now rows) ≡ 16384) × (length (now tree) ≤ 21846) × (length (now before) ≡ 21846) × Counted (now tree) (now before) ⌝ }
+        × (length (now rows) ≡ 16384) × (length (now tree) ≤ 21846) × (length (now before) ≡ 5462) × Counted (now tree) (now before) ⌝ }
     ensures { λ _. ⌜ ((a t : Cells) → bitAt (now (rows .entry)) ≡ flat a → Reads sense (now (tree .entry)) h b x y t
         → bitAt (now (rows .exit)) ≡ flat (union a (inside h x y t))) ⌝ }
 {
@@ -455,7 +514,7 @@ pub fn load(tree: &[u64], n: usize, sense: usize, rows: &mut [u64])
     ensures { λ _. ⌜ ((a x : Cells) → IsSet n a → now (tree .entry) ≡ treeWords n a → bitAt (now (rows .entry)) ≡ flat x
         → bitAt (now (rows .exit)) ≡ flat (union x (sensed sense a))) ⌝ }
 {
-    let mut before: [u32; 21846] = [0; 21846];
+    let mut before: [u32; 5462] = [0; 5462];
     count(tree, &mut before);
     dive(tree, &before, height(n), 0, 0, 0, sense, rows);
 }

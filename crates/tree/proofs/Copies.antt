@@ -8,10 +8,9 @@ use native.Mathlib.Omega.{arith}
 use lib.ListN.{length, take, drop, getD, set, length-take, length-drop, length-append, List·getD-append}
 use lib.Seq.{ext-getD, getD-append-add, getD-take, getD-drop, getD-set-same, getD-set-other, take-append-le, take-length, take-at, drop-at}
 use Rattle.book.specs.Basics.{In, here, there}
-use Rattle.k2.specs.PairSets.{product}
 use Rattle.k2.specs.PairSetLaws.{PairsBelow}
 use Rattle.tree.specs.declared.Answer.the-variants.{Done}
-use Rattle.tree.specs.Calls.{Settled, given, algebra}
+use Rattle.tree.specs.Calls.{Settled, given}
 
 -- ---- after i words
 module _ (xs ys : List ℕ) (at : ℕ) (fits : at + length xs ≤ length ys) where
@@ -93,13 +92,6 @@ wrong e f = off (sym e ∙ f)
 -- an answer of r words
 pub given-at : (xs before after : List ℕ) (r : ℕ) → r ≡ length xs → r ≤ length before → after ≡ xs ++ drop (length xs) before → Settled xs before after (Done r)
 given-at xs before after r k l e = subst (λ (t : ℕ). Settled xs before after (Done t)) (sym k) (given (omega arith) e)
-
--- the operation of a number that is none of the first three
-pub algebra-product : (k n : ℕ) → (k ≡ 0 → ⊥) → (k ≡ 1 → ⊥) → (k ≡ 2 → ⊥) → algebra k n ≡ product n
-algebra-product zero n a b c = absurd (a refl)
-algebra-product (suc zero) n a b c = absurd (b refl)
-algebra-product (suc (suc zero)) n a b c = absurd (c refl)
-algebra-product (suc (suc (suc k))) n a b c = refl
 
 pub settled : (ws : List ℕ) (len : ℕ) (out out′ : List ℕ) → len ≤ length ws → len ≤ length out → out′ ≡ [] ++ (take len ws ++ drop (0 + length (take len ws)) out)
     → Settled (take len ws) out out′ (Done len)

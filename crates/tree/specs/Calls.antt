@@ -14,15 +14,14 @@
 --   ListOf n t xs   xs are the pairs of the tree t, ascending
 --   TreeOfOne op n t xs, TreeOfTwo op n t u xs
 --                   xs are the words of the tree of what op makes of the set of the tree t, or of the sets of t and u
---   algebra k n     the operations on two sets, by a number: union, intersection, difference, product
 -- Assumes nothing: these are definitions.
 use mathlib.Core.Path.{_≡_}
 use mathlib.Core.List.{List, _++_}
-use Prim.Native.Nat.{ℕ, zero, suc, _*_, _≤_, _<_}
+use Prim.Native.Nat.{ℕ, suc, _*_, _≤_, _<_}
 use lib.ListN.{length, drop}
 use Rattle.book.specs.Basics.{In}
 use Rattle.book.specs.Causes.{Cause, bad-size, no-record, bad-tree, short-work, short-list, treeOrder, IsFirst, maxRecords}
-use Rattle.k2.specs.PairSets.{Cells, IsSet, setOf, listed, union, intersection, difference, product}
+use Rattle.k2.specs.PairSets.{Cells, IsSet, setOf, listed}
 use Rattle.k2.specs.PairSetLaws.{PairsBelow}
 use Rattle.k2.specs.Trees.{treeWords, treeUnit, WellFormed}
 use Rattle.tree.specs.declared.Answer.{Answer}
@@ -80,9 +79,3 @@ pub record TreeOfTwo (op : Cells → Cells → Cells) (n : ℕ) (t u xs : List �
   pub first-tree : t ≡ treeWords n first
   pub second-tree : u ≡ treeWords n second
   pub words : xs ≡ treeWords n (op first second)
-
-abbrev pub algebra : ℕ → ℕ → Cells → Cells → Cells
-algebra zero n = union
-algebra (suc zero) n = intersection
-algebra (suc (suc zero)) n = difference
-algebra (suc (suc (suc k))) n = product n

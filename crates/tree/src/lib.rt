@@ -8,10 +8,10 @@ ghost use Rattle.k2.specs.Bits.{bitAt};
 ghost use Rattle.k2.specs.PairSets.{Cells, IsSet, setOf, listed, union, intersection, difference, product, transpose, closure};
 ghost use Rattle.k2.specs.PairSetLaws.{PairsBelow};
 ghost use Rattle.k2.specs.Trees.{treeWords, treeUnit, WellFormed};
-ghost use Rattle.rows.specs.Rows.{flat, identity, linkPair};
+ghost use Rattle.rows.specs.Rows.{flat, noPairs, identity, linkPair};
 ghost use Rattle.packing.specs.Reading.{sensed};
-ghost use Rattle.tree.specs.Inner.{Room, TreeAt, OneTree, TwoTrees};
-ghost use Rattle.tree.specs.Calls.{Found, Settled, Answered, TreeOf, ListOf, TreeOfOne, TreeOfTwo, algebra};
+ghost use Rattle.tree.specs.Inner.{Room, TreeAt, outcome, OneTree, TwoTrees, Guarded};
+ghost use Rattle.tree.specs.Calls.{Found, Settled, Answered, TreeOf, ListOf, TreeOfOne, TreeOfTwo};
 
 pub enum Answer {
     Done(usize),
@@ -28,98 +28,202 @@ fn load_at(work: &[u64], at: usize, len: usize, n: usize, sense: usize, rows: &m
     packing::load(&work[at..end], n, sense, rows);
 }
 
-// The union of two trees at the front of work, left there; how many words it has.
-pub fn union_in(work: &mut [u64], n: usize, la: usize, lb: usize) -> usize
-    requires { ⌜ Room n la lb (length (now work)) ⌝ }
-    ensures { λ r. ⌜ (r ≤ length (now (work .entry))) × TwoTrees union n la lb (now (work .entry)) (now (work .exit)) r ⌝ }
+// Of two trees at the front of work, the second into rows of its own, and the operation on both: intersection, difference or product.
+fn with_second(
+    kind: u8,
+    work: &mut [u64],
+    n: usize,
+    la: usize,
+    lb: usize,
+    sb: usize,
+    rows: &mut [u64],
+) -> usize
+    requires { ⌜ Room n la lb (length (now work)) × (1 ≤ kind) × (kind ≤ 3) × (sb ≤ 1) × (length (now rows) ≡ 16384) ⌝ }
+    ensures { λ r. ⌜ (r ≤ length (now (work .entry))) × ((a b : Cells) → IsSet n a → IsSet n b → bitAt (now (rows .entry)) ≡ flat a
+        → take lb (drop la (now (work .entry))) ≡ treeWords n b → TreeAt n (outcome kind n a (sensed sb b) noPairs) (now (work .exit)) r) ⌝ }
+{
+    let mut other: [u64; 16384] = [0; 16384];
+    if kind == 3 {
+        load_at(work, la, lb, n, 1 - sb, &mut other);
+        rows::compose(rows, &other, n);
+        return packing::pack(rows, n, work);
+    }
+    load_at(work, la, lb, n, sb, &mut other);
+    if kind == 1 {
+        rows::intersect(rows, &other);
+        return packing::pack(rows, n, work);
+    }
+    rows::minus(rows, &other);
+    packing::pack(rows, n, work)
+}
+
+// An operation, by its number, on trees at the front of work, each read with its sense; link words are put in beside them. The tree that
+// results is left at the front; how many words it has. All operations go through here, so that their rows stand on the stack once.
+fn operate(
+    kind: u8,
+    work: &mut [u64],
+    n: usize,
+    la: usize,
+    lb: usize,
+    sa: usize,
+    sb: usize,
+    words: &[u32],
+) -> usize
+    requires { ⌜ Room n la lb (length (now work)) × (sa ≤ 1) × (sb ≤ 1) ⌝ }
+    ensures { λ r. ⌜ (r ≤ length (now (work .entry))) × ((a b : Cells) → IsSet n a → IsSet n b
+        → take la (now (work .entry)) ≡ treeWords n a → take lb (drop la (now (work .entry))) ≡ treeWords n b
+        → IsSet n (setOf (map linkPair (now (words .entry))))
+        → TreeAt n (outcome kind n (sensed sa a) (sensed sb b) (setOf (map linkPair (now (words .entry))))) (now (work .exit)) r) ⌝ }
 {
     let mut rows: [u64; 16384] = [0; 16384];
-    load_at(work, 0, la, n, 0, &mut rows);
-    load_at(work, la, lb, n, 0, &mut rows);
+    load_at(work, 0, la, n, sa, &mut rows);
+    if kind == 0 {
+        load_at(work, la, lb, n, sb, &mut rows);
+        return packing::pack(&rows, n, work);
+    }
+    if kind < 4 {
+        return with_second(kind, work, n, la, lb, sb, &mut rows);
+    }
+    if kind == 4 {
+        rows::close(&mut rows, n);
+        return packing::pack(&rows, n, work);
+    }
+    if kind == 5 {
+        rows::set_diagonal(&mut rows, n);
+        return packing::pack(&rows, n, work);
+    }
+    rows::put_words(words, &mut rows);
     packing::pack(&rows, n, work)
+}
+
+// Is there room for an operation on operands of la and lb words in k words of work?
+fn room(n: usize, la: usize, lb: usize, k: usize) -> bool
+    ensures { λ r. ⌜ (r ≡ true → Room n la lb k) × (Room n la lb k → r ≡ true) ⌝ }
+{
+    if 1024 < n {
+        return false;
+    }
+    let unit = packing::tree_unit(n);
+    if unit < la {
+        return false;
+    }
+    if unit < lb {
+        return false;
+    }
+    2 * unit <= k
+}
+
+// The same if there is room for it; otherwise nothing is done, and the number is 0.
+fn guarded(
+    kind: u8,
+    work: &mut [u64],
+    n: usize,
+    la: usize,
+    lb: usize,
+    sa: usize,
+    sb: usize,
+    words: &[u32],
+) -> usize
+    requires { ⌜ (sa ≤ 1) × (sb ≤ 1) ⌝ }
+    ensures { λ r. ⌜ Guarded (Room n la lb (length (now (work .entry)))) (now (work .entry)) (now (work .exit)) r
+        ((a b : Cells) → IsSet n a → IsSet n b
+        → take la (now (work .entry)) ≡ treeWords n a → take lb (drop la (now (work .entry))) ≡ treeWords n b
+        → IsSet n (setOf (map linkPair (now (words .entry))))
+        → TreeAt n (outcome kind n (sensed sa a) (sensed sb b) (setOf (map linkPair (now (words .entry))))) (now (work .exit)) r) ⌝ }
+{
+    if room(n, la, lb, work.len()) {
+        return operate(kind, work, n, la, lb, sa, sb, words);
+    }
+    0
+}
+
+// The same with no link words.
+fn operate_on(
+    kind: u8,
+    work: &mut [u64],
+    n: usize,
+    la: usize,
+    lb: usize,
+    sa: usize,
+    sb: usize,
+) -> usize
+    requires { ⌜ (sa ≤ 1) × (sb ≤ 1) ⌝ }
+    ensures { λ r. ⌜ Guarded (Room n la lb (length (now (work .entry)))) (now (work .entry)) (now (work .exit)) r
+        (TwoTrees (λ a b. outcome kind n (sensed sa a) (sensed sb b) noPairs) n la lb (now (work .entry)) (now (work .exit)) r) ⌝ }
+{
+    let none: [u32; 1] = [0; 1];
+    guarded(kind, work, n, la, lb, sa, sb, &none[..0])
+}
+
+// The union of two trees at the front of work, left there; how many words it has.
+pub fn union_in(work: &mut [u64], n: usize, la: usize, lb: usize) -> usize
+    ensures { λ r. ⌜ Guarded (Room n la lb (length (now (work .entry)))) (now (work .entry)) (now (work .exit)) r
+        (TwoTrees union n la lb (now (work .entry)) (now (work .exit)) r) ⌝ }
+{
+    operate_on(0, work, n, la, lb, 0, 0)
 }
 
 // Their intersection.
 pub fn intersection_in(work: &mut [u64], n: usize, la: usize, lb: usize) -> usize
-    requires { ⌜ Room n la lb (length (now work)) ⌝ }
-    ensures { λ r. ⌜ (r ≤ length (now (work .entry))) × TwoTrees intersection n la lb (now (work .entry)) (now (work .exit)) r ⌝ }
+    ensures { λ r. ⌜ Guarded (Room n la lb (length (now (work .entry)))) (now (work .entry)) (now (work .exit)) r
+        (TwoTrees intersection n la lb (now (work .entry)) (now (work .exit)) r) ⌝ }
 {
-    let mut a: [u64; 16384] = [0; 16384];
-    load_at(work, 0, la, n, 0, &mut a);
-    let mut b: [u64; 16384] = [0; 16384];
-    load_at(work, la, lb, n, 0, &mut b);
-    rows::intersect(&mut a, &b);
-    packing::pack(&a, n, work)
+    operate_on(1, work, n, la, lb, 0, 0)
 }
 
 // Their difference.
 pub fn difference_in(work: &mut [u64], n: usize, la: usize, lb: usize) -> usize
-    requires { ⌜ Room n la lb (length (now work)) ⌝ }
-    ensures { λ r. ⌜ (r ≤ length (now (work .entry))) × TwoTrees difference n la lb (now (work .entry)) (now (work .exit)) r ⌝ }
+    ensures { λ r. ⌜ Guarded (Room n la lb (length (now (work .entry)))) (now (work .entry)) (now (work .exit)) r
+        (TwoTrees difference n la lb (now (work .entry)) (now (work .exit)) r) ⌝ }
 {
-    let mut a: [u64; 16384] = [0; 16384];
-    load_at(work, 0, la, n, 0, &mut a);
-    let mut b: [u64; 16384] = [0; 16384];
-    load_at(work, la, lb, n, 0, &mut b);
-    rows::minus(&mut a, &b);
-    packing::pack(&a, n, work)
+    operate_on(2, work, n, la, lb, 0, 0)
 }
 
-// Their product, each read with a sense.
+// Their product, each read with a sense, 0 or 1.
 pub fn product_in(work: &mut [u64], n: usize, la: usize, lb: usize, sa: usize, sb: usize) -> usize
-    requires { ⌜ Room n la lb (length (now work)) × (sa ≤ 1) × (sb ≤ 1) ⌝ }
-    ensures { λ r. ⌜ (r ≤ length (now (work .entry)))
-        × TwoTrees (λ a b. product n (sensed sa a) (sensed sb b)) n la lb (now (work .entry)) (now (work .exit)) r ⌝ }
+    ensures { λ r. ⌜ Guarded (Room n la lb (length (now (work .entry))) × (sa ≤ 1) × (sb ≤ 1)) (now (work .entry)) (now (work .exit)) r
+        (TwoTrees (λ a b. product n (sensed sa a) (sensed sb b)) n la lb (now (work .entry)) (now (work .exit)) r) ⌝ }
 {
-    let mut a: [u64; 16384] = [0; 16384];
-    load_at(work, 0, la, n, sa, &mut a);
-    let mut b: [u64; 16384] = [0; 16384];
-    load_at(work, la, lb, n, 1 - sb, &mut b);
-    rows::compose(&mut a, &b, n);
-    packing::pack(&a, n, work)
+    if 1 < sa {
+        return 0;
+    }
+    if 1 < sb {
+        return 0;
+    }
+    operate_on(3, work, n, la, lb, sa, sb)
 }
 
-// The transpose of the tree at the front of work.
+// The transpose of the tree at the front of work: read with sense 1, and joined with none.
 pub fn transpose_in(work: &mut [u64], n: usize, la: usize) -> usize
-    requires { ⌜ Room n la 0 (length (now work)) ⌝ }
-    ensures { λ r. ⌜ (r ≤ length (now (work .entry))) × OneTree transpose n la (now (work .entry)) (now (work .exit)) r ⌝ }
+    ensures { λ r. ⌜ Guarded (Room n la 0 (length (now (work .entry)))) (now (work .entry)) (now (work .exit)) r
+        (OneTree transpose n la (now (work .entry)) (now (work .exit)) r) ⌝ }
 {
-    let mut rows: [u64; 16384] = [0; 16384];
-    load_at(work, 0, la, n, 1, &mut rows);
-    packing::pack(&rows, n, work)
+    operate_on(0, work, n, la, 0, 1, 0)
 }
 
 // Its closure: one or more steps.
 pub fn closure_in(work: &mut [u64], n: usize, la: usize) -> usize
-    requires { ⌜ Room n la 0 (length (now work)) ⌝ }
-    ensures { λ r. ⌜ (r ≤ length (now (work .entry))) × OneTree (closure n) n la (now (work .entry)) (now (work .exit)) r ⌝ }
+    ensures { λ r. ⌜ Guarded (Room n la 0 (length (now (work .entry)))) (now (work .entry)) (now (work .exit)) r
+        (OneTree (closure n) n la (now (work .entry)) (now (work .exit)) r) ⌝ }
 {
-    let mut rows: [u64; 16384] = [0; 16384];
-    load_at(work, 0, la, n, 0, &mut rows);
-    rows::close(&mut rows, n);
-    packing::pack(&rows, n, work)
+    operate_on(4, work, n, la, 0, 0, 0)
 }
 
 // With it each record below n joined to itself.
 pub fn identity_in(work: &mut [u64], n: usize, la: usize) -> usize
-    requires { ⌜ Room n la 0 (length (now work)) ⌝ }
-    ensures { λ r. ⌜ (r ≤ length (now (work .entry))) × OneTree (λ a. union a (identity n)) n la (now (work .entry)) (now (work .exit)) r ⌝ }
+    ensures { λ r. ⌜ Guarded (Room n la 0 (length (now (work .entry)))) (now (work .entry)) (now (work .exit)) r
+        (OneTree (λ a. union a (identity n)) n la (now (work .entry)) (now (work .exit)) r) ⌝ }
 {
-    let mut rows: [u64; 16384] = [0; 16384];
-    load_at(work, 0, la, n, 0, &mut rows);
-    rows::set_diagonal(&mut rows, n);
-    packing::pack(&rows, n, work)
+    operate_on(5, work, n, la, 0, 0, 0)
 }
 
 // The tree of the pairs of link words, at the front of work. Pair words are their own.
 pub fn letter_in(work: &mut [u64], n: usize, words: &[u32]) -> usize
-    requires { ⌜ Room n 0 0 (length (now work)) ⌝ }
-    ensures { λ r. ⌜ (r ≤ length (now (work .entry))) × (IsSet n (setOf (map linkPair (now (words .entry))))
+    ensures { λ r. ⌜ Guarded (Room n 0 0 (length (now (work .entry)))) (now (work .entry)) (now (work .exit)) r
+        (IsSet n (setOf (map linkPair (now (words .entry))))
         → TreeAt n (setOf (map linkPair (now (words .entry)))) (now (work .exit)) r) ⌝ }
 {
-    let mut rows: [u64; 16384] = [0; 16384];
-    rows::put_words(words, &mut rows);
-    packing::pack(&rows, n, work)
+    guarded(6, work, n, 0, 0, 0, 0, words)
 }
 
 // Are both ends of each pair below n?
@@ -189,27 +293,10 @@ fn settle(work: &[u64], len: usize, out: &mut [u64]) -> Answer
     Answer::Done(len)
 }
 
-// One of the operations on two trees at the front of work, by its number.
-fn combine(kind: u8, work: &mut [u64], n: usize, la: usize, lb: usize) -> usize
-    requires { ⌜ Room n la lb (length (now work)) ⌝ }
-    ensures { λ r. ⌜ (r ≤ length (now (work .entry))) × TwoTrees (algebra kind n) n la lb (now (work .entry)) (now (work .exit)) r ⌝ }
-{
-    if kind == 0 {
-        return union_in(work, n, la, lb);
-    }
-    if kind == 1 {
-        return intersection_in(work, n, la, lb);
-    }
-    if kind == 2 {
-        return difference_in(work, n, la, lb);
-    }
-    product_in(work, n, la, lb, 0, 0)
-}
-
 // An operation on two lent trees, by its number.
 fn binary(kind: u8, n: usize, a: &[u64], b: &[u64], out: &mut [u64], work: &mut [u64]) -> Answer
     ensures { λ r. ⌜ Answered n [] (now (a .entry) ∷ now (b .entry) ∷ []) (length (now (work .entry)))
-        (TreeOfTwo (algebra kind n) n (now (a .entry)) (now (b .entry))) (now (out .entry)) (now (out .exit)) r ⌝ }
+        (TreeOfTwo (λ x y. outcome kind n x y noPairs) n (now (a .entry)) (now (b .entry))) (now (out .entry)) (now (out .exit)) r ⌝ }
 {
     let none: [u32; 1] = [0; 1];
     let cause = refusal(n, &none[..0], a, b, work.len());
@@ -218,7 +305,7 @@ fn binary(kind: u8, n: usize, a: &[u64], b: &[u64], out: &mut [u64], work: &mut 
     }
     copy(a, work, 0);
     copy(b, work, a.len());
-    let len = combine(kind, work, n, a.len(), b.len());
+    let len = operate_on(kind, work, n, a.len(), b.len(), 0, 0);
     settle(work, len, out)
 }
 

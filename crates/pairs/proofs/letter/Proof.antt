@@ -5,6 +5,7 @@ use mathlib.Core.List.{List, []}
 use Prim.Native.Nat.{ℕ, _+_, _-_, _*_, _≤_, _<_}
 use lib.ListN.{length, take, drop, getD}
 use Rattle.k2.specs.Trees.{treeUnit, treeWords}
+use Rattle.tree.specs.Inner.{Room}
 use Rattle.pairs.proofs.Stepping.{lies-letter, part-length, bounded-tree, goes-letter}
 use borrow.Author.Needs.{needs}
 use Rattle.pairs.proofs.letter.Statement.{statement}
@@ -26,7 +27,7 @@ part-letter-in-end : tie.Need-part-letter-in-end
 part-letter-in-end c = search needs
 
 letter-in-requires : tie.Need-letter-in-requires
-letter-in-requires c κs = let l = lies-letter (c .before .before .before .before .pre .3 .1) (c .before .before .before .before .pre .2) in record { size = c .before .before .before .before .pre .0; first = omega arith; second = omega arith; work = omega (arith, l .1, c .before .before .before .before .pre .1, part-length (c .before .before .before .before .args .work .now) (c .before .before .before .before .args .stack .end)) }
+letter-in-requires c κs = search needs
 
 bounded-requires : tie.Need-bounded-requires
 bounded-requires c κs = search needs
@@ -53,10 +54,12 @@ returns c =
     let I = c .before .before .before .letter-in in
     let D = c .bounded in
     let k : length (I .last .0) ≡ length (take (length (A .work .now) - A .stack .end) (drop (A .stack .end) (A .work .now))) = I .kept .0 in
+    let P = c .before .before .before .before .before .before .before .before .pre in
+    let R : Room (A .n) 0 0 (length (take (length (A .work .now) - A .stack .end) (drop (A .stack .end) (A .work .now)))) = record { size = P .0; first = omega arith; second = omega arith; work = omega (arith, l .1, P .1, part-length (A .work .now) (A .stack .end)) } in
     goes-letter (A .n) (A .op) (A .words .now) _ (A .work .now) (I .last .0) (A .stack .sizes) (A .stack .count) (A .stack .end) (D .result) (c .before .before .before .before .before .before .before .before .pre .2)
     (omega (arith, l .1, c .before .before .before .before .before .before .before .before .pre .1)) (c .before .before .before .before .before .before .before .before .pre .3 .1 .slots) (D .ensures .0)
     (omega (arith, l .1, c .before .before .before .before .before .before .before .before .pre .1, D .ensures .0, part-length (A .work .now) (A .stack .end)))
-    (c .before .before .before .before .before .label-part .ensures) (λ i. bounded-tree (I .ensures .1 i) (D .ensures .1))
+    (c .before .before .before .before .before .label-part .ensures) (λ i. bounded-tree (I .ensures .done R i) (D .ensures .1))
 
 pub letter-spec : {M : Type 1} → statement M
 letter-spec =

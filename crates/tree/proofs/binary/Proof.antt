@@ -8,7 +8,9 @@ use borrow.Author.Needs.{needs}
 use lib.ListN.{length, take}
 use Rattle.k2.specs.PairSetLaws.{PairsBelow}
 use Rattle.k2.specs.Trees.{treeUnit, WellFormed}
-use Rattle.tree.specs.Calls.{TreeOfTwo, algebra}
+use Rattle.rows.specs.Rows.{noPairs}
+use Rattle.tree.specs.Inner.{Room, outcome}
+use Rattle.tree.specs.Calls.{TreeOfTwo}
 use Rattle.tree.proofs.Answers.{refuse, accept, met, formed-two, two-formed, formed-most, two-only}
 use Rattle.tree.proofs.Copies.{copied-two}
 use Rattle.tree.proofs.binary.Statement.{statement}
@@ -31,7 +33,7 @@ refusal-requires c κs = search needs
 returns : tie.Need-returns
 returns c =
     let a = c .before .before .before .before .before .before .before .args in
-    refuse (a .n) [] (a .a .now ∷ a .b .now ∷ []) (length (a .work .now)) (TreeOfTwo (algebra (a .kind) (a .n)) (a .n) (a .a .now) (a .b .now)) (a .out .now) (a .out .now)
+    refuse (a .n) [] (a .a .now ∷ a .b .now ∷ []) (length (a .work .now)) (TreeOfTwo (λ x y. outcome (a .kind) (a .n) x y noPairs) (a .n) (a .a .now) (a .b .now)) (a .out .now) (a .out .now)
     (λ t. formed-two (t .0) (t .1)) two-formed (c .before .refusal .ensures) (c .if1 .taken) refl
 
 copy-requires : tie.Need-copy-requires
@@ -43,17 +45,13 @@ copy-requires-2 c κs =
     let k : length (c .before .before .before .copy .last .1 .0) ≡ length (c .before .before .before .before .before .before .before .before .before .before .before .before .args .work .now) = c .before .before .before .copy .kept .1 .0 in
     omega (arith, formed-most (m .3 .0), formed-most (m .3 .1), m .4)
 
-combine-requires : tie.Need-combine-requires
-combine-requires c κs =
-    let m = none (c .before .before .before .before .before .before .before .before .before) in
-    let k : length (c .before .before .before .before .before .before .before .copy .last .1 .0) ≡ length (c .before .before .before .before .before .before .before .before .before .before .before .before .before .before .before .before .args .work .now) = c .before .before .before .before .before .before .before .copy .kept .1 .0 in
-    let l : length (c .before .before .before .copy2 .last .1 .0) ≡ length (c .before .before .before .before .before .before .before .copy .last .1 .0) = c .before .before .before .copy2 .kept .1 .0 in
-    record { size = m .1; first = formed-most (m .3 .0); second = formed-most (m .3 .1); work = omega (arith, m .4) }
+operate-on-requires : tie.Need-operate-on-requires
+operate-on-requires c κs = (omega arith, omega arith)
 
 settle-requires : tie.Need-settle-requires
 settle-requires c κs =
-    let k : length (c .before .before .before .before .combine .last .1 .0) ≡ length (c .before .before .before .before .before .before .before .before .copy2 .last .1 .0) = c .before .before .before .before .combine .kept .1 .0 in
-    omega (arith, c .before .before .before .before .combine .ensures .0)
+    let k : length (c .before .before .before .before .operate-on .last .1 .0) ≡ length (c .before .before .before .before .before .before .before .before .copy2 .last .1 .0) = c .before .before .before .before .operate-on .kept .1 .0 in
+    omega (arith, c .before .before .before .before .operate-on .ensures .most)
 
 same-length : tie.Need-same-length
 same-length c = search needs
@@ -67,11 +65,14 @@ returns-2 c =
     let m = none (c .before .before .before .before .before .before .before .before .before .before .before .before .before .before .before .before .before) in
     let v = m .3 .0 in
     let w = m .3 .1 in
+    let k : length (c .before .before .before .before .before .before .before .before .before .before .before .before .before .before .before .copy .last .1 .0) ≡ length (a .work .now) = c .before .before .before .before .before .before .before .before .before .before .before .before .before .before .before .copy .kept .1 .0 in
+    let l : length (c .before .before .before .before .before .before .before .before .before .before .before .copy2 .last .1 .0) ≡ length (c .before .before .before .before .before .before .before .before .before .before .before .before .before .before .before .copy .last .1 .0) = c .before .before .before .before .before .before .before .before .before .before .before .copy2 .kept .1 .0 in
+    let o : Room (a .n) (length (a .a .now)) (length (a .b .now)) (length (c .before .before .before .before .before .before .before .before .before .before .before .copy2 .last .1 .0)) = record { size = m .1; first = formed-most v; second = formed-most w; work = omega (arith, m .4) } in
     let two = copied-two (a .a .now) (a .b .now) (a .work .now) _ _ (c .before .before .before .before .before .before .before .before .before .before .before .before .before .before .before .copy .ensures) (c .before .before .before .before .before .before .before .before .before .before .before .copy2 .ensures) in
-    let r = c .before .before .before .before .before .before .before .combine .ensures .1 (v .set) (w .set) (v .is-set) (w .is-set) (two .0 ∙ v .tree) (two .1 ∙ w .tree) in
-    let g : TreeOfTwo (algebra (a .kind) (a .n)) (a .n) (a .a .now) (a .b .now) (take (c .before .before .before .before .before .before .before .combine .result) (c .before .before .before .before .before .before .before .combine .last .1 .0)) =
+    let r = c .before .before .before .before .before .before .before .operate-on .ensures .done o (v .set) (w .set) (v .is-set) (w .is-set) (two .0 ∙ v .tree) (two .1 ∙ w .tree) in
+    let g : TreeOfTwo (λ x y. outcome (a .kind) (a .n) x y noPairs) (a .n) (a .a .now) (a .b .now) (take (c .before .before .before .before .before .before .before .operate-on .result) (c .before .before .before .before .before .before .before .operate-on .last .1 .0)) =
     record { first = v .set; second = w .set; first-set = v .is-set; second-set = w .is-set; first-tree = v .tree; second-tree = w .tree; words = r .words } in
-    accept (a .n) [] (a .a .now ∷ a .b .now ∷ []) (length (a .work .now)) (TreeOfTwo (algebra (a .kind) (a .n)) (a .n) (a .a .now) (a .b .now)) (a .out .now) _
+    accept (a .n) [] (a .a .now ∷ a .b .now ∷ []) (length (a .work .now)) (TreeOfTwo (λ x y. outcome (a .kind) (a .n) x y noPairs) (a .n) (a .a .now) (a .b .now)) (a .out .now) _
     (λ t. formed-two (t .0) (t .1)) (c .before .before .before .before .before .before .before .before .before .before .before .before .before .before .before .before .before .before .refusal .ensures) (c .before .before .before .before .before .before .before .before .before .before .before .before .before .before .before .before .before .if1 .left) _ g (λ ys q. two-only g q) (c .before .before .settle .ensures)
 
 pub binary-spec : {M : Type 1} → statement M
@@ -84,7 +85,7 @@ binary-spec =
     returns
     copy-requires
     copy-requires-2
-    combine-requires
+    operate-on-requires
     settle-requires
     same-length
     same-length-2

@@ -9,6 +9,7 @@ use Rattle.k2.specs.PairSets.{closure}
 use Rattle.k2.specs.PairSetLaws.{PairsBelow}
 use Rattle.k2.specs.Trees.{treeUnit, WellFormed}
 use Rattle.k2.specs.TreeLaws.{tree-none}
+use Rattle.tree.specs.Inner.{Room}
 use Rattle.tree.specs.Calls.{TreeOfOne}
 use Rattle.tree.proofs.Answers.{refuse, accept, met, formed-one, one-formed, formed-most, one-only}
 use Rattle.tree.proofs.Copies.{copied-one}
@@ -42,15 +43,12 @@ copy-requires : tie.Need-copy-requires
 copy-requires c κs = let m = none (c .before) in omega (arith, formed-most (m .3 .0), m .4)
 
 closure-in-requires : tie.Need-closure-in-requires
-closure-in-requires c κs =
-    let m = none (c .before .before .before .before .before) in
-    let k : length (c .before .before .before .copy .last .1 .0) ≡ length (c .before .before .before .before .before .before .before .before .before .before .before .before .args .work .now) = c .before .before .before .copy .kept .1 .0 in
-    record { size = m .1; first = formed-most (m .3 .0); second = omega arith; work = omega (arith, m .4) }
+closure-in-requires c κs = search needs
 
 settle-requires : tie.Need-settle-requires
 settle-requires c κs =
     let k : length (c .before .before .before .before .closure-in .last .0) ≡ length (c .before .before .before .before .before .before .before .before .copy .last .1 .0) = c .before .before .before .before .closure-in .kept .0 in
-    omega (arith, c .before .before .before .before .closure-in .ensures .0)
+    omega (arith, c .before .before .before .before .closure-in .ensures .most)
 
 same-length : tie.Need-same-length
 same-length c = search needs
@@ -61,8 +59,11 @@ same-length-2 c = search needs
 returns-2 : tie.Need-returns-2
 returns-2 c =
     let a = c .before .before .before .before .before .before .before .before .before .before .before .before .before .before .before .before .before .before .before .before .args in
-    let v = none (c .before .before .before .before .before .before .before .before .before .before .before .before .before) .3 .0 in
-    let r = c .before .before .before .before .before .before .before .closure-in .ensures .1 (v .set) (v .is-set) (copied-one (a .a .now) (a .work .now) _ (c .before .before .before .before .before .before .before .before .before .before .before .copy .ensures) ∙ v .tree) in
+    let m = none (c .before .before .before .before .before .before .before .before .before .before .before .before .before) in
+    let v = m .3 .0 in
+    let k : length (c .before .before .before .before .before .before .before .before .before .before .before .copy .last .1 .0) ≡ length (a .work .now) = c .before .before .before .before .before .before .before .before .before .before .before .copy .kept .1 .0 in
+    let o : Room (a .n) (length (a .a .now)) 0 (length (c .before .before .before .before .before .before .before .before .before .before .before .copy .last .1 .0)) = record { size = m .1; first = formed-most (m .3 .0); second = omega arith; work = omega (arith, m .4) } in
+    let r = c .before .before .before .before .before .before .before .closure-in .ensures .done o (v .set) (v .is-set) (copied-one (a .a .now) (a .work .now) _ (c .before .before .before .before .before .before .before .before .before .before .before .copy .ensures) ∙ v .tree) in
     let g : TreeOfOne (closure (a .n)) (a .n) (a .a .now) (take (c .before .before .before .before .before .before .before .closure-in .result) (c .before .before .before .before .before .before .before .closure-in .last .0)) = record { set = v .set; is-set = v .is-set; tree = v .tree; words = r .words } in
     accept (a .n) [] (a .a .now ∷ []) (length (a .work .now)) (TreeOfOne (closure (a .n)) (a .n) (a .a .now)) (a .out .now) _
     (λ t. formed-one (t .0)) (c .before .before .before .before .before .before .before .before .before .before .before .before .before .before .refusal .ensures) (c .before .before .before .before .before .before .before .before .before .before .before .before .before .if1 .left) _ g (λ ys q. one-only g q) (c .before .before .settle .ensures)

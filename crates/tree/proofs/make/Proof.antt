@@ -10,6 +10,7 @@ use Rattle.k2.specs.PairSetLaws.{PairsBelow, setOf-set}
 use Rattle.k2.specs.Trees.{treeWords, treeUnit, WellFormed}
 use Rattle.k2.specs.TreeLaws.{tree-none}
 use Rattle.rows.specs.RowLaws.{pair-links}
+use Rattle.tree.specs.Inner.{Room}
 use Rattle.tree.specs.Calls.{TreeOf}
 use Rattle.tree.proofs.Answers.{refuse, accept, met, formed-none}
 use Rattle.tree.proofs.make.Statement.{statement}
@@ -36,12 +37,12 @@ returns c =
     (λ t. formed-none) (λ f. (tree-none (a .n), tree-none (a .n))) (c .before .refusal .ensures) (c .if1 .taken) refl
 
 letter-in-requires : tie.Need-letter-in-requires
-letter-in-requires c κs = let m = none (c .before) in record { size = m .1; first = omega arith; second = omega arith; work = omega (arith, m .4) }
+letter-in-requires c κs = search needs
 
 settle-requires : tie.Need-settle-requires
 settle-requires c κs =
     let k : length (c .before .before .before .before .letter-in .last .0) ≡ length (c .before .before .before .before .before .before .before .before .before .before .before .before .args .work .now) = c .before .before .before .before .letter-in .kept .0 in
-    omega (arith, c .before .before .before .before .letter-in .ensures .0)
+    omega (arith, c .before .before .before .before .letter-in .ensures .most)
 
 same-length : tie.Need-same-length
 same-length c = search needs
@@ -54,10 +55,11 @@ returns-2 c =
     let a = c .before .before .before .before .before .before .before .before .before .before .before .before .before .before .before .args in
     let m = none (c .before .before .before .before .before .before .before .before .before) in
     let ps = a .pairs .now in
+    let o : Room (a .n) 0 0 (length (a .work .now)) = record { size = m .1; first = omega arith; second = omega arith; work = omega (arith, m .4) } in
     let e = pair-links ps (λ w i. (omega (arith, m .2 w i .0, m .1), omega arith)) in
     let is : IsSet (a .n) (setOf ps) = setOf-set (a .n) ps (m .1) (m .2) in
     let r : take (c .before .before .before .before .before .before .before .letter-in .result) (c .before .before .before .before .before .before .before .letter-in .last .0) ≡ treeWords (a .n) (setOf ps) =
-    c .before .before .before .before .before .before .before .letter-in .ensures .1 (rw e is) .words ∙ ap (λ (t : List ℕ). treeWords (a .n) (setOf t)) e in
+    c .before .before .before .before .before .before .before .letter-in .ensures .done o (rw e is) .words ∙ ap (λ (t : List ℕ). treeWords (a .n) (setOf t)) e in
     accept (a .n) ps [] (length (a .work .now)) (TreeOf (a .n) ps) (a .out .now) _
     (λ t. formed-none) (c .before .before .before .before .before .before .before .before .before .before .refusal .ensures) (c .before .before .before .before .before .before .before .before .before .if1 .left) _ r (λ ys q. q ∙ sym r) (c .before .before .settle .ensures)
 

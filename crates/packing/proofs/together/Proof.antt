@@ -1,21 +1,22 @@
--- `any` takes the words together. The loop's invariant: while w is 0, the words passed are. The measure is the words left. Assumes nothing.
+-- `together` takes the words one after another. The loop's invariant: w has each bit that one of the words passed has. The measure is the words left.
+-- Assumes nothing.
 use mathlib.Core.Path.{_≡_}
 use Prim.Native.Nat.{ℕ, _+_, _-_, _*_, _≤_, _<_}
 use native.Mathlib.Omega.{arith}
 use lib.ListN.{getD}
-use borrow.Author.Tests.{eqb-true, not-false}
-use Rattle.packing.proofs.Stores.{or-more}
-use Rattle.packing.proofs.any.Statement.{statement}
-use Rattle.packing.proofs.any.Tie as tie
+use Rattle.packing.specs.Image.{Together}
+use Rattle.packing.proofs.Stores.{or-more, or-digits}
+use Rattle.packing.proofs.together.Statement.{statement}
+use Rattle.packing.proofs.together.Tie as tie
 
 abbrev Inv-loop : tie.InvT-loop
-Inv-loop words i step count w₀ k₀ w k = (k ≤ count) × (w ≡ 0 → (j : ℕ) → j < k → getD words (i + step * j) 0 ≡ 0)
+Inv-loop words i step count w₀ k₀ w k = (k ≤ count) × (w ≡ 0 → (j : ℕ) → j < k → getD words (i + step * j) 0 ≡ 0) × Together words i step k w
 
 abbrev μ-loop : tie.MeasureT-loop
 μ-loop words i step count w₀ k₀ w k = count - k
 
 loop-holds : tie.Need-loop-holds Inv-loop μ-loop
-loop-holds c = (omega arith, λ e j l. absurd (omega arith))
+loop-holds c = (omega arith, λ e j l. absurd (omega arith), λ d j l e. absurd (omega arith))
 
 mul-w : tie.Need-mul-w Inv-loop μ-loop
 mul-w c = let p = c .before .before .pre (c .before .loop .k) (c .loop-test .taken) in omega arith
@@ -39,15 +40,16 @@ loop-again : tie.Need-loop-again Inv-loop μ-loop
 loop-again c =
     let a = c .before .before .before .args in
     let l = c .before .before .loop in
-    (omega arith, or-more (λ j. getD (a .words .now) (a .i + a .step * j) 0) (l .w) (l .k) (l .inv .1))
+    let x : ℕ → ℕ = λ j. getD (a .words .now) (a .i + a .step * j) 0 in
+    (omega arith, or-more x (l .w) (l .k) (l .inv .1), or-digits x (l .w) (l .k) (l .inv .2))
 
 returns : tie.Need-returns Inv-loop μ-loop
 returns c =
     let l = c .before .loop in
-    λ e k h. l .inv .1 (eqb-true (l .w) 0 (not-false _ e)) k (omega arith)
+    (λ e k h. l .inv .1 e k (omega arith), λ d k h e. l .inv .2 d k (omega arith) e)
 
-pub any-spec : {M : Type 1} → statement M
-any-spec =
+pub together-spec : {M : Type 1} → statement M
+together-spec =
     tie.close
     (tie.spec
     Inv-loop

@@ -1,0 +1,9 @@
+fn main() {
+    let folder = std::env::var("STATICLIB").expect("STATICLIB names the folder of libhost.a and libtreelib.a");
+    println!("cargo:rustc-link-search=native={folder}");
+    println!("cargo:rerun-if-env-changed=STATICLIB");
+    for library in ["host", "treelib"] {
+        println!("cargo:rustc-link-lib=static={library}");
+        println!("cargo:rerun-if-changed={folder}/lib{library}.a");
+    }
+}
