@@ -246,7 +246,7 @@ fn damaged_trees() {
             for a in shapes(n, &mut random) {
                 let tree = a.tree();
                 let bits = 64 * tree.len();
-                let step = 1 + bits / 150;
+                let step = 1 + bits / 100;
                 damage(n, &tree, (random.below(step)..bits).step_by(step), &mut random);
             }
             // every bit, those past the end too

@@ -140,14 +140,14 @@ fn measure() -> usize {
     ];
     for (name, set) in &shapes {
         let t = set.tree();
-        two(&mut table, &format!("product of itself, {name}"), 100e3, 4, Two::Product, &t, &t);
+        two(&mut table, &format!("product of itself, {name}"), 100e3, 3, Two::Product, &t, &t);
     }
     // no middle record serves: the search goes to its end for every cell
     let evens = Set::of(N, |_, y| y % 2 == 0).tree();
     let odds = Set::of(N, |x, _| x % 2 == 1).tree();
-    two(&mut table, "product, no middle record serves", 100e3, 4, Two::Product, &evens, &odds);
+    two(&mut table, "product, no middle record serves", 100e3, 3, Two::Product, &evens, &odds);
     for (name, set) in &shapes {
-        one(&mut table, &format!("closure, {name}"), 60e3, 4, One::Closure, &set.tree());
+        one(&mut table, &format!("closure, {name}"), 60e3, 3, One::Closure, &set.tree());
     }
     let t = full.tree();
     two(&mut table, "union, full", ANY, 3, Two::Union, &t, &t);
