@@ -11,8 +11,8 @@ use lib.Count.{trailingZeros, trailing-le}
 use lib.ListN.{getD}
 use borrow.Author.Tests.{lt-ltb, le-ltb, eq-eqb, ne-eqb}
 use Rattle.k2.specs.Bits.{digit, bitAt}
-use Rattle.k2.specs.WordLaws.{trailing-clear}
-use Rattle.k2.specs.DigitLaws.{digit-and, digit-none}
+use Rattle.k2.specs.WordLaws.{trailing-set, trailing-clear}
+use Rattle.k2.specs.DigitLaws.{digit-and, digit-none, digit-add, digit-big}
 use Rattle.k2.specs.BitLaws.{Bits, bit-lt, bit-in, bit-zero}
 use Rattle.k2.specs.PairSets.{Cells, IsSet, transpose, most, serves, product}
 use Rattle.k2.specs.PairSetLaws.{most-bit, most-none, some-most, product-set}
@@ -20,7 +20,7 @@ use Rattle.bits.specs.BitSets.{put, none}
 use Rattle.bits.specs.BitSetLaws.{put-at, put-off, digit-or-pow}
 use Rattle.rows.specs.Rows.{flat}
 use Rattle.rows.specs.RowLaws.{flat-at}
-use Rattle.rows.specs.Steps.{EmptyRow, Masked, Occupied, meets, served, below, withRow, rowsTo}
+use Rattle.rows.specs.Steps.{EmptyRow, Masked, Occupied, meets, Common, served, below, withRow, rowsTo}
 
 -- ---- most
 pub most-more : (n : ℕ) (f : ℕ → ℕ) → most n f ≡ 0 → f n ≡ 0 → most (n + 1) f ≡ 0
@@ -102,17 +102,53 @@ module _ (ws : List ℕ) (i s v : ℕ) (g : (k : ℕ) → k < s * 64 → digit v
 pub mask-empty : (f : ℕ → ℕ) (i v : ℕ) → Masked f i v → v ≡ 0 → EmptyRow f i
 mask-empty f i v g e k l = g k l (rw e (digit-none (k / 64)))
 
+-- rows have a column in common only in a square that both masks have
+pub masks-common : (f g : ℕ → ℕ) (i j u v : ℕ) → Masked f i u → Masked g j v → Common f g i j (bitAnd u v)
+masks-common f g i j u v a b k l z = go (decLt 0 (digit u (k / 64)))
+  where
+    meet : min (digit u (k / 64)) (digit v (k / 64)) ≡ 0
+    meet = sym (digit-and u v (k / 64)) ∙ z
+
+    go : Dec (0 < digit u (k / 64)) → meets f g i j k ≡ 0
+    go (yes p) = unfold meets in (rw (b k l (omega (arith, meet))) (omega arith))
+    go (no p) = unfold meets in (rw (a k l (omega arith)) (omega arith))
+
 -- masks that have no square in common
 pub masks-apart : (f g : ℕ → ℕ) (i j u v : ℕ) → Masked f i u → Masked g j v → bitAnd u v ≡ 0 → served f g i j ≡ 0
 unfolding served
-masks-apart f g i j u v a b z = most-none 1024 (meets f g i j) (λ k l. go k l (decLt 0 (digit u (k / 64))))
-  where
-    meet : (k : ℕ) → min (digit u (k / 64)) (digit v (k / 64)) ≡ 0
-    meet k = sym (digit-and u v (k / 64)) ∙ rw z (digit-none (k / 64))
+masks-apart f g i j u v a b z = most-none 1024 (meets f g i j) (λ k l. masks-common f g i j u v a b k l (rw z (digit-none (k / 64))))
 
-    go : (k : ℕ) → k < 1024 → Dec (0 < digit u (k / 64)) → meets f g i j k ≡ 0
-    go k l (yes p) = unfold meets in (rw (b k l (omega (arith, meet k))) (omega arith))
-    go k l (no p) = unfold meets in (rw (a k l (omega arith)) (omega arith))
+-- ---- the squares in common, as the bits of a mask
+pub first-square : (v : ℕ) → 0 < v → v < 65536 → trailingZeros 32 v < 16
+first-square v h l = go (decLt (trailingZeros 32 v) 16)
+  where
+    go : Dec (trailingZeros 32 v < 16) → trailingZeros 32 v < 16
+    go (yes p) = p
+    go (no p) = absurd (omega (arith, trailing-set 32 v h (omega arith), digit-big 16 (trailingZeros 32 v) v l (omega arith)))
+
+pub square-inside : (v s : ℕ) → v < 65536 → s ≤ 16 → (v / 2 ^ s ≡ 0 → ⊥) → s < 16
+square-inside v s l h n = go (decLt s 16)
+  where
+    go : Dec (s < 16) → s < 16
+    go (yes p) = p
+    go (no p) = let e : s ≡ 16 = omega arith in absurd (n (rw e (omega arith)))
+
+module _ (a b : List ℕ) (i j v : ℕ) (g : Common (bitAt a) (bitAt b) i j v) where
+  -- none before the first
+  pub common-first : trailingZeros 32 v < 16 → most (trailingZeros 32 v * 64) (meets (bitAt a) (bitAt b) i j) ≡ 0
+  common-first f = most-none (trailingZeros 32 v * 64) (meets (bitAt a) (bitAt b) i j) (λ k l. g k (omega arith) (trailing-clear 32 v (k / 64) (omega arith)))
+
+  -- none after the last
+  pub common-last : (s : ℕ) → s ≤ 16 → v / 2 ^ s ≡ 0 → most (s * 64) (meets (bitAt a) (bitAt b) i j) ≡ 0 → served (bitAt a) (bitAt b) i j ≡ 0
+  unfolding served
+  common-last s h z e =
+      let d : s * 64 + (1024 - s * 64) ≡ 1024 = omega arith in
+      rw d at (most-far (s * 64) (1024 - s * 64) (meets (bitAt a) (bitAt b) i j) e gone)
+    where
+      gone : (k : ℕ) → s * 64 ≤ k → k < s * 64 + (1024 - s * 64) → meets (bitAt a) (bitAt b) i j k ≡ 0
+      gone k l m =
+          let q : k / 64 ≡ s + (k / 64 - s) = omega arith in
+          g k (omega arith) (ap (digit v) q ∙ digit-add v s (k / 64 - s) ∙ rw z (digit-none (k / 64 - s)))
 
 -- an empty row has no column in common with any
 pub empty-serves : (f g : ℕ → ℕ) (i j : ℕ) → EmptyRow g j → served f g i j ≡ 0

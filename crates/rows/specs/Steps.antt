@@ -6,6 +6,8 @@
 --                   r 0 < r 1 < .. r m are the rows below n that may hold a pair, and n: every row between them is empty
 --   Masks f m l     each of m entries has a mask of its row
 --   meets f g i j k row i of f and row j of g both have column k
+--   Common f g i j v
+--                   they have none in the squares at which the mask v has no bit
 --   served f g i j  1 if they have a column in common, else 0
 --   below b g       the bits g before place b
 --   withRow i g f   f with the bits g as row i
@@ -43,6 +45,9 @@ Masks f m l = (t : ℕ) → t < m → Masked f (getD l t 0 % 1024) (getD l t 0 /
 
 unfoldable pub meets : (ℕ → ℕ) → (ℕ → ℕ) → ℕ → ℕ → ℕ → ℕ
 meets f g i j k = min (f (i * 1024 + k)) (g (j * 1024 + k))
+
+abbrev pub Common : (ℕ → ℕ) → (ℕ → ℕ) → ℕ → ℕ → ℕ → Type 0
+Common f g i j v = (k : ℕ) → k < 1024 → digit v (k / 64) ≡ 0 → meets f g i j k ≡ 0
 
 unfoldable pub served : (ℕ → ℕ) → (ℕ → ℕ) → ℕ → ℕ → ℕ
 served f g i j = most 1024 (meets f g i j)

@@ -9,7 +9,7 @@ ghost use Rattle.k2.specs.Bits.{bitAt};
 ghost use Rattle.k2.specs.PairSets.{Cells, IsSet, listed, setOf, union, intersection, difference, transpose, product, over, closure};
 ghost use Rattle.bits.specs.BitSets.{none};
 ghost use Rattle.rows.specs.Rows.{flat, identity, linkPair, RowsOf};
-ghost use Rattle.rows.specs.Steps.{Masked, rowAt, Occupied, Masks, served, below, withRow, plusRow};
+ghost use Rattle.rows.specs.Steps.{Masked, rowAt, Occupied, Masks, Common, served, below, withRow, plusRow};
 
 // The pairs of b put into a.
 pub fn union(a: &mut [u64], b: &[u64])
@@ -160,15 +160,17 @@ fn occupied(rows: &[u64], n: usize, list: &mut [u32]) -> usize
     m
 }
 
-// 1 if some middle record serves, that is, row i of a and row j of b have a column in common, else 0. The search goes over the squares, and
-// in a square that has such a column over its records, those before its first one passed at once, and is left at the first that serves.
-fn serves(a: &[u64], i: usize, b: &[u64], j: usize) -> u64
-    requires { ⌜ (length (now a) ≡ 16384) × (i < 1024) × (length (now b) ≡ 16384) × (j < 1024) ⌝ }
-    ensures { λ r. ⌜ r ≡ served (bitAt (now (a .entry))) (bitAt (now (b .entry))) i j ⌝ }
+// 1 if some middle record serves, that is, row i of a and row j of b have a column in common, else 0. The search goes over the squares, from the
+// first to the last of those in common, and in a square that has such a column over its records, those before its first one passed at once; it
+// is left at the first that serves.
+fn serves(a: &[u64], i: usize, b: &[u64], j: usize, common: u32) -> u64
+    requires { ⌜ (length (now a) ≡ 16384) × (i < 1024) × (length (now b) ≡ 16384) × (j < 1024) × (0 < common) × (common < 65536) ⌝ }
+    ensures { λ r. ⌜ (Common (bitAt (now (a .entry))) (bitAt (now (b .entry))) i j common
+        → r ≡ served (bitAt (now (a .entry))) (bitAt (now (b .entry))) i j) ⌝ }
 {
     let mut found: u64 = 0;
-    let mut s = 0;
-    'search: while s < 16 {
+    let mut s = u32::trailing_zeros(common) as usize;
+    'search: while common >> s != 0 {
         let both = a[i * 16 + s] & b[j * 16 + s];
         if both != 0 {
             let mut k = u64::trailing_zeros(both);
@@ -188,7 +190,7 @@ fn serves(a: &[u64], i: usize, b: &[u64], j: usize) -> u64
 // Row i of the product: its columns are the entries of the list whose rows of bt serve. A column whose squares are not among those of row i
 // is passed at once.
 fn product_row(a: &[u64], i: usize, mask: u32, bt: &[u64], list: &[u32], m: usize, row: &mut [u64])
-    requires { ⌜ (length (now a) ≡ 16384) × (i < 1024) × (length (now bt) ≡ 16384) × (length (now list) ≡ 1024) × (m ≤ 1024)
+    requires { ⌜ (length (now a) ≡ 16384) × (i < 1024) × (mask < 65536) × (length (now bt) ≡ 16384) × (length (now list) ≡ 1024) × (m ≤ 1024)
         × (length (now row) ≡ 16) ⌝ }
     ensures { λ _. ⌜ ((n : ℕ) → Masked (bitAt (now (a .entry))) i mask → Occupied (bitAt (now (bt .entry))) n (rowAt n m (now (list .entry))) m
         → Masks (bitAt (now (bt .entry))) m (now (list .entry)) → bitAt (now (row .entry)) ≡ none
@@ -197,9 +199,10 @@ fn product_row(a: &[u64], i: usize, mask: u32, bt: &[u64], list: &[u32], m: usiz
     let mut t = 0;
     while t < m {
         let entry = list[t];
-        if mask & (entry / 1024) != 0 {
+        let common = mask & (entry / 1024);
+        if common != 0 {
             let j = (entry % 1024) as usize;
-            if serves(a, i, bt, j) == 1 {
+            if serves(a, i, bt, j, common) == 1 {
                 bits::set_bit(row, j);
             }
         }

@@ -45,7 +45,7 @@ slice-aggregate-product-row-2 c = omega arith
 product-row-requires : tie.Need-product-row-requires Inv-loop μ-loop
 product-row-requires c κs =
     let o = c .before .before .before .before .before .before .before .before .before .occupied in
-    (omega arith, omega arith, omega arith, o .kept .1 .1 .0, o .ensures .0, refl)
+    (omega arith, omega arith, c .before .before .before .before .squares .ensures .0, omega arith, o .kept .1 .1 .0, o .ensures .0, refl)
 
 slice-aggregate-store-row : tie.Need-slice-aggregate-store-row Inv-loop μ-loop
 slice-aggregate-store-row c = omega arith

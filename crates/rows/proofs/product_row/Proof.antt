@@ -2,14 +2,15 @@
 -- set. The measure is the entries left. It rests on `row-skip`, `row-put` and, where the masks do not meet, `masks-apart`. Assumes nothing.
 use mathlib.Core.Path.{_≡_, refl, sym, ap, _∙_}
 use mathlib.Core.Logic.{⊎-elim}
-use Prim.Native.Nat.{ℕ, _≤_, _<_, _-_, _%_}
+use Prim.Native.Nat.{ℕ, _≤_, _<_, _-_, _/_, _%_}
 use native.Mathlib.Omega.{arith}
 use borrow.Author.Needs.{needs}
+use lib.Bits.{bitAnd, and-le-l}
 use lib.ListN.{length, getD}
 use Rattle.k2.specs.Bits.{bitAt}
 use Rattle.bits.specs.BitSets.{none, put}
-use Rattle.rows.specs.Steps.{Masked, rowAt, Occupied, Masks, served, below}
-use Rattle.rows.proofs.Search.{served-bit, masks-apart, row-start, row-skip, row-put}
+use Rattle.rows.specs.Steps.{Masked, rowAt, Occupied, Masks, Common, served, below}
+use Rattle.rows.proofs.Search.{served-bit, masks-common, masks-apart, row-start, row-skip, row-put}
 use Rattle.rows.proofs.Entries.{row-at, row-end}
 use Rattle.rows.proofs.product_row.Statement.{statement}
 use Rattle.rows.proofs.product_row.Tie as tie
@@ -37,7 +38,9 @@ cast-j : tie.Need-cast-j Inv-loop μ-loop
 cast-j c = omega arith
 
 serves-requires : tie.Need-serves-requires Inv-loop μ-loop
-serves-requires c κs = (omega arith, omega arith, omega arith, omega arith)
+serves-requires c κs =
+    let a = c .before .before .before .before .before .before .before .before .args in
+    (omega arith, omega arith, omega arith, omega arith, omega arith, omega (arith, and-le-l (a .mask) (getD (a .list .now) (c .before .before .before .loop .t) 0 / 1024)))
 
 set-bit-requires : tie.Need-set-bit-requires Inv-loop μ-loop
 set-bit-requires c κs = omega arith
@@ -57,6 +60,8 @@ loop-again c =
     let R : ℕ → ℕ → ℕ = λ n. rowAt n (a .m) (a .list .now) in
     let S = served f g (a .i) in
     let h : l .t < a .m = omega arith in
+    let both : Masked f (a .i) (a .mask) → Masks g (a .m) (a .list .now) → Common f g (a .i) (getD (a .list .now) (l .t) 0 % 1024) (bitAnd (a .mask) (getD (a .list .now) (l .t) 0 / 1024))
+    = λ u k. masks-common f g (a .i) _ (a .mask) _ u (k (l .t) h) in
     let at : (n : ℕ) → R n (l .t) ≡ getD (a .list .now) (l .t) 0 % 1024 = λ n. row-at n (a .m) (a .list .now) (l .t) h in
     ⊎-elim
     (λ w. (
@@ -65,7 +70,7 @@ loop-again c =
       λ n u o k e.
           rw (w .7) (w .4 .ensures ∙ rw (l .inv .2 n u o k e) (
           ap (λ (j : ℕ). put j 1 (below (R n (l .t)) S)) (sym (at n))
-          ∙ row-put f g (a .i) n (a .m) (R n) o (l .t) h (ap S (at n) ∙ sym (w .1 .ensures) ∙ w .2 .taken))),
+          ∙ row-put f g (a .i) n (a .m) (R n) o (l .t) h (ap S (at n) ∙ sym (w .1 .ensures (both u k)) ∙ w .2 .taken))),
     ))
     (λ v. ⊎-elim
     (λ w. (
@@ -73,7 +78,7 @@ loop-again c =
       rw (w .3) (l .inv .1),
       λ n u o k e.
           let z : S (getD (a .list .now) (l .t) 0 % 1024) ≡ 0 =
-          omega (arith, w .1 .ensures, w .2 .left, served-bit (a .a .now) (a .bt .now) (a .i) (getD (a .list .now) (l .t) 0 % 1024)) in
+          omega (arith, w .1 .ensures (both u k), w .2 .left, served-bit (a .a .now) (a .bt .now) (a .i) (getD (a .list .now) (l .t) 0 % 1024)) in
           rw (w .3) (l .inv .2 n u o k e ∙ row-skip f g (a .i) n (a .m) (R n) o (l .t) h (ap S (at n) ∙ z)),
     ))
     (λ w. (
