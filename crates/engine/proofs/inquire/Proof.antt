@@ -1,11 +1,13 @@
 -- `engine::inquire` meets its contract: `replay` and the questions keep their promises, and demand 3 follows from them. Assumes nothing.
-use mathlib.Core.Path.{_≡_, sym, refl, _∙_, subst}
+use mathlib.Core.Path.{_≡_, sym, refl, ap, _∙_, subst}
 use mathlib.Core.List.{List}
 use Prim.Native.Nat.{ℕ}
 use borrow.Author.Needs.{needs}
 use Rattle.register.specs.declared.Register.{Register}
 use Rattle.chains.specs.Replies.{Replies}
+use Rattle.pairs.specs.declared.PairsAnswer.the-variants.{Refused}
 use Rattle.chains.specs.declared.ChainAnswer.{ChainAnswer}
+use Rattle.chains.specs.declared.ChainAnswer.the-variants.{Refused as Unanswered}
 use Rattle.engine.specs.DemandLaws.{claims, replayed-told, replayed-past}
 use Rattle.engine.proofs.inquire.Statement.{statement}
 use Rattle.engine.proofs.inquire.Tie as tie
@@ -31,7 +33,7 @@ returns c =
     let p = c .before .before .before .before .before .before .before .replay .ensures in
     record {
       number = p .answer;
-      refused = λ n. (p .refused n, refl, refl);
+      refused = λ n. (ap Refused (told ∙ p .answer), ap Unanswered (told ∙ p .answer), p .refused n, refl, refl);
       past = replayed-past _ _ _ _ p;
       demand = λ z. absurd (c .if1 .taken (told ∙ p .answer ∙ z));
     }
