@@ -7,9 +7,9 @@ ghost use Rattle.k2.specs.PairSets.{Cells, IsSet, listed};
 ghost use Rattle.k2.specs.Trees.{treeUnit, treeWords};
 ghost use Rattle.paths.specs.Expressions.{Expr};
 ghost use Rattle.paths.specs.Grammar.{accepted};
-ghost use Rattle.tree.specs.Inner.{OneTree, TwoTrees};
-ghost use Rattle.pairs.specs.Evaluation.{onOne, onTwo, Room};
-ghost use Rattle.pairs.specs.Steps.{Goes, Coded, Evaluated};
+ghost use Rattle.tree.specs.Inner.{OneWithLinks, TwoWithLinks};
+ghost use Rattle.pairs.specs.Evaluation.{onOne, onTwo, Placed, Room};
+ghost use Rattle.pairs.specs.Steps.{Topped, Settled, Goes, Coded, Evaluated};
 ghost use Rattle.pairs.specs.Asking.{Handed, AsksFor, AsksPairs};
 ghost use Rattle.pairs.specs.declared.PairsAnswer.the-variants.{Refused};
 
@@ -19,11 +19,15 @@ pub enum PairsAnswer {
     Refused(u32),
 }
 
-// The operands that wait: the words of each one's tree, how many wait, and where their trees end in the work.
+// The operands that wait: the words of each one's tree, how many wait, and where their trees end in the work. The one on top may have the links of
+// a letter beside its tree: their label, 26 if there are none, and their sense, 1 if the letter is inverted. So a letter's tree is made only if
+// the letter has to wait.
 struct Stack {
     sizes: [usize; 19],
     count: usize,
     end: usize,
+    label: u8,
+    sense: usize,
 }
 
 // A size, cut off at D. Of a register's own links no tree is longer.
@@ -38,71 +42,117 @@ fn bounded(size: usize, n: usize) -> usize
     size
 }
 
-// An operator on the tree at the front of a part of work, in whose place its value is left; how many words it has.
-fn on_one(part: &mut [u64], n: usize, op: u8, size: usize) -> usize
-    requires { ⌜ (n ≤ 1024) × (size ≤ treeUnit n) × (2 * treeUnit n ≤ length (now part)) ⌝ }
-    ensures { λ r. ⌜ (r ≤ treeUnit n) × (26 ≤ op → op < 30 → OneTree (onOne n op) n size (now (part .entry)) (now (part .exit)) r) ⌝ }
+// An operator on the tree at the front of a part of work, with links beside it; its value is left in its place. How many words it has. Any other
+// number than an operator's puts the links in.
+fn on_one(part: &mut [u64], n: usize, op: u8, size: usize, links: &[u32], sense: usize) -> usize
+    requires { ⌜ (n ≤ 1024) × (size ≤ treeUnit n) × (sense ≤ 1) × (2 * treeUnit n ≤ length (now part)) ⌝ }
+    ensures { λ r. ⌜ (r ≤ treeUnit n) × OneWithLinks (onOne n op) n size (now (links .entry)) sense (now (part .entry)) (now (part .exit)) r ⌝ }
 {
     if op == 26 {
-        return bounded(tree::transpose_in(part, n, size), n);
+        return bounded(tree::transpose_with(part, n, size, links, sense), n);
     }
     if op == 27 {
-        let closed = bounded(tree::closure_in(part, n, size), n);
-        return bounded(tree::identity_in(part, n, closed), n);
+        return bounded(tree::star_with(part, n, size, links, sense), n);
     }
     if op == 28 {
-        return bounded(tree::closure_in(part, n, size), n);
+        return bounded(tree::closure_with(part, n, size, links, sense), n);
     }
-    bounded(tree::identity_in(part, n, size), n)
+    if op == 29 {
+        return bounded(tree::optional_with(part, n, size, links, sense), n);
+    }
+    bounded(tree::put_links_in(part, n, size, links, sense), n)
 }
 
-// An operator on the two trees at the front of a part of work.
-fn on_two(part: &mut [u64], n: usize, op: u8, left: usize, right: usize) -> usize
-    requires { ⌜ (n ≤ 1024) × (left ≤ treeUnit n) × (right ≤ treeUnit n) × (2 * treeUnit n ≤ length (now part)) ⌝ }
-    ensures { λ r. ⌜ (r ≤ treeUnit n) × TwoTrees (onTwo n op) n left right (now (part .entry)) (now (part .exit)) r ⌝ }
+// An operator on the two trees at the front of a part of work, the second with links beside it.
+fn on_two(
+    part: &mut [u64],
+    n: usize,
+    op: u8,
+    left: usize,
+    right: usize,
+    links: &[u32],
+    sense: usize,
+) -> usize
+    requires { ⌜ (n ≤ 1024) × (left ≤ treeUnit n) × (right ≤ treeUnit n) × (sense ≤ 1) × (2 * treeUnit n ≤ length (now part)) ⌝ }
+    ensures { λ r. ⌜ (r ≤ treeUnit n) × TwoWithLinks (onTwo n op) n left right (now (links .entry)) sense (now (part .entry)) (now (part .exit)) r ⌝ }
 {
     if op == 30 {
-        return bounded(tree::union_in(part, n, left, right), n);
+        return bounded(
+            tree::union_with(part, n, left, right, links, sense),
+            n,
+        );
     }
-    bounded(tree::product_in(part, n, left, right, 0, 0), n)
-}
-
-// A letter's tree, put behind those that wait.
-fn letter(work: &mut [u64], n: usize, words: &[u32], stack: Stack, op: u8) -> Stack
-    requires { ⌜ (n ≤ 1024) × (32 * treeUnit n ≤ length (now work)) × (op < 26) × ((c : List ℕ) × Room (treeUnit n) (op ∷ c) (stack .sizes) (stack .count) (stack .end)) ⌝ }
-    ensures { λ r. ⌜ Goes n (now (words .entry)) op (now (work .entry)) (now (work .exit)) (stack .sizes) (stack .count) (stack .end) (r .sizes) (r .count) (r .end) ⌝ }
-{
-    let mut next = stack;
-    let count = next.count;
-    let end = next.end;
-    let links = register::label_part(words, op);
-    let made = tree::letter_in(&mut work[end..], n, links);
-    let size = bounded(made, n);
-    next.sizes[count] = size;
-    next.count = count + 1;
-    next.end = end + size;
-    next
+    bounded(
+        tree::product_with(part, n, left, right, links, sense),
+        n,
+    )
 }
 
 // An operator on the operand on top; the part of work from it on is lent to the operation.
-fn unary(work: &mut [u64], n: usize, stack: Stack, op: u8) -> Stack
-    requires { ⌜ (n ≤ 1024) × (32 * treeUnit n ≤ length (now work)) × (26 ≤ op) × (op < 30) × ((c : List ℕ) × Room (treeUnit n) (op ∷ c) (stack .sizes) (stack .count) (stack .end)) ⌝ }
-    ensures { λ r. ⌜ ((ws : List ℕ) → Goes n ws op (now (work .entry)) (now (work .exit)) (stack .sizes) (stack .count) (stack .end) (r .sizes) (r .count) (r .end)) ⌝ }
+fn on_top(work: &mut [u64], n: usize, words: &[u32], stack: Stack, op: u8) -> Stack
+    requires { ⌜ (n ≤ 1024) × (32 * treeUnit n ≤ length (now work)) × (1 ≤ stack .count) × (stack .count ≤ 19) × Placed (treeUnit n) stack ⌝ }
+    ensures { λ r. ⌜ Topped n (now (words .entry)) op (now (work .entry)) (now (work .exit)) stack r ⌝ }
 {
     let mut next = stack;
     let top = next.count - 1;
     let last = next.sizes[top];
     let start = next.end - last;
-    let size = on_one(&mut work[start..], n, op, last);
+    let links = register::label_part(words, next.label);
+    let size = on_one(&mut work[start..], n, op, last, links, next.sense);
     next.sizes[top] = size;
     next.end = start + size;
+    next.label = 26;
+    next.sense = 0;
     next
 }
 
+// The links beside the operand on top put into its tree, if there are any.
+fn settle(work: &mut [u64], n: usize, words: &[u32], stack: Stack) -> Stack
+    requires { ⌜ (n ≤ 1024) × (32 * treeUnit n ≤ length (now work)) × (stack .count ≤ 19) × Placed (treeUnit n) stack ⌝ }
+    ensures { λ r. ⌜ Settled n (now (words .entry)) (now (work .entry)) (now (work .exit)) stack r ⌝ }
+{
+    if stack.count == 0 {
+        return stack;
+    }
+    if stack.label == 26 {
+        return stack;
+    }
+    on_top(work, n, words, stack, 0)
+}
+
+// A letter: an operand more, whose links are beside an empty tree.
+fn letter(work: &mut [u64], n: usize, words: &[u32], stack: Stack, op: u8) -> Stack
+    requires { ⌜ (n ≤ 1024) × (32 * treeUnit n ≤ length (now work)) × (op < 26) × ((c : List ℕ) × Room (treeUnit n) (op ∷ c) stack) ⌝ }
+    ensures { λ r. ⌜ Goes n (now (words .entry)) op (now (work .entry)) (now (work .exit)) stack r ⌝ }
+{
+    let mut next = settle(work, n, words, stack);
+    let count = next.count;
+    next.sizes[count] = 0;
+    next.count = count + 1;
+    next.label = op;
+    next.sense = 0;
+    next
+}
+
+// An operator on one operand. If the tree on top has no words, `^` is the other sense of the links beside it.
+fn unary(work: &mut [u64], n: usize, words: &[u32], stack: Stack, op: u8) -> Stack
+    requires { ⌜ (n ≤ 1024) × (32 * treeUnit n ≤ length (now work)) × (26 ≤ op) × (op < 30) × ((c : List ℕ) × Room (treeUnit n) (op ∷ c) stack) ⌝ }
+    ensures { λ r. ⌜ Goes n (now (words .entry)) op (now (work .entry)) (now (work .exit)) stack r ⌝ }
+{
+    let top = stack.count - 1;
+    let last = stack.sizes[top];
+    if op == 26 && last == 0 {
+        let mut next = stack;
+        next.sense = 1 - next.sense;
+        return next;
+    }
+    on_top(work, n, words, stack, op)
+}
+
 // An operator on the two operands on top; the part of work from the lower one on is lent to the operation.
-fn binary(work: &mut [u64], n: usize, stack: Stack, op: u8) -> Stack
-    requires { ⌜ (n ≤ 1024) × (32 * treeUnit n ≤ length (now work)) × (30 ≤ op) × ((c : List ℕ) × Room (treeUnit n) (op ∷ c) (stack .sizes) (stack .count) (stack .end)) ⌝ }
-    ensures { λ r. ⌜ ((ws : List ℕ) → Goes n ws op (now (work .entry)) (now (work .exit)) (stack .sizes) (stack .count) (stack .end) (r .sizes) (r .count) (r .end)) ⌝ }
+fn binary(work: &mut [u64], n: usize, words: &[u32], stack: Stack, op: u8) -> Stack
+    requires { ⌜ (n ≤ 1024) × (32 * treeUnit n ≤ length (now work)) × (30 ≤ op) × ((c : List ℕ) × Room (treeUnit n) (op ∷ c) stack) ⌝ }
+    ensures { λ r. ⌜ Goes n (now (words .entry)) op (now (work .entry)) (now (work .exit)) stack r ⌝ }
 {
     let mut next = stack;
     let top = next.count - 1;
@@ -110,25 +160,28 @@ fn binary(work: &mut [u64], n: usize, stack: Stack, op: u8) -> Stack
     let right = next.sizes[top];
     let left = next.sizes[below];
     let start = next.end - right - left;
-    let size = on_two(&mut work[start..], n, op, left, right);
+    let links = register::label_part(words, next.label);
+    let size = on_two(&mut work[start..], n, op, left, right, links, next.sense);
     next.sizes[below] = size;
     next.count = top;
     next.end = start + size;
+    next.label = 26;
+    next.sense = 0;
     next
 }
 
 // One number of the code.
 fn step(work: &mut [u64], n: usize, words: &[u32], stack: Stack, op: u8) -> Stack
-    requires { ⌜ (n ≤ 1024) × (32 * treeUnit n ≤ length (now work)) × ((c : List ℕ) × Room (treeUnit n) (op ∷ c) (stack .sizes) (stack .count) (stack .end)) ⌝ }
-    ensures { λ r. ⌜ Goes n (now (words .entry)) op (now (work .entry)) (now (work .exit)) (stack .sizes) (stack .count) (stack .end) (r .sizes) (r .count) (r .end) ⌝ }
+    requires { ⌜ (n ≤ 1024) × (32 * treeUnit n ≤ length (now work)) × ((c : List ℕ) × Room (treeUnit n) (op ∷ c) stack) ⌝ }
+    ensures { λ r. ⌜ Goes n (now (words .entry)) op (now (work .entry)) (now (work .exit)) stack r ⌝ }
 {
     if op < 26 {
         return letter(work, n, words, stack, op);
     }
     if op < 30 {
-        return unary(work, n, stack, op);
+        return unary(work, n, words, stack, op);
     }
-    binary(work, n, stack, op)
+    binary(work, n, words, stack, op)
 }
 
 // The whole code: its value's tree is left at the front of work; how many words it has.
@@ -140,13 +193,16 @@ fn evaluate(work: &mut [u64], n: usize, words: &[u32], code: &[u8]) -> usize
         sizes: [0; 19],
         count: 0,
         end: 0,
+        label: 26,
+        sense: 0,
     };
     let mut i = 0;
     while i < code.len() {
         stack = step(work, n, words, stack, code[i]);
         i += 1;
     }
-    stack.end
+    let last = settle(work, n, words, stack);
+    last.end
 }
 
 // The pairs of the tree at the front of work, handed over if the list takes them.
