@@ -1,6 +1,6 @@
 -- One number of the code, in plain variables: what a letter, an operator on one operand and one on two do to the operands that wait.
 -- Assumes nothing.
-use mathlib.Core.Path.{_≡_, refl, sym, ap, ap₂, _∙_, subst}
+use mathlib.Core.Path.{_≡_, refl, sym, ap, ap₂, _∙_, subst, fun-ext}
 use mathlib.Core.List.{List, [], _∷_, _++_, map, append-nil}
 use Prim.Native.Nat.{ℕ, zero, suc, _+_, _-_, _*_, _<_, _≤_}
 use native.Mathlib.Nat.{mul-le-mul-right}
@@ -8,29 +8,34 @@ use native.Mathlib.Numerals.{add-one}
 use native.Mathlib.Omega.{arith}
 use lib.ListN.{length, take, drop, getD, set, length-drop, drop-of-length-le}
 use lib.Seq.{drop-cons, drop-at, drop-drop, length-take-le, drop-length, take-all}
-use borrow.Author.Tests.{ne-eqb}
+use borrow.Author.Tests.{eq-eqb, ne-eqb}
 use borrow.Rule.Slice.PartMut.{putMid, take-put, mid-len}
 use Rattle.book.specs.Book.{Book}
 use Rattle.k2.specs.PairSets.{Cells, IsSet, setOf, union, transpose, product, closure}
-use Rattle.k2.specs.PairSetLaws.{closure-set}
+use Rattle.k2.specs.PairSetLaws.{union-set}
 use Rattle.k2.specs.Trees.{treeUnit, treeWords}
+use Rattle.k2.specs.TreeLaws.{treeWords-none, treeWords-tell}
 use Rattle.paths.specs.Expressions.{Expr, letter}
 use Rattle.paths.specs.Chains.{Graph, asked}
 use Rattle.paths.specs.Relations.{crossed, zeroSteps}
 use Rattle.paths.specs.RelationLaws.{crossed-set}
 use Rattle.paths.specs.PairLaws.{fit-inside}
 use Rattle.register.specs.Questions.{LabelPart, pairOf}
-use Rattle.rows.specs.Rows.{identity, linkPair}
+use Rattle.rows.specs.Rows.{identity, noPairs, linkPair}
+use Rattle.rows.specs.RowLaws.{none-set, union-none}
 use Rattle.reader.specs.Code.{does, run}
 use Rattle.reader.specs.Running.{operands}
 use Rattle.packing.specs.Reading.{sensed}
-use Rattle.tree.specs.Inner.{TreeAt, OneTree, TwoTrees}
-use Rattle.pairs.specs.Evaluation.{relations, onOne, onTwo, Sets, Sizes, laid, most-waiting, Waiting, Totals, Room}
-use Rattle.pairs.specs.EvaluationLaws.{begins, does-label, does-one, does-two, on-one-set, on-two-set, label-set, zero-identity, runs-number, runs-operands, runs-room, sizes-count, Top, top, waiting-more}
-use Rattle.pairs.specs.RoomLaws.{room-begins, room-ends, room-operands, room-more, totals-below, totals-most, operands-none, operands-one, operands-two}
+use Rattle.packing.specs.ReadingLaws.{sensed-set}
+use Rattle.tree.specs.Inner.{TreeAt, OneWithLinks, TwoWithLinks}
+use Rattle.tree.proofs.Ops.{other-sense, none-tree}
+use Rattle.pairs.specs.declared.Stack.{Stack}
 use Rattle.pairs.specs.declared.PairsAnswer.the-variants.{Pairs, Refused}
+use Rattle.pairs.specs.Evaluation.{relations, onOne, onTwo, Sets, Sizes, laid, most-waiting, Lying, held, beside, Waiting, Totals, Placed, Room}
+use Rattle.pairs.specs.EvaluationLaws.{fresh, begins, does-label, does-one, does-two, on-one-set, on-two-set, label-set, zero-identity, runs-number, runs-operands, sizes-count, Top, top, lying-put, waits-next, held-none, beside-none}
+use Rattle.pairs.specs.RoomLaws.{placed-put, placed-most, room-begins, room-ends, room-operands, room-next, totals-below, totals-most, operands-none, operands-one, operands-two}
 use Rattle.pairs.specs.Asking.{Handed, too-long, handed}
-use Rattle.pairs.specs.Steps.{Lettered, Goes, Coded, Going, Evaluated}
+use Rattle.pairs.specs.Steps.{Lettered, Topped, Settled, Goes, Coded, Going, Evaluated}
 
 -- ---- work with a part of it, from a word on, changed
 module _ (work part : List ℕ) (start : ℕ) (h : start ≤ length work) where
@@ -50,168 +55,42 @@ module _ (work part : List ℕ) (start : ℕ) (h : start ≤ length work) where
 long-as : (r : ℕ) (l xs : List ℕ) → r ≤ length l → take r l ≡ xs → r ≡ length xs
 long-as r l xs h e = sym (length-take-le r l h) ∙ ap length e
 
--- ---- a letter
-module _ (n op : ℕ) (ws links work part ls : List ℕ) (k at r : ℕ) (small : op < 26) (h : at ≤ length work) (l : length ls ≡ most-waiting) (rd : r ≤ treeUnit n) (rp : r ≤ length part)
-    (P : LabelPart ws op links) (made : IsSet n (setOf (map linkPair links)) → TreeAt n (setOf (map linkPair links)) part r) where
-  letter-room : (c : List ℕ) → Room (treeUnit n) (op ∷ c) ls k at → Room (treeUnit n) c (set ls k r) (k + 1) (at + r)
-  letter-room c R =
-      let e : k - operands op ≡ k = ap (λ (m : ℕ). k - m) (operands-none op small) ∙ (let z : k - 0 ≡ k = omega arith in z) in
-      rw add-one (subst (λ (j : ℕ). Room (treeUnit n) c (set ls j r) (suc j) (at + r)) e (room-more at r R (subst (λ (j : ℕ). Totals (treeUnit n) ls j at) (sym e) (R .totals)) rd))
-
-  letter-waits : (b : Book) → Lettered b n ws → (e : Expr) (c : List ℕ) (st : List Cells) → Waiting (asked b) e (op ∷ c) work ls k at st
-      → (st′ : List Cells) × Waiting (asked b) e c (changed work part at h) (set ls k r) (k + 1) (at + r) st′
-  unfolding asked
-  letter-waits b L e c st w =
-      let ps = map linkPair links in
-      let v : Cells = crossed (asked b) (letter op) in
-      let q : IsSet (b .n) v = crossed-set (asked b) (letter op) (fit-inside b (L .fit)) in
-      let s : setOf ps ≡ v = label-set b (L .fit) (L .small) op ps (unfold linkPair in (P .pairs (b .n) (b .sheet) (L .small) (L .fit) (L .linked))) in
-      let t : take r part ≡ treeWords (b .n) v =
-      subst (λ (x : Cells). IsSet (b .n) x → take r part ≡ treeWords (b .n) x) s (subst (λ (m : ℕ). IsSet m (setOf ps) → take r part ≡ treeWords m (setOf ps)) (L .size) (λ i. made i .words)) q in
-      let j : k ≡ length st = sizes-count (w .sizes) in
-      let d = does-label (asked b) op st small in (
-        v ∷ st,
-        rw add-one (subst (λ (i : ℕ). Waiting (asked b) e c (changed work part at h) (set ls i r) (suc i) (at + r) (v ∷ st)) (sym j)
-            (waiting-more (asked b) e op c work ls (changed work part at h) k at at r st st v w d (w .sets) (subst (λ (i : ℕ). Sizes (b .n) ls i st) j (w .sizes)) (w .ends) (w .trees) q
-            (omega (arith, runs-room (relations (asked b)) (w .runs) d)) (front work part at h) (ap (take r) (back work part at h) ∙ t) (long-as r part (treeWords (b .n) v) rp t))),
-      )
-
-  pub goes-letter : Goes n ws op work (changed work part at h) ls k at (set ls k r) (k + 1) (at + r)
-  goes-letter = record { room = letter-room; waits = letter-waits }
-
--- ---- an operator on one operand
-module _ (n op : ℕ) (work part ls : List ℕ) (k at r : ℕ) (low : 26 ≤ op) (high : op < 30) (h : at - getD ls (k - 1) 0 ≤ length work) (l : length ls ≡ most-waiting)
-    (rd : r ≤ treeUnit n) (rp : r ≤ length part)
-    (made : OneTree (onOne n op) n (getD ls (k - 1) 0) (take (length work - (at - getD ls (k - 1) 0)) (drop (at - getD ls (k - 1) 0) work)) part r) where
-  abbrev size₁ : ℕ
-  size₁ = getD ls (k - 1) 0
-
-  abbrev start₁ : ℕ
-  start₁ = at - size₁
-
-  one-room : (c : List ℕ) → Room (treeUnit n) (op ∷ c) ls k at → Room (treeUnit n) c (set ls (k - 1) r) k (start₁ + r)
-  one-room c R =
-      let q = room-operands R in
-      let o : operands op ≡ 1 = operands-one op low high in
-      let t = totals-below (R .totals) (k - 1) (omega (arith, q .found)) in
-      let e : k - operands op ≡ k - 1 = ap (λ (m : ℕ). k - m) o in
-      let f : suc (k - 1) ≡ k = omega (arith, q .found) in
-      subst (λ (j : ℕ). Room (treeUnit n) c (set ls (k - 1) r) j (start₁ + r)) f
-      (subst (λ (j : ℕ). Room (treeUnit n) c (set ls j r) (suc j) (start₁ + r)) e (room-more start₁ r R (subst (λ (j : ℕ). Totals (treeUnit n) ls j start₁) (sym e) (t .2)) rd))
-
-  -- the part that is lent is the rest of work
-  rest₁ : take (length work - start₁) (drop start₁ work) ≡ drop start₁ work
-  rest₁ = take-all (length work - start₁) (drop start₁ work) (rw (length-drop start₁ work) (omega arith))
-
-  one-waits : (b : Book) → n ≡ b .n → (e : Expr) (c : List ℕ) (st : List Cells) → Waiting (asked b) e (op ∷ c) work ls k at st
-      → (st′ : List Cells) × Waiting (asked b) e c (changed work part start₁ h) (set ls (k - 1) r) k (start₁ + r) st′
-  unfolding asked
-  one-waits b m e c [] w = absurd (omega (arith, runs-operands (relations (asked b)) (w .runs), operands-one op low high))
-  one-waits b m e c (x ∷ st) w =
-      let T = top (w .sets) (w .sizes) (w .ends) (w .trees) in
-      let v : Cells = onOne (b .n) op x in
-      let z : zeroSteps (asked b) ≡ identity (b .n) = zero-identity b in
-      let d : does (relations (asked b)) op (x ∷ st) ≡ v ∷ st = (does-one (asked b) z op x st low high) in
-      let t : take r part ≡ treeWords (b .n) v =
-      subst (λ (i : ℕ). take size₁ (drop start₁ work) ≡ treeWords i x → IsSet i x → take r part ≡ treeWords i (onOne i op x)) m
-      (λ p q. made x q (ap (take size₁) rest₁ ∙ p) .words) ((T .tree)) ((T .set)) in
-      let j : k ≡ suc (length st) = sizes-count (w .sizes) in
-      let i : k - 1 ≡ length st = omega arith in (
-        v ∷ st,
-        subst (λ (y : ℕ). Waiting (asked b) e c (changed work part start₁ h) (set ls (k - 1) r) y (start₁ + r) (v ∷ st)) (sym j)
-            (subst (λ (y : ℕ). Waiting (asked b) e c (changed work part start₁ h) (set ls y r) (suc (length st)) (start₁ + r) (v ∷ st)) (sym i)
-            (waiting-more (asked b) e op c work ls (changed work part start₁ h) k at start₁ r (x ∷ st) st v w d (T .below) (subst (λ (y : ℕ). Sizes (asked b .n) ls y st) i (T .sizes)) (T .begins) (T .trees)
-            ((on-one-set (b .n) op (T .set))) (omega (arith, runs-room (relations (asked b)) (w .runs) d)) (front work part start₁ h)
-            ((ap (take r) (back work part start₁ h) ∙ t)) ((long-as r part (treeWords (b .n) v) rp t)))),
-      )
-
-  pub goes-one : (ws : List ℕ) → Goes n ws op work (changed work part start₁ h) ls k at (set ls (k - 1) r) k (start₁ + r)
-  goes-one ws = record { room = one-room; waits = λ b L e c st w. one-waits b (L .size) e c st w }
-
--- ---- an operator on two operands
-module _ (n op : ℕ) (work part ls : List ℕ) (k at r : ℕ) (low : 30 ≤ op) (h : at - getD ls (k - 1) 0 - getD ls (k - 1 - 1) 0 ≤ length work) (l : length ls ≡ most-waiting)
-    (rd : r ≤ treeUnit n) (rp : r ≤ length part)
-    (made : TwoTrees (onTwo n op) n (getD ls (k - 1 - 1) 0) (getD ls (k - 1) 0)
-    (take (length work - (at - getD ls (k - 1) 0 - getD ls (k - 1 - 1) 0)) (drop (at - getD ls (k - 1) 0 - getD ls (k - 1 - 1) 0) work)) part r) where
-  abbrev right : ℕ
-  right = getD ls (k - 1) 0
-
-  abbrev left : ℕ
-  left = getD ls (k - 1 - 1) 0
-
-  abbrev start₂ : ℕ
-  start₂ = at - right - left
-
-  two-room : (c : List ℕ) → Room (treeUnit n) (op ∷ c) ls k at → Room (treeUnit n) c (set ls (k - 1 - 1) r) (k - 1) (start₂ + r)
-  two-room c R =
-      let q = room-operands R in
-      let o : operands op ≡ 2 = operands-two op low in
-      let t = totals-below (R .totals) (k - 1) (omega (arith, q .found)) in
-      let u = totals-below (t .2) (k - 1 - 1) (omega (arith, q .found)) in
-      let e : k - operands op ≡ k - 1 - 1 = omega arith in
-      let f : suc (k - 1 - 1) ≡ k - 1 = omega (arith, q .found) in
-      subst (λ (j : ℕ). Room (treeUnit n) c (set ls (k - 1 - 1) r) j (start₂ + r)) f
-      (subst (λ (j : ℕ). Room (treeUnit n) c (set ls j r) (suc j) (start₂ + r)) e (room-more start₂ r R (subst (λ (j : ℕ). Totals (treeUnit n) ls j start₂) (sym e) (u .2)) rd))
-
-  rest₂ : take (length work - start₂) (drop start₂ work) ≡ drop start₂ work
-  rest₂ = take-all (length work - start₂) (drop start₂ work) (rw (length-drop start₂ work) (omega arith))
-
-  two-waits : (b : Book) → n ≡ b .n → (e : Expr) (c : List ℕ) (st : List Cells) → Waiting (asked b) e (op ∷ c) work ls k at st
-      → (st′ : List Cells) × Waiting (asked b) e c (changed work part start₂ h) (set ls (k - 1 - 1) r) (k - 1) (start₂ + r) st′
-  unfolding asked
-  two-waits b m e c [] w = absurd (omega (arith, runs-operands (relations (asked b)) (w .runs), operands-two op low))
-  two-waits b m e c (y ∷ []) w = absurd (omega (arith, runs-operands (relations (asked b)) (w .runs), operands-two op low))
-  two-waits b m e c (y ∷ x ∷ st) w =
-      let T = top (w .sets) (w .sizes) (w .ends) (w .trees) in
-      let U = top (T .below) (T .sizes) (T .begins) (T .trees) in
-      let v : Cells = onTwo (b .n) op x y in
-      let d : does (relations (asked b)) op (y ∷ x ∷ st) ≡ v ∷ st = does-two (asked b) op x y st low (runs-number (relations (asked b)) (w .runs)) in
-      let p : take right (drop left (drop start₂ work)) ≡ treeWords (b .n) y =
-      ap (take right) (drop-drop left start₂ work ∙ ap (λ (i : ℕ). drop i work) (sym (U .ends))) ∙ T .tree in
-      let t : take r part ≡ treeWords (b .n) v =
-      subst (λ (i : ℕ). take left (drop start₂ work) ≡ treeWords i x → take right (drop left (drop start₂ work)) ≡ treeWords i y → IsSet i x → IsSet i y → take r part ≡ treeWords i (onTwo i op x y)) m
-      (λ p q i j. made x y i j (ap (take left) rest₂ ∙ p) (ap (λ (z : List ℕ). take right (drop left z)) rest₂ ∙ q) .words) (U .tree) p (U .set) (T .set) in
-      let j : k ≡ suc (suc (length st)) = sizes-count (w .sizes) in
-      let i : k - 1 - 1 ≡ length st = omega arith in
-      let f : k - 1 ≡ suc (length st) = omega arith in (
-        v ∷ st,
-        subst (λ (y : ℕ). Waiting (asked b) e c (changed work part start₂ h) (set ls (k - 1 - 1) r) y (start₂ + r) (v ∷ st)) (sym f)
-            (subst (λ (y : ℕ). Waiting (asked b) e c (changed work part start₂ h) (set ls y r) (suc (length st)) (start₂ + r) (v ∷ st)) (sym i)
-            (waiting-more (asked b) e op c work ls (changed work part start₂ h) k at start₂ r (y ∷ x ∷ st) st v w d (U .below) (subst (λ (y : ℕ). Sizes (asked b .n) ls y st) i (U .sizes)) (U .begins) (U .trees)
-            (on-two-set (b .n) op (U .set) (T .set)) (omega (arith, runs-room (relations (asked b)) (w .runs) d)) (front work part start₂ h)
-            (ap (take r) (back work part start₂ h) ∙ t) (long-as r part (treeWords (b .n) v) rp t))),
-      )
-
-  pub goes-two : (ws : List ℕ) → Goes n ws op work (changed work part start₂ h) ls k at (set ls (k - 1 - 1) r) (k - 1) (start₂ + r)
-  goes-two ws = record { room = two-room; waits = λ b L e c st w. two-waits b (L .size) e c st w }
+-- the part that is lent is the rest of work
+rest : (work : List ℕ) (start : ℕ) → take (length work - start) (drop start work) ≡ drop start work
+rest work start = take-all (length work - start) (drop start work) (rw (length-drop start work) (omega arith))
 
 -- ---- where the operands lie, for the indices and the part that is lent
 product-le : (k m d : ℕ) → k ≤ m → k * d ≤ m * d
 product-le k m d h = mul-le-mul-right d h
 
-module _ {d op k at : ℕ} {c ls : List ℕ} (R : Room d (op ∷ c) ls k at) where
-  pub lies-letter : op < 26 → (k < 19) × (at ≤ 18 * d)
-  lies-letter h =
-      let q = room-operands R in
-      let o = operands-none op h in
-      (omega (arith, q .room), omega (arith, totals-most (R .totals), product-le k 18 d (omega (arith, q .room))))
+module _ {d : ℕ} {S : Stack} (P : Placed d S) (few : S .count ≤ 19) where
+  pub lies-one : 1 ≤ S .count
+      → (getD (S .sizes) (S .count - 1) 0 ≤ S .end) × (getD (S .sizes) (S .count - 1) 0 ≤ d) × (S .end - getD (S .sizes) (S .count - 1) 0 ≤ 18 * d)
+      × Totals d (S .sizes) (S .count - 1) (S .end - getD (S .sizes) (S .count - 1) 0)
+  lies-one l =
+      let t = totals-below (P .totals) (S .count - 1) (omega arith) in
+      (t .0, t .1, omega (arith, totals-most (t .2), product-le (S .count - 1) 18 d (omega arith)), t .2)
 
-  pub lies-one : 26 ≤ op → op < 30 → (1 ≤ k) × (k ≤ 19) × (getD ls (k - 1) 0 ≤ at) × (getD ls (k - 1) 0 ≤ d) × (at - getD ls (k - 1) 0 ≤ 18 * d)
-  lies-one l h =
-      let q = room-operands R in
-      let o = operands-one op l h in
-      let t = totals-below (R .totals) (k - 1) (omega (arith, q .found)) in
-      (omega (arith, q .found), omega (arith, q .few), t .0, t .1, omega (arith, totals-most (t .2), product-le (k - 1) 18 d (omega (arith, q .few))))
-
-  pub lies-two : 30 ≤ op
-      → (2 ≤ k) × (k ≤ 19) × (getD ls (k - 1) 0 ≤ at) × (getD ls (k - 1) 0 ≤ d) × (getD ls (k - 1 - 1) 0 ≤ at - getD ls (k - 1) 0) × (getD ls (k - 1 - 1) 0 ≤ d)
-      × (at - getD ls (k - 1) 0 - getD ls (k - 1 - 1) 0 ≤ 17 * d)
+  pub lies-two : 2 ≤ S .count
+      → (getD (S .sizes) (S .count - 1) 0 ≤ S .end) × (getD (S .sizes) (S .count - 1) 0 ≤ d)
+      × (getD (S .sizes) (S .count - 1 - 1) 0 ≤ S .end - getD (S .sizes) (S .count - 1) 0) × (getD (S .sizes) (S .count - 1 - 1) 0 ≤ d)
+      × (S .end - getD (S .sizes) (S .count - 1) 0 - getD (S .sizes) (S .count - 1 - 1) 0 ≤ 17 * d)
+      × Totals d (S .sizes) (S .count - 1 - 1) (S .end - getD (S .sizes) (S .count - 1) 0 - getD (S .sizes) (S .count - 1 - 1) 0)
   lies-two l =
-      let q = room-operands R in
-      let o = operands-two op l in
-      let t = totals-below (R .totals) (k - 1) (omega (arith, q .found)) in
-      let u = totals-below (t .2) (k - 1 - 1) (omega (arith, q .found)) in
-      (omega (arith, q .found), omega (arith, q .few), t .0, t .1, u .0, u .1, omega (arith, totals-most (u .2), product-le (k - 1 - 1) 17 d (omega (arith, q .few))))
+      let t = totals-below (P .totals) (S .count - 1) (omega arith) in
+      let u = totals-below (t .2) (S .count - 1 - 1) (omega arith) in
+      (t .0, t .1, u .0, u .1, omega (arith, totals-most (u .2), product-le (S .count - 1 - 1) 17 d (omega arith)), u .2)
+
+-- how many there are before a number of the code
+module _ {d op : ℕ} {c : List ℕ} {S : Stack} (R : Room d (op ∷ c) S) where
+  pub before-letter : op < 26 → S .count < 19
+  before-letter h = let q = room-operands R in omega (arith, q .room, operands-none op h)
+
+  pub before-one : 26 ≤ op → op < 30 → (1 ≤ S .count) × (S .count ≤ 19)
+  before-one l h = let q = room-operands R in (omega (arith, q .found, operands-one op l h), q .few)
+
+  pub before-two : 30 ≤ op → (2 ≤ S .count) × (S .count ≤ 19)
+  before-two l = let q = room-operands R in (omega (arith, q .found, operands-two op l), q .few)
 
 -- the length of the part from a word on
 pub part-length : (work : List ℕ) (start : ℕ) → length (take (length work - start) (drop start work)) ≡ length work - start
@@ -221,65 +100,294 @@ part-length work start = mid-len start (length work) work (omega arith)
 pub bounded-tree : {n : ℕ} {a : Cells} {us : List ℕ} {r q : ℕ} → TreeAt n a us r → (r ≤ treeUnit n → q ≡ r) → TreeAt n a us q
 bounded-tree {n} {a} {us} t e = subst (λ (j : ℕ). TreeAt n a us j) (sym (e (t .few))) t
 
--- ---- operators
-module _ (n op size : ℕ) (old mid new : List ℕ) (r : ℕ) where
-  pub is-inverse : op ≡ 26 → OneTree transpose n size old new r → OneTree (onOne n op) n size old new r
-  unfolding onOne
-  is-inverse e o x p q = rw e (o x p q)
+-- ---- the links beside
+-- a letter's set, and it read with a sense
+module _ (b : Book) (n : ℕ) (ws links : List ℕ) (S : Stack) (P : LabelPart ws (S .label) links) (L : Lettered b n ws) where
+  abbrev pub letters : Cells
+  letters = setOf (map linkPair links)
 
-  pub is-plus : op ≡ 28 → OneTree (closure n) n size old new r → OneTree (onOne n op) n size old new r
-  unfolding onOne
-  is-plus e o x p q = rw e (o x p q)
+  pub letters-held : sensed (S .sense) letters ≡ held (asked b) S
+  unfolding linkPair
+  letters-held = ap (sensed (S .sense)) (label-set b (L .fit) (L .small) (S .label) (map linkPair links) (P .pairs (b .n) (b .sheet) (L .small) (L .fit) (L .linked)))
 
-  pub is-optional : 26 ≤ op → op < 30 → (op ≡ 26 → ⊥) → (op ≡ 27 → ⊥) → (op ≡ 28 → ⊥) → OneTree (λ (x : Cells). union x (identity n)) n size old new r → OneTree (onOne n op) n size old new r
-  unfolding onOne
-  is-optional l h a b c o x p q = let e : op ≡ 29 = omega arith in rw e (o x p q)
+  pub letters-set : IsSet (b .n) letters
+  unfolding linkPair asked
+  letters-set = subst (IsSet (b .n)) (sym (label-set b (L .fit) (L .small) (S .label) (map linkPair links) (P .pairs (b .n) (b .sheet) (L .small) (L .fit) (L .linked)))) (crossed-set (asked b) (letter (S .label)) (fit-inside b (L .fit)))
 
-  pub is-star : (m : ℕ) → op ≡ 27 → OneTree (closure n) n size old mid m → OneTree (λ (x : Cells). union x (identity n)) n m mid new r → OneTree (onOne n op) n size old new r
-  unfolding onOne
-  is-star m e o u x p q = rw e (u (closure n x) (closure-set n n x p) (o x p q .words))
+  pub held-set : IsSet (b .n) (held (asked b) S)
+  held-set = subst (IsSet (b .n)) letters-held (sensed-set (S .sense) (b .n) letters letters-set)
 
-module _ (n op left right : ℕ) (old new : List ℕ) (r : ℕ) where
-  pub is-alternative : op ≡ 30 → TwoTrees union n left right old new r → TwoTrees (onTwo n op) n left right old new r
-  unfolding onTwo
-  is-alternative e o x y p q f g = rw e (o x y p q f g)
+-- ---- an operator on the operand on top
+module _ (n op : ℕ) (ws links work part : List ℕ) (S : Stack) (r : ℕ) (some : 1 ≤ S .count) (few : S .count ≤ 19) (P : Placed (treeUnit n) S)
+    (h : S .end - getD (S .sizes) (S .count - 1) 0 ≤ length work) (rd : r ≤ treeUnit n) (rp : r ≤ length part) (B : LabelPart ws (S .label) links)
+    (made : OneWithLinks (onOne n op) n (getD (S .sizes) (S .count - 1) 0) links (S .sense)
+    (take (length work - (S .end - getD (S .sizes) (S .count - 1) 0)) (drop (S .end - getD (S .sizes) (S .count - 1) 0) work)) part r) where
+  abbrev size₁ : ℕ
+  size₁ = getD (S .sizes) (S .count - 1) 0
 
-  pub is-sequence : (op ≡ 30 → ⊥) → TwoTrees (λ a b. product n (sensed 0 a) (sensed 0 b)) n left right old new r → TwoTrees (onTwo n op) n left right old new r
-  unfolding onTwo
-  is-sequence e o x y p q f g = rw (ne-eqb op 30 e) (o x y p q f g)
+  abbrev start₁ : ℕ
+  start₁ = S .end - size₁
+
+  abbrev after₁ : Stack
+  after₁ = record { sizes = set (S .sizes) (S .count - 1) r; count = S .count; end = start₁ + r; label = 26; sense = 0 }
+
+  top-lies : (b : Book) → Lettered b n ws → (t : Cells) (st : List Cells) → Lying (b .n) work S (t ∷ st)
+      → Lying (b .n) (changed work part start₁ h) after₁ (onOne (b .n) op (union t (held (asked b) S)) ∷ st)
+  top-lies b L t st y =
+      let T = top (y .sets) (y .sizes) (y .ends) (y .trees) in
+      let u : Cells = union t (held (asked b) S) in
+      let v : Cells = onOne (b .n) op u in
+      let e : take r part ≡ treeWords (b .n) v =
+      subst (λ (a : Cells). take r part ≡ treeWords (b .n) (onOne (b .n) op (union t a))) (letters-held b n ws links S B L)
+      (subst (λ (i : ℕ). take size₁ (drop start₁ work) ≡ treeWords i t → IsSet i t → IsSet i (letters b n ws links S B L) → take r part ≡ treeWords i (onOne i op (union t (sensed (S .sense) (letters b n ws links S B L))))) (L .size)
+      (λ p q s. made t q (ap (take size₁) (rest work start₁) ∙ p) s .words) (T .tree) (T .set) (letters-set b n ws links S B L)) in
+      let j : S .count ≡ suc (length st) = sizes-count (y .sizes) in
+      let l : S .count - 1 < length (S .sizes) = omega (arith, P .slots) in
+      lying-put (b .n) work (changed work part start₁ h) (S .sizes) start₁ r (S .count - 1) (S .count) 26 0 st v (omega arith) j (T .below) (T .sizes) (T .begins) (T .trees)
+      (on-one-set (b .n) op (union-set (b .n) t (held (asked b) S) (T .set) (held-set b n ws links S B L))) l (front work part start₁ h)
+      (ap (take r) (back work part start₁ h) ∙ e) (long-as r part (treeWords (b .n) v) rp e)
+
+  pub topped : Topped n ws op work (changed work part start₁ h) S after₁
+  topped = record {
+    placed = placed-put start₁ r (S .count - 1) (S .count) 26 0 P (lies-one P few some .3) rd (omega arith) (omega arith) (omega arith);
+    same = refl;
+    alone = refl;
+    lies = top-lies;
+  }
+
+-- ---- what is beside the operand on top put into it
+module _ (n : ℕ) (ws work : List ℕ) (S : Stack) (P : Placed (treeUnit n) S) where
+  pub settled-none : S .count ≡ 0 → Settled n ws work work S S
+  settled-none e = record { placed = P; same = refl; lies = go }
+    where
+      go : (b : Book) → Lettered b n ws → (st : List Cells) → Lying (b .n) work S st → Lying (b .n) work S (beside (held (asked b) S) st)
+      go b L [] y = y
+      go b L (t ∷ st) y = absurd (omega (arith, sizes-count (y .sizes)))
+
+  pub settled-alone : S .label ≡ 26 → Settled n ws work work S S
+  settled-alone e = record {
+    placed = P;
+    same = refl;
+    lies = λ b L st y. subst (Lying (b .n) work S) (sym (ap (λ (a : Cells). beside a st) (held-none b (L .fit) S e) ∙ beside-none st)) y;
+  }
+
+pub settled-top : {n : ℕ} {ws work work′ : List ℕ} {S S′ : Stack} → 1 ≤ S .count → Topped n ws 0 work work′ S S′ → Settled n ws work work′ S S′
+unfolding onOne
+settled-top {n} {ws} {work} {work′} {S} {S′} l T = record { placed = T .placed; same = T .same; lies = go }
+  where
+    go : (b : Book) → Lettered b n ws → (st : List Cells) → Lying (b .n) work S st → Lying (b .n) work′ S′ (beside (held (asked b) S) st)
+    go b L [] y = absurd (omega (arith, sizes-count (y .sizes)))
+    go b L (t ∷ st) y = T .lies b L t st y
+
+-- ---- a letter: what is on top is settled, and one more operand is put on it
+module _ (n op : ℕ) (ws work work′ : List ℕ) (S S′ : Stack) (small : op < 26) (low : S .count < 19) (T : Settled n ws work work′ S S′) where
+  abbrev lettered : Stack
+  lettered = record { sizes = set (S′ .sizes) (S′ .count) 0; count = S′ .count + 1; end = S′ .end; label = op; sense = 0 }
+
+  letter-room : (c : List ℕ) → Room (treeUnit n) (op ∷ c) S → Room (treeUnit n) c lettered
+  letter-room c R =
+      let q = room-operands R in
+      let o = operands-none op small in
+      let l : S′ .count < 19 = omega (arith, q .room, T .same) in
+      let z : S′ .end + 0 ≡ S′ .end = omega arith in
+      room-next R (subst (λ (i : ℕ). Placed (treeUnit n) (record { sizes = set (S′ .sizes) (S′ .count) 0; count = S′ .count + 1; end = i; label = op; sense = 0 })) z
+      (placed-put (S′ .end) 0 (S′ .count) (S′ .count + 1) op 0 (T .placed) (T .placed .totals) (omega arith) l (omega arith) (omega arith))) (omega (arith, T .same))
+
+  letter-waits : (b : Book) → Lettered b n ws → (e : Expr) (c : List ℕ) (st : List Cells) → Waiting (asked b) e (op ∷ c) work S st → (st′ : List Cells) × Waiting (asked b) e c work′ lettered st′
+  unfolding asked
+  letter-waits b L e c st w =
+      let u = beside (held (asked b) S) st in
+      let y = T .lies b L st (w .lie) in
+      let z : S′ .end + 0 ≡ S′ .end = omega arith in
+      let k : S′ .count ≡ length u = sizes-count (y .sizes) in
+      let l : S′ .count < length (S′ .sizes) = omega (arith, T .placed .slots, T .same) in
+      let d : does (relations (asked b)) op u ≡ beside (held (asked b) lettered) (noPairs ∷ u) = does-label (asked b) op u small ∙ ap (λ (a : Cells). a ∷ u) (sym (union-none (crossed (asked b) (letter op)))) in (
+        noPairs ∷ u,
+        waits-next (noPairs ∷ u) w d
+            (subst (λ (i : ℕ). Lying (b .n) work′ (record { sizes = set (S′ .sizes) (S′ .count) 0; count = S′ .count + 1; end = i; label = op; sense = 0 }) (noPairs ∷ u)) z
+            (lying-put (b .n) work′ work′ (S′ .sizes) (S′ .end) 0 (S′ .count) (S′ .count + 1) op 0 u noPairs k (omega arith) (y .sets) (y .sizes) (y .ends) (y .trees) (none-set (b .n)) l refl (none-tree (b .n)) (ap length (none-tree (b .n))))),
+      )
+
+  pub goes-letter : Goes n ws op work work′ S lettered
+  goes-letter = record { room = letter-room; waits = letter-waits }
+
+-- ---- an operator on one operand
+-- a tree of no words is that of no pairs
+bare-none : (n : ℕ) (t : Cells) → IsSet n t → (start size : ℕ) (work : List ℕ) → size ≡ 0 → take size (drop start work) ≡ treeWords n t → t ≡ noPairs
+bare-none n t i start size work e q =
+    treeWords-tell n t noPairs i (none-set n) (sym q ∙ ap (λ (k : ℕ). take k (drop start work)) e ∙ none-tree n)
+
+-- no pairs, and beside them links, turned
+turned-union : (n op s : ℕ) (t a : Cells) → op ≡ 26 → s ≤ 1 → t ≡ noPairs → onOne n op (union t (sensed s a)) ≡ union t (sensed (1 - s) a)
+unfolding onOne
+turned-union n op s t a e l z = rw (e, z) (ap transpose (union-none (sensed s a)) ∙ sym (other-sense s a l) ∙ sym (union-none (sensed (1 - s) a)))
+
+module _ (n op : ℕ) (ws work : List ℕ) (low : 26 ≤ op) (high : op < 30) where
+  pub goes-one : (work′ : List ℕ) (S S′ : Stack) → Topped n ws op work work′ S S′ → Goes n ws op work work′ S S′
+  unfolding asked
+  goes-one work′ S S′ T = record { room = room; waits = waits }
+    where
+      room : (c : List ℕ) → Room (treeUnit n) (op ∷ c) S → Room (treeUnit n) c S′
+      room c R = room-next R (T .placed) (omega (arith, T .same, operands-one op low high, room-operands R .found))
+
+      waits : (b : Book) → Lettered b n ws → (e : Expr) (c : List ℕ) (st : List Cells) → Waiting (asked b) e (op ∷ c) work S st → (st′ : List Cells) × Waiting (asked b) e c work′ S′ st′
+      waits b L e c [] w = absurd (omega (arith, runs-operands (relations (asked b)) (w .runs), operands-one op low high))
+      waits b L e c (t ∷ st) w =
+          let v : Cells = onOne (b .n) op (union t (held (asked b) S)) in
+          let d : does (relations (asked b)) op (union t (held (asked b) S) ∷ st) ≡ beside (held (asked b) S′) (v ∷ st) =
+          does-one (asked b) (zero-identity b) op (union t (held (asked b) S)) st low high ∙ sym (ap (λ (a : Cells). beside a (v ∷ st)) (held-none b (L .fit) S′ (T .alone)) ∙ beside-none (v ∷ st)) in
+          (v ∷ st, waits-next (v ∷ st) w d (T .lies b L t st (w .lie)))
+
+  -- `^` on links alone: they are read with the other sense
+  module _ (S : Stack) (inverse : op ≡ 26) (bare : getD (S .sizes) (S .count - 1) 0 ≡ 0) where
+    abbrev turned : Stack
+    turned = record { sizes = S .sizes; count = S .count; end = S .end; label = S .label; sense = 1 - S .sense }
+
+    turned-room : (c : List ℕ) → Room (treeUnit n) (op ∷ c) S → Room (treeUnit n) c turned
+    turned-room c R = room-next R (record { slots = R .placed .slots; totals = R .placed .totals; sense = omega arith }) (omega (arith, operands-one op low high, room-operands R .found))
+
+    pub goes-turned : S .sense ≤ 1 → Goes n ws op work work S turned
+    unfolding asked
+    goes-turned o = record { room = turned-room; waits = waits }
+      where
+        waits : (b : Book) → Lettered b n ws → (e : Expr) (c : List ℕ) (st : List Cells) → Waiting (asked b) e (op ∷ c) work S st → (st′ : List Cells) × Waiting (asked b) e c work turned st′
+        waits b L e c [] w = absurd (omega (arith, runs-operands (relations (asked b)) (w .runs), operands-one op low high))
+        waits b L e c (t ∷ st) w =
+            let y = w .lie in
+            let T = top (y .sets) (y .sizes) (y .ends) (y .trees) in
+            let z : t ≡ noPairs = bare-none (b .n) t (T .set) (S .end - getD (S .sizes) (S .count - 1) 0) (getD (S .sizes) (S .count - 1) 0) work bare (T .tree) in
+            let d : does (relations (asked b)) op (union t (held (asked b) S) ∷ st) ≡ union t (held (asked b) turned) ∷ st =
+            does-one (asked b) (zero-identity b) op (union t (held (asked b) S)) st low high
+            ∙ ap (λ (a : Cells). a ∷ st) (turned-union (b .n) op (S .sense) t (crossed (asked b) (letter (S .label))) inverse o z) in
+            (t ∷ st, waits-next (t ∷ st) w d (record { sets = y .sets; sizes = y .sizes; ends = y .ends; trees = y .trees }))
+
+-- ---- an operator on two operands
+module _ (n op : ℕ) (ws links work part : List ℕ) (S : Stack) (r : ℕ) (low : 30 ≤ op) (few : S .count ≤ 19) (P : Placed (treeUnit n) S)
+    (h : S .end - getD (S .sizes) (S .count - 1) 0 - getD (S .sizes) (S .count - 1 - 1) 0 ≤ length work)
+    (rd : r ≤ treeUnit n) (rp : r ≤ length part) (B : LabelPart ws (S .label) links)
+    (made : TwoWithLinks (onTwo n op) n (getD (S .sizes) (S .count - 1 - 1) 0) (getD (S .sizes) (S .count - 1) 0) links (S .sense)
+    (take (length work - (S .end - getD (S .sizes) (S .count - 1) 0 - getD (S .sizes) (S .count - 1 - 1) 0)) (drop (S .end - getD (S .sizes) (S .count - 1) 0 - getD (S .sizes) (S .count - 1 - 1) 0) work)) part r) where
+  abbrev right : ℕ
+  right = getD (S .sizes) (S .count - 1) 0
+
+  abbrev left : ℕ
+  left = getD (S .sizes) (S .count - 1 - 1) 0
+
+  abbrev start₂ : ℕ
+  start₂ = S .end - right - left
+
+  abbrev after₂ : Stack
+  after₂ = record { sizes = set (S .sizes) (S .count - 1 - 1) r; count = S .count - 1; end = start₂ + r; label = 26; sense = 0 }
+
+  two-room : (c : List ℕ) → Room (treeUnit n) (op ∷ c) S → Room (treeUnit n) c after₂
+  two-room c R =
+      let q = room-operands R in
+      let o : operands op ≡ 2 = operands-two op low in
+      let p : S .count - 1 - 1 < 19 = omega (arith, q .few, q .found) in
+      let t = lies-two (R .placed) (q .few) (omega (arith, q .found)) in
+      room-next R (placed-put start₂ r (S .count - 1 - 1) (S .count - 1) 26 0 (R .placed) (t .5) rd p (omega (arith, q .found)) (omega arith)) (omega (arith, q .found))
+
+  two-waits : (b : Book) → Lettered b n ws → (e : Expr) (c : List ℕ) (st : List Cells) → Waiting (asked b) e (op ∷ c) work S st
+      → (st′ : List Cells) × Waiting (asked b) e c (changed work part start₂ h) after₂ st′
+  unfolding asked
+  two-waits b L e c [] w = absurd (omega (arith, runs-operands (relations (asked b)) (w .runs), operands-two op low))
+  two-waits b L e c (y ∷ []) w = absurd (omega (arith, runs-operands (relations (asked b)) (w .runs), operands-two op low))
+  two-waits b L e c (y ∷ x ∷ st) w =
+      let I = w .lie in
+      let T = top (I .sets) (I .sizes) (I .ends) (I .trees) in
+      let U = top (T .below) (T .sizes) (T .begins) (T .trees) in
+      let u : Cells = union y (held (asked b) S) in
+      let v : Cells = onTwo (b .n) op x u in
+      let p : take right (drop left (drop start₂ work)) ≡ treeWords (b .n) y =
+      ap (take right) (drop-drop left start₂ work ∙ ap (λ (i : ℕ). drop i work) (sym (U .ends))) ∙ T .tree in
+      let t : take r part ≡ treeWords (b .n) v =
+      subst (λ (a : Cells). take r part ≡ treeWords (b .n) (onTwo (b .n) op x (union y a))) (letters-held b n ws links S B L)
+      (subst (λ (i : ℕ). take left (drop start₂ work) ≡ treeWords i x → take right (drop left (drop start₂ work)) ≡ treeWords i y → IsSet i x → IsSet i y → IsSet i (letters b n ws links S B L)
+      → take r part ≡ treeWords i (onTwo i op x (union y (sensed (S .sense) (letters b n ws links S B L))))) (L .size)
+      (λ p q i j s. made x y i j (ap (take left) (rest work start₂) ∙ p) (ap (λ (z : List ℕ). take right (drop left z)) (rest work start₂) ∙ q) s .words)
+      (U .tree) p (U .set) (T .set) (letters-set b n ws links S B L)) in
+      let j : S .count ≡ suc (suc (length st)) = sizes-count (I .sizes) in
+      let d : does (relations (asked b)) op (u ∷ x ∷ st) ≡ beside (held (asked b) after₂) (v ∷ st) =
+      does-two (asked b) op x u st low (runs-number (relations (asked b)) (w .runs)) ∙ sym (ap (λ (a : Cells). beside a (v ∷ st)) (held-none b (L .fit) after₂ refl) ∙ beside-none (v ∷ st)) in
+      let l : S .count - 1 - 1 < length (S .sizes) = omega (arith, P .slots) in (
+        v ∷ st,
+        waits-next (v ∷ st) w d
+            (lying-put (b .n) work (changed work part start₂ h) (S .sizes) start₂ r (S .count - 1 - 1) (S .count - 1) 26 0 st v (omega arith) (omega arith) (U .below) (U .sizes) (U .begins) (U .trees)
+            (on-two-set (b .n) op (U .set) (union-set (b .n) y (held (asked b) S) (T .set) (held-set b n ws links S B L))) l (front work part start₂ h)
+            (ap (take r) (back work part start₂ h) ∙ t) (long-as r part (treeWords (b .n) v) rp t)),
+      )
+
+  pub goes-two : Goes n ws op work (changed work part start₂ h) S after₂
+  goes-two = record { room = two-room; waits = two-waits }
 
 -- ---- the whole code
 module _ (n : ℕ) (ws c : List ℕ) where
-  pub going-begins : {s : List ℕ} {e : Expr} → Coded s e c → (work ls : List ℕ) → length ls ≡ most-waiting → Going n ws c work ls 0 0 0
+  pub going-begins : {s : List ℕ} {e : Expr} → Coded s e c → (work ls : List ℕ) → length ls ≡ most-waiting → Going n ws c work (fresh ls) 0
   going-begins {s} {e} k work ls l = record {
-    room = subst (λ (x : List ℕ). Room (treeUnit n) x ls 0 0) (sym (k .is)) (room-begins (treeUnit n) e (k .syntax) (k .shallow) ls l);
-    waits = λ b L t f q. ([], subst (λ (x : List ℕ). Waiting (asked b) f x work ls 0 0 []) (sym (q .is)) (begins (asked b) f (q .syntax) (q .shallow) work ls));
+    room = subst (λ (x : List ℕ). Room (treeUnit n) x (fresh ls)) (sym (k .is)) (room-begins (treeUnit n) e (k .syntax) (k .shallow) ls l);
+    waits = λ b L t f q. ([], subst (λ (x : List ℕ). Waiting (asked b) f x work (fresh ls) []) (sym (q .is)) (begins (asked b) f (q .syntax) (q .shallow) work ls));
   }
 
-  module _ {work ls : List ℕ} {k at : ℕ} (i : ℕ) (h : i < length c) (G : Going n ws c work ls k at i) where
+  module _ {work : List ℕ} {S : Stack} (i : ℕ) (h : i < length c) (G : Going n ws c work S i) where
     next-number : drop i c ≡ getD c i 0 ∷ drop (suc i) c
     next-number = drop-cons c i 0 h
 
-    pub going-room : Room (treeUnit n) (getD c i 0 ∷ drop (suc i) c) ls k at
-    going-room = subst (λ (x : List ℕ). Room (treeUnit n) x ls k at) next-number (G .room)
+    pub going-room : Room (treeUnit n) (getD c i 0 ∷ drop (suc i) c) S
+    going-room = subst (λ (x : List ℕ). Room (treeUnit n) x S) next-number (G .room)
 
-    pub going-more : {work′ ls′ : List ℕ} {k′ at′ : ℕ} → Goes n ws (getD c i 0) work work′ ls k at ls′ k′ at′ → Going n ws c work′ ls′ k′ at′ (i + 1)
+    pub going-more : {work′ : List ℕ} {S′ : Stack} → Goes n ws (getD c i 0) work work′ S S′ → Going n ws c work′ S′ (i + 1)
     going-more g = rw add-one (record {
       room = g .room (drop (suc i) c) going-room;
-      waits = λ b L s e q. let w = G .waits b L s e q in g .waits b L e (drop (suc i) c) (w .0) (subst (λ (x : List ℕ). Waiting (asked b) e x work ls k at (w .0)) next-number (w .1));
+      waits = λ b L s e q. let w = G .waits b L s e q in g .waits b L e (drop (suc i) c) (w .0) (subst (λ (x : List ℕ). Waiting (asked b) e x work S (w .0)) next-number (w .1));
     })
 
-  pub going-ends : {work ls : List ℕ} {k at : ℕ} (i : ℕ) → length c ≤ i → Going n ws c work ls k at i → Evaluated n ws c work at
+  -- one operand is left
+  pub going-one : {work : List ℕ} {S : Stack} (i : ℕ) → length c ≤ i → Going n ws c work S i → S .count ≡ 1
+  going-one {S = S} i h G = room-ends (subst (λ (x : List ℕ). Room (treeUnit n) x S) (drop-of-length-le c h) (G .room))
+
+  pub going-ends : {work work′ : List ℕ} {S S′ : Stack} (i : ℕ) → length c ≤ i → Going n ws c work S i → Settled n ws work work′ S S′ → Evaluated n ws c work′ (S′ .end)
   unfolding run laid asked
-  going-ends {work} {ls} {k} {at} i h G =
+  going-ends {work} {work′} {S} {S′} i h G T =
       let z : drop i c ≡ [] = drop-of-length-le c h in
+      let m : S′ .end ≤ 1 * treeUnit n = placed-most 1 (T .placed) (omega (arith, T .same, going-one i h G)) in
       record {
-        few = room-ends (subst (λ (x : List ℕ). Room (treeUnit n) x ls k at) z (G .room));
+        few = omega arith;
         tree = λ b L s e q.
             let w = G .waits b L s e q in
-            let v = subst (λ (x : List ℕ). Waiting (asked b) e x work ls k at (w .0)) z (w .1) in
-            v .trees ∙ ap (laid (b .n)) (v .rest);
+            let v = subst (λ (x : List ℕ). Waiting (asked b) e x work S (w .0)) z (w .1) in
+            T .lies b L (w .0) (v .lie) .trees ∙ ap (laid (b .n)) (v .rest);
       }
+
+-- ---- operators
+module _ (n op size : ℕ) (links : List ℕ) (sense : ℕ) (old new : List ℕ) (r : ℕ) where
+  pub is-inverse : op ≡ 26 → OneWithLinks transpose n size links sense old new r → OneWithLinks (onOne n op) n size links sense old new r
+  unfolding onOne
+  is-inverse e o x p q s = rw e (o x p q s)
+
+  pub is-star : op ≡ 27 → OneWithLinks (λ (x : Cells). union (closure n x) (identity n)) n size links sense old new r → OneWithLinks (onOne n op) n size links sense old new r
+  unfolding onOne
+  is-star e o x p q s = rw e (o x p q s)
+
+  pub is-plus : op ≡ 28 → OneWithLinks (closure n) n size links sense old new r → OneWithLinks (onOne n op) n size links sense old new r
+  unfolding onOne
+  is-plus e o x p q s = rw e (o x p q s)
+
+  pub is-optional : op ≡ 29 → OneWithLinks (λ (x : Cells). union x (identity n)) n size links sense old new r → OneWithLinks (onOne n op) n size links sense old new r
+  unfolding onOne
+  is-optional e o x p q s = rw e (o x p q s)
+
+  pub is-none : (op ≡ 26 → ⊥) → (op ≡ 27 → ⊥) → (op ≡ 28 → ⊥) → (op ≡ 29 → ⊥) → OneWithLinks (λ (x : Cells). x) n size links sense old new r → OneWithLinks (onOne n op) n size links sense old new r
+  unfolding onOne
+  is-none a b c d o x p q s = rw (ne-eqb op 26 a, ne-eqb op 27 b, ne-eqb op 28 c, ne-eqb op 29 d) (o x p q s)
+
+module _ (n op left right : ℕ) (links : List ℕ) (sense : ℕ) (old new : List ℕ) (r : ℕ) where
+  pub is-alternative : op ≡ 30 → TwoWithLinks union n left right links sense old new r → TwoWithLinks (onTwo n op) n left right links sense old new r
+  unfolding onTwo
+  is-alternative e o x y p q f g s = rw e (o x y p q f g s)
+
+  pub is-sequence : (op ≡ 30 → ⊥) → TwoWithLinks (product n) n left right links sense old new r → TwoWithLinks (onTwo n op) n left right links sense old new r
+  unfolding onTwo
+  is-sequence e o x y p q f g s = rw (ne-eqb op 30 e) (o x y p q f g s)
 
 -- ---- the pairs handed over
 pub long-list : (l before : List ℕ) (k : ℕ) → k ≡ length l → length before < k → Handed l before before (Refused 13)

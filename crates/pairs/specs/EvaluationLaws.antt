@@ -1,13 +1,16 @@
 -- Laws of the evaluation.
 --   value-cells     an expression's value in the algebra of relations is its set
---   does-sets       every number of a code keeps the stack's sets within n
---   sizes-count     the count of operands is the stack's height
---   does-one, does-two
---                   what an operator's number does to the stack
---   label-set       the pairs of a label's links are the set of its letter
---   laid-short      k trees have at most k × D words
+--   does-one, does-two, does-label
+--                   what a number does to the stack
+--   on-one-set, on-two-set
+--                   its value is a set of pairs below n
 --   begins          with nothing waiting the whole code is left
---   over-store      storing the size of a new top operand leaves those below
+--   waits-next      one number more
+--   sizes-count     the count of operands is the stack's height
+--   top, lying-put  where the operand on top lies; an operand put on top
+--   label-set       the pairs of a label's links are the set of its letter
+--   held-none       the label 26 has no links
+--   beside-none     nothing beside
 -- Assumes nothing.
 use mathlib.Core.Path.{_≡_, refl, sym, ap, ap₂, _∙_, subst, fun-ext}
 use mathlib.Core.List.{List, [], _∷_, _++_, append-nil}
@@ -34,12 +37,14 @@ use Rattle.paths.specs.Relations.{crossed, zeroSteps, cells}
 use Rattle.paths.specs.RelationLaws.{crossed-letter}
 use Rattle.paths.specs.PairLaws.{fit-inside}
 use Rattle.register.specs.Questions.{PairsOf}
-use Rattle.rows.specs.Rows.{identity, linkPair}
+use Rattle.rows.specs.Rows.{identity, noPairs}
 use Rattle.rows.specs.RowLaws.{identity-set}
+use Rattle.packing.specs.Reading.{sensed}
 use Rattle.reader.specs.Code.{op-inverse, op-star, op-plus, op-optional, op-alternative, op-sequence, code, Algebra, value, does, run}
 use Rattle.reader.specs.Running.{operands, Runs, ended, next}
 use Rattle.reader.specs.CodeLaws.{run-code, runs-code}
-use Rattle.pairs.specs.Evaluation.{relations, onOne, onTwo, Sets, no-set, one-more, laid, Sizes, empty, sized, most-waiting, Waiting}
+use Rattle.pairs.specs.declared.Stack.{Stack}
+use Rattle.pairs.specs.Evaluation.{relations, onOne, onTwo, Sets, no-set, one-more, laid, Sizes, empty, sized, most-waiting, Lying, held, beside, Waiting}
 
 pub value-cells : (g : Graph) (e : Expr) → value (relations g) e ≡ cells g e
 unfolding value relations cells
@@ -94,13 +99,14 @@ does-two g i x y st l h = go (eqb i op-alternative) refl
 module _ (n i : ℕ) where
   pub on-one-set : {x : Cells} → IsSet n x → IsSet n (onOne n i x)
   unfolding onOne
-  on-one-set {x} p = go (eqb i op-inverse) (eqb i op-star) (eqb i op-plus)
+  on-one-set {x} p = go (eqb i op-inverse) (eqb i op-star) (eqb i op-plus) (eqb i op-optional)
     where
-      go : (t u v : Bool) → IsSet n (pick t (transpose x) (pick u (union (closure n x) (identity n)) (pick v (closure n x) (union x (identity n)))))
-      go true u v = transpose-set n x p
-      go false true v = union-set n (closure n x) (identity n) (closure-set n n x p) (identity-set n)
-      go false false true = closure-set n n x p
-      go false false false = union-set n x (identity n) p (identity-set n)
+      go : (t u v w : Bool) → IsSet n (pick t (transpose x) (pick u (union (closure n x) (identity n)) (pick v (closure n x) (pick w (union x (identity n)) x))))
+      go true u v w = transpose-set n x p
+      go false true v w = union-set n (closure n x) (identity n) (closure-set n n x p) (identity-set n)
+      go false false true w = closure-set n n x p
+      go false false false true = union-set n x (identity n) p (identity-set n)
+      go false false false false = p
 
   pub on-two-set : {x y : Cells} → IsSet n x → IsSet n y → IsSet n (onTwo n i x y)
   unfolding onTwo
@@ -111,14 +117,15 @@ module _ (n i : ℕ) where
       go false = product-set n x y p q
 
 -- ---- the beginning
-pub begins : (g : Graph) {s : List ℕ} (e : Expr) → Is alternatives s e → depth e ≤ 8 → (work ls : List ℕ) → Waiting g e (code e) work ls 0 0 []
+-- nothing waits
+abbrev pub fresh : List ℕ → Stack
+fresh ls = record { sizes = ls; count = 0; end = 0; label = 26; sense = 0 }
+
+pub begins : (g : Graph) {s : List ℕ} (e : Expr) → Is alternatives s e → depth e ≤ 8 → (work ls : List ℕ) → Waiting g e (code e) work (fresh ls) []
 begins g e d h work ls = record {
   rest = run-code (relations g) d [] ∙ ap (λ (a : Cells). a ∷ []) (value-cells g e);
   runs = runs-code (relations g) d most-waiting [] (omega arith);
-  sets = no-set;
-  sizes = empty;
-  ends = unfold laid in refl;
-  trees = unfold laid in refl;
+  lie = record { sets = no-set; sizes = empty; ends = unfold laid in refl; trees = unfold laid in refl };
 }
 
 -- ---- what is left to run
@@ -135,10 +142,6 @@ runs-number A (next a b h r) = a
 
 pub runs-operands : {D : Type 0} (A : Algebra D) {k i : ℕ} {c : List ℕ} {st : List D} → Runs A k (i ∷ c) st → operands i ≤ length st
 runs-operands A (next a b h r) = b
-
--- a number's value finds room
-pub runs-room : {D : Type 0} (A : Algebra D) {k i : ℕ} {c : List ℕ} {st st′ : List D} {v : D} → Runs A k (i ∷ c) st → does A i st ≡ v ∷ st′ → length st′ < k
-runs-room A (next a b h r) e = omega (arith, ap length e, runs-height A r)
 
 pub does-label : (g : Graph) (i : ℕ) (st : List Cells) → i < op-inverse → does (relations g) i st ≡ crossed g (letter i) ∷ st
 unfolding does relations
@@ -177,10 +180,6 @@ front-join : (l xs ys : List ℕ) → take (length xs) l ≡ xs → take (length
 front-join l xs ys h k = ap (λ (j : ℕ). take j l) (length-append xs ys) ∙ take-add (length xs) (length ys) l ∙ ap₂ (λ (u v : List ℕ). u ++ v) h k
 
 -- ---- the operands
--- the trees of the stack fill the front of work
-abbrev Trees : ℕ → List ℕ → List Cells → Type 0
-Trees n work st = take (length (laid n st)) work ≡ laid n st
-
 -- the operand on top: its tree begins where those below it end
 pub record Top (n : ℕ) (work ls : List ℕ) (k at start size : ℕ) (a : Cells) (st : List Cells) : Type 0 where
   pub set : IsSet n a
@@ -192,7 +191,7 @@ pub record Top (n : ℕ) (work ls : List ℕ) (k at start size : ℕ) (a : Cells
   pub ends : at ≡ start + size
   pub tree : take size (drop start work) ≡ treeWords n a
 
--- of a stack that waits
+-- of a stack whose trees lie at the front of work
 pub top : {n k : ℕ} {work ls : List ℕ} {at : ℕ} {a : Cells} {st : List Cells} → Sets n (a ∷ st) → Sizes n ls k (a ∷ st) → at ≡ length (laid n (a ∷ st)) → take at work ≡ laid n (a ∷ st)
     → Top n work ls (k - 1) at (at - getD ls (k - 1) 0) (getD ls (k - 1) 0) a st
 unfolding laid
@@ -212,34 +211,39 @@ top {n} {work = work} {ls} {at} (one-more {a} {st} p q) (sized {k = k} s h) e t 
       tree = ap (λ (j : ℕ). take j (drop (length (laid n st)) work)) h ∙ front-right work (laid n st) (treeWords n a) f;
     })
 
--- ---- one number more: the operands off the stack, the result v on it
-pub waiting-more : (g : Graph) (e : Expr) (i : ℕ) (c work ls work′ : List ℕ) (k at start r : ℕ) (st st′ : List Cells) (v : Cells)
-    → Waiting g e (i ∷ c) work ls k at st → does (relations g) i st ≡ v ∷ st′ → Sets (g .n) st′ → Sizes (g .n) ls (length st′) st′ → start ≡ length (laid (g .n) st′)
-    → take start work ≡ laid (g .n) st′ → IsSet (g .n) v → length st′ < length ls
-    → take start work′ ≡ take start work → take r (drop start work′) ≡ treeWords (g .n) v → r ≡ length (treeWords (g .n) v)
-    → Waiting g e c work′ (set ls (length st′) r) (suc (length st′)) (start + r) (v ∷ st′)
-unfolding run laid
-waiting-more g e i c work ls work′ k at start r st st′ v w d p s b t q l kept new len =
-    let n : ℕ = g .n in
-    let m : length (laid n st′ ++ treeWords n v) ≡ start + r = length-append (laid n st′) (treeWords n v) ∙ ap₂ (λ (x y : ℕ). x + y) (sym b) (sym len) in
-    let f : take (length (laid n st′)) work′ ≡ laid n st′ = ap (λ (j : ℕ). take j work′) (sym b) ∙ kept ∙ t in
-    let h : take (length (treeWords n v)) (drop (length (laid n st′)) work′) ≡ treeWords n v = ap₂ (λ (x y : ℕ). take x (drop y work′)) (sym len) (sym b) ∙ new in
+-- an operand put on top of st, whose tree is the r words from start on
+pub lying-put : (n : ℕ) (work work′ ls : List ℕ) (start r j k label sense : ℕ) (st : List Cells) (v : Cells) → j ≡ length st → k ≡ suc (length st)
+    → Sets n st → Sizes n ls j st → start ≡ length (laid n st) → take start work ≡ laid n st → IsSet n v → j < length ls
+    → take start work′ ≡ take start work → take r (drop start work′) ≡ treeWords n v → r ≡ length (treeWords n v)
+    → Lying n work′ (record { sizes = set ls j r; count = k; end = start + r; label = label; sense = sense }) (v ∷ st)
+unfolding laid
+lying-put n work work′ ls start r j k label sense st v ej ek p s b t q l kept new len =
+    let m : length (laid n st ++ treeWords n v) ≡ start + r = length-append (laid n st) (treeWords n v) ∙ ap₂ (λ (x y : ℕ). x + y) (sym b) (sym len) in
+    let f : take (length (laid n st)) work′ ≡ laid n st = ap (λ (i : ℕ). take i work′) (sym b) ∙ kept ∙ t in
+    let h : take (length (treeWords n v)) (drop (length (laid n st)) work′) ≡ treeWords n v = ap₂ (λ (x y : ℕ). take x (drop y work′)) (sym len) (sym b) ∙ new in
+    let z : k ≡ suc j = omega arith in
     record {
-      rest = ap (run (relations g) c) (sym d) ∙ w .rest;
-      runs = subst (λ (u : List Cells). Runs (relations g) most-waiting c u) d (runs-rest g (w .runs));
       sets = one-more q p;
-      sizes = sized (sizes-store (length st′) r (omega arith) s) (getD-set-same ls (length st′) r 0 l ∙ len);
+      sizes = subst (λ (i : ℕ). Sizes n (set ls j r) i (v ∷ st)) (sym z) (sized (sizes-store j r (omega arith) s) (getD-set-same ls j r 0 l ∙ len));
       ends = sym m;
-      trees = ap (λ (j : ℕ). take j work′) (sym m) ∙ front-join work′ (laid n st′) (treeWords n v) f h;
+      trees = ap (λ (i : ℕ). take i work′) (sym m) ∙ front-join work′ (laid n st) (treeWords n v) f h;
     }
 
--- ---- how much room the trees take
-pub laid-short : (n : ℕ) (st : List Cells) → length (laid n st) ≤ length st * treeUnit n
-unfolding laid
-laid-short n [] = omega arith
-laid-short n (a ∷ st) =
-    let e : suc (length st) * treeUnit n ≡ length st * treeUnit n + treeUnit n = suc-mul (length st) (treeUnit n) in
-    omega (arith, length-append (laid n st) (treeWords n a), treeWords-most n a, laid-short n st)
+-- ---- one number more
+pub waits-next : {g : Graph} {e : Expr} {i : ℕ} {c work work′ : List ℕ} {S S′ : Stack} {st : List Cells} (st′ : List Cells) → Waiting g e (i ∷ c) work S st
+    → does (relations g) i (beside (held g S) st) ≡ beside (held g S′) st′ → Lying (g .n) work′ S′ st′ → Waiting g e c work′ S′ st′
+unfolding run
+waits-next {g} {c = c} st′ w d l = record {
+  rest = ap (run (relations g) c) (sym d) ∙ w .rest;
+  runs = subst (λ (u : List Cells). Runs (relations g) most-waiting c u) d (runs-rest g (w .runs));
+  lie = l;
+}
+
+-- ---- nothing beside
+pub beside-none : (st : List Cells) → beside noPairs st ≡ st
+unfolding union noPairs
+beside-none [] = refl
+beside-none (t ∷ st) = ap (λ (a : Cells). a ∷ st) (fun-ext (λ x. fun-ext (λ y. omega arith)))
 
 -- ---- letters: the pairs of a label's links
 module _ (b : Book) (fit : Fit (b .n) (b .sheet)) (small : b .n ≤ 1024) (l : ℕ) (ps : List ℕ) (P : PairsOf (b .sheet) l ps) where
@@ -274,3 +278,19 @@ module _ (b : Book) (fit : Fit (b .n) (b .sheet)) (small : b .n ≤ 1024) (l : �
                   let k = same-pair x y (r .0) (r .1) (column x y h) y′ (r .2) in
                   absurd (true≢false (sym (subst (λ (v : ℕ). present (b .sheet) (record { from = v; label = l; to = y }) ≡ true) (sym (k .0)) (subst (λ (v : ℕ). present (b .sheet) (record { from = r .0; label = l; to = v }) ≡ true) (sym (k .1)) (r .3))) ∙ e))
               none (no h) = omega arith
+
+-- no link has the label 26
+pub held-none : (b : Book) → Fit (b .n) (b .sheet) → (S : Stack) → S .label ≡ 26 → held (asked b) S ≡ noPairs
+unfolding asked noPairs
+held-none b fit S e = rw e (ap (sensed (S .sense)) (fun-ext (λ x. fun-ext (λ y. at x y))) ∙ turn (S .sense))
+  where
+    at : (x y : ℕ) → crossed (asked b) (letter 26) x y ≡ 0
+    at x y = crossed-letter (asked b) (fit-inside b fit) 26 x y ∙ none (present (b .sheet) (record { from = x; label = 26; to = y })) refl
+      where
+        none : (t : Bool) → present (b .sheet) (record { from = x; label = 26; to = y }) ≡ t → bit t ≡ 0
+        none true q = absurd (omega (arith, fit .links _ q .label))
+        none false q = refl
+
+    turn : (s : ℕ) → sensed s noPairs ≡ noPairs
+    turn zero = refl
+    turn (suc s) = unfold transpose in refl

@@ -1,15 +1,18 @@
 -- Laws of the room that the operands take.
---   totals-below, totals-most, totals-store
---                   the numbers below the top one; their total; a number stored above them
+--   totals-below, totals-most
+--                   the numbers below the top one; their total
+--   placed-put, placed-most
+--                   an operand put on top; where at most so many operands end
 --   room-begins     with nothing waiting
 --   room-operands   the next number of the code finds its operands, and there is room for its value
---   room-more       one number more: its operands give way to its value
+--   room-next       one number more: its operands give way to its value
+--   room-ends       with no code left one operand waits
 -- Assumes nothing.
 use mathlib.Core.Path.{_≡_, refl, sym, ap, _∙_, subst}
 use mathlib.Core.List.{List, [], _∷_}
 use mathlib.Core.Bool.{Bool, true, false}
 use Prim.Native.Nat.{ℕ, zero, suc, _+_, _-_, _*_, _<_, _≤_}
-use native.Mathlib.Nat.{suc-mul}
+use native.Mathlib.Nat.{suc-mul, mul-le-mul-right}
 use native.Mathlib.Decide.{decLt}
 use native.Mathlib.Omega.{arith}
 use lib.Dec.{eqb}
@@ -22,8 +25,9 @@ use Rattle.paths.specs.Grammar.{alternatives, Is}
 use Rattle.reader.specs.Code.{op-inverse, op-star, op-plus, op-optional, op-alternative, op-sequence, code, value, does, run}
 use Rattle.reader.specs.Running.{operands, Runs, next}
 use Rattle.reader.specs.CodeLaws.{run-code, runs-code}
-use Rattle.pairs.specs.EvaluationLaws.{runs-height}
-use Rattle.pairs.specs.Evaluation.{heights, most-waiting, Totals, nothing, also, Room}
+use Rattle.pairs.specs.declared.Stack.{Stack}
+use Rattle.pairs.specs.Evaluation.{heights, most-waiting, Totals, nothing, also, Placed, Room}
+use Rattle.pairs.specs.EvaluationLaws.{fresh, runs-height}
 
 pub totals-below : {d k at : ℕ} {ls : List ℕ} → Totals d ls k at → (j : ℕ) → k ≡ suc j → (getD ls j 0 ≤ at) × (getD ls j 0 ≤ d) × Totals d ls j (at - getD ls j 0)
 totals-below nothing j e = absurd (omega arith)
@@ -36,12 +40,28 @@ pub totals-most : {d k at : ℕ} {ls : List ℕ} → Totals d ls k at → at ≤
 totals-most nothing = omega arith
 totals-most {d} (also {k} t h) = omega (arith, totals-most t, suc-mul k d)
 
-pub totals-store : {d k at : ℕ} {ls : List ℕ} (j v : ℕ) → k ≤ j → Totals d ls k at → Totals d (set ls j v) k at
+totals-store : {d k at : ℕ} {ls : List ℕ} (j v : ℕ) → k ≤ j → Totals d ls k at → Totals d (set ls j v) k at
 totals-store j v h nothing = nothing
 totals-store {d} {ls = ls} j v h (also {k} {at} t b) =
     let e : getD (set ls j v) k 0 ≡ getD ls k 0 = getD-set-other ls j k v 0 (λ z. omega arith) in
     subst (λ (x : ℕ). Totals d (set ls j v) (suc k) (at + x)) e (also (totals-store j v (omega arith) t) (omega arith))
 
+-- ---- one operand on top of those below it
+pub placed-put : {d : ℕ} {S : Stack} (start r j k label sense : ℕ) → Placed d S → Totals d (S .sizes) j start → r ≤ d → j < most-waiting → k ≡ suc j → sense ≤ 1
+    → Placed d (record { sizes = set (S .sizes) j r; count = k; end = start + r; label = label; sense = sense })
+placed-put {d} {S} start r j k label sense P t h l e o =
+    let q : getD (set (S .sizes) j r) j 0 ≡ r = getD-set-same (S .sizes) j r 0 (omega (arith, P .slots)) in
+    record {
+      slots = length-set (S .sizes) j r ∙ P .slots;
+      totals = subst (λ (i : ℕ). Totals d (set (S .sizes) j r) i (start + r)) (sym e)
+          (subst (λ (x : ℕ). Totals d (set (S .sizes) j r) (suc j) (start + x)) q (also (totals-store j r (omega arith) t) (omega arith)));
+      sense = o;
+    }
+
+pub placed-most : {d : ℕ} {S : Stack} (k : ℕ) → Placed d S → S .count ≤ k → S .end ≤ k * d
+placed-most {d} {S} k P h = omega (arith, totals-most (P .totals), mul-le-mul-right d h)
+
+-- ---- the code
 value-heights : (e : Expr) → value heights e ≡ 0
 unfolding value heights
 value-heights (symbol (letter k)) = refl
@@ -53,8 +73,14 @@ value-heights (optional e) = refl
 value-heights (alternative e f) = refl
 value-heights (sequence e f) = refl
 
-pub room-begins : (d : ℕ) {s : List ℕ} (e : Expr) → Is alternatives s e → depth e ≤ 8 → (ls : List ℕ) → length ls ≡ most-waiting → Room d (code e) ls 0 0
-room-begins d e p h ls l = record { slots = l; stack = []; rest = run-code heights p [] ∙ ap (λ (v : ℕ). v ∷ []) (value-heights e); runs = runs-code heights p most-waiting [] (omega arith); count = refl; totals = nothing }
+pub room-begins : (d : ℕ) {s : List ℕ} (e : Expr) → Is alternatives s e → depth e ≤ 8 → (ls : List ℕ) → length ls ≡ most-waiting → Room d (code e) (fresh ls)
+room-begins d e p h ls l = record {
+  stack = [];
+  rest = run-code heights p [] ∙ ap (λ (v : ℕ). v ∷ []) (value-heights e);
+  runs = runs-code heights p most-waiting [] (omega arith);
+  count = refl;
+  placed = record { slots = l; totals = nothing; sense = omega arith };
+}
 
 -- what the next number asks
 pub record Ready (i k : ℕ) : Type 0 where
@@ -113,29 +139,19 @@ height-after i st l h = go (decLt i op-inverse) (decLt i op-alternative) st h
     go (no p) (no q) (b ∷ []) h = absurd (omega (arith, operands-two i (omega arith)))
     go (no p) (no q) (b ∷ a ∷ st) h = rw (height-two i a b st (omega arith) l, operands-two i (omega arith)) (omega arith)
 
-pub room-operands : {d i k at : ℕ} {c ls : List ℕ} → Room d (i ∷ c) ls k at → Ready i k
+pub room-operands : {d i : ℕ} {c : List ℕ} {S : Stack} → Room d (i ∷ c) S → Ready i (S .count)
 room-operands {i = i} r = go (r .runs) (r .count)
   where
     go : {k : ℕ} {c : List ℕ} {st : List ℕ} → Runs heights most-waiting (i ∷ c) st → k ≡ length st → Ready i k
     go {st = st} (next a b h q) e = rw e (record { number = a; found = b; few = h; room = omega (arith, runs-height heights q, height-after i st a b) })
 
-pub room-more : {d i k at : ℕ} {c ls : List ℕ} (start r : ℕ) → Room d (i ∷ c) ls k at → Totals d ls (k - operands i) start → r ≤ d
-    → Room d c (set ls (k - operands i) r) (suc (k - operands i)) (start + r)
+pub room-next : {d i : ℕ} {c : List ℕ} {S S′ : Stack} → Room d (i ∷ c) S → Placed d S′ → S′ .count ≡ suc (S .count - operands i) → Room d c S′
 unfolding run
-room-more {d} {i} {k} {at} {c} {ls} start r R t h =
-    let q = room-operands R in
-    let j : ℕ = k - operands i in
-    let e : getD (set ls j r) j 0 ≡ r = getD-set-same ls j r 0 (omega (arith, q .room, R .slots)) in
-    go (R .runs) (R .rest) (R .count) (subst (λ (x : ℕ). Totals d (set ls j r) (suc j) (start + x)) e (also (totals-store j r (omega arith) t) (omega arith)))
+room-next {d} {i} {c} {S} {S′} R P e = go (R .runs) (R .rest) (R .count)
   where
-    go : {st : List ℕ} → Runs heights most-waiting (i ∷ c) st → run heights (i ∷ c) st ≡ 0 ∷ [] → k ≡ length st → Totals d (set ls (k - operands i) r) (suc (k - operands i)) (start + r) → Room d c (set ls (k - operands i) r) (suc (k - operands i)) (start + r)
-    go {st} (next a b g q) f e T = record { rest = f; slots = length-set ls (k - operands i) r ∙ R .slots; stack = does heights i st; runs = q; count = sym (height-after i st a b ∙ ap (λ (x : ℕ). suc (x - operands i)) (sym e)); totals = T }
+    go : {st : List ℕ} → Runs heights most-waiting (i ∷ c) st → run heights (i ∷ c) st ≡ 0 ∷ [] → S .count ≡ length st → Room d c S′
+    go {st} (next a b g q) f k = record { stack = does heights i st; rest = f; runs = q; count = e ∙ ap (λ (x : ℕ). suc (x - operands i)) k ∙ sym (height-after i st a b); placed = P }
 
--- when nothing is left to run, one operand waits
-pub room-ends : {d k at : ℕ} {ls : List ℕ} → Room d [] ls k at → at ≤ d
+pub room-ends : {d : ℕ} {S : Stack} → Room d [] S → S .count ≡ 1
 unfolding run
-room-ends {d} {k} {at} {ls} R =
-    let o : k ≡ 1 = R .count ∙ ap length (R .rest) in
-    let t = totals-most (R .totals) in
-    let m : k * d ≡ d = ap (λ (j : ℕ). j * d) o ∙ (let z : 1 * d ≡ d = omega arith in z) in
-    omega arith
+room-ends R = R .count ∙ ap length (R .rest)

@@ -77,15 +77,9 @@ fn on_two(
     ensures { λ r. ⌜ (r ≤ treeUnit n) × TwoWithLinks (onTwo n op) n left right (now (links .entry)) sense (now (part .entry)) (now (part .exit)) r ⌝ }
 {
     if op == 30 {
-        return bounded(
-            tree::union_with(part, n, left, right, links, sense),
-            n,
-        );
+        return bounded(tree::union_with(part, n, left, right, links, sense), n);
     }
-    bounded(
-        tree::product_with(part, n, left, right, links, sense),
-        n,
-    )
+    bounded(tree::product_with(part, n, left, right, links, sense), n)
 }
 
 // An operator on the operand on top; the part of work from it on is lent to the operation.
@@ -141,10 +135,12 @@ fn unary(work: &mut [u64], n: usize, words: &[u32], stack: Stack, op: u8) -> Sta
 {
     let top = stack.count - 1;
     let last = stack.sizes[top];
-    if op == 26 && last == 0 {
-        let mut next = stack;
-        next.sense = 1 - next.sense;
-        return next;
+    if op == 26 {
+        if last == 0 {
+            let mut next = stack;
+            next.sense = 1 - next.sense;
+            return next;
+        }
     }
     on_top(work, n, words, stack, op)
 }

@@ -7,12 +7,12 @@ use Prim.Native.Nat.{ℕ, _+_, _-_, _*_, _≤_, _<_}
 use lib.ListN.{length, take, drop, getD}
 use Rattle.k2.specs.Trees.{treeUnit, treeWords}
 use Rattle.pairs.specs.Steps.{Going}
-use Rattle.pairs.proofs.Stepping.{going-begins, going-room, going-more, going-ends}
+use Rattle.pairs.proofs.Stepping.{going-begins, going-room, going-more, going-one, going-ends}
 use Rattle.pairs.proofs.evaluate.Statement.{statement}
 use Rattle.pairs.proofs.evaluate.Tie as tie
 
 abbrev Inv-loop : tie.InvT-loop
-Inv-loop work₀ n words code stack₀ i₀ work stack i = (i ≤ length code) × (length work ≡ length work₀) × Going n words code work (stack .sizes) (stack .count) (stack .end) i
+Inv-loop work₀ n words code stack₀ i₀ work stack i = (i ≤ length code) × (length work ≡ length work₀) × Going n words code work stack i
 
 abbrev μ-loop : tie.MeasureT-loop
 μ-loop work₀ n words code stack₀ i₀ work stack i = length code - i
@@ -35,11 +35,17 @@ loop-less c = omega arith
 loop-again : tie.Need-loop-again Inv-loop μ-loop
 loop-again c = (omega arith, c .before .before .step .kept .0 ∙ c .before .before .before .before .before .before .loop .inv .1, going-more _ _ _ (c .before .before .before .before .before .before .loop .i) (omega arith) (c .before .before .before .before .before .before .loop .inv .2) (c .before .before .step .ensures))
 
+settle-requires : tie.Need-settle-requires Inv-loop μ-loop
+settle-requires c κs =
+    let l = c .before .before .loop in
+    let P = c .before .before .before .before .before .before .pre in
+    (P .0, omega (arith, l .inv .1, P .1), omega (arith, going-one _ _ _ (l .i) (omega arith) (l .inv .2)), l .inv .2 .room .placed)
+
 same-length : tie.Need-same-length Inv-loop μ-loop
-same-length c = c .before .loop .inv .1
+same-length c = c .before .before .settle .kept .0 ∙ c .before .before .before .before .before .loop .inv .1
 
 returns : tie.Need-returns Inv-loop μ-loop
-returns c = going-ends _ _ _ (c .before .loop .i) (omega arith) (c .before .loop .inv .2)
+returns c = let l = c .before .before .before .before .before .loop in going-ends _ _ _ (l .i) (omega arith) (l .inv .2) (c .before .before .settle .ensures)
 
 pub evaluate-spec : {M : Type 1} → statement M
 evaluate-spec =
@@ -53,5 +59,6 @@ evaluate-spec =
     add-i
     loop-less
     loop-again
+    settle-requires
     same-length
     returns)

@@ -1,17 +1,12 @@
 -- `pairs::on_two` meets its contract: each operator is an operation of the tree, by the laws of `Stepping`. Assumes nothing.
 use native.Mathlib.Omega.{arith}
-use mathlib.Core.Path.{_≡_, refl, sym, ap, _∙_}
-use mathlib.Core.List.{List, []}
-use Prim.Native.Nat.{ℕ, _+_, _-_, _*_, _≤_, _<_}
-use lib.ListN.{length, take, drop, getD}
-use Rattle.k2.specs.Trees.{treeUnit, treeWords}
 use Rattle.pairs.proofs.Stepping.{bounded-tree, is-alternative, is-sequence}
 use borrow.Author.Needs.{needs}
 use Rattle.pairs.proofs.on_two.Statement.{statement}
 use Rattle.pairs.proofs.on_two.Tie as tie
 
-union-in-requires : tie.Need-union-in-requires
-union-in-requires c κs = search needs
+union-with-requires : tie.Need-union-with-requires
+union-with-requires c κs = search needs
 
 bounded-requires : tie.Need-bounded-requires
 bounded-requires c κs = search needs
@@ -20,10 +15,10 @@ same-length : tie.Need-same-length
 same-length c = search needs
 
 returns : tie.Need-returns
-returns c = (c .bounded .ensures .0, is-alternative _ _ (c .before .before .before .before .before .before .before .args .left) (c .before .before .before .before .before .before .before .args .right) (c .before .before .before .before .before .before .before .args .part .now) _ _ (c .before .before .before .before .before .if1 .taken) (λ x y p q d e. bounded-tree (c .before .before .before .union-in .ensures .done (search needs) x y p q d e) (c .bounded .ensures .1)))
+returns c = (c .bounded .ensures .0, is-alternative _ _ (c .before .before .before .before .before .before .before .before .args .left) (c .before .before .before .before .before .before .before .before .args .right) _ (c .before .before .before .before .before .before .before .before .args .sense) (c .before .before .before .before .before .before .before .before .args .part .now) _ _ (c .before .before .before .before .before .if1 .taken) (λ x y p q d e s. bounded-tree (c .before .before .before .union-with .ensures .done (search needs) x y p q d e s) (c .bounded .ensures .1)))
 
-product-in-requires : tie.Need-product-in-requires
-product-in-requires c κs = search needs
+product-with-requires : tie.Need-product-with-requires
+product-with-requires c κs = search needs
 
 bounded-requires-2 : tie.Need-bounded-requires-2
 bounded-requires-2 c κs = search needs
@@ -32,17 +27,17 @@ same-length-2 : tie.Need-same-length-2
 same-length-2 c = search needs
 
 returns-2 : tie.Need-returns-2
-returns-2 c = (c .bounded2 .ensures .0, is-sequence _ _ (c .before .before .before .before .before .before .before .args .left) (c .before .before .before .before .before .before .before .args .right) (c .before .before .before .before .before .before .before .args .part .now) _ _ (c .before .before .before .before .before .if1 .left) (λ x y p q d e. bounded-tree (c .before .before .before .product-in .ensures .done (search needs) x y p q d e) (c .bounded2 .ensures .1)))
+returns-2 c = (c .bounded2 .ensures .0, is-sequence _ _ (c .before .before .before .before .before .before .before .before .args .left) (c .before .before .before .before .before .before .before .before .args .right) _ (c .before .before .before .before .before .before .before .before .args .sense) (c .before .before .before .before .before .before .before .before .args .part .now) _ _ (c .before .before .before .before .before .if1 .left) (λ x y p q d e s. bounded-tree (c .before .before .before .product-with .ensures .done (search needs) x y p q d e s) (c .bounded2 .ensures .1)))
 
 pub on-two-spec : {M : Type 1} → statement M
 on-two-spec =
     tie.close
     (tie.spec
-    union-in-requires
+    union-with-requires
     bounded-requires
     same-length
     returns
-    product-in-requires
+    product-with-requires
     bounded-requires-2
     same-length-2
     returns-2)

@@ -1,82 +1,34 @@
--- `pairs::unary` meets its contract: at most 18 operands lie below the one on top, so the part from it on is long enough; `goes-one` does the rest.
+-- `pairs::unary` meets its contract: an operand is on top; links alone are read with the other sense (`goes-turned`), and all else is `goes-one`.
 -- Assumes nothing.
 use native.Mathlib.Omega.{arith}
-use mathlib.Core.Path.{_≡_}
-use mathlib.Core.List.{List, []}
-use Prim.Native.Nat.{ℕ, _+_, _-_, _*_, _≤_, _<_}
-use lib.ListN.{length, take, drop, getD}
-use Rattle.k2.specs.Trees.{treeUnit}
-use Rattle.pairs.proofs.Stepping.{lies-one, part-length, goes-one}
+use Rattle.pairs.proofs.Stepping.{before-one, goes-one, goes-turned}
 use borrow.Author.Needs.{needs}
 use Rattle.pairs.proofs.unary.Statement.{statement}
 use Rattle.pairs.proofs.unary.Tie as tie
 
 sub-top : tie.Need-sub-top
-sub-top c = let l = lies-one (c .before .pre .4 .1) (c .before .pre .2) (c .before .pre .3) in l .0
+sub-top c = let P = c .before .before .pre in before-one (P .4 .1) (P .2) (P .3) .0
 
 mul-last : tie.Need-mul-last
-mul-last c = let l = lies-one (c .before .pre .4 .1) (c .before .pre .2) (c .before .pre .3) in omega (arith, l .0, l .1, l .2, l .4, c .before .pre .1)
+mul-last c = let P = c .before .before .pre in omega (arith, before-one (P .4 .1) (P .2) (P .3) .1)
 
 element-copy-out-last : tie.Need-element-copy-out-last
-element-copy-out-last c = let l = lies-one (c .before .pre .4 .1) (c .before .pre .2) (c .before .pre .3) in omega (arith, l .0, l .1, l .2, l .4, c .before .pre .1)
+element-copy-out-last c = let P = c .before .before .pre in omega (arith, before-one (P .4 .1) (P .2) (P .3))
 
-sub-start : tie.Need-sub-start
-sub-start c = let l = lies-one (c .before .before .pre .4 .1) (c .before .before .pre .2) (c .before .before .pre .3) in l .2
+sub-next : tie.Need-sub-next
+sub-next c = search needs
 
-mul-on-one : tie.Need-mul-on-one
-mul-on-one c = let l = lies-one (c .before .before .pre .4 .1) (c .before .before .pre .2) (c .before .before .pre .3) in omega (arith, l .0, l .1, l .2, l .4, c .before .before .pre .1)
+returns : tie.Need-returns
+returns c = let P = c .before .before .before .before .before .before .pre in goes-turned _ _ _ _ (P .2) (P .3) _ (c .before .before .if1 .taken) (c .before .if2 .taken) (P .4 .1 .placed .sense)
 
-sub-on-one : tie.Need-sub-on-one
-sub-on-one c = let l = lies-one (c .before .before .pre .4 .1) (c .before .before .pre .2) (c .before .before .pre .3) in omega (arith, l .0, l .1, l .2, l .4, c .before .before .pre .1)
-
-part-on-one-start : tie.Need-part-on-one-start
-part-on-one-start c = let l = lies-one (c .before .before .pre .4 .1) (c .before .before .pre .2) (c .before .before .pre .3) in omega (arith, l .0, l .1, l .2, l .4, c .before .before .pre .1)
-
-part-on-one-end : tie.Need-part-on-one-end
-part-on-one-end c = search needs
-
-on-one-requires : tie.Need-on-one-requires
-on-one-requires c κs = let l = lies-one (c .before .before .before .pre .4 .1) (c .before .before .before .pre .2) (c .before .before .before .pre .3) in (c .before .before .before .pre .0, l .3, omega (arith, l .4, c .before .before .before .pre .1, part-length (c .before .before .before .args .work .now) (c .before .before .before .args .stack .end - getD (c .before .before .before .args .stack .sizes) (c .before .before .before .args .stack .count - 1) 0)))
-
-mul-next : tie.Need-mul-next
-mul-next c = let l = lies-one (c .before .before .before .before .before .before .pre .4 .1) (c .before .before .before .before .before .before .pre .2) (c .before .before .before .before .before .before .pre .3) in omega (arith, l .0, l .1, l .2, l .4, c .before .before .before .before .before .before .pre .1)
-
-element-write-next : tie.Need-element-write-next
-element-write-next c = let l = lies-one (c .before .before .before .before .before .before .pre .4 .1) (c .before .before .before .before .before .before .pre .2) (c .before .before .before .before .before .before .pre .3) in omega (arith, l .0, l .1, l .2, l .4, c .before .before .before .before .before .before .pre .1)
-
-add-next : tie.Need-add-next
-add-next c = let l = lies-one (c .before .before .before .before .before .before .pre .4 .1) (c .before .before .before .before .before .before .pre .2) (c .before .before .before .before .before .before .pre .3) in omega (arith, l .4, c .before .before .before .before .before .before .pre .1, c .before .before .on-one .ensures .0)
+on-top-requires : tie.Need-on-top-requires
+on-top-requires c κs = let P = c .before .before .before .before .before .pre in let l = before-one (P .4 .1) (P .2) (P .3) in (P .0, search needs, l .0, l .1, P .4 .1 .placed)
 
 same-length : tie.Need-same-length
 same-length c = search needs
 
-returns : tie.Need-returns
-returns c =
-    let l = lies-one (c .before .before .before .before .before .before .pre .4 .1) (c .before .before .before .before .before .before .pre .2) (c .before .before .before .before .before .before .pre .3) in
-    let A = c .before .before .before .before .before .before .args in
-    let I = c .before .before .on-one in
-    let start : ℕ = A .stack .end - getD (A .stack .sizes) (A .stack .count - 1) 0 in
-    let k : length (I .last .0) ≡ length (take (length (A .work .now) - start) (drop start (A .work .now))) = I .kept .0 in
-    goes-one (A .n) (A .op) (A .work .now) (I .last .0) (A .stack .sizes) (A .stack .count) (A .stack .end) (I .result) (c .before .before .before .before .before .before .pre .2) (c .before .before .before .before .before .before .pre .3)
-    (omega (arith, l .4, c .before .before .before .before .before .before .pre .1)) (c .before .before .before .before .before .before .pre .4 .1 .slots) (I .ensures .0)
-    (omega (arith, l .4, c .before .before .before .before .before .before .pre .1, I .ensures .0, part-length (A .work .now) start))
-    (I .ensures .1 (c .before .before .before .before .before .before .pre .2) (c .before .before .before .before .before .before .pre .3))
+returns-2 : tie.Need-returns-2
+returns-2 c = let P = c .before .before .before .before .before .before .before .before .pre in goes-one _ _ _ _ (P .2) (P .3) _ _ _ (c .before .before .on-top .ensures)
 
 pub unary-spec : {M : Type 1} → statement M
-unary-spec =
-    tie.close
-    (tie.spec
-    sub-top
-    mul-last
-    element-copy-out-last
-    sub-start
-    mul-on-one
-    sub-on-one
-    part-on-one-start
-    part-on-one-end
-    on-one-requires
-    mul-next
-    element-write-next
-    add-next
-    same-length
-    returns)
+unary-spec = tie.close (tie.spec sub-top mul-last element-copy-out-last sub-next returns on-top-requires same-length returns-2)
