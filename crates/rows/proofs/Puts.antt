@@ -13,12 +13,11 @@ use borrow.Author.Tests.{eq-eqb, ne-eqb, lt-ltb, le-ltb}
 use Rattle.book.specs.Basics.{pick, bit, has}
 use Rattle.k2.specs.Bits.{bitAt}
 use Rattle.k2.specs.BitLaws.{Bits, bit-lt, bit-out}
-use Rattle.k2.specs.PairSets.{Cells, IsSet, setOf, union, diagonal}
-use Rattle.k2.specs.PairSetLaws.{bit-small}
+use Rattle.k2.specs.PairSets.{Cells, IsSet, setOf, union, transpose, diagonal}
+use Rattle.k2.specs.PairSetLaws.{bit-small, set-past}
 use Rattle.bits.specs.BitSets.{put, Gap}
 use Rattle.bits.specs.BitSetLaws.{put-at, put-off}
 use Rattle.rows.specs.Rows.{flat, identity, linkPair, RowsOf}
-use Rattle.rows.specs.RowLaws.{flat-at}
 
 -- bits put in agree with a set's rows if they do at the place and off it
 put-flat : (f : ℕ → ℕ) (v : ℕ) (b : Cells) → flat b v ≡ 1 → ((p : ℕ) → (p ≡ v → ⊥) → f p ≡ flat b p) → put v 1 f ≡ flat b
@@ -27,6 +26,17 @@ put-flat f v b e g = fun-ext (λ p. go p (ℕ-discrete p v))
     go : (p : ℕ) → Dec (p ≡ v) → put v 1 f p ≡ flat b p
     go p (yes s) = ap (put v 1 f) s ∙ put-at v 1 f ∙ sym (ap (flat b) s ∙ e)
     go p (no s) = put-off v 1 f p s ∙ g p s
+
+-- one pair more: b has it, and otherwise what a has
+one-more : (x a b : Cells) (v : ℕ) → Bits (flat x) → b (v / 1024) (v % 1024) ≡ 1 → ((i j : ℕ) → (i * 1024 + j ≡ v → ⊥) → a i j ≡ b i j)
+    → put v 1 (flat (union x a)) ≡ flat (union x b)
+one-more x a b v l e g = put-flat (flat (union x a)) v (union x b) here off
+  where
+    here : flat (union x b) v ≡ 1
+    here = let z : x (v / 1024) (v % 1024) < 2 = unfold flat in (l v) in unfold flat union in (rw e (omega (arith, z)))
+
+    off : (p : ℕ) → (p ≡ v → ⊥) → flat (union x a) p ≡ flat (union x b) p
+    off p n = unfold flat union in (ap (max (x (p / 1024) (p % 1024))) (g (p / 1024) (p % 1024) (λ q. n (omega arith))))
 
 -- ---- a list's pairs
 has-last : (v w : ℕ) (ps : List ℕ) → has eqb w (ps ++ (v ∷ [])) ≡ (has eqb w ps || eqb v w)
@@ -42,52 +52,74 @@ has-last v w (u ∷ ps) = go (eqb u w) (has-last v w ps)
     go true e = refl
     go false e = e
 
-flat-list : (ps : List ℕ) (p : ℕ) → flat (setOf ps) p ≡ bit (has eqb p ps)
-unfolding flat setOf
-flat-list ps p =
-    let e : p / 1024 * 1024 + p % 1024 ≡ p = omega arith in
-    rw (lt-ltb (p % 1024) 1024 (omega arith), e) (go (has eqb p ps))
+-- a word more: its pair is in, and the others are as they were
+set-last : (v : ℕ) (ps : List ℕ) → setOf (ps ++ (v ∷ [])) (v / 1024) (v % 1024) ≡ 1
+unfolding setOf
+set-last v ps =
+    let e : v / 1024 * 1024 + v % 1024 ≡ v = omega arith in
+    rw (lt-ltb (v % 1024) 1024 (omega arith), e, has-last v v ps, eq-eqb v v refl) (go (has eqb v ps))
   where
-    go : (b : Bool) → min 1 (bit b) ≡ bit b
+    go : (b : Bool) → min 1 (bit (b || true)) ≡ 1
     go true = refl
     go false = refl
 
-flat-join : (x : Cells) (ps : List ℕ) (p : ℕ) → flat (union x (setOf ps)) p ≡ max (flat x p) (bit (has eqb p ps))
-flat-join x ps p = unfold flat union in refl ∙ ap (max (flat x p)) (flat-list ps p)
-
-pub list-more : (x : Cells) (ps : List ℕ) (v : ℕ) → Bits (flat x) → put v 1 (flat (union x (setOf ps))) ≡ flat (union x (setOf (ps ++ (v ∷ []))))
-list-more x ps v b = put-flat (flat (union x (setOf ps))) v (union x (setOf (ps ++ (v ∷ [])))) here off
+set-off : (v : ℕ) (ps : List ℕ) (x y : ℕ) → (x * 1024 + y ≡ v → ⊥) → setOf ps x y ≡ setOf (ps ++ (v ∷ [])) x y
+unfolding setOf
+set-off v ps x y n = rw (has-last v (x * 1024 + y) ps, ne-eqb v (x * 1024 + y) (λ e. n (sym e))) (go (has eqb (x * 1024 + y) ps))
   where
-    new : (p : ℕ) → flat (union x (setOf (ps ++ (v ∷ [])))) p ≡ max (flat x p) (bit (has eqb p ps || eqb v p))
-    new p = flat-join x (ps ++ (v ∷ [])) p ∙ rw (has-last v p ps)
+    go : (b : Bool) → min (bit (ltb y 1024)) (bit b) ≡ min (bit (ltb y 1024)) (bit (b || false))
+    go true = refl
+    go false = refl
 
-    here : flat (union x (setOf (ps ++ (v ∷ [])))) v ≡ 1
-    here = new v ∙ rw (eq-eqb v v refl) (go (has eqb v ps))
-      where
-        go : (t : Bool) → max (flat x v) (bit (t || true)) ≡ 1
-        go true = omega (arith, b v)
-        go false = omega (arith, b v)
+list-more : (x : Cells) (ps : List ℕ) (v : ℕ) → Bits (flat x) → put v 1 (flat (union x (setOf ps))) ≡ flat (union x (setOf (ps ++ (v ∷ []))))
+list-more x ps v b = one-more x (setOf ps) (setOf (ps ++ (v ∷ []))) v b (set-last v ps) (set-off v ps)
 
-    off : (p : ℕ) → (p ≡ v → ⊥) → flat (union x (setOf ps)) p ≡ flat (union x (setOf (ps ++ (v ∷ [])))) p
-    off p n = flat-join x ps p ∙ sym (new p ∙ rw (ne-eqb v p (λ e. n (sym e))) (go (has eqb p ps)))
-      where
-        go : (t : Bool) → max (flat x p) (bit (t || false)) ≡ max (flat x p) (bit t)
-        go true = refl
-        go false = refl
+-- the place of a pair's word with the pair exchanged
+abbrev pub exchange : ℕ → ℕ
+exchange v = v % 1024 * 1024 + v / 1024
+
+turned-more : (x : Cells) (ps : List ℕ) (v : ℕ) → v < 1048576 → Bits (flat x)
+    → put (exchange v) 1 (flat (union x (transpose (setOf ps)))) ≡ flat (union x (transpose (setOf (ps ++ (v ∷ [])))))
+unfolding transpose
+turned-more x ps v l b = one-more x (transpose (setOf ps)) (transpose (setOf (ps ++ (v ∷ [])))) (exchange v) b here (λ i j n. off i j n (decLt i 1024))
+  where
+    here : setOf (ps ++ (v ∷ [])) (exchange v % 1024) (exchange v / 1024) ≡ 1
+    here =
+        let e : exchange v % 1024 ≡ v / 1024 = omega arith in
+        let f : exchange v / 1024 ≡ v % 1024 = omega arith in
+        rw (e, f) (set-last v ps)
+
+    off : (i j : ℕ) → (i * 1024 + j ≡ exchange v → ⊥) → Dec (i < 1024) → setOf ps j i ≡ setOf (ps ++ (v ∷ [])) j i
+    off i j n (yes h) = set-off v ps j i (λ e. n (omega arith))
+    off i j n (no h) = set-past ps j i (omega arith) ∙ sym (set-past (ps ++ (v ∷ [])) j i (omega arith))
 
 pub list-none : (x : Cells) → union x (setOf []) ≡ x
 unfolding union setOf has
 list-none x = fun-ext (λ u. fun-ext (λ y. omega arith))
 
+pub turned-none : (x : Cells) → union x (transpose (setOf [])) ≡ x
+unfolding union transpose setOf has
+turned-none x = fun-ext (λ u. fun-ext (λ y. omega arith))
+
 map-last : (ws : List ℕ) (w : ℕ) → map linkPair (ws ++ (w ∷ [])) ≡ map linkPair ws ++ (linkPair w ∷ [])
 map-last [] w = refl
 map-last (v ∷ ws) w = ap (λ (l : List ℕ). linkPair v ∷ l) (map-last ws w)
 
+links-next : (ws : List ℕ) (i : ℕ) → i < length ws → map linkPair (take i ws) ++ (linkPair (getD ws i 0) ∷ []) ≡ map linkPair (take (i + 1) ws)
+links-next ws i l =
+    sym (ap (λ (k : ℕ). map linkPair (take k ws)) (add-one i) ∙ ap (map linkPair) (take-suc ws i 0 l) ∙ map-last (take i ws) (getD ws i 0))
+
 pub links-more : (x : Cells) (ws : List ℕ) (i : ℕ) → i < length ws → Bits (flat x)
     → put (linkPair (getD ws i 0)) 1 (flat (union x (setOf (map linkPair (take i ws))))) ≡ flat (union x (setOf (map linkPair (take (i + 1) ws))))
 links-more x ws i l b =
-    list-more x (map linkPair (take i ws)) (linkPair (getD ws i 0)) b
-    ∙ ap (λ (ps : List ℕ). flat (union x (setOf ps))) (sym (ap (λ (k : ℕ). map linkPair (take k ws)) (add-one i) ∙ ap (map linkPair) (take-suc ws i 0 l) ∙ map-last (take i ws) (getD ws i 0)))
+    list-more x (map linkPair (take i ws)) (linkPair (getD ws i 0)) b ∙ ap (λ (ps : List ℕ). flat (union x (setOf ps))) (links-next ws i l)
+
+pub links-turned : (x : Cells) (ws : List ℕ) (i : ℕ) → i < length ws → Bits (flat x)
+    → put (exchange (linkPair (getD ws i 0))) 1 (flat (union x (transpose (setOf (map linkPair (take i ws))))))
+    ≡ flat (union x (transpose (setOf (map linkPair (take (i + 1) ws)))))
+links-turned x ws i l b =
+    turned-more x (map linkPair (take i ws)) (linkPair (getD ws i 0)) (unfold linkPair in (omega arith)) b
+    ∙ ap (λ (ps : List ℕ). flat (union x (transpose (setOf ps)))) (links-next ws i l)
 
 pub links-all : (ws : List ℕ) (i : ℕ) → i ≡ length ws → map linkPair (take i ws) ≡ map linkPair ws
 links-all ws i e = ap (map linkPair) (ap (λ (k : ℕ). take k ws) e ∙ take-length ws)
@@ -106,13 +138,13 @@ unfolding union diagonal
 diagonal-none x = fun-ext (λ u. fun-ext (λ y. rw (le-ltb u 0 (omega arith)) (omega arith)))
 
 pub diagonal-more : (x : Cells) (i : ℕ) → i < 1024 → Bits (flat x) → put (i * 1024 + i) 1 (flat (union x (identity i))) ≡ flat (union x (identity (i + 1)))
-diagonal-more x i l b = put-flat (flat (union x (identity i))) (i * 1024 + i) (union x (identity (i + 1))) here off
+diagonal-more x i l b = one-more x (identity i) (identity (i + 1)) (i * 1024 + i) b here (λ u y n. same u y n (ℕ-discrete u y) (decLt u i))
   where
-    one : x i i < 2
-    one = let e : flat x (i * 1024 + i) ≡ x i i = flat-at x i i l in omega (arith, b (i * 1024 + i))
-
-    here : flat (union x (identity (i + 1))) (i * 1024 + i) ≡ 1
-    here = flat-at (union x (identity (i + 1))) i i l ∙ unfold union in (rw (identity-at (i + 1) i, lt-ltb i (i + 1) (omega arith)) (omega (arith, one)))
+    here : identity (i + 1) ((i * 1024 + i) / 1024) ((i * 1024 + i) % 1024) ≡ 1
+    here =
+        let p : (i * 1024 + i) / 1024 ≡ i = omega arith in
+        let q : (i * 1024 + i) % 1024 ≡ i = omega arith in
+        rw (p, q, identity-at (i + 1) i, lt-ltb i (i + 1) (omega arith))
 
     same : (u y : ℕ) → (u * 1024 + y ≡ i * 1024 + i → ⊥) → Dec (u ≡ y) → Dec (u < i) → identity i u y ≡ identity (i + 1) u y
     same u y n (no s) d = identity-off i u y s ∙ sym (identity-off (i + 1) u y s)
@@ -120,11 +152,6 @@ diagonal-more x i l b = put-flat (flat (union x (identity i))) (i * 1024 + i) (u
     same u y n (yes s) (no d) =
         let z : (u ≡ i → ⊥) = λ e. n (omega arith) in
         rw (← s, identity-at i u, identity-at (i + 1) u, le-ltb u i (omega arith), le-ltb u (i + 1) (omega (arith, z)))
-
-    off : (p : ℕ) → (p ≡ i * 1024 + i → ⊥) → flat (union x (identity i)) p ≡ flat (union x (identity (i + 1))) p
-    off p n =
-        unfold flat union in (ap (max (x (p / 1024) (p % 1024)))
-        (same (p / 1024) (p % 1024) (λ e. n (omega arith)) (ℕ-discrete (p / 1024) (p % 1024)) (decLt (p / 1024) i)))
 
 -- ---- rows below n
 module _ (n : ℕ) (ws : List ℕ) (nl : n ≤ 1024) (long : length ws ≡ 16384) where

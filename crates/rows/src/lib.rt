@@ -75,6 +75,20 @@ pub fn put_words(words: &[u32], rows: &mut [u64])
     }
 }
 
+// The same with each pair exchanged.
+pub fn put_turned(words: &[u32], rows: &mut [u64])
+    requires { ⌜ length (now rows) ≡ 16384 ⌝ }
+    ensures { λ _. ⌜ ((x : Cells) → bitAt (now (rows .entry)) ≡ flat x
+        → bitAt (now (rows .exit)) ≡ flat (union x (transpose (setOf (map linkPair (now (words .entry))))))) ⌝ }
+{
+    let mut i = 0;
+    while i < words.len() {
+        let p = (words[i] % 1048576) as usize;
+        bits::set_bit(rows, p % 1024 * 1024 + p / 1024);
+        i += 1;
+    }
+}
+
 // How many pairs there are.
 pub fn count_pairs(rows: &[u64], n: usize) -> usize
     requires { ⌜ n ≤ 1024 ⌝ }

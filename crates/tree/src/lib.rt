@@ -10,7 +10,7 @@ ghost use Rattle.k2.specs.PairSetLaws.{PairsBelow};
 ghost use Rattle.k2.specs.Trees.{treeWords, treeUnit, WellFormed};
 ghost use Rattle.rows.specs.Rows.{flat, noPairs, identity, linkPair};
 ghost use Rattle.packing.specs.Reading.{sensed};
-ghost use Rattle.tree.specs.Inner.{Room, TreeAt, outcome, OneTree, TwoTrees, Guarded};
+ghost use Rattle.tree.specs.Inner.{Room, TreeAt, outcome, OneTree, TwoTrees, OneWithLinks, TwoWithLinks, Guarded};
 ghost use Rattle.tree.specs.Calls.{Found, Settled, Answered, TreeOf, ListOf, TreeOfOne, TreeOfTwo};
 
 pub enum Answer {
@@ -28,37 +28,109 @@ fn load_at(work: &[u64], at: usize, len: usize, n: usize, sense: usize, rows: &m
     packing::load(&work[at..end], n, sense, rows);
 }
 
-// Of two trees at the front of work, the second into rows of its own, and the operation on both: intersection, difference or product.
+// The pairs of link words put into rows; with sense 1 each pair exchanged.
+fn put_links(words: &[u32], sense: usize, rows: &mut [u64])
+    requires { ⌜ length (now rows) ≡ 16384 ⌝ }
+    ensures { λ _. ⌜ ((x : Cells) → bitAt (now (rows .entry)) ≡ flat x
+        → bitAt (now (rows .exit)) ≡ flat (union x (sensed sense (setOf (map linkPair (now (words .entry))))))) ⌝ }
+{
+    if sense == 0 {
+        rows::put_words(words, rows);
+        return;
+    }
+    rows::put_turned(words, rows);
+}
+
+// The last operand put into rows: the pairs of a tree and those of link words, each read with its sense.
+fn load_last(
+    work: &[u64],
+    at: usize,
+    len: usize,
+    n: usize,
+    sb: usize,
+    words: &[u32],
+    sense: usize,
+    rows: &mut [u64],
+)
+    requires { ⌜ (n ≤ 1024) × (len ≤ treeUnit n) × (sb ≤ 1) × (at + len ≤ length (now work)) × (length (now rows) ≡ 16384) ⌝ }
+    ensures { λ _. ⌜ ((b x : Cells) → IsSet n b → take len (drop at (now (work .entry))) ≡ treeWords n b → bitAt (now (rows .entry)) ≡ flat x
+        → bitAt (now (rows .exit)) ≡ flat (union x (union (sensed sb b) (sensed sense (setOf (map linkPair (now (words .entry)))))))) ⌝ }
+{
+    load_at(work, at, len, n, sb, rows);
+    put_links(words, sense, rows);
+}
+
+// The last operand loaded into rows of its own, and the operation on both, left in rows: intersection, difference or product.
 fn with_second(
     kind: u8,
-    work: &mut [u64],
+    work: &[u64],
     n: usize,
     la: usize,
     lb: usize,
     sb: usize,
+    words: &[u32],
+    sense: usize,
     rows: &mut [u64],
-) -> usize
-    requires { ⌜ Room n la lb (length (now work)) × (1 ≤ kind) × (kind ≤ 3) × (sb ≤ 1) × (length (now rows) ≡ 16384) ⌝ }
-    ensures { λ r. ⌜ (r ≤ length (now (work .entry))) × ((a b : Cells) → IsSet n a → IsSet n b → bitAt (now (rows .entry)) ≡ flat a
-        → take lb (drop la (now (work .entry))) ≡ treeWords n b → TreeAt n (outcome kind n a (sensed sb b) noPairs) (now (work .exit)) r) ⌝ }
+)
+    requires { ⌜ Room n la lb (length (now work)) × (1 ≤ kind) × (kind ≤ 3) × (sb ≤ 1) × (sense ≤ 1) × (length (now rows) ≡ 16384) ⌝ }
+    ensures { λ _. ⌜ ((a b : Cells) → IsSet n a → IsSet n b → bitAt (now (rows .entry)) ≡ flat a
+        → take lb (drop la (now (work .entry))) ≡ treeWords n b → IsSet n (setOf (map linkPair (now (words .entry))))
+        → bitAt (now (rows .exit)) ≡ flat (outcome kind n a (union (sensed sb b) (sensed sense (setOf (map linkPair (now (words .entry)))))))) ⌝ }
 {
     let mut other: [u64; 16384] = [0; 16384];
     if kind == 3 {
-        load_at(work, la, lb, n, 1 - sb, &mut other);
+        load_last(work, la, lb, n, 1 - sb, words, 1 - sense, &mut other);
         rows::compose(rows, &other, n);
-        return packing::pack(rows, n, work);
+        return;
     }
-    load_at(work, la, lb, n, sb, &mut other);
+    load_last(work, la, lb, n, sb, words, sense, &mut other);
     if kind == 1 {
         rows::intersect(rows, &other);
-        return packing::pack(rows, n, work);
+        return;
     }
     rows::minus(rows, &other);
-    packing::pack(rows, n, work)
 }
 
-// An operation, by its number, on trees at the front of work, each read with its sense; link words are put in beside them. The tree that
-// results is left at the front; how many words it has. All operations go through here, so that their rows stand on the stack once.
+// An operation, by its number, on the set in rows and the last operand, left in rows.
+fn combine(
+    kind: u8,
+    work: &[u64],
+    n: usize,
+    la: usize,
+    lb: usize,
+    sb: usize,
+    words: &[u32],
+    sense: usize,
+    rows: &mut [u64],
+)
+    requires { ⌜ Room n la lb (length (now work)) × (sb ≤ 1) × (sense ≤ 1) × (length (now rows) ≡ 16384) ⌝ }
+    ensures { λ _. ⌜ ((a b : Cells) → IsSet n a → IsSet n b → bitAt (now (rows .entry)) ≡ flat a
+        → take lb (drop la (now (work .entry))) ≡ treeWords n b → IsSet n (setOf (map linkPair (now (words .entry))))
+        → bitAt (now (rows .exit)) ≡ flat (outcome kind n a (union (sensed sb b) (sensed sense (setOf (map linkPair (now (words .entry)))))))) ⌝ }
+{
+    if kind == 0 {
+        load_last(work, la, lb, n, sb, words, sense, rows);
+        return;
+    }
+    if kind < 4 {
+        with_second(kind, work, n, la, lb, sb, words, sense, rows);
+        return;
+    }
+    load_last(work, la, lb, n, sb, words, sense, rows);
+    if kind == 5 {
+        rows::set_diagonal(rows, n);
+        return;
+    }
+    rows::close(rows, n);
+    if kind == 4 {
+        return;
+    }
+    rows::set_diagonal(rows, n);
+}
+
+// An operation, by its number, on trees at the front of work, each read with its sense; the last one has the pairs of link words beside its
+// own, read with a sense too. The tree that results is left at the front; how many words it has. All operations go through here, so that their
+// rows stand on the stack once.
 fn operate(
     kind: u8,
     work: &mut [u64],
@@ -68,31 +140,18 @@ fn operate(
     sa: usize,
     sb: usize,
     words: &[u32],
+    sense: usize,
 ) -> usize
-    requires { ⌜ Room n la lb (length (now work)) × (sa ≤ 1) × (sb ≤ 1) ⌝ }
+    requires { ⌜ Room n la lb (length (now work)) × (sa ≤ 1) × (sb ≤ 1) × (sense ≤ 1) ⌝ }
     ensures { λ r. ⌜ (r ≤ length (now (work .entry))) × ((a b : Cells) → IsSet n a → IsSet n b
         → take la (now (work .entry)) ≡ treeWords n a → take lb (drop la (now (work .entry))) ≡ treeWords n b
         → IsSet n (setOf (map linkPair (now (words .entry))))
-        → TreeAt n (outcome kind n (sensed sa a) (sensed sb b) (setOf (map linkPair (now (words .entry))))) (now (work .exit)) r) ⌝ }
+        → TreeAt n (outcome kind n (sensed sa a) (union (sensed sb b) (sensed sense (setOf (map linkPair (now (words .entry)))))))
+        (now (work .exit)) r) ⌝ }
 {
     let mut rows: [u64; 16384] = [0; 16384];
     load_at(work, 0, la, n, sa, &mut rows);
-    if kind == 0 {
-        load_at(work, la, lb, n, sb, &mut rows);
-        return packing::pack(&rows, n, work);
-    }
-    if kind < 4 {
-        return with_second(kind, work, n, la, lb, sb, &mut rows);
-    }
-    if kind == 4 {
-        rows::close(&mut rows, n);
-        return packing::pack(&rows, n, work);
-    }
-    if kind == 5 {
-        rows::set_diagonal(&mut rows, n);
-        return packing::pack(&rows, n, work);
-    }
-    rows::put_words(words, &mut rows);
+    combine(kind, work, n, la, lb, sb, words, sense, &mut rows);
     packing::pack(&rows, n, work)
 }
 
@@ -113,7 +172,7 @@ fn room(n: usize, la: usize, lb: usize, k: usize) -> bool
     2 * unit <= k
 }
 
-// The same if there is room for it; otherwise nothing is done, and the number is 0.
+// The same if there is room for it and the link words have a sense, 0 or 1; otherwise nothing is done, and the number is 0.
 fn guarded(
     kind: u8,
     work: &mut [u64],
@@ -123,16 +182,21 @@ fn guarded(
     sa: usize,
     sb: usize,
     words: &[u32],
+    sense: usize,
 ) -> usize
     requires { ⌜ (sa ≤ 1) × (sb ≤ 1) ⌝ }
-    ensures { λ r. ⌜ Guarded (Room n la lb (length (now (work .entry)))) (now (work .entry)) (now (work .exit)) r
+    ensures { λ r. ⌜ Guarded (Room n la lb (length (now (work .entry))) × (sense ≤ 1)) (now (work .entry)) (now (work .exit)) r
         ((a b : Cells) → IsSet n a → IsSet n b
         → take la (now (work .entry)) ≡ treeWords n a → take lb (drop la (now (work .entry))) ≡ treeWords n b
         → IsSet n (setOf (map linkPair (now (words .entry))))
-        → TreeAt n (outcome kind n (sensed sa a) (sensed sb b) (setOf (map linkPair (now (words .entry))))) (now (work .exit)) r) ⌝ }
+        → TreeAt n (outcome kind n (sensed sa a) (union (sensed sb b) (sensed sense (setOf (map linkPair (now (words .entry)))))))
+        (now (work .exit)) r) ⌝ }
 {
+    if 1 < sense {
+        return 0;
+    }
     if room(n, la, lb, work.len()) {
-        return operate(kind, work, n, la, lb, sa, sb, words);
+        return operate(kind, work, n, la, lb, sa, sb, words, sense);
     }
     0
 }
@@ -149,10 +213,10 @@ fn operate_on(
 ) -> usize
     requires { ⌜ (sa ≤ 1) × (sb ≤ 1) ⌝ }
     ensures { λ r. ⌜ Guarded (Room n la lb (length (now (work .entry)))) (now (work .entry)) (now (work .exit)) r
-        (TwoTrees (λ a b. outcome kind n (sensed sa a) (sensed sb b) noPairs) n la lb (now (work .entry)) (now (work .exit)) r) ⌝ }
+        (TwoTrees (λ a b. outcome kind n (sensed sa a) (sensed sb b)) n la lb (now (work .entry)) (now (work .exit)) r) ⌝ }
 {
     let none: [u32; 1] = [0; 1];
-    guarded(kind, work, n, la, lb, sa, sb, &none[..0])
+    guarded(kind, work, n, la, lb, sa, sb, &none[..0], 0)
 }
 
 // The union of two trees at the front of work, left there; how many words it has.
@@ -223,7 +287,80 @@ pub fn letter_in(work: &mut [u64], n: usize, words: &[u32]) -> usize
         (IsSet n (setOf (map linkPair (now (words .entry))))
         → TreeAt n (setOf (map linkPair (now (words .entry)))) (now (work .exit)) r) ⌝ }
 {
-    guarded(6, work, n, 0, 0, 0, 0, words)
+    guarded(0, work, n, 0, 0, 0, 0, words, 0)
+}
+
+// The pairs of link words, read with a sense, 0 or 1, put into the tree at the front of work.
+pub fn put_links_in(work: &mut [u64], n: usize, lb: usize, words: &[u32], sense: usize) -> usize
+    ensures { λ r. ⌜ Guarded (Room n 0 lb (length (now (work .entry))) × (sense ≤ 1)) (now (work .entry)) (now (work .exit)) r
+        (OneWithLinks (λ a. a) n lb (now (words .entry)) sense (now (work .entry)) (now (work .exit)) r) ⌝ }
+{
+    guarded(0, work, n, 0, lb, 0, 0, words, sense)
+}
+
+// The transpose of both: tree and links read with the other sense.
+pub fn transpose_with(work: &mut [u64], n: usize, lb: usize, words: &[u32], sense: usize) -> usize
+    ensures { λ r. ⌜ Guarded (Room n 0 lb (length (now (work .entry))) × (sense ≤ 1)) (now (work .entry)) (now (work .exit)) r
+        (OneWithLinks transpose n lb (now (words .entry)) sense (now (work .entry)) (now (work .exit)) r) ⌝ }
+{
+    if 1 < sense {
+        return 0;
+    }
+    guarded(0, work, n, 0, lb, 0, 1, words, 1 - sense)
+}
+
+// The closure of both together.
+pub fn closure_with(work: &mut [u64], n: usize, lb: usize, words: &[u32], sense: usize) -> usize
+    ensures { λ r. ⌜ Guarded (Room n 0 lb (length (now (work .entry))) × (sense ≤ 1)) (now (work .entry)) (now (work .exit)) r
+        (OneWithLinks (closure n) n lb (now (words .entry)) sense (now (work .entry)) (now (work .exit)) r) ⌝ }
+{
+    guarded(4, work, n, 0, lb, 0, 0, words, sense)
+}
+
+// Their closure, with each record below n joined to itself.
+pub fn star_with(work: &mut [u64], n: usize, lb: usize, words: &[u32], sense: usize) -> usize
+    ensures { λ r. ⌜ Guarded (Room n 0 lb (length (now (work .entry))) × (sense ≤ 1)) (now (work .entry)) (now (work .exit)) r
+        (OneWithLinks (λ a. union (closure n a) (identity n)) n lb (now (words .entry)) sense (now (work .entry)) (now (work .exit)) r) ⌝ }
+{
+    guarded(6, work, n, 0, lb, 0, 0, words, sense)
+}
+
+// Both, with each record below n joined to itself.
+pub fn optional_with(work: &mut [u64], n: usize, lb: usize, words: &[u32], sense: usize) -> usize
+    ensures { λ r. ⌜ Guarded (Room n 0 lb (length (now (work .entry))) × (sense ≤ 1)) (now (work .entry)) (now (work .exit)) r
+        (OneWithLinks (λ a. union a (identity n)) n lb (now (words .entry)) sense (now (work .entry)) (now (work .exit)) r) ⌝ }
+{
+    guarded(5, work, n, 0, lb, 0, 0, words, sense)
+}
+
+// The union of two trees at the front of work, the second with the pairs of link words beside its own.
+pub fn union_with(
+    work: &mut [u64],
+    n: usize,
+    la: usize,
+    lb: usize,
+    words: &[u32],
+    sense: usize,
+) -> usize
+    ensures { λ r. ⌜ Guarded (Room n la lb (length (now (work .entry))) × (sense ≤ 1)) (now (work .entry)) (now (work .exit)) r
+        (TwoWithLinks union n la lb (now (words .entry)) sense (now (work .entry)) (now (work .exit)) r) ⌝ }
+{
+    guarded(0, work, n, la, lb, 0, 0, words, sense)
+}
+
+// Their product: the second operand is the second tree and the links.
+pub fn product_with(
+    work: &mut [u64],
+    n: usize,
+    la: usize,
+    lb: usize,
+    words: &[u32],
+    sense: usize,
+) -> usize
+    ensures { λ r. ⌜ Guarded (Room n la lb (length (now (work .entry))) × (sense ≤ 1)) (now (work .entry)) (now (work .exit)) r
+        (TwoWithLinks (product n) n la lb (now (words .entry)) sense (now (work .entry)) (now (work .exit)) r) ⌝ }
+{
+    guarded(3, work, n, la, lb, 0, 0, words, sense)
 }
 
 // Are both ends of each pair below n?
@@ -296,7 +433,7 @@ fn settle(work: &[u64], len: usize, out: &mut [u64]) -> Answer
 // An operation on two lent trees, by its number.
 fn binary(kind: u8, n: usize, a: &[u64], b: &[u64], out: &mut [u64], work: &mut [u64]) -> Answer
     ensures { λ r. ⌜ Answered n [] (now (a .entry) ∷ now (b .entry) ∷ []) (length (now (work .entry)))
-        (TreeOfTwo (λ x y. outcome kind n x y noPairs) n (now (a .entry)) (now (b .entry))) (now (out .entry)) (now (out .exit)) r ⌝ }
+        (TreeOfTwo (outcome kind n) n (now (a .entry)) (now (b .entry))) (now (out .entry)) (now (out .exit)) r ⌝ }
 {
     let none: [u32; 1] = [0; 1];
     let cause = refusal(n, &none[..0], a, b, work.len());

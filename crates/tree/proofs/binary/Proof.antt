@@ -8,7 +8,6 @@ use borrow.Author.Needs.{needs}
 use lib.ListN.{length, take}
 use Rattle.k2.specs.PairSetLaws.{PairsBelow}
 use Rattle.k2.specs.Trees.{treeUnit, WellFormed}
-use Rattle.rows.specs.Rows.{noPairs}
 use Rattle.tree.specs.Inner.{Room, outcome}
 use Rattle.tree.specs.Calls.{TreeOfTwo}
 use Rattle.tree.proofs.Answers.{refuse, accept, met, formed-two, two-formed, formed-most, two-only}
@@ -33,7 +32,7 @@ refusal-requires c κs = search needs
 returns : tie.Need-returns
 returns c =
     let a = c .before .before .before .before .before .before .before .args in
-    refuse (a .n) [] (a .a .now ∷ a .b .now ∷ []) (length (a .work .now)) (TreeOfTwo (λ x y. outcome (a .kind) (a .n) x y noPairs) (a .n) (a .a .now) (a .b .now)) (a .out .now) (a .out .now)
+    refuse (a .n) [] (a .a .now ∷ a .b .now ∷ []) (length (a .work .now)) (TreeOfTwo (outcome (a .kind) (a .n)) (a .n) (a .a .now) (a .b .now)) (a .out .now) (a .out .now)
     (λ t. formed-two (t .0) (t .1)) two-formed (c .before .refusal .ensures) (c .if1 .taken) refl
 
 copy-requires : tie.Need-copy-requires
@@ -70,9 +69,9 @@ returns-2 c =
     let o : Room (a .n) (length (a .a .now)) (length (a .b .now)) (length (c .before .before .before .before .before .before .before .before .before .before .before .copy2 .last .1 .0)) = record { size = m .1; first = formed-most v; second = formed-most w; work = omega (arith, m .4) } in
     let two = copied-two (a .a .now) (a .b .now) (a .work .now) _ _ (c .before .before .before .before .before .before .before .before .before .before .before .before .before .before .before .copy .ensures) (c .before .before .before .before .before .before .before .before .before .before .before .copy2 .ensures) in
     let r = c .before .before .before .before .before .before .before .operate-on .ensures .done o (v .set) (w .set) (v .is-set) (w .is-set) (two .0 ∙ v .tree) (two .1 ∙ w .tree) in
-    let g : TreeOfTwo (λ x y. outcome (a .kind) (a .n) x y noPairs) (a .n) (a .a .now) (a .b .now) (take (c .before .before .before .before .before .before .before .operate-on .result) (c .before .before .before .before .before .before .before .operate-on .last .1 .0)) =
+    let g : TreeOfTwo (outcome (a .kind) (a .n)) (a .n) (a .a .now) (a .b .now) (take (c .before .before .before .before .before .before .before .operate-on .result) (c .before .before .before .before .before .before .before .operate-on .last .1 .0)) =
     record { first = v .set; second = w .set; first-set = v .is-set; second-set = w .is-set; first-tree = v .tree; second-tree = w .tree; words = r .words } in
-    accept (a .n) [] (a .a .now ∷ a .b .now ∷ []) (length (a .work .now)) (TreeOfTwo (λ x y. outcome (a .kind) (a .n) x y noPairs) (a .n) (a .a .now) (a .b .now)) (a .out .now) _
+    accept (a .n) [] (a .a .now ∷ a .b .now ∷ []) (length (a .work .now)) (TreeOfTwo (outcome (a .kind) (a .n)) (a .n) (a .a .now) (a .b .now)) (a .out .now) _
     (λ t. formed-two (t .0) (t .1)) (c .before .before .before .before .before .before .before .before .before .before .before .before .before .before .before .before .before .before .refusal .ensures) (c .before .before .before .before .before .before .before .before .before .before .before .before .before .before .before .before .before .if1 .left) _ g (λ ys q. two-only g q) (c .before .before .settle .ensures)
 
 pub binary-spec : {M : Type 1} → statement M

@@ -1,9 +1,11 @@
 -- `closure_in` closes the tree; the second tree has no words. Assumes nothing.
+use mathlib.Core.Path.{ap}
 use native.Mathlib.Omega.{arith}
 use borrow.Author.Needs.{needs}
+use Rattle.k2.specs.PairSets.{closure}
 use Rattle.rows.specs.Rows.{noPairs}
 use Rattle.rows.specs.RowLaws.{none-set}
-use Rattle.tree.proofs.Ops.{none-tree, guarded-as}
+use Rattle.tree.proofs.Ops.{none-tree, tree-same, union-right, guarded-as}
 use Rattle.tree.proofs.closure_in.Statement.{statement}
 use Rattle.tree.proofs.closure_in.Tie as tie
 
@@ -17,7 +19,7 @@ returns : tie.Need-returns
 returns c =
     let n = c .before .before .before .before .before .args .n in
     let o = c .before .before .operate-on in
-    guarded-as (o .ensures) (λ m a ia ea. m a noPairs ia (none-set n) ea (none-tree n))
+    guarded-as (o .ensures) (λ m a ia ea. tree-same (ap (closure n) (union-right a)) (m a noPairs ia (none-set n) ea (none-tree n)))
 
 pub closure-in-spec : {M : Type 1} → statement M
 closure-in-spec = tie.close (tie.spec operate-on-requires same-length returns)

@@ -1,9 +1,11 @@
 -- `identity_in` joins each record to itself; the second tree has no words. Assumes nothing.
+use mathlib.Core.Path.{ap}
 use native.Mathlib.Omega.{arith}
 use borrow.Author.Needs.{needs}
-use Rattle.rows.specs.Rows.{noPairs}
+use Rattle.k2.specs.PairSets.{Cells, union}
+use Rattle.rows.specs.Rows.{noPairs, identity}
 use Rattle.rows.specs.RowLaws.{none-set}
-use Rattle.tree.proofs.Ops.{none-tree, guarded-as}
+use Rattle.tree.proofs.Ops.{none-tree, tree-same, union-right, guarded-as}
 use Rattle.tree.proofs.identity_in.Statement.{statement}
 use Rattle.tree.proofs.identity_in.Tie as tie
 
@@ -17,7 +19,7 @@ returns : tie.Need-returns
 returns c =
     let n = c .before .before .before .before .before .args .n in
     let o = c .before .before .operate-on in
-    guarded-as (o .ensures) (λ m a ia ea. m a noPairs ia (none-set n) ea (none-tree n))
+    guarded-as (o .ensures) (λ m a ia ea. tree-same (ap (λ (t : Cells). union t (identity n)) (union-right a)) (m a noPairs ia (none-set n) ea (none-tree n)))
 
 pub identity-in-spec : {M : Type 1} → statement M
 identity-in-spec = tie.close (tie.spec operate-on-requires same-length returns)

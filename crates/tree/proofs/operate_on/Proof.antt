@@ -1,13 +1,14 @@
--- `operate_on` puts in no link words (`none-words`). Assumes nothing.
-use mathlib.Core.Path.{ap}
+-- `operate_on` has no link words (`none-words`). Assumes nothing.
+use mathlib.Core.Path.{ap, _∙_}
+use native.Mathlib.Omega.{arith}
 use borrow.Author.Needs.{needs}
 use mathlib.Core.List.{[], map}
-use Rattle.k2.specs.PairSets.{IsSet, setOf}
+use Rattle.k2.specs.PairSets.{IsSet, setOf, union}
 use Rattle.rows.specs.Rows.{linkPair}
 use Rattle.rows.specs.RowLaws.{none-set}
 use Rattle.packing.specs.Reading.{sensed}
 use Rattle.tree.specs.Inner.{outcome}
-use Rattle.tree.proofs.Ops.{none-words, tree-same, guarded-as}
+use Rattle.tree.proofs.Ops.{union-right, none-words, tree-same, guarded-as, guarded-in}
 use Rattle.tree.proofs.operate_on.Statement.{statement}
 use Rattle.tree.proofs.operate_on.Tie as tie
 
@@ -28,7 +29,8 @@ returns c =
     let g = c .before .before .before .before .before .before .args in
     let o = c .before .before .guarded in
     let i : IsSet (g .n) (setOf (map linkPair [])) = rw none-words (none-set (g .n)) in
-    guarded-as (o .ensures) (λ m a b ia ib ea eb. tree-same (ap (outcome (g .kind) (g .n) (sensed (g .sa) a) (sensed (g .sb) b)) none-words) (m a b ia ib ea eb i))
+    guarded-as (guarded-in (omega arith) (o .ensures))
+    (λ m a b ia ib ea eb. tree-same (ap (outcome (g .kind) (g .n) (sensed (g .sa) a)) (ap (union (sensed (g .sb) b)) none-words ∙ union-right _)) (m a b ia ib ea eb i))
 
 pub operate-on-spec : {M : Type 1} → statement M
 operate-on-spec =
