@@ -2,11 +2,11 @@
 use mathlib.Core.Path.{_≡_, refl, sym, ap, ap₂, _∙_, fun-ext}
 use mathlib.Core.List.{List}
 use Prim.Native.Nat.{ℕ, zero, suc, _+_, _-_, _*_, _/_, _%_, _^_, _≤_, _<_, max}
-use native.Mathlib.Nat.{pow-suc}
+use native.Mathlib.Nat.{pow-suc, lt-of-le-of-lt, div-le-self}
 use native.Mathlib.Numerals.{add-one}
 use native.Mathlib.Decide.{decLt, ℕ-discrete}
 use native.Mathlib.Omega.{arith}
-use lib.Count.{ones}
+use lib.Count.{ones, trailingZeros}
 use lib.ListN.{length, getD, set}
 use lib.Seq.{getD-set-same, getD-set-other}
 use borrow.Author.Tests.{le-leb, lt-leb, lt-ltb, le-ltb}
@@ -18,7 +18,7 @@ use Rattle.k2.specs.Nodes.{root, child, exchanged}
 use Rattle.k2.specs.NodeLaws.{empty-cell, node-bit}
 use Rattle.k2.specs.TreeLaws.{treeWords-bits, quadrant-transpose, filled-transpose}
 use Rattle.k2.specs.DigitLaws.{shifted, digit-add, digit-big}
-use Rattle.k2.specs.WordLaws.{digit-mod, shifted-in, shifted-out}
+use Rattle.k2.specs.WordLaws.{digit-mod, shifted-in, shifted-out, trailing-set, trailing-clear}
 use Rattle.bits.specs.BitSets.{either, fourAt}
 use Rattle.rows.specs.Rows.{flat, noPairs}
 use Rattle.packing.specs.Reading.{sensed, turned, inside, quartersTo, Reads}
@@ -352,6 +352,18 @@ pub dive-all : (h x y : ℕ) (t : Cells) → 1 ≤ h → quartersTo 4 (h - 1) x 
 dive-all zero x y t l = absurd (omega arith)
 dive-all (suc h) x y t l = let e : suc h - 1 ≡ h = omega arith in rw e (quarters-all h x y t)
 
+-- quarters passed that are empty
+pub dive-gap : (s : ℕ) (ws : List ℕ) (h b x y : ℕ) (t a : Cells) → 1 ≤ h → Reads s ws h b x y t → (q r : ℕ) → q ≤ r → r ≤ 4 → ((j : ℕ) → q ≤ j → j < r → bitAt ws (b + turned s j) ≡ 0)
+    → union a (quartersTo q (h - 1) x y t) ≡ union a (quartersTo r (h - 1) x y t)
+dive-gap s ws h b x y t a l n q zero k g o = let e : q ≡ 0 = omega arith in rw e refl
+dive-gap s ws h b x y t a l n q (suc r) k g o = go (ℕ-discrete q (suc r)) (λ p. dive-gap s ws h b x y t a l n q r p (omega arith) (λ j u v. o j u (omega arith)))
+  where
+    go : Dec (q ≡ suc r) → (q ≤ r → union a (quartersTo q (h - 1) x y t) ≡ union a (quartersTo r (h - 1) x y t)) → union a (quartersTo q (h - 1) x y t) ≡ union a (quartersTo (suc r) (h - 1) x y t)
+    go (yes e) more = rw e refl
+    go (no e) more =
+        let i : r + 1 ≡ suc r = omega arith in
+        more (omega (arith, e)) ∙ dive-empty s ws h b x y t a l n r (omega arith) (o r (omega (arith, e)) (omega arith)) ∙ ap (λ (i : ℕ). union a (quartersTo i (h - 1) x y t)) i
+
 -- a quarter fits where its square does
 pub quarter-fits : (u s w x : ℕ) → u < 2 → s + s ≡ w → x + w ≤ 1024 → x + u * s + s ≤ 1024
 quarter-fits zero s w x l e f = omega arith
@@ -370,11 +382,52 @@ half-law (suc (suc h)) l =
     let e : suc (suc h) - 1 ≡ suc h = omega arith in
     rw e (omega (arith, pow-suc 2 (suc h)), omega (arith, pow-suc 2 h))
 
--- the test of a digit
-pub digit-one : (v q : ℕ) → v / 2 ^ q % 2 ≡ 1 → digit v q ≡ 1
-unfolding digit
-digit-one v q e = e
+-- ---- the ones of a number below 16, from place q on
+module _ (v q : ℕ) (vl : v < 16) (ql : q ≤ 4) where
+  abbrev w : ℕ
+  w = (v + 16) / 2 ^ q
 
-pub digit-off : (v q : ℕ) → (v / 2 ^ q % 2 ≡ 1 → ⊥) → digit v q ≡ 0
-unfolding digit
-digit-off v q n = omega (arith, n)
+  abbrev k : ℕ
+  k = trailingZeros 64 w
+
+  -- a one put behind the four digits
+  low : (j : ℕ) → j < 4 → digit (v + 16) j ≡ digit v j
+  unfolding digit
+  low zero l = omega arith
+  low (suc zero) l = omega arith
+  low (suc (suc zero)) l = omega arith
+  low (suc (suc (suc zero))) l = omega arith
+  low (suc (suc (suc (suc j)))) l = absurd (omega arith)
+
+  last : digit (v + 16) 4 ≡ 1
+  unfolding digit
+  last = omega arith
+
+  some : (q : ℕ) → q ≤ 4 → 0 < (v + 16) / 2 ^ q
+  some zero l = omega arith
+  some (suc zero) l = omega arith
+  some (suc (suc zero)) l = omega arith
+  some (suc (suc (suc zero))) l = omega arith
+  some (suc (suc (suc (suc zero)))) l = omega arith
+  some (suc (suc (suc (suc (suc q))))) l = absurd (omega arith)
+
+  small-w : w < 2 ^ 64
+  small-w = lt-of-le-of-lt (div-le-self (v + 16) (2 ^ q)) (omega arith)
+
+  clear : (j : ℕ) → q ≤ j → j < q + k → digit (v + 16) j ≡ 0
+  clear j h l =
+      let e : q + (j - q) ≡ j = omega arith in
+      ap (digit (v + 16)) (sym e) ∙ digit-add (v + 16) q (j - q) ∙ trailing-clear 64 w (j - q) (omega arith)
+
+  pub next-le : q + k ≤ 4
+  next-le = go (decLt 4 (q + k))
+    where
+      go : Dec (4 < q + k) → q + k ≤ 4
+      go (yes l) = absurd (omega (arith, clear 4 ql l, last))
+      go (no l) = omega arith
+
+  pub next-clear : (j : ℕ) → q ≤ j → j < q + k → digit v j ≡ 0
+  next-clear j h l = sym (low j (omega (arith, next-le))) ∙ clear j h l
+
+  pub next-set : q + k < 4 → digit v (q + k) ≡ 1
+  next-set l = sym (low (q + k) l) ∙ digit-add (v + 16) q k ∙ trailing-set 64 w (some q ql) small-w

@@ -466,6 +466,14 @@ fn half(h: usize) -> usize
     1 << (h - 1)
 }
 
+// The first place from q on where v has a one, or 4.
+fn next_one(v: u64, q: usize) -> usize
+    requires { ⌜ (v < 16) × (q ≤ 4) ⌝ }
+    ensures { λ r. ⌜ (q ≤ r) × (r ≤ 4) × ((j : ℕ) → q ≤ j → j < r → digit v j ≡ 0) × (r < 4 → digit v r ≡ 1) ⌝ }
+{
+    q + u64::trailing_zeros((v + 16) >> q) as usize
+}
+
 // The cells of a square of side 2 ^ h, whose four bits begin at bit b, put into rows at row x and column y; with sense 1 the second and the
 // third quarter are read in exchanged order, at this level and at each below it.
 fn dive(
@@ -489,22 +497,20 @@ fn dive(
         return;
     }
     let s = half(h);
-    let mut q = 0;
+    let mut q = next_one(v, 0);
     while q < 4 {
-        if (v >> q) % 2 == 1 {
-            let d = child(tree, before, b + turn(q, sense));
-            dive(
-                tree,
-                before,
-                h - 1,
-                d,
-                x + q / 2 * s,
-                y + q % 2 * s,
-                sense,
-                rows,
-            );
-        }
-        q += 1;
+        let d = child(tree, before, b + turn(q, sense));
+        dive(
+            tree,
+            before,
+            h - 1,
+            d,
+            x + q / 2 * s,
+            y + q % 2 * s,
+            sense,
+            rows,
+        );
+        q = next_one(v, q + 1);
     }
 }
 

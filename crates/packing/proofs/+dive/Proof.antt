@@ -1,24 +1,25 @@
--- `dive` reads the four bits of a square and goes on in each quarter that is not empty. The loop's invariant: the cells of the quarters passed are in the
--- rows. The measure of the calls is h, that of the loop the quarters left. It rests on `dive-child`, `dive-empty` and `dive-all`. Assumes nothing.
+-- `dive` reads the four bits of a square and goes from one quarter that is not empty to the next. The loop's invariant: the cells of the quarters passed
+-- are in the rows, and the quarter reached, if there is one, is not empty. The measure of the calls is h, that of the loop the quarters left. It rests on
+-- `dive-child`, `dive-gap` and `dive-all`. Assumes nothing.
 use mathlib.Core.Path.{_≡_, refl, sym, ap, _∙_}
-use mathlib.Core.Logic.{⊎-elim}
 use Prim.Native.Nat.{ℕ, _+_, _-_, _*_, _/_, _%_, _^_, _≤_, _<_}
 use native.Mathlib.Omega.{arith}
 use borrow.Fn.Kinds.{In}
 use borrow.Fn.PlainCycle.{Measures, is, falls, and}
 use lib.ListN.{length}
-use Rattle.k2.specs.Bits.{bitAt}
+use Rattle.k2.specs.Bits.{digit, bitAt}
 use Rattle.k2.specs.BitLaws.{bit-within}
 use Rattle.k2.specs.PairSets.{Cells, union}
 use Rattle.k2.specs.Trees.{childPlace}
 use Rattle.rows.specs.Rows.{flat}
 use Rattle.packing.specs.Reading.{turned, inside, quartersTo, Reads}
-use Rattle.packing.proofs.Loads.{reads-cell, quarters-none, quarters-more, quarter-fits, quarter-even, dive-child, dive-empty, dive-all, digit-one, digit-off}
+use Rattle.packing.proofs.Loads.{reads-cell, quarters-none, quarters-more, quarter-fits, quarter-even, dive-child, dive-gap, dive-all}
 use Rattle.packing.proofs.dive.Reads as dive
 use Rattle.packing.proofs.dive.Kinds as dive-kinds
 use Rattle.packing.proofs.+dive.Lts-dive as dive-lts
 use Rattle.packing.proofs.child.Reads as child-reads
 use Rattle.packing.proofs.half.Reads as half-reads
+use Rattle.packing.proofs.next_one.Reads as next-one-reads
 use Rattle.packing.proofs.put_cells.Reads as put-cells-reads
 use Rattle.packing.proofs.square.Reads as square-reads
 use Rattle.packing.proofs.turn.Reads as turn-reads
@@ -42,6 +43,8 @@ dive-calls t = (
   put-cells-reads.Learnt,
   half-reads.Asked,
   half-reads.Learnt,
+  next-one-reads.Asked,
+  next-one-reads.Learnt,
   turn-reads.Asked,
   turn-reads.Learnt,
   child-reads.Asked,
@@ -52,7 +55,7 @@ dive-calls t = (
 
 abbrev dive-Inv-loop : dive-lts.InvT-loop
 dive-Inv-loop tree before h b x y sense rows₀ v s q₀ rows q =
-    (q ≤ 4) × (length rows ≡ length rows₀)
+    (q ≤ 4) × (q < 4 → digit v q ≡ 1) × (length rows ≡ length rows₀)
     × ((a t : Cells) → bitAt rows₀ ≡ flat a → Reads sense tree h b x y t → bitAt rows ≡ flat (union a (quartersTo q (h - 1) x y t)))
 
 abbrev dive-μ-loop : dive-lts.MeasureT-loop
@@ -81,13 +84,20 @@ dive-returns t c =
 dive-half-requires : (t : ℕ) → dive-lts.Need-half-requires (dive-calls t) (dive-at t) dive.Post dive-Inv-loop dive-μ-loop
 dive-half-requires t c κs = (omega arith, omega arith)
 
+dive-next-one-requires : (t : ℕ) → dive-lts.Need-next-one-requires (dive-calls t) (dive-at t) dive.Post dive-Inv-loop dive-μ-loop
+dive-next-one-requires t c κs = (c .before .before .square .ensures .0, omega arith)
+
 dive-loop-holds : (t : ℕ) → dive-lts.Need-loop-holds (dive-calls t) (dive-at t) dive.Post dive-Inv-loop dive-μ-loop
 dive-loop-holds t c =
-    let a = c .before .before .before .before .before .before .args in
-    (omega arith, refl, λ s u e n. e ∙ ap flat (quarters-none (a .h - 1) (a .x) (a .y) u s))
-
-dive-shr-if2 : (t : ℕ) → dive-lts.Need-shr-if2 (dive-calls t) (dive-at t) dive.Post dive-Inv-loop dive-μ-loop
-dive-shr-if2 t c = omega arith
+    let a = c .before .before .before .before .before .before .before .args in
+    let f = c .next-one .ensures in
+    let v = c .before .before .before .square .ensures .1 in (
+      f .1,
+      f .3,
+      refl,
+      λ s u e n. e ∙ ap flat (quarters-none (a .h - 1) (a .x) (a .y) u s
+          ∙ dive-gap (a .sense) (a .tree .now) (a .h) (a .b) (a .x) (a .y) u s (omega arith) n 0 (c .next-one .result) (f .0) (f .1) (λ j l m. sym (v j (omega arith)) ∙ f .2 j l m)),
+    )
 
 dive-turn-requires : (t : ℕ) → dive-lts.Need-turn-requires (dive-calls t) (dive-at t) dive.Post dive-Inv-loop dive-μ-loop
 dive-turn-requires t c κs = (omega arith, omega arith)
@@ -99,9 +109,9 @@ dive-child-requires : (t : ℕ) → dive-lts.Need-child-requires (dive-calls t) 
 dive-child-requires t c κs =
     let w = c .before .before .before .before .before .before .before .before .before .before .pre .1 in
     let a = c .before .before .before .before .before .before .before .before .before .before .args in
-    let l = c .before .before .before .loop in
+    let l = c .before .before .loop in
     let u = c .turn in
-    let o : bitAt (a .tree .now) (a .b + u .result) ≡ 1 = rw (u .ensures .0) (sym (c .before .before .before .before .before .before .square .ensures .1 (l .q) (omega arith)) ∙ digit-one (c .before .before .before .before .before .before .square .result) (l .q) (c .before .if2 .taken)) in
+    let o : bitAt (a .tree .now) (a .b + u .result) ≡ 1 = rw (u .ensures .0) (sym (c .before .before .before .before .before .before .square .ensures .1 (l .q) (omega arith)) ∙ l .inv .1 (omega arith)) in
     (bit-within (a .tree .now) (a .b + u .result) (λ z. omega arith), w .9, w .10, w .11)
 
 dive-sub-dive : (t : ℕ) → dive-lts.Need-sub-dive (dive-calls t) (dive-at t) dive.Post dive-Inv-loop dive-μ-loop
@@ -109,7 +119,7 @@ dive-sub-dive t c = omega arith
 
 dive-mul-dive : (t : ℕ) → dive-lts.Need-mul-dive (dive-calls t) (dive-at t) dive.Post dive-Inv-loop dive-μ-loop
 dive-mul-dive t c =
-    let l = c .before .before .before .before .loop in
+    let l = c .before .before .before .loop in
     let s = c .before .before .before .before .before .half in
     let f = quarter-fits (l .q / 2) (s .result) _ (c .before .before .before .before .before .before .before .before .before .before .before .args .x) (omega arith) (s .ensures .1) (omega arith) in
     let g = quarter-fits (l .q % 2) (s .result) _ (c .before .before .before .before .before .before .before .before .before .before .before .args .y) (omega arith) (s .ensures .1) (omega arith) in
@@ -117,7 +127,7 @@ dive-mul-dive t c =
 
 dive-add-dive : (t : ℕ) → dive-lts.Need-add-dive (dive-calls t) (dive-at t) dive.Post dive-Inv-loop dive-μ-loop
 dive-add-dive t c =
-    let l = c .before .before .before .before .loop in
+    let l = c .before .before .before .loop in
     let s = c .before .before .before .before .before .half in
     let f = quarter-fits (l .q / 2) (s .result) _ (c .before .before .before .before .before .before .before .before .before .before .before .args .x) (omega arith) (s .ensures .1) (omega arith) in
     let g = quarter-fits (l .q % 2) (s .result) _ (c .before .before .before .before .before .before .before .before .before .before .before .args .y) (omega arith) (s .ensures .1) (omega arith) in
@@ -125,7 +135,7 @@ dive-add-dive t c =
 
 dive-mul-dive-2 : (t : ℕ) → dive-lts.Need-mul-dive-2 (dive-calls t) (dive-at t) dive.Post dive-Inv-loop dive-μ-loop
 dive-mul-dive-2 t c =
-    let l = c .before .before .before .before .loop in
+    let l = c .before .before .before .loop in
     let s = c .before .before .before .before .before .half in
     let f = quarter-fits (l .q / 2) (s .result) _ (c .before .before .before .before .before .before .before .before .before .before .before .args .x) (omega arith) (s .ensures .1) (omega arith) in
     let g = quarter-fits (l .q % 2) (s .result) _ (c .before .before .before .before .before .before .before .before .before .before .before .args .y) (omega arith) (s .ensures .1) (omega arith) in
@@ -133,7 +143,7 @@ dive-mul-dive-2 t c =
 
 dive-add-dive-2 : (t : ℕ) → dive-lts.Need-add-dive-2 (dive-calls t) (dive-at t) dive.Post dive-Inv-loop dive-μ-loop
 dive-add-dive-2 t c =
-    let l = c .before .before .before .before .loop in
+    let l = c .before .before .before .loop in
     let s = c .before .before .before .before .before .half in
     let f = quarter-fits (l .q / 2) (s .result) _ (c .before .before .before .before .before .before .before .before .before .before .before .args .x) (omega arith) (s .ensures .1) (omega arith) in
     let g = quarter-fits (l .q % 2) (s .result) _ (c .before .before .before .before .before .before .before .before .before .before .before .args .y) (omega arith) (s .ensures .1) (omega arith) in
@@ -143,7 +153,7 @@ dive-dive-requires : (t : ℕ) → dive-lts.Need-dive-requires (dive-calls t) (d
 dive-dive-requires t c κs =
     let w = c .before .before .before .before .before .before .before .before .before .before .before .before .pre .1 in
     let a = c .before .before .before .before .before .before .before .before .before .before .before .before .args in
-    let l = c .before .before .before .before .before .loop in
+    let l = c .before .before .before .before .loop in
     let s = c .before .before .before .before .before .before .half in
     let d = c .before .child in
     let f = quarter-fits (l .q / 2) (s .result) _ (a .x) (omega arith) (s .ensures .1) (omega arith) in
@@ -158,58 +168,56 @@ dive-dive-requires t c κs =
         rw (← s .ensures .0) g,
         quarter-even (l .q % 2) (s .result) (a .y) (omega arith) (s .ensures .2) (w .6),
         w .7,
-        l .inv .1 ∙ w .8,
+        l .inv .2 ∙ w .8,
         w .9,
         w .10,
         w .11,
       ),
     )
 
-dive-add-q : (t : ℕ) → dive-lts.Need-add-q (dive-calls t) (dive-at t) dive.Post dive-Inv-loop dive-μ-loop
-dive-add-q t c = omega arith
+dive-add-next-one : (t : ℕ) → dive-lts.Need-add-next-one (dive-calls t) (dive-at t) dive.Post dive-Inv-loop dive-μ-loop
+dive-add-next-one t c = omega arith
+
+dive-next-one-requires-2 : (t : ℕ) → dive-lts.Need-next-one-requires-2 (dive-calls t) (dive-at t) dive.Post dive-Inv-loop dive-μ-loop
+dive-next-one-requires-2 t c κs = (c .before .before .before .before .before .before .before .before .before .before .before .square .ensures .0, omega arith)
 
 dive-loop-less : (t : ℕ) → dive-lts.Need-loop-less (dive-calls t) (dive-at t) dive.Post dive-Inv-loop dive-μ-loop
 dive-loop-less t c = omega arith
 
 dive-loop-again : (t : ℕ) → dive-lts.Need-loop-again (dive-calls t) (dive-at t) dive.Post dive-Inv-loop dive-μ-loop
 dive-loop-again t c =
-    let l = c .before .before .loop in
-    let a = c .before .before .before .before .before .before .before .before .before .args in
-    let f = bitAt (a .tree .now) in
-    let s = c .before .before .before .half .ensures .0 in
+    let l = c .before .before .before .before .before .before .before .before .loop in
+    let a = c .before .before .before .before .before .before .before .before .before .before .before .before .before .before .before .before .args in
+    let s = c .before .before .before .before .before .before .before .before .before .before .half .ensures .0 in
     let hp : 1 ≤ a .h = omega arith in
-    let v = c .before .before .before .before .before .square .ensures .1 (l .q) (omega arith) in
-    ⊎-elim
-    (λ w. (
-      omega arith,
-      rw (w .7) (w .4 .kept .1 .1 .1 .1 .1 .1 .1 .0 ∙ l .inv .1),
+    let v = c .before .before .before .before .before .before .before .before .before .before .before .before .square .ensures .1 in
+    let f = c .next-one2 .ensures in
+    let d = c .before .before .before .dive in
+    let m = c .before .before .before .before .before .child in (
+      f .1,
+      f .3,
+      d .kept .1 .1 .1 .1 .1 .1 .1 .0 ∙ l .inv .2,
       λ b u e n.
-          let o : f (a .b + turned (a .sense) (l .q)) ≡ 1 = sym v ∙ digit-one (c .before .before .before .before .before .square .result) (l .q) (w .0 .taken) in
-          let m : Reads (a .sense) (a .tree .now) (a .h - 1) (w .2 .result) (a .x + l .q / 2 * 2 ^ (a .h - 1)) (a .y + l .q % 2 * 2 ^ (a .h - 1)) u =
-          rw (w .2 .ensures .0, w .1 .ensures .0) (dive-child (a .sense) (a .tree .now) (a .h) (a .b) (a .x) (a .y) u hp n (l .q) (omega arith) o) in
-          let k : ℕ = c .before .before .before .half .result in
+          let o : bitAt (a .tree .now) (a .b + turned (a .sense) (l .q)) ≡ 1 = sym (v (l .q) (omega arith)) ∙ l .inv .1 (omega arith) in
+          let k : ℕ = c .before .before .before .before .before .before .before .before .before .before .half .result in
+          let r : Reads (a .sense) (a .tree .now) (a .h - 1) (m .result) (a .x + l .q / 2 * k) (a .y + l .q % 2 * k) u =
+          rw (s, m .ensures .0, c .before .before .before .before .before .before .turn .ensures .0) (dive-child (a .sense) (a .tree .now) (a .h) (a .b) (a .x) (a .y) u hp n (l .q) (omega arith) o) in
           let z : flat (union (union b (quartersTo (l .q) (a .h - 1) (a .x) (a .y) u)) (inside (a .h - 1) (a .x + l .q / 2 * k) (a .y + l .q % 2 * k) u)) ≡ flat (union b (quartersTo (l .q + 1) (a .h - 1) (a .x) (a .y) u)) =
           rw s (ap flat (quarters-more (l .q) (a .h - 1) (a .x) (a .y) u b)) in
-          rw (w .7) (w .4 .ensures (union b (quartersTo (l .q) (a .h - 1) (a .x) (a .y) u)) u (l .inv .2 b u e n) (rw s m) ∙ z),
-    ))
-    (λ w. (
-      omega arith,
-      rw (w .1) (l .inv .1),
-      λ b u e n.
-          let o : f (a .b + turned (a .sense) (l .q)) ≡ 0 = sym v ∙ digit-off (c .before .before .before .before .before .square .result) (l .q) (w .0 .left) in
-          rw (w .1) (l .inv .2 b u e n ∙ ap flat (dive-empty (a .sense) (a .tree .now) (a .h) (a .b) (a .x) (a .y) u b hp n (l .q) (omega arith) o)),
-    ))
-    (c .if2 .came)
+          let g : union b (quartersTo (l .q + 1) (a .h - 1) (a .x) (a .y) u) ≡ union b (quartersTo (c .next-one2 .result) (a .h - 1) (a .x) (a .y) u) =
+          dive-gap (a .sense) (a .tree .now) (a .h) (a .b) (a .x) (a .y) u b hp n (l .q + 1) (c .next-one2 .result) (f .0) (f .1) (λ j p q. sym (v j (omega arith)) ∙ f .2 j p q) in
+          d .ensures (union b (quartersTo (l .q) (a .h - 1) (a .x) (a .y) u)) u (l .inv .3 b u e n) r ∙ z ∙ ap flat g,
+    )
 
 dive-same-length-2 : (t : ℕ) → dive-lts.Need-same-length-2 (dive-calls t) (dive-at t) dive.Post dive-Inv-loop dive-μ-loop
-dive-same-length-2 t c = c .before .loop .inv .1
+dive-same-length-2 t c = c .before .loop .inv .2
 
 dive-returns-2 : (t : ℕ) → dive-lts.Need-returns-2 (dive-calls t) (dive-at t) dive.Post dive-Inv-loop dive-μ-loop
 dive-returns-2 t c =
     let l = c .before .loop in
-    let a = c .before .before .before .before .before .before .before .before .args in
+    let a = c .before .before .before .before .before .before .before .before .before .args in
     let z : l .q ≡ 4 = omega arith in
-    λ b u e n. l .inv .2 b u e n ∙ rw z (ap (λ (g : Cells). flat (union b g)) (dive-all (a .h) (a .x) (a .y) u (omega arith)))
+    λ b u e n. l .inv .3 b u e n ∙ rw z (ap (λ (g : Cells). flat (union b g)) (dive-all (a .h) (a .x) (a .y) u (omega arith)))
 
 pub +dive-spec : {M : Type 1} → statement M
 +dive-spec =
@@ -219,8 +227,8 @@ pub +dive-spec : {M : Type 1} → statement M
     (dive-same-length t)
     (dive-returns t)
     (dive-half-requires t)
+    (dive-next-one-requires t)
     (dive-loop-holds t)
-    (dive-shr-if2 t)
     (dive-turn-requires t)
     (dive-add-child t)
     (dive-child-requires t)
@@ -230,7 +238,8 @@ pub +dive-spec : {M : Type 1} → statement M
     (dive-mul-dive-2 t)
     (dive-add-dive-2 t)
     (dive-dive-requires t)
-    (dive-add-q t)
+    (dive-add-next-one t)
+    (dive-next-one-requires-2 t)
     (dive-loop-less t)
     (dive-loop-again t)
     (dive-same-length-2 t)
