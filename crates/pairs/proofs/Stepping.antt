@@ -14,7 +14,7 @@ use Rattle.book.specs.Book.{Book}
 use Rattle.k2.specs.PairSets.{Cells, IsSet, setOf, union, transpose, product, closure}
 use Rattle.k2.specs.PairSetLaws.{union-set}
 use Rattle.k2.specs.Trees.{treeUnit, treeWords}
-use Rattle.k2.specs.TreeLaws.{treeWords-none, treeWords-tell}
+use Rattle.k2.specs.TreeLaws.{treeWords-tell}
 use Rattle.paths.specs.Expressions.{Expr, letter}
 use Rattle.paths.specs.Chains.{Graph, asked}
 use Rattle.paths.specs.Relations.{crossed, zeroSteps}
@@ -22,13 +22,12 @@ use Rattle.paths.specs.RelationLaws.{crossed-set}
 use Rattle.paths.specs.PairLaws.{fit-inside}
 use Rattle.register.specs.Questions.{LabelPart, pairOf}
 use Rattle.rows.specs.Rows.{identity, noPairs, linkPair}
-use Rattle.rows.specs.RowLaws.{none-set, union-none}
+use Rattle.rows.specs.RowLaws.{none-set, none-tree, union-none}
 use Rattle.reader.specs.Code.{does, run}
 use Rattle.reader.specs.Running.{operands}
 use Rattle.packing.specs.Reading.{sensed}
-use Rattle.packing.specs.ReadingLaws.{sensed-set}
+use Rattle.packing.specs.ReadingLaws.{sensed-set, other-sense}
 use Rattle.tree.specs.Inner.{TreeAt, OneWithLinks, TwoWithLinks}
-use Rattle.tree.proofs.Ops.{other-sense, none-tree}
 use Rattle.pairs.specs.declared.Stack.{Stack}
 use Rattle.pairs.specs.declared.PairsAnswer.the-variants.{Pairs, Refused}
 use Rattle.pairs.specs.Evaluation.{relations, onOne, onTwo, Sets, Sizes, laid, most-waiting, Lying, held, beside, Waiting, Totals, Placed, Room}

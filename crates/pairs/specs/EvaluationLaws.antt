@@ -38,7 +38,7 @@ use Rattle.paths.specs.RelationLaws.{crossed-letter}
 use Rattle.paths.specs.PairLaws.{fit-inside}
 use Rattle.register.specs.Questions.{PairsOf}
 use Rattle.rows.specs.Rows.{identity, noPairs}
-use Rattle.rows.specs.RowLaws.{identity-set}
+use Rattle.rows.specs.RowLaws.{identity-set, union-right}
 use Rattle.packing.specs.Reading.{sensed}
 use Rattle.reader.specs.Code.{op-inverse, op-star, op-plus, op-optional, op-alternative, op-sequence, code, Algebra, value, does, run}
 use Rattle.reader.specs.Running.{operands, Runs, ended, next}
@@ -241,9 +241,8 @@ waits-next {g} {c = c} st′ w d l = record {
 
 -- ---- nothing beside
 pub beside-none : (st : List Cells) → beside noPairs st ≡ st
-unfolding union noPairs
 beside-none [] = refl
-beside-none (t ∷ st) = ap (λ (a : Cells). a ∷ st) (fun-ext (λ x. fun-ext (λ y. omega arith)))
+beside-none (t ∷ st) = ap (λ (a : Cells). a ∷ st) (union-right t)
 
 -- ---- letters: the pairs of a label's links
 module _ (b : Book) (fit : Fit (b .n) (b .sheet)) (small : b .n ≤ 1024) (l : ℕ) (ps : List ℕ) (P : PairsOf (b .sheet) l ps) where

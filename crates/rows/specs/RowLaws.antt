@@ -10,6 +10,8 @@ use borrow.Author.Tests.{le-ltb}
 use Rattle.book.specs.Basics.{bit, In, here, there}
 use Rattle.k2.specs.PairSets.{Cells, IsSet, setOf, union, intersection, difference}
 use Rattle.k2.specs.PairSetLaws.{bit-small, diagonal-set, PairsBelow, setOf-set}
+use Rattle.k2.specs.Trees.{treeWords}
+use Rattle.k2.specs.TreeLaws.{treeWords-none}
 use Rattle.bits.specs.BitSets.{none, either, both, minus}
 use Rattle.rows.specs.Rows.{flat, noPairs, identity, linkPair}
 
@@ -44,6 +46,14 @@ none-set n = record { bit = λ x y. omega arith; row = λ x y l. refl; column = 
 pub union-none : (a : Cells) → union noPairs a ≡ a
 unfolding union noPairs
 union-none a = fun-ext (λ x. fun-ext (λ y. omega arith))
+
+pub union-right : (a : Cells) → union a noPairs ≡ a
+unfolding union noPairs
+union-right a = fun-ext (λ x. fun-ext (λ y. omega arith))
+
+-- its tree has no words
+pub none-tree : (n : ℕ) → [] ≡ treeWords n noPairs
+none-tree n = sym (treeWords-none n) ∙ ap (treeWords n) (unfold noPairs in refl)
 
 pub identity-set : (n : ℕ) → IsSet n (identity n)
 identity-set n = diagonal-set n (λ x. bit (ltb x n)) (λ x. bit-small (ltb x n)) (λ x l. rw (le-ltb x n l))

@@ -10,12 +10,11 @@ use Rattle.k2.specs.PairSets.{Cells, IsSet, setOf, union, transpose, closure}
 use Rattle.k2.specs.PairSetLaws.{union-set, intersection-set, difference-set, product-set, closure-set}
 use Rattle.k2.specs.Trees.{treeWords, treeUnit}
 use Rattle.k2.specs.SizeLaws.{treeUnit-some}
-use Rattle.k2.specs.TreeLaws.{treeWords-none}
 use Rattle.bits.specs.BitSetLaws.{bits-none}
 use Rattle.rows.specs.Rows.{flat, noPairs, identity, linkPair}
-use Rattle.rows.specs.RowLaws.{flat-none, none-set, union-none, identity-set}
+use Rattle.rows.specs.RowLaws.{flat-none, none-set, none-tree, union-none, identity-set}
 use Rattle.packing.specs.Reading.{sensed}
-use Rattle.packing.specs.ReadingLaws.{sensed-set}
+use Rattle.packing.specs.ReadingLaws.{sensed-set, other-sense}
 use Rattle.tree.specs.Inner.{Room, TreeAt, outcome, OneWithLinks, TwoWithLinks, Guarded}
 
 pub rows-none : bitAt (replicate 16384 0) ≡ flat noPairs
@@ -25,15 +24,10 @@ rows-none = bits-none 16384 ∙ sym flat-none
 pub from-none : (a : Cells) (f : ℕ → ℕ) → f ≡ flat (union noPairs a) → f ≡ flat a
 from-none a f e = e ∙ ap flat (union-none a)
 
--- a set read with sense 1, and with the other sense
+-- a set read with sense 1
 pub sensed-turned : (s : ℕ) (a : Cells) → (s ≡ 0 → ⊥) → transpose a ≡ sensed s a
 sensed-turned zero a l = absurd (l refl)
 sensed-turned (suc s) a l = refl
-
-other-sense : (s : ℕ) (a : Cells) → s ≤ 1 → sensed (1 - s) a ≡ transpose (sensed s a)
-other-sense zero a l = refl
-other-sense (suc zero) a l = unfold transpose in refl
-other-sense (suc (suc s)) a l = absurd (omega arith)
 
 -- an operand with links beside its tree
 pub union-join : (x a b : Cells) → union (union x a) b ≡ union x (union a b)
@@ -53,13 +47,6 @@ pub pack-room : (n la lb k : ℕ) → Room n la lb k → treeUnit n + 1 ≤ k
 pack-room n la lb k r = omega (arith, r .work, treeUnit-some n)
 
 -- none
-pub union-right : (a : Cells) → union a noPairs ≡ a
-unfolding union noPairs
-union-right a = fun-ext (λ x. fun-ext (λ y. omega arith))
-
-pub none-tree : (n : ℕ) → [] ≡ treeWords n noPairs
-none-tree n = sym (treeWords-none n) ∙ ap (treeWords n) (unfold noPairs in refl)
-
 pub none-words : setOf (map linkPair []) ≡ noPairs
 unfolding setOf has noPairs
 none-words = fun-ext (λ x. fun-ext (λ y. omega arith))

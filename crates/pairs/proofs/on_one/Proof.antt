@@ -15,7 +15,7 @@ same-length : tie.Need-same-length
 same-length c = search needs
 
 returns : tie.Need-returns
-returns c = (c .bounded .ensures .0, is-inverse _ _ (c .before .before .before .before .before .before .before .before .args .size) _ (c .before .before .before .before .before .before .before .before .args .sense) (c .before .before .before .before .before .before .before .before .args .part .now) _ _ (c .before .before .before .before .before .if1 .taken) (λ x p q s. bounded-tree (c .before .before .before .transpose-with .ensures .done (search needs) x p q s) (c .bounded .ensures .1)))
+returns c = (c .bounded .ensures .0, is-inverse _ _ (c .before .before .before .before .before .before .before .before .args .size) (c .before .before .before .before .before .before .before .before .args .links .now) (c .before .before .before .before .before .before .before .before .args .sense) (c .before .before .before .before .before .before .before .before .args .part .now) _ _ (c .before .before .before .before .before .if1 .taken) (λ x p q s. bounded-tree (c .before .before .before .transpose-with .ensures .done (search needs) x p q s) (c .bounded .ensures .1)))
 
 star-with-requires : tie.Need-star-with-requires
 star-with-requires c κs = search needs
@@ -27,7 +27,7 @@ same-length-2 : tie.Need-same-length-2
 same-length-2 c = search needs
 
 returns-2 : tie.Need-returns-2
-returns-2 c = (c .bounded2 .ensures .0, is-star _ _ (c .before .before .before .before .before .before .before .before .before .args .size) _ (c .before .before .before .before .before .before .before .before .before .args .sense) (c .before .before .before .before .before .before .before .before .before .args .part .now) _ _ (c .before .before .before .before .before .if2 .taken) (λ x p q s. bounded-tree (c .before .before .before .star-with .ensures .done (search needs) x p q s) (c .bounded2 .ensures .1)))
+returns-2 c = (c .bounded2 .ensures .0, is-star _ _ (c .before .before .before .before .before .before .before .before .before .args .size) (c .before .before .before .before .before .before .before .before .before .args .links .now) (c .before .before .before .before .before .before .before .before .before .args .sense) (c .before .before .before .before .before .before .before .before .before .args .part .now) _ _ (c .before .before .before .before .before .if2 .taken) (λ x p q s. bounded-tree (c .before .before .before .star-with .ensures .done (search needs) x p q s) (c .bounded2 .ensures .1)))
 
 closure-with-requires : tie.Need-closure-with-requires
 closure-with-requires c κs = search needs
@@ -39,7 +39,7 @@ same-length-3 : tie.Need-same-length-3
 same-length-3 c = search needs
 
 returns-3 : tie.Need-returns-3
-returns-3 c = (c .bounded3 .ensures .0, is-plus _ _ (c .before .before .before .before .before .before .before .before .before .before .args .size) _ (c .before .before .before .before .before .before .before .before .before .before .args .sense) (c .before .before .before .before .before .before .before .before .before .before .args .part .now) _ _ (c .before .before .before .before .before .if3 .taken) (λ x p q s. bounded-tree (c .before .before .before .closure-with .ensures .done (search needs) x p q s) (c .bounded3 .ensures .1)))
+returns-3 c = (c .bounded3 .ensures .0, is-plus _ _ (c .before .before .before .before .before .before .before .before .before .before .args .size) (c .before .before .before .before .before .before .before .before .before .before .args .links .now) (c .before .before .before .before .before .before .before .before .before .before .args .sense) (c .before .before .before .before .before .before .before .before .before .before .args .part .now) _ _ (c .before .before .before .before .before .if3 .taken) (λ x p q s. bounded-tree (c .before .before .before .closure-with .ensures .done (search needs) x p q s) (c .bounded3 .ensures .1)))
 
 optional-with-requires : tie.Need-optional-with-requires
 optional-with-requires c κs = search needs
@@ -51,7 +51,7 @@ same-length-4 : tie.Need-same-length-4
 same-length-4 c = search needs
 
 returns-4 : tie.Need-returns-4
-returns-4 c = (c .bounded4 .ensures .0, is-optional _ _ (c .before .before .before .before .before .before .before .before .before .before .before .args .size) _ (c .before .before .before .before .before .before .before .before .before .before .before .args .sense) (c .before .before .before .before .before .before .before .before .before .before .before .args .part .now) _ _ (c .before .before .before .before .before .if4 .taken) (λ x p q s. bounded-tree (c .before .before .before .optional-with .ensures .done (search needs) x p q s) (c .bounded4 .ensures .1)))
+returns-4 c = (c .bounded4 .ensures .0, is-optional _ _ (c .before .before .before .before .before .before .before .before .before .before .before .args .size) (c .before .before .before .before .before .before .before .before .before .before .before .args .links .now) (c .before .before .before .before .before .before .before .before .before .before .before .args .sense) (c .before .before .before .before .before .before .before .before .before .before .before .args .part .now) _ _ (c .before .before .before .before .before .if4 .taken) (λ x p q s. bounded-tree (c .before .before .before .optional-with .ensures .done (search needs) x p q s) (c .bounded4 .ensures .1)))
 
 put-links-in-requires : tie.Need-put-links-in-requires
 put-links-in-requires c κs = search needs
@@ -63,7 +63,7 @@ same-length-5 : tie.Need-same-length-5
 same-length-5 c = search needs
 
 returns-5 : tie.Need-returns-5
-returns-5 c = (c .bounded5 .ensures .0, is-none _ _ (c .before .before .before .before .before .before .before .before .before .before .before .args .size) _ (c .before .before .before .before .before .before .before .before .before .before .before .args .sense) (c .before .before .before .before .before .before .before .before .before .before .before .args .part .now) _ _ (c .before .before .before .before .before .before .before .before .if1 .left) (c .before .before .before .before .before .before .before .if2 .left) (c .before .before .before .before .before .before .if3 .left) (c .before .before .before .before .before .if4 .left) (λ x p q s. bounded-tree (c .before .before .before .put-links-in .ensures .done (search needs) x p q s) (c .bounded5 .ensures .1)))
+returns-5 c = (c .bounded5 .ensures .0, is-none _ _ (c .before .before .before .before .before .before .before .before .before .before .before .args .size) (c .before .before .before .before .before .before .before .before .before .before .before .args .links .now) (c .before .before .before .before .before .before .before .before .before .before .before .args .sense) (c .before .before .before .before .before .before .before .before .before .before .before .args .part .now) _ _ (c .before .before .before .before .before .before .before .before .if1 .left) (c .before .before .before .before .before .before .before .if2 .left) (c .before .before .before .before .before .before .if3 .left) (c .before .before .before .before .before .if4 .left) (λ x p q s. bounded-tree (c .before .before .before .put-links-in .ensures .done (search needs) x p q s) (c .bounded5 .ensures .1)))
 
 pub on-one-spec : {M : Type 1} → statement M
 on-one-spec =

@@ -15,7 +15,7 @@ same-length : tie.Need-same-length
 same-length c = search needs
 
 returns : tie.Need-returns
-returns c = (c .bounded .ensures .0, is-alternative _ _ (c .before .before .before .before .before .before .before .before .args .left) (c .before .before .before .before .before .before .before .before .args .right) _ (c .before .before .before .before .before .before .before .before .args .sense) (c .before .before .before .before .before .before .before .before .args .part .now) _ _ (c .before .before .before .before .before .if1 .taken) (λ x y p q d e s. bounded-tree (c .before .before .before .union-with .ensures .done (search needs) x y p q d e s) (c .bounded .ensures .1)))
+returns c = (c .bounded .ensures .0, is-alternative _ _ (c .before .before .before .before .before .before .before .before .args .left) (c .before .before .before .before .before .before .before .before .args .right) (c .before .before .before .before .before .before .before .before .args .links .now) (c .before .before .before .before .before .before .before .before .args .sense) (c .before .before .before .before .before .before .before .before .args .part .now) _ _ (c .before .before .before .before .before .if1 .taken) (λ x y p q d e s. bounded-tree (c .before .before .before .union-with .ensures .done (search needs) x y p q d e s) (c .bounded .ensures .1)))
 
 product-with-requires : tie.Need-product-with-requires
 product-with-requires c κs = search needs
@@ -27,7 +27,7 @@ same-length-2 : tie.Need-same-length-2
 same-length-2 c = search needs
 
 returns-2 : tie.Need-returns-2
-returns-2 c = (c .bounded2 .ensures .0, is-sequence _ _ (c .before .before .before .before .before .before .before .before .args .left) (c .before .before .before .before .before .before .before .before .args .right) _ (c .before .before .before .before .before .before .before .before .args .sense) (c .before .before .before .before .before .before .before .before .args .part .now) _ _ (c .before .before .before .before .before .if1 .left) (λ x y p q d e s. bounded-tree (c .before .before .before .product-with .ensures .done (search needs) x y p q d e s) (c .bounded2 .ensures .1)))
+returns-2 c = (c .bounded2 .ensures .0, is-sequence _ _ (c .before .before .before .before .before .before .before .before .args .left) (c .before .before .before .before .before .before .before .before .args .right) (c .before .before .before .before .before .before .before .before .args .links .now) (c .before .before .before .before .before .before .before .before .args .sense) (c .before .before .before .before .before .before .before .before .args .part .now) _ _ (c .before .before .before .before .before .if1 .left) (λ x y p q d e s. bounded-tree (c .before .before .before .product-with .ensures .done (search needs) x y p q d e s) (c .bounded2 .ensures .1)))
 
 pub on-two-spec : {M : Type 1} → statement M
 on-two-spec =

@@ -4,8 +4,8 @@ use native.Mathlib.Omega.{arith}
 use borrow.Author.Needs.{needs}
 use Rattle.k2.specs.PairSets.{closure}
 use Rattle.rows.specs.Rows.{noPairs}
-use Rattle.rows.specs.RowLaws.{none-set}
-use Rattle.tree.proofs.Ops.{none-tree, tree-same, union-right, guarded-as}
+use Rattle.rows.specs.RowLaws.{none-set, none-tree, union-right}
+use Rattle.tree.proofs.Ops.{tree-same, guarded-as}
 use Rattle.tree.proofs.closure_in.Statement.{statement}
 use Rattle.tree.proofs.closure_in.Tie as tie
 

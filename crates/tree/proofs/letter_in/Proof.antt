@@ -3,8 +3,8 @@ use mathlib.Core.Path.{_∙_}
 use native.Mathlib.Omega.{arith}
 use borrow.Author.Needs.{needs}
 use Rattle.rows.specs.Rows.{noPairs}
-use Rattle.rows.specs.RowLaws.{none-set, union-none}
-use Rattle.tree.proofs.Ops.{none-tree, tree-same, guarded-as, guarded-in}
+use Rattle.rows.specs.RowLaws.{none-set, union-none, none-tree}
+use Rattle.tree.proofs.Ops.{tree-same, guarded-as, guarded-in}
 use Rattle.tree.proofs.letter_in.Statement.{statement}
 use Rattle.tree.proofs.letter_in.Tie as tie
 

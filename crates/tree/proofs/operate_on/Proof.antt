@@ -5,10 +5,10 @@ use borrow.Author.Needs.{needs}
 use mathlib.Core.List.{[], map}
 use Rattle.k2.specs.PairSets.{IsSet, setOf, union}
 use Rattle.rows.specs.Rows.{linkPair}
-use Rattle.rows.specs.RowLaws.{none-set}
+use Rattle.rows.specs.RowLaws.{none-set, union-right}
 use Rattle.packing.specs.Reading.{sensed}
 use Rattle.tree.specs.Inner.{outcome}
-use Rattle.tree.proofs.Ops.{union-right, none-words, tree-same, guarded-as, guarded-in}
+use Rattle.tree.proofs.Ops.{none-words, tree-same, guarded-as, guarded-in}
 use Rattle.tree.proofs.operate_on.Statement.{statement}
 use Rattle.tree.proofs.operate_on.Tie as tie
 

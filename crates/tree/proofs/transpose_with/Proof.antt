@@ -3,8 +3,8 @@ use mathlib.Core.Path.{_∙_}
 use native.Mathlib.Omega.{arith}
 use borrow.Author.Needs.{needs}
 use Rattle.rows.specs.Rows.{noPairs}
-use Rattle.rows.specs.RowLaws.{none-set, union-none}
-use Rattle.tree.proofs.Ops.{last-turned, none-tree, tree-same, without}
+use Rattle.rows.specs.RowLaws.{none-set, union-none, none-tree}
+use Rattle.tree.proofs.Ops.{last-turned, tree-same, without}
 use Rattle.tree.proofs.transpose_with.Statement.{statement}
 use Rattle.tree.proofs.transpose_with.Tie as tie
 
