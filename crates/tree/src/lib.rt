@@ -8,7 +8,7 @@ ghost use Rattle.k2.specs.Bits.{bitAt};
 ghost use Rattle.k2.specs.PairSets.{Cells, IsSet, setOf, listed, union, intersection, difference, product, transpose, closure};
 ghost use Rattle.k2.specs.PairSetLaws.{PairsBelow};
 ghost use Rattle.k2.specs.Trees.{treeWords, treeUnit, WellFormed};
-ghost use Rattle.rows.specs.Rows.{flat, noPairs, identity, linkPair};
+ghost use Rattle.rows.specs.Rows.{flat, identity, linkPair};
 ghost use Rattle.packing.specs.Reading.{sensed};
 ghost use Rattle.tree.specs.Inner.{Room, TreeAt, outcome, OneTree, TwoTrees, OneWithLinks, TwoWithLinks, Guarded};
 ghost use Rattle.tree.specs.Calls.{Found, Settled, Answered, TreeOf, ListOf, TreeOfOne, TreeOfTwo};

@@ -1,7 +1,7 @@
 -- `load_last` puts in the tree and then the links. Assumes nothing.
 use mathlib.Core.Path.{ap, _∙_}
 use borrow.Author.Needs.{needs}
-use Rattle.k2.specs.PairSets.{Cells, union}
+use Rattle.k2.specs.PairSets.{union}
 use Rattle.rows.specs.Rows.{flat}
 use Rattle.packing.specs.Reading.{sensed}
 use Rattle.tree.proofs.Ops.{union-join}
