@@ -3,6 +3,7 @@
 -- `dive-all`. Assumes nothing.
 use mathlib.Core.Path.{_≡_, refl, sym, ap, _∙_}
 use Prim.Native.Nat.{ℕ, _+_, _-_, _*_, _/_, _%_, _^_, _≤_, _<_}
+use native.Mathlib.Nat.{lt-of-lt-of-le}
 use native.Mathlib.Omega.{arith}
 use borrow.Author.Needs.{needs}
 use lib.ListN.{length, length-set}
@@ -12,7 +13,7 @@ use Rattle.k2.specs.BitLaws.{bit-within}
 use Rattle.k2.specs.PairSets.{Cells, union}
 use Rattle.k2.specs.Trees.{childPlace}
 use Rattle.packing.specs.Reading.{turned, inside, quartersTo, Reads, squareBit, squareRow, squareColumn, squaresTo, Fits, FitAll, ReadAll}
-use Rattle.packing.proofs.Loads.{quarters-none, quarters-more, quarter-fits, quarter-even, dive-child, dive-gap, dive-all}
+use Rattle.packing.proofs.Loads.{one-le, quarters-none, quarters-more, quarter-in, quarter-even, dive-child, dive-gap, dive-all}
 use Rattle.packing.proofs.Lists.{all-set, squares-set}
 use Rattle.packing.proofs.children.Statement.{statement}
 use Rattle.packing.proofs.children.Tie as tie
@@ -27,10 +28,10 @@ abbrev μ-loop : tie.MeasureT-loop
 μ-loop tree before h b x y sense next₀ m v s k₀ q₀ next k q = 4 - q
 
 square-requires : tie.Need-square-requires Inv-loop μ-loop
-square-requires c κs = (omega arith, omega arith)
+square-requires c κs = (c .before .before .before .pre .2, c .before .before .before .pre .7)
 
 half-requires : tie.Need-half-requires Inv-loop μ-loop
-half-requires c κs = (omega arith, omega arith)
+half-requires c κs = (c .before .before .before .before .pre .0, c .before .before .before .before .pre .1)
 
 next-one-requires : tie.Need-next-one-requires Inv-loop μ-loop
 next-one-requires c κs = (c .before .square .ensures .0, omega arith)
@@ -48,12 +49,12 @@ loop-holds c =
       λ u n r. (
         r,
         quarters-none (a .h - 1) (a .x) (a .y) u (squaresTo (a .m) (a .h - 1) (a .next .now) 0 u)
-            ∙ dive-gap (a .sense) (a .tree .now) (a .h) (a .b) (a .x) (a .y) u (squaresTo (a .m) (a .h - 1) (a .next .now) 0 u) (omega arith) n 0 (c .next-one .result) (f .0) (f .1) (λ j l m. sym (v j (omega arith)) ∙ f .2 j l m),
+            ∙ dive-gap (a .sense) (a .tree .now) (a .h) (a .b) (a .x) (a .y) u (squaresTo (a .m) (a .h - 1) (a .next .now) 0 u) (one-le (c .before .before .before .before .before .before .pre .0)) n 0 (c .next-one .result) (f .0) (f .1) (λ j l m. sym (v j (lt-of-lt-of-le m (f .1))) ∙ f .2 j l m),
       ),
     )
 
 turn-requires : tie.Need-turn-requires Inv-loop μ-loop
-turn-requires c κs = (omega arith, omega arith)
+turn-requires c κs = (c .loop-test .taken, c .before .before .before .before .before .before .before .before .pre .7)
 
 add-child : tie.Need-add-child Inv-loop μ-loop
 add-child c = omega arith
@@ -64,7 +65,7 @@ child-requires c κs =
     let a = c .before .before .before .before .before .before .before .before .before .args in
     let l = c .before .before .loop in
     let u = c .turn in
-    let o : bitAt (a .tree .now) (a .b + u .result) ≡ 1 = rw (u .ensures .0) (sym (c .before .before .before .before .before .square .ensures .1 (l .q) (omega arith)) ∙ l .inv .1 (omega arith)) in
+    let o : bitAt (a .tree .now) (a .b + u .result) ≡ 1 = rw (u .ensures .0) (sym (c .before .before .before .before .before .square .ensures .1 (l .q) (c .before .loop-test .taken)) ∙ l .inv .1 (c .before .loop-test .taken)) in
     (bit-within (a .tree .now) (a .b + u .result) (λ z. omega arith), w .8, w .9, w .10)
 
 -- the quarter is in the rows
@@ -75,7 +76,7 @@ fits c =
     let l = c .before .before .before .loop in
     let s = c .before .before .before .before .before .half in
     let a = c .before .before .before .before .before .before .before .before .before .before .args in
-    (quarter-fits (l .q / 2) (s .result) _ (a .x) (omega arith) (s .ensures .1) (omega arith), quarter-fits (l .q % 2) (s .result) _ (a .y) (omega arith) (s .ensures .1) (omega arith))
+    quarter-in (l .q) (s .result) (2 ^ a .h) (a .x) (a .y) (c .before .before .loop-test .taken) (s .ensures .1) (c .before .before .before .before .before .before .before .before .before .before .pre .4) (c .before .before .before .before .before .before .before .before .before .before .pre .5)
 
 mul-square-number : tie.Need-mul-square-number Inv-loop μ-loop
 mul-square-number c = let f = fits (c) in omega arith
@@ -119,7 +120,8 @@ loop-again c =
     let l = c .before .before .before .before .before .loop in
     let a = c .before .before .before .before .before .before .before .before .before .before .before .before .args in
     let s = c .before .before .before .before .before .before .before .half in
-    let hp : 1 ≤ a .h = omega arith in
+    let ql = c .before .before .before .before .loop-test .taken in
+    let hp = one-le (c .before .before .before .before .before .before .before .before .before .before .before .before .pre .0) in
     let v = c .before .before .before .before .before .before .before .before .square .ensures .1 in
     let f = c .next-one2 .ensures in
     let d = c .before .before .child in
@@ -142,14 +144,14 @@ loop-again c =
       all-set (Fits (a .h - 1)) (l .next) (l .k) (w .result) g (l .inv .4) F,
       λ u n r.
           let R = l .inv .5 u n r in
-          let o : bitAt (a .tree .now) (a .b + turned (a .sense) (l .q)) ≡ 1 = sym (v (l .q) (omega arith)) ∙ l .inv .1 (omega arith) in
+          let o : bitAt (a .tree .now) (a .b + turned (a .sense) (l .q)) ≡ 1 = sym (v (l .q) ql) ∙ l .inv .1 ql in
           let D : Reads (a .sense) (a .tree .now) (a .h - 1) (squareBit (w .result)) (squareRow (w .result)) (squareColumn (w .result)) u =
-          rw (w .ensures .0, x, y, d .ensures .0, c .before .before .before .turn .ensures .0) (dive-child (a .sense) (a .tree .now) (a .h) (a .b) (a .x) (a .y) u hp n (l .q) (omega arith) o) in
+          rw (w .ensures .0, x, y, d .ensures .0, c .before .before .before .turn .ensures .0) (dive-child (a .sense) (a .tree .now) (a .h) (a .b) (a .x) (a .y) u hp n (l .q) ql o) in
           let S : Cells = squaresTo (a .m) (a .h - 1) (a .next .now) 0 u in (
             all-set (λ (i : ℕ). Reads (a .sense) (a .tree .now) (a .h - 1) (squareBit i) (squareRow i) (squareColumn i) u) (l .next) (l .k) (w .result) g (R .0) D,
             squares-set (l .k) (a .h - 1) (l .next) (w .result) u g
                 ∙ rw (x, y, R .1) (quarters-more (l .q) (a .h - 1) (a .x) (a .y) u S)
-                ∙ dive-gap (a .sense) (a .tree .now) (a .h) (a .b) (a .x) (a .y) u S hp n (l .q + 1) (c .next-one2 .result) (f .0) (f .1) (λ j p q. sym (v j (omega arith)) ∙ f .2 j p q),
+                ∙ dive-gap (a .sense) (a .tree .now) (a .h) (a .b) (a .x) (a .y) u S hp n (l .q + 1) (c .next-one2 .result) (f .0) (f .1) (λ j p q. sym (v j (lt-of-lt-of-le q (f .1))) ∙ f .2 j p q),
           ),
     )
 
@@ -163,7 +165,7 @@ returns c =
     let z : l .q ≡ 4 = omega arith in (
       omega arith,
       l .inv .4,
-      λ u n r. let R = l .inv .5 u n r in (R .0, R .1 ∙ rw z (ap (union (squaresTo (a .m) (a .h - 1) (a .next .now) 0 u)) (dive-all (a .h) (a .x) (a .y) u (omega arith)))),
+      λ u n r. let R = l .inv .5 u n r in (R .0, R .1 ∙ rw z (ap (union (squaresTo (a .m) (a .h - 1) (a .next .now) 0 u)) (dive-all (a .h) (a .x) (a .y) u (one-le (c .before .before .before .before .before .before .before .before .pre .0))))),
     )
 
 pub children-spec : {M : Type 1} → statement M
