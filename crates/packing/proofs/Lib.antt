@@ -6,3 +6,4 @@ pub mod Lifts
 pub mod Blocks
 pub mod Packs
 pub mod Loads
+pub mod Lists

@@ -365,10 +365,16 @@ dive-gap s ws h b x y t a l n q (suc r) k g o = go (ℕ-discrete q (suc r)) (λ 
         more (omega (arith, e)) ∙ dive-empty s ws h b x y t a l n r (omega arith) (o r (omega (arith, e)) (omega arith)) ∙ ap (λ (i : ℕ). union a (quartersTo i (h - 1) x y t)) i
 
 -- a quarter fits where its square does
-pub quarter-fits : (u s w x : ℕ) → u < 2 → s + s ≡ w → x + w ≤ 1024 → x + u * s + s ≤ 1024
+quarter-fits : (u s w x : ℕ) → u < 2 → s + s ≡ w → x + w ≤ 1024 → x + u * s + s ≤ 1024
 quarter-fits zero s w x l e f = omega arith
 quarter-fits (suc zero) s w x l e f = omega arith
 quarter-fits (suc (suc u)) s w x l e f = absurd (omega arith)
+
+pub quarter-in : (q s w x y : ℕ) → q < 4 → s + s ≡ w → x + w ≤ 1024 → y + w ≤ 1024 → (x + q / 2 * s + s ≤ 1024) × (y + q % 2 * s + s ≤ 1024)
+quarter-in q s w x y l e f g = (quarter-fits (q / 2) s w x (omega arith) e f, quarter-fits (q % 2) s w y (omega arith) e g)
+
+pub one-le : {h : ℕ} → 2 ≤ h → 1 ≤ h
+one-le l = omega arith
 
 pub quarter-even : (u s y : ℕ) → u < 2 → s % 2 ≡ 0 → y % 2 ≡ 0 → (y + u * s) % 2 ≡ 0
 quarter-even zero s y l e f = omega arith

@@ -10,6 +10,13 @@
 --   Reads s ws h b x y a
 --                   in a tree with the words ws, read with the sense s, the four bits from bit b on are those of the square of a set whose cells are those
 --                   of a from row x and column y on; the square has the side 2 ^ h
+--   squareBit w, squareRow w, squareColumn w
+--                   where the four bits of a square begin, its row and its column, the square being the number w
+--   squaresTo k h l i a
+--                   the pairs of a in k squares, of side 2 ^ h, from place i of the list l on
+--   FitAll h l i k  k squares of side 2 ^ h, from place i of l on, are in the rows
+--   ReadAll s ws h l i k a
+--                   and are read as squares of the set a, as Reads has it
 -- Assumes nothing: these are definitions.
 use mathlib.Core.Path.{_≡_}
 use mathlib.Core.List.{List}
@@ -55,3 +62,25 @@ pub record Reads (s : ℕ) (ws : List ℕ) (h b x y : ℕ) (a : Cells) : Type 0 
   pub node : Node side whole (bitAt ws) h square b
   pub bit : (i j : ℕ) → square i j < 2
   pub cells : (i j : ℕ) → i < 2 ^ h → j < 2 ^ h → sensed s square i j ≡ a (x + i) (y + j)
+
+abbrev pub squareBit : ℕ → ℕ
+squareBit w = w / 1048576
+
+abbrev pub squareRow : ℕ → ℕ
+squareRow w = w / 1024 % 1024
+
+abbrev pub squareColumn : ℕ → ℕ
+squareColumn w = w % 1024
+
+unfoldable pub squaresTo : ℕ → ℕ → List ℕ → ℕ → Cells → Cells
+squaresTo zero h l i a = noPairs
+squaresTo (suc k) h l i a = union (squaresTo k h l i a) (inside h (squareRow (getD l (i + k) 0)) (squareColumn (getD l (i + k) 0)) a)
+
+abbrev pub Fits : ℕ → ℕ → Type 0
+Fits h w = (squareBit w % 4 ≡ 0) × (squareBit w ≤ 5592576) × (squareRow w + 2 ^ h ≤ 1024) × (squareColumn w + 2 ^ h ≤ 1024) × (squareColumn w % 2 ≡ 0)
+
+abbrev pub FitAll : ℕ → List ℕ → ℕ → ℕ → Type 0
+FitAll h l i k = (j : ℕ) → j < k → Fits h (getD l (i + j) 0)
+
+abbrev pub ReadAll : ℕ → List ℕ → ℕ → List ℕ → ℕ → ℕ → Cells → Type 0
+ReadAll s ws h l i k a = (j : ℕ) → j < k → Reads s ws h (squareBit (getD l (i + j) 0)) (squareRow (getD l (i + j) 0)) (squareColumn (getD l (i + j) 0)) a

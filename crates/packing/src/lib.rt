@@ -11,7 +11,7 @@ ghost use Rattle.k2.specs.Heap.{fullSize, place, rowAt, columnAt, cells, anyFou
 ghost use Rattle.bits.specs.BitSets.{none, either};
 ghost use Rattle.rows.specs.Rows.{flat};
 ghost use Rattle.packing.specs.Image.{Together, raised, above, setFour, blocksTo, swapPlace, Heaped, Squeezing};
-ghost use Rattle.packing.specs.Reading.{sensed, turned, inside, WordsCounted, BlocksCounted, Counted, Reads};
+ghost use Rattle.packing.specs.Reading.{sensed, turned, inside, WordsCounted, BlocksCounted, Counted, Reads, squareBit, squareRow, squareColumn, squaresTo, FitAll, ReadAll};
 
 // The height of the trees for n records: the side is 2 ^ height.
 pub fn height(n: usize) -> usize
@@ -474,9 +474,17 @@ fn next_one(v: u64, q: usize) -> usize
     q + u64::trailing_zeros((v + 16) >> q) as usize
 }
 
-// The cells of a square of side 2 ^ h, whose four bits begin at bit b, put into rows at row x and column y; with sense 1 the second and the
-// third quarter are read in exchanged order, at this level and at each below it.
-fn dive(
+// The square whose four bits begin at bit b, at row x and column y, as a number.
+fn square_number(b: usize, x: usize, y: usize) -> usize
+    requires { ⌜ (b ≤ 5592576) × (x < 1024) × (y < 1024) ⌝ }
+    ensures { λ w. ⌜ (squareBit w ≡ b) × (squareRow w ≡ x) × (squareColumn w ≡ y) ⌝ }
+{
+    b * 1048576 + x * 1024 + y
+}
+
+// The quarters that are not empty of a square of side 2 ^ h, whose four bits begin at bit b, at row x and column y, put behind the m squares
+// of next; how many there are then. With sense 1 the second and the third quarter are read in exchanged order.
+fn children(
     tree: &[u64],
     before: &[u32],
     h: usize,
@@ -484,33 +492,122 @@ fn dive(
     x: usize,
     y: usize,
     sense: usize,
-    rows: &mut [u64],
-)
-    requires { ⌜ (1 ≤ h) × (h ≤ 10) × (b % 4 ≡ 0) × (b ≤ 5592576) × (x + 2 ^ h ≤ 1024) × (y + 2 ^ h ≤ 1024) × (y % 2 ≡ 0) × (sense ≤ 1)
-        × (length (now rows) ≡ 16384) × (length (now tree) ≤ 21846) × (length (now before) ≡ 5462) × Counted (now tree) (now before) ⌝ }
-    ensures { λ _. ⌜ ((a t : Cells) → bitAt (now (rows .entry)) ≡ flat a → Reads sense (now (tree .entry)) h b x y t
-        → bitAt (now (rows .exit)) ≡ flat (union a (inside h x y t))) ⌝ }
+    next: &mut [usize],
+    m: usize,
+) -> usize
+    requires { ⌜ (2 ≤ h) × (h ≤ 10) × (b % 4 ≡ 0) × (b ≤ 5592576) × (x + 2 ^ h ≤ 1024) × (y + 2 ^ h ≤ 1024) × (y % 2 ≡ 0) × (sense ≤ 1)
+        × (length (now tree) ≤ 21846) × (length (now before) ≡ 5462) × Counted (now tree) (now before)
+        × (m + 4 ≤ length (now next)) × FitAll (h - 1) (now next) 0 m ⌝ }
+    ensures { λ r. ⌜ (r ≤ m + 4) × FitAll (h - 1) (now (next .exit)) 0 r
+        × ((t : Cells) → Reads sense (now (tree .entry)) h b x y t → ReadAll sense (now (tree .entry)) (h - 1) (now (next .entry)) 0 m t
+        → ReadAll sense (now (tree .entry)) (h - 1) (now (next .exit)) 0 r t
+        × (squaresTo r (h - 1) (now (next .exit)) 0 t ≡ union (squaresTo m (h - 1) (now (next .entry)) 0 t) (inside h x y t))) ⌝ }
 {
     let v = square(tree, b, sense);
-    if h == 1 {
-        put_cells(rows, x, y, v);
-        return;
-    }
     let s = half(h);
+    let mut k = m;
     let mut q = next_one(v, 0);
     while q < 4 {
         let d = child(tree, before, b + turn(q, sense));
-        dive(
+        next[k] = square_number(d, x + q / 2 * s, y + q % 2 * s);
+        k += 1;
+        q = next_one(v, q + 1);
+    }
+    k
+}
+
+// The quarters that are not empty of `count` squares of side 2 ^ h, from place `from` of the list on; how many there are.
+fn spread(
+    tree: &[u64],
+    before: &[u32],
+    h: usize,
+    list: &[usize],
+    from: usize,
+    count: usize,
+    sense: usize,
+    next: &mut [usize],
+) -> usize
+    requires { ⌜ (2 ≤ h) × (h ≤ 10) × (sense ≤ 1) × (length (now tree) ≤ 21846) × (length (now before) ≡ 5462) × Counted (now tree) (now before)
+        × (from + count ≤ length (now list)) × (count ≤ 16) × (length (now next) ≡ 64) × FitAll h (now list) from count ⌝ }
+    ensures { λ r. ⌜ (r ≤ 64) × FitAll (h - 1) (now (next .exit)) 0 r
+        × ((t : Cells) → ReadAll sense (now (tree .entry)) h (now (list .entry)) from count t
+        → ReadAll sense (now (tree .entry)) (h - 1) (now (next .exit)) 0 r t
+        × (squaresTo r (h - 1) (now (next .exit)) 0 t ≡ squaresTo count h (now (list .entry)) from t)) ⌝ }
+{
+    let mut m = 0;
+    let mut i = 0;
+    while i < count {
+        let w = list[from + i];
+        m = children(
             tree,
             before,
-            h - 1,
-            d,
-            x + q / 2 * s,
-            y + q % 2 * s,
+            h,
+            w / 1048576,
+            w / 1024 % 1024,
+            w % 1024,
             sense,
-            rows,
+            next,
+            m,
         );
-        q = next_one(v, q + 1);
+        i += 1;
+    }
+    m
+}
+
+// The cells of `count` squares of side 2, from place `from` of the list on, put into rows.
+fn leaves(tree: &[u64], list: &[usize], from: usize, count: usize, sense: usize, rows: &mut [u64])
+    requires { ⌜ (from + count ≤ length (now list)) × (count ≤ 16) × (sense ≤ 1) × (length (now rows) ≡ 16384) × FitAll 1 (now list) from count ⌝ }
+    ensures { λ _. ⌜ ((a t : Cells) → bitAt (now (rows .entry)) ≡ flat a → ReadAll sense (now (tree .entry)) 1 (now (list .entry)) from count t
+        → bitAt (now (rows .exit)) ≡ flat (union a (squaresTo count 1 (now (list .entry)) from t))) ⌝ }
+{
+    let mut i = 0;
+    while i < count {
+        let w = list[from + i];
+        let v = square(tree, w / 1048576, sense);
+        put_cells(rows, w / 1024 % 1024, w % 1024, v);
+        i += 1;
+    }
+}
+
+// How many of the squares from place i on, of m, are taken together.
+fn taken(i: usize, m: usize) -> usize
+    requires { ⌜ i < m ⌝ }
+    ensures { λ r. ⌜ (1 ≤ r) × (r ≤ 16) × (i + r ≤ m) ⌝ }
+{
+    if m - i < 16 {
+        return m - i;
+    }
+    16
+}
+
+// The cells of `count` squares of side 2 ^ h, from place `from` of the list on, put into rows; level by level, as the places of the children of
+// one square do not wait for those of another.
+fn dive(
+    tree: &[u64],
+    before: &[u32],
+    h: usize,
+    list: &[usize],
+    from: usize,
+    count: usize,
+    sense: usize,
+    rows: &mut [u64],
+)
+    requires { ⌜ (1 ≤ h) × (h ≤ 10) × (sense ≤ 1) × (length (now tree) ≤ 21846) × (length (now before) ≡ 5462) × Counted (now tree) (now before)
+        × (from + count ≤ length (now list)) × (count ≤ 16) × (length (now rows) ≡ 16384) × FitAll h (now list) from count ⌝ }
+    ensures { λ _. ⌜ ((a t : Cells) → bitAt (now (rows .entry)) ≡ flat a → ReadAll sense (now (tree .entry)) h (now (list .entry)) from count t
+        → bitAt (now (rows .exit)) ≡ flat (union a (squaresTo count h (now (list .entry)) from t))) ⌝ }
+{
+    if h == 1 {
+        leaves(tree, list, from, count, sense, rows);
+        return;
+    }
+    let mut next: [usize; 64] = [0; 64];
+    let m = spread(tree, before, h, list, from, count, sense, &mut next);
+    let mut i = 0;
+    while i < m {
+        let k = taken(i, m);
+        dive(tree, before, h - 1, &next, i, k, sense, rows);
+        i += k;
     }
 }
 
@@ -522,7 +619,8 @@ pub fn load(tree: &[u64], n: usize, sense: usize, rows: &mut [u64])
 {
     let mut before: [u32; 5462] = [0; 5462];
     count(tree, &mut before);
-    dive(tree, &before, height(n), 0, 0, 0, sense, rows);
+    let root: [usize; 1] = [0; 1];
+    dive(tree, &before, height(n), &root, 0, 1, sense, rows);
 }
 
 // Are the words of a the first `len` of b?

@@ -9,6 +9,7 @@ use Rattle.rows.specs.Rows.{flat}
 use Rattle.packing.specs.Reading.{sensed}
 use Rattle.packing.specs.ReadingLaws.{sensed-set}
 use Rattle.packing.proofs.Loads.{reads-tree, inside-all}
+use Rattle.packing.proofs.Lists.{root-fits, root-reads, root-squares}
 use Rattle.packing.proofs.load.Statement.{statement}
 use Rattle.packing.proofs.load.Tie as tie
 
@@ -24,23 +25,26 @@ slice-aggregate-dive c = search needs
 height-requires : tie.Need-height-requires
 height-requires c κs = search needs
 
+slice-aggregate-dive-2 : tie.Need-slice-aggregate-dive-2
+slice-aggregate-dive-2 c = search needs
+
 dive-requires : tie.Need-dive-requires
 dive-requires c κs =
-    let h = c .before .height .ensures in
-    let p = c .before .before .before .before .before .before .before .before .pre in
-    let s : 2 ^ c .before .height .result ≤ 1024 = pow-mono {j = 10} (h .2) in
-    (h .1, h .2, refl, omega arith, omega arith, omega arith, refl, p .2, p .3, p .1, search needs, c .before .before .before .before .count .ensures)
+    let h = c .before .before .height .ensures in
+    let p = c .before .before .before .before .before .before .before .before .before .pre in
+    (h .1, h .2, p .2, p .1, search needs, c .before .before .before .before .before .count .ensures, omega arith, omega arith, p .3, root-fits (c .before .before .height .result) (pow-mono {j = 10} (h .2)))
 
 same-length : tie.Need-same-length
 same-length c = search needs
 
 returns : tie.Need-returns
 returns c =
-    let h = c .before .before .before .before .height in
-    let g = c .before .before .before .before .before .before .before .before .before .before .before .args in
+    let h = c .before .before .before .before .before .height in
+    let g = c .before .before .before .before .before .before .before .before .before .before .before .before .args in
     λ a x is e r.
-    c .before .before .dive .ensures x (sensed (g .sense) a) r (reads-tree (g .sense) (g .n) (h .result) (g .tree .now) a (h .ensures .0) is e)
-    ∙ ap (λ (t : Cells). flat (union x t)) (inside-all (g .n) (h .result) (sensed (g .sense) a) (h .ensures .3) (sensed-set (g .sense) (g .n) a is))
+    let t : Cells = sensed (g .sense) a in
+    c .before .before .dive .ensures x t r (root-reads (g .sense) (g .tree .now) (h .result) t (reads-tree (g .sense) (g .n) (h .result) (g .tree .now) a (h .ensures .0) is e))
+    ∙ ap (λ (s : Cells). flat (union x s)) (root-squares (h .result) t ∙ inside-all (g .n) (h .result) t (h .ensures .3) (sensed-set (g .sense) (g .n) a is))
 
 pub load-spec : {M : Type 1} → statement M
 load-spec =
@@ -50,6 +54,7 @@ load-spec =
     count-requires
     slice-aggregate-dive
     height-requires
+    slice-aggregate-dive-2
     dive-requires
     same-length
     returns)
