@@ -1,4 +1,4 @@
--- Laws of `dive` and `load`: a square's quarters, one after another. Assumes nothing.
+-- Laws of `children`, `leaves` and `load`: a square's quarters, one after another. Assumes nothing.
 use mathlib.Core.Path.{_≡_, refl, sym, ap, ap₂, _∙_, fun-ext}
 use mathlib.Core.List.{List}
 use Prim.Native.Nat.{ℕ, zero, suc, _+_, _-_, _*_, _/_, _%_, _^_, _≤_, _<_, max}
@@ -343,7 +343,7 @@ pub dive-child : (s : ℕ) (ws : List ℕ) (h b x y : ℕ) (t : Cells) → 1 ≤
 dive-child s ws zero b x y t l n q g o = absurd (omega arith)
 dive-child s ws (suc h) b x y t l n q g o = let e : suc h - 1 ≡ h = omega arith in rw e (reads-child s ws h b x y t n q g o)
 
-pub dive-empty : (s : ℕ) (ws : List ℕ) (h b x y : ℕ) (t a : Cells) → 1 ≤ h → Reads s ws h b x y t → (q : ℕ) → q < 4 → bitAt ws (b + turned s q) ≡ 0
+dive-empty : (s : ℕ) (ws : List ℕ) (h b x y : ℕ) (t a : Cells) → 1 ≤ h → Reads s ws h b x y t → (q : ℕ) → q < 4 → bitAt ws (b + turned s q) ≡ 0
     → union a (quartersTo q (h - 1) x y t) ≡ union a (quartersTo (q + 1) (h - 1) x y t)
 dive-empty s ws zero b x y t a l n q g o = absurd (omega arith)
 dive-empty s ws (suc h) b x y t a l n q g o = let e : suc h - 1 ≡ h = omega arith in rw e (quarters-empty q h x y t a (reads-empty s ws h b x y t n q g o))

@@ -97,7 +97,7 @@ dive-dive-requires t c κs =
       (
         omega arith,
         omega arith,
-        w .2,
+        omega arith,
         w .3,
         w .4,
         w .5,
