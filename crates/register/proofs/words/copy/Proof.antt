@@ -1,4 +1,4 @@
--- `register::copy` writes word by word. The loop's invariant: the first i words are pasted into what was lent. The measure is the words left. Assumes nothing.
+-- `register::words::copy` writes word by word. The loop's invariant: the first i words are pasted into what was lent. The measure is the words left. Assumes nothing.
 use lib.Seq.{paste, paste-zero}
 use Rattle.register.proofs.Keeping.{copied-none, copied-more, copied-all}
 use mathlib.Core.Path.{_≡_, refl}
@@ -6,8 +6,8 @@ use Prim.Native.Nat.{_+_, _-_, _≤_}
 use native.Mathlib.Omega.{arith}
 use borrow.Author.Needs.{needs}
 use lib.ListN.{length, length-set}
-use Rattle.register.proofs.copy.Statement.{statement}
-use Rattle.register.proofs.copy.Tie as tie
+use Rattle.register.proofs.words.copy.Statement.{statement}
+use Rattle.register.proofs.words.copy.Tie as tie
 
 abbrev Inv-loop : tie.InvT-loop
 Inv-loop from to₀ at i₀ to i = (i ≤ length from) × (length to ≡ length to₀) × (at + length from ≤ length to₀) × (to ≡ paste to₀ at from i)

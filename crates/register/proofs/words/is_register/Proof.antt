@@ -1,9 +1,9 @@
--- `register::is_register` looks at the three things in turn. Assumes nothing.
+-- `register::words::is_register` looks at the three things in turn. Assumes nothing.
 use Rattle.register.proofs.Keeping.{tested-not, formed-by}
 use native.Mathlib.Omega.{arith}
 use borrow.Author.Needs.{needs}
-use Rattle.register.proofs.is_register.Statement.{statement}
-use Rattle.register.proofs.is_register.Tie as tie
+use Rattle.register.proofs.words.is_register.Statement.{statement}
+use Rattle.register.proofs.words.is_register.Tie as tie
 
 returns : tie.Need-returns
 returns c = tested-not (λ f. c .if1 .taken (f .long))

@@ -1,4 +1,4 @@
--- `register::write_locks` writes word by word. The loop's invariant: the words of the first i locks are pasted into what was lent. The measure is the
+-- `register::words::write_locks` writes word by word. The loop's invariant: the words of the first i locks are pasted into what was lent. The measure is the
 -- locks left. Assumes nothing.
 use mathlib.Core.List.{map}
 use lib.Seq.{paste, paste-zero}
@@ -9,8 +9,8 @@ use Prim.Native.Nat.{_+_, _-_, _≤_}
 use native.Mathlib.Omega.{arith}
 use borrow.Author.Needs.{needs}
 use lib.ListN.{length, length-set}
-use Rattle.register.proofs.write_locks.Statement.{statement}
-use Rattle.register.proofs.write_locks.Tie as tie
+use Rattle.register.proofs.words.write_locks.Statement.{statement}
+use Rattle.register.proofs.words.write_locks.Tie as tie
 
 abbrev Inv-loop : tie.InvT-loop
 Inv-loop locks words₀ at i₀ words i = (i ≤ length locks) × (length words ≡ length words₀) × (words ≡ paste words₀ at (map lockWord locks) i)

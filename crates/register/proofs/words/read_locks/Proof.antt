@@ -1,4 +1,4 @@
--- `register::read_locks` reads word by word. The loop's invariant: the locks before i are those of the words. The measure is the words left. Assumes nothing.
+-- `register::words::read_locks` reads word by word. The loop's invariant: the locks before i are those of the words. The measure is the words left. Assumes nothing.
 use mathlib.Core.Bool.{false}
 use lib.Dec.{eqb}
 use Rattle.register.proofs.Keeping.{lock-more, locks-read}
@@ -7,8 +7,8 @@ use Prim.Native.Nat.{ℕ, _-_, _≤_, _<_}
 use native.Mathlib.Omega.{arith}
 use borrow.Author.Needs.{needs}
 use lib.ListN.{length, getD, length-set}
-use Rattle.register.proofs.read_locks.Statement.{statement}
-use Rattle.register.proofs.read_locks.Tie as tie
+use Rattle.register.proofs.words.read_locks.Statement.{statement}
+use Rattle.register.proofs.words.read_locks.Tie as tie
 
 abbrev Inv-loop : tie.InvT-loop
 Inv-loop words locks₀ i₀ locks i = (i ≤ length words) × (length locks ≡ length locks₀) × ((j : ℕ) → j < i → getD locks j false ≡ eqb (getD words j 0) 1)

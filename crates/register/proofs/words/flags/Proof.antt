@@ -1,12 +1,12 @@
--- `register::flags` looks at each word. The loop's invariant: the words before i are 0 or 1. The measure is the words left. Assumes nothing.
+-- `register::words::flags` looks at each word. The loop's invariant: the words before i are 0 or 1. The measure is the words left. Assumes nothing.
 use borrow.Author.Count.{below-more}
 use Rattle.register.proofs.Keeping.{tested, tested-not, flags-all}
 use Prim.Native.Nat.{ℕ, _-_, _≤_, _<_}
 use native.Mathlib.Omega.{arith}
 use borrow.Author.Needs.{needs}
 use lib.ListN.{length, getD}
-use Rattle.register.proofs.flags.Statement.{statement}
-use Rattle.register.proofs.flags.Tie as tie
+use Rattle.register.proofs.words.flags.Statement.{statement}
+use Rattle.register.proofs.words.flags.Tie as tie
 
 abbrev Inv-loop : tie.InvT-loop
 Inv-loop words i₀ i = (i ≤ length words) × ((j : ℕ) → j < i → getD words j 0 ≤ 1)
