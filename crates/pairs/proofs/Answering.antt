@@ -4,16 +4,14 @@ use mathlib.Core.Path.{_≡_, refl, sym, ap, _∙_, subst}
 use mathlib.Core.List.{List}
 use Prim.Native.Nat.{ℕ, _*_, _≤_, _<_}
 use native.Mathlib.Omega.{arith}
-use lib.ListN.{length, take}
+use lib.ListN.{length}
 use Rattle.book.specs.Book.{Book}
-use Rattle.k2.specs.PairSets.{Cells, IsSet, listed}
-use Rattle.k2.specs.Trees.{treeUnit, treeWords}
+use Rattle.k2.specs.PairSets.{listed}
+use Rattle.k2.specs.Trees.{treeUnit}
 use Rattle.paths.specs.Expressions.{Expr}
 use Rattle.paths.specs.Grammar.{Verdict, accepted}
 use Rattle.paths.specs.Chains.{asked}
 use Rattle.paths.specs.Relations.{cells, pairs}
-use Rattle.paths.specs.RelationLaws.{cells-set}
-use Rattle.paths.specs.PairLaws.{fit-inside}
 use Rattle.paths.specs.Questions.{listAfter, pairsAnswer}
 use Rattle.reader.specs.Reads.{answerOf}
 use Rattle.reader.specs.declared.Answer.the-variants.{Refused as Faulty}
@@ -24,7 +22,7 @@ use Rattle.pairs.specs.declared.PairsAnswer.{PairsAnswer}
 use Rattle.pairs.specs.declared.PairsAnswer.the-variants.{Refused}
 use Rattle.pairs.specs.Asking.{Tells, told-number, Handed, AsksFor}
 use Rattle.pairs.specs.AskingLaws.{asks-refused, asks-short, asks-handed}
-use Rattle.pairs.specs.Steps.{Lettered, Coded, Evaluated}
+use Rattle.pairs.specs.Steps.{Lettered, Coded}
 
 -- a refusal with its number, where the book gives the same
 refusal : (r : Register) (v : Verdict) (work k : ℕ) (before : List ℕ) → ((b : Book) → Represents r b → pairsAnswer b v work (length before) ≡ Rattle.paths.specs.Questions.refused k)
@@ -39,21 +37,19 @@ pub little-work : (r : Register) (e : Expr) (n u work : ℕ) (before : List ℕ)
 little-work r e n u work before size m h =
     refusal r (accepted e) work 12 before (λ b R. asks-short b work (length before) e (subst (λ (i : ℕ). work < 32 * treeUnit i) (size b R) (subst (λ (i : ℕ). work < 32 * i) m h)))
 
-pub by-tree : (r : Register) (e : Expr) (s : List ℕ) (n work size : ℕ) (ws code words before after : List ℕ) (a : PairsAnswer)
-    → ((b : Book) → Represents r b → n ≡ b .n) → ((b : Book) → Represents r b → Linked ws (b .sheet)) → Evaluated n ws code words size → Coded s e code → 32 * treeUnit n ≤ work
-    → ((k : ℕ) → a ≡ Refused k → after ≡ before) → ((x : Cells) → IsSet n x → take size words ≡ treeWords n x → Handed (listed n x) before after a)
+pub by-code : (r : Register) (e : Expr) (s : List ℕ) (n work : ℕ) (ws code before after : List ℕ) (a : PairsAnswer)
+    → ((b : Book) → Represents r b → n ≡ b .n) → ((b : Book) → Represents r b → Linked ws (b .sheet)) → Coded s e code → 32 * treeUnit n ≤ work
+    → ((k : ℕ) → a ≡ Refused k → after ≡ before)
+    → ((b : Book) → Lettered b n ws → (s : List ℕ) (e : Expr) → Coded s e code → Handed (listed (b .n) (cells (asked b) e)) before after a)
     → AsksFor r (accepted e) work before after a
 unfolding pairs asked
-by-tree r e s n work size ws code words before after a sized linked E C h same hands = record { unchanged = same; tells = λ b R. told b R .0; list = λ b R. told b R .1 }
+by-code r e s n work ws code before after a sized linked C h same hands = record { unchanged = same; tells = λ b R. told b R .0; list = λ b R. told b R .1 }
   where
     told : (b : Book) → Represents r b → Tells (pairsAnswer b (accepted e) work (length before)) a × (after ≡ listAfter (pairsAnswer b (accepted e) work (length before)) before)
     told b R =
         let z : n ≡ b .n = sized b R in
-        let f = R .sheet .fit in
         let small : b .n ≤ 1024 = let q = R .size in let l = R .ranged .size in omega arith in
-        let t = E .tree b (record { size = z; small = small; fit = f; linked = linked b R }) s e C in
-        let H = subst (λ (i : ℕ). (x : Cells) → IsSet i x → take size words ≡ treeWords i x → Handed (listed i x) before after a) z hands in
-        asks-handed b e work (subst (λ (i : ℕ). 32 * treeUnit i ≤ work) z h) (H (cells (asked b) e) (cells-set (asked b) (fit-inside b f) e) t)
+        asks-handed b e work (subst (λ (i : ℕ). 32 * treeUnit i ≤ work) z h) (hands b (record { size = z; small = small; fit = R .sheet .fit; linked = linked b R }) s e C)
 
 pub same-verdict : (r : Register) (v : Verdict) (e : Expr) (work : ℕ) (before after : List ℕ) (a : PairsAnswer) → v ≡ accepted e → AsksFor r (accepted e) work before after a → AsksFor r v work before after a
 same-verdict r v e work before after a q A = subst (λ (w : Verdict). AsksFor r w work before after a) (sym q) A

@@ -9,23 +9,25 @@
 --   Coded s e c     s is a text of the expression e, not too deep, and c is its code
 --   Going n ws c work S i
 --                   the first i numbers of the code c have been run
---   Evaluated n ws c work r
---                   the first r words of work are the tree of the value of the expression whose code is c, for every book whose links ws are
+--   Lists n ws op work S before after a
+--                   the last number of the code: the answer a and its list, for every book whose links ws are
 -- Assumes nothing: these are definitions.
 use mathlib.Core.Path.{_≡_}
-use mathlib.Core.List.{List, _∷_}
+use mathlib.Core.List.{List, [], _∷_}
 use Prim.Native.Nat.{ℕ, suc, _≤_}
-use lib.ListN.{take, drop}
+use lib.ListN.{drop}
 use Rattle.book.specs.Book.{Book}
 use Rattle.book.specs.Sheets.{Fit}
-use Rattle.k2.specs.PairSets.{Cells, union}
-use Rattle.k2.specs.Trees.{treeUnit, treeWords}
+use Rattle.k2.specs.PairSets.{Cells, listed, union}
+use Rattle.k2.specs.Trees.{treeUnit}
 use Rattle.paths.specs.Expressions.{Expr, depth}
 use Rattle.paths.specs.Grammar.{alternatives, Is}
 use Rattle.paths.specs.Chains.{asked}
 use Rattle.paths.specs.Relations.{cells}
 use Rattle.reader.specs.Code.{code}
 use Rattle.register.specs.Links.{Linked}
+use Rattle.tree.specs.Calls.{Settled as Told}
+use Rattle.tree.specs.declared.Answer.{Answer}
 use Rattle.pairs.specs.declared.Stack.{Stack}
 use Rattle.pairs.specs.Evaluation.{onOne, Lying, held, beside, Waiting, Placed, Room}
 
@@ -61,6 +63,6 @@ pub record Going (n : ℕ) (ws c work : List ℕ) (S : Stack) (i : ℕ) : Type 0
   pub room : Room (treeUnit n) (drop i c) S
   pub waits : (b : Book) → Lettered b n ws → (s : List ℕ) (e : Expr) → Coded s e c → (st : List Cells) × Waiting (asked b) e (drop i c) work S st
 
-pub record Evaluated (n : ℕ) (ws c work : List ℕ) (r : ℕ) : Type 0 where
-  pub few : r ≤ treeUnit n
-  pub tree : (b : Book) → Lettered b n ws → (s : List ℕ) (e : Expr) → Coded s e c → take r work ≡ treeWords (b .n) (cells (asked b) e)
+abbrev pub Lists : ℕ → List ℕ → ℕ → List ℕ → Stack → List ℕ → List ℕ → Answer → Type 0
+Lists n ws op work S before after a =
+    (b : Book) → Lettered b n ws → (e : Expr) (st : List Cells) → Waiting (asked b) e (op ∷ []) work S st → Told (listed (b .n) (cells (asked b) e)) before after a

@@ -3,13 +3,18 @@ ghost use mathlib.Core.Path.{_≡_};
 ghost use mathlib.Core.List.{List, [], _∷_};
 ghost use Prim.Native.Nat.{ℕ, _+_, _*_, _-_, _<_, _≤_};
 ghost use lib.ListN.{length, take, drop, getD};
-ghost use Rattle.k2.specs.PairSets.{Cells, IsSet, listed};
+ghost use Rattle.book.specs.Book.{Book};
+ghost use Rattle.k2.specs.PairSets.{Cells, IsSet, setOf, listed, union};
 ghost use Rattle.k2.specs.Trees.{treeUnit, treeWords};
 ghost use Rattle.paths.specs.Expressions.{Expr};
 ghost use Rattle.paths.specs.Grammar.{accepted};
-ghost use Rattle.tree.specs.Inner.{OneWithLinks, TwoWithLinks};
+ghost use Rattle.paths.specs.Chains.{asked};
+ghost use Rattle.paths.specs.Relations.{cells};
+ghost use Rattle.rows.specs.Rows.{noPairs};
+ghost use Rattle.tree.specs.Inner.{outcome, OneWithLinks, TwoWithLinks};
+ghost use Rattle.tree.specs.declared.Answer.the-variants.{Refused as Unlisted};
 ghost use Rattle.pairs.specs.Evaluation.{onOne, onTwo, Placed, Room};
-ghost use Rattle.pairs.specs.Steps.{Topped, Settled, Goes, Coded, Evaluated};
+ghost use Rattle.pairs.specs.Steps.{Lettered, Topped, Settled, Goes, Coded, Going, Lists};
 ghost use Rattle.pairs.specs.Asking.{Handed, AsksFor, AsksPairs};
 ghost use Rattle.pairs.specs.declared.PairsAnswer.the-variants.{Refused};
 
@@ -180,10 +185,10 @@ fn step(work: &mut [u64], n: usize, words: &[u32], stack: Stack, op: u8) -> Stac
     binary(work, n, words, stack, op)
 }
 
-// The whole code: its value's tree is left at the front of work; how many words it has.
-fn evaluate(work: &mut [u64], n: usize, words: &[u32], code: &[u8]) -> usize
+// All numbers of the code but the last; the operands that wait for that.
+fn evaluate(work: &mut [u64], n: usize, words: &[u32], code: &[u8]) -> Stack
     requires { ⌜ (n ≤ 1024) × (32 * treeUnit n ≤ length (now work)) × ((s : List ℕ) × (e : Expr) × Coded s e (now code)) ⌝ }
-    ensures { λ r. ⌜ Evaluated n (now (words .entry)) (now (code .entry)) (now (work .exit)) r ⌝ }
+    ensures { λ r. ⌜ Going n (now (words .entry)) (now (code .entry)) (now (work .exit)) r (length (now (code .entry)) - 1) ⌝ }
 {
     let mut stack = Stack {
         sizes: [0; 19],
@@ -193,28 +198,96 @@ fn evaluate(work: &mut [u64], n: usize, words: &[u32], code: &[u8]) -> usize
         sense: 0,
     };
     let mut i = 0;
-    while i < code.len() {
+    while i + 1 < code.len() {
         stack = step(work, n, words, stack, code[i]);
         i += 1;
     }
-    let last = settle(work, n, words, stack);
-    last.end
+    stack
 }
 
-// The pairs of the tree at the front of work, handed over if the list takes them.
-fn hand_over(work: &[u64], n: usize, size: usize, list: &mut [u32]) -> PairsAnswer
-    requires { ⌜ (n ≤ 1024) × (size ≤ treeUnit n) × (size ≤ length (now work)) ⌝ }
-    ensures unchanged { λ a. ⌜ ((k : ℕ) → a ≡ Refused k → now (list .exit) ≡ now (list .entry)) ⌝ }
-    ensures pairs { λ a. ⌜ ((x : Cells) → IsSet n x → take size (now (work .entry)) ≡ treeWords n x → Handed (listed n x) (now (list .entry)) (now (list .exit)) a) ⌝ }
+// The number of an operator's operation on trees. A letter alone is listed as a union.
+fn kind(op: u8) -> u8
+    ensures { λ r. ⌜ ((n : ℕ) (x : Cells) → op < 30 → outcome r n noPairs x ≡ onOne n op x)
+        × ((n : ℕ) (x y : Cells) → 30 ≤ op → op ≤ 31 → outcome r n x y ≡ onTwo n op x y) ⌝ }
 {
-    let mut rows: [u64; 16384] = [0; 16384];
-    packing::load(&work[..size], n, 0, &mut rows);
-    let count = rows::count_pairs(&rows, n);
-    if list.len() < count {
-        return PairsAnswer::Refused(13);
+    if op == 26 {
+        return 7;
     }
-    rows::write_pairs(&rows, n, list);
-    PairsAnswer::Pairs(count)
+    if op == 27 {
+        return 6;
+    }
+    if op == 28 {
+        return 4;
+    }
+    if op == 29 {
+        return 5;
+    }
+    if op == 31 {
+        return 3;
+    }
+    0
+}
+
+// The last number of the code: the pairs of its value are listed, and no tree is made of them.
+fn last(
+    work: &[u64],
+    n: usize,
+    words: &[u32],
+    stack: Stack,
+    op: u8,
+    list: &mut [u32],
+) -> tree::Answer
+    requires { ⌜ (n ≤ 1024) × (32 * treeUnit n ≤ length (now work)) × Room (treeUnit n) (op ∷ []) stack ⌝ }
+    ensures unchanged { λ a. ⌜ ((k : ℕ) → a ≡ Unlisted k → now (list .exit) ≡ now (list .entry)) ⌝ }
+    ensures pairs { λ a. ⌜ Lists n (now (words .entry)) op (now (work .entry)) stack (now (list .entry)) (now (list .exit)) a ⌝ }
+{
+    if op < 26 {
+        let links = register::label_part(words, op);
+        return tree::list_with(0, work, n, 0, 0, links, 0, list);
+    }
+    let top = stack.count - 1;
+    let right = stack.sizes[top];
+    let links = register::label_part(words, stack.label);
+    if op < 30 {
+        let start = stack.end - right;
+        return tree::list_with(
+            kind(op),
+            &work[start..],
+            n,
+            0,
+            right,
+            links,
+            stack.sense,
+            list,
+        );
+    }
+    let left = stack.sizes[top - 1];
+    let start = stack.end - right - left;
+    tree::list_with(
+        kind(op),
+        &work[start..],
+        n,
+        left,
+        right,
+        links,
+        stack.sense,
+        list,
+    )
+}
+
+// The pairs of the whole code, handed over if the list takes them.
+fn hand_over(work: &mut [u64], n: usize, words: &[u32], code: &[u8], list: &mut [u32]) -> PairsAnswer
+    requires { ⌜ (n ≤ 1024) × (32 * treeUnit n ≤ length (now work)) × ((s : List ℕ) × (e : Expr) × Coded s e (now code)) ⌝ }
+    ensures unchanged { λ a. ⌜ ((k : ℕ) → a ≡ Refused k → now (list .exit) ≡ now (list .entry)) ⌝ }
+    ensures pairs { λ a. ⌜ ((b : Book) → Lettered b n (now (words .entry)) → (s : List ℕ) (e : Expr) → Coded s e (now (code .entry))
+        → Handed (listed (b .n) (cells (asked b) e)) (now (list .entry)) (now (list .exit)) a) ⌝ }
+{
+    let stack = evaluate(work, n, words, code);
+    let answer = last(work, n, words, stack, code[code.len() - 1], list);
+    match answer {
+        tree::Answer::Done(count) => PairsAnswer::Pairs(count),
+        tree::Answer::Refused(k) => PairsAnswer::Refused(k),
+    }
 }
 
 // The pairs of an expression, by its code: the first len bytes of the array.
@@ -235,8 +308,7 @@ fn of_code(
     let links = register.links();
     let count = links.count;
     let array = links.words;
-    let size = evaluate(work, n, &array[..count], &code[..len]);
-    hand_over(work, n, size, list)
+    hand_over(work, n, &array[..count], &code[..len], list)
 }
 
 // The pairs that have a chain, ascending, each once.

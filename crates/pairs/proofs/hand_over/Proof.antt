@@ -1,68 +1,86 @@
--- `pairs::hand_over` loads the tree into rows, and counts and writes its pairs. Assumes nothing.
+-- `pairs::hand_over` runs the code and tells what its last number gives: a number of pairs, or a refusal. Assumes nothing.
 use native.Mathlib.Omega.{arith}
-use mathlib.Core.Path.{_≡_, refl, sym, ap, _∙_}
-use mathlib.Core.List.{List, []}
-use Prim.Native.Nat.{ℕ, _+_, _-_, _*_, _≤_, _<_}
-use lib.ListN.{length, take, drop, getD}
-use Rattle.k2.specs.Trees.{treeUnit, treeWords}
-use lib.ListN.{length-take}
-use lib.Seq.{length-take-le}
-use Rattle.k2.specs.Bits.{bitAt}
-use Rattle.k2.specs.PairSets.{Cells, IsSet}
-use Rattle.k2.specs.SizeLaws.{treeUnit-most}
-use Rattle.bits.specs.BitSetLaws.{bits-none}
-use Rattle.rows.specs.Rows.{flat, noPairs}
-use Rattle.rows.specs.RowLaws.{flat-none, union-none}
-use Rattle.pairs.proofs.Stepping.{long-list, whole-list, not-refused}
+use mathlib.Core.Path.{_≡_, _∙_, subst}
+use lib.ListN.{length}
+use Rattle.k2.specs.PairSets.{listed}
+use Rattle.paths.specs.Chains.{asked}
+use Rattle.paths.specs.Relations.{cells}
+use Rattle.tree.specs.Calls.{Settled as Told}
+use Rattle.tree.specs.declared.Answer.{Answer}
+use Rattle.pairs.proofs.Stepping.{coded-some, going-last, going-lists, told-handed, told-refused, not-refused, same-number}
 use borrow.Author.Needs.{needs}
 use Rattle.pairs.proofs.hand_over.Statement.{statement}
 use Rattle.pairs.proofs.hand_over.Tie as tie
 
--- the rows of the tree
-loaded : (c : tie.After-load) → (x : Cells) → IsSet (c .before .before .before .before .before .args .n) x → take (c .before .before .before .before .before .args .size) (c .before .before .before .before .before .args .work .now) ≡ treeWords (c .before .before .before .before .before .args .n) x → bitAt (c .load .last .1 .1 .1 .0) ≡ flat x
-loaded c x i e = c .load .ensures x noPairs i e (bits-none 16384 ∙ sym flat-none) ∙ ap flat (union-none x)
+evaluate-requires : tie.Need-evaluate-requires
+evaluate-requires c κs = search needs
 
-slice-aggregate-load : tie.Need-slice-aggregate-load
-slice-aggregate-load c = sym (length-take-le _ _ (c .before .before .before .pre .2))
+sub-last : tie.Need-sub-last
+sub-last c = coded-some (c .before .before .before .before .before .before .before .before .before .args .n) (c .before .before .before .before .before .before .before .before .before .args .words .now) _ (c .before .before .before .before .before .before .before .before .before .pre .2 .2)
 
-slice-aggregate-load-2 : tie.Need-slice-aggregate-load-2
-slice-aggregate-load-2 c = search needs
+shared-slice-read-last : tie.Need-shared-slice-read-last
+shared-slice-read-last c = omega (arith, coded-some (c .before .before .before .before .before .before .before .before .before .before .args .n) (c .before .before .before .before .before .before .before .before .before .before .args .words .now) _ (c .before .before .before .before .before .before .before .before .before .before .pre .2 .2))
 
-load-requires : tie.Need-load-requires
-load-requires c κs = (c .before .before .before .before .pre .0, rw length-take (omega (arith, treeUnit-most (c .before .before .before .before .args .n) (c .before .before .before .before .pre .0), c .before .before .before .before .pre .1)), omega arith, search needs)
+last-requires : tie.Need-last-requires
+last-requires c κs =
+    let A = c .before .before .before .before .before .before .before .before .before .before .before .args in
+    let P = c .before .before .before .before .before .before .before .before .before .before .before .pre in
+    let k : length (c .before .before .before .before .before .evaluate .last .0) ≡ length (A .work .now) = c .before .before .before .before .before .evaluate .kept .0 in
+    (P .0, omega (arith, P .1), going-last (A .n) (A .words .now) _ (coded-some (A .n) (A .words .now) _ (P .2 .2)) (c .before .before .before .before .before .evaluate .ensures))
 
-slice-aggregate-count-pairs : tie.Need-slice-aggregate-count-pairs
-slice-aggregate-count-pairs c = search needs
+enum-known-answer : tie.Need-enum-known-answer
+enum-known-answer c = search needs
 
-count-pairs-requires : tie.Need-count-pairs-requires
-count-pairs-requires c κs = search needs
-
-returns : tie.Need-returns
-returns c = (λ k e. refl, λ x i e. long-list _ _ _ (c .before .count-pairs .ensures x i (loaded (c .before .before .before .before) x i e)) (omega arith))
-
-slice-aggregate-write-pairs : tie.Need-slice-aggregate-write-pairs
-slice-aggregate-write-pairs c = search needs
-
-write-pairs-requires : tie.Need-write-pairs-requires
-write-pairs-requires c κs = search needs
+enum-known-answer-2 : tie.Need-enum-known-answer-2
+enum-known-answer-2 c = search needs
 
 same-length : tie.Need-same-length
 same-length c = search needs
 
+same-length-2 : tie.Need-same-length-2
+same-length-2 c = search needs
+
+returns : tie.Need-returns
+returns c =
+    let A = c .before .before .before .before .before .before .before .before .before .before .before .before .before .before .before .before .before .args in
+    let P = c .before .before .before .before .before .before .before .before .before .before .before .before .before .before .before .before .before .pre in
+    let I = c .before .before .before .before .before .last in (
+      λ k e. not-refused _ _ e,
+      λ b L s x q.
+          told-handed _ (subst (λ (v : Answer). Told (listed (b .n) (cells (asked b) x)) (A .list .now) _ v) (c .before .answer .given .1)
+          (going-lists (A .n) (A .words .now) _ (coded-some (A .n) (A .words .now) _ (P .2 .2)) (c .before .before .before .before .before .before .before .before .before .before .before .evaluate .ensures) (I .ensures .1) b L s x q)),
+    )
+
+same-length-3 : tie.Need-same-length-3
+same-length-3 c = search needs
+
+same-length-4 : tie.Need-same-length-4
+same-length-4 c = search needs
+
 returns-2 : tie.Need-returns-2
-returns-2 c = (λ k e. not-refused _ _ e, λ x i e. whole-list _ _ _ _ (c .before .before .before .before .before .before .count-pairs .ensures x i (loaded (c .before .before .before .before .before .before .before .before .before) x i e)) (omega arith) (c .before .before .write-pairs .ensures x i (loaded (c .before .before .before .before .before .before .before .before .before) x i e)))
+returns-2 c =
+    let A = c .before .before .before .before .before .before .before .before .before .before .before .before .before .before .before .before .before .args in
+    let P = c .before .before .before .before .before .before .before .before .before .before .before .before .before .before .before .before .before .pre in
+    let I = c .before .before .before .before .before .last in (
+      λ k e. I .ensures .0 k (c .before .answer2 .given .1 ∙ same-number _ _ e),
+      λ b L s x q.
+          told-refused _ (subst (λ (v : Answer). Told (listed (b .n) (cells (asked b) x)) (A .list .now) _ v) (c .before .answer2 .given .1)
+          (going-lists (A .n) (A .words .now) _ (coded-some (A .n) (A .words .now) _ (P .2 .2)) (c .before .before .before .before .before .before .before .before .before .before .before .evaluate .ensures) (I .ensures .1) b L s x q)),
+    )
 
 pub hand-over-spec : {M : Type 1} → statement M
 hand-over-spec =
     tie.close
     (tie.spec
-    slice-aggregate-load
-    slice-aggregate-load-2
-    load-requires
-    slice-aggregate-count-pairs
-    count-pairs-requires
-    returns
-    slice-aggregate-write-pairs
-    write-pairs-requires
+    evaluate-requires
+    sub-last
+    shared-slice-read-last
+    last-requires
+    enum-known-answer
+    enum-known-answer-2
     same-length
+    same-length-2
+    returns
+    same-length-3
+    same-length-4
     returns-2)

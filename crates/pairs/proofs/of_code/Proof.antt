@@ -1,4 +1,4 @@
--- `pairs::of_code` meets its contract: with work enough the code is evaluated over the register's links, and the pairs of its tree are handed over.
+-- `pairs::of_code` meets its contract: with work enough the pairs of the code over the register's links are handed over.
 -- Assumes nothing.
 use native.Mathlib.Omega.{arith}
 use mathlib.Core.Path.{_≡_, refl, sym, ap, _∙_}
@@ -7,7 +7,7 @@ use Prim.Native.Nat.{ℕ, _+_, _-_, _*_, _≤_, _<_}
 use lib.ListN.{length, take, drop, getD}
 use lib.Seq.{length-take-le}
 use Rattle.k2.specs.Trees.{treeUnit, treeWords}
-use Rattle.pairs.proofs.Answering.{little-work, by-tree}
+use Rattle.pairs.proofs.Answering.{little-work, by-code}
 use borrow.Author.Needs.{needs}
 use Rattle.pairs.proofs.of_code.Statement.{statement}
 use Rattle.pairs.proofs.of_code.Tie as tie
@@ -33,17 +33,14 @@ links-requires c κs = search needs
 array-share-prefix-array : tie.Need-array-share-prefix-array
 array-share-prefix-array c = in-words (c .before .before)
 
-slice-aggregate-evaluate : tie.Need-slice-aggregate-evaluate
-slice-aggregate-evaluate c = sym (length-take-le _ _ (in-words (c .before .before .before)))
+slice-aggregate-hand-over : tie.Need-slice-aggregate-hand-over
+slice-aggregate-hand-over c = sym (length-take-le _ _ (in-words (c .before .before .before)))
 
 array-share-prefix-code : tie.Need-array-share-prefix-code
 array-share-prefix-code c = search needs
 
-slice-aggregate-evaluate-2 : tie.Need-slice-aggregate-evaluate-2
-slice-aggregate-evaluate-2 c = sym (length-take-le _ _ (c .before .before .before .before .before .before .before .before .before .before .pre .0))
-
-evaluate-requires : tie.Need-evaluate-requires
-evaluate-requires c κs = search needs
+slice-aggregate-hand-over-2 : tie.Need-slice-aggregate-hand-over-2
+slice-aggregate-hand-over-2 c = sym (length-take-le _ _ (c .before .before .before .before .before .before .before .before .before .before .pre .0))
 
 hand-over-requires : tie.Need-hand-over-requires
 hand-over-requires c κs = search needs
@@ -56,10 +53,8 @@ same-length-2 c = search needs
 
 returns-2 : tie.Need-returns-2
 returns-2 c =
-    λ s e q. by-tree (c .before .before .before .before .before .before .before .before .before .before .before .before .before .before .before .before .before .before .args .register) e s (c .before .before .before .before .before .before .before .before .before .before .before .before .before .before .before .size .result) _ (c .before .before .before .before .before .before .before .evaluate .result)
-    (take (c .before .before .before .before .before .before .before .before .before .before .before .before .links .result .count) (c .before .before .before .before .before .before .before .before .before .before .before .before .links .result .words)) _ _ _ _ _
-    (c .before .before .before .before .before .before .before .before .before .before .before .before .before .before .before .size .ensures .size) (c .before .before .before .before .before .before .before .before .before .before .before .before .links .ensures .linked) (c .before .before .before .before .before .before .before .evaluate .ensures) q
-    (omega (arith, c .before .before .before .before .before .before .before .before .before .before .before .before .before .if1 .left, c .before .before .before .before .before .before .before .before .before .before .before .before .before .before .tree-unit .ensures .0))
+    λ s e q. by-code (c .before .before .before .before .before .before .before .before .before .before .before .before .before .before .before .before .args .register) e s (c .before .before .before .before .before .before .before .before .before .before .before .before .before .size .result) _ (take (c .before .before .before .before .before .before .before .before .before .before .links .result .count) (c .before .before .before .before .before .before .before .before .before .before .links .result .words)) _ _ _ _
+    (c .before .before .before .before .before .before .before .before .before .before .before .before .before .size .ensures .size) (c .before .before .before .before .before .before .before .before .before .before .links .ensures .linked) q (omega (arith, c .before .before .before .before .before .before .before .before .before .before .before .if1 .left, c .before .before .before .before .before .before .before .before .before .before .before .before .tree-unit .ensures .0))
     (c .before .before .hand-over .ensures .0) (c .before .before .hand-over .ensures .1)
 
 pub of-code-spec : {M : Type 1} → statement M
@@ -72,10 +67,9 @@ of-code-spec =
     returns
     links-requires
     array-share-prefix-array
-    slice-aggregate-evaluate
+    slice-aggregate-hand-over
     array-share-prefix-code
-    slice-aggregate-evaluate-2
-    evaluate-requires
+    slice-aggregate-hand-over-2
     hand-over-requires
     same-length
     same-length-2
