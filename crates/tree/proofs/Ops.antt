@@ -7,7 +7,7 @@ use lib.ListN.{take, replicate}
 use Rattle.book.specs.Basics.{has}
 use Rattle.k2.specs.Bits.{bitAt}
 use Rattle.k2.specs.PairSets.{Cells, IsSet, setOf, union, transpose, closure}
-use Rattle.k2.specs.PairSetLaws.{union-set, intersection-set, difference-set, product-set, closure-set}
+use Rattle.k2.specs.PairSetLaws.{union-set, intersection-set, difference-set, product-set, transpose-set, closure-set}
 use Rattle.k2.specs.Trees.{treeWords, treeUnit}
 use Rattle.k2.specs.SizeLaws.{treeUnit-some}
 use Rattle.bits.specs.BitSetLaws.{bits-none}
@@ -59,17 +59,19 @@ outcome-set (suc (suc zero)) n a b A B = difference-set n a b A B
 outcome-set (suc (suc (suc zero))) n a b A B = product-set n a b A B
 outcome-set (suc (suc (suc (suc zero)))) n a b A B = closure-set n n (union a b) (union-set n a b A B)
 outcome-set (suc (suc (suc (suc (suc zero))))) n a b A B = union-set n (union a b) (identity n) (union-set n a b A B) (identity-set n)
-outcome-set (suc (suc (suc (suc (suc (suc k)))))) n a b A B =
+outcome-set (suc (suc (suc (suc (suc (suc zero)))))) n a b A B =
     union-set n (closure n (union a b)) (identity n) (closure-set n n (union a b) (union-set n a b A B)) (identity-set n)
+outcome-set (suc (suc (suc (suc (suc (suc (suc k))))))) n a b A B = union-set n a (transpose b) A (transpose-set n b B)
 
-pub outcome-last : (k n : ℕ) (a b : Cells) → 6 ≤ k → union (closure n (union a b)) (identity n) ≡ outcome k n a b
+pub outcome-last : (k n : ℕ) (a b : Cells) → 7 ≤ k → union a (transpose b) ≡ outcome k n a b
 outcome-last zero n a b l = absurd (omega arith)
 outcome-last (suc zero) n a b l = absurd (omega arith)
 outcome-last (suc (suc zero)) n a b l = absurd (omega arith)
 outcome-last (suc (suc (suc zero))) n a b l = absurd (omega arith)
 outcome-last (suc (suc (suc (suc zero)))) n a b l = absurd (omega arith)
 outcome-last (suc (suc (suc (suc (suc zero))))) n a b l = absurd (omega arith)
-outcome-last (suc (suc (suc (suc (suc (suc k)))))) n a b l = refl
+outcome-last (suc (suc (suc (suc (suc (suc zero)))))) n a b l = absurd (omega arith)
+outcome-last (suc (suc (suc (suc (suc (suc (suc k))))))) n a b l = refl
 
 pub tree-same : {n r : ℕ} {a b : Cells} {ws : List ℕ} → a ≡ b → TreeAt n a ws r → TreeAt n b ws r
 tree-same {n} {r} {a} {b} {ws} e t = subst (λ (s : Cells). TreeAt n s ws r) e t

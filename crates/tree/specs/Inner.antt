@@ -2,7 +2,8 @@
 --   Room n la lb k  what an operation on operands of la and lb words needs: k words of work, two D of them
 --   TreeAt n a ws r the first r words are the tree of a, and no more than D
 --   outcome k n a b the operations by their numbers: of the sets a and b union, intersection, difference and product; the closure of their union; their
---                   union with each record below n joined to itself; the closure with these too. An operation on one set has none as its first
+--                   union with each record below n joined to itself; the closure with these too; from 7 on the union of the first and the
+--                   transpose of the second. An operation on one set has none as its first
 --   OneTree op n la ws us r
 --                   of a tree of la words at the front of ws, r words of us are the tree of op's set
 --   TwoTrees op n la lb ws us r
@@ -19,7 +20,7 @@ use mathlib.Core.Path.{_≡_}
 use mathlib.Core.List.{List, map}
 use Prim.Native.Nat.{ℕ, zero, suc, _*_, _≤_}
 use lib.ListN.{length, take, drop}
-use Rattle.k2.specs.PairSets.{Cells, IsSet, setOf, union, intersection, difference, product, closure}
+use Rattle.k2.specs.PairSets.{Cells, IsSet, setOf, union, intersection, difference, product, transpose, closure}
 use Rattle.k2.specs.Trees.{treeWords, treeUnit}
 use Rattle.rows.specs.Rows.{identity, linkPair}
 use Rattle.packing.specs.Reading.{sensed}
@@ -41,7 +42,8 @@ outcome (suc (suc zero)) n a b = difference a b
 outcome (suc (suc (suc zero))) n a b = product n a b
 outcome (suc (suc (suc (suc zero)))) n a b = closure n (union a b)
 outcome (suc (suc (suc (suc (suc zero))))) n a b = union (union a b) (identity n)
-outcome (suc (suc (suc (suc (suc (suc k)))))) n a b = union (closure n (union a b)) (identity n)
+outcome (suc (suc (suc (suc (suc (suc zero)))))) n a b = union (closure n (union a b)) (identity n)
+outcome (suc (suc (suc (suc (suc (suc (suc k))))))) n a b = union a (transpose b)
 
 abbrev pub OneTree : (Cells → Cells) → ℕ → ℕ → List ℕ → List ℕ → ℕ → Type 0
 OneTree op n la ws us r = (a : Cells) → IsSet n a → take la ws ≡ treeWords n a → TreeAt n (op a) us r

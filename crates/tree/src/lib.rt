@@ -2,7 +2,7 @@
 ghost use mathlib.Core.Path.{_≡_};
 ghost use mathlib.Core.Bool.{true};
 ghost use mathlib.Core.List.{[], _∷_, _++_, map};
-ghost use Prim.Native.Nat.{_+_, _*_, _≤_, _<_};
+ghost use Prim.Native.Nat.{ℕ, _+_, _*_, _≤_, _<_};
 ghost use lib.ListN.{length, take, drop};
 ghost use Rattle.k2.specs.Bits.{bitAt};
 ghost use Rattle.k2.specs.PairSets.{Cells, IsSet, setOf, listed, union, intersection, difference, product, transpose, closure};
@@ -10,6 +10,7 @@ ghost use Rattle.k2.specs.PairSetLaws.{PairsBelow};
 ghost use Rattle.k2.specs.Trees.{treeWords, treeUnit, WellFormed};
 ghost use Rattle.rows.specs.Rows.{flat, identity, linkPair};
 ghost use Rattle.packing.specs.Reading.{sensed};
+ghost use Rattle.tree.specs.declared.Answer.the-variants.{Refused};
 ghost use Rattle.tree.specs.Inner.{Room, TreeAt, outcome, OneTree, TwoTrees, OneWithLinks, TwoWithLinks, Guarded};
 ghost use Rattle.tree.specs.Calls.{Found, Settled, Answered, TreeOf, ListOf, TreeOfOne, TreeOfTwo};
 
@@ -114,6 +115,10 @@ fn combine(
     }
     if kind < 4 {
         with_second(kind, work, n, la, lb, sb, words, sense, rows);
+        return;
+    }
+    if 6 < kind {
+        load_last(work, la, lb, n, 1 - sb, words, 1 - sense, rows);
         return;
     }
     load_last(work, la, lb, n, sb, words, sense, rows);
@@ -298,15 +303,12 @@ pub fn put_links_in(work: &mut [u64], n: usize, lb: usize, words: &[u32], sense:
     guarded(0, work, n, 0, lb, 0, 0, words, sense)
 }
 
-// The transpose of both: tree and links read with the other sense.
+// The transpose of both.
 pub fn transpose_with(work: &mut [u64], n: usize, lb: usize, words: &[u32], sense: usize) -> usize
     ensures { λ r. ⌜ Guarded (Room n 0 lb (length (now (work .entry))) × (sense ≤ 1)) (now (work .entry)) (now (work .exit)) r
         (OneWithLinks transpose n lb (now (words .entry)) sense (now (work .entry)) (now (work .exit)) r) ⌝ }
 {
-    if 1 < sense {
-        return 0;
-    }
-    guarded(0, work, n, 0, lb, 0, 1, words, 1 - sense)
+    guarded(7, work, n, 0, lb, 0, 0, words, sense)
 }
 
 // The closure of both together.
@@ -523,19 +525,28 @@ pub fn make(n: usize, pairs: &[u32], out: &mut [u64], work: &mut [u64]) -> Answe
     settle(work, len, out)
 }
 
-// 13 if a tree has more pairs than the list takes; otherwise they are written, ascending.
+// 13 if rows hold more pairs than the list takes; otherwise they are written, ascending.
+fn hand_over(rows: &[u64], n: usize, out: &mut [u32]) -> Answer
+    requires { ⌜ (n ≤ 1024) × (length (now rows) ≡ 16384) ⌝ }
+    ensures unchanged { λ r. ⌜ ((k : ℕ) → r ≡ Refused k → now (out .exit) ≡ now (out .entry)) ⌝ }
+    ensures listed { λ r. ⌜ ((a : Cells) → IsSet n a → bitAt (now (rows .entry)) ≡ flat a → Settled (listed n a) (now (out .entry)) (now (out .exit)) r) ⌝ }
+{
+    let total = rows::count_pairs(rows, n);
+    if out.len() < total {
+        return Answer::Refused(13);
+    }
+    rows::write_pairs(rows, n, out);
+    Answer::Done(total)
+}
+
+// The pairs of a tree handed over.
 fn list_pairs(tree: &[u64], n: usize, out: &mut [u32]) -> Answer
     requires { ⌜ (n ≤ 1024) × (length (now tree) ≤ 21846) ⌝ }
     ensures { λ r. ⌜ ((a : Cells) → IsSet n a → now (tree .entry) ≡ treeWords n a → Settled (listed n a) (now (out .entry)) (now (out .exit)) r) ⌝ }
 {
     let mut rows: [u64; 16384] = [0; 16384];
     packing::load(tree, n, 0, &mut rows);
-    let total = rows::count_pairs(&rows, n);
-    if out.len() < total {
-        return Answer::Refused(13);
-    }
-    rows::write_pairs(&rows, n, out);
-    Answer::Done(total)
+    hand_over(&rows, n, out)
 }
 
 // The pairs of a tree, ascending.
@@ -549,4 +560,34 @@ pub fn list(n: usize, a: &[u64], out: &mut [u32], work: &mut [u64]) -> Answer
         return Answer::Refused(cause);
     }
     list_pairs(a, n, out)
+}
+
+// The pairs of an operation's outcome, by its number, ascending, as `list` hands them over; no tree is made of it. Without room, or with a sense
+// above 1, it is refused with 12.
+pub fn list_with(
+    kind: u8,
+    work: &[u64],
+    n: usize,
+    la: usize,
+    lb: usize,
+    words: &[u32],
+    sense: usize,
+    out: &mut [u32],
+) -> Answer
+    ensures unchanged { λ r. ⌜ ((k : ℕ) → r ≡ Refused k → now (out .exit) ≡ now (out .entry)) ⌝ }
+    ensures listed { λ r. ⌜ (Room n la lb (length (now (work .entry))) → sense ≤ 1
+        → (a b : Cells) → IsSet n a → IsSet n b → take la (now (work .entry)) ≡ treeWords n a → take lb (drop la (now (work .entry))) ≡ treeWords n b
+        → IsSet n (setOf (map linkPair (now (words .entry))))
+        → Settled (listed n (outcome kind n a (union b (sensed sense (setOf (map linkPair (now (words .entry)))))))) (now (out .entry)) (now (out .exit)) r) ⌝ }
+{
+    if 1 < sense {
+        return Answer::Refused(12);
+    }
+    if !room(n, la, lb, work.len()) {
+        return Answer::Refused(12);
+    }
+    let mut rows: [u64; 16384] = [0; 16384];
+    load_at(work, 0, la, n, 0, &mut rows);
+    combine(kind, work, n, la, lb, 0, words, sense, &mut rows);
+    hand_over(&rows, n, out)
 }

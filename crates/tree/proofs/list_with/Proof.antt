@@ -1,0 +1,81 @@
+-- `list_with` has tested the sense, and asked `room` whether there is room; it goes as `operate`, and hands the rows over. Assumes nothing.
+use mathlib.Core.Path.{refl}
+use mathlib.Core.List.{map}
+use native.Mathlib.Omega.{arith}
+use borrow.Author.Needs.{needs}
+use borrow.Author.Tests.{not-true, not-false}
+use lib.ListN.{length}
+use Rattle.k2.specs.PairSets.{Cells, setOf, union}
+use Rattle.rows.specs.Rows.{noPairs, linkPair}
+use Rattle.packing.specs.Reading.{sensed}
+use Rattle.tree.specs.Inner.{Room, outcome}
+use Rattle.tree.proofs.Copies.{wrong}
+use Rattle.tree.proofs.Ops.{rows-none, from-none, last-set, outcome-set}
+use Rattle.tree.proofs.list_with.Statement.{statement}
+use Rattle.tree.proofs.list_with.Tie as tie
+
+-- there is room
+roomy : (c : tie.Else2) → Room (c .before .before .before .before .before .before .args .n) (c .before .before .before .before .before .before .args .la) (c .before .before .before .before .before .before .args .lb) (length (c .before .before .before .before .before .before .args .work .now))
+roomy c = c .before .room .ensures .0 (not-false (c .before .room .result) (c .if2 .left))
+
+returns : tie.Need-returns
+returns c = (λ k e. refl, λ i l. absurd (omega arith))
+
+room-requires : tie.Need-room-requires
+room-requires c κs = search needs
+
+returns-2 : tie.Need-returns-2
+returns-2 c = (λ k e. refl, λ i l. absurd (wrong (not-true (c .before .room .result) (c .if2 .taken)) (c .before .room .ensures .1 i)))
+
+slice-aggregate-load-at : tie.Need-slice-aggregate-load-at
+slice-aggregate-load-at c = search needs
+
+load-at-requires : tie.Need-load-at-requires
+load-at-requires c κs =
+    let m = roomy (c .before) in
+    (m .size, m .first, omega arith, omega (arith, m .first, m .work), search needs)
+
+slice-aggregate-combine : tie.Need-slice-aggregate-combine
+slice-aggregate-combine c = search needs
+
+combine-requires : tie.Need-combine-requires
+combine-requires c κs = (roomy (c .before .before .before .before), omega arith, omega arith, search needs)
+
+slice-aggregate-hand-over : tie.Need-slice-aggregate-hand-over
+slice-aggregate-hand-over c = search needs
+
+hand-over-requires : tie.Need-hand-over-requires
+hand-over-requires c κs = (roomy (c .before .before .before .before .before .before .before .before) .size, search needs)
+
+same-length : tie.Need-same-length
+same-length c = search needs
+
+returns-3 : tie.Need-returns-3
+returns-3 c =
+    let g = c .before .before .before .before .before .before .before .before .before .before .before .before .before .before .before .before .before .args in
+    let n = g .n in
+    let l : Cells = setOf (map linkPair (g .words .now)) in
+    let h = c .before .before .hand-over .ensures in (
+      h .0,
+      λ i k a b ia ib ea eb il.
+          let s : Cells = union b (sensed (g .sense) l) in
+          let r = from-none a _ (c .before .before .before .before .before .before .before .before .before .load-at .ensures a noPairs ia ea rows-none) in
+          h .1 (outcome (g .kind) n a s) (outcome-set (g .kind) n a s ia (last-set n 0 (g .sense) b l ib il))
+          (c .before .before .before .before .before .before .combine .ensures a b ia ib r eb il),
+    )
+
+pub list-with-spec : {M : Type 1} → statement M
+list-with-spec =
+    tie.close
+    (tie.spec
+    returns
+    room-requires
+    returns-2
+    slice-aggregate-load-at
+    load-at-requires
+    slice-aggregate-combine
+    combine-requires
+    slice-aggregate-hand-over
+    hand-over-requires
+    same-length
+    returns-3)
