@@ -276,7 +276,13 @@ fn last(
 }
 
 // The pairs of the whole code, handed over if the list takes them.
-fn hand_over(work: &mut [u64], n: usize, words: &[u32], code: &[u8], list: &mut [u32]) -> PairsAnswer
+fn hand_over(
+    work: &mut [u64],
+    n: usize,
+    words: &[u32],
+    code: &[u8],
+    list: &mut [u32],
+) -> PairsAnswer
     requires { ⌜ (n ≤ 1024) × (32 * treeUnit n ≤ length (now work)) × ((s : List ℕ) × (e : Expr) × Coded s e (now code)) ⌝ }
     ensures unchanged { λ a. ⌜ ((k : ℕ) → a ≡ Refused k → now (list .exit) ≡ now (list .entry)) ⌝ }
     ensures pairs { λ a. ⌜ ((b : Book) → Lettered b n (now (words .entry)) → (s : List ℕ) (e : Expr) → Coded s e (now (code .entry))

@@ -47,7 +47,7 @@ returns c =
     let I = c .before .before .before .before .before .last in (
       λ k e. not-refused _ _ e,
       λ b L s x q.
-          told-handed _ (subst (λ (v : Answer). Told (listed (b .n) (cells (asked b) x)) (A .list .now) _ v) (c .before .answer .given .1)
+          told-handed _ (subst (λ (v : Answer). Told (listed (b .n) (cells (asked b) x)) (A .list .now) (I .last .1 .1 .1 .1 .1 .0) v) (c .before .answer .given .1)
           (going-lists (A .n) (A .words .now) _ (coded-some (A .n) (A .words .now) _ (P .2 .2)) (c .before .before .before .before .before .before .before .before .before .before .before .evaluate .ensures) (I .ensures .1) b L s x q)),
     )
 
@@ -64,7 +64,7 @@ returns-2 c =
     let I = c .before .before .before .before .before .last in (
       λ k e. I .ensures .0 k (c .before .answer2 .given .1 ∙ same-number _ _ e),
       λ b L s x q.
-          told-refused _ (subst (λ (v : Answer). Told (listed (b .n) (cells (asked b) x)) (A .list .now) _ v) (c .before .answer2 .given .1)
+          told-refused _ (subst (λ (v : Answer). Told (listed (b .n) (cells (asked b) x)) (A .list .now) (I .last .1 .1 .1 .1 .1 .0) v) (c .before .answer2 .given .1)
           (going-lists (A .n) (A .words .now) _ (coded-some (A .n) (A .words .now) _ (P .2 .2)) (c .before .before .before .before .before .before .before .before .before .before .before .evaluate .ensures) (I .ensures .1) b L s x q)),
     )
 

@@ -55,7 +55,7 @@ returns-2 : tie.Need-returns-2
 returns-2 c =
     λ s e q. by-code (c .before .before .before .before .before .before .before .before .before .before .before .before .before .before .before .before .args .register) e s (c .before .before .before .before .before .before .before .before .before .before .before .before .before .size .result) _ (take (c .before .before .before .before .before .before .before .before .before .before .links .result .count) (c .before .before .before .before .before .before .before .before .before .before .links .result .words)) _ _ _ _
     (c .before .before .before .before .before .before .before .before .before .before .before .before .before .size .ensures .size) (c .before .before .before .before .before .before .before .before .before .before .links .ensures .linked) q (omega (arith, c .before .before .before .before .before .before .before .before .before .before .before .if1 .left, c .before .before .before .before .before .before .before .before .before .before .before .before .tree-unit .ensures .0))
-    (c .before .before .hand-over .ensures .0) (c .before .before .hand-over .ensures .1)
+    (c .before .before .before .before .hand-over .ensures .0) (c .before .before .before .before .hand-over .ensures .1)
 
 pub of-code-spec : {M : Type 1} → statement M
 of-code-spec =
