@@ -1,11 +1,11 @@
 // Pair questions: an expression's code is run on a stack of k2-trees that lie one after another in the lent work.
 ghost use mathlib.Core.Path.{_≡_};
 ghost use mathlib.Core.List.{List, [], _∷_};
-ghost use Prim.Native.Nat.{ℕ, _+_, _*_, _-_, _<_, _≤_};
-ghost use lib.ListN.{length, take, drop, getD};
+ghost use Prim.Native.Nat.{ℕ, _*_, _-_, _<_, _≤_};
+ghost use lib.ListN.{length, take};
 ghost use Rattle.book.specs.Book.{Book};
-ghost use Rattle.k2.specs.PairSets.{Cells, IsSet, setOf, listed, union};
-ghost use Rattle.k2.specs.Trees.{treeUnit, treeWords};
+ghost use Rattle.k2.specs.PairSets.{Cells, listed};
+ghost use Rattle.k2.specs.Trees.{treeUnit};
 ghost use Rattle.paths.specs.Expressions.{Expr};
 ghost use Rattle.paths.specs.Grammar.{accepted};
 ghost use Rattle.paths.specs.Chains.{asked};
