@@ -1,2 +1,4 @@
 mod Stepping
+mod Running
+mod Operators
 mod Answering

@@ -13,10 +13,9 @@
 --   beside-none     nothing beside
 -- Assumes nothing.
 use mathlib.Core.Path.{_≡_, refl, sym, ap, ap₂, _∙_, subst, fun-ext}
-use mathlib.Core.List.{List, [], _∷_, _++_, append-nil}
+use mathlib.Core.List.{List, [], _∷_, _++_}
 use mathlib.Core.Bool.{Bool, true, false, true≢false}
 use Prim.Native.Nat.{ℕ, zero, suc, _+_, _-_, _*_, _<_, _≤_}
-use native.Mathlib.Nat.{suc-mul}
 use native.Mathlib.Decide.{decLt}
 use native.Mathlib.Omega.{arith}
 use lib.Dec.{eqb}
@@ -28,8 +27,7 @@ use Rattle.book.specs.Book.{Book, present}
 use Rattle.book.specs.Sheets.{Fit}
 use Rattle.k2.specs.PairSets.{Cells, IsSet, pairWord, setOf, union, transpose, product, closure}
 use Rattle.k2.specs.PairSetLaws.{union-set, product-set, transpose-set, closure-set, set-in, in-set, set-past}
-use Rattle.k2.specs.Trees.{treeWords, treeUnit}
-use Rattle.k2.specs.SizeLaws.{treeWords-most}
+use Rattle.k2.specs.Trees.{treeWords}
 use Rattle.paths.specs.Expressions.{Expr, symbol, letter, group, inverse, star, plus, optional, alternative, sequence, depth}
 use Rattle.paths.specs.Grammar.{alternatives, Is}
 use Rattle.paths.specs.Chains.{Graph, asked}

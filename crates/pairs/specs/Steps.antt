@@ -14,7 +14,7 @@
 -- Assumes nothing: these are definitions.
 use mathlib.Core.Path.{_≡_}
 use mathlib.Core.List.{List, [], _∷_}
-use Prim.Native.Nat.{ℕ, suc, _≤_}
+use Prim.Native.Nat.{ℕ, _≤_}
 use lib.ListN.{drop}
 use Rattle.book.specs.Book.{Book}
 use Rattle.book.specs.Sheets.{Fit}

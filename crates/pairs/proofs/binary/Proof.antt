@@ -2,10 +2,8 @@
 -- rest. Assumes nothing.
 use native.Mathlib.Omega.{arith}
 use mathlib.Core.Path.{_≡_}
-use mathlib.Core.List.{List, []}
-use Prim.Native.Nat.{ℕ, _+_, _-_, _*_, _≤_, _<_}
+use Prim.Native.Nat.{ℕ, _-_}
 use lib.ListN.{length, take, drop, getD}
-use Rattle.k2.specs.Trees.{treeUnit}
 use Rattle.pairs.proofs.Stepping.{before-two, lies-two, part-length, goes-two}
 use borrow.Author.Needs.{needs}
 use Rattle.pairs.proofs.binary.Statement.{statement}

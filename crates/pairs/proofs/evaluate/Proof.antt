@@ -2,12 +2,10 @@
 -- as long as it was. The measure is what is left of the code. Assumes nothing.
 use native.Mathlib.Omega.{arith}
 use mathlib.Core.Path.{_≡_, refl, _∙_, subst}
-use mathlib.Core.List.{List, []}
-use Prim.Native.Nat.{ℕ, _+_, _-_, _*_, _≤_, _<_}
-use lib.ListN.{length, take, drop, getD}
-use Rattle.k2.specs.Trees.{treeUnit, treeWords}
+use Prim.Native.Nat.{ℕ, _+_, _-_, _≤_}
+use lib.ListN.{length}
 use Rattle.pairs.specs.Steps.{Going}
-use Rattle.pairs.proofs.Stepping.{coded-some, going-begins, going-room, going-more}
+use Rattle.pairs.proofs.Running.{coded-some, going-begins, going-room, going-more}
 use Rattle.pairs.proofs.evaluate.Statement.{statement}
 use Rattle.pairs.proofs.evaluate.Tie as tie
 

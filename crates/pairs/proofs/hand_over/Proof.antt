@@ -7,7 +7,7 @@ use Rattle.paths.specs.Chains.{asked}
 use Rattle.paths.specs.Relations.{cells}
 use Rattle.tree.specs.Calls.{Settled as Told}
 use Rattle.tree.specs.declared.Answer.{Answer}
-use Rattle.pairs.proofs.Stepping.{coded-some, going-last, going-lists, told-handed, told-refused, not-refused, same-number}
+use Rattle.pairs.proofs.Running.{coded-some, going-last, going-lists, told-handed, told-refused, not-refused, same-number}
 use borrow.Author.Needs.{needs}
 use Rattle.pairs.proofs.hand_over.Statement.{statement}
 use Rattle.pairs.proofs.hand_over.Tie as tie

@@ -1,5 +1,5 @@
--- `pairs::kind` goes by the operator, by the laws of `Stepping`. Assumes nothing.
-use Rattle.pairs.proofs.Stepping.{kind-inverse, kind-star, kind-plus, kind-optional, kind-sequence, kind-union}
+-- `pairs::kind` goes by the operator, by the laws of `Operators`. Assumes nothing.
+use Rattle.pairs.proofs.Operators.{kind-inverse, kind-star, kind-plus, kind-optional, kind-sequence, kind-union}
 use Rattle.pairs.proofs.kind.Statement.{statement}
 use Rattle.pairs.proofs.kind.Tie as tie
 

@@ -4,7 +4,8 @@ use native.Mathlib.Omega.{arith}
 use mathlib.Core.Path.{refl}
 use Prim.Native.Nat.{_-_}
 use lib.ListN.{getD}
-use Rattle.pairs.proofs.Stepping.{before-some, before-one, before-two, before-number, lies-one, lies-two, lists-letter, lists-one, lists-two}
+use Rattle.pairs.proofs.Stepping.{before-some, before-one, before-two, before-number, lies-one, lies-two}
+use Rattle.pairs.proofs.Running.{lists-letter, lists-one, lists-two}
 use borrow.Author.Needs.{needs}
 use Rattle.pairs.proofs.last.Statement.{statement}
 use Rattle.pairs.proofs.last.Tie as tie

@@ -1,12 +1,10 @@
 -- `pairs::of_code` meets its contract: with work enough the pairs of the code over the register's links are handed over.
 -- Assumes nothing.
 use native.Mathlib.Omega.{arith}
-use mathlib.Core.Path.{_≡_, refl, sym, ap, _∙_}
-use mathlib.Core.List.{List, []}
-use Prim.Native.Nat.{ℕ, _+_, _-_, _*_, _≤_, _<_}
-use lib.ListN.{length, take, drop, getD}
+use mathlib.Core.Path.{sym}
+use Prim.Native.Nat.{_≤_}
+use lib.ListN.{length, take}
 use lib.Seq.{length-take-le}
-use Rattle.k2.specs.Trees.{treeUnit, treeWords}
 use Rattle.pairs.proofs.Answering.{little-work, by-code}
 use borrow.Author.Needs.{needs}
 use Rattle.pairs.proofs.of_code.Statement.{statement}

@@ -1,6 +1,6 @@
--- `pairs::on_one` meets its contract: each operator is an operation of the tree, by the laws of `Stepping`. Assumes nothing.
-use native.Mathlib.Omega.{arith}
-use Rattle.pairs.proofs.Stepping.{bounded-tree, is-inverse, is-star, is-plus, is-optional, is-none}
+-- `pairs::on_one` meets its contract: each operator is an operation of the tree, by the laws of `Operators`. Assumes nothing.
+use Rattle.pairs.proofs.Stepping.{bounded-tree}
+use Rattle.pairs.proofs.Operators.{is-inverse, is-star, is-plus, is-optional, is-none}
 use borrow.Author.Needs.{needs}
 use Rattle.pairs.proofs.on_one.Statement.{statement}
 use Rattle.pairs.proofs.on_one.Tie as tie

@@ -2,10 +2,8 @@
 -- Assumes nothing.
 use native.Mathlib.Omega.{arith}
 use mathlib.Core.Path.{_≡_}
-use mathlib.Core.List.{List, []}
-use Prim.Native.Nat.{ℕ, _+_, _-_, _*_, _≤_, _<_}
+use Prim.Native.Nat.{ℕ, _-_}
 use lib.ListN.{length, take, drop, getD}
-use Rattle.k2.specs.Trees.{treeUnit}
 use Rattle.pairs.proofs.Stepping.{lies-one, part-length, topped}
 use borrow.Author.Needs.{needs}
 use Rattle.pairs.proofs.on_top.Statement.{statement}

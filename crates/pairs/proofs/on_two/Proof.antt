@@ -1,6 +1,6 @@
--- `pairs::on_two` meets its contract: each operator is an operation of the tree, by the laws of `Stepping`. Assumes nothing.
-use native.Mathlib.Omega.{arith}
-use Rattle.pairs.proofs.Stepping.{bounded-tree, is-alternative, is-sequence}
+-- `pairs::on_two` meets its contract: each operator is an operation of the tree, by the laws of `Operators`. Assumes nothing.
+use Rattle.pairs.proofs.Stepping.{bounded-tree}
+use Rattle.pairs.proofs.Operators.{is-alternative, is-sequence}
 use borrow.Author.Needs.{needs}
 use Rattle.pairs.proofs.on_two.Statement.{statement}
 use Rattle.pairs.proofs.on_two.Tie as tie

@@ -3,7 +3,6 @@ use borrow.Author.Count.{below-more}
 use Rattle.register.proofs.Keeping.{tested, tested-not, flags-all}
 use Prim.Native.Nat.{ℕ, _-_, _≤_, _<_}
 use native.Mathlib.Omega.{arith}
-use borrow.Author.Needs.{needs}
 use lib.ListN.{length, getD}
 use Rattle.register.proofs.words.flags.Statement.{statement}
 use Rattle.register.proofs.words.flags.Tie as tie

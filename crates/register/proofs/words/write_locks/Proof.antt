@@ -5,7 +5,7 @@ use lib.Seq.{paste, paste-zero}
 use Rattle.register.specs.Words.{lockWord}
 use Rattle.register.proofs.Keeping.{lock-written, locks-written}
 use mathlib.Core.Path.{_≡_, refl}
-use Prim.Native.Nat.{_+_, _-_, _≤_}
+use Prim.Native.Nat.{_-_, _≤_}
 use native.Mathlib.Omega.{arith}
 use borrow.Author.Needs.{needs}
 use lib.ListN.{length, length-set}
