@@ -1,24 +1,24 @@
 -- The whole code, in plain variables: how it begins, goes on and ends with its last number, whose value is listed. Assumes nothing.
 use mathlib.Core.Path.{_≡_, refl, sym, ap, _∙_, subst}
-use mathlib.Core.List.{List, [], _∷_, map}
+use mathlib.Core.List.{List, [], _∷_}
 use Prim.Native.Nat.{ℕ, suc, _+_, _-_, _*_, _<_, _≤_}
 use native.Mathlib.Numerals.{add-one}
 use native.Mathlib.Omega.{arith}
 use lib.ListN.{length, take, drop, getD, set, replicate, length-drop, drop-of-length-le}
 use lib.Seq.{drop-cons, drop-drop}
 use Rattle.book.specs.Book.{Book}
-use Rattle.k2.specs.PairSets.{Cells, IsSet, setOf, listed, union}
+use Rattle.k2.specs.PairSets.{Cells, IsSet, listed, union}
 use Rattle.k2.specs.Trees.{treeUnit, treeWords}
 use Rattle.paths.specs.Expressions.{Expr, letter}
 use Rattle.paths.specs.Chains.{Graph, asked}
 use Rattle.paths.specs.Relations.{crossed, cells}
 use Rattle.register.specs.Questions.{LabelPart}
-use Rattle.rows.specs.Rows.{noPairs, linkPair}
+use Rattle.rows.specs.Rows.{noPairs}
 use Rattle.rows.specs.RowLaws.{none-set, none-tree, union-none}
 use Rattle.reader.specs.Code.{run}
 use Rattle.packing.specs.Reading.{sensed}
-use Rattle.tree.specs.Inner.{Room as TreeRoom, outcome}
-use Rattle.tree.specs.Calls.{Settled as Told, too-long, given}
+use Rattle.tree.specs.Inner.{outcome}
+use Rattle.tree.specs.Calls.{Settled as Told, too-long, given, OutcomeListed}
 use Rattle.tree.specs.declared.Answer.{Answer}
 use Rattle.tree.specs.declared.Answer.the-variants.{Done, Refused as Unlisted}
 use Rattle.pairs.specs.declared.Stack.{Stack}
@@ -76,22 +76,16 @@ module _ (n : ℕ) (ws c : List ℕ) where
 head-same : {x y : Cells} {xs ys : List Cells} → x ∷ xs ≡ y ∷ ys → x ≡ y
 head-same e = cc
 
--- what `list_with` tells of an operation's outcome
-abbrev Outcome : (kind n la lb : ℕ) (links : List ℕ) (sense : ℕ) (ws before after : List ℕ) → Answer → Type 0
-Outcome kind n la lb links sense ws before after r =
-    TreeRoom n la lb (length ws) → sense ≤ 1 → (a b : Cells) → IsSet n a → IsSet n b → take la ws ≡ treeWords n a → take lb (drop la ws) ≡ treeWords n b
-    → IsSet n (setOf (map linkPair links)) → Told (listed n (outcome kind n a (union b (sensed sense (setOf (map linkPair links)))))) before after r
-
 module _ (n op : ℕ) (ws links work before after : List ℕ) (r : Answer) (small : n ≤ 1024) (wide : 32 * treeUnit n ≤ length work) where
   -- a letter alone
-  pub lists-letter : (S : Stack) → op < 26 → LabelPart ws op links → Outcome 0 n 0 0 links 0 work before after r → Lists n ws op work S before after r
+  pub lists-letter : (S : Stack) → op < 26 → LabelPart ws op links → OutcomeListed 0 n 0 0 links 0 work before after r → Lists n ws op work S before after r
   unfolding run asked
   lists-letter S l P told b L e st w =
       let g : Graph = asked b in
       let T : Stack = record { sizes = S .sizes; count = S .count; end = S .end; label = op; sense = 0 } in
       let c : cells g e ≡ crossed g (letter op) = sym (head-same (sym (does-label g op (beside (held g S) st) l) ∙ w .rest)) in
       let t : Told (listed n (union noPairs (union noPairs (letters b n ws links T P L)))) before after r =
-      told (record { size = small; first = omega arith; second = omega arith; work = omega arith }) (omega arith) noPairs noPairs (none-set n) (none-set n) (none-tree n) (none-tree n)
+      told .gives (record { size = small; first = omega arith; second = omega arith; work = omega arith }) (omega arith) noPairs noPairs (none-set n) (none-set n) (none-tree n) (none-tree n)
       (subst (λ (i : ℕ). IsSet i (letters b n ws links T P L)) (sym (L .size)) (letters-set b n ws links T P L)) in
       let q : union noPairs (union noPairs (letters b n ws links T P L)) ≡ cells g e = union-none _ ∙ union-none _ ∙ letters-held b n ws links T P L ∙ sym c in
       subst (λ (i : ℕ). Told (listed i (cells g e)) before after r) (L .size) (subst (λ (x : Cells). Told (listed n x) before after r) q t)
@@ -99,11 +93,11 @@ module _ (n op : ℕ) (ws links work before after : List ℕ) (r : Answer) (smal
   -- an operator on one operand
   module _ (S : Stack) (k start : ℕ) (few : S .count ≤ 19) (P : Placed (treeUnit n) S) (B : LabelPart ws (S .label) links) where
     pub lists-one : 26 ≤ op → op < 30 → 1 ≤ S .count → start ≡ S .end - getD (S .sizes) (S .count - 1) 0 → ((n : ℕ) (x : Cells) → outcome k n noPairs x ≡ onOne n op x)
-        → Outcome k n 0 (getD (S .sizes) (S .count - 1) 0) links (S .sense) (take (length work - start) (drop start work)) before after r → Lists n ws op work S before after r
+        → OutcomeListed k n 0 (getD (S .sizes) (S .count - 1) 0) links (S .sense) (take (length work - start) (drop start work)) before after r → Lists n ws op work S before after r
     unfolding run asked
     lists-one low high some at is told b L e [] w = absurd (omega (arith, runs-operands (relations (asked b)) (w .runs), operands-one op low high))
     lists-one low high some at is made b L e (t ∷ st) w =
-        let told = subst (λ (z : List ℕ). Outcome k n 0 (getD (S .sizes) (S .count - 1) 0) links (S .sense) z before after r) (rest work start) made in
+        let told = subst (λ (z : List ℕ). OutcomeListed k n 0 (getD (S .sizes) (S .count - 1) 0) links (S .sense) z before after r) (rest work start) made in
         let g : Graph = asked b in
         let I = w .lie in
         let T = top (I .sets) (I .sizes) (I .ends) (I .trees) in
@@ -111,7 +105,7 @@ module _ (n op : ℕ) (ws links work before after : List ℕ) (r : Answer) (smal
         let c : cells g e ≡ onOne (b .n) op u = sym (head-same (sym (does-one g (zero-identity b) op u st low high) ∙ w .rest)) in
         let z = lies-one P few some in
         let t′ : Told (listed n (outcome k n noPairs (union t (sensed (S .sense) (letters b n ws links S B L))))) before after r =
-        told (record { size = small; first = omega arith; second = z .1; work = rw (length-drop start work) (omega (arith, z .2)) }) (P .sense) noPairs t (none-set n)
+        told .gives (record { size = small; first = omega arith; second = z .1; work = rw (length-drop start work) (omega (arith, z .2)) }) (P .sense) noPairs t (none-set n)
         (subst (λ (i : ℕ). IsSet i t) (sym (L .size)) (T .set)) (none-tree n)
         (subst (λ (i : ℕ). take (getD (S .sizes) (S .count - 1) 0) (drop start work) ≡ treeWords i t) (sym (L .size)) (ap (λ (j : ℕ). take (getD (S .sizes) (S .count - 1) 0) (drop j work)) at ∙ T .tree))
         (subst (λ (i : ℕ). IsSet i (letters b n ws links S B L)) (sym (L .size)) (letters-set b n ws links S B L)) in
@@ -123,12 +117,12 @@ module _ (n op : ℕ) (ws links work before after : List ℕ) (r : Answer) (smal
     -- and on two
     pub lists-two : 30 ≤ op → 2 ≤ S .count → start ≡ S .end - getD (S .sizes) (S .count - 1) 0 - getD (S .sizes) (S .count - 1 - 1) 0
         → ((n : ℕ) (x y : Cells) → outcome k n x y ≡ onTwo n op x y)
-        → Outcome k n (getD (S .sizes) (S .count - 1 - 1) 0) (getD (S .sizes) (S .count - 1) 0) links (S .sense) (take (length work - start) (drop start work)) before after r → Lists n ws op work S before after r
+        → OutcomeListed k n (getD (S .sizes) (S .count - 1 - 1) 0) (getD (S .sizes) (S .count - 1) 0) links (S .sense) (take (length work - start) (drop start work)) before after r → Lists n ws op work S before after r
     unfolding run asked
     lists-two low some at is told b L e [] w = absurd (omega (arith, runs-operands (relations (asked b)) (w .runs), operands-two op low))
     lists-two low some at is told b L e (y ∷ []) w = absurd (omega (arith, runs-operands (relations (asked b)) (w .runs), operands-two op low))
     lists-two low some at is made b L e (y ∷ x ∷ st) w =
-        let told = subst (λ (z : List ℕ). Outcome k n (getD (S .sizes) (S .count - 1 - 1) 0) (getD (S .sizes) (S .count - 1) 0) links (S .sense) z before after r) (rest work start) made in
+        let told = subst (λ (z : List ℕ). OutcomeListed k n (getD (S .sizes) (S .count - 1 - 1) 0) (getD (S .sizes) (S .count - 1) 0) links (S .sense) z before after r) (rest work start) made in
         let g : Graph = asked b in
         let I = w .lie in
         let T = top (I .sets) (I .sizes) (I .ends) (I .trees) in
@@ -141,7 +135,7 @@ module _ (n op : ℕ) (ws links work before after : List ℕ) (r : Answer) (smal
         let p : take right (drop left (drop start work)) ≡ treeWords (b .n) y =
         ap (take right) (drop-drop left start work ∙ ap (λ (i : ℕ). drop i work) (ap (λ (j : ℕ). j + left) at ∙ sym (U .ends))) ∙ T .tree in
         let t′ : Told (listed n (outcome k n x (union y (sensed (S .sense) (letters b n ws links S B L))))) before after r =
-        told (record { size = small; first = z .3; second = z .1; work = rw (length-drop start work) (omega (arith, z .4)) }) (P .sense) x y
+        told .gives (record { size = small; first = z .3; second = z .1; work = rw (length-drop start work) (omega (arith, z .4)) }) (P .sense) x y
         (subst (λ (i : ℕ). IsSet i x) (sym (L .size)) (U .set)) (subst (λ (i : ℕ). IsSet i y) (sym (L .size)) (T .set))
         (subst (λ (i : ℕ). take left (drop start work) ≡ treeWords i x) (sym (L .size)) (ap (λ (j : ℕ). take left (drop j work)) at ∙ U .tree))
         (subst (λ (i : ℕ). take right (drop left (drop start work)) ≡ treeWords i y) (sym (L .size)) p)

@@ -9,7 +9,7 @@ use lib.Seq.{getD-set-same, getD-set-other}
 use borrow.Author.Tests.{eq-eqb, ne-eqb}
 use Rattle.k2.specs.Bits.{digit, bitAt}
 use Rattle.k2.specs.BitLaws.{bit-out}
-use Rattle.bits.specs.BitSets.{either, both, minus}
+use Rattle.bits.specs.BitSets.{both, minus}
 use Rattle.rows.specs.Steps.{withRow}
 
 abbrev pub Rest : ℕ → List ℕ → List ℕ → Type 0
@@ -20,10 +20,6 @@ rest-more i v a a₀ r j h = getD-set-other a i j v 0 (λ e. omega arith) ∙ r 
 
 -- past the end
 module _ (a b : List ℕ) (p : ℕ) (ha : length a ≤ p / 64) where
-  pub either-out : length b ≤ p / 64 → either (bitAt a) (bitAt b) p ≡ 0
-  unfolding either
-  either-out hb = rw (bit-out a p ha, bit-out b p hb)
-
   pub both-out : both (bitAt a) (bitAt b) p ≡ 0
   unfolding both
   both-out = rw (bit-out a p ha) (omega arith)

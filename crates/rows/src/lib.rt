@@ -11,19 +11,6 @@ ghost use Rattle.bits.specs.BitSets.{none};
 ghost use Rattle.rows.specs.Rows.{flat, identity, linkPair, RowsOf};
 ghost use Rattle.rows.specs.Steps.{Masked, rowAt, Occupied, Masks, Common, served, below, withRow, plusRow};
 
-// The pairs of b put into a.
-pub fn union(a: &mut [u64], b: &[u64])
-    requires { ⌜ (length (now a) ≡ 16384) × (length (now b) ≡ 16384) ⌝ }
-    ensures { λ _. ⌜ ((x y : Cells) → bitAt (now (a .entry)) ≡ flat x → bitAt (now (b .entry)) ≡ flat y
-        → bitAt (now (a .exit)) ≡ flat (union x y)) ⌝ }
-{
-    let mut i = 0;
-    while i < 16384 {
-        a[i] = a[i] | b[i];
-        i += 1;
-    }
-}
-
 // The pairs of a that b lacks taken out of a.
 pub fn intersect(a: &mut [u64], b: &[u64])
     requires { ⌜ (length (now a) ≡ 16384) × (length (now b) ≡ 16384) ⌝ }

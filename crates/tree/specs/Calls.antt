@@ -14,16 +14,22 @@
 --   ListOf n t xs   xs are the pairs of the tree t, ascending
 --   TreeOfOne op n t xs, TreeOfTwo op n t u xs
 --                   xs are the words of the tree of what op makes of the set of the tree t, or of the sets of t and u
+--   OutcomeListed kind n la lb links sense ws before after
+--                   what `list_with` returns, and makes of its list: with room, the pairs of an operation's outcome; without, 12. Refused, the list is as it
+--                   was, whatever the words ws are
 -- Assumes nothing: these are definitions.
 use mathlib.Core.Path.{_≡_}
-use mathlib.Core.List.{List, _++_}
+use mathlib.Core.List.{List, _++_, map}
 use Prim.Native.Nat.{ℕ, suc, _*_, _≤_, _<_}
-use lib.ListN.{length, drop}
+use lib.ListN.{length, take, drop}
 use Rattle.book.specs.Basics.{In}
 use Rattle.book.specs.Causes.{Cause, bad-size, no-record, bad-tree, short-work, short-list, treeOrder, IsFirst, maxRecords}
-use Rattle.k2.specs.PairSets.{Cells, IsSet, setOf, listed}
+use Rattle.k2.specs.PairSets.{Cells, IsSet, setOf, listed, union}
 use Rattle.k2.specs.PairSetLaws.{PairsBelow}
 use Rattle.k2.specs.Trees.{treeWords, treeUnit, WellFormed}
+use Rattle.rows.specs.Rows.{linkPair}
+use Rattle.packing.specs.Reading.{sensed}
+use Rattle.tree.specs.Inner.{Room, outcome}
 use Rattle.tree.specs.declared.Answer.{Answer}
 use Rattle.tree.specs.declared.Answer.the-variants.{Done, Refused}
 
@@ -79,3 +85,9 @@ pub record TreeOfTwo (op : Cells → Cells → Cells) (n : ℕ) (t u xs : List �
   pub first-tree : t ≡ treeWords n first
   pub second-tree : u ≡ treeWords n second
   pub words : xs ≡ treeWords n (op first second)
+
+pub record OutcomeListed (kind n la lb : ℕ) (links : List ℕ) (sense : ℕ) (ws before after : List ℕ) (r : Answer) : Type 0 where
+  pub gives : Room n la lb (length ws) → sense ≤ 1 → (a b : Cells) → IsSet n a → IsSet n b → take la ws ≡ treeWords n a → take lb (drop la ws) ≡ treeWords n b
+      → IsSet n (setOf (map linkPair links)) → Settled (listed n (outcome kind n a (union b (sensed sense (setOf (map linkPair links)))))) before after r
+  pub without : (Room n la lb (length ws) × (sense ≤ 1) → ⊥) → r ≡ Refused 12
+  pub unchanged : (k : ℕ) → r ≡ Refused k → after ≡ before

@@ -1,18 +1,28 @@
-// k2-trees and their algebra.
+// k2-trees in parts of the lent work: the inner operations, and the pairs of an outcome listed. calls.rt has the calls on lent trees, with
+// their refusals.
+mod calls;
+
+pub use calls::closure;
+pub use calls::difference;
+pub use calls::intersection;
+pub use calls::list;
+pub use calls::make;
+pub use calls::product;
+pub use calls::transpose;
+pub use calls::union;
 ghost use mathlib.Core.Path.{_≡_};
 ghost use mathlib.Core.Bool.{true};
-ghost use mathlib.Core.List.{[], _∷_, _++_, map};
-ghost use Prim.Native.Nat.{ℕ, _+_, _*_, _≤_, _<_};
+ghost use mathlib.Core.List.{map};
+ghost use Prim.Native.Nat.{ℕ, _+_, _≤_};
 ghost use lib.ListN.{length, take, drop};
 ghost use Rattle.k2.specs.Bits.{bitAt};
 ghost use Rattle.k2.specs.PairSets.{Cells, IsSet, setOf, listed, union, intersection, difference, product, transpose, closure};
-ghost use Rattle.k2.specs.PairSetLaws.{PairsBelow};
-ghost use Rattle.k2.specs.Trees.{treeWords, treeUnit, WellFormed};
+ghost use Rattle.k2.specs.Trees.{treeWords, treeUnit};
 ghost use Rattle.rows.specs.Rows.{flat, identity, linkPair};
 ghost use Rattle.packing.specs.Reading.{sensed};
 ghost use Rattle.tree.specs.declared.Answer.the-variants.{Refused};
 ghost use Rattle.tree.specs.Inner.{Room, TreeAt, outcome, OneTree, TwoTrees, OneWithLinks, TwoWithLinks, Guarded};
-ghost use Rattle.tree.specs.Calls.{Found, Settled, Answered, TreeOf, ListOf, TreeOfOne, TreeOfTwo};
+ghost use Rattle.tree.specs.Calls.{Settled, OutcomeListed};
 
 pub enum Answer {
     Done(usize),
@@ -365,166 +375,6 @@ pub fn product_with(
     guarded(3, work, n, la, lb, 0, 0, words, sense)
 }
 
-// Are both ends of each pair below n?
-fn pairs_below(pairs: &[u32], n: usize) -> bool
-    ensures { λ r. ⌜ (r ≡ true → PairsBelow n (now (pairs .entry))) × (PairsBelow n (now (pairs .entry)) → r ≡ true) ⌝ }
-{
-    let mut i = 0;
-    while i < pairs.len() {
-        let p = pairs[i];
-        if n <= (p / 1024) as usize {
-            return false;
-        }
-        if n <= (p % 1024) as usize {
-            return false;
-        }
-        i += 1;
-    }
-    true
-}
-
-// The number of the first cause against n, the pairs, the trees and the length of the work, in this order; 0 if there is none.
-fn refusal(n: usize, pairs: &[u32], a: &[u64], b: &[u64], room: usize) -> u32
-    ensures { λ r. ⌜ Found n (now (pairs .entry)) (WellFormed n (now (a .entry)) × WellFormed n (now (b .entry))) room r ⌝ }
-{
-    if n < 1 {
-        return 1;
-    }
-    if 1024 < n {
-        return 1;
-    }
-    if !pairs_below(pairs, n) {
-        return 2;
-    }
-    if !packing::well_formed(a, n) {
-        return 11;
-    }
-    if !packing::well_formed(b, n) {
-        return 11;
-    }
-    if room < 32 * packing::tree_unit(n) {
-        return 12;
-    }
-    0
-}
-
-// Words copied to a place from word `at` on.
-fn copy(from: &[u64], to: &mut [u64], at: usize)
-    requires { ⌜ at + length (now from) ≤ length (now to) ⌝ }
-    ensures { λ _. ⌜ now (to .exit) ≡ take at (now (to .entry)) ++ (now (from .entry) ++ drop (at + length (now (from .entry))) (now (to .entry))) ⌝ }
-{
-    let mut i = 0;
-    while i < from.len() {
-        to[at + i] = from[i];
-        i += 1;
-    }
-}
-
-// 13 if the tree at the front of work is longer than its list; otherwise it is handed over.
-fn settle(work: &[u64], len: usize, out: &mut [u64]) -> Answer
-    requires { ⌜ len ≤ length (now work) ⌝ }
-    ensures { λ r. ⌜ Settled (take len (now (work .entry))) (now (out .entry)) (now (out .exit)) r ⌝ }
-{
-    if out.len() < len {
-        return Answer::Refused(13);
-    }
-    copy(&work[..len], out, 0);
-    Answer::Done(len)
-}
-
-// An operation on two lent trees, by its number.
-fn binary(kind: u8, n: usize, a: &[u64], b: &[u64], out: &mut [u64], work: &mut [u64]) -> Answer
-    ensures { λ r. ⌜ Answered n [] (now (a .entry) ∷ now (b .entry) ∷ []) (length (now (work .entry)))
-        (TreeOfTwo (outcome kind n) n (now (a .entry)) (now (b .entry))) (now (out .entry)) (now (out .exit)) r ⌝ }
-{
-    let none: [u32; 1] = [0; 1];
-    let cause = refusal(n, &none[..0], a, b, work.len());
-    if cause != 0 {
-        return Answer::Refused(cause);
-    }
-    copy(a, work, 0);
-    copy(b, work, a.len());
-    let len = operate_on(kind, work, n, a.len(), b.len(), 0, 0);
-    settle(work, len, out)
-}
-
-// The tree of the pairs in either.
-pub fn union(n: usize, a: &[u64], b: &[u64], out: &mut [u64], work: &mut [u64]) -> Answer
-    ensures { λ r. ⌜ Answered n [] (now (a .entry) ∷ now (b .entry) ∷ []) (length (now (work .entry)))
-        (TreeOfTwo union n (now (a .entry)) (now (b .entry))) (now (out .entry)) (now (out .exit)) r ⌝ }
-{
-    binary(0, n, a, b, out, work)
-}
-
-// The tree of the pairs in both.
-pub fn intersection(n: usize, a: &[u64], b: &[u64], out: &mut [u64], work: &mut [u64]) -> Answer
-    ensures { λ r. ⌜ Answered n [] (now (a .entry) ∷ now (b .entry) ∷ []) (length (now (work .entry)))
-        (TreeOfTwo intersection n (now (a .entry)) (now (b .entry))) (now (out .entry)) (now (out .exit)) r ⌝ }
-{
-    binary(1, n, a, b, out, work)
-}
-
-// The tree of the pairs in the first and not in the second.
-pub fn difference(n: usize, a: &[u64], b: &[u64], out: &mut [u64], work: &mut [u64]) -> Answer
-    ensures { λ r. ⌜ Answered n [] (now (a .entry) ∷ now (b .entry) ∷ []) (length (now (work .entry)))
-        (TreeOfTwo difference n (now (a .entry)) (now (b .entry))) (now (out .entry)) (now (out .exit)) r ⌝ }
-{
-    binary(2, n, a, b, out, work)
-}
-
-// The tree of the product: the pairs for which some middle record serves.
-pub fn product(n: usize, a: &[u64], b: &[u64], out: &mut [u64], work: &mut [u64]) -> Answer
-    ensures { λ r. ⌜ Answered n [] (now (a .entry) ∷ now (b .entry) ∷ []) (length (now (work .entry)))
-        (TreeOfTwo (product n) n (now (a .entry)) (now (b .entry))) (now (out .entry)) (now (out .exit)) r ⌝ }
-{
-    binary(3, n, a, b, out, work)
-}
-
-// The tree of the pairs exchanged.
-pub fn transpose(n: usize, a: &[u64], out: &mut [u64], work: &mut [u64]) -> Answer
-    ensures { λ r. ⌜ Answered n [] (now (a .entry) ∷ []) (length (now (work .entry)))
-        (TreeOfOne transpose n (now (a .entry))) (now (out .entry)) (now (out .exit)) r ⌝ }
-{
-    let none: [u32; 1] = [0; 1];
-    let cause = refusal(n, &none[..0], a, &a[..0], work.len());
-    if cause != 0 {
-        return Answer::Refused(cause);
-    }
-    copy(a, work, 0);
-    let len = transpose_in(work, n, a.len());
-    settle(work, len, out)
-}
-
-// The tree of the closure: one or more pairs that lead from one to the other.
-pub fn closure(n: usize, a: &[u64], out: &mut [u64], work: &mut [u64]) -> Answer
-    ensures { λ r. ⌜ Answered n [] (now (a .entry) ∷ []) (length (now (work .entry)))
-        (TreeOfOne (closure n) n (now (a .entry))) (now (out .entry)) (now (out .exit)) r ⌝ }
-{
-    let none: [u32; 1] = [0; 1];
-    let cause = refusal(n, &none[..0], a, &a[..0], work.len());
-    if cause != 0 {
-        return Answer::Refused(cause);
-    }
-    copy(a, work, 0);
-    let len = closure_in(work, n, a.len());
-    settle(work, len, out)
-}
-
-// The tree of a list of pair words, in any order and with repeats.
-pub fn make(n: usize, pairs: &[u32], out: &mut [u64], work: &mut [u64]) -> Answer
-    ensures { λ r. ⌜ Answered n (now (pairs .entry)) [] (length (now (work .entry)))
-        (TreeOf n (now (pairs .entry))) (now (out .entry)) (now (out .exit)) r ⌝ }
-{
-    let none: [u64; 1] = [0; 1];
-    let empty = &none[..0];
-    let cause = refusal(n, pairs, empty, empty, work.len());
-    if cause != 0 {
-        return Answer::Refused(cause);
-    }
-    let len = letter_in(work, n, pairs);
-    settle(work, len, out)
-}
-
 // 13 if rows hold more pairs than the list takes; otherwise they are written, ascending.
 fn hand_over(rows: &[u64], n: usize, out: &mut [u32]) -> Answer
     requires { ⌜ (n ≤ 1024) × (length (now rows) ≡ 16384) ⌝ }
@@ -539,29 +389,6 @@ fn hand_over(rows: &[u64], n: usize, out: &mut [u32]) -> Answer
     Answer::Done(total)
 }
 
-// The pairs of a tree handed over.
-fn list_pairs(tree: &[u64], n: usize, out: &mut [u32]) -> Answer
-    requires { ⌜ (n ≤ 1024) × (length (now tree) ≤ 21846) ⌝ }
-    ensures { λ r. ⌜ ((a : Cells) → IsSet n a → now (tree .entry) ≡ treeWords n a → Settled (listed n a) (now (out .entry)) (now (out .exit)) r) ⌝ }
-{
-    let mut rows: [u64; 16384] = [0; 16384];
-    packing::load(tree, n, 0, &mut rows);
-    hand_over(&rows, n, out)
-}
-
-// The pairs of a tree, ascending.
-pub fn list(n: usize, a: &[u64], out: &mut [u32], work: &mut [u64]) -> Answer
-    ensures { λ r. ⌜ Answered n [] (now (a .entry) ∷ []) (length (now (work .entry)))
-        (ListOf n (now (a .entry))) (now (out .entry)) (now (out .exit)) r ⌝ }
-{
-    let none: [u32; 1] = [0; 1];
-    let cause = refusal(n, &none[..0], a, &a[..0], work.len());
-    if cause != 0 {
-        return Answer::Refused(cause);
-    }
-    list_pairs(a, n, out)
-}
-
 // The pairs of an operation's outcome, by its number, ascending, as `list` hands them over; no tree is made of it. Without room, or with a sense
 // above 1, it is refused with 12.
 pub fn list_with(
@@ -574,11 +401,7 @@ pub fn list_with(
     sense: usize,
     out: &mut [u32],
 ) -> Answer
-    ensures unchanged { λ r. ⌜ ((k : ℕ) → r ≡ Refused k → now (out .exit) ≡ now (out .entry)) ⌝ }
-    ensures listed { λ r. ⌜ (Room n la lb (length (now (work .entry))) → sense ≤ 1
-        → (a b : Cells) → IsSet n a → IsSet n b → take la (now (work .entry)) ≡ treeWords n a → take lb (drop la (now (work .entry))) ≡ treeWords n b
-        → IsSet n (setOf (map linkPair (now (words .entry))))
-        → Settled (listed n (outcome kind n a (union b (sensed sense (setOf (map linkPair (now (words .entry)))))))) (now (out .entry)) (now (out .exit)) r) ⌝ }
+    ensures { λ r. ⌜ OutcomeListed kind n la lb (now (words .entry)) sense (now (work .entry)) (now (out .entry)) (now (out .exit)) r ⌝ }
 {
     if 1 < sense {
         return Answer::Refused(12);

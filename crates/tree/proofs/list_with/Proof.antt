@@ -19,13 +19,17 @@ roomy : (c : tie.Else2) → Room (c .before .before .before .before .before .bef
 roomy c = c .before .room .ensures .0 (not-false (c .before .room .result) (c .if2 .left))
 
 returns : tie.Need-returns
-returns c = (λ k e. refl, λ i l. absurd (omega arith))
+returns c = record { gives = λ i l. absurd (omega arith); without = λ f. refl; unchanged = λ k e. refl }
 
 room-requires : tie.Need-room-requires
 room-requires c κs = search needs
 
 returns-2 : tie.Need-returns-2
-returns-2 c = (λ k e. refl, λ i l. absurd (wrong (not-true (c .before .room .result) (c .if2 .taken)) (c .before .room .ensures .1 i)))
+returns-2 c = record {
+  gives = λ i l. absurd (wrong (not-true (c .before .room .result) (c .if2 .taken)) (c .before .room .ensures .1 i));
+  without = λ f. refl;
+  unchanged = λ k e. refl;
+}
 
 slice-aggregate-load-at : tie.Need-slice-aggregate-load-at
 slice-aggregate-load-at c = search needs
@@ -55,14 +59,16 @@ returns-3 c =
     let g = c .before .before .before .before .before .before .before .before .before .before .before .before .before .before .before .before .before .args in
     let n = g .n in
     let l : Cells = setOf (map linkPair (g .words .now)) in
-    let h = c .before .before .hand-over .ensures in (
-      h .0,
-      λ i k a b ia ib ea eb il.
+    let h = c .before .before .hand-over .ensures in
+    let m = roomy (c .before .before .before .before .before .before .before .before .before .before .before) in
+    record {
+      gives = λ i k a b ia ib ea eb il.
           let s : Cells = union b (sensed (g .sense) l) in
           let r = from-none a _ (c .before .before .before .before .before .before .before .before .before .load-at .ensures a noPairs ia ea rows-none) in
-          h .1 (outcome (g .kind) n a s) (outcome-set (g .kind) n a s ia (last-set n 0 (g .sense) b l ib il))
-          (c .before .before .before .before .before .before .combine .ensures a b ia ib r eb il),
-    )
+          h .1 (outcome (g .kind) n a s) (outcome-set (g .kind) n a s ia (last-set n 0 (g .sense) b l ib il)) (c .before .before .before .before .before .before .combine .ensures a b ia ib r eb il);
+      without = λ f. absurd (f (m, omega arith));
+      unchanged = h .0;
+    }
 
 pub list-with-spec : {M : Type 1} → statement M
 list-with-spec =

@@ -5,8 +5,8 @@ use borrow.Author.Needs.{needs}
 use lib.ListN.{length-take}
 use Rattle.tree.specs.Calls.{too-long}
 use Rattle.tree.proofs.Copies.{settled}
-use Rattle.tree.proofs.settle.Statement.{statement}
-use Rattle.tree.proofs.settle.Tie as tie
+use Rattle.tree.proofs.calls.settle.Statement.{statement}
+use Rattle.tree.proofs.calls.settle.Tie as tie
 
 returns : tie.Need-returns
 returns c = too-long (rw length-take (omega arith)) refl

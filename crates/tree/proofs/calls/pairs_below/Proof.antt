@@ -6,8 +6,8 @@ use native.Mathlib.Omega.{arith}
 use borrow.Author.Count.{below-more}
 use lib.ListN.{length, getD}
 use Rattle.tree.proofs.Copies.{below-all, below-at, off}
-use Rattle.tree.proofs.pairs_below.Statement.{statement}
-use Rattle.tree.proofs.pairs_below.Tie as tie
+use Rattle.tree.proofs.calls.pairs_below.Statement.{statement}
+use Rattle.tree.proofs.calls.pairs_below.Tie as tie
 
 abbrev Inv-loop : tie.InvT-loop
 Inv-loop pairs n i₀ i = (i ≤ length pairs) × ((k : ℕ) → k < i → (getD pairs k 0 / 1024 < n) × (getD pairs k 0 % 1024 < n))

@@ -13,8 +13,8 @@ use Rattle.rows.specs.RowLaws.{pair-links}
 use Rattle.tree.specs.Inner.{Room}
 use Rattle.tree.specs.Calls.{TreeOf}
 use Rattle.tree.proofs.Answers.{refuse, accept, met, formed-none}
-use Rattle.tree.proofs.make.Statement.{statement}
-use Rattle.tree.proofs.make.Tie as tie
+use Rattle.tree.proofs.calls.make.Statement.{statement}
+use Rattle.tree.proofs.calls.make.Tie as tie
 
 -- no cause was found
 none : (c : tie.Else1) → (1 ≤ c .before .before .before .before .before .before .args .n) × (c .before .before .before .before .before .before .args .n ≤ 1024) × PairsBelow (c .before .before .before .before .before .before .args .n) (c .before .before .before .before .before .before .args .pairs .now)

@@ -12,8 +12,8 @@ use Rattle.k2.specs.TreeLaws.{tree-none}
 use Rattle.k2.specs.SizeLaws.{treeUnit-most}
 use Rattle.tree.specs.Calls.{ListOf}
 use Rattle.tree.proofs.Answers.{refuse, accept, met, formed-one, one-formed, formed-most, list-only}
-use Rattle.tree.proofs.list.Statement.{statement}
-use Rattle.tree.proofs.list.Tie as tie
+use Rattle.tree.proofs.calls.list.Statement.{statement}
+use Rattle.tree.proofs.calls.list.Tie as tie
 
 -- no cause was found
 none : (c : tie.Else1) → (1 ≤ c .before .before .before .before .before .before .before .args .n) × (c .before .before .before .before .before .before .before .args .n ≤ 1024) × PairsBelow (c .before .before .before .before .before .before .before .args .n) []

@@ -1,11 +1,11 @@
--- `transpose` hands over the first cause, or copies the tree to the front of work and has the operation done there. Assumes nothing.
+-- `closure` hands over the first cause, or copies the tree to the front of work and has the operation done there. Assumes nothing.
 use mathlib.Core.Path.{_≡_, refl, _∙_}
 use mathlib.Core.List.{[], _∷_}
 use Prim.Native.Nat.{_*_, _≤_}
 use native.Mathlib.Omega.{arith}
 use borrow.Author.Needs.{needs}
 use lib.ListN.{length, take}
-use Rattle.k2.specs.PairSets.{transpose}
+use Rattle.k2.specs.PairSets.{closure}
 use Rattle.k2.specs.PairSetLaws.{PairsBelow}
 use Rattle.k2.specs.Trees.{treeUnit, WellFormed}
 use Rattle.k2.specs.TreeLaws.{tree-none}
@@ -13,8 +13,8 @@ use Rattle.tree.specs.Inner.{Room}
 use Rattle.tree.specs.Calls.{TreeOfOne}
 use Rattle.tree.proofs.Answers.{refuse, accept, met, formed-one, one-formed, formed-most, one-only}
 use Rattle.tree.proofs.Copies.{copied-one}
-use Rattle.tree.proofs.transpose.Statement.{statement}
-use Rattle.tree.proofs.transpose.Tie as tie
+use Rattle.tree.proofs.calls.closure.Statement.{statement}
+use Rattle.tree.proofs.calls.closure.Tie as tie
 
 -- no cause was found
 none : (c : tie.Else1) → (1 ≤ c .before .before .before .before .before .before .before .args .n) × (c .before .before .before .before .before .before .before .args .n ≤ 1024) × PairsBelow (c .before .before .before .before .before .before .before .args .n) []
@@ -36,19 +36,19 @@ refusal-requires c κs = search needs
 returns : tie.Need-returns
 returns c =
     let a = c .before .before .before .before .before .before .before .args in
-    refuse (a .n) [] (a .a .now ∷ []) (length (a .work .now)) (TreeOfOne (transpose) (a .n) (a .a .now)) (a .out .now) (a .out .now)
+    refuse (a .n) [] (a .a .now ∷ []) (length (a .work .now)) (TreeOfOne (closure (a .n)) (a .n) (a .a .now)) (a .out .now) (a .out .now)
     (λ t. formed-one (t .0)) (λ f. (one-formed f, tree-none (a .n))) (c .before .refusal .ensures) (c .if1 .taken) refl
 
 copy-requires : tie.Need-copy-requires
 copy-requires c κs = let m = none (c .before) in omega (arith, formed-most (m .3 .0), m .4)
 
-transpose-in-requires : tie.Need-transpose-in-requires
-transpose-in-requires c κs = search needs
+closure-in-requires : tie.Need-closure-in-requires
+closure-in-requires c κs = search needs
 
 settle-requires : tie.Need-settle-requires
 settle-requires c κs =
-    let k : length (c .before .before .before .before .transpose-in .last .0) ≡ length (c .before .before .before .before .before .before .before .before .copy .last .1 .0) = c .before .before .before .before .transpose-in .kept .0 in
-    omega (arith, c .before .before .before .before .transpose-in .ensures .most)
+    let k : length (c .before .before .before .before .closure-in .last .0) ≡ length (c .before .before .before .before .before .before .before .before .copy .last .1 .0) = c .before .before .before .before .closure-in .kept .0 in
+    omega (arith, c .before .before .before .before .closure-in .ensures .most)
 
 same-length : tie.Need-same-length
 same-length c = search needs
@@ -63,13 +63,13 @@ returns-2 c =
     let v = m .3 .0 in
     let k : length (c .before .before .before .before .before .before .before .before .before .before .before .copy .last .1 .0) ≡ length (a .work .now) = c .before .before .before .before .before .before .before .before .before .before .before .copy .kept .1 .0 in
     let o : Room (a .n) (length (a .a .now)) 0 (length (c .before .before .before .before .before .before .before .before .before .before .before .copy .last .1 .0)) = record { size = m .1; first = formed-most (m .3 .0); second = omega arith; work = omega (arith, m .4) } in
-    let r = c .before .before .before .before .before .before .before .transpose-in .ensures .done o (v .set) (v .is-set) (copied-one (a .a .now) (a .work .now) _ (c .before .before .before .before .before .before .before .before .before .before .before .copy .ensures) ∙ v .tree) in
-    let g : TreeOfOne (transpose) (a .n) (a .a .now) (take (c .before .before .before .before .before .before .before .transpose-in .result) (c .before .before .before .before .before .before .before .transpose-in .last .0)) = record { set = v .set; is-set = v .is-set; tree = v .tree; words = r .words } in
-    accept (a .n) [] (a .a .now ∷ []) (length (a .work .now)) (TreeOfOne (transpose) (a .n) (a .a .now)) (a .out .now) _
+    let r = c .before .before .before .before .before .before .before .closure-in .ensures .done o (v .set) (v .is-set) (copied-one (a .a .now) (a .work .now) _ (c .before .before .before .before .before .before .before .before .before .before .before .copy .ensures) ∙ v .tree) in
+    let g : TreeOfOne (closure (a .n)) (a .n) (a .a .now) (take (c .before .before .before .before .before .before .before .closure-in .result) (c .before .before .before .before .before .before .before .closure-in .last .0)) = record { set = v .set; is-set = v .is-set; tree = v .tree; words = r .words } in
+    accept (a .n) [] (a .a .now ∷ []) (length (a .work .now)) (TreeOfOne (closure (a .n)) (a .n) (a .a .now)) (a .out .now) _
     (λ t. formed-one (t .0)) (c .before .before .before .before .before .before .before .before .before .before .before .before .before .before .refusal .ensures) (c .before .before .before .before .before .before .before .before .before .before .before .before .before .if1 .left) _ g (λ ys q. one-only g q) (c .before .before .settle .ensures)
 
-pub transpose-spec : {M : Type 1} → statement M
-transpose-spec =
+pub closure-spec : {M : Type 1} → statement M
+closure-spec =
     tie.close
     (tie.spec
     array-share-prefix-none
@@ -78,7 +78,7 @@ transpose-spec =
     refusal-requires
     returns
     copy-requires
-    transpose-in-requires
+    closure-in-requires
     settle-requires
     same-length
     same-length-2

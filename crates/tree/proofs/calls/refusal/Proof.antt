@@ -4,8 +4,8 @@ use borrow.Author.Needs.{needs}
 use borrow.Author.Tests.{not-true, not-false}
 use Rattle.tree.specs.Calls.{found-size, found-pairs, found-trees, found-work, found-none}
 use Rattle.tree.proofs.Copies.{wrong}
-use Rattle.tree.proofs.refusal.Statement.{statement}
-use Rattle.tree.proofs.refusal.Tie as tie
+use Rattle.tree.proofs.calls.refusal.Statement.{statement}
+use Rattle.tree.proofs.calls.refusal.Tie as tie
 
 returns : tie.Need-returns
 returns c = found-size (λ s. omega (arith, s .0))

@@ -2,8 +2,8 @@
 use borrow.Author.Needs.{needs}
 use Rattle.rows.specs.Rows.{noPairs}
 use Rattle.tree.proofs.Ops.{rows-none, from-none}
-use Rattle.tree.proofs.list_pairs.Statement.{statement}
-use Rattle.tree.proofs.list_pairs.Tie as tie
+use Rattle.tree.proofs.calls.list_pairs.Statement.{statement}
+use Rattle.tree.proofs.calls.list_pairs.Tie as tie
 
 slice-aggregate-load : tie.Need-slice-aggregate-load
 slice-aggregate-load c = search needs

@@ -6,8 +6,8 @@ use native.Mathlib.Omega.{arith}
 use borrow.Author.Needs.{needs}
 use lib.ListN.{length, length-set}
 use Rattle.tree.proofs.Copies.{Copied, copy-none, copy-more, copy-all}
-use Rattle.tree.proofs.copy.Statement.{statement}
-use Rattle.tree.proofs.copy.Tie as tie
+use Rattle.tree.proofs.calls.copy.Statement.{statement}
+use Rattle.tree.proofs.calls.copy.Tie as tie
 
 abbrev Inv-loop : tie.InvT-loop
 Inv-loop from to₀ at i₀ to i = (i ≤ length from) × (length to ≡ length to₀) × ((h : at + length from ≤ length to₀) → Copied from to₀ at h i to)

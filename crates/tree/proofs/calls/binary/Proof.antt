@@ -12,8 +12,8 @@ use Rattle.tree.specs.Inner.{Room, outcome}
 use Rattle.tree.specs.Calls.{TreeOfTwo}
 use Rattle.tree.proofs.Answers.{refuse, accept, met, formed-two, two-formed, formed-most, two-only}
 use Rattle.tree.proofs.Copies.{copied-two}
-use Rattle.tree.proofs.binary.Statement.{statement}
-use Rattle.tree.proofs.binary.Tie as tie
+use Rattle.tree.proofs.calls.binary.Statement.{statement}
+use Rattle.tree.proofs.calls.binary.Tie as tie
 
 -- no cause was found
 none : (c : tie.Else1) → (1 ≤ c .before .before .before .before .before .before .before .args .n) × (c .before .before .before .before .before .before .before .args .n ≤ 1024) × PairsBelow (c .before .before .before .before .before .before .before .args .n) []
