@@ -1,0 +1,196 @@
+-- `children` goes from one quarter that is not empty to the next and writes its square. The loop's invariant: the quarters passed that are not empty are
+-- behind the m squares, and the quarter reached, if there is one, is not empty. The measure is the quarters left. It rests on `dive-child`, `dive-gap` and
+-- `dive-all`. Assumes nothing.
+use mathlib.Core.Path.{_≡_, refl, sym, ap, _∙_}
+use Prim.Native.Nat.{ℕ, _+_, _-_, _*_, _/_, _%_, _^_, _≤_, _<_}
+use native.Mathlib.Nat.{lt-of-lt-of-le}
+use native.Mathlib.Omega.{arith}
+use lib.ListN.{length, length-set}
+use lib.Pow.{pow-pos}
+use Rattle.k2.specs.Bits.{digit, bitAt}
+use Rattle.k2.specs.BitLaws.{bit-within}
+use Rattle.k2.specs.PairSets.{Cells, union}
+use Rattle.k2.specs.Trees.{childPlace}
+use Rattle.packing.specs.Reading.{turned, inside, quartersTo, Reads, squareBit, squareRow, squareColumn, squaresTo, Fits, FitAll, ReadAll}
+use Rattle.packing.proofs.Loads.{one-le, quarters-none, quarters-more, quarter-in, quarter-even, dive-child, dive-gap, dive-all}
+use Rattle.packing.proofs.Lists.{all-set, squares-set}
+use Rattle.packing.proofs.loading.children.Statement.{statement}
+use Rattle.packing.proofs.loading.children.Tie as tie
+
+abbrev Inv-loop : tie.InvT-loop
+Inv-loop tree before h b x y sense next₀ m v s k₀ q₀ next k q =
+    (q ≤ 4) × (q < 4 → digit v q ≡ 1) × (k ≤ m + q) × (length next ≡ length next₀) × FitAll (h - 1) next 0 k
+    × ((t : Cells) → Reads sense tree h b x y t → ReadAll sense tree (h - 1) next₀ 0 m t
+    → ReadAll sense tree (h - 1) next 0 k t × (squaresTo k (h - 1) next 0 t ≡ union (squaresTo m (h - 1) next₀ 0 t) (quartersTo q (h - 1) x y t)))
+
+abbrev μ-loop : tie.MeasureT-loop
+μ-loop tree before h b x y sense next₀ m v s k₀ q₀ next k q = 4 - q
+
+square-requires : tie.Need-square-requires Inv-loop μ-loop
+square-requires c κs = (c .before .before .before .pre .2, c .before .before .before .pre .7)
+
+half-requires : tie.Need-half-requires Inv-loop μ-loop
+half-requires c κs = (c .before .before .before .before .pre .0, c .before .before .before .before .pre .1)
+
+next-one-requires : tie.Need-next-one-requires Inv-loop μ-loop
+next-one-requires c κs = (c .before .square .ensures .0, omega arith)
+
+loop-holds : tie.Need-loop-holds Inv-loop μ-loop
+loop-holds c =
+    let a = c .before .before .before .before .before .before .args in
+    let f = c .next-one .ensures in
+    let v = c .before .before .square .ensures .1 in (
+      f .1,
+      f .3,
+      omega arith,
+      refl,
+      c .before .before .before .before .before .before .pre .12,
+      λ u n r. (
+        r,
+        quarters-none (a .h - 1) (a .x) (a .y) u (squaresTo (a .m) (a .h - 1) (a .next .now) 0 u)
+            ∙ dive-gap (a .sense) (a .tree .now) (a .h) (a .b) (a .x) (a .y) u (squaresTo (a .m) (a .h - 1) (a .next .now) 0 u) (one-le (c .before .before .before .before .before .before .pre .0)) n 0 (c .next-one .result) (f .0) (f .1) (λ j l m. sym (v j (lt-of-lt-of-le m (f .1))) ∙ f .2 j l m),
+      ),
+    )
+
+turn-requires : tie.Need-turn-requires Inv-loop μ-loop
+turn-requires c κs = (c .loop-test .taken, c .before .before .before .before .before .before .before .before .pre .7)
+
+add-child : tie.Need-add-child Inv-loop μ-loop
+add-child c = omega arith
+
+child-requires : tie.Need-child-requires Inv-loop μ-loop
+child-requires c κs =
+    let w = c .before .before .before .before .before .before .before .before .before .pre in
+    let a = c .before .before .before .before .before .before .before .before .before .args in
+    let l = c .before .before .loop in
+    let u = c .turn in
+    let o : bitAt (a .tree .now) (a .b + u .result) ≡ 1 = rw (u .ensures .0) (sym (c .before .before .before .before .before .square .ensures .1 (l .q) (c .before .loop-test .taken)) ∙ l .inv .1 (c .before .loop-test .taken)) in
+    (bit-within (a .tree .now) (a .b + u .result) (λ z. omega arith), w .8, w .9, w .10)
+
+-- the quarter is in the rows
+fits : (c : tie.After-child Inv-loop μ-loop)
+    → (c .before .before .before .before .before .before .before .before .before .before .args .x + c .before .before .before .loop .q / 2 * c .before .before .before .before .before .half .result + c .before .before .before .before .before .half .result ≤ 1024)
+    × (c .before .before .before .before .before .before .before .before .before .before .args .y + c .before .before .before .loop .q % 2 * c .before .before .before .before .before .half .result + c .before .before .before .before .before .half .result ≤ 1024)
+fits c =
+    let l = c .before .before .before .loop in
+    let s = c .before .before .before .before .before .half in
+    let a = c .before .before .before .before .before .before .before .before .before .before .args in
+    quarter-in (l .q) (s .result) (2 ^ a .h) (a .x) (a .y) (c .before .before .loop-test .taken) (s .ensures .1) (c .before .before .before .before .before .before .before .before .before .before .pre .4) (c .before .before .before .before .before .before .before .before .before .before .pre .5)
+
+mul-square-number : tie.Need-mul-square-number Inv-loop μ-loop
+mul-square-number c = let f = fits (c) in omega arith
+
+add-square-number : tie.Need-add-square-number Inv-loop μ-loop
+add-square-number c = let f = fits (c) in omega arith
+
+mul-square-number-2 : tie.Need-mul-square-number-2 Inv-loop μ-loop
+mul-square-number-2 c = let f = fits (c) in omega arith
+
+add-square-number-2 : tie.Need-add-square-number-2 Inv-loop μ-loop
+add-square-number-2 c = let f = fits (c) in omega arith
+
+square-number-requires : tie.Need-square-number-requires Inv-loop μ-loop
+square-number-requires c κs =
+    let f = fits (c) in
+    let p : 0 < 2 ^ (c .before .before .before .before .before .before .before .before .before .before .args .h - 1) = pow-pos _ in
+    let e = c .before .before .before .before .before .half .ensures .0 in
+    (c .child .ensures .1, omega (arith, f .0), omega (arith, f .1))
+
+mul-next : tie.Need-mul-next Inv-loop μ-loop
+mul-next c = omega arith
+
+slice-write-next : tie.Need-slice-write-next Inv-loop μ-loop
+slice-write-next c = omega arith
+
+add-k : tie.Need-add-k Inv-loop μ-loop
+add-k c = omega arith
+
+add-next-one : tie.Need-add-next-one Inv-loop μ-loop
+add-next-one c = omega arith
+
+next-one-requires-2 : tie.Need-next-one-requires-2 Inv-loop μ-loop
+next-one-requires-2 c κs = (c .before .before .before .before .before .before .before .square .ensures .0, omega arith)
+
+loop-less : tie.Need-loop-less Inv-loop μ-loop
+loop-less c = omega arith
+
+loop-again : tie.Need-loop-again Inv-loop μ-loop
+loop-again c =
+    let l = c .before .before .before .before .before .loop in
+    let a = c .before .before .before .before .before .before .before .before .before .before .before .before .args in
+    let s = c .before .before .before .before .before .before .before .half in
+    let ql = c .before .before .before .before .loop-test .taken in
+    let hp = one-le (c .before .before .before .before .before .before .before .before .before .before .before .before .pre .0) in
+    let v = c .before .before .before .before .before .before .before .before .square .ensures .1 in
+    let f = c .next-one2 .ensures in
+    let d = c .before .before .child in
+    let w = c .before .square-number in
+    let g : l .k < length (l .next) = omega arith in
+    let z = fits (c .before .before) in
+    let x : squareRow (w .result) ≡ a .x + l .q / 2 * 2 ^ (a .h - 1) = rw (← s .ensures .0) (w .ensures .1) in
+    let y : squareColumn (w .result) ≡ a .y + l .q % 2 * 2 ^ (a .h - 1) = rw (← s .ensures .0) (w .ensures .2) in
+    let F : Fits (a .h - 1) (w .result) = rw (w .ensures .0, w .ensures .1, w .ensures .2, ← s .ensures .0) (
+      unfold childPlace in (omega (arith, d .ensures .0)),
+      d .ensures .1,
+      z .0,
+      z .1,
+      quarter-even (l .q % 2) (s .result) (a .y) (omega arith) (s .ensures .2) (c .before .before .before .before .before .before .before .before .before .before .before .before .pre .6),
+    ) in (
+      f .1,
+      f .3,
+      omega arith,
+      simp length-set (l .inv .3),
+      all-set (Fits (a .h - 1)) (l .next) (l .k) (w .result) g (l .inv .4) F,
+      λ u n r.
+          let R = l .inv .5 u n r in
+          let o : bitAt (a .tree .now) (a .b + turned (a .sense) (l .q)) ≡ 1 = sym (v (l .q) ql) ∙ l .inv .1 ql in
+          let D : Reads (a .sense) (a .tree .now) (a .h - 1) (squareBit (w .result)) (squareRow (w .result)) (squareColumn (w .result)) u =
+          rw (w .ensures .0, x, y, d .ensures .0, c .before .before .before .turn .ensures .0) (dive-child (a .sense) (a .tree .now) (a .h) (a .b) (a .x) (a .y) u hp n (l .q) ql o) in
+          let S : Cells = squaresTo (a .m) (a .h - 1) (a .next .now) 0 u in (
+            all-set (λ (i : ℕ). Reads (a .sense) (a .tree .now) (a .h - 1) (squareBit i) (squareRow i) (squareColumn i) u) (l .next) (l .k) (w .result) g (R .0) D,
+            squares-set (l .k) (a .h - 1) (l .next) (w .result) u g
+                ∙ rw (x, y, R .1) (quarters-more (l .q) (a .h - 1) (a .x) (a .y) u S)
+                ∙ dive-gap (a .sense) (a .tree .now) (a .h) (a .b) (a .x) (a .y) u S hp n (l .q + 1) (c .next-one2 .result) (f .0) (f .1) (λ j p q. sym (v j (lt-of-lt-of-le q (f .1))) ∙ f .2 j p q),
+          ),
+    )
+
+same-length : tie.Need-same-length Inv-loop μ-loop
+same-length c = c .before .loop .inv .3
+
+returns : tie.Need-returns Inv-loop μ-loop
+returns c =
+    let l = c .before .loop in
+    let a = c .before .before .before .before .before .before .before .before .args in
+    let z : l .q ≡ 4 = omega arith in (
+      omega arith,
+      l .inv .4,
+      λ u n r. let R = l .inv .5 u n r in (R .0, R .1 ∙ rw z (ap (union (squaresTo (a .m) (a .h - 1) (a .next .now) 0 u)) (dive-all (a .h) (a .x) (a .y) u (one-le (c .before .before .before .before .before .before .before .before .pre .0))))),
+    )
+
+pub children-spec : {M : Type 1} → statement M
+children-spec =
+    tie.close
+    (tie.spec
+    Inv-loop
+    μ-loop
+    square-requires
+    half-requires
+    next-one-requires
+    loop-holds
+    turn-requires
+    add-child
+    child-requires
+    mul-square-number
+    add-square-number
+    mul-square-number-2
+    add-square-number-2
+    square-number-requires
+    mul-next
+    slice-write-next
+    add-k
+    add-next-one
+    next-one-requires-2
+    loop-less
+    loop-again
+    same-length
+    returns)

@@ -1,0 +1,86 @@
+-- `count_words` sums the ones word by word. The loop's invariant: n is the number of ones before word i, and each word passed has its own.
+-- The measure is the words left. It rests on `ones-word`. Assumes nothing.
+use mathlib.Core.Path.{_≡_, refl, sym, ap, _∙_}
+use Prim.Native.Nat.{ℕ, _+_, _-_, _*_, _≤_, _<_}
+use native.Mathlib.Omega.{arith}
+use borrow.Author.Needs.{needs}
+use lib.Count.{ones, ones-le}
+use lib.ListN.{length, getD, length-set}
+use Rattle.k2.specs.Bits.{bitAt, onesBelow}
+use Rattle.k2.specs.BitLaws.{bit-lt, ones-word}
+use Rattle.k2.specs.BitLaws as laws
+use Rattle.packing.proofs.Loads.{count-set}
+use Rattle.packing.proofs.loading.count_words.Statement.{statement}
+use Rattle.packing.proofs.loading.count_words.Tie as tie
+
+abbrev Inv-loop : tie.InvT-loop
+Inv-loop tree before₀ n₀ i₀ before n i = (i ≤ length tree) × (length before ≡ length before₀) × (n ≡ onesBelow (bitAt tree) (i * 64)) × ((k : ℕ) → k < i → getD before k 0 ≡ onesBelow (bitAt tree) (k * 64))
+
+abbrev μ-loop : tie.MeasureT-loop
+μ-loop tree before₀ n₀ i₀ before n i = length tree - i
+
+loop-holds : tie.Need-loop-holds Inv-loop μ-loop
+unfolding onesBelow
+loop-holds c = (omega arith, refl, refl, λ k l. absurd (omega arith))
+
+mul-before : tie.Need-mul-before Inv-loop μ-loop
+mul-before c = omega arith
+
+slice-write-before : tie.Need-slice-write-before Inv-loop μ-loop
+slice-write-before c = omega arith
+
+mul-n : tie.Need-mul-n Inv-loop μ-loop
+mul-n c = omega arith
+
+shared-slice-read-n : tie.Need-shared-slice-read-n Inv-loop μ-loop
+shared-slice-read-n c = omega arith
+
+add-n : tie.Need-add-n Inv-loop μ-loop
+add-n c =
+    let l = c .before .before .loop in
+    let ws = c .before .before .before .args .tree .now in
+    omega (arith, ones-le 64 _ (c .shared-slice-known .given (l .i) .fits), laws.ones-le (bitAt ws) (bit-lt ws) (l .i * 64))
+
+add-i : tie.Need-add-i Inv-loop μ-loop
+add-i c = omega arith
+
+loop-less : tie.Need-loop-less Inv-loop μ-loop
+loop-less c = omega arith
+
+loop-again : tie.Need-loop-again Inv-loop μ-loop
+loop-again c =
+    let l = c .before .before .loop in
+    let ws = c .before .before .before .args .tree .now in
+    let f = c .shared-slice-known .given (l .i) .fits in (
+      omega arith,
+      simp length-set (l .inv .1),
+      ap (λ (x : ℕ). x + ones (getD ws (l .i) 0)) (l .inv .2) ∙ sym (ones-word ws (l .i) f),
+      count-set (l .before) (l .i) (l .n) (λ k. onesBelow (bitAt ws) (k * 64)) (omega arith) (l .inv .3) (l .inv .2),
+    )
+
+same-length : tie.Need-same-length Inv-loop μ-loop
+same-length c = search needs
+
+returns : tie.Need-returns Inv-loop μ-loop
+returns c =
+    let l = c .before .loop in
+    let e : l .i ≡ length (c .before .before .args .tree .now) = omega arith in
+    λ k h. l .inv .3 k (omega arith)
+
+pub count-words-spec : {M : Type 1} → statement M
+count-words-spec =
+    tie.close
+    (tie.spec
+    Inv-loop
+    μ-loop
+    loop-holds
+    mul-before
+    slice-write-before
+    mul-n
+    shared-slice-read-n
+    add-n
+    add-i
+    loop-less
+    loop-again
+    same-length
+    returns)

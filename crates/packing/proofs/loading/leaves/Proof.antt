@@ -1,0 +1,89 @@
+-- `leaves` puts the cells of one square of side 2 after another. The loop's invariant: the cells of the squares passed are in the rows. The measure is
+-- the squares left. It rests on `reads-cell`. Assumes nothing.
+use mathlib.Core.Path.{_≡_, refl, sym, ap, _∙_}
+use Prim.Native.Nat.{ℕ, _+_, _-_, _*_, _/_, _%_, _^_, _≤_, _<_}
+use native.Mathlib.Omega.{arith}
+use lib.ListN.{length, getD}
+use Rattle.k2.specs.Bits.{bitAt}
+use Rattle.k2.specs.PairSets.{Cells, union}
+use Rattle.rows.specs.Rows.{flat}
+use Rattle.packing.specs.Reading.{inside, squareBit, squareRow, squareColumn, squaresTo, ReadAll}
+use Rattle.packing.proofs.Loads.{reads-cell}
+use Rattle.packing.proofs.Lists.{squares-none, squares-next, union-next}
+use Rattle.packing.proofs.loading.leaves.Statement.{statement}
+use Rattle.packing.proofs.loading.leaves.Tie as tie
+
+abbrev Inv-loop : tie.InvT-loop
+Inv-loop tree list from count sense rows₀ i₀ rows i =
+    (i ≤ count) × (length rows ≡ length rows₀)
+    × ((a t : Cells) → bitAt rows₀ ≡ flat a → ReadAll sense tree 1 list from count t → bitAt rows ≡ flat (union a (squaresTo i 1 list from t)))
+
+abbrev μ-loop : tie.MeasureT-loop
+μ-loop tree list from count sense rows₀ i₀ rows i = count - i
+
+loop-holds : tie.Need-loop-holds Inv-loop μ-loop
+loop-holds c = let a = c .before .before .before .args in (omega arith, refl, λ s u e n. e ∙ ap flat (squares-none 1 (a .list .now) (a .from) u s))
+
+add-w : tie.Need-add-w Inv-loop μ-loop
+add-w c = omega arith
+
+mul-w : tie.Need-mul-w Inv-loop μ-loop
+mul-w c = omega arith
+
+shared-slice-read-w : tie.Need-shared-slice-read-w Inv-loop μ-loop
+shared-slice-read-w c = omega arith
+
+square-requires : tie.Need-square-requires Inv-loop μ-loop
+square-requires c κs = let f = c .before .before .before .before .before .before .pre .4 (c .before .before .loop .i) (omega arith) in (f .0, omega arith)
+
+put-cells-requires : tie.Need-put-cells-requires Inv-loop μ-loop
+put-cells-requires c κs =
+    let f = c .before .before .before .before .before .before .before .before .pre .4 (c .before .before .before .before .loop .i) (omega arith) in
+    (f .2, f .3, f .4, c .before .square .ensures .0, c .before .before .before .before .loop .inv .1 ∙ c .before .before .before .before .before .before .before .before .pre .3)
+
+add-i : tie.Need-add-i Inv-loop μ-loop
+add-i c = omega arith
+
+loop-less : tie.Need-loop-less Inv-loop μ-loop
+loop-less c = omega arith
+
+loop-again : tie.Need-loop-again Inv-loop μ-loop
+loop-again c =
+    let l = c .before .before .before .before .before .before .before .loop in
+    let a = c .before .before .before .before .before .before .before .before .before .before .before .args in
+    let p = c .before .before .put-cells in
+    let w : ℕ = getD (a .list .now) (a .from + l .i) 0 in (
+      omega arith,
+      p .kept .0 ∙ l .inv .1,
+      λ s u e n.
+          p .ensures (union s (squaresTo (l .i) 1 (a .list .now) (a .from) u)) u (l .inv .2 s u e n)
+          (λ q g. c .before .before .before .before .square .ensures .1 q g ∙ reads-cell (a .sense) (a .tree .now) (squareBit w) (squareRow w) (squareColumn w) u (n (l .i) (omega arith)) q g)
+          ∙ ap flat (union-next s (squaresTo (l .i) 1 (a .list .now) (a .from) u) (inside 1 (squareRow w) (squareColumn w) u) ∙ ap (union s) (sym (squares-next (l .i) 1 (a .list .now) (a .from) u))),
+    )
+
+same-length : tie.Need-same-length Inv-loop μ-loop
+same-length c = c .before .loop .inv .1
+
+returns : tie.Need-returns Inv-loop μ-loop
+returns c =
+    let l = c .before .loop in
+    let z : l .i ≡ c .before .before .before .before .before .args .count = omega arith in
+    λ s u e n. l .inv .2 s u e n ∙ rw z refl
+
+pub leaves-spec : {M : Type 1} → statement M
+leaves-spec =
+    tie.close
+    (tie.spec
+    Inv-loop
+    μ-loop
+    loop-holds
+    add-w
+    mul-w
+    shared-slice-read-w
+    square-requires
+    put-cells-requires
+    add-i
+    loop-less
+    loop-again
+    same-length
+    returns)

@@ -1,0 +1,58 @@
+-- `put_cells` puts two cells into a row and two into the next (`four-cells`). Assumes nothing.
+use mathlib.Core.Path.{_≡_, ap, _∙_}
+use Prim.Native.Nat.{ℕ, _+_, _*_, _/_, _%_}
+use native.Mathlib.Omega.{arith}
+use borrow.Author.Needs.{needs}
+use lib.ListN.{length}
+use Rattle.k2.specs.DigitLaws.{shifted}
+use Rattle.bits.specs.BitSets.{either}
+use Rattle.packing.proofs.Loads.{four-cells}
+use Rattle.packing.proofs.loading.put_cells.Statement.{statement}
+use Rattle.packing.proofs.loading.put_cells.Tie as tie
+
+mul-or-two : tie.Need-mul-or-two
+mul-or-two c = search needs
+
+add-or-two : tie.Need-add-or-two
+add-or-two c = search needs
+
+or-two-requires : tie.Need-or-two-requires
+or-two-requires c κs = (omega arith, omega arith, omega arith)
+
+add-or-two-2 : tie.Need-add-or-two-2
+add-or-two-2 c = search needs
+
+mul-or-two-2 : tie.Need-mul-or-two-2
+mul-or-two-2 c = search needs
+
+add-or-two-3 : tie.Need-add-or-two-3
+add-or-two-3 c = search needs
+
+or-two-requires-2 : tie.Need-or-two-requires-2
+or-two-requires-2 c κs = let k : length (c .before .before .before .or-two .last .0) ≡ length (c .before .before .before .before .before .before .args .rows .now) = c .before .before .before .or-two .kept .0 in (omega arith, omega arith, omega arith)
+
+same-length : tie.Need-same-length
+same-length c = search needs
+
+returns : tie.Need-returns
+returns c =
+    let a = c .before .before .before .before .before .before .before .before .before .args in
+    let p = c .before .before .before .before .before .before .before .before .before .pre in
+    λ s t e d.
+    c .before .before .or-two2 .ensures
+    ∙ ap (λ (f : ℕ → ℕ). either f (shifted ((a .x + 1) * 1024 + a .y) (a .v / 4))) (c .before .before .before .before .before .before .or-two .ensures ∙ ap (λ (f : ℕ → ℕ). either f (shifted (a .x * 1024 + a .y) (a .v % 4))) e)
+    ∙ four-cells s (a .x) (a .y) (a .v) t (p .1) (p .3) d
+
+pub put-cells-spec : {M : Type 1} → statement M
+put-cells-spec =
+    tie.close
+    (tie.spec
+    mul-or-two
+    add-or-two
+    or-two-requires
+    add-or-two-2
+    mul-or-two-2
+    add-or-two-3
+    or-two-requires-2
+    same-length
+    returns)
