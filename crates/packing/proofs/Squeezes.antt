@@ -147,9 +147,6 @@ module _ (f : ℕ → ℕ) (i r w : ℕ) (ws : List ℕ) (wl : w < 2 ^ 64) (some
           let z : digit w t ≡ 0 = n .word t ∙ rw (le-ltb (4 * n .q + t) (64 * (i + 1)) (omega arith)) in
           absurd (omega (arith, trailing-set 64 w some wl))
 
-  pub left-shift : k ≤ 60
-  left-shift = omega (arith, inside, n .low)
-
   hit : f (4 * n .q + t) ≡ 1
   hit = reads t 1 (trailing-set 64 w some wl) inside
 

@@ -1,8 +1,7 @@
 -- Laws of the room that the operands take.
 --   totals-below, totals-most
 --                   the numbers below the top one; their total
---   placed-put, placed-most
---                   an operand put on top; where at most so many operands end
+--   placed-put      an operand put on top
 --   room-begins     with nothing waiting
 --   room-operands   the next number of the code finds its operands, and there is room for its value
 --   room-next       one number more: its operands give way to its value
@@ -12,7 +11,7 @@ use mathlib.Core.Path.{_≡_, refl, sym, ap, _∙_, subst}
 use mathlib.Core.List.{List, [], _∷_}
 use mathlib.Core.Bool.{Bool, true, false}
 use Prim.Native.Nat.{ℕ, suc, _+_, _-_, _*_, _<_, _≤_}
-use native.Mathlib.Nat.{suc-mul, mul-le-mul-right}
+use native.Mathlib.Nat.{suc-mul}
 use native.Mathlib.Decide.{decLt}
 use native.Mathlib.Omega.{arith}
 use lib.Dec.{eqb}
@@ -56,9 +55,6 @@ placed-put {d} {S} start r j k label sense P t h l e o =
           (subst (λ (x : ℕ). Totals d (set (S .sizes) j r) (suc j) (start + x)) q (also (totals-store j r (omega arith) t) (omega arith)));
       sense = o;
     }
-
-pub placed-most : {d : ℕ} {S : Stack} (k : ℕ) → Placed d S → S .count ≤ k → S .end ≤ k * d
-placed-most {d} {S} k P h = omega (arith, totals-most (P .totals), mul-le-mul-right d h)
 
 -- ---- the code
 value-heights : (e : Expr) → value heights e ≡ 0

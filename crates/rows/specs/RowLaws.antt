@@ -1,18 +1,17 @@
 -- Laws of rows: a row's bits are the set's cells, the rows of the operations on sets, and the pairs of link words. Assumes nothing.
 use mathlib.Core.Path.{_≡_, refl, sym, ap, _∙_, fun-ext}
 use mathlib.Core.List.{List, [], _∷_, map}
-use Prim.Native.Nat.{ℕ, _+_, _*_, _/_, _%_, _≤_, _<_}
+use Prim.Native.Nat.{ℕ, _+_, _*_, _/_, _%_, _<_}
 use native.Mathlib.Nat.{mod-eq-of-lt}
-use native.Mathlib.Decide.{decLt}
 use native.Mathlib.Omega.{arith}
 use lib.Dec.{ltb}
 use borrow.Author.Tests.{le-ltb}
-use Rattle.book.specs.Basics.{bit, In, here, there}
-use Rattle.k2.specs.PairSets.{Cells, IsSet, setOf, union, intersection, difference}
-use Rattle.k2.specs.PairSetLaws.{bit-small, diagonal-set, PairsBelow, setOf-set}
+use Rattle.book.specs.Basics.{bit, here, there}
+use Rattle.k2.specs.PairSets.{Cells, IsSet, union, intersection, difference}
+use Rattle.k2.specs.PairSetLaws.{bit-small, diagonal-set, PairsBelow}
 use Rattle.k2.specs.Trees.{treeWords}
 use Rattle.k2.specs.TreeLaws.{treeWords-none}
-use Rattle.bits.specs.BitSets.{none, either, both, minus}
+use Rattle.bits.specs.BitSets.{none, both, minus}
 use Rattle.rows.specs.Rows.{flat, noPairs, identity, linkPair}
 
 pub flat-at : (a : Cells) (x y : ℕ) → y < 1024 → flat a (x * 1024 + y) ≡ a x y
@@ -25,14 +24,6 @@ flat-at a x y l =
 pub flat-bit : (n : ℕ) (a : Cells) → IsSet n a → (p : ℕ) → flat a p < 2
 unfolding flat
 flat-bit n a A p = A .bit (p / 1024) (p % 1024)
-
--- rows tell their set
-pub flat-tells : (n : ℕ) (a b : Cells) → n ≤ 1024 → IsSet n a → IsSet n b → flat a ≡ flat b → a ≡ b
-flat-tells n a b l A B e = fun-ext (λ x. fun-ext (λ y. go x y (decLt y 1024)))
-  where
-    go : (x y : ℕ) → Dec (y < 1024) → a x y ≡ b x y
-    go x y (yes h) = sym (flat-at a x y h) ∙ ap (λ (f : ℕ → ℕ). f (x * 1024 + y)) e ∙ flat-at b x y h
-    go x y (no h) = A .column x y (omega arith) ∙ sym (B .column x y (omega arith))
 
 -- ---- no pair
 pub flat-none : flat noPairs ≡ none
@@ -59,10 +50,6 @@ pub identity-set : (n : ℕ) → IsSet n (identity n)
 identity-set n = diagonal-set n (λ x. bit (ltb x n)) (λ x. bit-small (ltb x n)) (λ x l. rw (le-ltb x n l))
 
 -- ---- the operations, cell by cell
-pub flat-union : (a b : Cells) → either (flat a) (flat b) ≡ flat (union a b)
-unfolding either flat union
-flat-union a b = refl
-
 pub flat-intersection : (a b : Cells) → both (flat a) (flat b) ≡ flat (intersection a b)
 unfolding both flat intersection
 flat-intersection a b = refl
@@ -72,24 +59,6 @@ unfolding minus flat difference
 flat-difference a b = refl
 
 -- ---- the pairs of link words
-pub in-links : {v : ℕ} (ws : List ℕ) → In v (map linkPair ws) → (w : ℕ) × In w ws × (v ≡ linkPair w)
-in-links (w ∷ ws) here = (w, here, refl)
-in-links (w ∷ ws) (there h) = let r = in-links ws h in (r .0, there (r .1), r .2)
-
-pub links-in : {w : ℕ} {ws : List ℕ} → In w ws → In (linkPair w) (map linkPair ws)
-links-in here = here
-links-in (there h) = there (links-in h)
-
-pub link-below : (w : ℕ) → linkPair w < 1048576
-unfolding linkPair
-link-below w = omega arith
-
-pub links-set : (ws : List ℕ) → IsSet 1024 (setOf (map linkPair ws))
-links-set ws = setOf-set 1024 (map linkPair ws) (omega arith) (λ v h. below v (in-links ws h))
-  where
-    below : (v : ℕ) → (w : ℕ) × In w ws × (v ≡ linkPair w) → (v / 1024 < 1024) × (v % 1024 < 1024)
-    below v r = (omega (arith, link-below (r .0), r .2), omega arith)
-
 -- pair words are their own
 pub pair-links : (ps : List ℕ) → PairsBelow 1024 ps → map linkPair ps ≡ ps
 unfolding linkPair
