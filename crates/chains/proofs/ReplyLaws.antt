@@ -112,27 +112,30 @@ reply-long (no-chain h) ss s l = absurd (h ss s)
 reply-long (first-chain ts F) ss s l = let z = l ts (F .answers) in let y = length-stepWords ts in omega arith
 
 -- ---- the promise
+not-zero : (k : ℕ) → 0 < k → Refused k ≡ Refused 0 → ⊥
+not-zero k h e = let z : k ≡ 0 = cc in omega arith
+
 module _ {self : Register} {x y : ℕ} {text : List ℕ} {work : ℕ} {list : List ℕ} where
   -- a refusal
-  pub refuses : (k : ℕ) → ((b : Book) → Represents self b → (t : Reply) → ReplyTo (asked b) (verdict text) x y t → chainAnswer b x y (verdict text) t work (length list) ≡ refused k) → Replies self x y text work list list (Refused k)
+  pub refuses : (k : ℕ) → 0 < k → ((b : Book) → Represents self b → (t : Reply) → ReplyTo (asked b) (verdict text) x y t → chainAnswer b x y (verdict text) t work (length list) ≡ refused k) → Replies self x y text work list list (Refused k)
   unfolding outcomeOf answerLength listAfter
-  refuses k h = record { fits = omega arith; past = refl; answers = λ b R t q. (let e = h b R t q in (sym e, rw e refl)) }
+  refuses k p h = record { fits = omega arith; past = refl; numbered = not-zero k p; answers = λ b R t q. (let e = h b R t q in (sym e, rw e refl)) }
 
   module _ {n : ℕ} (size : (b : Book) → Represents self b → n ≡ b .n) where
     pub refuses-record : (n ≤ x) ⊎ (n ≤ y) → Replies self x y text work list list (Refused 2)
-    refuses-record h = refuses 2 (λ b R t q. answer-record b x y t work (length list) (verdict text) (subst (λ (m : ℕ). (m ≤ x) ⊎ (m ≤ y)) (size b R) h))
+    refuses-record h = refuses 2 (omega arith) (λ b R t q. answer-record b x y t work (length list) (verdict text) (subst (λ (m : ℕ). (m ≤ x) ⊎ (m ≤ y)) (size b R) h))
 
     module _ (hx : x < n) (hy : y < n) where
       pub refuses-text : (k : ℕ) → firstNumber (verdictCause (verdict text)) ≡ k → 0 < k → Replies self x y text work list list (Refused k)
-      refuses-text k e h = refuses k (λ b R t q. (let s = size b R in answer-text b x y t work (length list) (omega arith) (omega arith) (verdict text) k e h))
+      refuses-text k e h = refuses k h (λ b R t q. (let s = size b R in answer-text b x y t work (length list) (omega arith) (omega arith) (verdict text) k e h))
 
       module _ (e : Expr) (a : verdict text ≡ accepted e) where
         pub refuses-work : work < n * 64 → Replies self x y text work list list (Refused 12)
-        refuses-work h = refuses 12 (λ b R t q. (let s = size b R in answer-work b x y t work (length list) (omega arith) (omega arith) (verdict text) e a (omega arith)))
+        refuses-work h = refuses 12 (omega arith) (λ b R t q. (let s = size b R in answer-work b x y t work (length list) (omega arith) (omega arith) (verdict text) e a (omega arith)))
 
         module _ (enough : n * 64 ≤ work) where
           replies-short : ((b : Book) → Represents self b → Answered (asked b) e x y list list Short) → Replies self x y text work list list (Refused 13)
-          replies-short h = refuses 13 (λ b R t q. (let s = size b R in answer-list b x y t work (length list) (omega arith) (omega arith) (verdict text) e a (omega arith) (go (h b R) refl (q e a))))
+          replies-short h = refuses 13 (omega arith) (λ b R t q. (let s = size b R in answer-list b x y t work (length list) (omega arith) (omega arith) (verdict text) e a (omega arith) (go (h b R) refl (q e a))))
             where
               go : {g : Graph} {t : Reply} {r : Found} → Answered g e x y list list r → r ≡ Short → ChainIs g e x y t → length list < length (steps t)
               go (first ss F z) i c = absurd (let z : _≡_ {A = ℕ} 0 1 = cc in omega arith)
@@ -141,7 +144,7 @@ module _ {self : Register} {x y : ℕ} {text : List ℕ} {work : ℕ} {list : Li
 
           replies-none : ((b : Book) → Represents self b → Answered (asked b) e x y list list Nowhere) → Replies self x y text work list list NoChain
           unfolding outcomeOf answerLength listAfter steps
-          replies-none h = record { fits = omega arith; past = refl; answers = ans }
+          replies-none h = record { fits = omega arith; past = refl; numbered = λ q. (let z : _≡_ {A = ℕ} 0 1 = cc in omega arith); answers = ans }
             where
               is-none : {g : Graph} {t : Reply} {r : Found} → Answered g e x y list list r → r ≡ Nowhere → ChainIs g e x y t → t ≡ no-reply
               is-none (first ss F z) i c = absurd (let z : _≡_ {A = ℕ} 0 1 = cc in omega arith)
@@ -157,7 +160,7 @@ module _ {self : Register} {x y : ℕ} {text : List ℕ} {work : ℕ} {list : Li
 
           replies-chain : {list′ : List ℕ} {k : ℕ} → k ≤ length list → length list′ ≡ length list → drop k list′ ≡ drop k list → ((b : Book) → Represents self b → Answered (asked b) e x y list list′ (Steps k)) → Replies self x y text work list list′ (Chain k)
           unfolding outcomeOf answerLength listAfter steps
-          replies-chain {list′} {k} hk same rest h = record { fits = hk; past = rest; answers = ans }
+          replies-chain {list′} {k} hk same rest h = record { fits = hk; past = rest; numbered = λ q. (let z : _≡_ {A = ℕ} 0 1 = cc in omega arith); answers = ans }
             where
               is-chain : {g : Graph} {t : Reply} {r : Found} → Answered g e x y list list′ r → r ≡ Steps k → ChainIs g e x y t → t ≡ chain-reply (take k list′)
               is-chain (none z) i c = absurd (let z : _≡_ {A = ℕ} 0 1 = cc in omega arith)
