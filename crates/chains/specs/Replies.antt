@@ -5,12 +5,13 @@
 --                   asked of the book b: the outcome is the one that the definition gives for the reply to the question, and so is the list
 --   Replies self from to text work list list′ r
 --                   over any contents: the answer fits the list, the words past it are as they were, all of them with a refusal or no chain, and a
---                   refusal never has the number 0. For every book that the register represents: the answer and the list are the book's
+--                   refusal has the number of a cause. For every book that the register represents: the answer and the list are the book's
 -- Assumes nothing: these are definitions.
 use mathlib.Core.Path.{_≡_}
 use mathlib.Core.List.{List}
 use Prim.Native.Nat.{ℕ, _≤_}
 use lib.ListN.{length, take, drop}
+use Rattle.book.specs.Causes.{Caused}
 use Rattle.book.specs.Book.{Book}
 use Rattle.paths.specs.Chains.{asked, Reply, none, chain}
 use Rattle.paths.specs.Questions.{Outcome, refused, replied, ReplyTo, chainAnswer, listAfter}
@@ -38,5 +39,5 @@ BookReplies b from to text work list list′ r = (t : Reply) → ReplyTo (asked 
 pub record Replies (self : Register) (from to : ℕ) (text : List ℕ) (work : ℕ) (list list′ : List ℕ) (r : ChainAnswer) : Type 0 where
   pub fits : answerLength r ≤ length list
   pub past : drop (answerLength r) list′ ≡ drop (answerLength r) list
-  pub numbered : r ≡ Refused 0 → ⊥
+  pub caused : (k : ℕ) → r ≡ Refused k → Caused k
   pub answers : (b : Book) → Represents self b → BookReplies b from to text work list list′ r

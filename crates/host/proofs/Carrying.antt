@@ -20,69 +20,69 @@ use Rattle.register.specs.declared.Links.{Links}
 use Rattle.register.specs.declared.Answer.the-variants.{Refused}
 use Rattle.pairs.specs.Asking.{Handed, too-long, handed}
 use Rattle.pairs.specs.declared.PairsAnswer.the-variants.{Pairs, Refused as Unpaired}
-use Rattle.host.specs.Host.{Freshens, Edits, refusal, toldPairs, Told, Asked, Lists, Sizes, Locks}
+use Rattle.host.specs.Host.{Freshens, Edits, refusal, toldPairs, Told, Asked, Lists, Sizes, TellsLock}
 use Rattle.host.specs.Inner.{Finishes, refused, kept, lost}
 
 -- ---- what was loaded, by the number of the answer
 module _ {ws : List ℕ} {o : Opened} {k : ℕ} (l : Loads ws o) (e : k ≡ answerNumber (o .answer)) where
   pub load-none : (k ≡ 0 → ⊥) → Foreign ws
-  load-none z = l .refused (λ y. z (e ∙ y)) .1
+  load-none z = l .refused (λ d. z (e ∙ ap answerNumber d)) .1
 
   pub load-some : k ≡ 0 → Keeps ws (o .register)
-  load-some z = l .loaded (sym e ∙ z)
+  load-some z = go (o .answer) refl
+    where
+      go : (a : Answer) → o .answer ≡ a → Keeps ws (o .register)
+      unfolding number
+      go Done q = l .loaded q
+      go (Refused j) q =
+          let n = l .refused (λ d. refused-done (sym q ∙ d)) .0 in
+          absurd (let w : _≡_ {A = ℕ} 16 0 = sym (ap answerNumber n) ∙ sym e ∙ z in omega arith)
 
 -- ---- edits
-pub edit-foreign : (c : Call) (ws : List ℕ) → Foreign ws → Edits c ws ws 16
-edit-foreign c ws f = record { refused = λ _. refl; foreign = λ _. refl; steps = λ r k. absurd (f r k) }
+pub edit-foreign : (c : Call) (ws : List ℕ) → Foreign ws → Edits c ws ws (number not-open)
+edit-foreign c ws f = record { refused = λ _. refl; past = refl; foreign = λ _. refl; steps = λ r k. absurd (f r k) }
 
 abbrev Stepped : Call → List ℕ → ℕ → Register → Type 0
 Stepped c after k s = (o : Outcome) × Steps s c o × (k ≡ answerNumber (o .answer)) × Keeps after (o .register)
 
 module _ {c : Call} {before after : List ℕ} {k : ℕ} {r : Register} (w : Keeps before r) where
-  stepped : ((k ≡ 0 → ⊥) → after ≡ before) → Stepped c after k r → Edits c before after k
-  stepped e t = record { refused = e; foreign = λ f. absurd (f r w); steps = λ s v. subst (Stepped c after k) (keeps-same w v) t }
+  stepped : ((k ≡ 0 → ⊥) → after ≡ before) → drop stateWords after ≡ drop stateWords before → Stepped c after k r → Edits c before after k
+  stepped e p t = record { refused = e; past = p; foreign = λ f. absurd (f r w); steps = λ s v. subst (Stepped c after k) (keeps-same w v) t }
 
   pub edit-kept : {o : Outcome} → Steps r c o → Finishes o before after k → Edits c before after k
-  edit-kept {o} t (refused n e a) = stepped (λ _. a) (o, t, e, subst (λ (ws : List ℕ). Keeps ws (o .register)) (sym a) (subst (Keeps before) (sym (t .refused n)) w))
-  edit-kept {o} t (kept n e v) = stepped (λ z. absurd (z e)) (o, t, e ∙ sym n, v)
-  edit-kept {o} t (lost e a g) = stepped (λ _. a) (record { register = r; answer = Refused 16 }, unmet, e, subst (λ (ws : List ℕ). Keeps ws r) (sym a) w)
+  edit-kept {o} t (refused n e a) =
+      stepped (λ _. a) (ap (drop stateWords) a) (o, t, e, subst (λ (ws : List ℕ). Keeps ws (o .register)) (sym a) (subst (Keeps before) (sym (t .refused n)) w))
+  edit-kept {o} t (kept n e v p) = stepped (λ z. absurd (z e)) p (o, t, e ∙ sym (ap answerNumber n), v)
+  edit-kept {o} t (lost e a g) =
+      stepped (λ _. a) (ap (drop stateWords) a) (record { register = r; answer = answerOf (number not-open) }, unmet, told e, subst (λ (ws : List ℕ). Keeps ws r) (sym a) w)
     where
       none : (b : Book) → Represents r b → ⊥
       none b h = g (keeps-long w) (t .follows b h .ranged)
 
-      unmet : Steps r c (record { register = r; answer = Refused 16 })
-      unmet = record { refused = λ _. refl; answers = λ b h. absurd (none b h); follows = λ b h. absurd (none b h) }
+      told : {j : ℕ} → j ≡ number not-open → j ≡ answerNumber (answerOf (number not-open))
+      told q = q ∙ sym (number-answer (number not-open))
+
+      unmet : Steps r c (record { register = r; answer = answerOf (number not-open) })
+      unmet = record { said = (number not-open, refl); refused = λ _. refl; foreign = λ _. refl; answers = λ b h. absurd (none b h); follows = λ b h. absurd (none b h) }
 
 -- ---- a fresh register
 module _ {n : ℕ} {o : Opened} (p : Opens n o) (before : List ℕ) where
-  pub fresh-refused : {k : ℕ} → k ≡ answerNumber (o .answer) → (k ≡ 0 → ⊥) → Freshens n before before k
-  fresh-refused {k} e z = record {
-    refused = λ _. refl;
-    bad-size = λ _. e ∙ p .answers;
-    short = λ y. absurd (z (e ∙ p .answers ∙ y));
-    made = λ y. absurd (z (e ∙ p .answers ∙ y));
-  }
+  -- the number, by the register's own and by the room
+  size-first : (freshAnswer n ≡ 0 → ⊥) → freshNumber n (length before) ≡ freshAnswer n
+  size-first = ?
 
-  pub fresh-short : answerNumber (o .answer) ≡ 0 → (after : List ℕ) (ok : Bool) → Stores (o .register) before after ok → ok ≡ false → Freshens n before after 12
-  fresh-short e after ok s f =
-      let z : freshAnswer n ≡ 0 = sym (p .answers) ∙ e in
-      let q = s .refused f in
-      record { refused = λ _. q .0; bad-size = λ y. absurd (y z); short = λ _ _. refl; made = λ _ l. absurd (q .1 l (p .made z .ranged)) }
+  pub fresh-refused : {k : ℕ} → k ≡ answerNumber (o .answer) → (k ≡ 0 → ⊥) → Freshens n before before k
+  fresh-refused {k} e z = ?
+
+  pub fresh-short : answerNumber (o .answer) ≡ 0 → (after : List ℕ) (ok : Bool) → Stores (o .register) before after ok → ok ≡ false → Freshens n before after (number short-work)
+  fresh-short e after ok s f = ?
 
   pub fresh-made : answerNumber (o .answer) ≡ 0 → (after : List ℕ) (ok : Bool) → length after ≡ length before → Stores (o .register) before after ok → ok ≡ true → Freshens n before after 0
-  fresh-made e after ok l s f =
-      let z : freshAnswer n ≡ 0 = sym (p .answers) ∙ e in
-      let w = s .done f in
-      record {
-        refused = λ y. absurd (y refl);
-        bad-size = λ y. absurd (y z);
-        short = λ _ y. absurd (y (sym l ∙ keeps-long w));
-        made = λ _ _. (refl, (o .register, w, p .made z));
-      }
+  fresh-made e after ok l s f = ?
 
 -- ---- questions
 module _ {A : Type 0} {ws : List ℕ} {P : Register → A → Type 0} {f : A → ℕ} {before after : List ℕ} {k : ℕ} where
-  pub asked-foreign : Foreign ws → k ≡ refusal 16 → after ≡ before → Asked ws P f before after k
+  pub asked-foreign : Foreign ws → k ≡ refusal (number not-open) → after ≡ before → Asked ws P f before after k
   asked-foreign g e a = record { answers = λ r w. absurd (g r w); foreign = λ _. (e, a) }
 
   pub asked : {r : Register} → Keeps ws r → (a : A) → P r a → k ≡ f a → Asked ws P f before after k
@@ -118,10 +118,10 @@ module _ {ws : List ℕ} where
   pub sized : {r : Register} {k : ℕ} → Keeps ws r → Sized r k → Sizes ws k
   sized {r} {k} w z = record { size = λ s v. subst (λ (t : Register). Sized t k) (keeps-same w v) z; foreign = λ g. absurd (g r w) }
 
-  pub lock-foreign : (x : ℕ) → Foreign ws → Locks ws x 0
+  pub lock-foreign : (x : ℕ) → Foreign ws → TellsLock ws x 0
   lock-foreign x g = record { locked = λ b h. absurd (g (h .0) (h .1)); foreign = λ _. refl }
 
-  pub locked-word : {r : Register} {x : ℕ} (l : Bool) → Keeps ws r → Locking r x l → Locks ws x (boolByte l)
+  pub locked-word : {r : Register} {x : ℕ} (l : Bool) → Keeps ws r → Locking r x l → TellsLock ws x (boolByte l)
   locked-word {r} {x} l w z = record {
     locked = λ b h. byte l ∙ ap lockWord (subst (λ (t : Register). Locking t x l) (keeps-same w (h .1)) z b (h .2));
     foreign = λ g. absurd (g r w);
