@@ -1,6 +1,6 @@
 -- What a chain question promises.
 --   outcomeOf r l   the outcome that the answer r says, with the steps in the first words of the list l
---   answerLength r  how many words of the list are the answer's
+--   stepsLength r  how many words of the list are the answer's
 --   BookReplies b from to text work list list′ r
 --                   asked of the book b: the outcome is the one that the definition gives for the reply to the question, and so is the list
 --   Replies self from to text work list list′ r
@@ -26,10 +26,10 @@ outcomeOf (Chain k) l = replied (chain (take k l))
 outcomeOf NoChain l = replied none
 outcomeOf (Refused k) l = refused k
 
-unfoldable pub answerLength : ChainAnswer → ℕ
-answerLength (Chain k) = k
-answerLength NoChain = 0
-answerLength (Refused k) = 0
+unfoldable pub stepsLength : ChainAnswer → ℕ
+stepsLength (Chain k) = k
+stepsLength NoChain = 0
+stepsLength (Refused k) = 0
 
 abbrev pub BookReplies : Book → ℕ → ℕ → List ℕ → ℕ → List ℕ → List ℕ → ChainAnswer → Type 0
 BookReplies b from to text work list list′ r = (t : Reply) → ReplyTo (asked b) (verdict text) from to t
@@ -37,7 +37,7 @@ BookReplies b from to text work list list′ r = (t : Reply) → ReplyTo (asked 
     × (list′ ≡ listAfter (chainAnswer b from to (verdict text) t work (length list)) list)
 
 pub record Replies (self : Register) (from to : ℕ) (text : List ℕ) (work : ℕ) (list list′ : List ℕ) (r : ChainAnswer) : Type 0 where
-  pub fits : answerLength r ≤ length list
-  pub past : drop (answerLength r) list′ ≡ drop (answerLength r) list
+  pub fits : stepsLength r ≤ length list
+  pub past : drop (stepsLength r) list′ ≡ drop (stepsLength r) list
   pub caused : (k : ℕ) → r ≡ Refused k → Caused k
   pub answers : (b : Book) → Represents self b → BookReplies b from to text work list list′ r

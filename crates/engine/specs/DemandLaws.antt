@@ -40,7 +40,7 @@ use Rattle.pairs.specs.AskingLaws.{asks-paired}
 use Rattle.pairs.specs.declared.PairsAnswer.{PairsAnswer}
 use Rattle.pairs.specs.declared.PairsAnswer.the-variants.{Pairs, Refused}
 use Rattle.automaton.specs.WalkLaws.{length-stepWords}
-use Rattle.chains.specs.Replies.{outcomeOf, answerLength, Replies}
+use Rattle.chains.specs.Replies.{outcomeOf, stepsLength, Replies}
 use Rattle.chains.specs.declared.ChainAnswer.{ChainAnswer}
 use Rattle.chains.specs.declared.ChainAnswer.the-variants.{Chain, NoChain, Refused as NotAnswered}
 use Rattle.engine.specs.Demand.{PairsAsked, ChainAsked, Transcript, bookAfter, PairsAccepted, PairsClaim, ChainAccepted, ChainClaim, Demand}
@@ -90,13 +90,13 @@ module _ {e : Register} {b : Book} (R : Represents e b) (x y : ℕ) (text : List
 
   -- the answer that says a chain, and the one that says none
   says-chain : (ws : List ℕ) → outcomeOf a after′ ≡ replied (chain ws) → after′ ≡ over ws before → length ws ≤ length before → a ≡ Chain (length ws)
-  unfolding outcomeOf answerLength
+  unfolding outcomeOf stepsLength
   says-chain ws o l h = go a o (Q .fits)
     where
       long : length after′ ≡ length before
       long = ap length l ∙ length-append ws (drop (length ws) before) ∙ (let d = length-drop (length ws) before in let z : length ws + length (drop (length ws) before) ≡ length before = omega arith in z)
 
-      go : (r : ChainAnswer) → outcomeOf r after′ ≡ replied (chain ws) → answerLength r ≤ length before → r ≡ Chain (length ws)
+      go : (r : ChainAnswer) → outcomeOf r after′ ≡ replied (chain ws) → stepsLength r ≤ length before → r ≡ Chain (length ws)
       go (Chain k) o q =
           let t : take k after′ ≡ ws = cc in
           let m : k ≡ length ws = sym (length-take-le k after′ (omega (arith, long))) ∙ ap length t in

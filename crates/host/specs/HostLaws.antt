@@ -15,7 +15,7 @@ use Rattle.paths.specs.Verdicts.{verdict}
 use Rattle.register.specs.Calls.{answerNumber}
 use Rattle.register.specs.HistoryLaws.{number-answer}
 use Rattle.pairs.specs.Asking.{BookPairs, AsksPairs}
-use Rattle.chains.specs.Replies.{BookReplies, Replies, answerLength}
+use Rattle.chains.specs.Replies.{BookReplies, Replies, stepsLength}
 use Rattle.pairs.specs.declared.PairsAnswer.{PairsAnswer}
 use Rattle.pairs.specs.declared.PairsAnswer.the-variants.{Pairs, Refused}
 use Rattle.chains.specs.declared.ChainAnswer.{ChainAnswer}
@@ -54,8 +54,8 @@ chain-told (Chain j) k e l = ap Chain e
 chain-told NoChain k e l = absurd (omega arith)
 chain-told (Unchained j) k e l = absurd (omega arith)
 
-pub none-told : (a : ChainAnswer) → toldChain a ≡ 4294967296 → answerLength a < 4294967296 → a ≡ NoChain
-unfolding answerLength
+pub none-told : (a : ChainAnswer) → toldChain a ≡ 4294967296 → stepsLength a < 4294967296 → a ≡ NoChain
+unfolding stepsLength
 none-told (Chain j) e l = absurd (omega arith)
 none-told NoChain e l = refl
 none-told (Unchained j) e l = absurd (omega arith)

@@ -6,6 +6,7 @@ use native.Mathlib.Numerals.{add-one}
 use native.Mathlib.Omega.{arith}
 use lib.ListN.{length, take, drop, getD, set, replicate, length-drop, drop-of-length-le}
 use lib.Seq.{drop-cons, drop-drop}
+use Rattle.book.specs.Causes.{number}
 use Rattle.book.specs.Book.{Book}
 use Rattle.k2.specs.PairSets.{Cells, IsSet, listed, union}
 use Rattle.k2.specs.Trees.{treeUnit, treeWords}
@@ -177,4 +178,5 @@ pub told-handed : {l before after : List ℕ} (k : ℕ) → Told l before after 
 told-handed k (given h e) = handed h e
 
 pub told-refused : {l before after : List ℕ} (k : ℕ) → Told l before after (Unlisted k) → Handed l before after (Refused k)
+unfolding number
 told-refused k (too-long h e) = not-taken h e

@@ -1,5 +1,5 @@
 -- What the pair question promises.
---   answerLength a  how many words of the list are the answer's
+--   pairsLength a  how many words of the list are the answer's
 --   Tells o a       the answer a is how the outcome o is told: the number of a refusal, or the number of pairs
 --   Handed l before after a
 --                   the pairs l handed over into a list that held `before`, if it takes them
@@ -8,7 +8,7 @@
 --                   that the book gives, and the list, which holds `after`, is that outcome's
 --   AsksFor r v work before after a
 --                   asked of the register r. Over any contents: the answer fits the list, and the words past it are as they were, all of them with a
---                   refusal, whose number is a cause's, never 0. For every book that the register represents: answer and list are the book's
+--                   refusal, whose number is a cause's. For every book that the register represents: answer and list are the book's
 --   AsksPairs r text work before after a
 --                   the same of a text
 -- Assumes nothing: these are definitions.
@@ -16,6 +16,7 @@ use mathlib.Core.Path.{_≡_}
 use mathlib.Core.List.{List}
 use Prim.Native.Nat.{ℕ, _≤_, _<_}
 use lib.ListN.{length, drop}
+use Rattle.book.specs.Causes.{short-list, number, Caused}
 use Rattle.book.specs.Book.{Book}
 use Rattle.paths.specs.Grammar.{Verdict}
 use Rattle.paths.specs.Verdicts.{verdict}
@@ -25,16 +26,16 @@ use Rattle.register.specs.declared.Register.{Register}
 use Rattle.pairs.specs.declared.PairsAnswer.{PairsAnswer}
 use Rattle.pairs.specs.declared.PairsAnswer.the-variants.{Pairs, Refused}
 
-unfoldable pub answerLength : PairsAnswer → ℕ
-answerLength (Pairs k) = k
-answerLength (Refused k) = 0
+unfoldable pub pairsLength : PairsAnswer → ℕ
+pairsLength (Pairs k) = k
+pairsLength (Refused k) = 0
 
 pub data Tells : Outcome → PairsAnswer → Type 0 where
   told-number : {k : ℕ} → Tells (refused k) (Refused k)
   told-pairs : {ws : List ℕ} → Tells (paired ws) (Pairs (length ws))
 
 pub data Handed (l before after : List ℕ) : PairsAnswer → Type 0 where
-  too-long : length before < length l → after ≡ before → Handed l before after (Refused 13)
+  too-long : length before < length l → after ≡ before → Handed l before after (Refused (number short-list))
   handed : length l ≤ length before → after ≡ over l before → Handed l before after (Pairs (length l))
 
 pub record BookPairs (b : Book) (v : Verdict) (work : ℕ) (before after : List ℕ) (a : PairsAnswer) : Type 0 where
@@ -42,10 +43,10 @@ pub record BookPairs (b : Book) (v : Verdict) (work : ℕ) (before after : List 
   pub list : after ≡ listAfter (pairsAnswer b v work (length before)) before
 
 pub record AsksFor (r : Register) (v : Verdict) (work : ℕ) (before after : List ℕ) (a : PairsAnswer) : Type 0 where
-  pub fits : answerLength a ≤ length before
-  pub past : drop (answerLength a) after ≡ drop (answerLength a) before
+  pub fits : pairsLength a ≤ length before
+  pub past : drop (pairsLength a) after ≡ drop (pairsLength a) before
   pub unchanged : (k : ℕ) → a ≡ Refused k → after ≡ before
-  pub cause : (k : ℕ) → a ≡ Refused k → 0 < k
+  pub caused : (k : ℕ) → a ≡ Refused k → Caused k
   pub book : (b : Book) → Represents r b → BookPairs b v work before after a
 
 abbrev pub AsksPairs : Register → List ℕ → ℕ → List ℕ → List ℕ → PairsAnswer → Type 0

@@ -2,30 +2,31 @@
 --   asks-refused    the verdict's number
 --   asks-short      12
 --   asks-handed     the pairs, or 13
---   faulty-some     a verdict's number is not 0
---   handed-fits, handed-past, handed-kept, handed-cause
---                   what is handed over fits the list, and leaves the words past it, all of them with a refusal, whose number is not 0
+--   faulty-caused   a verdict's number is a cause's
+--   handed-fits, handed-past, handed-kept, handed-caused
+--                   what is handed over fits the list, and leaves the words past it, all of them with a refusal, whose number is a cause's
 -- Assumes nothing.
-use mathlib.Core.Path.{_≡_, refl, ap, _∙_}
+use mathlib.Core.Path.{_≡_, refl, sym, ap, _∙_}
 use mathlib.Core.List.{List}
 use Prim.Native.Nat.{ℕ, _*_, _≤_, _<_}
 use native.Mathlib.Omega.{arith}
 use lib.ListN.{length, drop}
 use lib.Seq.{drop-at}
 use borrow.Author.Tests.{lt-ltb, le-ltb}
-use Rattle.book.specs.Causes.{number, firstNumber}
+use Rattle.book.specs.Causes.{short-list, number, Caused, firstNumber}
 use Rattle.book.specs.Book.{Book}
 use Rattle.k2.specs.Trees.{treeUnit}
 use Rattle.paths.specs.Expressions.{Expr}
 use Rattle.paths.specs.Grammar.{Verdict, accepted, long, outside, large, verdictCause}
 use Rattle.paths.specs.Chains.{asked}
 use Rattle.paths.specs.Relations.{pairs}
+use Rattle.paths.specs.PairLaws.{verdict-caused}
 use Rattle.paths.specs.Questions.{refused, paired, pairsOf, pairsCauses, pairsAnswer, listAfter}
 use Rattle.reader.specs.Reads.{answerOf}
 use Rattle.reader.specs.declared.Answer.the-variants.{Refused as Faulty}
 use Rattle.pairs.specs.declared.PairsAnswer.{PairsAnswer}
 use Rattle.pairs.specs.declared.PairsAnswer.the-variants.{Refused}
-use Rattle.pairs.specs.Asking.{answerLength, told-number, told-pairs, Handed, too-long, handed, BookPairs}
+use Rattle.pairs.specs.Asking.{pairsLength, told-number, told-pairs, Handed, too-long, handed, BookPairs}
 
 module _ (b : Book) (work room : ℕ) where
   pub asks-refused : (v : Verdict) (k : ℕ) → answerOf v ≡ Faulty k → pairsAnswer b v work room ≡ refused k
@@ -48,29 +49,29 @@ module _ (b : Book) (work room : ℕ) where
     unfolding pairsAnswer pairsCauses verdictCause firstNumber number pairsOf
     asks-paired l = rw (le-ltb work (32 * treeUnit (b .n)) h, le-ltb room (length (pairs (asked b) e)) l)
 
-pub faulty-some : (v : Verdict) (k : ℕ) → answerOf v ≡ Faulty k → 0 < k
+pub faulty-caused : (v : Verdict) (k : ℕ) → answerOf v ≡ Faulty k → Caused k
 unfolding answerOf verdictCause firstNumber number
-faulty-some (accepted e) k q = absurd (let z : _≡_ {A = ℕ} 0 1 = cc in omega arith)
-faulty-some long k q = let z : 10 ≡ k = cc in omega arith
-faulty-some outside k q = let z : 9 ≡ k = cc in omega arith
-faulty-some large k q = let z : 10 ≡ k = cc in omega arith
+faulty-caused (accepted e) k q = absurd (let z : _≡_ {A = ℕ} 0 1 = cc in omega arith)
+faulty-caused long k q = let z : 10 ≡ k = cc in verdict-caused long k z (omega arith)
+faulty-caused outside k q = let z : 9 ≡ k = cc in verdict-caused outside k z (omega arith)
+faulty-caused large k q = let z : 10 ≡ k = cc in verdict-caused large k z (omega arith)
 
 -- what is handed over is the outcome, told and listed
 pub asks-handed : (b : Book) (e : Expr) (work : ℕ) {before after : List ℕ} {a : PairsAnswer} → 32 * treeUnit (b .n) ≤ work → Handed (pairs (asked b) e) before after a
     → BookPairs b (accepted e) work before after a
-unfolding listAfter
+unfolding listAfter number
 asks-handed b e work {before} h (too-long l q) = let o = asks-long b work (length before) e h l in record { tells = rw o told-number; list = rw o q }
 asks-handed b e work {before} h (handed l q) = let o = asks-paired b work (length before) e h l in record { tells = rw o told-pairs; list = rw o q }
 
 -- ---- some pairs handed over
 module _ {l before after : List ℕ} where
-  pub handed-fits : {a : PairsAnswer} → Handed l before after a → answerLength a ≤ length before
-  unfolding answerLength
+  pub handed-fits : {a : PairsAnswer} → Handed l before after a → pairsLength a ≤ length before
+  unfolding pairsLength
   handed-fits (too-long h e) = omega arith
   handed-fits (handed h e) = h
 
-  pub handed-past : {a : PairsAnswer} → Handed l before after a → drop (answerLength a) after ≡ drop (answerLength a) before
-  unfolding answerLength
+  pub handed-past : {a : PairsAnswer} → Handed l before after a → drop (pairsLength a) after ≡ drop (pairsLength a) before
+  unfolding pairsLength
   handed-past (too-long h e) = e
   handed-past (handed h e) = ap (drop (length l)) e ∙ drop-at l (drop (length l) before) (length l) refl
 
@@ -78,6 +79,6 @@ module _ {l before after : List ℕ} where
   handed-kept (too-long h e) k q = e
   handed-kept (handed h e) k q = absurd (let z : _≡_ {A = ℕ} 0 1 = cc in omega arith)
 
-  pub handed-cause : {a : PairsAnswer} → Handed l before after a → (k : ℕ) → a ≡ Refused k → 0 < k
-  handed-cause (too-long h e) k q = let z : 13 ≡ k = cc in omega arith
-  handed-cause (handed h e) k q = absurd (let z : _≡_ {A = ℕ} 0 1 = cc in omega arith)
+  pub handed-caused : {a : PairsAnswer} → Handed l before after a → (k : ℕ) → a ≡ Refused k → Caused k
+  handed-caused (too-long h e) k q = let z : number short-list ≡ k = cc in (short-list, sym z)
+  handed-caused (handed h e) k q = absurd (let z : _≡_ {A = ℕ} 0 1 = cc in omega arith)
