@@ -7,10 +7,10 @@ use native.Mathlib.Omega.{arith}
 use lib.ListN.{length, take}
 use lib.Dec.{leb, eqb}
 use borrow.Author.Tests.{leb-false, not-false}
-use Rattle.book.specs.Basics.{has, without}
+use Rattle.book.specs.Basics.{has, without, All, all-none, all-more}
 use Rattle.book.specs.Causes.{Cause, bad-size, no-record, bad-label, locked-end, already, missing, full, none-held, no-expression, too-many-bytes, too-large, bad-tree, short-work, short-list, broken-frame, unknown-kind, not-open, number, editOrder, firstNumber, InOrder, none-left, same-cause, passed-over, maxRecords, labels, maxLinks, maxHeld}
 use Rattle.book.specs.Book.{Link, sameLink, Sheet, Book, Edit, add, remove, lock, unlock, Call, edit, undo, present, isLocked, causes, editAnswer, edited, turned, undoAnswer, undone, answer, next, fresh, answers, after}
-use Rattle.book.specs.Sheets.{Distinct, Proper, Fit, All, all-none, all-more, Sound}
+use Rattle.book.specs.Sheets.{Distinct, Proper, Fit, Sound}
 use Rattle.book.specs.SetLaws.{sameLink-test, eqb-test, and-both, or-neither, has-without, distinct-without, length-without}
 
 -- ---- causes

@@ -13,7 +13,7 @@ use Rattle.register.specs.Calls.{packedOf}
 use Rattle.register.specs.Inner.{Checks}
 use Rattle.register.specs.declared.LinkCheck.the-variants.{Word, Fault}
 use Rattle.register.proofs.Showing.{packedCauses, packedEdit}
-use Rattle.register.proofs.Stepping.{refuse, accept, remove-cause, remove-stop, link-proper}
+use Rattle.register.proofs.Stepping.{refuse, refuse-ranged, accept, remove-cause, remove-stop, link-proper}
 use Rattle.register.proofs.Register.remove.Statement.{statement}
 use Rattle.register.proofs.Register.remove.Tie as tie
 
@@ -47,7 +47,7 @@ causes-left c = let w = word (c .before .before .before .before .before) in remo
 
 returns : tie.Need-returns
 unfolding firstNumber number
-returns c = refuse (c .before .before .before .before .before .before .before .before .before .before .before .before .args .t1) (remove (link (c .before .before .before .before .before .before .before .before .before .before .before .before))) 6 (omega arith) (λ _ r. causes-left (c .before) r ∙ rw (c .if1 .taken))
+returns c = refuse-ranged (c .before .before .before .before .before .before .before .before .before .before .before .before .args .t1) (remove (link (c .before .before .before .before .before .before .before .before .before .before .before .before))) (word (c .before .before .before .before .before .before) .0) 6 (omega arith) (λ r. causes-left (c .before) r ∙ rw (c .if1 .taken))
 
 take-out-requires : tie.Need-take-out-requires
 take-out-requires c κs = word (c .before .before .before .before .before .before) .0 .count
@@ -68,7 +68,7 @@ hold-requires c κs =
 returns-2 : tie.Need-returns-2
 returns-2 c =
     let f = fault (c .before) in
-    refuse (c .before .before .before .before .before .before .before .args .t1) (remove (link (c .before .before .before .before .before .before .before))) _ (f .0) (λ h _. remove-stop (c .before .before .before .before .before .before .before .args .t1) (link (c .before .before .before .before .before .before .before)) _ (f .1 h) (f .0))
+    refuse (c .before .before .before .before .before .before .before .args .t1) (remove (link (c .before .before .before .before .before .before .before))) _ (f .0) (f .2) (λ h _. remove-stop (c .before .before .before .before .before .before .before .args .t1) (link (c .before .before .before .before .before .before .before)) _ (f .1 h) (f .0))
 
 returns-3 : tie.Need-returns-3
 unfolding firstNumber number packedEdit heldWord
