@@ -8,10 +8,10 @@ use lib.Dec.{leb, eqb}
 use lib.ListN.{length, take, set}
 use borrow.Author.Tests.{not-true, not-false}
 use Rattle.book.specs.Basics.{Rises, has}
-use Rattle.book.specs.Causes.{already, missing, full, not-open, firstNumber, number, maxRecords, maxLinks, maxHeld}
+use Rattle.book.specs.Causes.{already, missing, full, none-held, not-open, firstNumber, number, Caused, maxRecords, maxLinks, maxHeld}
 use Rattle.book.specs.Book.{Link, Sheet, Book, Edit, add, remove, Call, edit, undo, editAnswer, turned, undoAnswer, undone, freshAnswer, fresh, answer, next}
 use Rattle.book.specs.Sheets.{Proper}
-use Rattle.book.specs.BookLaws.{first-proper}
+use Rattle.book.specs.BookLaws.{caused-positive, first-proper}
 use Rattle.register.specs.Links.{linkWord}
 use Rattle.register.specs.Packed.{Packed, heldWord, takeBackKind, takeBack, Piled}
 use Rattle.register.specs.Calls.{answerOf, heldWords, packedOf, Ranged, InRange, Represents, Opens, Steps}
@@ -19,6 +19,15 @@ use Rattle.register.specs.Inner.{linkCauses, Guarded, Holding, Changed}
 use Rattle.register.specs.declared.Register.{Register}
 use Rattle.register.specs.declared.Answer.the-variants.{Done, Refused}
 use Rattle.register.proofs.Showing.{packedCauses, first-append, first-stop, shows-cause, packedEdit, shows-edited, taken-back}
+
+-- ---- answers
+-- the number of a refusal is its own
+caused-as : {k : ℕ} → Caused k → (j : ℕ) → Refused k ≡ Refused j → Caused j
+caused-as {k} c j e = let z : k ≡ j = cc in subst Caused z c
+
+-- an accepted call is not refused
+done-refused : {k : ℕ} → Done ≡ Refused k → ⊥
+done-refused e = let z : _≡_ {A = ℕ} 0 1 = cc in omega arith
 
 -- ---- contents out of range, which represent no book
 pub outside : (self : Register) (ok : Bool) → Guarded (self .n) (self .count) (self .top) (self .held) ok → not ok ≡ true → InRange self → ⊥
@@ -30,7 +39,7 @@ inside self ok g e = g .sure (not-false ok e)
 pub refuse-foreign : (self : Register) (c : Call) → (InRange self → ⊥) → Steps self c (record { register = self; answer = Refused 16 })
 unfolding number
 refuse-foreign self c none = record {
-  said = (16, refl);
+  caused = caused-as (not-open, refl);
   refused = λ _. refl;
   foreign = λ _. refl;
   answers = λ b h. absurd (none (h .ranged));
@@ -43,13 +52,13 @@ same-answer : (self : Register) (b : Book) (e : Edit) → Represents self b → 
 same-answer self b e h = rw (h .size) (shows-cause (subst (λ (n : ℕ). n ≤ maxRecords) (h .size) (h .ranged .size)) (h .sheet) e)
 
 module _ (self : Register) (e : Edit) where
-  pub refuse : (k : ℕ) → (k ≡ 0 → ⊥) → ((InRange self → ⊥) → k ≡ number not-open)
+  pub refuse : (k : ℕ) → Caused k → ((InRange self → ⊥) → k ≡ number not-open)
       → (InRange self → Rises 0 (packedOf self .links) → firstNumber (packedCauses (self .n) (packedOf self) e) ≡ k)
       → Steps self (edit e) (record { register = self; answer = Refused k })
   unfolding answer next turned
-  refuse zero z f p = absurd (z refl)
+  refuse zero z f p = absurd (omega (arith, caused-positive z))
   refuse (suc k) z f p = record {
-    said = (suc k, refl);
+    caused = caused-as z;
     refused = λ _. refl;
     foreign = λ o. ap answerOf (f o);
     answers = λ b h. ap answerOf (sym (told b h));
@@ -60,7 +69,7 @@ module _ (self : Register) (e : Edit) where
       told b h = sym (same-answer self b e h) ∙ p (h .ranged) (h .sheet .links .ascending)
 
   -- the same of contents in range
-  pub refuse-ranged : InRange self → (k : ℕ) → (k ≡ 0 → ⊥) → (Rises 0 (packedOf self .links) → firstNumber (packedCauses (self .n) (packedOf self) e) ≡ k)
+  pub refuse-ranged : InRange self → (k : ℕ) → Caused k → (Rises 0 (packedOf self .links) → firstNumber (packedCauses (self .n) (packedOf self) e) ≡ k)
       → Steps self (edit e) (record { register = self; answer = Refused k })
   refuse-ranged i k z p = refuse k z (λ o. absurd (o i)) (λ _. p)
 
@@ -88,7 +97,7 @@ module _ (self : Register) (e : Edit) (m r : Register) (inside : InRange self) (
   pub accept : Steps self (edit e) (record { register = r; answer = Done })
   unfolding answer next turned Piled
   accept = record {
-    said = (0, refl);
+    caused = λ k q. absurd (done-refused q);
     refused = λ x. absurd (x refl);
     foreign = λ o. absurd (o inside);
     answers = λ b h. ap answerOf (sym (none b h));
@@ -143,7 +152,7 @@ module _ (self : Register) (inside : InRange self) (none : heldWords self ≡ []
   pub refuse-undo : Steps self undo (record { register = self; answer = Refused 8 })
   unfolding answer next undoAnswer undone number
   refuse-undo = record {
-    said = (8, refl);
+    caused = caused-as (none-held, refl);
     refused = λ _. refl;
     foreign = λ o. absurd (o inside);
     answers = λ b h. rw (empty-pile _ _ (b .pile) (h .pile));
@@ -181,7 +190,7 @@ module _ (self : Register) (inside : InRange self) (w : ℕ) (r : Register) (u :
   pub accept-undo : Steps self undo (record { register = r; answer = Done })
   unfolding answer next
   accept-undo = record {
-    said = (0, refl);
+    caused = λ k q. absurd (done-refused q);
     refused = λ x. absurd (x refl);
     foreign = λ o. absurd (o inside);
     answers = λ b h. ap answerOf (sym (restored b h .0));

@@ -10,7 +10,7 @@
 --   Represents r b  the register r stands for the book b: n, links, locks, and every sheet that an undo could restore
 --   Opens n out     what asking for a fresh register promises
 --   Steps self c out
---                   what a call promises: a refused one hands the register back as it was, whatever it contains, and contents out of range are
+--                   what a call promises: a refused one has the number of a cause and hands the register back as it was, whatever it contains, and contents out of range are
 --                   refused as those of no register; and for every book that the register represents, the answer is the book's, and the register
 --                   handed back represents the book after the call
 -- Assumes nothing: these are definitions.
@@ -18,7 +18,7 @@ use mathlib.Core.Path.{_≡_}
 use mathlib.Core.List.{List, [], _∷_}
 use Prim.Native.Nat.{ℕ, zero, suc, _≤_, _<_}
 use lib.ListN.{take, getD}
-use Rattle.book.specs.Causes.{not-open, number, maxRecords, maxLinks, maxHeld}
+use Rattle.book.specs.Causes.{not-open, number, Caused, maxRecords, maxLinks, maxHeld}
 use Rattle.book.specs.Book.{Book, Call, answer, next, freshAnswer, fresh}
 use Rattle.register.specs.Packed.{Packed, Shows, Piled}
 use Rattle.register.specs.declared.Register.{Register}
@@ -71,8 +71,8 @@ pub record Opens (n : ℕ) (out : Opened) : Type 0 where
   pub empty : (freshAnswer n ≡ 0 → ⊥) → Represents (out .register) (fresh 0)
 
 pub record Steps (self : Register) (c : Call) (out : Outcome) : Type 0 where
-  -- over any contents: no refusal has the number 0
-  pub said : (k : ℕ) × (out .answer ≡ answerOf k)
+  -- over any contents: a refusal has the number of a cause
+  pub caused : (k : ℕ) → out .answer ≡ Refused k → Caused k
   pub refused : (out .answer ≡ Done → ⊥) → out .register ≡ self
   pub foreign : (InRange self → ⊥) → out .answer ≡ answerOf (number not-open)
   -- of a register that represents a book

@@ -20,7 +20,7 @@ use Prim.Native.Nat.{ℕ, suc, _/_, _%_, _≤_, _<_}
 use lib.ListN.{length, take, drop, getD}
 use lib.Dec.{leb, ltb, eqb}
 use Rattle.book.specs.Basics.{Rises}
-use Rattle.book.specs.Causes.{Cause, no-record, bad-label, locked-end, not-open, number, firstNumber, labels, maxRecords, maxLinks, maxHeld}
+use Rattle.book.specs.Causes.{Cause, no-record, bad-label, locked-end, not-open, number, Caused, firstNumber, labels, maxRecords, maxLinks, maxHeld}
 use Rattle.book.specs.Book.{Link}
 use Rattle.register.specs.Links.{linkWord}
 use Rattle.register.specs.Packed.{Packed, takeBackKind}
@@ -60,7 +60,7 @@ pub record Guarded (n c t h : ℕ) (ok : Bool) : Type 0 where
 -- a fault is the number of a refusal: of a register in range that of the first cause, of any other contents that of no register;
 -- a word is the link's, with no cause so far
 abbrev pub Checks : ℕ → ℕ → ℕ → ℕ → List Bool → Link → LinkCheck → Type 0
-Checks n c t h locks k (Fault z) = (z ≡ 0 → ⊥) × (Ranged n c t h → z ≡ firstNumber (linkCauses n locks k)) × ((Ranged n c t h → ⊥) → z ≡ number not-open)
+Checks n c t h locks k (Fault z) = Caused z × (Ranged n c t h → z ≡ firstNumber (linkCauses n locks k)) × ((Ranged n c t h → ⊥) → z ≡ number not-open)
 Checks n c t h locks k (Word x) = Ranged n c t h × (x ≡ linkWord k) × (firstNumber (linkCauses n locks k) ≡ 0)
 
 -- one more word is held, and the oldest is forgotten where 256 were

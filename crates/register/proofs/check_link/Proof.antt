@@ -3,7 +3,8 @@ use mathlib.Core.Path.{_≡_, refl, sym, _∙_}
 use native.Mathlib.Omega.{arith}
 use borrow.Author.Needs.{needs}
 use borrow.Author.Tests.{not-true, not-false}
-use Rattle.book.specs.Causes.{number, firstNumber}
+use Rattle.book.specs.Causes.{not-open, number, firstNumber}
+use Rattle.book.specs.BookLaws.{first-caused}
 use Rattle.book.specs.Book.{Link}
 use Rattle.register.specs.Calls.{Ranged}
 use Rattle.register.specs.Inner.{linkCauses}
@@ -16,7 +17,7 @@ ranged-requires c κs = search needs
 
 returns : tie.Need-returns
 unfolding number
-returns c = ((λ z. omega arith), (λ h. absurd (c .before .ranged .ensures .none (not-true _ (c .if1 .taken)) h)), λ _. refl)
+returns c = ((not-open, refl), (λ h. absurd (c .before .ranged .ensures .none (not-true _ (c .if1 .taken)) h)), λ _. refl)
 
 in-range : (c : tie.Else1) → Ranged (c .before .before .before .args .n) (c .before .before .before .args .count) (c .before .before .before .args .top) (c .before .before .before .args .held)
 in-range c = c .before .ranged .ensures .sure (not-false _ (c .if1 .left))
@@ -25,7 +26,7 @@ link-cause-requires : tie.Need-link-cause-requires
 link-cause-requires c κs = omega (arith, in-range (c) .size, c .before .before .before .pre)
 
 returns-2 : tie.Need-returns-2
-returns-2 c = (c .if2 .taken, (λ _. c .before .link-cause .ensures), λ o. absurd (o (in-range (c .before .before))))
+returns-2 c = (first-caused _ (c .before .link-cause .ensures) (c .if2 .taken), (λ _. c .before .link-cause .ensures), λ o. absurd (o (in-range (c .before .before))))
 
 abbrev link : (c : tie.Start) → Link
 link c = record { from = c .args .from; label = c .args .label; to = c .args .to }
