@@ -8,17 +8,17 @@
 --   none-linked     a fresh register shows no link
 -- Assumes nothing.
 use mathlib.Core.Path.{_≡_, refl, sym, ap, _∙_, subst}
-use mathlib.Core.List.{List, [], _∷_, _++_, map}
+use mathlib.Core.List.{List, [], _∷_, _++_}
 use mathlib.Core.Bool.{Bool, true, false}
 use Prim.Native.Nat.{ℕ, zero, suc, _+_, _*_, _≤_, _<_}
 use native.Mathlib.Omega.{arith}
 use lib.Dec.{leb, ltb}
-use lib.ListN.{length, take, drop, length-append, length-drop, length-map}
-use lib.Seq.{length-take-le, take-append-seam, drop-append-seam}
+use lib.ListN.{length, take, drop, length-append, length-drop}
+use lib.Seq.{length-take-le}
 use borrow.Author.Tests.{lt-leb, le-ltb}
+use Rattle.book.specs.Basics.{pick, bit, here, has}
 use Rattle.book.specs.Causes.{number, firstNumber, maxRecords}
 use Rattle.book.specs.Book.{Book, Call, fresh, answers, after, freshAnswer}
-use Rattle.book.specs.BookLaws.{answers-length}
 use Rattle.paths.specs.Expressions.{Expr}
 use Rattle.paths.specs.Grammar.{Verdict, accepted, Judged, verdictCause}
 use Rattle.paths.specs.Chains.{asked, Step, stepWords, Answers, First, Reply, none, chain, ChainIs, no-chain, first-chain}
@@ -28,10 +28,10 @@ use Rattle.paths.specs.FirstChain.{has-first}
 use Rattle.paths.specs.Verdicts.{verdict, verdict-only}
 use Rattle.paths.specs.Questions.{Outcome, refused, paired, replied, unless, pairsWork, chainWork, ReplyTo, steps, chainCauses, chainAnswer, pairsAnswer, over, listAfter}
 use Rattle.register.specs.Links.{Linked}
-use Rattle.register.specs.Calls.{Represents, Opens, wordCall}
-use Rattle.register.specs.History.{Run, replayNumber, Replays}
-use Rattle.register.specs.HistoryLaws.{history}
-use Rattle.register.specs.Questions.{Listing, Locks}
+use Rattle.register.specs.Calls.{Represents, Opens}
+use Rattle.register.specs.History.{CallsMade, wordCall, wordAnswers, isCall, callsOf, toldCalls}
+use Rattle.register.specs.HistoryLaws.{history, word-answers-length, told-calls}
+use Rattle.register.specs.Questions.{Listing, LockList}
 use Rattle.register.specs.declared.Register.{Register}
 use Rattle.register.specs.declared.Links.{Links}
 use Rattle.register.specs.declared.Opened.{Opened}
@@ -64,7 +64,7 @@ pairs-claim {r} {b} R q Q e A =
       λ h.
           let o : pairsAnswer b (verdict (q .text)) (q .work) (length (q .before)) ≡ paired l =
           ap (λ (u : Verdict). pairsAnswer b u (q .work) (length (q .before))) (sym v) ∙ asks-paired b (q .work) (length (q .before)) e (A .work) h in
-          (told-as l (Q .tells b R) o, Q .list b R ∙ ap (λ (u : Outcome). listAfter u (q .before)) o),
+          (told-as l (Q .book b R .tells) o, Q .book b R .list ∙ ap (λ (u : Outcome). listAfter u (q .before)) o),
     )
 
 -- ---- chain questions
@@ -152,7 +152,7 @@ chain-claim {r} {b} R q Q e A =
 -- what the register at the end gave when it was read and asked
 pub record Gave (r : Register) (i : Transcript) : Type 0 where
   pub links : (ls : Links) × Listing r ls × (i .links ≡ take (ls .count) (ls .words))
-  pub locks : Locks r (i .locks)
+  pub locks : LockList r (i .locks)
   pub pairs : AsksPairs r (i .pairs .text) (i .pairs .work) (i .pairs .before) (i .pairs .after) (i .pairs .answer)
   pub chain : Replies r (i .chain .from) (i .chain .to) (i .chain .text) (i .chain .work) (i .chain .before) (i .chain .after) (i .chain .answer)
 
@@ -168,7 +168,7 @@ module _ {r : Register} (i : Transcript) (G : Gave r i) where
         chain = chain-claim R (i .chain) (G .chain);
       }
 
-  pub demand-3 : {out : Opened} → 1 ≤ i .n → i .n ≤ maxRecords → Opens (i .n) out → Run (out .register) (i .calls) (i .told) r → Demand i
+  pub demand-3 : {out : Opened} → 1 ≤ i .n → i .n ≤ maxRecords → Opens (i .n) out → CallsMade (out .register) (i .calls) (i .told) r → Demand i
   unfolding freshAnswer
   demand-3 l h O run =
       let z : freshAnswer (i .n) ≡ 0 = rw (le-ltb (i .n) 1 l, le-ltb maxRecords (i .n) h) in
@@ -186,7 +186,7 @@ told-front (w ∷ ws) (k ∷ xs) ys h = ap (λ (l : List ℕ). pick (isCall (wor
 -- the calls among the words are told the book's answers
 pub replayed-calls : (n : ℕ) (words old new : List ℕ) → new ≡ wordAnswers (fresh n) words ++ drop (length words) old → toldCalls words new ≡ answers (fresh n) (callsOf words)
 replayed-calls n words old new e =
-    ap (toldCalls words) e ∙ told-front words (wordAnswers (fresh n) words) (drop (length words) old) (wordAnswers-length (fresh n) words) ∙ told-calls (fresh n) words
+    ap (toldCalls words) e ∙ told-front words (wordAnswers (fresh n) words) (drop (length words) old) (word-answers-length (fresh n) words) ∙ told-calls (fresh n) words
 
 -- a fresh register shows no link
 pub none-linked : (n : ℕ) (ws : List ℕ) → Linked ws (fresh n .sheet) → ws ≡ []

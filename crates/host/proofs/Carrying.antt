@@ -1,15 +1,20 @@
 -- Laws by which a promise of the engine is carried over to words: words have one register (`keeps-same`), so what holds of the one that was loaded holds of
 -- every register whose words they are. Assumes nothing.
 use mathlib.Core.Path.{_≡_, refl, sym, ap, subst, _∙_}
-use mathlib.Core.Bool.{Bool, true, false, true≢false, false≢true}
+use mathlib.Core.Bool.{Bool, true, false, _||_, true≢false, false≢true}
 use mathlib.Core.List.{List, _++_}
-use Prim.Native.Nat.{ℕ, _+_, _<_}
+use Prim.Native.Nat.{ℕ, _+_, _≤_, _<_}
 use native.Mathlib.Decide.{decLt}
 use native.Mathlib.Omega.{arith}
 use mir.Val.{boolByte}
+use lib.Dec.{ltb}
 use lib.ListN.{length, take, drop}
+use borrow.Author.Tests.{lt-ltb, le-ltb}
+use Rattle.book.specs.Basics.{pick}
+use Rattle.book.specs.Causes.{short-work, short-list, not-open, number, Caused, firstNumber, maxRecords}
 use Rattle.book.specs.Book.{Book, Call, freshAnswer, fresh}
-use Rattle.register.specs.Calls.{answerNumber, Ranged, Represents, Opens, Steps}
+use Rattle.register.specs.Calls.{answerOf, answerNumber, Represents, Opens, Steps}
+use Rattle.register.specs.HistoryLaws.{number-answer}
 use Rattle.register.specs.Questions.{Sized, Listing, Locking}
 use Rattle.register.specs.Words.{stateWords, lockWord, Keeps, Foreign, Copies, Loads, Stores}
 use Rattle.register.specs.WordLaws.{keeps-long, keeps-same}
@@ -17,11 +22,16 @@ use Rattle.register.specs.declared.Register.{Register}
 use Rattle.register.specs.declared.Outcome.{Outcome}
 use Rattle.register.specs.declared.Opened.{Opened}
 use Rattle.register.specs.declared.Links.{Links}
-use Rattle.register.specs.declared.Answer.the-variants.{Refused}
+use Rattle.register.specs.declared.Answer.{Answer}
+use Rattle.register.specs.declared.Answer.the-variants.{Done, Refused}
 use Rattle.pairs.specs.Asking.{Handed, too-long, handed}
 use Rattle.pairs.specs.declared.PairsAnswer.the-variants.{Pairs, Refused as Unpaired}
-use Rattle.host.specs.Host.{Freshens, Edits, refusal, toldPairs, Told, Asked, Lists, Sizes, TellsLock}
+use Rattle.host.specs.Host.{freshNumber, Freshens, Edits, refusal, toldPairs, Told, Asked, Lists, Sizes, TellsLock}
 use Rattle.host.specs.Inner.{Finishes, refused, kept, lost}
+
+-- a refused call is not accepted
+refused-done : {k : ℕ} → Refused k ≡ Done → ⊥
+refused-done e = let z : _≡_ {A = ℕ} 0 1 = cc in omega arith
 
 -- ---- what was loaded, by the number of the answer
 module _ {ws : List ℕ} {o : Opened} {k : ℕ} (l : Loads ws o) (e : k ≡ answerNumber (o .answer)) where
@@ -62,23 +72,76 @@ module _ {c : Call} {before after : List ℕ} {k : ℕ} {r : Register} (w : Keep
       told : {j : ℕ} → j ≡ number not-open → j ≡ answerNumber (answerOf (number not-open))
       told q = q ∙ sym (number-answer (number not-open))
 
+      told-as : {j : ℕ} → answerOf (number not-open) ≡ Refused j → number not-open ≡ j
+      unfolding number
+      told-as q = cc
+
       unmet : Steps r c (record { register = r; answer = answerOf (number not-open) })
-      unmet = record { said = (number not-open, refl); refused = λ _. refl; foreign = λ _. refl; answers = λ b h. absurd (none b h); follows = λ b h. absurd (none b h) }
+      unmet = record { caused = λ j q. (not-open, sym (told-as q)); refused = λ _. refl; foreign = λ _. refl; answers = λ b h. absurd (none b h); follows = λ b h. absurd (none b h) }
 
 -- ---- a fresh register
+-- the number of asking for one: by its size first, then by the room
+module _ (n room : ℕ) where
+  pub size-first : (freshAnswer n ≡ 0 → ⊥) → freshNumber n room ≡ freshAnswer n
+  unfolding freshAnswer freshNumber firstNumber number
+  size-first z = go (ltb n 1 || ltb maxRecords n) z
+    where
+      go : (t : Bool) → (pick t 1 0 ≡ 0 → ⊥) → pick t 1 (pick (ltb room stateWords) 12 0) ≡ pick t 1 0
+      go true z = refl
+      go false z = absurd (z refl)
+
+  by-room : freshAnswer n ≡ 0 → freshNumber n room ≡ pick (ltb room stateWords) (number short-work) 0
+  unfolding freshAnswer freshNumber firstNumber number
+  by-room z = go (ltb n 1 || ltb maxRecords n) z
+    where
+      go : (t : Bool) → pick t 1 0 ≡ 0 → pick t 1 (pick (ltb room stateWords) 12 0) ≡ pick (ltb room stateWords) 12 0
+      go true z = absurd (omega arith)
+      go false z = refl
+
+  pub room-short : freshAnswer n ≡ 0 → room < stateWords → freshNumber n room ≡ number short-work
+  room-short z l = by-room z ∙ ap (λ (t : Bool). pick t (number short-work) 0) (lt-ltb room stateWords l)
+
+  pub room-enough : freshAnswer n ≡ 0 → stateWords ≤ room → freshNumber n room ≡ 0
+  room-enough z l = by-room z ∙ ap (λ (t : Bool). pick t (number short-work) 0) (le-ltb room stateWords l)
+
 module _ {n : ℕ} {o : Opened} (p : Opens n o) (before : List ℕ) where
-  -- the number, by the register's own and by the room
-  size-first : (freshAnswer n ≡ 0 → ⊥) → freshNumber n (length before) ≡ freshAnswer n
-  size-first = ?
+  answered : {k : ℕ} → k ≡ answerNumber (o .answer) → k ≡ freshAnswer n
+  answered e = e ∙ ap answerNumber (p .answers) ∙ number-answer (freshAnswer n)
 
   pub fresh-refused : {k : ℕ} → k ≡ answerNumber (o .answer) → (k ≡ 0 → ⊥) → Freshens n before before k
-  fresh-refused {k} e z = ?
+  fresh-refused {k} e z = record {
+    number = answered e ∙ sym (size-first n (length before) (λ y. z (answered e ∙ y)));
+    refused = λ _. refl;
+    made = λ y. absurd (z y);
+    past = refl;
+  }
 
   pub fresh-short : answerNumber (o .answer) ≡ 0 → (after : List ℕ) (ok : Bool) → Stores (o .register) before after ok → ok ≡ false → Freshens n before after (number short-work)
-  fresh-short e after ok s f = ?
+  unfolding number
+  fresh-short e after ok s f = go (decLt (length before) stateWords)
+    where
+      z : freshAnswer n ≡ 0
+      z = sym (answered (sym e))
+
+      go : Dec (length before < stateWords) → Freshens n before after (number short-work)
+      go (yes l) = record {
+        number = sym (room-short n (length before) z l);
+        refused = λ _. s .refused f .0;
+        made = λ y. absurd (let w : _≡_ {A = ℕ} 12 0 = y in omega arith);
+        past = ap (drop stateWords) (s .refused f .0);
+      }
+      go (no l) = absurd (s .refused f .1 (omega (arith, l)) (p .made z .ranged))
 
   pub fresh-made : answerNumber (o .answer) ≡ 0 → (after : List ℕ) (ok : Bool) → length after ≡ length before → Stores (o .register) before after ok → ok ≡ true → Freshens n before after 0
-  fresh-made e after ok l s f = ?
+  fresh-made e after ok l s f =
+      let z : freshAnswer n ≡ 0 = sym (answered (sym e)) in
+      let w = s .done f in
+      record {
+        number = sym (room-enough n (length before) z (omega (arith, l, keeps-long (w .0))));
+        refused = λ y. absurd (y refl);
+        made = λ _. (o .register, w .0, p .made z);
+        past = w .1;
+      }
 
 -- ---- questions
 module _ {A : Type 0} {ws : List ℕ} {P : Register → A → Type 0} {f : A → ℕ} {before after : List ℕ} {k : ℕ} where
@@ -93,10 +156,10 @@ abbrev front : Links → List ℕ
 front ls = take (ls .count) (ls .words)
 
 module _ {ws before after : List ℕ} {r : Register} (w : Keeps ws r) (ls : Links) (g : Listing r ls) {ok : Bool} (c : Copies (front ls) 0 before after ok) {k : ℕ} where
-  pub links-short : ok ≡ false → k ≡ refusal 13 → Asked ws (Lists before after) toldPairs before after k
-  links-short f e = asked w (Unpaired 13) (ls, g, go (decLt (length before) (length (front ls)))) e
+  pub links-short : ok ≡ false → k ≡ refusal (number short-list) → Asked ws (Lists before after) toldPairs before after k
+  links-short f e = asked w (Unpaired (number short-list)) (ls, g, go (decLt (length before) (length (front ls)))) e
     where
-      go : Dec (length before < length (front ls)) → Handed (front ls) before after (Unpaired 13)
+      go : Dec (length before < length (front ls)) → Handed (front ls) before after (Unpaired (number short-list))
       go (yes l) = too-long l (c .short (omega (arith, l)) .1)
       go (no l) = absurd (false≢true (sym f ∙ c .fits (omega (arith, l)) .0))
 
@@ -123,6 +186,6 @@ module _ {ws : List ℕ} where
 
   pub locked-word : {r : Register} {x : ℕ} (l : Bool) → Keeps ws r → Locking r x l → TellsLock ws x (boolByte l)
   locked-word {r} {x} l w z = record {
-    locked = λ b h. byte l ∙ ap lockWord (subst (λ (t : Register). Locking t x l) (keeps-same w (h .1)) z b (h .2));
+    locked = λ b h. byte l ∙ ap lockWord (subst (λ (t : Register). Locking t x l) (keeps-same w (h .1)) z .locked b (h .2));
     foreign = λ g. absurd (g r w);
   }
