@@ -30,7 +30,7 @@ use Rattle.host.specs.Host.{freshNumber, Freshens, Edits, refusal, toldP
 use Rattle.host.specs.Inner.{Finishes, refused, kept, lost}
 
 -- a refused call is not accepted
-refused-done : {k : ℕ} → Refused k ≡ Done → ⊥
+pub refused-done : {k : ℕ} → Refused k ≡ Done → ⊥
 refused-done e = let z : _≡_ {A = ℕ} 0 1 = cc in omega arith
 
 -- ---- what was loaded, by the number of the answer
@@ -39,10 +39,10 @@ module _ {ws : List ℕ} {o : Opened} {k : ℕ} (l : Loads ws o) (e : k ≡ answ
   load-none z = l .refused (λ d. z (e ∙ ap answerNumber d)) .1
 
   pub load-some : k ≡ 0 → Keeps ws (o .register)
+  unfolding number
   load-some z = go (o .answer) refl
     where
       go : (a : Answer) → o .answer ≡ a → Keeps ws (o .register)
-      unfolding number
       go Done q = l .loaded q
       go (Refused j) q =
           let n = l .refused (λ d. refused-done (sym q ∙ d)) .0 in
@@ -60,6 +60,7 @@ module _ {c : Call} {before after : List ℕ} {k : ℕ} {r : Register} (w : Keep
   stepped e p t = record { refused = e; past = p; foreign = λ f. absurd (f r w); steps = λ s v. subst (Stepped c after k) (keeps-same w v) t }
 
   pub edit-kept : {o : Outcome} → Steps r c o → Finishes o before after k → Edits c before after k
+  unfolding number
   edit-kept {o} t (refused n e a) =
       stepped (λ _. a) (ap (drop stateWords) a) (o, t, e, subst (λ (ws : List ℕ). Keeps ws (o .register)) (sym a) (subst (Keeps before) (sym (t .refused n)) w))
   edit-kept {o} t (kept n e v p) = stepped (λ z. absurd (z e)) p (o, t, e ∙ sym (ap answerNumber n), v)
@@ -73,7 +74,6 @@ module _ {c : Call} {before after : List ℕ} {k : ℕ} {r : Register} (w : Keep
       told q = q ∙ sym (number-answer (number not-open))
 
       told-as : {j : ℕ} → answerOf (number not-open) ≡ Refused j → number not-open ≡ j
-      unfolding number
       told-as q = cc
 
       unmet : Steps r c (record { register = r; answer = answerOf (number not-open) })
@@ -86,7 +86,7 @@ module _ (n room : ℕ) where
   unfolding freshAnswer freshNumber firstNumber number
   size-first z = go (ltb n 1 || ltb maxRecords n) z
     where
-      go : (t : Bool) → (pick t 1 0 ≡ 0 → ⊥) → pick t 1 (pick (ltb room stateWords) 12 0) ≡ pick t 1 0
+      go : (t : Bool) → (_≡_ {A = ℕ} (pick t 1 0) 0 → ⊥) → _≡_ {A = ℕ} (pick t 1 (pick (ltb room stateWords) 12 0)) (pick t 1 0)
       go true z = refl
       go false z = absurd (z refl)
 
@@ -94,7 +94,7 @@ module _ (n room : ℕ) where
   unfolding freshAnswer freshNumber firstNumber number
   by-room z = go (ltb n 1 || ltb maxRecords n) z
     where
-      go : (t : Bool) → pick t 1 0 ≡ 0 → pick t 1 (pick (ltb room stateWords) 12 0) ≡ pick (ltb room stateWords) 12 0
+      go : (t : Bool) → _≡_ {A = ℕ} (pick t 1 0) 0 → _≡_ {A = ℕ} (pick t 1 (pick (ltb room stateWords) 12 0)) (pick (ltb room stateWords) 12 0)
       go true z = absurd (omega arith)
       go false z = refl
 
