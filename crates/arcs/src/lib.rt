@@ -1,9 +1,9 @@
 // The crossings of a sheet's links as arcs, and an index that leads from a record to its arcs.
 ghost use mathlib.Core.Path.{_≡_};
-ghost use Prim.Native.Nat.{_*_, _≤_};
+ghost use Prim.Native.Nat.{_*_, _<_, _≤_};
 ghost use lib.ListN.{length};
 ghost use Rattle.arcs.specs.Arcs.{arcOf, arcFrom, arcTo, Crossings};
-ghost use Rattle.arcs.specs.Index.{keyAt, Indexed};
+ghost use Rattle.arcs.specs.Index.{keyAt, firstArc, nextArc, Indexed};
 
 // The word of a link crossed, forward or against its sense.
 fn arc(w: u32, sense: u32) -> u32
@@ -78,4 +78,20 @@ pub fn index_by_left(arcs: &[u32], count: usize) -> [u16; 9216]
     ensures { λ r. ⌜ Indexed (arcFrom (now (arcs .entry))) count r ⌝ }
 {
     index_of(arcs, count, LEFT)
+}
+
+// The first arc of the record r: its number and 1, or 0 for none.
+pub fn first_arc(index: &[u16], r: usize) -> usize
+    requires { ⌜ (length (now index) ≡ 9216) × (r < 1024) ⌝ }
+    ensures { λ p. ⌜ p ≡ firstArc (now (index .entry)) r ⌝ }
+{
+    index[r] as usize
+}
+
+// The arc after arc j of the same record: its number and 1, or 0 for none.
+pub fn next_arc(index: &[u16], j: usize) -> usize
+    requires { ⌜ (length (now index) ≡ 9216) × (j < 8192) ⌝ }
+    ensures { λ p. ⌜ p ≡ nextArc (now (index .entry)) j ⌝ }
+{
+    index[1024 + j] as usize
 }

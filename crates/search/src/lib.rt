@@ -71,14 +71,14 @@ fn into(
     ensures { λ k. ⌜ Listed (now (list .exit)) k n (now (next .exit)) × ((cur records : List ℕ) (i : ℕ) → r ≡ getD records i 0 → m ≡ getD cur r 0 → Levelling (now (arcs .entry)) (now (pred .entry)) (now (enter .entry)) cur (now (seen .entry)) n count records i count (now (next .entry)) → Levelling (now (arcs .entry)) (now (pred .entry)) (now (enter .entry)) cur (now (seen .entry)) n count records (i + 1) count (now (next .exit))) ⌝ }
 {
     let mut k = c;
-    let mut p = index[r] as usize;
+    let mut p = arcs::first_arc(index, r);
     while p != 0 {
         let j = p - 1;
         let a = arcs[j] as usize;
         let from = a / 1024 % 1024;
         let v = spread(pred, m & enter[a / 1048576 % 64]);
         k = add_states(next, list, k, n, from, v & !seen[from]);
-        p = index[1024 + j] as usize;
+        p = arcs::next_arc(index, j);
     }
     k
 }
@@ -294,7 +294,7 @@ fn choose(
         word: NO_STEP,
         states: 0,
     };
-    let mut p = index[r] as usize;
+    let mut p = arcs::first_arc(index, r);
     while p != 0 {
         let j = p - 1;
         let a = arcs[j] as usize;
@@ -302,7 +302,7 @@ fn choose(
         let letter = a / 1048576 % 64;
         let k = kept(work, n, to, fo & enter[letter] & seen[to], want);
         best = better(best, (letter * 1024 + to) as u32, k);
-        p = index[1024 + j] as usize;
+        p = arcs::next_arc(index, j);
     }
     best
 }

@@ -1,4 +1,5 @@
--- `index_of` meets its contract. The loop's invariant: it is met for the first j arcs (Indexed). The measure is what is left of the arcs. Assumes nothing.
+-- `index_of` goes over the arcs. The loop's invariant: the index is that of the first j arcs (`Indexed`). The measure is what is left of the arcs. It rests on
+-- `indexed-more`. Assumes nothing.
 use mathlib.Core.Path.{_≡_}
 use Prim.Native.Nat.{ℕ, _-_, _≤_}
 use native.Mathlib.Omega.{arith}

@@ -3,11 +3,11 @@
 -- `levelling-more`. Assumes nothing.
 use mathlib.Core.Path.{_≡_, refl, _∙_}
 use mathlib.Core.List.{List}
-use Prim.Native.Nat.{ℕ, _+_, _-_, _≤_, _<_}
+use Prim.Native.Nat.{ℕ, _-_, _≤_, _<_}
 use native.Mathlib.Omega.{arith}
 use lib.ListN.{length, getD}
 use Rattle.arcs.specs.Arcs.{arcFrom, arcTo, arcLetter}
-use Rattle.arcs.specs.Index.{firstArc, nextArc, Cursor}
+use Rattle.arcs.specs.Index.{Cursor}
 use Rattle.arcs.specs.IndexLaws.{next-falls, cursor-next}
 use Rattle.search.specs.Frontiers.{Levelling, Listed}
 use Rattle.search.proofs.LevellingLaws.{levelling-first, levelling-more, levelling-done}
@@ -23,21 +23,16 @@ abbrev μ-loop : tie.MeasureT-loop
 μ-loop arcs count index pred enter r m seen n next₀ list₀ c k₀ p₀ next list k p = p
 
 -- the arc at which p stands
-stands : (c : tie.In-loop Inv-loop μ-loop) → (0 < c .before .loop .p) × (c .before .loop .p ≤ 8192)
-stands c = let z = c .before .loop .inv .2 .0 in (omega arith, omega arith)
+stands : (c : tie.In-loop Inv-loop μ-loop) → (0 < c .before .loop .p) × (c .before .loop .p ≤ c .before .before .before .before .before .before .before .before .before .before .args .count)
+stands c = (omega arith, c .before .loop .inv .2 .0)
 
-mul-p : tie.Need-mul-p Inv-loop μ-loop
-mul-p c = omega arith
-
-shared-slice-read-p : tie.Need-shared-slice-read-p Inv-loop μ-loop
-shared-slice-read-p c = omega arith
-
-cast-p : tie.Need-cast-p Inv-loop μ-loop
-cast-p c = let f = c .shared-slice-known6 .given (c .before .before .before .before .before .before .before .before .args .r) in omega arith
+first-arc-requires : tie.Need-first-arc-requires Inv-loop μ-loop
+first-arc-requires c κs = (c .before .before .before .before .before .before .before .pre .2, c .before .before .before .before .before .before .before .pre .5)
 
 loop-holds : tie.Need-loop-holds Inv-loop μ-loop
-unfolding firstArc
-loop-holds c = let p = c .before .before .before .before .before .before .before .before .pre in (refl, refl, p .10 .first-at _ (p .5), p .11, λ cur records i at e L. levelling-first at (p .10) L)
+loop-holds c =
+    let p = c .before .before .before .before .before .before .before .before .pre in
+    rw (c .first-arc .ensures) (refl, refl, p .10 .first-at _ (p .5), p .11, λ cur records i at e L. levelling-first at (p .10) L)
 
 sub-j : tie.Need-sub-j Inv-loop μ-loop
 sub-j c = omega arith
@@ -46,10 +41,10 @@ mul-a : tie.Need-mul-a Inv-loop μ-loop
 mul-a c = omega arith
 
 shared-slice-read-a : tie.Need-shared-slice-read-a Inv-loop μ-loop
-shared-slice-read-a c = let z = c .before .before .loop .inv .2 .0 in omega arith
+shared-slice-read-a c = omega (arith, stands (c .before))
 
 cast-a : tie.Need-cast-a Inv-loop μ-loop
-cast-a c = let f = c .shared-slice-known7 .given (c .before .before .loop .p - 1) in omega arith
+cast-a c = omega (arith, c .shared-slice-known6 .given (c .before .before .loop .p - 1) .fits)
 
 mul-spread : tie.Need-mul-spread Inv-loop μ-loop
 mul-spread c = omega arith
@@ -69,33 +64,23 @@ shared-slice-read-add-states c = omega arith
 add-states-requires : tie.Need-add-states-requires Inv-loop μ-loop
 add-states-requires c κs = (c .before .before .before .before .before .before .before .before .before .before .before .before .before .before .before .before .pre .7, omega arith, omega arith, omega arith, c .before .before .before .before .before .before .before .loop .inv .3)
 
-add-p : tie.Need-add-p Inv-loop μ-loop
-add-p c = omega (arith, stands (c .before .before .before .before .before .before .before .before .before .before .before))
-
-mul-p-2 : tie.Need-mul-p-2 Inv-loop μ-loop
-mul-p-2 c = omega (arith, stands (c .before .before .before .before .before .before .before .before .before .before .before))
-
-shared-slice-read-p-2 : tie.Need-shared-slice-read-p-2 Inv-loop μ-loop
-shared-slice-read-p-2 c = omega (arith, stands (c .before .before .before .before .before .before .before .before .before .before .before .before))
-
-cast-p-2 : tie.Need-cast-p-2 Inv-loop μ-loop
-cast-p-2 c = let f = c .shared-slice-known10 .given (1024 + (c .before .before .before .before .before .before .before .before .before .before .before .before .before .loop .p - 1)) in omega (arith, f .fits)
+next-arc-requires : tie.Need-next-arc-requires Inv-loop μ-loop
+next-arc-requires c κs = (c .before .before .before .before .before .before .before .before .before .before .before .before .before .before .before .before .before .before .before .before .before .pre .2, omega (arith, stands (c .before .before .before .before .before .before .before .before .before .before .before)))
 
 loop-less : tie.Need-loop-less Inv-loop μ-loop
-unfolding nextArc
-loop-less c = let z = stands (c .before .before .before .before .before .before .before .before .before .before .before .before) in omega (arith, next-falls (c .before .before .before .before .before .before .before .before .before .before .before .before .before .before .before .before .before .before .before .before .before .before .pre .10) (c .before .before .before .before .before .before .before .before .before .before .before .before .before .loop .inv .2) (z .0))
+loop-less c = let z = stands (c .before .before .before .before .before .before .before .before .before .before .before .before) in omega (arith, c .next-arc .ensures, next-falls (c .before .before .before .before .before .before .before .before .before .before .before .before .before .before .before .before .before .before .before .before .before .before .pre .10) (c .before .before .before .before .before .before .before .before .before .before .before .before .before .loop .inv .2) (z .0))
 
 loop-again : tie.Need-loop-again Inv-loop μ-loop
-unfolding arcFrom arcTo arcLetter nextArc
+unfolding arcFrom arcTo arcLetter
 loop-again c =
     let s = c .before .before .before .before .before .before .before .before .before .before .before .before .before .before .before .before .before .before .before .before .before .before .args in
     let X = c .before .before .before .before .before .before .before .before .before .before .before .before .before .before .before .before .before .before .before .before .before .before .pre .10 in
     let l = c .before .before .before .before .before .before .before .before .before .before .before .before .before .loop in
     let hp = stands (c .before .before .before .before .before .before .before .before .before .before .before .before) .0 in
     let v = c .before .before .before .before .before .before .before .before .before .spread in
-    let word = c .before .before .before .before .before .before .shared-slice-known9 .given (arcFrom (s .arcs .now) (l .p - 1)) .fits in
+    let word = c .before .before .before .before .before .before .shared-slice-known8 .given (arcFrom (s .arcs .now) (l .p - 1)) .fits in
     let A = c .before .before .before .before .before .add-states in
-    (A .kept .0 ∙ l .inv .0, A .kept .1 .0 ∙ l .inv .1, cursor-next X (l .inv .2) hp, A .ensures .0, λ cur records i at e L. levelling-more at X (l .inv .2) hp (l .inv .4 cur records i at e L) _ (v .result) e (v .ensures) word (A .ensures .1))
+    rw (c .next-arc .ensures) (A .kept .0 ∙ l .inv .0, A .kept .1 .0 ∙ l .inv .1, cursor-next X (l .inv .2) hp, A .ensures .0, λ cur records i at e L. levelling-more at X (l .inv .2) hp (l .inv .4 cur records i at e L) _ (v .result) e (v .ensures) word (A .ensures .1))
 
 same-length : tie.Need-same-length Inv-loop μ-loop
 same-length c = c .before .loop .inv .0
@@ -112,9 +97,7 @@ into-spec =
     (tie.spec
     Inv-loop
     μ-loop
-    mul-p
-    shared-slice-read-p
-    cast-p
+    first-arc-requires
     loop-holds
     sub-j
     mul-a
@@ -126,10 +109,7 @@ into-spec =
     mul-add-states
     shared-slice-read-add-states
     add-states-requires
-    add-p
-    mul-p-2
-    shared-slice-read-p-2
-    cast-p-2
+    next-arc-requires
     loop-less
     loop-again
     same-length
