@@ -1,8 +1,7 @@
 -- Laws of the records of a level: states added, records listed, the level of one record. Assumes nothing.
 use mathlib.Core.Path.{_≡_, refl, sym, ap, _∙_}
-use mathlib.Core.Bool.{true}
 use mathlib.Core.List.{List}
-use Prim.Native.Nat.{ℕ, zero, suc, _+_, _≤_, _<_, min}
+use Prim.Native.Nat.{ℕ, _+_, _≤_, _<_, min}
 use native.Mathlib.Omega.{arith}
 use native.Mathlib.Decide.{ℕ-discrete}
 use lib.Bits.{bitOr}
@@ -15,7 +14,6 @@ use Rattle.k2.specs.WordLaws.{or-none}
 use Rattle.automaton.specs.Automata.{On}
 use Rattle.automaton.specs.LevelLaws.{Which, less, same, more, which}
 use Rattle.arcs.specs.ArcLaws.{some-on}
-use Rattle.search.specs.Levels.{Any, some}
 use Rattle.search.specs.Frontiers.{Added, hasState, Listed, Frontier, Zero}
 use Rattle.search.proofs.LowestLaws.{Digit, is-on, is-off, digit-of}
 use Rattle.search.proofs.LevelLaws.{ones-mono, ones-less, mask-here, mask-off}
@@ -127,14 +125,7 @@ module _ {list : List ℕ} {c n : ℕ} {nx : List ℕ} (I : Listed list c n nx) 
             omega arith
         ap′ i j l h (more f) e = omega arith
 
--- ---- whether there is any
-pub any-some : {list : List ℕ} {c n : ℕ} {nx : List ℕ} → Listed list c n nx → (c ≡ 0 → ⊥) → Any nx n true
-any-some {list} {c} I h = let p : 0 < c = pos c h in let z = I .some 0 p in some {r = getD list 0 0} (I .small 0 p) (z .1) (z .2)
-  where
-    pos : (c : ℕ) → (c ≡ 0 → ⊥) → 0 < c
-    pos zero h = absurd (h refl)
-    pos (suc c) h = omega arith
-
+-- ---- an empty list
 pub none-listed : {list : List ℕ} {c n : ℕ} {nx : List ℕ} → Listed list c n nx → c ≡ 0 → Zero nx
 none-listed {nx = nx} I h r = go (digit-of (getD nx r 0))
   where

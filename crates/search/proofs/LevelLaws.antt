@@ -2,7 +2,7 @@
 -- Assumes nothing.
 use mathlib.Core.Path.{_≡_, refl, sym, _∙_, subst}
 use mathlib.Core.List.{List, [], _∷_}
-use mathlib.Core.Bool.{true, false}
+use mathlib.Core.Bool.{true}
 use Prim.Native.Nat.{ℕ, zero, suc, _+_, _*_, _/_, _%_, _≤_, _<_}
 use native.Mathlib.Nat.{one-mul, zero-mul}
 use native.Mathlib.Omega.{arith}
@@ -19,7 +19,8 @@ use Rattle.automaton.specs.Searches.{Walk, Moves, Reach, Shut, Known, Grown}
 use Rattle.automaton.specs.LevelLaws.{walk-stop, walk-ends, known-grown, known-none, Which, less, same, more, which}
 use Rattle.arcs.specs.Arcs.{arcFrom, arcTo, arcLetter, letterOf, arcStep}
 use Rattle.arcs.specs.ArcLaws.{none-on, number-letter}
-use Rattle.search.specs.Levels.{Setting, numberAt, distance, Levelled, Stamped, Committed, Any, some, empty, Sought, found}
+use Rattle.search.specs.Levels.{Setting, numberAt, distance, Levelled, Stamped, Committed, Sought, found}
+use Rattle.search.specs.Frontiers.{Zero}
 use Rattle.search.proofs.LowestLaws.{Digit, is-on, is-off, digit-of}
 use Rattle.search.proofs.MaskLaws.{zero-at}
 
@@ -64,10 +65,10 @@ unfolding bitAt
 ones-most ws k = ones-le (bitAt ws) (λ i. digit-lt (getD ws (i / 64) 0) (i % 64)) k
 
 -- a level that is not empty has more states seen
-pub level-falls : {cs ps es cur seen : List ℕ} {m mark n : ℕ} {nx w w′ seen′ : List ℕ} → Levelled cs ps es cur seen n m nx → Committed w seen nx mark n w′ seen′ → Any nx n true
+pub level-falls : {cs ps es cur seen : List ℕ} {m mark n : ℕ} {nx w w′ seen′ : List ℕ} → Levelled cs ps es cur seen n m nx → Committed w seen nx mark n w′ seen′ → {r q : ℕ} → r < n → q < 64 → On (digit (getD nx r 0) q)
     → onesBelow (bitAt seen) (n * 64) < onesBelow (bitAt seen′) (n * 64)
 unfolding bitAt
-level-falls {seen = seen} {n = n} {nx = nx} {seen′ = seen′} N C (some {r} {q} hr hq o) =
+level-falls {seen = seen} {n = n} {nx = nx} {seen′ = seen′} N C {r} {q} hr hq o =
     let a : (r * 64 + q) / 64 ≡ r = omega arith in
     let b : (r * 64 + q) % 64 ≡ q = omega arith in
     let f = N .fresh r q hq o in
@@ -189,10 +190,10 @@ module _ {g : Graph} {M : Automaton} {fs ps es : List ℕ} {f n : ℕ} {cs : Lis
           go (is-off p) (is-off z) = absurd (let a = neither r q hr z hq p in omega arith)
 
   -- an empty level: no walk from where the state was not seen
-  pub level-empty : (x : ℕ) → x < n → digit (getD seen x 0) 0 ≡ 0 → Any nx n false → (ss : List Step) → Walk g M y x 0 ss → ⊥
-  level-empty x hx e (empty none) ss v =
-      let o = known-none (shut S) (level-next .known) (λ r q hr hq z. none-on q (rw (none r hr) at (level-next .cur-all r q hr hq z))) (length ss) x 0 hx (omega arith) (ss, refl, v) in
-      let z : digit (getD nx x 0) 0 ≡ 0 = rw (none x hx) (digit-none 0) in
+  pub level-empty : (x : ℕ) → x < n → digit (getD seen x 0) 0 ≡ 0 → Zero nx → (ss : List Step) → Walk g M y x 0 ss → ⊥
+  level-empty x hx e none ss v =
+      let o = known-none (shut S) (level-next .known) (λ r q hr hq z. none-on q (rw (none r) at (level-next .cur-all r q hr hq z))) (length ss) x 0 hx (omega arith) (ss, refl, v) in
+      let z : digit (getD nx x 0) 0 ≡ 0 = rw (none x) (digit-none 0) in
       let a = neither x 0 hx (distance-off w seen x 0 e) (omega arith) z in
       omega arith
 

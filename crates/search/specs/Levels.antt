@@ -15,13 +15,11 @@
 --                   the mark is at the record r, at the states of m that are not left
 --   Committed w seen nx mark k w′ seen′
 --                   the mark is at every record below k, at the states of its word in nx, which are seen from now on
---   Any nx k b      b is whether a word of nx below k has a state
 --   Sought g M x y n w seen v
 --                   v is 0 and there is no walk from x and the start to y, or v is the number at x and the start and the numbers are known
 -- Assumes nothing: these are definitions.
 use mathlib.Core.Path.{_≡_}
 use mathlib.Core.List.{List}
-use mathlib.Core.Bool.{Bool, true, false}
 use Prim.Native.Nat.{ℕ, suc, _+_, _*_, _<_, _≤_, max}
 use lib.ListN.{length, getD}
 use Rattle.k2.specs.Bits.{digit}
@@ -67,10 +65,6 @@ pub record Committed (w seen nx : List ℕ) (mark k : ℕ) (w′ seen′ : List 
   pub miss : (r q : ℕ) → q < 64 → digit (getD nx r 0) q ≡ 0 → numberAt w′ r q ≡ numberAt w r q
   pub seen-more : (r q : ℕ) → r < k → digit (getD seen′ r 0) q ≡ max (digit (getD seen r 0) q) (digit (getD nx r 0) q)
   pub seen-same : (r q : ℕ) → k ≤ r → digit (getD seen′ r 0) q ≡ digit (getD seen r 0) q
-
-pub data Any (nx : List ℕ) (k : ℕ) : Bool → Type 0 where
-  some : {r q : ℕ} → r < k → q < 64 → On (digit (getD nx r 0) q) → Any nx k true
-  empty : ((r : ℕ) → r < k → getD nx r 0 ≡ 0) → Any nx k false
 
 pub data Sought (g : Graph) (M : Automaton) (x y n : ℕ) (w seen : List ℕ) : ℕ → Type 0 where
   nowhere : ((ss : List Step) → Walk g M y x 0 ss → ⊥) → Sought g M x y n w seen 0

@@ -56,7 +56,7 @@ loop-again : tie.Need-loop-again Inv-loop μ-loop
 loop-again c =
     let l = c .before .before .before .before .before .before .before .before .before .before .loop in
     let P = c .before .before .before .before .into in
-    (omega arith, P .kept .1 .1 .1 .1 .1 .1 .1 .1 .1 .0 ∙ l .inv .1, P .kept .1 .1 .1 .1 .1 .1 .1 .1 .1 .1 .0 ∙ l .inv .2, P .ensures .0, λ cur F. P .ensures .1 cur _ (l .i) refl (F .at (l .i) (omega arith)) (l .inv .4 cur F))
+    (omega arith, _∙_ {b = length (l .next)} (P .kept .1 .1 .1 .1 .1 .1 .1 .1 .1 .0) (l .inv .1), _∙_ {b = length (l .list)} (P .kept .1 .1 .1 .1 .1 .1 .1 .1 .1 .1 .0) (l .inv .2), P .ensures .0, λ cur F. P .ensures .1 cur _ (l .i) refl (F .at (l .i) (omega arith)) (l .inv .4 cur F))
 
 same-length : tie.Need-same-length Inv-loop μ-loop
 same-length c = c .before .loop .inv .1
