@@ -10,6 +10,7 @@
 --                   what is returned for the answer xs, and made of its list, once no other cause is there
 --   Answered n ps ts k Gives before after
 --                   what a call returns, and makes of its list
+--   answerWords r l the words of the list l that are the answer r's; a refusal has none
 --   TreeOf n ps xs  xs are the words of the tree of the pairs ps
 --   ListOf n t xs   xs are the pairs of the tree t, ascending
 --   TreeOfOne op n t xs, TreeOfTwo op n t u xs
@@ -19,7 +20,7 @@
 --                   are trees, by those of the operation's outcome; without, 12, and the list is as it was
 -- Assumes nothing: these are definitions.
 use mathlib.Core.Path.{_≡_}
-use mathlib.Core.List.{List, _++_, map}
+use mathlib.Core.List.{List, [], _++_, map}
 use Prim.Native.Nat.{ℕ, suc, _*_, _≤_, _<_}
 use lib.ListN.{length, take, drop}
 use Rattle.book.specs.Basics.{In}
@@ -61,6 +62,10 @@ pub data Answered (n : ℕ) (ps : List ℕ) (ts : List (List ℕ)) (k : ℕ) (Gi
   refused : {c : ℕ} → IsFirst (Refuses n ps ts k Gives before) treeOrder (suc c) → after ≡ before → Answered n ps ts k Gives before after (Refused (suc c))
   done : {xs : List ℕ} → IsFirst (Refuses n ps ts k Gives before) treeOrder 0 → Gives xs → after ≡ xs ++ drop (length xs) before
       → Answered n ps ts k Gives before after (Done (length xs))
+
+unfoldable pub answerWords : Answer → List ℕ → List ℕ
+answerWords (Done k) l = take k l
+answerWords (Refused k) l = []
 
 abbrev pub TreeOf : ℕ → List ℕ → List ℕ → Type 0
 TreeOf n ps xs = xs ≡ treeWords n (setOf ps)
