@@ -7,8 +7,7 @@ use lib.ListN.{length}
 use Rattle.book.specs.Basics.{here, there}
 use Rattle.book.specs.ListLaws.{in-none}
 use Rattle.book.specs.Causes.{Cause, bad-size, no-record, bad-tree, short-work, short-list, number, treeOrder, no-cause, this, later, maxRecords}
-use Rattle.k2.specs.PairSets.{Cells, listed}
-use Rattle.k2.specs.PairSetLaws.{PairsBelow}
+use Rattle.k2.specs.PairSets.{Cells, listed, PairsBelow}
 use Rattle.k2.specs.Trees.{treeWords, treeUnit, WellFormed}
 use Rattle.k2.specs.TreeLaws.{treeWords-tell}
 use Rattle.k2.specs.SizeLaws.{treeWords-most}

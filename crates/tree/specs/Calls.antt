@@ -25,8 +25,7 @@ use Prim.Native.Nat.{ℕ, suc, _*_, _≤_, _<_}
 use lib.ListN.{length, take, drop}
 use Rattle.book.specs.Basics.{In}
 use Rattle.book.specs.Causes.{Cause, bad-size, no-record, bad-tree, short-work, short-list, treeOrder, IsFirst, maxRecords}
-use Rattle.k2.specs.PairSets.{Cells, IsSet, setOf, listed, union}
-use Rattle.k2.specs.PairSetLaws.{PairsBelow}
+use Rattle.k2.specs.PairSets.{Cells, IsSet, setOf, listed, union, PairsBelow}
 use Rattle.k2.specs.Trees.{treeWords, treeUnit, WellFormed}
 use Rattle.rows.specs.Rows.{linkPair}
 use Rattle.packing.specs.Reading.{sensed}

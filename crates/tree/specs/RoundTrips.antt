@@ -17,8 +17,8 @@ use lib.Seq.{take-at}
 use Rattle.book.specs.Basics.{In, here, there, Rises}
 use Rattle.book.specs.Causes.{number, treeOrder, IsFirst, no-cause, this, later, maxRecords}
 use Rattle.book.specs.ListLaws.{in-none}
-use Rattle.k2.specs.PairSets.{Cells, IsSet, listed, setOf, pairWord}
-use Rattle.k2.specs.PairSetLaws.{PairsBelow, setOf-set, setOf-listed, set-in, in-set, in-listed, listed-in, listed-rises, listed-below}
+use Rattle.k2.specs.PairSets.{Cells, IsSet, listed, setOf, pairWord, PairsBelow}
+use Rattle.k2.specs.PairSetLaws.{setOf-set, setOf-listed, set-in, in-set, in-listed, listed-in, listed-rises, listed-below}
 use Rattle.k2.specs.Trees.{treeWords, treeUnit, WellFormed}
 use Rattle.k2.specs.TreeLaws.{treeWords-tell}
 use Rattle.tree.specs.declared.Answer.{Answer}

@@ -6,7 +6,7 @@ use Prim.Native.Nat.{_*_, _≤_}
 use native.Mathlib.Omega.{arith}
 use borrow.Author.Needs.{needs}
 use lib.ListN.{length, take}
-use Rattle.k2.specs.PairSetLaws.{PairsBelow}
+use Rattle.k2.specs.PairSets.{PairsBelow}
 use Rattle.k2.specs.Trees.{treeUnit, WellFormed}
 use Rattle.tree.specs.Inner.{Room, outcome}
 use Rattle.tree.specs.Calls.{TreeOfTwo}

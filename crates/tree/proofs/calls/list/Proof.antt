@@ -5,8 +5,7 @@ use Prim.Native.Nat.{_*_, _≤_}
 use native.Mathlib.Omega.{arith}
 use borrow.Author.Needs.{needs}
 use lib.ListN.{length}
-use Rattle.k2.specs.PairSets.{listed}
-use Rattle.k2.specs.PairSetLaws.{PairsBelow}
+use Rattle.k2.specs.PairSets.{listed, PairsBelow}
 use Rattle.k2.specs.Trees.{treeUnit, WellFormed}
 use Rattle.k2.specs.TreeLaws.{tree-none}
 use Rattle.k2.specs.SizeLaws.{treeUnit-most}

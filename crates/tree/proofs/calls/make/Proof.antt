@@ -5,8 +5,8 @@ use Prim.Native.Nat.{ℕ, _*_, _≤_}
 use native.Mathlib.Omega.{arith}
 use borrow.Author.Needs.{needs}
 use lib.ListN.{length, take}
-use Rattle.k2.specs.PairSets.{IsSet, setOf}
-use Rattle.k2.specs.PairSetLaws.{PairsBelow, setOf-set}
+use Rattle.k2.specs.PairSets.{IsSet, setOf, PairsBelow}
+use Rattle.k2.specs.PairSetLaws.{setOf-set}
 use Rattle.k2.specs.Trees.{treeWords, treeUnit, WellFormed}
 use Rattle.k2.specs.TreeLaws.{tree-none}
 use Rattle.rows.specs.RowLaws.{pair-links}
