@@ -1,5 +1,6 @@
 -- Demand 2 over what the calls promise. Pairs below n are made into a tree, and the tree is listed: with space enough neither call refuses, and the
 -- list is the set, ascending and each pair once. A well-formed tree is listed, and the list made into a tree: neither refuses, and the tree is the same.
+--   answerWords r l the words of the list l that are the answer r's; a refusal has none
 --   Enough n a work work′ out list
 --                   space enough for the set a: n is 1 to 1,024, both calls are lent 32 D words of work, out is as long as the set's tree and list as
 --                   long as its pairs
@@ -9,21 +10,28 @@
 --                   the answers u of `list` and v of `make` and what they wrote: the pairs of the set a, and its tree t
 -- Assumes nothing.
 use mathlib.Core.Path.{_≡_, refl, sym, ap, subst, _∙_}
-use mathlib.Core.List.{List, [], _∷_}
+use mathlib.Core.Bool.{true}
+use mathlib.Core.List.{List, [], _∷_, _++_}
 use Prim.Native.Nat.{ℕ, _*_, _/_, _%_, _≤_}
 use native.Mathlib.Omega.{arith}
-use lib.ListN.{length, drop}
+use lib.ListN.{length, take, drop}
 use lib.Seq.{take-at}
-use Rattle.book.specs.Basics.{In, here, there, Rises}
-use Rattle.book.specs.Causes.{number, treeOrder, IsFirst, no-cause, this, later, maxRecords}
+use borrow.Author.Tests.{le-ltb}
+use Rattle.book.specs.Basics.{In, Rises}
+use Rattle.book.specs.Causes.{firstNumber, maxRecords}
 use Rattle.book.specs.ListLaws.{in-none}
 use Rattle.k2.specs.PairSets.{Cells, IsSet, listed, setOf, pairWord, PairsBelow}
 use Rattle.k2.specs.PairSetLaws.{setOf-set, setOf-listed, set-in, in-set, in-listed, listed-in, listed-rises, listed-below}
 use Rattle.k2.specs.Trees.{treeWords, treeUnit, WellFormed}
-use Rattle.k2.specs.TreeLaws.{treeWords-tell}
+use Rattle.k2.specs.TreeSetLaws.{formed-set}
 use Rattle.tree.specs.declared.Answer.{Answer}
-use Rattle.tree.specs.declared.Answer.the-variants.{Done}
-use Rattle.tree.specs.Calls.{Formed, size, pairs, trees, work, Refuses, unmet, long, Answered, refused, done, answerWords, TreeOf, ListOf}
+use Rattle.tree.specs.declared.Answer.the-variants.{Done, Refused}
+use Rattle.tree.specs.Calls.{allFormed, treeCauses, treeAnswer, treeList, Answered, treeOf, listOf}
+use Rattle.tree.specs.CallLaws.{below-all, one-formed, lent-none, tree-accepted}
+
+unfoldable pub answerWords : Answer → List ℕ → List ℕ
+answerWords (Done k) l = take k l
+answerWords (Refused k) l = []
 
 pub record Enough (n : ℕ) (a : Cells) (work work′ : ℕ) (out list : List ℕ) : Type 0 where
   pub some : 1 ≤ n
@@ -48,47 +56,34 @@ pub record ListedMade (n : ℕ) (t : List ℕ) (a : Cells) (list′ out′ : Lis
   pub tree : answerWords v out′ ≡ t
 
 -- ---- a call with space enough is not refused
-module _ {n : ℕ} {ps : List ℕ} {ts : List (List ℕ)} {k : ℕ} {Gives : List ℕ → Type 0} {before : List ℕ}
-    (some : 1 ≤ n) (few : n ≤ maxRecords) (below : PairsBelow n ps) (formed : Formed n ts) (wide : 32 * treeUnit n ≤ k)
-    (xs : List ℕ) (only : (ys : List ℕ) → Gives ys → ys ≡ xs) (fits : length xs ≤ length before) where
-  no-refusal : {m : ℕ} → IsFirst (Refuses n ps ts k Gives before) treeOrder m → m ≡ 0
-  unfolding treeOrder number
-  no-refusal (this (unmet (size f))) = absurd (f (some, few))
-  no-refusal (later p (this (unmet (pairs f)))) = absurd (f below)
-  no-refusal (later p (later q (this (unmet (trees f))))) = absurd (f formed)
-  no-refusal (later p (later q (later r (this (unmet (work f)))))) = absurd (omega arith)
-  no-refusal (later p (later q (later r (later s (this (long {xs = ys} g l)))))) = absurd (omega (arith, ap length (only ys g)))
-  no-refusal (later p (later q (later r (later s (later t no-cause))))) = refl
+enough : {n : ℕ} {ps : List ℕ} {ts : List (List ℕ)} {k : ℕ} {xs before after : List ℕ} {v : Answer} → 1 ≤ n → n ≤ maxRecords → PairsBelow n ps → allFormed n ts ≡ true
+    → 32 * treeUnit n ≤ k → length xs ≤ length before → Answered n ps ts k xs before after v → (v ≡ Done (length xs)) × (answerWords v after ≡ xs)
+unfolding treeAnswer treeList answerWords
+enough {n} {ps} {ts} {k} {xs} {before} {after} some few below trees wide fits A =
+    let z : firstNumber (treeCauses n ps ts k xs (length before)) ≡ 0 =
+    tree-accepted n ps ts k xs (length before) (lent-none n ps ts k some few (below-all n ps below) trees wide) ∙ rw (le-ltb (length before) (length xs) fits) refl in
+    let r = A .answer ∙ ap (λ (c : ℕ). treeAnswer c (length xs)) z in
+    let l : after ≡ xs ++ drop (length xs) before = A .list ∙ ap (λ (c : ℕ). treeList c xs before) z in
+    (r, rw (r, l) (take-at xs (drop (length xs) before) (length xs) refl))
 
-  gives : {after : List ℕ} {v : Answer} → Answered n ps ts k Gives before after v → (v ≡ Done (length xs)) × (answerWords v after ≡ xs)
-  unfolding answerWords
-  gives (refused f e) = absurd (omega (arith, no-refusal f))
-  gives (done {xs = ys} f g e) =
-      let q : ys ≡ xs = only ys g in
-      (ap (λ (zs : List ℕ). Done (length zs)) q, rw e (take-at ys (drop (length ys) before) (length ys) refl) ∙ q)
-
-no-tree : {n : ℕ} → Formed n []
-no-tree t i = absurd (in-none i refl)
-
-one-tree : {n : ℕ} {t : List ℕ} → WellFormed n t → Formed n (t ∷ [])
-one-tree w t here = w
-one-tree w t (there i) = absurd (in-none i refl)
+no-tree : (n : ℕ) → allFormed n [] ≡ true
+unfolding allFormed
+no-tree n = refl
 
 no-pair : {n : ℕ} → PairsBelow n []
 no-pair w i = absurd (in-none i refl)
 
--- the list of a set's tree is the set's
-list-of : {n : ℕ} {a : Cells} {t : List ℕ} → IsSet n a → t ≡ treeWords n a → (ys : List ℕ) → ListOf n t ys → ys ≡ listed n a
-list-of {n} {a} is e ys l = l .pairs ∙ ap (listed n) (treeWords-tell n (l .set) a (l .is-set) is (sym (l .tree) ∙ e))
-
 -- ---- made, and listed
 pub make-list : {n work work′ : ℕ} {ps out out′ list list′ : List ℕ} {v u : Answer} → PairsBelow n ps → Enough n (setOf ps) work work′ out list
-    → Answered n ps [] work (TreeOf n ps) out out′ v → Answered n [] (answerWords v out′ ∷ []) work′ (ListOf n (answerWords v out′)) list list′ u
+    → Answered n ps [] work (treeOf n ps) out out′ v → Answered n [] (answerWords v out′ ∷ []) work′ (listOf n (answerWords v out′)) list list′ u
     → MadeListed n ps out′ list′ v u
-make-list {n} {ps = ps} {list′ = list′} {u = u} b E A B =
+make-list {n} {ps = ps} {out′ = out′} {list = list} {list′ = list′} {v = v} {u = u} b E A B =
     let is : IsSet n (setOf ps) = setOf-set n ps (E .few) b in
-    let x = gives (E .some) (E .few) b no-tree (E .first) (treeWords n (setOf ps)) (λ ys q. q) (E .words) A in
-    let y = gives (E .some) (E .few) no-pair (one-tree (record { set = setOf ps; is-set = is; tree = x .1 })) (E .second) (listed n (setOf ps)) (list-of is (x .1)) (E .pairs) B in
+    let x = enough (E .some) (E .few) b (no-tree n) (E .first) (E .words) A in
+    let F : WellFormed n (answerWords v out′) = record { set = setOf ps; is-set = is; tree = x .1 } in
+    let s : listOf n (answerWords v out′) ≡ listed n (setOf ps) = ap (listed n) (formed-set F) in
+    let z = enough (E .some) (E .few) no-pair (one-formed n (answerWords v out′) F) (E .second) (subst (λ (l : List ℕ). length l ≤ length list) (sym s) (E .pairs)) B in
+    let y : (u ≡ Done (length (listed n (setOf ps)))) × (answerWords u list′ ≡ listed n (setOf ps)) = (z .0 ∙ ap (λ (l : List ℕ). Done (length l)) s, z .1 ∙ s) in
     record {
       made = x .0;
       told = y .0;
@@ -107,12 +102,14 @@ make-list {n} {ps = ps} {list′ = list′} {u = u} b E A B =
 
 -- ---- listed, and made
 pub list-make : {n work work′ : ℕ} {t out out′ list list′ : List ℕ} {u v : Answer} (F : WellFormed n t) → Enough n (F .set) work work′ out list
-    → Answered n [] (t ∷ []) work (ListOf n t) list list′ u → Answered n (answerWords u list′) [] work′ (TreeOf n (answerWords u list′)) out out′ v
+    → Answered n [] (t ∷ []) work (listOf n t) list list′ u → Answered n (answerWords u list′) [] work′ (treeOf n (answerWords u list′)) out out′ v
     → ListedMade n t (F .set) list′ out′ u v
-list-make {n} {t = t} {out = out} {list′ = list′} {u = u} F E A B =
+list-make {n} {t = t} {out = out} {list = list} {list′ = list′} {u = u} F E A B =
     let a : Cells = F .set in
-    let x = gives (E .some) (E .few) no-pair (one-tree F) (E .first) (listed n a) (list-of (F .is-set) (F .tree)) (E .pairs) A in
-    let s : treeWords n (setOf (answerWords u list′)) ≡ t = ap (λ (ws : List ℕ). treeWords n (setOf ws)) (x .1) ∙ ap (treeWords n) (setOf-listed n a (E .few) (F .is-set)) ∙ sym (F .tree) in
-    let b : PairsBelow n (answerWords u list′) = subst (PairsBelow n) (sym (x .1)) (listed-below n a (E .few)) in
-    let y = gives (E .some) (E .few) b no-tree (E .second) t (λ ys q. q ∙ s) (subst (λ (ws : List ℕ). length ws ≤ length out) (sym (F .tree)) (E .words)) B in
-    record { told = x .0; made = y .0; pairs = x .1; tree = y .1 }
+    let q : listOf n t ≡ listed n a = ap (listed n) (formed-set F) in
+    let x = enough (E .some) (E .few) no-pair (one-formed n t F) (E .first) (subst (λ (l : List ℕ). length l ≤ length list) (sym q) (E .pairs)) A in
+    let p : answerWords u list′ ≡ listed n a = x .1 ∙ q in
+    let s : treeOf n (answerWords u list′) ≡ t = ap (treeOf n) p ∙ ap (treeWords n) (setOf-listed n a (E .few) (F .is-set)) ∙ sym (F .tree) in
+    let b : PairsBelow n (answerWords u list′) = subst (PairsBelow n) (sym p) (listed-below n a (E .few)) in
+    let y = enough (E .some) (E .few) b (no-tree n) (E .second) (subst (λ (l : List ℕ). length l ≤ length out) (sym (s ∙ F .tree)) (E .words)) B in
+    record { told = x .0 ∙ ap (λ (l : List ℕ). Done (length l)) q; made = y .0 ∙ ap (λ (l : List ℕ). Done (length l)) s; pairs = p; tree = y .1 ∙ s }
