@@ -9,8 +9,8 @@ use lib.Dec.{ltb}
 use borrow.Author.Tests.{le-ltb}
 use Rattle.book.specs.Basics.{bit, here, there}
 use Rattle.k2.specs.Bits.{bitAt}
-use Rattle.k2.specs.PairSets.{Cells, IsSet, ifSet, rowPairs, rowsPairs, listed, union, intersection, difference}
-use Rattle.k2.specs.PairSetLaws.{bit-small, diagonal-set, PairsBelow}
+use Rattle.k2.specs.PairSets.{Cells, IsSet, ifSet, rowPairs, rowsPairs, listed, union, intersection, difference, PairsBelow}
+use Rattle.k2.specs.PairSetLaws.{bit-small, diagonal-set}
 use Rattle.k2.specs.Trees.{treeWords}
 use Rattle.k2.specs.TreeLaws.{treeWords-none}
 use Rattle.bits.specs.BitSets.{none, both, minus, Gap}

@@ -6,7 +6,7 @@ ghost use mathlib.Core.List.{_++_, map};
 ghost use Prim.Native.Nat.{ℕ, _+_, _*_, _≤_, _<_};
 ghost use lib.ListN.{length, take, drop};
 ghost use Rattle.k2.specs.Bits.{bitAt};
-ghost use Rattle.k2.specs.PairSets.{Cells, IsSet, setOf, union, intersection, difference, transpose, product, over, closure};
+ghost use Rattle.k2.specs.PairSets.{Cells, IsSet, setOf, union, intersection, difference, transpose, product, via, closure};
 ghost use Rattle.bits.specs.BitSets.{none};
 ghost use Rattle.rows.specs.Rows.{flat, identity, linkPair, RowsOf, pairsIn};
 ghost use Rattle.rows.specs.Steps.{Masked, rowAt, Occupied, Masks, Common, served, below, withRow, plusRow};
@@ -259,7 +259,7 @@ fn or_row(rows: &mut [u64], i: usize, k: usize)
 fn lead_over(rows: &mut [u64], k: usize, list: &[u32], m: usize)
     requires { ⌜ (length (now rows) ≡ 16384) × (k < 1024) × (length (now list) ≡ 1024) × (m ≤ 1024) ⌝ }
     ensures { λ _. ⌜ ((n : ℕ) (x : Cells) → n ≤ 1024 → IsSet n x → Occupied (flat x) n (rowAt n m (now (list .entry))) m
-        → bitAt (now (rows .entry)) ≡ flat x → bitAt (now (rows .exit)) ≡ flat (over k x)) ⌝ }
+        → bitAt (now (rows .entry)) ≡ flat x → bitAt (now (rows .exit)) ≡ flat (via k x)) ⌝ }
 {
     let mut t = 0;
     while t < m {

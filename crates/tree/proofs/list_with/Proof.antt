@@ -5,6 +5,7 @@ use native.Mathlib.Omega.{arith}
 use borrow.Author.Needs.{needs}
 use borrow.Author.Tests.{not-true, not-false}
 use lib.ListN.{length}
+use Rattle.book.specs.Causes.{number}
 use Rattle.k2.specs.PairSets.{Cells, setOf, union}
 use Rattle.rows.specs.Rows.{noPairs, linkPair}
 use Rattle.packing.specs.Reading.{sensed}
@@ -19,12 +20,14 @@ roomy : (c : tie.Else2) → Room (c .before .before .before .before .before .bef
 roomy c = c .before .room .ensures .0 (not-false (c .before .room .result) (c .if2 .left))
 
 returns : tie.Need-returns
+unfolding number
 returns c = record { settles = λ i l. absurd (omega arith); gives = λ i l. absurd (omega arith); without = λ f. (refl, refl) }
 
 room-requires : tie.Need-room-requires
 room-requires c κs = search needs
 
 returns-2 : tie.Need-returns-2
+unfolding number
 returns-2 c =
     let no = wrong (not-true (c .before .room .result) (c .if2 .taken)) in
     record {
