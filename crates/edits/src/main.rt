@@ -1,4 +1,4 @@
-// Runs the register's calls and prints the answers: 01's sample edits, every refusal that a register can give,
+// Runs the register's calls and prints the answers: 01's sample edits, as calls and as words, a register kept as words, every refusal that a register can give,
 // 257 edits with 257 undos, and a register filled to 4,096 links with one more, of which a removed link's space is used again.
 use libc::STDOUT_FILENO;
 use register::Answer;
@@ -174,6 +174,39 @@ fn replayed() {
     count(b"records", out.register.size());
 }
 
+fn wide(x: u32) -> usize {
+    x as usize
+}
+
+fn too_many_held(mut state: [u32; 5381]) -> [u32; 5381] {
+    state[3] = 257;
+    state
+}
+
+// A register kept as words in the front of a longer slice, whose last word stays as it was, and loaded again; then a counter out of range, and too few words.
+fn kept() {
+    line(b"state");
+    let r = open(4);
+    let r = after(r.add(0, 0, 1));
+    let mut state = [99u32; 5381];
+    if r.store(&mut state) {
+        line(b"stored");
+    }
+    let out = Register::load(&state);
+    let answer = out.answer;
+    say(answer);
+    count(b"links", out.register.links().count);
+    count(b"past", wide(state[5380]));
+    let few = [0u32; 5379];
+    let out = Register::load(&few);
+    let answer = out.answer;
+    say(answer);
+    let out = Register::load(&too_many_held(state));
+    let answer = out.answer;
+    say(answer);
+    count(b"records", out.register.size());
+}
+
 // A register after many calls, and how many of them were accepted.
 struct Tally {
     register: Register,
@@ -272,6 +305,7 @@ fn full() {
 fn main() {
     sample();
     replayed();
+    kept();
     refusals();
     depth();
     full();

@@ -86,7 +86,8 @@ pub formed-by : (ws : List ℕ) (ok : Bool) → stateWords ≤ length ws → Ran
     → Tested (Flags (take maxRecords (drop locksAt ws))) ok → Tested (Formed ws) ok
 formed-by ws ok l r t = record { sure = λ e. record { long = l; ranged = r; flags = t .sure e }; none = λ e f. t .none e (f .flags) }
 
-pub load-refused : (ws : List ℕ) (ok : Bool) {r : Register} → Tested (Formed ws) ok → ok ≡ false → Represents r (fresh 0) → Loads ws (record { register = r; answer = Refused 16 })
+pub load-refused : (ws : List ℕ) (ok : Bool) {r : Register} → Tested (Formed ws) ok → ok ≡ false → Represents r (fresh 0)
+    → Loads ws (record { register = r; answer = Refused 16 })
 unfolding number
 load-refused ws ok t e h = record {
   loaded = λ z. let u : _≡_ {A = ℕ} 0 1 = cc in absurd (omega arith);

@@ -12,7 +12,8 @@ use borrow.Author.Tests.{lt-ltb, le-ltb, ne-eqb}
 use Rattle.book.specs.Basics.{pick}
 use Rattle.book.specs.Causes.{number, firstNumber, maxRecords}
 use Rattle.book.specs.Book.{Book, freshAnswer, after}
-use Rattle.register.specs.History.{addKind, removeKind, lockKind, unlockKind, undoKind, no-call, kindCall, wordCall, entryNumber, entryNext, wordAnswers, callsOf, replayNumber}
+use Rattle.register.specs.History.{addKind, removeKind, lockKind, unlockKind, undoKind, no-call, kindCall, wordCall}
+use Rattle.register.specs.History.{entryNumber, entryNext, wordAnswers, callsOf, replayNumber}
 use Rattle.register.specs.HistoryLaws.{after-append, after-entry, calls-append, word-answers-length, word-answers-append}
 
 -- ---- refusals
@@ -39,7 +40,8 @@ pub replay-free : (n : ℕ) (ws old : List ℕ) → freshAnswer n ≡ 0 → leng
 replay-free n ws old z h = replay-rest n ws old z ∙ rw (le-ltb (length old) (length ws) h)
 
 -- ---- kinds
-pub kind-none : (k f l t : ℕ) → (k ≡ addKind → ⊥) → (k ≡ removeKind → ⊥) → (k ≡ lockKind → ⊥) → (k ≡ unlockKind → ⊥) → (k ≡ undoKind → ⊥) → kindCall k f l t ≡ no-call
+pub kind-none : (k f l t : ℕ) → (k ≡ addKind → ⊥) → (k ≡ removeKind → ⊥) → (k ≡ lockKind → ⊥) → (k ≡ unlockKind → ⊥) → (k ≡ undoKind → ⊥)
+    → kindCall k f l t ≡ no-call
 unfolding kindCall
 kind-none k f l t a b c d e = rw (ne-eqb k addKind a, ne-eqb k removeKind b, ne-eqb k lockKind c, ne-eqb k unlockKind d, ne-eqb k undoKind e)
 

@@ -15,7 +15,9 @@ use Rattle.book.specs.Sheets.{Distinct, Fit, Sound}
 use Rattle.register.specs.Links.{Linked}
 use Rattle.register.specs.Packed.{Packed, takeBack, Piled}
 use Rattle.register.specs.Calls.{answerOf, answerNumber, heldWords, packedOf, Represents}
-use Rattle.register.specs.History.{CallsMade, done, more, addKind, removeKind, lockKind, unlockKind, undoKind, Entry, is-call, no-call, kindCall, wordCall, entryNumber, entryNext, EntrySteps, wordAnswers, entryCalls, callsOf, isCall, toldCalls, replayNumber, Replays}
+use Rattle.register.specs.History.{CallsMade, done, more, addKind, removeKind, lockKind, unlockKind, undoKind, kindCall, wordCall}
+use Rattle.register.specs.History.{Entry, is-call, no-call, entryNumber, entryNext, EntrySteps, entryCalls, isCall}
+use Rattle.register.specs.History.{wordAnswers, callsOf, toldCalls, replayNumber, Replays}
 use Rattle.register.specs.declared.Register.{Register}
 use Rattle.register.specs.declared.Opened.{Opened}
 use Rattle.register.specs.declared.Outcome.{Outcome}
@@ -27,7 +29,8 @@ number-answer (suc k) = refl
 pub answered : {r e : Register} {cs : List Call} {told : List ℕ} → CallsMade r cs told e → (b : Book) → Represents r b → told ≡ answers b cs
 unfolding answers
 answered done b h = refl
-answered (more {c = c} out s run) b h = ap₂ (λ (x : ℕ) (l : List ℕ). x ∷ l) (ap answerNumber (s .answers b h) ∙ number-answer (answer b c)) (answered run (next b c) (s .follows b h))
+answered (more {c = c} out s run) b h =
+    ap₂ (λ (x : ℕ) (l : List ℕ). x ∷ l) (ap answerNumber (s .answers b h) ∙ number-answer (answer b c)) (answered run (next b c) (s .follows b h))
 
 pub kept : {r e : Register} {cs : List Call} {told : List ℕ} → CallsMade r cs told e → (b : Book) → Represents r b → Represents e (after b cs)
 unfolding after
@@ -35,7 +38,8 @@ kept done b h = h
 kept (more out s run) b h = kept run (next b _) (s .follows b h)
 
 -- a history of any length from a fresh register
-pub history : (n : ℕ) {r e : Register} {cs : List Call} {told : List ℕ} → Represents r (fresh n) → CallsMade r cs told e → (told ≡ answers (fresh n) cs) × Represents e (after (fresh n) cs)
+pub history : (n : ℕ) {r e : Register} {cs : List Call} {told : List ℕ} → Represents r (fresh n) → CallsMade r cs told e
+    → (told ≡ answers (fresh n) cs) × Represents e (after (fresh n) cs)
 history n h run = (answered run (fresh n) h, kept run (fresh n) h)
 
 -- ---- what the register at the end shows
@@ -51,11 +55,13 @@ pub record Members (e : Register) (b : Book) : Type 0 where
 pub members : {e : Register} {b : Book} → Represents e b → Members e b
 members h = let s = h .sheet in record { links = s .links; once = s .fit .once; count = s .count; locks = s .locks; single = s .fit .single }
 
-pub history-members : (n : ℕ) {r e : Register} {cs : List Call} {told : List ℕ} → Represents r (fresh n) → CallsMade r cs told e → (told ≡ answers (fresh n) cs) × Members e (after (fresh n) cs)
+pub history-members : (n : ℕ) {r e : Register} {cs : List Call} {told : List ℕ} → Represents r (fresh n) → CallsMade r cs told e
+    → (told ≡ answers (fresh n) cs) × Members e (after (fresh n) cs)
 history-members n h run = let o = history n h run in (o .0, members (o .1))
 
 -- the same of the code itself
-pub replay-members : {n : ℕ} {ws old new : List ℕ} {out : Opened} → Replays n ws old new out → replayNumber n ws old ≡ 0 → Members (out .register) (after (fresh n) (callsOf ws))
+pub replay-members : {n : ℕ} {ws old new : List ℕ} {out : Opened} → Replays n ws old new out → replayNumber n ws old ≡ 0
+    → Members (out .register) (after (fresh n) (callsOf ws))
 replay-members r z = members (r .book z)
 
 -- every sheet of a book that a register represents fits
@@ -95,7 +101,8 @@ after-entry b no-call cs = refl
 pub calls-append : (ws vs : List ℕ) → callsOf (ws ++ vs) ≡ callsOf ws ++ callsOf vs
 unfolding callsOf
 calls-append [] vs = refl
-calls-append (w ∷ ws) vs = ap (λ (l : List Call). entryCalls (wordCall w) ++ l) (calls-append ws vs) ∙ sym (append-assoc (entryCalls (wordCall w)) (callsOf ws) (callsOf vs))
+calls-append (w ∷ ws) vs =
+    ap (λ (l : List Call). entryCalls (wordCall w) ++ l) (calls-append ws vs) ∙ sym (append-assoc (entryCalls (wordCall w)) (callsOf ws) (callsOf vs))
 
 pub word-answers-length : (b : Book) (ws : List ℕ) → length (wordAnswers b ws) ≡ length ws
 unfolding wordAnswers
@@ -117,7 +124,8 @@ told-calls b [] = refl
 told-calls b (w ∷ ws) = go (wordCall w) (told-calls (entryNext b (wordCall w)) ws)
   where
     go : (e : Entry) → toldCalls ws (wordAnswers (entryNext b e) ws) ≡ answers (entryNext b e) (callsOf ws)
-        → pick (isCall e) (entryNumber b e ∷ toldCalls ws (wordAnswers (entryNext b e) ws)) (toldCalls ws (wordAnswers (entryNext b e) ws)) ≡ answers b (entryCalls e ++ callsOf ws)
+        → pick (isCall e) (entryNumber b e ∷ toldCalls ws (wordAnswers (entryNext b e) ws)) (toldCalls ws (wordAnswers (entryNext b e) ws))
+        ≡ answers b (entryCalls e ++ callsOf ws)
     go (is-call c) h = ap (λ (l : List ℕ). answer b c ∷ l) h
     go no-call h = h
 

@@ -77,7 +77,8 @@ four (a ∷ b ∷ c ∷ d ∷ ws) h = refl
 pub part-long : (ws : List ℕ) (i k : ℕ) → i + k ≤ length ws → length (take k (drop i ws)) ≡ k
 part-long ws i k h = length-take-le k (drop i ws) (omega (arith, length-drop i ws))
 
-pub loaded : (ws ls rs : List ℕ) (ks : List Bool) → Formed ws → ls ≡ take maxLinks (drop linksAt ws) → rs ≡ take maxHeld (drop ringAt ws) → map lockWord ks ≡ take maxRecords (drop locksAt ws)
+pub loaded : (ws ls rs : List ℕ) (ks : List Bool) → Formed ws
+    → ls ≡ take maxLinks (drop linksAt ws) → rs ≡ take maxHeld (drop ringAt ws) → map lockWord ks ≡ take maxRecords (drop locksAt ws)
     → Keeps ws (record { n = getD ws 0 0; count = getD ws 1 0; links = ls; locks = ks; ring = rs; top = getD ws 2 0; held = getD ws 3 0 })
 loaded ws ls rs ks f e g h = record {
   ranged = f .ranged;
@@ -111,7 +112,9 @@ keeps-formed ws r k = record {
     long = length-append (numbersOf r ++ r .links) (r .ring) ∙ omega (arith, length-append (numbersOf r) (r .links), k .links, k .ring)
 
 pub formed-keeps : (ws : List ℕ) → Formed ws → (r : Register) × Keeps ws r
-formed-keeps ws f = (_, loaded ws (take maxLinks (drop linksAt ws)) (take maxHeld (drop ringAt ws)) (map (λ w. eqb w 1) (take maxRecords (drop locksAt ws))) f refl refl (locks (take maxRecords (drop locksAt ws)) (f .flags)))
+formed-keeps ws f =
+    let ks = take maxRecords (drop locksAt ws) in
+    (_, loaded ws (take maxLinks (drop linksAt ws)) (take maxHeld (drop ringAt ws)) (map (λ w. eqb w 1) ks) f refl refl (locks ks (f .flags)))
   where
     locks : (vs : List ℕ) → Flags vs → map lockWord (map (λ w. eqb w 1) vs) ≡ vs
     locks [] g = refl

@@ -350,7 +350,7 @@ impl Register {
                 let changed = self.put_in(x);
                 Outcome {
                     register: changed.hold(x),
-                    answer: Answer::Done,
+                    answer: Answer::Done, // the link is in
                 }
             }
         }
