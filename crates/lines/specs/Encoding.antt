@@ -1,16 +1,17 @@
--- The frame of what a line says.
+-- The frame of what a line says, and a typed session.
+--   linkBytes k     a link in a frame's body: from in two bytes, label in one, to in two
 --   kindOf f, bodyOf f, frameFor f
 --                   the kind, the body and the bytes of the frame that says f
 --   sent t          the bytes that become of a line that says t
 --   OfNumber k f, OfLink k f
---                   the frame of the request f of a number, or of an edit f of a link, has the kind k and that as its body
+--                   every frame of a request f of a number, or of an edit f of a link, has the kind k, and that as its body
+--   maxBody, frameRoom
+--                   the most bytes of a frame's body, and of a whole frame
 --   afterTyped s t, RightTyped s t v u, printedTyped w r s t v u
---                   the session after a line that says t, the right verdict and reply for it, and what the program prints for it: as for its frame, if any
+--                   of a line that says t: the session after it, the right verdict and reply, and what is printed; as of its frame, if it has one
 --   sentAll ls      the bytes that become of the lines ls
 --   TypedRun w r s ls o
 --                   a typed session: from the session s on, the lines ls are answered by the bytes o, line by line
---   maxBody, frameRoom
---                   the limits: the most bytes of a frame's body, and of a whole frame
 -- Assumes nothing: these are definitions.
 use mathlib.Core.Path.{_≡_}
 use mathlib.Core.List.{List, [], _∷_, _++_}
@@ -22,7 +23,7 @@ use Rattle.book.specs.Book.{Link, Edit, edit, undo, add, remove, lock, unlock}
 use Rattle.paths.specs.Grammar.{Verdict}
 use Rattle.paths.specs.Chains.{Reply}
 use Rattle.session.specs.Program.{twoBytes, frameOf, Request, Frame, asks, faulty, opening, call, pairs, chain, Session, nextSession, Right, printed, minFrame, maxFrame}
-use Rattle.lines.specs.Typed.{Typed, nothing, says, typed}
+use Rattle.lines.specs.Typed.{Typed, nothing, saying, typed}
 
 unfoldable pub linkBytes : Link → List ℕ
 linkBytes k = twoBytes (k .from) ++ (k .label ∷ twoBytes (k .to))
@@ -55,7 +56,7 @@ frameFor f = frameOf (kindOf f) (bodyOf f)
 
 unfoldable pub sent : Typed → List ℕ
 sent nothing = []
-sent (says f) = frameFor f
+sent (saying f) = frameFor f
 
 abbrev pub OfNumber : ℕ → (ℕ → Request) → Type 0
 OfNumber k f = (n : ℕ) → frameFor (asks (f n)) ≡ frameOf k (twoBytes n)
@@ -63,7 +64,6 @@ OfNumber k f = (n : ℕ) → frameFor (asks (f n)) ≡ frameOf k (twoBytes n)
 abbrev pub OfLink : ℕ → (Link → Edit) → Type 0
 OfLink k f = (l : Link) → frameFor (asks (call (edit (f l)))) ≡ frameOf k (linkBytes l)
 
--- the limits
 abbrev pub maxBody : ℕ
 maxBody = maxFrame - minFrame
 
@@ -73,21 +73,21 @@ frameRoom = maxFrame + 2
 -- ---- a typed session
 abbrev pub afterTyped : Session → Typed → Session
 afterTyped s nothing = s
-afterTyped s (says f) = nextSession s f
+afterTyped s (saying f) = nextSession s f
 
 abbrev pub RightTyped : Session → Typed → Verdict → Reply → Type 0
 RightTyped s nothing v u = Unit
-RightTyped s (says f) v u = Right s f v u
+RightTyped s (saying f) v u = Right s f v u
 
 abbrev pub printedTyped : ℕ → ℕ → Session → Typed → Verdict → Reply → List ℕ
 printedTyped work room s nothing v u = []
-printedTyped work room s (says f) v u = printed work room s f v u
+printedTyped work room s (saying f) v u = printed work room s f v u
 
 unfoldable pub sentAll : List (List ℕ) → List ℕ
 sentAll [] = []
 sentAll (l ∷ ls) = sent (typed l) ++ sentAll ls
 
 pub data TypedRun (work room : ℕ) : Session → List (List ℕ) → List ℕ → Type 0 where
-  no-more : {s : Session} → TypedRun work room s [] []
-  line : {s : Session} {ls : List (List ℕ)} {o : List ℕ} (l : List ℕ) (v : Verdict) (u : Reply) → RightTyped s (typed l) v u
+  no-lines : {s : Session} → TypedRun work room s [] []
+  next-line : {s : Session} {ls : List (List ℕ)} {o : List ℕ} (l : List ℕ) (v : Verdict) (u : Reply) → RightTyped s (typed l) v u
       → TypedRun work room (afterTyped s (typed l)) ls o → TypedRun work room s (l ∷ ls) (printedTyped work room s (typed l) v u ++ o)

@@ -5,12 +5,12 @@
 --   run-lines       for all lines of a session: on the frames that are sent the program prints what the lines ask for, line by line
 --   frame-parts     a frame from its parts
 -- Assumes nothing.
-use mathlib.Core.Path.{_≡_, refl, sym, ap, subst, _∙_}
+use mathlib.Core.Path.{_≡_, refl, subst, _∙_}
 use mathlib.Core.List.{List, [], _∷_, _++_, append-assoc}
 use mathlib.Core.Bool.{Bool, true, false, _&&_}
 use Prim.Native.Nat.{ℕ, suc, _+_, _-_, _*_, _/_, _%_, _≤_, _<_}
 use native.Mathlib.Omega.{arith}
-use lib.ListN.{length, take, drop, length-append}
+use lib.ListN.{length, drop, length-append}
 use lib.Seq.{take-at, drop-at}
 use lib.Dec.{leb, ltb, eqb}
 use borrow.Author.Tests.{le-leb}
@@ -22,9 +22,9 @@ use Rattle.paths.specs.Chains.{Reply}
 use Rattle.report.specs.Report.{bytes}
 use Rattle.session.specs.Program.{number16, twoBytes, frameOf, linkIn, Request, Frame, asks, faulty, opening, call, pairs, chain, decode, Session, nextSession, Right, printed, frameIn, Run, ended}
 use Rattle.session.specs.RunLaws.{framed-as}
-use Rattle.lines.specs.Typed.{Typed, nothing, says, unknown, misfit, fitting, word, rest, skip, same, empty, isNumber, value, isLabel, labelOf, text, maxText, maxLine, hash, numbered, linked, alone, chained, requested, begun, typed}
+use Rattle.lines.specs.Typed.{Typed, nothing, saying, fitting, word, rest, skip, sameBytes, empty, isNumber, numberOf, isLabel, labelOf, text, maxText, maxLine, hash, numbered, linked, alone, chained, requested, begun, typed}
 use Rattle.lines.specs.TypedLaws.{length-text}
-use Rattle.lines.specs.Encoding.{linkBytes, kindOf, bodyOf, frameFor, sent, maxBody, afterTyped, printedTyped, RightTyped, sentAll, TypedRun, no-more, line}
+use Rattle.lines.specs.Encoding.{linkBytes, kindOf, bodyOf, frameFor, sent, maxBody, afterTyped, printedTyped, RightTyped, sentAll, TypedRun, no-lines, next-line}
 
 -- a number from its two bytes
 both : (n : ℕ) → n % 256 + 256 * (n / 256) ≡ n
@@ -52,7 +52,7 @@ pub data Sendable : Frame → Type 0 where
 
 pub data Sends : Typed → Type 0 where
   none : Sends nothing
-  one : {f : Frame} → Sendable f → Sends (says f)
+  one : {f : Frame} → Sendable f → Sends (saying f)
 
 fits : (b : Bool) (q : Request) → length (bodyOf (asks q)) ≤ maxText + 4 → Sends (fitting b q)
 fits true q h = one (request h)
@@ -68,7 +68,7 @@ length-link k = refl
 
 numbered-sends : (f : ℕ → Request) (r : List ℕ) → ((n : ℕ) → length (bodyOf (asks (f n))) ≡ 2) → Sends (numbered f r)
 unfolding numbered
-numbered-sends f r h = fits (isNumber (word r) && empty (rest r)) (f (value (word r))) (omega (arith, h (value (word r))))
+numbered-sends f r h = fits (isNumber (word r) && empty (rest r)) (f (numberOf (word r))) (omega (arith, h (numberOf (word r))))
 
 linked-sends : (f : Link → Edit) (r : List ℕ) → ((k : Link) → length (bodyOf (asks (call (edit (f k))))) ≡ 5) → Sends (linked f r)
 unfolding linked
@@ -76,26 +76,26 @@ linked-sends f r h =
     let x = word r in
     let l = word (rest r) in
     let y = word (rest (rest r)) in
-    let k : Link = record { from = value x; label = labelOf l; to = value y } in
+    let k : Link = record { from = numberOf x; label = labelOf l; to = numberOf y } in
     fits (isNumber x && (isLabel l && (isNumber y && empty (rest (rest (rest r)))))) (call (edit (f k))) (omega (arith, h k))
 
 chained-sends : (r : List ℕ) → Sends (chained r)
 unfolding chained bodyOf twoBytes
 chained-sends r =
     let t = text (rest (rest r)) in
-    fits (isNumber (word r) && isNumber (word (rest r))) (chain (value (word r)) (value (word (rest r))) t) (omega (arith, length-text (rest (rest r))))
+    fits (isNumber (word r) && isNumber (word (rest r))) (chain (numberOf (word r)) (numberOf (word (rest r))) t) (omega (arith, length-text (rest (rest r))))
 
 requested-sends : (w r : List ℕ) → Sends (requested w r)
 unfolding requested alone bodyOf twoBytes
 requested-sends w r =
-    choose (same w (bytes "open")) _ _ (numbered-sends opening r (λ n. refl))
-    (choose (same w (bytes "add")) _ _ (linked-sends add r length-link)
-    (choose (same w (bytes "remove")) _ _ (linked-sends remove r length-link)
-    (choose (same w (bytes "lock")) _ _ (numbered-sends (λ x. call (edit (lock x))) r (λ n. refl))
-    (choose (same w (bytes "unlock")) _ _ (numbered-sends (λ x. call (edit (unlock x))) r (λ n. refl))
-    (choose (same w (bytes "undo")) _ _ (fits (empty r) (call undo) (omega arith))
-    (choose (same w (bytes "pairs")) _ _ (one (request {q = pairs (text r)} (omega (arith, length-text r))))
-    (choose (same w (bytes "chain")) _ _ (chained-sends r)
+    choose (sameBytes w (bytes "open")) _ _ (numbered-sends opening r (λ n. refl))
+    (choose (sameBytes w (bytes "add")) _ _ (linked-sends add r length-link)
+    (choose (sameBytes w (bytes "remove")) _ _ (linked-sends remove r length-link)
+    (choose (sameBytes w (bytes "lock")) _ _ (numbered-sends (λ x. call (edit (lock x))) r (λ n. refl))
+    (choose (sameBytes w (bytes "unlock")) _ _ (numbered-sends (λ x. call (edit (unlock x))) r (λ n. refl))
+    (choose (sameBytes w (bytes "undo")) _ _ (fits (empty r) (call undo) (omega arith))
+    (choose (sameBytes w (bytes "pairs")) _ _ (one (request {q = pairs (text r)} (omega (arith, length-text r))))
+    (choose (sameBytes w (bytes "chain")) _ _ (chained-sends r)
     (one unknowns))))))))
 
 begun-sends : (s : List ℕ) → Sends (begun s)
@@ -114,11 +114,11 @@ decode-sendable (request {q} h) = decode-request q
 decode-sendable misfits = refl
 decode-sendable unknowns = refl
 
-says-sendable : {f : Frame} (t : Typed) → Sends t → t ≡ says f → Sendable f
+says-sendable : {f : Frame} (t : Typed) → Sends t → t ≡ saying f → Sendable f
 says-sendable nothing none e = absurd (let z : _≡_ {A = ℕ} 0 1 = cc in omega arith)
-says-sendable {f} (says g) (one x) e = let h : g ≡ f = cc in subst (λ (k : Frame). Sendable k) h x
+says-sendable {f} (saying g) (one x) e = let h : g ≡ f = cc in subst (λ (k : Frame). Sendable k) h x
 
-pub decode-line : (s : List ℕ) (f : Frame) → typed s ≡ says f → (sent (typed s) ≡ frameOf (kindOf f) (bodyOf f)) × (decode (kindOf f) (bodyOf f) ≡ f)
+pub decode-line : (s : List ℕ) (f : Frame) → typed s ≡ saying f → (sent (typed s) ≡ frameOf (kindOf f) (bodyOf f)) × (decode (kindOf f) (bodyOf f) ≡ f)
 unfolding sent frameFor
 decode-line s f e = (rw e, decode-sendable (says-sendable (typed s) (typed-sends s) e))
 
@@ -167,10 +167,10 @@ run-sends : (work room : ℕ) (s : Session) (t : Typed) (i o : List ℕ) (v : Ve
     → RightTyped s t v u → Run work room (afterTyped s t) i o → Run work room s (sent t ++ i) (printedTyped work room s t v u ++ o)
 unfolding sent
 run-sends work room s nothing i o v u none right run = run
-run-sends work room s (says f) i o v u (one x) right run = run-frame work room s f i o v u x right run
+run-sends work room s (saying f) i o v u (one x) right run = run-frame work room s f i o v u x right run
 
 pub run-lines : {work room : ℕ} {s : Session} {ls : List (List ℕ)} {o : List ℕ} → TypedRun work room s ls o → Run work room s (sentAll ls) o
 unfolding sentAll
-run-lines no-more = ended
-run-lines {work} {room} {s} (line {ls = ls} {o = o} l v u right run) =
+run-lines no-lines = ended
+run-lines {work} {room} {s} (next-line {ls = ls} {o = o} l v u right run) =
     run-sends work room s (typed l) (sentAll ls) o v u (typed-sends l) right (run-lines run)

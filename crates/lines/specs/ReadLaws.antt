@@ -4,10 +4,10 @@
 --                           a number read figure by figure
 --   label-size, label-one   a label's only byte
 -- Assumes nothing.
-use mathlib.Core.Path.{_≡_, refl, sym, ap, _∙_}
+use mathlib.Core.Path.{_≡_, refl}
 use mathlib.Core.List.{List, [], _∷_}
 use mathlib.Core.Bool.{Bool, true, false, _&&_}
-use Prim.Native.Nat.{ℕ, zero, suc, _+_, _-_, _*_, _≤_, _<_}
+use Prim.Native.Nat.{ℕ, _+_, _-_, _*_, _≤_, _<_}
 use native.Mathlib.Numerals.{add-one}
 use native.Mathlib.Omega.{arith}
 use lib.ListN.{length, drop, getD, drop-of-length-le}
@@ -16,26 +16,26 @@ use lib.Dec.{leb, ltb}
 use borrow.Author.Tests.{le-leb, lt-leb, lt-ltb, le-ltb, leb-true, ltb-true}
 use Rattle.book.specs.Causes.{labels}
 use Rattle.report.specs.Report.{figure-0, letter-a}
-use Rattle.lines.specs.Typed.{figure, allFigures, valueAfter, value, isNumber, isLabel, labelOf, maxNumber}
+use Rattle.lines.specs.Typed.{figure, allFigures, numberAfter, numberOf, isNumber, isLabel, labelOf, maxNumber}
 use Rattle.lines.specs.TypedLaws.{and-right, and-false}
-use Rattle.lines.specs.Read.{none, read}
+use Rattle.lines.specs.Read.{unfit, read}
 
 -- ---- what was read
-pub read-fits : (b : Bool) (n : ℕ) → read b n < none → b ≡ true
+pub read-fits : (b : Bool) (n : ℕ) → read b n < unfit → b ≡ true
 unfolding read
 read-fits true n h = refl
 read-fits false n h = absurd (omega arith)
 
-pub read-not : (b : Bool) (n : ℕ) → (b ≡ true → n < none) → none ≤ read b n → b ≡ false
+pub read-not : (b : Bool) (n : ℕ) → (b ≡ true → n < unfit) → unfit ≤ read b n → b ≡ false
 unfolding read
 read-not true n h k = absurd (omega (arith, h refl))
 read-not false n h k = refl
 
 -- a number and a label are below what stands for none
-pub number-small : (w : List ℕ) → isNumber w ≡ true → value w < none
+pub number-small : (w : List ℕ) → isNumber w ≡ true → numberOf w < unfit
 unfolding isNumber
 number-small [] h = absurd (let z : _≡_ {A = ℕ} 0 1 = cc in omega arith)
-number-small (c ∷ w) h = omega (arith, leb-true (value (c ∷ w)) maxNumber (and-right (allFigures (c ∷ w)) (leb (value (c ∷ w)) maxNumber) h))
+number-small (c ∷ w) h = omega (arith, leb-true (numberOf (c ∷ w)) maxNumber (and-right (allFigures (c ∷ w)) (leb (numberOf (c ∷ w)) maxNumber) h))
 
 pub label-small : (w : List ℕ) → isLabel w ≡ true → labelOf w < labels
 unfolding isLabel labelOf
@@ -46,45 +46,45 @@ label-small (c ∷ d ∷ w) h = absurd (let z : _≡_ {A = ℕ} 0 1 = cc in omeg
 -- ---- numbers
 -- the rest w of a number, of which v is read
 unfoldable pub readAfter : ℕ → List ℕ → ℕ
-readAfter v w = read (allFigures w && leb (valueAfter v w) maxNumber) (valueAfter v w)
+readAfter v w = read (allFigures w && leb (numberAfter v w) maxNumber) (numberAfter v w)
 
-pub number-begun : (w : List ℕ) → 0 < length w → readAfter 0 w ≡ read (isNumber w) (value w)
-unfolding readAfter isNumber value
+pub number-begun : (w : List ℕ) → 0 < length w → readAfter 0 w ≡ read (isNumber w) (numberOf w)
+unfolding readAfter isNumber numberOf
 number-begun [] h = absurd (omega arith)
 number-begun (c ∷ w) h = refl
 
-pub number-empty : (w : List ℕ) → length w ≡ 0 → read (isNumber w) (value w) ≡ none
+pub number-empty : (w : List ℕ) → length w ≡ 0 → read (isNumber w) (numberOf w) ≡ unfit
 unfolding read isNumber
 number-empty [] h = refl
 number-empty (c ∷ w) h = absurd (omega arith)
 
 pub number-next : (v : ℕ) (w : List ℕ) (i : ℕ) → i < length w → figure-0 ≤ getD w i 0 → getD w i 0 < figure-0 + 10
     → readAfter (v * 10 + (getD w i 0 - figure-0)) (drop (i + 1) w) ≡ readAfter v (drop i w)
-unfolding readAfter allFigures figure valueAfter
+unfolding readAfter allFigures figure numberAfter
 number-next v w i h l m = rw (add-one i, drop-cons w i 0 h, le-leb figure-0 (getD w i 0) l, lt-ltb (getD w i 0) (figure-0 + 10) m)
 
-pub number-below : (v : ℕ) (w : List ℕ) (i : ℕ) → i < length w → getD w i 0 < figure-0 → readAfter v (drop i w) ≡ none
-unfolding readAfter allFigures figure valueAfter read
+pub number-below : (v : ℕ) (w : List ℕ) (i : ℕ) → i < length w → getD w i 0 < figure-0 → readAfter v (drop i w) ≡ unfit
+unfolding readAfter allFigures figure numberAfter read
 number-below v w i h l = rw (drop-cons w i 0 h, lt-leb figure-0 (getD w i 0) l)
 
-pub number-above : (v : ℕ) (w : List ℕ) (i : ℕ) → i < length w → figure-0 ≤ getD w i 0 → figure-0 + 10 ≤ getD w i 0 → readAfter v (drop i w) ≡ none
-unfolding readAfter allFigures figure valueAfter read
+pub number-above : (v : ℕ) (w : List ℕ) (i : ℕ) → i < length w → figure-0 ≤ getD w i 0 → figure-0 + 10 ≤ getD w i 0 → readAfter v (drop i w) ≡ unfit
+unfolding readAfter allFigures figure numberAfter read
 number-above v w i h l m = rw (drop-cons w i 0 h, le-leb figure-0 (getD w i 0) l, le-ltb (getD w i 0) (figure-0 + 10) m)
 
 -- more figures make a number no less
-grows : (v : ℕ) (w : List ℕ) → v ≤ valueAfter v w
-unfolding valueAfter
+grows : (v : ℕ) (w : List ℕ) → v ≤ numberAfter v w
+unfolding numberAfter
 grows v [] = omega arith
 grows v (c ∷ w) = omega (arith, grows (v * 10 + (c - figure-0)) w)
 
-pub number-over : (v : ℕ) (w : List ℕ) → maxNumber < v → readAfter v w ≡ none
+pub number-over : (v : ℕ) (w : List ℕ) → maxNumber < v → readAfter v w ≡ unfit
 unfolding readAfter read
 number-over v w h =
-    let k : maxNumber < valueAfter v w = omega (arith, grows v w) in
-    rw (lt-leb (valueAfter v w) maxNumber k, and-false (allFigures w))
+    let k : maxNumber < numberAfter v w = omega (arith, grows v w) in
+    rw (lt-leb (numberAfter v w) maxNumber k, and-false (allFigures w))
 
 pub number-none : (v : ℕ) (w : List ℕ) (i : ℕ) → length w ≤ i → v ≤ maxNumber → readAfter v (drop i w) ≡ v
-unfolding readAfter allFigures valueAfter read
+unfolding readAfter allFigures numberAfter read
 number-none v w i h k = rw (drop-of-length-le w h, le-leb v maxNumber k)
 
 -- ---- labels

@@ -10,9 +10,9 @@
 --   chained-not-from, chained-not-to, chained-is
 --                   FROM TO EXPRESSION, in this order
 -- Assumes nothing.
-use mathlib.Core.Path.{_≡_, refl, sym, ap, _∙_}
+use mathlib.Core.Path.{_≡_, refl, _∙_}
 use mathlib.Core.List.{List, [], _∷_}
-use mathlib.Core.Bool.{Bool, true, false}
+use mathlib.Core.Bool.{true, false}
 use Prim.Native.Nat.{ℕ, _≤_, _<_}
 use native.Mathlib.Omega.{arith}
 use lib.ListN.{length, getD}
@@ -20,9 +20,9 @@ use borrow.Author.Tests.{lt-ltb, le-ltb, eq-eqb, ne-eqb}
 use Rattle.book.specs.Causes.{labels}
 use Rattle.book.specs.Book.{Link, Edit, edit}
 use Rattle.session.specs.Program.{Request, asks, call, chain}
-use Rattle.lines.specs.Typed.{word, rest, skip, empty, isNumber, value, isLabel, labelOf, text, hash, maxLine, nothing, says, misfit, numbered, linked, alone, chained, requested, begun, typed}
+use Rattle.lines.specs.Typed.{word, rest, skip, empty, isNumber, numberOf, isLabel, labelOf, text, hash, maxLine, nothing, saying, misfit, numbered, linked, alone, chained, requested, begun, typed}
 use Rattle.lines.specs.TypedLaws.{and-false}
-use Rattle.lines.specs.Read.{none, read}
+use Rattle.lines.specs.Read.{unfit, read}
 use Rattle.lines.specs.ReadLaws.{read-fits, read-not, number-small, label-small}
 
 -- ---- a line
@@ -50,25 +50,25 @@ begun-request [] h k = absurd (h refl)
 begun-request (c ∷ s) h k = rw (ne-eqb c hash k)
 
 -- ---- words as read
-number-fits : (w : List ℕ) (n : ℕ) → n ≡ read (isNumber w) (value w) → n < none → (isNumber w ≡ true) × (n ≡ value w)
+number-fits : (w : List ℕ) (n : ℕ) → n ≡ read (isNumber w) (numberOf w) → n < unfit → (isNumber w ≡ true) × (n ≡ numberOf w)
 unfolding read
 number-fits w n e h =
-    let yes : isNumber w ≡ true = read-fits (isNumber w) (value w) (rw e at h) in
+    let yes : isNumber w ≡ true = read-fits (isNumber w) (numberOf w) (rw e at h) in
     (yes, e ∙ rw yes)
 
-number-not : (w : List ℕ) (n : ℕ) → n ≡ read (isNumber w) (value w) → none ≤ n → isNumber w ≡ false
-number-not w n e h = read-not (isNumber w) (value w) (number-small w) (rw e at h)
+number-not : (w : List ℕ) (n : ℕ) → n ≡ read (isNumber w) (numberOf w) → unfit ≤ n → isNumber w ≡ false
+number-not w n e h = read-not (isNumber w) (numberOf w) (number-small w) (rw e at h)
 
-label-fits : (w : List ℕ) (n : ℕ) → n ≡ read (isLabel w) (labelOf w) → n < none → (isLabel w ≡ true) × (n ≡ labelOf w)
+label-fits : (w : List ℕ) (n : ℕ) → n ≡ read (isLabel w) (labelOf w) → n < unfit → (isLabel w ≡ true) × (n ≡ labelOf w)
 unfolding read
 label-fits w n e h =
     let yes : isLabel w ≡ true = read-fits (isLabel w) (labelOf w) (rw e at h) in
     (yes, e ∙ rw yes)
 
-label-not : (w : List ℕ) (n : ℕ) → n ≡ read (isLabel w) (labelOf w) → none ≤ n → isLabel w ≡ false
+label-not : (w : List ℕ) (n : ℕ) → n ≡ read (isLabel w) (labelOf w) → unfit ≤ n → isLabel w ≡ false
 label-not w n e h = read-not (isLabel w) (labelOf w) (λ y. omega (arith, label-small w y)) (rw e at h)
 
-pub label-under : (w : List ℕ) (n : ℕ) → n ≡ read (isLabel w) (labelOf w) → n < none → n < labels
+pub label-under : (w : List ℕ) (n : ℕ) → n ≡ read (isLabel w) (labelOf w) → n < unfit → n < labels
 label-under w n e h = let f = label-fits w n e h in omega (arith, f .1, label-small w (f .0))
 
 empty-none : (s : List ℕ) → length s ≤ 0 → empty s ≡ true
@@ -82,8 +82,8 @@ empty-some [] h = absurd (omega arith)
 empty-some (c ∷ s) h = refl
 
 -- ---- one number
-module _ (s : List ℕ) {n : ℕ} {u : List ℕ} (is-n : n ≡ read (isNumber (word s)) (value (word s))) (is-u : u ≡ rest s) (f : ℕ → Request) where
-  pub numbered-not : none ≤ n → numbered f s ≡ misfit
+module _ (s : List ℕ) {n : ℕ} {u : List ℕ} (is-n : n ≡ read (isNumber (word s)) (numberOf (word s))) (is-u : u ≡ rest s) (f : ℕ → Request) where
+  pub numbered-not : unfit ≤ n → numbered f s ≡ misfit
   unfolding numbered
   numbered-not h = rw (number-not (word s) n is-n h)
 
@@ -91,7 +91,7 @@ module _ (s : List ℕ) {n : ℕ} {u : List ℕ} (is-n : n ≡ read (isNumber (w
   unfolding numbered
   numbered-more h = rw (← is-u, empty-some u h, and-false (isNumber (word s)))
 
-  pub numbered-is : n < none → length u ≤ 0 → numbered f s ≡ says (asks (f n))
+  pub numbered-is : n < unfit → length u ≤ 0 → numbered f s ≡ saying (asks (f n))
   unfolding numbered
   numbered-is h k =
       let v = number-fits (word s) n is-n h in
@@ -102,34 +102,34 @@ pub alone-more : (q : Request) (s : List ℕ) → 0 < length s → alone q s ≡
 unfolding alone
 alone-more q s h = rw (empty-some s h)
 
-pub alone-is : (q : Request) (s : List ℕ) → length s ≤ 0 → alone q s ≡ says (asks q)
+pub alone-is : (q : Request) (s : List ℕ) → length s ≤ 0 → alone q s ≡ saying (asks q)
 unfolding alone
 alone-is q s h = rw (empty-none s h)
 
 -- ---- a link: x and what follows it, t, of it l and u, of that y and v
 module _ (s : List ℕ) {x l y : ℕ} {t u v : List ℕ}
-    (is-x : x ≡ read (isNumber (word s)) (value (word s))) (is-t : t ≡ rest s)
+    (is-x : x ≡ read (isNumber (word s)) (numberOf (word s))) (is-t : t ≡ rest s)
     (is-l : l ≡ read (isLabel (word t)) (labelOf (word t))) (is-u : u ≡ rest t)
-    (is-y : y ≡ read (isNumber (word u)) (value (word u))) (is-v : v ≡ rest u)
+    (is-y : y ≡ read (isNumber (word u)) (numberOf (word u))) (is-v : v ≡ rest u)
     (f : Link → Edit) where
-  pub linked-not-from : none ≤ x → linked f s ≡ misfit
+  pub linked-not-from : unfit ≤ x → linked f s ≡ misfit
   unfolding linked
   linked-not-from h = rw (number-not (word s) x is-x h)
 
-  pub linked-not-label : x < none → none ≤ l → linked f s ≡ misfit
+  pub linked-not-label : x < unfit → unfit ≤ l → linked f s ≡ misfit
   unfolding linked
   linked-not-label h k = rw (← is-t, number-fits (word s) x is-x h .0, label-not (word t) l is-l k)
 
-  pub linked-not-to : x < none → l < none → none ≤ y → linked f s ≡ misfit
+  pub linked-not-to : x < unfit → l < unfit → unfit ≤ y → linked f s ≡ misfit
   unfolding linked
   linked-not-to h i k = rw (← is-t, ← is-u, number-fits (word s) x is-x h .0, label-fits (word t) l is-l i .0, number-not (word u) y is-y k)
 
-  pub linked-more : x < none → l < none → y < none → 0 < length v → linked f s ≡ misfit
+  pub linked-more : x < unfit → l < unfit → y < unfit → 0 < length v → linked f s ≡ misfit
   unfolding linked
   linked-more h i j k =
       rw (← is-t, ← is-u, ← is-v, number-fits (word s) x is-x h .0, label-fits (word t) l is-l i .0, number-fits (word u) y is-y j .0, empty-some v k)
 
-  pub linked-is : x < none → l < none → y < none → length v ≤ 0 → linked f s ≡ says (asks (call (edit (f (record { from = x; label = l; to = y })))))
+  pub linked-is : x < unfit → l < unfit → y < unfit → length v ≤ 0 → linked f s ≡ saying (asks (call (edit (f (record { from = x; label = l; to = y })))))
   unfolding linked
   linked-is h i j k =
       let a = number-fits (word s) x is-x h in
@@ -139,17 +139,17 @@ module _ (s : List ℕ) {x l y : ℕ} {t u v : List ℕ}
 
 -- ---- a chain question: x and what follows it, t, of it y and u, whose text is v
 module _ (s : List ℕ) {x y : ℕ} {t u v : List ℕ}
-    (is-x : x ≡ read (isNumber (word s)) (value (word s))) (is-t : t ≡ rest s)
-    (is-y : y ≡ read (isNumber (word t)) (value (word t))) (is-u : u ≡ rest t) (is-v : v ≡ text u) where
-  pub chained-not-from : none ≤ x → chained s ≡ misfit
+    (is-x : x ≡ read (isNumber (word s)) (numberOf (word s))) (is-t : t ≡ rest s)
+    (is-y : y ≡ read (isNumber (word t)) (numberOf (word t))) (is-u : u ≡ rest t) (is-v : v ≡ text u) where
+  pub chained-not-from : unfit ≤ x → chained s ≡ misfit
   unfolding chained
   chained-not-from h = rw (number-not (word s) x is-x h)
 
-  pub chained-not-to : x < none → none ≤ y → chained s ≡ misfit
+  pub chained-not-to : x < unfit → unfit ≤ y → chained s ≡ misfit
   unfolding chained
   chained-not-to h k = rw (← is-t, number-fits (word s) x is-x h .0, number-not (word t) y is-y k)
 
-  pub chained-is : x < none → y < none → chained s ≡ says (asks (chain x y v))
+  pub chained-is : x < unfit → y < unfit → chained s ≡ saying (asks (chain x y v))
   unfolding chained
   chained-is h k =
       let a = number-fits (word s) x is-x h in

@@ -2,17 +2,26 @@
 --   blank c         the byte parts words: space, tab or carriage return
 --   skip s, trim s  the bytes s without the blanks in front, and without those at their end
 --   word s, rest s  the first word of s, up to a blank or the end; and what follows it, from the next word on
---   same s t        the bytes s and t are the same
---   isNumber w, value w
---                   the word w is decimal figures for a number of at most 65,535; the number that figures give
+--   sameBytes s t, empty s
+--                   whether s and t are the same bytes, and whether s is none
+--   figure c, allFigures w
+--                   whether c is a decimal figure, and every byte of w
+--   numberAfter v w, numberOf w
+--                   the number of the figures w after those of v, and of w alone
+--   isNumber w      whether the word w is figures, one or more, of a number up to 65,535
 --   isLabel w, labelOf w
---                   the word w is one letter, a to z; its label, 0 to 25
---   text s          of a question's text what is sent: s without blanks at its end, at most 1,018 bytes
+--                   whether the word w is one letter, a to z; its label, 0 to 25
+--   text s          what is sent of a question's text: s without the blanks at its end, at most 1,018 bytes
 --   Typed           what a line says: nothing, or what a frame says, a request or the cause why it is none
+--   unknown, misfit what a first word says that is none of the requests, and arguments that do not fit
+--   fitting b q     the request q, if its arguments fit
 --   numbered f r, linked f r, alone q r, chained r
---                   the request, if the bytes r after its word are one number; FROM LETTER TO; nothing; FROM TO EXPRESSION
+--                   a request, if the bytes r after its word are: a number and no more; FROM LETTER TO and no more; none; FROM TO EXPRESSION
 --   requested w r   what the word w says with the bytes r after it
+--   begun s         what the bytes s say from the first word on: nothing, a comment, or a request
 --   typed s         what the line s says
+--   maxLine, maxNumber, maxText
+--                   the limits
 -- Assumes nothing: these are definitions.
 use mathlib.Core.List.{List, [], _∷_, reverse}
 use mathlib.Core.Bool.{Bool, true, false, _&&_, _||_}
@@ -35,7 +44,7 @@ carriage-return = 13
 abbrev pub hash : ℕ
 hash = 35
 
--- the limits: the most bytes of a line, the greatest number, the most bytes of a question's text
+-- the limits: the most bytes of a line; the greatest number; the most bytes of a question's text, which a chain frame just holds
 abbrev pub maxLine : ℕ
 maxLine = 2047
 
@@ -63,11 +72,11 @@ word (c ∷ s) = pick (blank c) [] (c ∷ word s)
 unfoldable pub rest : List ℕ → List ℕ
 rest s = skip (drop (length (word s)) s)
 
-unfoldable pub same : List ℕ → List ℕ → Bool
-same [] [] = true
-same [] (d ∷ t) = false
-same (c ∷ s) [] = false
-same (c ∷ s) (d ∷ t) = eqb c d && same s t
+unfoldable pub sameBytes : List ℕ → List ℕ → Bool
+sameBytes [] [] = true
+sameBytes [] (d ∷ t) = false
+sameBytes (c ∷ s) [] = false
+sameBytes (c ∷ s) (d ∷ t) = eqb c d && sameBytes s t
 
 unfoldable pub empty : List ℕ → Bool
 empty [] = true
@@ -81,17 +90,16 @@ unfoldable pub allFigures : List ℕ → Bool
 allFigures [] = true
 allFigures (c ∷ w) = figure c && allFigures w
 
--- the number of the figures w after those of v
-unfoldable pub valueAfter : ℕ → List ℕ → ℕ
-valueAfter v [] = v
-valueAfter v (c ∷ w) = valueAfter (v * 10 + (c - figure-0)) w
+unfoldable pub numberAfter : ℕ → List ℕ → ℕ
+numberAfter v [] = v
+numberAfter v (c ∷ w) = numberAfter (v * 10 + (c - figure-0)) w
 
-unfoldable pub value : List ℕ → ℕ
-value w = valueAfter 0 w
+unfoldable pub numberOf : List ℕ → ℕ
+numberOf w = numberAfter 0 w
 
 unfoldable pub isNumber : List ℕ → Bool
 isNumber [] = false
-isNumber (c ∷ w) = allFigures (c ∷ w) && leb (value (c ∷ w)) maxNumber
+isNumber (c ∷ w) = allFigures (c ∷ w) && leb (numberOf (c ∷ w)) maxNumber
 
 unfoldable pub isLabel : List ℕ → Bool
 isLabel [] = false
@@ -108,21 +116,19 @@ text s = take maxText (trim s)
 -- ---- requests
 pub data Typed : Type 0 where
   nothing : Typed
-  says : Frame → Typed
+  saying : Frame → Typed
 
--- a first word that is none of the requests, and arguments that do not fit
 abbrev pub unknown : Typed
-unknown = says (faulty unknown-kind)
+unknown = saying (faulty unknown-kind)
 
 abbrev pub misfit : Typed
-misfit = says (faulty broken-frame)
+misfit = saying (faulty broken-frame)
 
--- a request, if its arguments fit
 abbrev pub fitting : Bool → Request → Typed
-fitting fits q = pick fits (says (asks q)) misfit
+fitting fits q = pick fits (saying (asks q)) misfit
 
 unfoldable pub numbered : (ℕ → Request) → List ℕ → Typed
-numbered f r = fitting (isNumber (word r) && empty (rest r)) (f (value (word r)))
+numbered f r = fitting (isNumber (word r) && empty (rest r)) (f (numberOf (word r)))
 
 unfoldable pub linked : (Link → Edit) → List ℕ → Typed
 linked f r =
@@ -130,27 +136,26 @@ linked f r =
     let l = word (rest r) in
     let y = word (rest (rest r)) in
     fitting (isNumber x && (isLabel l && (isNumber y && empty (rest (rest (rest r))))))
-    (call (edit (f (record { from = value x; label = labelOf l; to = value y }))))
+    (call (edit (f (record { from = numberOf x; label = labelOf l; to = numberOf y }))))
 
 unfoldable pub alone : Request → List ℕ → Typed
 alone q r = fitting (empty r) q
 
 unfoldable pub chained : List ℕ → Typed
-chained r = fitting (isNumber (word r) && isNumber (word (rest r))) (chain (value (word r)) (value (word (rest r))) (text (rest (rest r))))
+chained r = fitting (isNumber (word r) && isNumber (word (rest r))) (chain (numberOf (word r)) (numberOf (word (rest r))) (text (rest (rest r))))
 
 unfoldable pub requested : List ℕ → List ℕ → Typed
 requested w r =
-    pick (same w (bytes "open")) (numbered opening r)
-    (pick (same w (bytes "add")) (linked add r)
-    (pick (same w (bytes "remove")) (linked remove r)
-    (pick (same w (bytes "lock")) (numbered (λ x. call (edit (lock x))) r)
-    (pick (same w (bytes "unlock")) (numbered (λ x. call (edit (unlock x))) r)
-    (pick (same w (bytes "undo")) (alone (call undo) r)
-    (pick (same w (bytes "pairs")) (says (asks (pairs (text r))))
-    (pick (same w (bytes "chain")) (chained r)
+    pick (sameBytes w (bytes "open")) (numbered opening r)
+    (pick (sameBytes w (bytes "add")) (linked add r)
+    (pick (sameBytes w (bytes "remove")) (linked remove r)
+    (pick (sameBytes w (bytes "lock")) (numbered (λ x. call (edit (lock x))) r)
+    (pick (sameBytes w (bytes "unlock")) (numbered (λ x. call (edit (unlock x))) r)
+    (pick (sameBytes w (bytes "undo")) (alone (call undo) r)
+    (pick (sameBytes w (bytes "pairs")) (saying (asks (pairs (text r))))
+    (pick (sameBytes w (bytes "chain")) (chained r)
     unknown)))))))
 
--- from the first word on: none, a comment, or a request
 unfoldable pub begun : List ℕ → Typed
 begun [] = nothing
 begun (c ∷ s) = pick (eqb c hash) nothing (requested (word (c ∷ s)) (rest (c ∷ s)))

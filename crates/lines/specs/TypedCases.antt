@@ -4,21 +4,19 @@
 --   Hold cs         every line of the table cs says what stands beside it
 -- Assumes nothing.
 use mathlib.Core.Path.{_≡_, refl}
-use mathlib.Core.List.{List, [], _∷_, reverse}
-use mathlib.Core.Bool.{Bool, true, false}
-use Prim.Native.Nat.{ℕ}
+use mathlib.Core.List.{List, [], _∷_}
 use Prim.Native.String.{String}
 use Rattle.book.specs.Book.{edit, undo, add, remove, lock, unlock}
 use Rattle.report.specs.Report.{bytes}
 use Rattle.session.specs.Program.{Request, asks, opening, call, pairs, chain}
-use Rattle.lines.specs.Typed.{blank, skip, trim, word, rest, same, empty, figure, allFigures, valueAfter, value, isNumber, isLabel, labelOf, text, Typed, nothing, says, unknown, misfit, numbered, linked, alone, chained, requested, begun, typed}
+use Rattle.lines.specs.Typed.{blank, skip, trim, word, rest, sameBytes, empty, figure, allFigures, numberAfter, numberOf, isNumber, isLabel, labelOf, text, Typed, nothing, saying, unknown, misfit, numbered, linked, alone, chained, requested, begun, typed}
 
 pub record Case : Type 0 where
   pub line : String
   pub what : Typed
 
 abbrev pub request : String → Request → Case
-request t q = record { line = t; what = says (asks q) }
+request t q = record { line = t; what = saying (asks q) }
 
 abbrev pub no-word : String → Case
 no-word t = record { line = t; what = unknown }
@@ -64,7 +62,7 @@ pub data Hold : List Case → Type 0 where
   also : {c : Case} {cs : List Case} → typed (bytes (c .line)) ≡ c .what → Hold cs → Hold (c ∷ cs)
 
 pub typed-cases : Hold table
-unfolding table bytes blank skip trim word rest same empty figure allFigures valueAfter value isNumber isLabel labelOf text numbered linked alone chained requested begun typed
+unfolding table bytes blank skip trim word rest sameBytes empty figure allFigures numberAfter numberOf isNumber isLabel labelOf text numbered linked alone chained requested begun typed
 typed-cases =
     also refl (also refl (also refl (also refl (also refl (also refl (also refl (also refl (also refl (also refl (also refl (also refl (also refl
     (also refl (also refl (also refl (also refl (also refl (also refl (also refl (also refl (also refl (also refl (also refl (also refl (also refl

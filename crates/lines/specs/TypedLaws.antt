@@ -20,9 +20,8 @@ use lib.ListN.{length, take, drop, getD, length-append, length-take, length-drop
 use lib.Seq.{drop-cons, take-suc, take-all}
 use lib.Dec.{eqb, ltb}
 use borrow.Author.Tests.{eq-eqb, ne-eqb, eqb-true, le-leb, lt-ltb, ltb-true, ltb-false}
-use Rattle.book.specs.Basics.{pick}
 use Rattle.report.specs.Report.{figures, decimal, figure-0}
-use Rattle.lines.specs.Typed.{blank, skip, trim, word, rest, same, text, maxText, figure, allFigures, valueAfter, value, isNumber, maxNumber}
+use Rattle.lines.specs.Typed.{blank, skip, trim, word, sameBytes, text, maxText, figure, allFigures, numberAfter, numberOf, isNumber, maxNumber}
 
 -- ---- two tests
 pub and-left : (a b : Bool) → (a && b) ≡ true → a ≡ true
@@ -112,45 +111,45 @@ unfolding text
 length-text s = omega (arith, length-take maxText (trim s))
 
 -- ---- the same text
-pub same-next : (s t : List ℕ) (i : ℕ) → i < length s → i < length t → getD s i 0 ≡ getD t i 0 → same (drop (i + 1) s) (drop (i + 1) t) ≡ same (drop i s) (drop i t)
-unfolding same
+pub same-next : (s t : List ℕ) (i : ℕ) → i < length s → i < length t → getD s i 0 ≡ getD t i 0 → sameBytes (drop (i + 1) s) (drop (i + 1) t) ≡ sameBytes (drop i s) (drop i t)
+unfolding sameBytes
 same-next s t i h k e = rw (add-one i, drop-cons s i 0 h, drop-cons t i 0 k, eq-eqb (getD s i 0) (getD t i 0) e)
 
-pub same-not : (s t : List ℕ) (i : ℕ) → i < length s → i < length t → (getD s i 0 ≡ getD t i 0 → ⊥) → same (drop i s) (drop i t) ≡ false
-unfolding same
+pub same-not : (s t : List ℕ) (i : ℕ) → i < length s → i < length t → (getD s i 0 ≡ getD t i 0 → ⊥) → sameBytes (drop i s) (drop i t) ≡ false
+unfolding sameBytes
 same-not s t i h k e = rw (drop-cons s i 0 h, drop-cons t i 0 k, ne-eqb (getD s i 0) (getD t i 0) e)
 
-pub same-none : (s t : List ℕ) (i : ℕ) → length s ≤ i → length t ≤ i → same (drop i s) (drop i t) ≡ true
-unfolding same
+pub same-none : (s t : List ℕ) (i : ℕ) → length s ≤ i → length t ≤ i → sameBytes (drop i s) (drop i t) ≡ true
+unfolding sameBytes
 same-none s t i h k = rw (drop-of-length-le s h, drop-of-length-le t k)
 
-pub same-length : (s t : List ℕ) → (length s ≡ length t → ⊥) → same s t ≡ false
-unfolding same
+pub same-length : (s t : List ℕ) → (length s ≡ length t → ⊥) → sameBytes s t ≡ false
+unfolding sameBytes
 same-length [] [] h = absurd (h refl)
 same-length [] (d ∷ t) h = refl
 same-length (c ∷ s) [] h = refl
 same-length (c ∷ s) (d ∷ t) h = rw (same-length s t (λ e. h (ap suc e))) (and-false (eqb c d))
 
-pub same-equal : (s t : List ℕ) → same s t ≡ true → s ≡ t
-unfolding same
+pub same-equal : (s t : List ℕ) → sameBytes s t ≡ true → s ≡ t
+unfolding sameBytes
 same-equal [] [] h = refl
 same-equal [] (d ∷ t) h = cc
 same-equal (c ∷ s) [] h = cc
 same-equal (c ∷ s) (d ∷ t) h =
-    let a : c ≡ d = eqb-true c d (and-left (eqb c d) (same s t) h) in
-    let b : s ≡ t = same-equal s t (and-right (eqb c d) (same s t) h) in
+    let a : c ≡ d = eqb-true c d (and-left (eqb c d) (sameBytes s t) h) in
+    let b : s ≡ t = same-equal s t (and-right (eqb c d) (sameBytes s t) h) in
     cc
 
-pub equal-same : (s : List ℕ) → same s s ≡ true
-unfolding same
+pub equal-same : (s : List ℕ) → sameBytes s s ≡ true
+unfolding sameBytes
 equal-same [] = refl
 equal-same (c ∷ s) = rw (eq-eqb c c refl, equal-same s)
 
 -- ---- a number as the program prints it is that number when it is typed
-value-more : (v : ℕ) (w : List ℕ) (c : ℕ) → valueAfter v (w ++ (c ∷ [])) ≡ valueAfter v w * 10 + (c - figure-0)
-unfolding valueAfter
-value-more v [] c = refl
-value-more v (d ∷ w) c = value-more (v * 10 + (d - figure-0)) w c
+number-more : (v : ℕ) (w : List ℕ) (c : ℕ) → numberAfter v (w ++ (c ∷ [])) ≡ numberAfter v w * 10 + (c - figure-0)
+unfolding numberAfter
+number-more v [] c = refl
+number-more v (d ∷ w) c = number-more (v * 10 + (d - figure-0)) w c
 
 figures-more : (w : List ℕ) (c : ℕ) → allFigures w ≡ true → figure c ≡ true → allFigures (w ++ (c ∷ [])) ≡ true
 unfolding allFigures
@@ -164,44 +163,45 @@ is-figure k h =
     let b : figure-0 + k < figure-0 + 10 = omega arith in
     rw (le-leb figure-0 (figure-0 + k) a, lt-ltb (figure-0 + k) (figure-0 + 10) b)
 
-record Reads (w : List ℕ) (n : ℕ) : Type 0 where
+-- w is figures of the number n
+record Spells (w : List ℕ) (n : ℕ) : Type 0 where
   some : 0 < length w
   plain : allFigures w ≡ true
-  is : value w ≡ n
+  is : numberOf w ≡ n
 
-reads-last : (w : List ℕ) (m k : ℕ) → Reads w m → k < 10 → Reads (w ++ ((figure-0 + k) ∷ [])) (m * 10 + k)
-unfolding value
-reads-last w m k r h =
+spells-last : (w : List ℕ) (m k : ℕ) → Spells w m → k < 10 → Spells (w ++ ((figure-0 + k) ∷ [])) (m * 10 + k)
+unfolding numberOf
+spells-last w m k r h =
     record {
       some = omega (arith, length-append w ((figure-0 + k) ∷ []));
       plain = figures-more w (figure-0 + k) (r .plain) (is-figure k h);
-      is = omega (arith, value-more 0 w (figure-0 + k), r .is);
+      is = omega (arith, number-more 0 w (figure-0 + k), r .is);
     }
 
-reads-first : (k : ℕ) → k < 10 → Reads ((figure-0 + k) ∷ []) k
-unfolding value valueAfter allFigures
-reads-first k h = record { some = omega arith; plain = rw (is-figure k h); is = omega arith }
+spells-first : (k : ℕ) → k < 10 → Spells ((figure-0 + k) ∷ []) k
+unfolding numberOf numberAfter allFigures
+spells-first k h = record { some = omega arith; plain = rw (is-figure k h); is = omega arith }
 
-reads-figures-by : (f n : ℕ) (b : Bool) → ltb n 10 ≡ b → (10 ≤ n → Reads (figures f (n / 10)) (n / 10)) → Reads (figures (suc f) n) n
+spells-figures-by : (f n : ℕ) (b : Bool) → ltb n 10 ≡ b → (10 ≤ n → Spells (figures f (n / 10)) (n / 10)) → Spells (figures (suc f) n) n
 unfolding figures
-reads-figures-by f n true e r = rw e (reads-first n (ltb-true n 10 e))
-reads-figures-by f n false e r =
+spells-figures-by f n true e r = rw e (spells-first n (ltb-true n 10 e))
+spells-figures-by f n false e r =
     let whole : n / 10 * 10 + n % 10 ≡ n = omega arith in
     let last : n % 10 < 10 = omega arith in
-    rw e (subst (λ (m : ℕ). Reads (figures f (n / 10) ++ ((figure-0 + n % 10) ∷ [])) m) whole
-    (reads-last (figures f (n / 10)) (n / 10) (n % 10) (r (ltb-false n 10 e)) last))
+    rw e (subst (λ (m : ℕ). Spells (figures f (n / 10) ++ ((figure-0 + n % 10) ∷ [])) m) whole
+    (spells-last (figures f (n / 10)) (n / 10) (n % 10) (r (ltb-false n 10 e)) last))
 
-reads-figures : (f n : ℕ) → n < f → Reads (figures f n) n
-reads-figures zero n h = absurd (omega arith)
-reads-figures (suc f) n h = reads-figures-by f n (ltb n 10) refl (λ k. reads-figures f (n / 10) (omega arith))
+spells-figures : (f n : ℕ) → n < f → Spells (figures f n) n
+spells-figures zero n h = absurd (omega arith)
+spells-figures (suc f) n h = spells-figures-by f n (ltb n 10) refl (λ k. spells-figures f (n / 10) (omega arith))
 
-is-number : (w : List ℕ) → 0 < length w → allFigures w ≡ true → value w ≤ maxNumber → isNumber w ≡ true
+is-number : (w : List ℕ) → 0 < length w → allFigures w ≡ true → numberOf w ≤ maxNumber → isNumber w ≡ true
 unfolding isNumber
 is-number [] h k l = absurd (omega arith)
-is-number (c ∷ w) h k l = rw (k, le-leb (value (c ∷ w)) maxNumber l)
+is-number (c ∷ w) h k l = rw (k, le-leb (numberOf (c ∷ w)) maxNumber l)
 
-pub decimal-typed : (n : ℕ) → n ≤ maxNumber → (isNumber (decimal n) ≡ true) × (value (decimal n) ≡ n)
+pub decimal-typed : (n : ℕ) → n ≤ maxNumber → (isNumber (decimal n) ≡ true) × (numberOf (decimal n) ≡ n)
 unfolding decimal
 decimal-typed n h =
-    let r = reads-figures (suc n) n (omega arith) in
+    let r = spells-figures (suc n) n (omega arith) in
     (is-number (figures (suc n) n) (r .some) (r .plain) (omega (arith, r .is)), r .is)

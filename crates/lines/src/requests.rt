@@ -5,13 +5,12 @@ use crate::frames::put_link;
 use crate::frames::put_number;
 use crate::words;
 use crate::words::NONE;
-ghost use mathlib.Core.Path.{_≡_};
 ghost use Prim.Native.Nat.{ℕ, _≤_};
 ghost use lib.ListN.{length};
 ghost use Rattle.book.specs.Book.{Link, Edit, undo};
 ghost use Rattle.report.specs.Written.{Wrote};
 ghost use Rattle.session.specs.Program.{Request, asks, call, pairs};
-ghost use Rattle.lines.specs.Typed.{says, misfit, numbered, linked, alone, chained, text, requested, typed};
+ghost use Rattle.lines.specs.Typed.{saying, misfit, numbered, linked, alone, chained, text, requested, typed};
 ghost use Rattle.lines.specs.Encoding.{sent, OfNumber, OfLink, frameRoom};
 
 // The most bytes of a line.
@@ -79,7 +78,7 @@ fn undo(s: &[u8], out: &mut [u8]) -> usize
 
 fn pairs(s: &[u8], out: &mut [u8]) -> usize
     requires { ⌜ frameRoom ≤ length (now out) ⌝ }
-    ensures { λ r. ⌜ Wrote 0 (sent (says (asks (pairs (text (now (s .entry))))))) (now (out .entry)) (now (out .exit)) r ⌝ }
+    ensures { λ r. ⌜ Wrote 0 (sent (saying (asks (pairs (text (now (s .entry))))))) (now (out .entry)) (now (out .exit)) r ⌝ }
 {
     put_frame(7, b"", words::text(s), out)
 }

@@ -1,7 +1,7 @@
 // The words of a line. What each function finds is defined in specs/Typed.antt.
 ghost use mathlib.Core.Path.{_≡_};
 ghost use lib.ListN.{length};
-ghost use Rattle.lines.specs.Typed.{blank, skip, trim, word, rest, same, isNumber, value, isLabel, labelOf, text};
+ghost use Rattle.lines.specs.Typed.{blank, skip, trim, word, rest, sameBytes, isNumber, numberOf, isLabel, labelOf, text};
 ghost use Rattle.lines.specs.Read.{read};
 
 // The most bytes of a question's text that are sent.
@@ -91,7 +91,7 @@ pub fn text<'a>(s: &'a [u8]) -> &'a [u8]
 }
 
 pub fn same(a: &[u8], b: &[u8]) -> bool
-    ensures { λ r. ⌜ r ≡ same (now (a .entry)) (now (b .entry)) ⌝ }
+    ensures { λ r. ⌜ r ≡ sameBytes (now (a .entry)) (now (b .entry)) ⌝ }
 {
     if a.len() != b.len() {
         return false;
@@ -107,7 +107,7 @@ pub fn same(a: &[u8], b: &[u8]) -> bool
 }
 
 fn as_number(w: &[u8]) -> u32
-    ensures { λ r. ⌜ r ≡ read (isNumber (now (w .entry))) (value (now (w .entry))) ⌝ }
+    ensures { λ r. ⌜ r ≡ read (isNumber (now (w .entry))) (numberOf (now (w .entry))) ⌝ }
 {
     if w.len() == 0 {
         return NONE;
@@ -133,7 +133,7 @@ fn as_number(w: &[u8]) -> u32
 
 // The first word as a number.
 pub fn number(s: &[u8]) -> u32
-    ensures { λ r. ⌜ r ≡ read (isNumber (word (now (s .entry)))) (value (word (now (s .entry)))) ⌝ }
+    ensures { λ r. ⌜ r ≡ read (isNumber (word (now (s .entry)))) (numberOf (word (now (s .entry)))) ⌝ }
 {
     as_number(word(s))
 }

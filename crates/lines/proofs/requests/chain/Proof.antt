@@ -1,5 +1,5 @@
 -- `lines::requests::chain` meets its contract, case by case (`chained-not-from`, `chained-not-to`, `chained-is`). Assumes nothing.
-use mathlib.Core.Path.{_≡_, sym, ap, _∙_}
+use mathlib.Core.Path.{sym, ap}
 use native.Mathlib.Omega.{arith}
 use denote.Ref.{now}
 use lib.ListN.{length}

@@ -1,6 +1,6 @@
 -- `lines::requests::linked` meets its contract, case by case (`linked-not-from`, `linked-not-label`, `linked-not-to`, `linked-more`, `linked-is`).
 -- Assumes nothing.
-use mathlib.Core.Path.{_≡_, sym, ap, _∙_}
+use mathlib.Core.Path.{sym, ap, _∙_}
 use native.Mathlib.Omega.{arith}
 use denote.Ref.{now}
 use Rattle.book.specs.Book.{Link}

@@ -1,5 +1,5 @@
 -- `lines::requests::numbered` meets its contract, case by case (`numbered-not`, `numbered-more`, `numbered-is`). Assumes nothing.
-use mathlib.Core.Path.{_≡_, sym, ap, _∙_}
+use mathlib.Core.Path.{sym, ap, _∙_}
 use denote.Ref.{now}
 use Rattle.report.specs.WrittenLaws.{wrote-as}
 use Rattle.lines.specs.Encoding.{sent}

@@ -1,5 +1,5 @@
 -- `lines::requests::pairs` meets its contract: the text that is sent fits (`length-text`). Assumes nothing.
-use mathlib.Core.Path.{_≡_, refl, sym, ap, _∙_}
+use mathlib.Core.Path.{ap}
 use native.Mathlib.Omega.{arith}
 use denote.Ref.{now}
 use lib.ListN.{length}

@@ -1,5 +1,5 @@
 -- `lines::requests::undo` meets its contract (`alone-more`, `alone-is`). Assumes nothing.
-use mathlib.Core.Path.{_≡_, refl, sym, ap, _∙_}
+use mathlib.Core.Path.{sym, ap}
 use native.Mathlib.Omega.{arith}
 use denote.Ref.{now}
 use Rattle.book.specs.Book.{undo}

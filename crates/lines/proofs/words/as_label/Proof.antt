@@ -1,6 +1,6 @@
 -- `lines::words::as_label` meets its contract: by its length, then by its only byte (`label-size`, `label-below`, `label-above`, `label-is`).
 -- Assumes nothing.
-use mathlib.Core.Path.{_≡_, refl, sym, ap, _∙_}
+use mathlib.Core.Path.{sym}
 use native.Mathlib.Omega.{arith}
 use denote.Ref.{now}
 use Rattle.lines.specs.Read.{read}

@@ -1,9 +1,9 @@
 -- `lines::words::as_number` meets its contract, figure by figure. The loop's invariant: what is read so far is a number, and with the figures that
 -- are left it is what the whole word is (`readAfter`). The measure is the bytes left. Assumes nothing.
-use mathlib.Core.Path.{_≡_, refl, sym, ap, _∙_}
-use Prim.Native.Nat.{_+_, _-_, _*_, _≤_, _<_}
+use mathlib.Core.Path.{_≡_, refl, sym, _∙_}
+use Prim.Native.Nat.{_+_, _-_, _*_, _≤_}
 use native.Mathlib.Omega.{arith}
-use lib.ListN.{length, take, drop, getD}
+use lib.ListN.{length, drop, getD}
 use denote.Ref.{now}
 use Rattle.lines.specs.Typed.{maxNumber}
 use Rattle.lines.specs.ReadLaws.{readAfter, number-begun, number-empty, number-next, number-below, number-above, number-over, number-none}

@@ -1,5 +1,5 @@
 -- `lines::words::label` meets its contract: it reads the first word. Assumes nothing.
-use mathlib.Core.Path.{_≡_, ap, _∙_}
+use mathlib.Core.Path.{ap, _∙_}
 use mathlib.Core.List.{List}
 use Prim.Native.Nat.{ℕ}
 use Rattle.lines.specs.Typed.{isLabel, labelOf}

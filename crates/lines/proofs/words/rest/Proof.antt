@@ -1,5 +1,5 @@
 -- `lines::words::rest` meets its contract: it cuts off the word, and skips. Assumes nothing.
-use mathlib.Core.Path.{_≡_, refl, sym, ap, _∙_}
+use mathlib.Core.Path.{ap, _∙_}
 use native.Mathlib.Omega.{arith}
 use denote.Ref.{now}
 use Rattle.lines.specs.Typed.{skip, rest}

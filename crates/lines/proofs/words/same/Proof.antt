@@ -1,17 +1,17 @@
 -- `lines::words::same` meets its contract, byte by byte. The loop's invariant: what is left is the same as the whole is. The measure is the bytes left.
 -- Assumes nothing.
-use mathlib.Core.Path.{_≡_, refl, sym, ap, _∙_}
-use Prim.Native.Nat.{_+_, _-_, _*_, _≤_, _<_}
+use mathlib.Core.Path.{_≡_, refl, sym, _∙_}
+use Prim.Native.Nat.{_-_, _≤_}
 use native.Mathlib.Omega.{arith}
-use lib.ListN.{length, take, drop, getD}
+use lib.ListN.{length, drop}
 use denote.Ref.{now}
-use Rattle.lines.specs.Typed.{same}
+use Rattle.lines.specs.Typed.{sameBytes}
 use Rattle.lines.specs.TypedLaws.{same-next, same-not, same-none, same-length}
 use Rattle.lines.proofs.words.same.Statement.{statement}
 use Rattle.lines.proofs.words.same.Tie as tie
 
 abbrev Inv-loop : tie.InvT-loop
-Inv-loop a b i₀ i = (i ≤ length a) × (same (drop i a) (drop i b) ≡ same a b)
+Inv-loop a b i₀ i = (i ≤ length a) × (sameBytes (drop i a) (drop i b) ≡ sameBytes a b)
 
 abbrev μ-loop : tie.MeasureT-loop
 μ-loop a b i₀ i = length a - i

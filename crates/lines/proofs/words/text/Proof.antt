@@ -1,7 +1,6 @@
 -- `lines::words::text` meets its contract: it trims, then cuts. Assumes nothing.
-use mathlib.Core.Path.{_≡_, refl, sym, ap, _∙_}
+use mathlib.Core.Path.{sym}
 use native.Mathlib.Omega.{arith}
-use lib.ListN.{take}
 use lib.Seq.{length-take-le, take-all}
 use denote.Ref.{now}
 use Rattle.lines.specs.Typed.{text, maxText}

@@ -1,10 +1,10 @@
 -- `lines::words::trim` meets its contract. The loop's invariant: the first n bytes without the blanks at their end are what the whole is without its.
 -- The measure is n. Assumes nothing.
-use mathlib.Core.Path.{_≡_, refl, sym, ap, _∙_}
+use mathlib.Core.Path.{_≡_, sym, ap, _∙_}
 use mathlib.Core.Bool.{true, false}
-use Prim.Native.Nat.{_+_, _-_, _*_, _≤_, _<_}
+use Prim.Native.Nat.{_-_, _≤_}
 use native.Mathlib.Omega.{arith}
-use lib.ListN.{length, take, drop, getD}
+use lib.ListN.{length, take, getD}
 use denote.Ref.{now}
 use lib.Seq.{length-take-le, take-length}
 use borrow.Author.Tests.{not-true, not-false}

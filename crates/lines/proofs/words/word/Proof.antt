@@ -1,7 +1,6 @@
 -- `lines::words::word` meets its contract: a word stands at the front of its line (`take-word`). Assumes nothing.
-use mathlib.Core.Path.{_≡_, refl, sym, ap, _∙_}
+use mathlib.Core.Path.{sym}
 use native.Mathlib.Omega.{arith}
-use lib.ListN.{take}
 use lib.Seq.{length-take-le}
 use denote.Ref.{now}
 use Rattle.lines.specs.TypedLaws.{take-word, word-short}

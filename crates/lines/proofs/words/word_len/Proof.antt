@@ -1,10 +1,10 @@
 -- `lines::words::word_len` meets its contract. The loop's invariant: the bytes passed and those of the word that is left are those of the word.
 -- The measure is the bytes left. Assumes nothing.
-use mathlib.Core.Path.{_≡_, refl, sym, ap, _∙_}
+use mathlib.Core.Path.{_≡_, sym, _∙_}
 use mathlib.Core.Bool.{true, false}
-use Prim.Native.Nat.{_+_, _-_, _*_, _≤_, _<_}
+use Prim.Native.Nat.{_+_, _-_, _≤_}
 use native.Mathlib.Omega.{arith}
-use lib.ListN.{length, take, drop, getD}
+use lib.ListN.{length, drop, getD}
 use denote.Ref.{now}
 use Rattle.lines.specs.Typed.{blank, word}
 use Rattle.lines.specs.TypedLaws.{word-more, word-end, word-none}
