@@ -5,8 +5,6 @@
 --   editOrder, questionOrder, treeOrder
 --                   the causes of each kind of call, in the order in which they are looked for
 --   firstNumber cs  of causes, each with whether it is there: the number of the first that is there, or 0 if none is
---   IsFirst Holds cs k
---                   the same for causes that are facts: k is the number of the first cause of cs that holds, or 0 if none does
 --   InOrder cs os   the causes cs are some of the order os, in that order
 --   maxRecords, labels, maxLinks, maxHeld, maxBytes, maxLetters, maxDepth
 --                   the limits
@@ -88,11 +86,6 @@ treeOrder = bad-size ∷ no-record ∷ bad-tree ∷ short-work ∷ short-list �
 unfoldable pub firstNumber : List (Cause × Bool) → ℕ
 firstNumber [] = 0
 firstNumber (c ∷ cs) = pick (c .1) (number (c .0)) (firstNumber cs)
-
-pub data IsFirst (Holds : Cause → Type 0) : List Cause → ℕ → Type 0 where
-  no-cause : IsFirst Holds [] 0
-  this : {c : Cause} {cs : List Cause} → Holds c → IsFirst Holds (c ∷ cs) (number c)
-  later : {c : Cause} {cs : List Cause} {k : ℕ} → (Holds c → ⊥) → IsFirst Holds cs k → IsFirst Holds (c ∷ cs) k
 
 pub data InOrder : List (Cause × Bool) → List Cause → Type 0 where
   none-left : {os : List Cause} → InOrder [] os

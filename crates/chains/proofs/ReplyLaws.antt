@@ -100,10 +100,10 @@ module _ (b : Book) (x y : ℕ) (t : Reply) (work room : ℕ) where
         answer-reply h = rw (a, lt-leb (b .n) x hx, lt-leb (b .n) y hy, le-ltb work (64 * b .n) enough, le-ltb room (length (steps t)) h)
 
 -- the answer, by what the search found
-abbrev pub answerOf : Found → ChainAnswer
-answerOf (Steps k) = Chain k
-answerOf Nowhere = NoChain
-answerOf Short = Refused 13
+abbrev pub foundAnswer : Found → ChainAnswer
+foundAnswer (Steps k) = Chain k
+foundAnswer Nowhere = NoChain
+foundAnswer Short = Refused 13
 
 -- no reply is shorter than a shortest chain
 reply-long : {g : Graph} {e : Expr} {x y : ℕ} {t : Reply} → ChainIs g e x y t → (ss : List Step) → Answers g e x y ss → ((ts : List Step) → Answers g e x y ts → length ss ≤ length ts) → length ss ≤ length (steps t)
@@ -179,7 +179,7 @@ module _ {self : Register} {x y : ℕ} {text : List ℕ} {work : ℕ} {list : Li
                   let r = answer-reply b x y t work (length list) (omega arith) (omega arith) (verdict text) e a (omega arith) (rw i (omega arith)) in
                   (ap replied (sym i) ∙ sym r, rw (r, i, l) (sym (take-append-drop k list′) ∙ ap (λ (m : List ℕ). take k list′ ++ m) rest))
 
-          pub replies : {list′ : List ℕ} {r : Found} → Untouched list list′ r → length list′ ≡ length list → ((b : Book) → Represents self b → Answered (asked b) e x y list list′ r) → Replies self x y text work list list′ (answerOf r)
+          pub replies : {list′ : List ℕ} {r : Found} → Untouched list list′ r → length list′ ≡ length list → ((b : Book) → Represents self b → Answered (asked b) e x y list list′ r) → Replies self x y text work list list′ (foundAnswer r)
           replies (written hk rest) same h = replies-chain hk same rest h
           replies (none-found q) same h = subst (λ (l : List ℕ). Replies self x y text work list l NoChain) (sym q) (replies-none (λ b R. subst (λ (l : List ℕ). Answered (asked b) e x y list l Nowhere) q (h b R)))
           replies (too-long q) same h = subst (λ (l : List ℕ). Replies self x y text work list l (Refused 13)) (sym q) (replies-short (λ b R. subst (λ (l : List ℕ). Answered (asked b) e x y list l Short) q (h b R)))

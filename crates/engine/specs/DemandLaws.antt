@@ -169,7 +169,7 @@ module _ {r : Register} (i : Transcript) (G : Gave r i) where
       }
 
   pub demand-3 : {out : Opened} → 1 ≤ i .n → i .n ≤ maxRecords → Opens (i .n) out → CallsMade (out .register) (i .calls) (i .told) r → Demand i
-  unfolding freshAnswer
+  unfolding freshAnswer firstNumber number
   demand-3 l h O run =
       let z : freshAnswer (i .n) ≡ 0 = rw (le-ltb (i .n) 1 l, le-ltb maxRecords (i .n) h) in
       let o = history (i .n) (O .made z) run in

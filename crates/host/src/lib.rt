@@ -7,7 +7,7 @@ ghost use Prim.Native.Nat.{_<_};
 ghost use lib.ListN.{length};
 ghost use Rattle.book.specs.Book.{add, remove, lock, unlock, edit, undo};
 ghost use Rattle.k2.specs.PairSets.{union, intersection, difference, product, transpose, closure};
-ghost use Rattle.tree.specs.Calls.{Answered, TreeOf, ListOf, TreeOfOne, TreeOfTwo};
+ghost use Rattle.tree.specs.Calls.{Answered, treeOf, listOf, treeOfOne, treeOfTwo};
 ghost use Rattle.pairs.specs.Asking.{AsksPairs};
 ghost use Rattle.chains.specs.Replies.{Replies};
 ghost use Rattle.host.specs.Host.{Freshens, Edits, refusal, toldPairs, toldChain, toldTree, Told, Asked, Lists, Sizes, TellsLock};
@@ -263,7 +263,7 @@ pub extern "C" fn dating_tree_make(
     tree: &mut [u64],
     work: &mut [u64],
 ) -> u64
-    ensures { λ k. ⌜ Told (Answered n (now (pairs .entry)) [] (length (now (work .entry))) (TreeOf n (now (pairs .entry))) (now (tree .entry)) (now (tree .exit))) toldTree k ⌝ }
+    ensures { λ k. ⌜ Told (Answered n (now (pairs .entry)) [] (length (now (work .entry))) (treeOf n (now (pairs .entry))) (now (tree .entry)) (now (tree .exit))) toldTree k ⌝ }
 {
     told_tree(engine::tree_make(n, pairs, tree, work))
 }
@@ -276,7 +276,7 @@ pub extern "C" fn dating_tree_list(
     list: &mut [u32],
     work: &mut [u64],
 ) -> u64
-    ensures { λ k. ⌜ Told (Answered n [] (now (tree .entry) ∷ []) (length (now (work .entry))) (ListOf n (now (tree .entry))) (now (list .entry)) (now (list .exit))) toldTree k ⌝ }
+    ensures { λ k. ⌜ Told (Answered n [] (now (tree .entry) ∷ []) (length (now (work .entry))) (listOf n (now (tree .entry))) (now (list .entry)) (now (list .exit))) toldTree k ⌝ }
 {
     told_tree(engine::tree_list(n, tree, list, work))
 }
@@ -290,7 +290,7 @@ pub extern "C" fn dating_tree_union(
     out: &mut [u64],
     work: &mut [u64],
 ) -> u64
-    ensures { λ k. ⌜ Told (Answered n [] (now (a .entry) ∷ now (b .entry) ∷ []) (length (now (work .entry))) (TreeOfTwo union n (now (a .entry)) (now (b .entry))) (now (out .entry)) (now (out .exit))) toldTree k ⌝ }
+    ensures { λ k. ⌜ Told (Answered n [] (now (a .entry) ∷ now (b .entry) ∷ []) (length (now (work .entry))) (treeOfTwo union n (now (a .entry)) (now (b .entry))) (now (out .entry)) (now (out .exit))) toldTree k ⌝ }
 {
     told_tree(engine::tree_union(n, a, b, out, work))
 }
@@ -304,7 +304,7 @@ pub extern "C" fn dating_tree_intersection(
     out: &mut [u64],
     work: &mut [u64],
 ) -> u64
-    ensures { λ k. ⌜ Told (Answered n [] (now (a .entry) ∷ now (b .entry) ∷ []) (length (now (work .entry))) (TreeOfTwo intersection n (now (a .entry)) (now (b .entry))) (now (out .entry)) (now (out .exit))) toldTree k ⌝ }
+    ensures { λ k. ⌜ Told (Answered n [] (now (a .entry) ∷ now (b .entry) ∷ []) (length (now (work .entry))) (treeOfTwo intersection n (now (a .entry)) (now (b .entry))) (now (out .entry)) (now (out .exit))) toldTree k ⌝ }
 {
     told_tree(engine::tree_intersection(n, a, b, out, work))
 }
@@ -318,7 +318,7 @@ pub extern "C" fn dating_tree_difference(
     out: &mut [u64],
     work: &mut [u64],
 ) -> u64
-    ensures { λ k. ⌜ Told (Answered n [] (now (a .entry) ∷ now (b .entry) ∷ []) (length (now (work .entry))) (TreeOfTwo difference n (now (a .entry)) (now (b .entry))) (now (out .entry)) (now (out .exit))) toldTree k ⌝ }
+    ensures { λ k. ⌜ Told (Answered n [] (now (a .entry) ∷ now (b .entry) ∷ []) (length (now (work .entry))) (treeOfTwo difference n (now (a .entry)) (now (b .entry))) (now (out .entry)) (now (out .exit))) toldTree k ⌝ }
 {
     told_tree(engine::tree_difference(n, a, b, out, work))
 }
@@ -332,7 +332,7 @@ pub extern "C" fn dating_tree_product(
     out: &mut [u64],
     work: &mut [u64],
 ) -> u64
-    ensures { λ k. ⌜ Told (Answered n [] (now (a .entry) ∷ now (b .entry) ∷ []) (length (now (work .entry))) (TreeOfTwo (product n) n (now (a .entry)) (now (b .entry))) (now (out .entry)) (now (out .exit))) toldTree k ⌝ }
+    ensures { λ k. ⌜ Told (Answered n [] (now (a .entry) ∷ now (b .entry) ∷ []) (length (now (work .entry))) (treeOfTwo (product n) n (now (a .entry)) (now (b .entry))) (now (out .entry)) (now (out .exit))) toldTree k ⌝ }
 {
     told_tree(engine::tree_product(n, a, b, out, work))
 }
@@ -345,7 +345,7 @@ pub extern "C" fn dating_tree_transpose(
     out: &mut [u64],
     work: &mut [u64],
 ) -> u64
-    ensures { λ k. ⌜ Told (Answered n [] (now (a .entry) ∷ []) (length (now (work .entry))) (TreeOfOne transpose n (now (a .entry))) (now (out .entry)) (now (out .exit))) toldTree k ⌝ }
+    ensures { λ k. ⌜ Told (Answered n [] (now (a .entry) ∷ []) (length (now (work .entry))) (treeOfOne transpose n (now (a .entry))) (now (out .entry)) (now (out .exit))) toldTree k ⌝ }
 {
     told_tree(engine::tree_transpose(n, a, out, work))
 }
@@ -353,7 +353,7 @@ pub extern "C" fn dating_tree_transpose(
 // The tree of the closure: one or more pairs that lead from one to the other.
 #[no_mangle]
 pub extern "C" fn dating_tree_closure(n: usize, a: &[u64], out: &mut [u64], work: &mut [u64]) -> u64
-    ensures { λ k. ⌜ Told (Answered n [] (now (a .entry) ∷ []) (length (now (work .entry))) (TreeOfOne (closure n) n (now (a .entry))) (now (out .entry)) (now (out .exit))) toldTree k ⌝ }
+    ensures { λ k. ⌜ Told (Answered n [] (now (a .entry) ∷ []) (length (now (work .entry))) (treeOfOne (closure n) n (now (a .entry))) (now (out .entry)) (now (out .exit))) toldTree k ⌝ }
 {
     told_tree(engine::tree_closure(n, a, out, work))
 }

@@ -14,7 +14,7 @@ use Rattle.paths.specs.Grammar.{Verdict, accepted}
 use Rattle.paths.specs.Chains.{asked}
 use Rattle.paths.specs.Relations.{cells, pairs}
 use Rattle.paths.specs.Questions.{refused, listAfter, pairsAnswer}
-use Rattle.reader.specs.Reads.{answerOf}
+use Rattle.reader.specs.Reads.{readAnswer}
 use Rattle.reader.specs.declared.Answer.the-variants.{Refused as Faulty}
 use Rattle.register.specs.Links.{Linked}
 use Rattle.register.specs.Calls.{Represents}
@@ -37,7 +37,7 @@ refusal r v work k before z f = record {
   book = λ b R. record { tells = rw (f b R) told-number; list = rw (f b R) refl };
 }
 
-pub faulty-text : (r : Register) (v : Verdict) (work k : ℕ) (before : List ℕ) → answerOf v ≡ Faulty k → AsksFor r v work before before (Refused k)
+pub faulty-text : (r : Register) (v : Verdict) (work k : ℕ) (before : List ℕ) → readAnswer v ≡ Faulty k → AsksFor r v work before before (Refused k)
 faulty-text r v work k before e = refusal r v work k before (faulty-caused v k e) (λ b R. asks-refused b work (length before) v k e)
 
 pub little-work : (r : Register) (e : Expr) (n u work : ℕ) (before : List ℕ) → ((b : Book) → Represents r b → n ≡ b .n) → u ≡ treeUnit n → work < 32 * u → AsksFor r (accepted e) work before before (Refused 12)

@@ -22,15 +22,15 @@ use Rattle.paths.specs.Chains.{asked}
 use Rattle.paths.specs.Relations.{pairs}
 use Rattle.paths.specs.PairLaws.{verdict-caused}
 use Rattle.paths.specs.Questions.{refused, paired, pairsOf, pairsCauses, pairsAnswer, listAfter}
-use Rattle.reader.specs.Reads.{answerOf}
+use Rattle.reader.specs.Reads.{readAnswer}
 use Rattle.reader.specs.declared.Answer.the-variants.{Refused as Faulty}
 use Rattle.pairs.specs.declared.PairsAnswer.{PairsAnswer}
 use Rattle.pairs.specs.declared.PairsAnswer.the-variants.{Refused}
 use Rattle.pairs.specs.Asking.{pairsLength, told-number, told-pairs, Handed, too-long, handed, BookPairs}
 
 module _ (b : Book) (work room : ℕ) where
-  pub asks-refused : (v : Verdict) (k : ℕ) → answerOf v ≡ Faulty k → pairsAnswer b v work room ≡ refused k
-  unfolding pairsAnswer pairsCauses verdictCause firstNumber number answerOf
+  pub asks-refused : (v : Verdict) (k : ℕ) → readAnswer v ≡ Faulty k → pairsAnswer b v work room ≡ refused k
+  unfolding pairsAnswer pairsCauses verdictCause firstNumber number readAnswer
   asks-refused (accepted e) k q = absurd (let z : _≡_ {A = ℕ} 0 1 = cc in omega arith)
   asks-refused long k q = let z : 10 ≡ k = cc in ap refused z
   asks-refused outside k q = let z : 9 ≡ k = cc in ap refused z
@@ -49,8 +49,8 @@ module _ (b : Book) (work room : ℕ) where
     unfolding pairsAnswer pairsCauses verdictCause firstNumber number pairsOf
     asks-paired l = rw (le-ltb work (32 * treeUnit (b .n)) h, le-ltb room (length (pairs (asked b) e)) l)
 
-pub faulty-caused : (v : Verdict) (k : ℕ) → answerOf v ≡ Faulty k → Caused k
-unfolding answerOf verdictCause firstNumber number
+pub faulty-caused : (v : Verdict) (k : ℕ) → readAnswer v ≡ Faulty k → Caused k
+unfolding readAnswer verdictCause firstNumber number
 faulty-caused (accepted e) k q = absurd (let z : _≡_ {A = ℕ} 0 1 = cc in omega arith)
 faulty-caused long k q = let z : 10 ≡ k = cc in verdict-caused long k z (omega arith)
 faulty-caused outside k q = let z : 9 ≡ k = cc in verdict-caused outside k z (omega arith)

@@ -92,7 +92,7 @@ returns-2 c =
         pairs = asked .book _ (p .book z);
         chain = lent long replied .answers _ (p .book z);
         demand = claims _ (record { links = (_, s .before .before .links .ensures, refl); locks = s .before .locks .ensures; pairs = asked; chain = lent long replied })
-        (replayed-calls _ _ _ _ (p .told z)) (p .book z);
+            (replayed-calls _ _ _ _ (p .told z)) (p .book z);
       };
     }
 
