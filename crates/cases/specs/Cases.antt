@@ -10,7 +10,7 @@ use lib.ListN.{length}
 use Rattle.book.specs.Basics.{has, without, All, all-none, all-more}
 use Rattle.book.specs.Causes.{number, firstNumber}
 use Rattle.book.specs.Book.{Call, causes, editAnswer, edited, turned, next, fresh, after}
-use Rattle.k2.specs.PairSets.{rowPairs, rowsPairs, listed, union, transpose, most, serves, product, over, closure, diagonal}
+use Rattle.k2.specs.PairSets.{rowPairs, rowsPairs, listed, union, transpose, most, serves, product, via, closure, diagonal}
 use Rattle.k2.specs.Trees.{rise, height, quadrant, filled, quarters, keep, levels, treeBits}
 use Rattle.paths.specs.Expressions.{standsFor, Expr, letters, depth}
 use Rattle.paths.specs.Grammar.{Verdict, accepted, long, outside, large, Judged}
@@ -62,7 +62,7 @@ by n cs h k q r = all-more (holds (made n cs) (history-inside n h cs) (history-s
 
 -- K1 to K12
 pub k1-to-k12 : All (Met (made 4 links)) table
-unfolding table links bytes verdict readAlternatives alternativesIn letters depth standsFor after next turned editAnswer firstNumber number causes edited fresh has without asked most crossed zeroSteps diagonal transpose union serves product over closure cells rowPairs rowsPairs listed pairs parted many accepts before reach stepsBelow before-each after-each walks walksTo end best firstTo chainTo spell stepWords quadrant filled quarters keep levels treeBits rise height backwards
+unfolding table links bytes verdict readAlternatives alternativesIn letters depth standsFor after next turned editAnswer firstNumber number causes edited fresh has without asked most crossed zeroSteps diagonal transpose union serves product via closure cells rowPairs rowsPairs listed pairs parted many accepts before reach stepsBelow before-each after-each walks walksTo end best firstTo chainTo spell stepWords quadrant filled quarters keep levels treeBits rise height backwards
 k1-to-k12 =
     let h : 4 ≤ 1024 = omega arith in
     by 4 links h _ refl
@@ -81,7 +81,7 @@ k1-to-k12 =
 
 -- what looks right and is wrong, and chains as short as one another
 pub others : All (Met (made 3 ring)) ring-table × All (Met (made 4 links)) swapped-table × All (Met (made 4 ties)) ties-table
-unfolding ring-table ring swapped-table links ties-table ties bytes verdict readAlternatives alternativesIn letters depth standsFor after next turned editAnswer firstNumber number causes edited fresh has without asked most crossed zeroSteps diagonal transpose union serves product over closure cells rowPairs rowsPairs listed pairs parted many accepts before reach stepsBelow before-each after-each walks walksTo end best firstTo chainTo spell stepWords quadrant filled quarters keep levels treeBits rise height backwards
+unfolding ring-table ring swapped-table links ties-table ties bytes verdict readAlternatives alternativesIn letters depth standsFor after next turned editAnswer firstNumber number causes edited fresh has without asked most crossed zeroSteps diagonal transpose union serves product via closure cells rowPairs rowsPairs listed pairs parted many accepts before reach stepsBelow before-each after-each walks walksTo end best firstTo chainTo spell stepWords quadrant filled quarters keep levels treeBits rise height backwards
 others =
     let h : 3 ≤ 1024 = omega arith in
     let i : 4 ≤ 1024 = omega arith in (

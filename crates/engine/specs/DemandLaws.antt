@@ -1,7 +1,6 @@
 -- Demand 3: the theorem. It rests on what the calls promise and on nothing else of the engine.
 --   pairs-claim, chain-claim
 --                   what the questions promise gives what is claimed of them
---   Gave r i        what the register r gave, read and asked at the end, is what the transcript i says
 --   claims          answers and register of the book are all that is needed
 --   demand-3        for every n from 1 to 1,024, every list of calls, and every question asked of the register at the end
 --   replayed-calls  what `replay` tells the calls among its words is what the book answers
@@ -43,6 +42,7 @@ use Rattle.automaton.specs.WalkLaws.{length-stepWords}
 use Rattle.chains.specs.Replies.{outcomeOf, stepsLength, Replies}
 use Rattle.chains.specs.declared.ChainAnswer.{ChainAnswer}
 use Rattle.chains.specs.declared.ChainAnswer.the-variants.{Chain, NoChain, Refused as NotAnswered}
+use Rattle.engine.specs.Inquiries.{Gave}
 use Rattle.engine.specs.Demand.{PairsAsked, ChainAsked, Transcript, bookAfter, PairsAccepted, PairsClaim, ChainAccepted, ChainClaim, Demand}
 
 -- what a register shows lies within its records
@@ -149,13 +149,6 @@ chain-claim {r} {b} R q Q e A =
     }
 
 -- ---- the whole claim
--- what the register at the end gave when it was read and asked
-pub record Gave (r : Register) (i : Transcript) : Type 0 where
-  pub links : (ls : Links) × Listing r ls × (i .links ≡ take (ls .count) (ls .words))
-  pub locks : LockList r (i .locks)
-  pub pairs : AsksPairs r (i .pairs .text) (i .pairs .work) (i .pairs .before) (i .pairs .after) (i .pairs .answer)
-  pub chain : Replies r (i .chain .from) (i .chain .to) (i .chain .text) (i .chain .work) (i .chain .before) (i .chain .after) (i .chain .answer)
-
 module _ {r : Register} (i : Transcript) (G : Gave r i) where
   pub claims : i .told ≡ answers (fresh (i .n)) (i .calls) → Represents r (bookAfter i) → Demand i
   claims a R =

@@ -1,4 +1,6 @@
--- What `inquire` promises: a history and the questions after it, made by one function.
+-- What `inquire` promises: a history and the questions after it, made by one function; and what any calls gave, of which demand 3 is a theorem.
+--   Gave r t        the register r at the end of a history gave, read and asked, what the transcript t says (DemandLaws `demand-3`)
+--   linksShown r    the words of the links that an inquiry shows
 --   Unasked k told told′ p c r
 --                   the history was refused with the number k, and no question asked: both are told that number, every list is as it was, and no link and
 --                   no lock is shown
@@ -17,12 +19,21 @@ use Rattle.book.specs.Book.{Book, fresh, after}
 use Rattle.paths.specs.Verdicts.{verdict}
 use Rattle.register.specs.Calls.{answerOf}
 use Rattle.register.specs.History.{wordAnswers, callsOf, toldCalls, replayNumber}
-use Rattle.pairs.specs.Asking.{BookPairs}
+use Rattle.register.specs.Questions.{Listing, LockList}
+use Rattle.register.specs.declared.Register.{Register}
+use Rattle.register.specs.declared.Links.{Links}
+use Rattle.pairs.specs.Asking.{BookPairs, AsksPairs}
 use Rattle.pairs.specs.declared.PairsAnswer.the-variants.{Refused}
-use Rattle.chains.specs.Replies.{BookReplies}
+use Rattle.chains.specs.Replies.{BookReplies, Replies}
 use Rattle.chains.specs.declared.ChainAnswer.the-variants.{Refused as Unanswered}
-use Rattle.engine.specs.Demand.{PairsAsked, ChainAsked, Demand}
+use Rattle.engine.specs.Demand.{PairsAsked, ChainAsked, Transcript, Demand}
 use Rattle.engine.specs.declared.Inquiry.{Inquiry}
+
+pub record Gave (r : Register) (t : Transcript) : Type 0 where
+  pub links : (ls : Links) × Listing r ls × (t .links ≡ take (ls .count) (ls .words))
+  pub locks : LockList r (t .locks)
+  pub pairs : AsksPairs r (t .pairs .text) (t .pairs .work) (t .pairs .before) (t .pairs .after) (t .pairs .answer)
+  pub chain : Replies r (t .chain .from) (t .chain .to) (t .chain .text) (t .chain .work) (t .chain .before) (t .chain .after) (t .chain .answer)
 
 abbrev pub linksShown : Inquiry → List ℕ
 linksShown r = take (r .links .count) (r .links .words)
