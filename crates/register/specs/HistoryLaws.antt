@@ -14,17 +14,31 @@ use Rattle.book.specs.Book.{sameLink, Sheet, Book, add, remove, lock, unlock, C
 use Rattle.book.specs.Sheets.{Distinct, Fit, Sound}
 use Rattle.register.specs.Links.{Linked}
 use Rattle.register.specs.Packed.{Packed, takeBack, Piled}
-use Rattle.register.specs.Calls.{answerOf, answerNumber, heldWords, packedOf, Represents}
+use Rattle.register.specs.Calls.{answerOf, answerNumber, heldWords, packedOf, Represents, Steps}
 use Rattle.register.specs.History.{CallsMade, done, more, addKind, removeKind, lockKind, unlockKind, undoKind, kindCall, wordCall}
 use Rattle.register.specs.History.{Entry, is-call, no-call, entryNumber, entryNext, EntrySteps, entryCalls, isCall}
 use Rattle.register.specs.History.{wordAnswers, callsOf, toldCalls, replayNumber, Replays}
 use Rattle.register.specs.declared.Register.{Register}
+use Rattle.register.specs.declared.Answer.{Answer}
+use Rattle.register.specs.declared.Answer.the-variants.{Done, Refused}
 use Rattle.register.specs.declared.Opened.{Opened}
 use Rattle.register.specs.declared.Outcome.{Outcome}
 
 pub number-answer : (k : ℕ) → answerNumber (answerOf k) ≡ k
 number-answer zero = refl
 number-answer (suc k) = refl
+
+pub answer-done : (a : Answer) (k : ℕ) → a ≡ answerOf k → answerNumber a ≡ 0 → a ≡ Done
+answer-done a zero e z = e
+answer-done a (suc k) e z = absurd (omega (arith, ap answerNumber e, z))
+
+-- no call refuses with the number 0, whatever the register contains
+pub not-zero : (self r : Register) (c : Call) → Steps self c (record { register = r; answer = Refused 0 }) → ⊥
+not-zero self r c s = go (s .said .0) (s .said .1)
+  where
+    go : (k : ℕ) → Refused 0 ≡ answerOf k → ⊥
+    go zero e = let z : _≡_ {A = ℕ} 0 1 = cc in omega arith
+    go (suc k) e = let z : _≡_ {A = ℕ} 0 (suc k) = cc in omega arith
 
 pub answered : {r e : Register} {cs : List Call} {told : List ℕ} → CallsMade r cs told e → (b : Book) → Represents r b → told ≡ answers b cs
 unfolding answers

@@ -1,4 +1,5 @@
--- Laws of a register's words: how many they are, that they are the words of one register, and which words are a register's. Assumes nothing.
+-- Laws of a register's words: how many they are, that they are the words of one register, which words are a register's, and when they are loaded.
+-- Assumes nothing.
 use mathlib.Core.Path.{_≡_, refl, sym, ap, _∙_}
 use mathlib.Core.List.{List, [], _∷_, _++_, map}
 use mathlib.Core.Bool.{Bool, true, false}
@@ -7,11 +8,15 @@ use native.Mathlib.Omega.{arith}
 use lib.Dec.{eqb}
 use lib.ListN.{length, take, drop, getD, length-append, length-take, length-drop, length-map, List·getD-map}
 use lib.Seq.{take-at, drop-at, getD-take, take-add, length-take-le}
-use Rattle.book.specs.Causes.{maxLinks, maxHeld, maxRecords}
-use Rattle.register.specs.Calls.{Ranged}
+use Rattle.book.specs.Causes.{not-open, number, maxLinks, maxHeld, maxRecords}
+use Rattle.register.specs.Calls.{answerNumber, Ranged}
+use Rattle.register.specs.HistoryLaws.{answer-done}
 use Rattle.register.specs.Inner.{Flags, Formed}
-use Rattle.register.specs.Words.{stateWords, linksAt, ringAt, locksAt, lockWord, numbersOf, stateOf, Keeps, Foreign}
+use Rattle.register.specs.Words.{stateWords, linksAt, ringAt, locksAt, lockWord, numbersOf, stateOf, Keeps, Foreign, Loads}
 use Rattle.register.specs.declared.Register.{Register}
+use Rattle.register.specs.declared.Answer.{Answer}
+use Rattle.register.specs.declared.Answer.the-variants.{Done, Refused}
+use Rattle.register.specs.declared.Opened.{Opened}
 
 -- the halves of two lists that are the same, parted at the same place
 pub parted : (a b a′ b′ : List ℕ) → length a ≡ length a′ → a ++ b ≡ a′ ++ b′ → (a ≡ a′) × (b ≡ b′)
@@ -125,3 +130,11 @@ foreign-form {ws} g f = let k = formed-keeps ws f in g (k .0) (k .1)
 
 pub form-foreign : {ws : List ℕ} → (Formed ws → ⊥) → Foreign ws
 form-foreign {ws} g r k = g (keeps-formed ws r k)
+
+-- the number 0 says that they were loaded
+pub load-done : {ws : List ℕ} {o : Opened} → Loads ws o → answerNumber (o .answer) ≡ 0 → o .answer ≡ Done
+load-done {o = o} l z = go (o .answer) refl
+  where
+    go : (a : Answer) → o .answer ≡ a → o .answer ≡ Done
+    go Done e = e
+    go (Refused k) e = answer-done (o .answer) (number not-open) (l .refused (λ d. let u : _≡_ {A = ℕ} 0 1 = cc in omega arith) .0) z
