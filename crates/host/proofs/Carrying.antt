@@ -17,12 +17,11 @@ use Rattle.register.specs.Calls.{answerOf, answerNumber, Represents, Opens, Ste
 use Rattle.register.specs.HistoryLaws.{number-answer}
 use Rattle.register.specs.Questions.{Sized, Listing, Locking}
 use Rattle.register.specs.Words.{stateWords, lockWord, Keeps, Foreign, Copies, Loads, Stores}
-use Rattle.register.specs.WordLaws.{keeps-long, keeps-same}
+use Rattle.register.specs.WordLaws.{keeps-long, keeps-same, load-done}
 use Rattle.register.specs.declared.Register.{Register}
 use Rattle.register.specs.declared.Outcome.{Outcome}
 use Rattle.register.specs.declared.Opened.{Opened}
 use Rattle.register.specs.declared.Links.{Links}
-use Rattle.register.specs.declared.Answer.{Answer}
 use Rattle.register.specs.declared.Answer.the-variants.{Done, Refused}
 use Rattle.pairs.specs.Asking.{Handed, too-long, handed}
 use Rattle.pairs.specs.declared.PairsAnswer.the-variants.{Pairs, Refused as Unpaired}
@@ -39,14 +38,7 @@ module _ {ws : List ℕ} {o : Opened} {k : ℕ} (l : Loads ws o) (e : k ≡ answ
   load-none z = l .refused (λ d. z (e ∙ ap answerNumber d)) .1
 
   pub load-some : k ≡ 0 → Keeps ws (o .register)
-  unfolding number
-  load-some z = go (o .answer) refl
-    where
-      go : (a : Answer) → o .answer ≡ a → Keeps ws (o .register)
-      go Done q = l .loaded q
-      go (Refused j) q =
-          let n = l .refused (λ d. refused-done (sym q ∙ d)) .0 in
-          absurd (let w : _≡_ {A = ℕ} 16 0 = sym (ap answerNumber n) ∙ sym e ∙ z in omega arith)
+  load-some z = l .loaded (load-done l (sym e ∙ z))
 
 -- ---- edits
 pub edit-foreign : (c : Call) (ws : List ℕ) → Foreign ws → Edits c ws ws (number not-open)

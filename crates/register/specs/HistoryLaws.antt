@@ -5,12 +5,13 @@
 use mathlib.Core.Path.{_≡_, refl, ap, ap₂, sym, _∙_}
 use mathlib.Core.List.{List, [], _∷_, _++_, append-assoc}
 use mathlib.Core.Bool.{false}
-use Prim.Native.Nat.{ℕ, zero, suc, _+_, _*_, _/_, _%_, _<_}
+use Prim.Native.Nat.{ℕ, zero, suc, _+_, _*_, _/_, _%_, _≤_, _<_}
 use native.Mathlib.Omega.{arith}
 use lib.Dec.{eqb}
 use lib.ListN.{length, take, getD}
 use Rattle.book.specs.Basics.{pick, All, all-none, all-more}
 use Rattle.book.specs.Book.{sameLink, Sheet, Book, add, remove, lock, unlock, Call, edit, undo, isLocked, answer, next, fresh, answers, after}
+use Rattle.book.specs.BookLaws.{caused-positive}
 use Rattle.book.specs.Sheets.{Distinct, Fit, Sound}
 use Rattle.register.specs.Links.{Linked}
 use Rattle.register.specs.Packed.{Packed, takeBack, Piled}
@@ -34,11 +35,7 @@ answer-done a (suc k) e z = absurd (omega (arith, ap answerNumber e, z))
 
 -- no call refuses with the number 0, whatever the register contains
 pub not-zero : (self r : Register) (c : Call) → Steps self c (record { register = r; answer = Refused 0 }) → ⊥
-not-zero self r c s = go (s .said .0) (s .said .1)
-  where
-    go : (k : ℕ) → Refused 0 ≡ answerOf k → ⊥
-    go zero e = let z : _≡_ {A = ℕ} 0 1 = cc in omega arith
-    go (suc k) e = let z : _≡_ {A = ℕ} 0 (suc k) = cc in omega arith
+not-zero self r c s = let z : 1 ≤ 0 = caused-positive (s .caused 0 refl) in omega arith
 
 pub answered : {r e : Register} {cs : List Call} {told : List ℕ} → CallsMade r cs told e → (b : Book) → Represents r b → told ≡ answers b cs
 unfolding answers
