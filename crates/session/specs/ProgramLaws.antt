@@ -1,5 +1,6 @@
 -- Laws of the program.
 --   Steady s        the session's book, if any, is sound and has at most 64 records; so from the start, after every frame
+--   length-left     a frame leaves the list as long as it was
 --   right-exists    every frame has a verdict and a reply, so that what it prints is always said
 --   pairs-answered, chain-answered
 --                   with 4,096 words of work and list, a question whose expression and records are accepted is not refused: 12 and 13 never come
@@ -12,14 +13,14 @@ use native.Mathlib.Nat.{suc-mul, mul-le-mul}
 use native.Mathlib.Decide.{decLt}
 use native.Mathlib.Omega.{arith}
 use lib.Pow.{pow-mono}
-use lib.ListN.{length, length-append}
+use lib.ListN.{length, drop, length-append, length-drop}
 use lib.Dec.{ltb, leb, eqb}
-use borrow.Author.Tests.{le-ltb, lt-leb}
+use borrow.Author.Tests.{le-ltb, lt-leb, ltb-false}
 use Rattle.book.specs.Basics.{pick}
-use Rattle.book.specs.Causes.{number, firstNumber}
+use Rattle.book.specs.Causes.{Cause, no-record, short-work, short-list, number, firstNumber}
 use Rattle.book.specs.Book.{Book, fresh}
 use Rattle.book.specs.Sheets.{Sound}
-use Rattle.book.specs.BookLaws.{next-sound, fresh-sound}
+use Rattle.book.specs.BookLaws.{first-none, next-sound, fresh-sound}
 use Rattle.k2.specs.PairSets.{Cells, pairWord, ifSet, rowPairs, rowsPairs, listed}
 use Rattle.k2.specs.Trees.{height, treeUnit}
 use Rattle.k2.specs.HeightLaws.{height-is}
@@ -27,13 +28,13 @@ use Rattle.paths.specs.Expressions.{Expr, letters}
 use Rattle.paths.specs.Grammar.{Verdict, accepted, long, outside, large, Judged, verdictCause}
 use Rattle.paths.specs.Chains.{Graph, asked, Reply, none, chain, ChainIs, no-chain, first-chain, stepWords}
 use Rattle.paths.specs.Relations.{pairs, cells}
-use Rattle.paths.specs.Questions.{paired, replied, unless, pairsOf, pairsCauses, pairsAnswer, steps, ReplyTo, chainCauses, chainAnswer}
+use Rattle.paths.specs.Questions.{Outcome, paired, replied, unless, pairsWork, chainWork, pairsOf, pairsCauses, pairsAnswer, steps, ReplyTo, chainCauses, chainAnswer, over, listAfter}
 use Rattle.paths.specs.Verdicts.{verdict, verdict-right}
 use Rattle.paths.specs.PairLaws.{fit-inside}
 use Rattle.paths.specs.FirstChain.{reply}
 use Rattle.automaton.specs.WalkLaws.{length-stepWords}
 use Rattle.automaton.specs.ShortChains.{chains-63}
-use Rattle.session.specs.Program.{programRecords, Request, Frame, asks, faulty, opening, call, pairs as pairs-asked, chain as chain-asked, Session, unopened, opened, openAnswer, nextSession, Right}
+use Rattle.session.specs.Program.{programRecords, Request, Frame, asks, faulty, opening, call, pairs as pairs-asked, chain as chain-asked, Session, unopened, opened, openAnswer, nextSession, Right, listLeft}
 use Rattle.session.specs.TurnLaws.{open-none, open-many, open-fine, next-size}
 
 -- ---- at most n × n pairs
@@ -86,6 +87,45 @@ next-steady unopened (asks (call c)) h = tt
 next-steady (opened b) (asks (call c)) h = (next-sound b c (h .0), rw (next-size b c) (h .1))
 next-steady s (asks (pairs-asked u)) h = h
 next-steady s (asks (chain-asked x y u)) h = h
+
+-- ---- a frame leaves the list as long as it was
+length-over : (ws l : List ℕ) → length ws ≤ length l → length (over ws l) ≡ length l
+length-over ws l h = omega (arith, length-append ws (drop (length ws) l), length-drop (length ws) l)
+
+length-pairs : (k : ℕ) (ws l : List ℕ) → (k ≡ 0 → length ws ≤ length l) → length (listAfter (unless k (paired ws)) l) ≡ length l
+unfolding listAfter
+length-pairs zero ws l h = length-over ws l (h refl)
+length-pairs (suc k) ws l h = refl
+
+length-reply : (k : ℕ) (t : Reply) (l : List ℕ) → (k ≡ 0 → length (steps t) ≤ length l) → length (listAfter (unless k (replied t)) l) ≡ length l
+unfolding listAfter
+length-reply zero t l h = length-over (steps t) l (h refl)
+length-reply (suc k) t l h = refl
+
+-- with no cause, the answer is within the room
+room-enough : (v : Verdict) (c d : Cause) (short : Bool) (k room : ℕ) → firstNumber (verdictCause v ++ ((c, short) ∷ (d, ltb room k) ∷ [])) ≡ 0 → k ≤ room
+unfolding verdictCause firstNumber number
+room-enough (accepted e) c d short k room h = ltb-false _ _ (first-none d (ltb room k) [] (first-none c short ((d, ltb room k) ∷ []) h .1) .0)
+room-enough long c d short k room h = absurd (omega arith)
+room-enough outside c d short k room h = absurd (omega arith)
+room-enough large c d short k room h = absurd (omega arith)
+
+pub length-left : (work : ℕ) (l : List ℕ) (s : Session) (f : Frame) (v : Verdict) (t : Reply) → length (listLeft work l s f v t) ≡ length l
+unfolding listLeft pairsAnswer pairsCauses chainAnswer chainCauses
+length-left work l unopened (faulty c) v t = refl
+length-left work l unopened (asks (opening n)) v t = refl
+length-left work l unopened (asks (call c)) v t = refl
+length-left work l unopened (asks (pairs-asked u)) v t = refl
+length-left work l unopened (asks (chain-asked x y u)) v t = refl
+length-left work l (opened b) (faulty c) v t = refl
+length-left work l (opened b) (asks (opening n)) v t = refl
+length-left work l (opened b) (asks (call c)) v t = refl
+length-left work l (opened b) (asks (pairs-asked u)) v t =
+    length-pairs (firstNumber (pairsCauses b v work (length l))) (pairsOf b v) l
+    (room-enough v short-work short-list (ltb work (pairsWork (b .n))) (length (pairsOf b v)) (length l))
+length-left work l (opened b) (asks (chain-asked x y u)) v t =
+    length-reply (firstNumber (chainCauses b x y v t work (length l))) t l
+    (λ h. room-enough v short-work short-list (ltb work (chainWork (b .n))) (length (steps t)) (length l) (first-none no-record (leb (b .n) x || leb (b .n) y) _ h .1))
 
 -- ---- every frame has a verdict and a reply
 same-expression : (e f : Expr) → accepted e ≡ accepted f → e ≡ f
