@@ -5,6 +5,7 @@ use libc::STDOUT_FILENO;
 use session::State;
 ghost use Prim.Native.Nat.{_≤_};
 ghost use lib.ListN.{length};
+ghost use Rattle.session.specs.Program.{programWords};
 ghost use Rattle.session.specs.Runs.{Stepped};
 
 // The most bytes of a frame after its length.
@@ -35,7 +36,7 @@ fn read_frame(bytes: &mut [u8]) -> usize
 
 // Reads a frame and answers it.
 fn turn(state: State, list: &mut [u32]) -> Turned
-    ensures { λ r. ⌜ Stepped 4096 state (now (list .entry)) (now (list .exit)) (r .state) (r .more) ⌝ }
+    ensures { λ r. ⌜ Stepped programWords state (now (list .entry)) (now (list .exit)) (r .state) (r .more) ⌝ }
 {
     let mut bytes = [0u8; 1026];
     let mut work = [0u64; 4096];

@@ -31,9 +31,12 @@ use Rattle.paths.specs.Chains.{asked, Reply}
 use Rattle.paths.specs.Questions.{pairsAnswer, chainAnswer, ReplyTo, listAfter}
 use Rattle.report.specs.Report.{refusedText, answerText, outcomeText}
 
--- the limits
+-- the limits, and the words of work and of list that the program lends
 abbrev pub programRecords : ℕ
 programRecords = 64
+
+abbrev pub programWords : ℕ
+programWords = 4096
 
 abbrev pub minFrame : ℕ
 minFrame = 2

@@ -31,7 +31,7 @@ use Rattle.paths.specs.ChainOrder.{before}
 use Rattle.paths.specs.Acceptance.{parted, many, accepts}
 use Rattle.paths.specs.FirstChain.{reach, stepsBelow, before-each, after-each, walks, walksTo, end, best, firstTo, chainTo, chain-first}
 use Rattle.report.specs.Report.{bytes, figures, decimal, pairLine, labelLetter, senseSign, stepLine, lines, counted, okText, refusedText, pairsText, chainText, answerText, outcomeText}
-use Rattle.session.specs.Program.{minFrame, maxFrame, number16, twoBytes, frameOf, linkIn, decode, Session, unopened, openAnswer, nextSession, Right, printed, listLeft, frameIn, Run, framed, ended, lone-byte}
+use Rattle.session.specs.Program.{programWords, minFrame, maxFrame, number16, twoBytes, frameOf, linkIn, decode, Session, unopened, openAnswer, nextSession, Right, printed, listLeft, frameIn, Run, framed, ended, lone-byte}
 use Rattle.session.specs.ProgramLaws.{length-left}
 
 unfoldable pub input : List ℕ
@@ -50,20 +50,20 @@ unfoldable pub output : List ℕ
 output = bytes "ok\nok\nok\nok\nrefused 4\npairs 4\n0 0\n0 2\n2 0\n2 2\nok\nok\nchain 2\na + 1\nb + 3\n"
 
 abbrev pub Prints : Session → List ℕ → List ℕ → Type 0
-Prints s i o = (l : List ℕ) → length l ≡ 4096 → (s′ : Session) × (l′ : List ℕ) × Run 4096 s l i o s′ l′
+Prints s i o = (l : List ℕ) → length l ≡ programWords → (s′ : Session) × (l′ : List ℕ) × Run programWords s l i o s′ l′
 
 -- one frame more
 by : {s : Session} {a b : ℕ} {i : List ℕ} (o : List ℕ) (v : Verdict) (t : Reply)
     → leb minFrame (a + 256 * b) ≡ true → leb (a + 256 * b) maxFrame ≡ true → leb (a + 256 * b) (length i) ≡ true
     → Right s (frameIn (a + 256 * b) i) v t
     → Prints (nextSession s (frameIn (a + 256 * b) i)) (drop (a + 256 * b) i) o
-    → Prints s (a ∷ b ∷ i) (printed 4096 4096 s (frameIn (a + 256 * b) i) v t ++ o)
+    → Prints s (a ∷ b ∷ i) (printed programWords programWords s (frameIn (a + 256 * b) i) v t ++ o)
 by {s} {a} {b} {i} o v t h k m r rest l e =
     let f = frameIn (a + 256 * b) i in
-    let x = rest (listLeft 4096 l s f v t) (length-left 4096 l s f v t ∙ e) in (
+    let x = rest (listLeft programWords l s f v t) (length-left programWords l s f v t ∙ e) in (
       x .0,
       x .1,
-      subst (λ (room : ℕ). Run 4096 s l (a ∷ b ∷ i) (printed 4096 room s f v t ++ o) (x .0) (x .1)) e
+      subst (λ (room : ℕ). Run programWords s l (a ∷ b ∷ i) (printed programWords room s f v t ++ o) (x .0) (x .1)) e
           (framed {a = a} {b = b} {i = i} v t (leb-true _ _ h) (leb-true _ _ k) (leb-true _ _ m) r (x .2)),
     )
 

@@ -34,7 +34,7 @@ use Rattle.paths.specs.PairLaws.{fit-inside}
 use Rattle.paths.specs.FirstChain.{reply}
 use Rattle.automaton.specs.WalkLaws.{length-stepWords}
 use Rattle.automaton.specs.ShortChains.{chains-63}
-use Rattle.session.specs.Program.{programRecords, Request, Frame, asks, faulty, opening, call, pairs as pairs-asked, chain as chain-asked, Session, unopened, opened, openAnswer, nextSession, Right, listLeft}
+use Rattle.session.specs.Program.{programRecords, programWords, Request, Frame, asks, faulty, opening, call, pairs as pairs-asked, chain as chain-asked, Session, unopened, opened, openAnswer, nextSession, Right, listLeft}
 use Rattle.session.specs.TurnLaws.{open-none, open-many, open-fine, next-size}
 
 -- ---- at most n × n pairs
@@ -57,7 +57,7 @@ unfolding listed
 listed-length n a = rows-length a n n
 
 -- ---- the tree of at most 64 records
-small-tree : (n : ℕ) → n ≤ 64 → treeUnit n ≤ 86
+small-tree : (n : ℕ) → n ≤ programRecords → treeUnit n ≤ 86
 unfolding treeUnit
 small-tree n h =
     let low : height n ≤ 6 = height-is n .2 6 (omega arith) h in
@@ -73,7 +73,7 @@ Steady (opened b) = Sound b × (b .n ≤ programRecords)
 pub start-steady : Steady unopened
 start-steady = tt
 
-open-steady : (n : ℕ) (s : Session) → Steady s → Dec (n < 1) → Dec (64 < n) → Steady (pick (eqb (openAnswer n) 0) (opened (fresh n)) s)
+open-steady : (n : ℕ) (s : Session) → Steady s → Dec (n < 1) → Dec (programRecords < n) → Steady (pick (eqb (openAnswer n) 0) (opened (fresh n)) s)
 unfolding number fresh
 open-steady n s h (yes i) k = rw (open-none n i) h
 open-steady n s h (no i) (yes k) = rw (open-many n (omega arith) k) h
@@ -82,7 +82,7 @@ open-steady n s h (no i) (no k) = rw (open-fine n (omega arith) (omega arith)) (
 pub next-steady : (s : Session) (f : Frame) → Steady s → Steady (nextSession s f)
 unfolding nextSession
 next-steady s (faulty c) h = h
-next-steady s (asks (opening n)) h = open-steady n s h (decLt n 1) (decLt 64 n)
+next-steady s (asks (opening n)) h = open-steady n s h (decLt n 1) (decLt programRecords n)
 next-steady unopened (asks (call c)) h = tt
 next-steady (opened b) (asks (call c)) h = (next-sound b c (h .0), rw (next-size b c) (h .1))
 next-steady s (asks (pairs-asked u)) h = h
@@ -150,22 +150,22 @@ right-exists (opened b) (asks (chain-asked x y u)) h =
     (verdict u, r .0, (verdict-right u, r .1))
 
 -- ---- with 4,096 words each, no question is refused for room
-pub pairs-answered : (b : Book) (e : Expr) → b .n ≤ programRecords → pairsAnswer b (accepted e) 4096 4096 ≡ paired (pairs (asked b) e)
+pub pairs-answered : (b : Book) (e : Expr) → b .n ≤ programRecords → pairsAnswer b (accepted e) programWords programWords ≡ paired (pairs (asked b) e)
 unfolding pairsAnswer pairsCauses pairsOf pairs asked verdictCause firstNumber
 pairs-answered b e h =
     let square : b .n * b .n ≤ 64 * 64 = mul-le-mul h h in
-    let few : length (listed (b .n) (cells (asked b) e)) ≤ 4096 = omega (arith, listed-length (b .n) (cells (asked b) e)) in
-    let work : 32 * treeUnit (b .n) ≤ 4096 = omega (arith, small-tree (b .n) h) in
-    rw (le-ltb 4096 (32 * treeUnit (b .n)) work, le-ltb 4096 (length (listed (b .n) (cells (asked b) e))) few)
+    let few : length (listed (b .n) (cells (asked b) e)) ≤ programWords = omega (arith, listed-length (b .n) (cells (asked b) e)) in
+    let work : 32 * treeUnit (b .n) ≤ programWords = omega (arith, small-tree (b .n) h) in
+    rw (le-ltb programWords (32 * treeUnit (b .n)) work, le-ltb programWords (length (listed (b .n) (cells (asked b) e))) few)
 
-steps-few : (b : Book) → Sound b → b .n ≤ programRecords → (e : Expr) → letters e ≤ 63 → (x y : ℕ) (t : Reply) → ChainIs (asked b) e x y t → length (steps t) ≤ 4096
+steps-few : (b : Book) → Sound b → b .n ≤ programRecords → (e : Expr) → letters e ≤ 63 → (x y : ℕ) (t : Reply) → ChainIs (asked b) e x y t → length (steps t) ≤ programWords
 unfolding steps asked
 steps-few b h m e l x y none r = omega arith
 steps-few b h m e l x y (chain ws) (first-chain ss f) = omega (arith, length-stepWords ss, chains-63 (asked b) (fit-inside b (h .sheet)) e l x y ss f)
 
 pub chain-answered : (b : Book) → Sound b → b .n ≤ programRecords → (e : Expr) → letters e ≤ 63 → (x y : ℕ) → x < b .n → y < b .n → (t : Reply) → ChainIs (asked b) e x y t
-    → chainAnswer b x y (accepted e) t 4096 4096 ≡ replied t
+    → chainAnswer b x y (accepted e) t programWords programWords ≡ replied t
 unfolding chainAnswer chainCauses verdictCause firstNumber
 chain-answered b h m e l x y i j t r =
-    let work : 64 * b .n ≤ 4096 = omega arith in
-    rw (lt-leb (b .n) x i, lt-leb (b .n) y j, le-ltb 4096 (64 * b .n) work, le-ltb 4096 (length (steps t)) (steps-few b h m e l x y t r))
+    let work : 64 * b .n ≤ programWords = omega arith in
+    rw (lt-leb (b .n) x i, lt-leb (b .n) y j, le-ltb programWords (64 * b .n) work, le-ltb programWords (length (steps t)) (steps-few b h m e l x y t r))

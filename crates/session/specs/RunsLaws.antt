@@ -64,6 +64,13 @@ state-steady : {st : State} {s : Session} → StateOf st s → Steady s
 state-steady (is-closed e) = tt
 state-steady (is-open e r k) = (represents-sound r, k)
 
+-- two parts of a run as one; and out, with what was written into the rest of it
+abbrev pub andThen : Ran → Ran → Ran
+andThen r q = record { state = q .state; read = r .read + q .read; written = r .written + q .written; more = q .more }
+
+abbrev pub joined : ℕ → List ℕ → List ℕ → List ℕ
+joined w m part = putMid w (length m - w) m part
+
 module _ (work : ℕ) where
   -- ---- a whole frame at the front, and more input after what is lent
   whole : {s s′ : Session} {l l′ : List ℕ} (a b c d m : ℕ) (k j p : List ℕ) (v : Verdict) (t : Reply) → a + 256 * b ≡ suc (suc m) → a + 256 * b ≤ maxFrame → m ≤ length k
@@ -82,7 +89,8 @@ module _ (work : ℕ) where
   abbrev pub frontFrame : List ℕ → ℕ → Frame
   frontFrame i n = decode (number16 i 2) (take (n + 2 - 4) (drop 4 i))
 
-  pub front-run : {s s′ : Session} {l l′ : List ℕ} (i : List ℕ) (n : ℕ) (j p : List ℕ) (v : Verdict) (t : Reply) → n ≡ number16 i 0 → minFrame ≤ n → n ≤ maxFrame → n + 2 ≤ length i
+  pub front-run : {s s′ : Session} {l l′ : List ℕ} (i : List ℕ) (n : ℕ) (j p : List ℕ) (v : Verdict) (t : Reply)
+      → n ≡ number16 i 0 → minFrame ≤ n → n ≤ maxFrame → n + 2 ≤ length i
       → Right s (frontFrame i n) v t → Run work (nextSession s (frontFrame i n)) (listLeft work l s (frontFrame i n) v t) (drop (n + 2) i ++ j) p s′ l′
       → Run work s l (i ++ j) (printed work (length l) s (frontFrame i n) v t ++ p) s′ l′
   unfolding number16
@@ -122,7 +130,8 @@ module _ (work : ℕ) where
   at-end st (a ∷ i) l out h = absurd (omega arith)
 
   pub is-broken : (st : State) (i l out out′ : List ℕ) (w : ℕ) → Wrote 0 (refusedText (number broken-frame)) out out′ w
-      → ((s : Session) (m : List ℕ) → Run work s m i (refusedText (number broken-frame)) s m) → Advances st i work l l out out′ (record { state = st; read = 0; written = w; more = false })
+      → ((s : Session) (m : List ℕ) → Run work s m i (refusedText (number broken-frame)) s m)
+      → Advances st i work l l out out′ (record { state = st; read = 0; written = w; more = false })
   is-broken st i l out out′ w wrote runs =
       record {
         inside = omega arith;
@@ -132,8 +141,10 @@ module _ (work : ℕ) where
         goes = λ e s h. absurd (both-ways false e refl);
       }
 
-  pub one-frame : (st : State) (i l l′ out out′ : List ℕ) (n k : ℕ) (f : Framed) → (n ≡ number16 i 0) × (minFrame ≤ n) × (n ≤ maxFrame) × (n + 2 ≤ length i) → k ≡ number16 i 2
-      → Turns st (decode k (take (n + 2 - 4) (drop 4 i))) work l l′ out out′ f → Advances st i work l l′ out out′ (record { state = f .state; read = n + 2; written = f .written; more = true })
+  pub one-frame : (st : State) (i l l′ out out′ : List ℕ) (n k : ℕ) (f : Framed)
+      → (n ≡ number16 i 0) × (minFrame ≤ n) × (n ≤ maxFrame) × (n + 2 ≤ length i) → k ≡ number16 i 2
+      → Turns st (decode k (take (n + 2 - 4) (drop 4 i))) work l l′ out out′ f
+      → Advances st i work l l′ out out′ (record { state = f .state; read = n + 2; written = f .written; more = true })
   one-frame st i l l′ out out′ n k f facts kind turned =
       record {
         inside = facts .3;
@@ -170,7 +181,7 @@ module _ (work : ℕ) where
   has-read a more some = record { inside = a .inside; within = a .within; begun = λ e. absurd (omega arith); goes = a .goes more }
 
   -- a text written into a part of out is written into out
-  wrote-part : (w q : ℕ) (p m part : List ℕ) → w ≤ length m → Wrote 0 p (drop w m) part q → Wrote w p m (putMid w (length m - w) m part) (w + q)
+  wrote-part : (w q : ℕ) (p m part : List ℕ) → w ≤ length m → Wrote 0 p (drop w m) part q → Wrote w p m (joined w m part) (w + q)
   unfolding written
   wrote-part w q p m part h r =
       let rest : drop (length m - w) (drop w m) ≡ [] = drop-of-length-le (drop w m) {i = length m - w} (omega (arith, length-drop w m)) in
@@ -184,7 +195,7 @@ module _ (work : ℕ) where
   -- the list is then k, and out m
   pub goes-further : (st : State) (i l k k′ out m part : List ℕ) (r q : Ran) → length k ≡ length l → length m ≡ length out → Reached st i l k out m r
       → Advances (r .state) (drop (r .read) i) work k k′ (drop (r .written) m) part q
-      → Advances st i work l k′ out (putMid (r .written) (length m - r .written) m part) (record { state = q .state; read = r .read + q .read; written = r .written + q .written; more = q .more })
+      → Advances st i work l k′ out (joined (r .written) m part) (andThen r q)
   goes-further st i l k k′ out m part r q long same a b =
       record {
         inside = omega (arith, a .inside, b .inside, length-drop (r .read) i);
@@ -204,11 +215,11 @@ module _ (work : ℕ) where
               let enough : room (length k) ≤ length (drop (r .written) m) = omega (arith, length-drop (r .written) m) in
               omega (arith, b .onward enough e)
 
-      wrote : (o p : List ℕ) → Wrote 0 o out m (r .written) → Wrote 0 p (drop (r .written) m) part (q .written) → Wrote 0 (o ++ p) out (putMid (r .written) (length m - r .written) m part) (r .written + q .written)
+      wrote : (o p : List ℕ) → Wrote 0 o out m (r .written) → Wrote 0 p (drop (r .written) m) part (q .written) → Wrote 0 (o ++ p) out (joined (r .written) m part) (r .written + q .written)
       wrote o p u v = wrote-then u (wrote-part (r .written) (q .written) p m part (omega (arith, a .within)) v)
 
       ending : q .more ≡ false → (s : Session) → StateOf st s
-          → Ends work s l k′ i out (putMid (r .written) (length m - r .written) m part) (record { state = q .state; read = r .read + q .read; written = r .written + q .written; more = q .more })
+          → Ends work s l k′ i out (joined (r .written) m part) (andThen r q)
       ending e s h =
           let x = a .goes s h in
           let y = b .ends e (x .session) (x .holds) in
@@ -224,7 +235,7 @@ module _ (work : ℕ) where
           }
 
       going : q .more ≡ true → (s : Session) → StateOf st s
-          → Goes work s l k′ i out (putMid (r .written) (length m - r .written) m part) (record { state = q .state; read = r .read + q .read; written = r .written + q .written; more = q .more })
+          → Goes work s l k′ i out (joined (r .written) m part) (andThen r q)
       going e s h =
           let x = a .goes s h in
           let y = b .goes e (x .session) (x .holds) in
@@ -242,7 +253,7 @@ module _ (work : ℕ) where
   -- the same, where the rest of the input and of out are lent as parts
   pub goes-on-part : (st : State) (i l k k′ out m part : List ℕ) (r q : Ran) (w : ℕ) → length k ≡ length l → length m ≡ length out → w ≡ work → Reached st i l k out m r
       → Advances (r .state) (take (length i - r .read) (drop (r .read) i)) w k k′ (take (length m - r .written) (drop (r .written) m)) part q
-      → Advances st i work l k′ out (putMid (r .written) (length m - r .written) m part) (record { state = q .state; read = r .read + q .read; written = r .written + q .written; more = q .more })
+      → Advances st i work l k′ out (joined (r .written) m part) (andThen r q)
   goes-on-part st i l k k′ out m part r q w long same ew a b =
       let input : take (length i - r .read) (drop (r .read) i) ≡ drop (r .read) i = take-all (length i - r .read) (drop (r .read) i) (omega (arith, length-drop (r .read) i)) in
       let rest : take (length m - r .written) (drop (r .written) m) ≡ drop (r .written) m = take-all (length m - r .written) (drop (r .written) m) (omega (arith, length-drop (r .written) m)) in

@@ -9,7 +9,7 @@ use lib.ListN.{length, take, drop, length-drop}
 use lib.Seq.{take-all}
 use lib.Dec.{ltb, eqb}
 use borrow.Author.Tests.{lt-ltb, le-ltb}
-use Rattle.book.specs.Causes.{Cause, bad-size, not-open, number}
+use Rattle.book.specs.Causes.{Cause, bad-size, not-open, number, maxRecords}
 use Rattle.book.specs.Book.{Book, Sheet, Call, edit, undo, turned, undone, editAnswer, edited, answer, next, freshAnswer, fresh}
 use Rattle.paths.specs.Grammar.{Verdict}
 use Rattle.paths.specs.Chains.{asked, Reply}
@@ -34,17 +34,17 @@ pub open-none : (n : ℕ) → n < 1 → openAnswer n ≡ number bad-size
 unfolding openAnswer number
 open-none n h = rw (lt-ltb n 1 h)
 
-pub open-many : (n : ℕ) → 1 ≤ n → 64 < n → openAnswer n ≡ number bad-size
+pub open-many : (n : ℕ) → 1 ≤ n → programRecords < n → openAnswer n ≡ number bad-size
 unfolding openAnswer number
-open-many n h k = rw (le-ltb n 1 h, lt-ltb 64 n k)
+open-many n h k = rw (le-ltb n 1 h, lt-ltb programRecords n k)
 
-pub open-fine : (n : ℕ) → 1 ≤ n → n ≤ 64 → openAnswer n ≡ 0
+pub open-fine : (n : ℕ) → 1 ≤ n → n ≤ programRecords → openAnswer n ≡ 0
 unfolding openAnswer
-open-fine n h k = rw (le-ltb n 1 h, le-ltb 64 n k)
+open-fine n h k = rw (le-ltb n 1 h, le-ltb programRecords n k)
 
-pub fresh-fine : (n : ℕ) → 1 ≤ n → n ≤ 64 → freshAnswer n ≡ 0
+pub fresh-fine : (n : ℕ) → 1 ≤ n → n ≤ programRecords → freshAnswer n ≡ 0
 unfolding freshAnswer
-fresh-fine n h k = rw (le-ltb n 1 h, le-ltb 1024 n (omega arith))
+fresh-fine n h k = rw (le-ltb n 1 h, le-ltb maxRecords n (omega arith))
 
 -- ---- a call keeps n
 turned-size : (k : ℕ) (b : Book) (s : Sheet) → turned k b s .n ≡ b .n
@@ -151,7 +151,8 @@ module _ (st : State) (work : ℕ) (l l′ out out′ : List ℕ) (r : Framed) w
       (wrote-as (ap outcomeText (told .0 ∙ same)) w, told .1 ∙ ap (λ (a : Outcome). listAfter a l) same))
 
   -- a chain question's text is the part of its body from byte 4 on
-  pub part-turns : (x y : ℕ) (s : List ℕ) → Turns st (asks (chain x y (take (length s - 4) (drop 4 s)))) work l l′ out out′ r → Turns st (asks (chain x y (drop 4 s))) work l l′ out out′ r
+  pub part-turns : (x y : ℕ) (s : List ℕ) → Turns st (asks (chain x y (take (length s - 4) (drop 4 s)))) work l l′ out out′ r
+      → Turns st (asks (chain x y (drop 4 s))) work l l′ out out′ r
   part-turns x y s t = subst (λ (u : List ℕ). Turns st (asks (chain x y u)) work l l′ out out′ r) (take-all (length s - 4) (drop 4 s) (omega (arith, length-drop 4 s))) t
 
   -- any room: with too little, nothing is done

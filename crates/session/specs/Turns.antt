@@ -1,6 +1,7 @@
 -- What the program's state says, and what a frame promises.
 --   StateOf st s    the state st is that of the session s: opened or not, and its register represents the book, of at most 64 records
---   room list       the bytes that a frame may print, if so many words of list are lent: 13 for each
+--   maxLine, room list
+--                   the most bytes of a line; and those that a frame may print, if so many words of list are lent: a line for each, and a first one
 --   Turns st f work l l′ out out′ r
 --                   what a frame that says f promises, from the state st, with so many words of work, a list that held l and then holds l′, and room
 --                   in out for what it prints. Over any contents it prints within out; for every session that st is the state of, it leaves the
@@ -26,8 +27,12 @@ pub data StateOf : State → Session → Type 0 where
   is-closed : {st : State} → st .opened ≡ false → StateOf st unopened
   is-open : {st : State} {b : Book} → st .opened ≡ true → Represents (st .register) b → b .n ≤ programRecords → StateOf st (opened b)
 
+abbrev pub maxLine : ℕ
+maxLine = 13
+
+-- the first line, or a refusal, takes no more than three such
 abbrev pub room : ℕ → ℕ
-room list = 13 * (list + 3)
+room list = maxLine * (list + 3)
 
 pub record Turns (st : State) (f : Frame) (work : ℕ) (l l′ out out′ : List ℕ) (r : Framed) : Type 0 where
   pub within : r .written ≤ length out

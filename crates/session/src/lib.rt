@@ -34,6 +34,9 @@ const MIN_FRAME: usize = 2;
 
 const MAX_FRAME: usize = 1024;
 
+// The most bytes of a line.
+const MAX_LINE: usize = 13;
+
 // Whether a register is opened, and the register.
 pub struct State {
     opened: bool,
@@ -241,7 +244,8 @@ fn ask_chain(
     out: &mut [u8],
 ) -> Framed
     requires { ⌜ room (length (now list)) ≤ length (now out) ⌝ }
-    ensures { λ r. ⌜ Turns state (asks (chain x y (now (text .entry)))) (length (now (work .entry))) (now (list .entry)) (now (list .exit)) (now (out .entry)) (now (out .exit)) r ⌝ }
+    ensures { λ r. ⌜ Turns state (asks (chain x y (now (text .entry)))) (length (now (work .entry)))
+        (now (list .entry)) (now (list .exit)) (now (out .entry)) (now (out .exit)) r ⌝ }
 {
     if !state.opened {
         return refuse(state, NOT_OPEN, out);
@@ -274,7 +278,8 @@ fn ask_pairs(
     out: &mut [u8],
 ) -> Framed
     requires { ⌜ room (length (now list)) ≤ length (now out) ⌝ }
-    ensures { λ r. ⌜ Turns state (asks (pairs (now (text .entry)))) (length (now (work .entry))) (now (list .entry)) (now (list .exit)) (now (out .entry)) (now (out .exit)) r ⌝ }
+    ensures { λ r. ⌜ Turns state (asks (pairs (now (text .entry)))) (length (now (work .entry)))
+        (now (list .entry)) (now (list .exit)) (now (out .entry)) (now (out .exit)) r ⌝ }
 {
     if !state.opened {
         return refuse(state, NOT_OPEN, out);
@@ -293,9 +298,10 @@ pub fn frame(
     list: &mut [u32],
     out: &mut [u8],
 ) -> Framed
-    ensures { λ r. ⌜ Framing state (Program·decode kind (now (body .entry))) (length (now (work .entry))) (now (list .entry)) (now (list .exit)) (now (out .entry)) (now (out .exit)) r ⌝ }
+    ensures { λ r. ⌜ Framing state (Program·decode kind (now (body .entry))) (length (now (work .entry)))
+        (now (list .entry)) (now (list .exit)) (now (out .entry)) (now (out .exit)) r ⌝ }
 {
-    if out.len() / 13 < list.len() + 3 {
+    if out.len() / MAX_LINE < list.len() + 3 {
         return Framed { state, written: 0 };
     }
     let decoded = decode(kind, body);
@@ -333,9 +339,10 @@ fn front(input: &[u8]) -> usize
 
 // One turn of a run: the frame at the front of the input, or the run's end. With too little room for what a frame may print, nothing.
 pub fn step(state: State, input: &[u8], work: &mut [u64], list: &mut [u32], out: &mut [u8]) -> Ran
-    ensures { λ r. ⌜ Advances state (now (input .entry)) (length (now (work .entry))) (now (list .entry)) (now (list .exit)) (now (out .entry)) (now (out .exit)) r ⌝ }
+    ensures { λ r. ⌜ Advances state (now (input .entry)) (length (now (work .entry)))
+        (now (list .entry)) (now (list .exit)) (now (out .entry)) (now (out .exit)) r ⌝ }
 {
-    if out.len() / 13 < list.len() + 3 {
+    if out.len() / MAX_LINE < list.len() + 3 {
         return Ran {
             state,
             read: 0,
@@ -376,20 +383,21 @@ pub fn step(state: State, input: &[u8], work: &mut [u64], list: &mut [u32], out:
 
 // A run over the whole input, as far as there is room for what it prints.
 pub fn run(state: State, input: &[u8], work: &mut [u64], list: &mut [u32], out: &mut [u8]) -> Ran
-    ensures { λ r. ⌜ RunsOn state (now (input .entry)) (length (now (work .entry))) (now (list .entry)) (now (list .exit)) (now (out .entry)) (now (out .exit)) r ⌝ }
+    ensures { λ r. ⌜ RunsOn state (now (input .entry)) (length (now (work .entry)))
+        (now (list .entry)) (now (list .exit)) (now (out .entry)) (now (out .exit)) r ⌝ }
 {
-    let mut state = state;
+    let mut at = state;
     let mut read = 0;
     let mut written = 0;
     loop {
-        let ran = step(state, &input[read..], work, list, &mut out[written..]);
-        let next = ran.state;
-        state = next;
+        let ran = step(at, &input[read..], work, list, &mut out[written..]);
+        let left = ran.state;
+        at = left;
         read += ran.read;
         written += ran.written;
         if !ran.more {
             return Ran {
-                state,
+                state: left,
                 read,
                 written,
                 more: false,
@@ -397,7 +405,7 @@ pub fn run(state: State, input: &[u8], work: &mut [u64], list: &mut [u32], out: 
         }
         if ran.read == 0 {
             return Ran {
-                state,
+                state: at,
                 read,
                 written,
                 more: true,

@@ -3,7 +3,7 @@
 use mathlib.Core.Path.{_≡_, sym, subst, _∙_}
 use native.Mathlib.Omega.{arith}
 use lib.ListN.{length}
-use Rattle.session.specs.Program.{unopened}
+use Rattle.session.specs.Program.{programWords, unopened}
 use Rattle.session.specs.Runs.{Lives}
 use Rattle.session.specs.RunsLaws.{lives-on}
 use Rattle.session.specs.declared.State.{State}
@@ -12,7 +12,7 @@ use Rattle.dating.proofs.main.Statement.{statement}
 use Rattle.dating.proofs.main.Tie as tie
 
 abbrev Inv-loop : tie.InvT-loop
-Inv-loop state₀ list₀ turns₀ state list turns = Lives state × (length list ≡ 4096)
+Inv-loop state₀ list₀ turns₀ state list turns = Lives state × (length list ≡ programWords)
 
 abbrev μ-loop : tie.MeasureT-loop
 μ-loop state₀ list₀ turns₀ state list turns = turns
