@@ -1,6 +1,7 @@
 -- The causes of a refusal, their numbers, and the order in which they are looked for.
 --   Cause           a row of 01's table of causes; the row of number 10 is two, since its two halves stand at different places in an order
 --   number c        the number of a cause
+--   Caused k        k is the number of a cause
 --   editOrder, questionOrder, treeOrder
 --                   the causes of each kind of call, in the order in which they are looked for
 --   firstNumber cs  of causes, each with whether it is there: the number of the first that is there, or 0 if none is
@@ -10,6 +11,7 @@
 --   maxRecords, labels, maxLinks, maxHeld, maxBytes, maxLetters, maxDepth
 --                   the limits
 -- Assumes nothing: these are definitions.
+use mathlib.Core.Path.{_≡_}
 use mathlib.Core.List.{List, [], _∷_}
 use mathlib.Core.Bool.{Bool}
 use Prim.Native.Nat.{ℕ}
@@ -69,6 +71,9 @@ number short-list = 13
 number broken-frame = 14
 number unknown-kind = 15
 number not-open = 16
+
+abbrev pub Caused : ℕ → Type 0
+Caused k = (c : Cause) × (k ≡ number c)
 
 -- the orders: edits 2, 3, 4, 5, 6, 7; questions 2, 10 for bytes, 9, 10 for letters and depth, 12, 13; trees 1, 2, 11, 12, 13
 unfoldable pub editOrder : List Cause

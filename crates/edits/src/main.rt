@@ -136,31 +136,42 @@ fn numbers(told: &[u32]) {
     }
 }
 
-// The sample edits again, as words: a list with a word to spare, which stays as it was, one too short, and no register.
+// The word of a call, by its kind: 2 add, 3 remove, 4 lock, 5 unlock, 6 undo.
+fn word(kind: u8, from: u16, label: u8, to: u16) -> u64 {
+    ((kind as u64 * 65536 + from as u64) * 256 + label as u64) * 65536 + to as u64
+}
+
+// The sample edits again, as words, with words of kinds that do not exist among them, which are told 15 and change nothing: a list with a word to spare,
+// which stays as it was, one too short, and no register.
 fn replayed() {
     line(b"replay");
-    let calls = [
-        1u64,
-        33554433,
-        2199040032768,
-        16842755,
-        4398046511104,
-        16842755,
+    let words = [
+        word(2, 0, 0, 1),
+        word(0, 2, 0, 1),
+        word(2, 2, 0, 1),
+        word(4, 1, 0, 0),
+        word(7, 0, 0, 0),
+        word(2, 1, 1, 3),
+        word(6, 0, 0, 0),
+        word(2, 1, 1, 3),
+        18446744073709551615,
     ];
-    let mut told = [9u32; 7];
-    let out = register::replay(4, &calls, &mut told);
+    let mut told = [99u32; 10];
+    let out = register::replay(4, &words, &mut told);
     let answer = out.answer;
     say(answer);
     numbers(&told);
     count(b"links", out.register.links().count);
-    let mut few = [9u32; 5];
-    let out = register::replay(4, &calls, &mut few);
+    let mut few = [99u32; 8];
+    let out = register::replay(4, &words, &mut few);
     let answer = out.answer;
     say(answer);
     numbers(&few);
-    let out = register::replay(0, &calls, &mut few);
+    count(b"records", out.register.size());
+    let out = register::replay(0, &words, &mut few);
     let answer = out.answer;
     say(answer);
+    count(b"records", out.register.size());
 }
 
 // A register after many calls, and how many of them were accepted.

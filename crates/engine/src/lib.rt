@@ -194,8 +194,8 @@ pub struct Inquiry {
     pub chain: ChainAnswer,
 }
 
-// A whole history, its calls as words on a fresh register of n records, and then both questions about one expression: `told` takes the number of each
-// call's answer, `list` the pairs, `steps` the chain.
+// A whole history, its calls as words on a fresh register of n records, and then both questions about one expression: `told` takes the number told to
+// each word, `list` the pairs, `steps` the chain.
 pub fn inquire(
     n: u16,
     calls: &[u64],
@@ -207,8 +207,10 @@ pub fn inquire(
     list: &mut [u32],
     steps: &mut [u32],
 ) -> Inquiry
-    ensures { λ r. ⌜ Inquires n (now (calls .entry)) (now (told .entry)) (now (told .exit)) (now (text .entry)) from to (length (now (work .entry)))
-        (now (list .entry)) (now (list .exit)) (now (steps .entry)) (now (steps .exit)) r ⌝ }
+    ensures { λ r. ⌜ Inquires n (now (calls .entry)) (now (told .entry)) (now (told .exit))
+        (record { text = now (text .entry); work = length (now (work .entry)); before = now (list .entry); after = now (list .exit); answer = r .pairs })
+        (record { from = from; to = to; text = now (text .entry); work = length (now (work .entry)); before = now (steps .entry); after = now (steps .exit);
+            answer = r .chain }) r ⌝ }
 {
     let opened = register::replay(n, calls, told);
     let answer = opened.answer;

@@ -1,4 +1,5 @@
-// The engine for Rust and C: the caller keeps a register as 5,380 words, and every call takes numbers and slices.
+// The engine for Rust and C: the caller keeps a register as 5,380 words, at the front of a state that may be longer, and every call takes numbers and
+// slices.
 // A number told as 64 bits is a count; 2^32 for no chain; 2^33 and the number of the cause for a refusal.
 ghost use mathlib.Core.Path.{_≡_};
 ghost use mathlib.Core.List.{[], _∷_};
@@ -9,14 +10,15 @@ ghost use Rattle.k2.specs.PairSets.{union, intersection, difference, product, t
 ghost use Rattle.tree.specs.Calls.{Answered, TreeOf, ListOf, TreeOfOne, TreeOfTwo};
 ghost use Rattle.pairs.specs.Asking.{AsksPairs};
 ghost use Rattle.chains.specs.Replies.{Replies};
-ghost use Rattle.host.specs.Host.{Freshens, Edits, refusal, toldPairs, toldChain, toldTree, Told, Asked, Lists, Sizes, Locks};
+ghost use Rattle.host.specs.Host.{Freshens, Edits, refusal, toldPairs, toldChain, toldTree, Told, Asked, Lists, Sizes, TellsLock};
 ghost use Rattle.host.specs.Inner.{Finishes};
 use chains::ChainAnswer;
 use pairs::PairsAnswer;
+use register::Answer;
 use register::Outcome;
 use register::Register;
 
-// The numbers of the causes that are looked for here: state not as long as a register's words, answer longer than its list, words that are no register's.
+// The numbers of the causes that are looked for here: state shorter than a register's words, answer longer than its list, words that are no register's.
 const SHORT_WORK: u32 = 12;
 
 const SHORT_LIST: u32 = 13;
@@ -63,15 +65,16 @@ fn keep(outcome: Outcome, state: &mut [u32]) -> u32
     ensures { λ k. ⌜ Finishes outcome (now (state .entry)) (now (state .exit)) k ⌝ }
 {
     let answer = outcome.answer;
-    let number = register::number_of(answer);
-    if 0 < number {
-        return number;
+    match answer {
+        Answer::Refused(number) => number,
+        Answer::Done => {
+            let register = outcome.register;
+            if !register.store(state) {
+                return NOT_OPEN;
+            }
+            0
+        }
     }
-    let register = outcome.register;
-    if !register.store(state) {
-        return NOT_OPEN;
-    }
-    0
 }
 
 // The words of a fresh register of n records.
@@ -203,7 +206,7 @@ pub extern "C" fn dating_links(state: &[u32], list: &mut [u32]) -> u64
 // Whether a record is locked: 1 or 0; 0 if the words are no register's.
 #[no_mangle]
 pub extern "C" fn dating_locked(state: &[u32], record: u16) -> u32
-    ensures { λ k. ⌜ Locks (now (state .entry)) «record» k ⌝ }
+    ensures { λ k. ⌜ TellsLock (now (state .entry)) «record» k ⌝ }
 {
     let loaded = Register::load(state);
     let answer = loaded.answer;

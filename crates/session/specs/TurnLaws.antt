@@ -17,12 +17,13 @@ use Rattle.paths.specs.Questions.{Outcome, pairsAnswer, ReplyTo, chainAnswer, l
 use Rattle.paths.specs.Verdicts.{verdict, verdict-only}
 use Rattle.register.specs.declared.Outcome.{Outcome as Told}
 use Rattle.register.specs.Calls.{answerNumber, Represents, Steps}
+use Rattle.register.specs.HistoryLaws.{number-answer}
 use Rattle.report.specs.Report.{refusedText, answerText, okText, outcomeText}
 use Rattle.report.specs.ReportLaws.{refused-text}
 use Rattle.report.specs.Written.{Wrote}
 use Rattle.report.specs.WrittenLaws.{wrote-as}
 use Rattle.session.specs.Program.{programRecords, Request, Frame, asks, faulty, opening, call, pairs, chain, Session, unopened, opened, openAnswer, nextSession, Right, printed, listLeft}
-use Rattle.session.specs.Turns.{StateOf, is-closed, is-open, room, Turns, Framing}
+use Rattle.session.specs.Turns.{StateOf, is-closed, is-open, room, Spares, as-it-was, answered, Turns, Framing}
 use Rattle.session.specs.declared.State.{State}
 use Rattle.session.specs.declared.Framed.{Framed}
 
@@ -67,13 +68,13 @@ module _ (st : State) (work : ℕ) (l l′ out out′ : List ℕ) (r : Framed) w
   -- a frame that says no request
   pub faulty-turns : (c : Cause) → r .state ≡ st → l′ ≡ l → Wrote 0 (refusedText (number c)) out out′ (r .written) → Turns st (faulty c) work l l′ out out′ r
   unfolding nextSession printed listLeft
-  faulty-turns c kept same w = record { within = w .fits; next = λ s h. rw kept h; prints = λ s h v t q. w; list = λ s h v t q. same }
+  faulty-turns c kept same w = record { within = w .fits; spares = as-it-was same; next = λ s h. rw kept h; prints = λ s h v t q. w; list = λ s h v t q. same }
 
   -- any request but open while no register is opened
   pub closed-turns : (f : Frame) → nextSession unopened f ≡ unopened → ((v : Verdict) (t : Reply) → printed work (length l) unopened f v t ≡ refusedText (number not-open))
       → ((v : Verdict) (t : Reply) → listLeft work l unopened f v t ≡ l)
       → st .opened ≡ false → r .state ≡ st → l′ ≡ l → Wrote 0 (refusedText (number not-open)) out out′ (r .written) → Turns st f work l l′ out out′ r
-  closed-turns f n p k shut kept same w = record { within = w .fits; next = after; prints = told; list = left }
+  closed-turns f n p k shut kept same w = record { within = w .fits; spares = as-it-was same; next = after; prints = told; list = left }
     where
       after : (s : Session) → StateOf st s → StateOf (r .state) (nextSession s f)
       after unopened h = rw (n, kept) h
@@ -88,12 +89,12 @@ module _ (st : State) (work : ℕ) (l l′ out out′ : List ℕ) (r : Framed) w
       left (opened b) (is-open up x m) v t q = absurd (both-ways (st .opened) up shut)
 
   -- a request while one is
-  pub open-turns : (f : Frame) → st .opened ≡ true → r .written ≤ length out
+  pub open-turns : (f : Frame) → st .opened ≡ true → r .written ≤ length out → Spares l l′ out out′ (r .written)
       → ((b : Book) → Represents (st .register) b → b .n ≤ programRecords → StateOf (r .state) (nextSession (opened b) f))
       → ((b : Book) → Represents (st .register) b → (v : Verdict) (t : Reply) → Right (opened b) f v t
       → Wrote 0 (printed work (length l) (opened b) f v t) out out′ (r .written) × (l′ ≡ listLeft work l (opened b) f v t))
       → Turns st f work l l′ out out′ r
-  open-turns f up inside n p = record { within = inside; next = after; prints = λ s h v t q. told s h v t q .0; list = λ s h v t q. told s h v t q .1 }
+  open-turns f up inside spared n p = record { within = inside; spares = spared; next = after; prints = λ s h v t q. told s h v t q .0; list = λ s h v t q. told s h v t q .1 }
     where
       after : (s : Session) → StateOf st s → StateOf (r .state) (nextSession s f)
       after unopened (is-closed shut) = absurd (both-ways (st .opened) up shut)
@@ -108,41 +109,41 @@ module _ (st : State) (work : ℕ) (l l′ out out′ : List ℕ) (r : Framed) w
   pub kept-turns : (n : ℕ) → openAnswer n ≡ number bad-size → r .state ≡ st → l′ ≡ l → Wrote 0 (refusedText (number bad-size)) out out′ (r .written)
       → Turns st (asks (opening n)) work l l′ out out′ r
   unfolding nextSession printed listLeft number answerText
-  kept-turns n e kept same w = record { within = w .fits; next = λ s h. rw (e, kept) h; prints = λ s h v t q. rw e w; list = λ s h v t q. same }
+  kept-turns n e kept same w = record { within = w .fits; spares = as-it-was same; next = λ s h. rw (e, kept) h; prints = λ s h v t q. rw e w; list = λ s h v t q. same }
 
   pub fresh-turns : (n : ℕ) → openAnswer n ≡ 0 → n ≤ programRecords → r .state .opened ≡ true → Represents (r .state .register) (fresh n) → l′ ≡ l
       → Wrote 0 okText out out′ (r .written) → Turns st (asks (opening n)) work l l′ out out′ r
   unfolding nextSession printed listLeft answerText fresh
-  fresh-turns n e small up x same w = record { within = w .fits; next = λ s h. rw e (is-open up x small); prints = λ s h v t q. rw e w; list = λ s h v t q. same }
+  fresh-turns n e small up x same w = record { within = w .fits; spares = as-it-was same; next = λ s h. rw e (is-open up x small); prints = λ s h v t q. rw e w; list = λ s h v t q. same }
 
   -- an edit or undo
   pub call-turns : (c : Call) (o : Told) → Steps (st .register) c o → st .opened ≡ true → r .state .opened ≡ true → r .state .register ≡ o .register → l′ ≡ l
       → Wrote 0 (answerText (answerNumber (o .answer))) out out′ (r .written) → Turns st (asks (call c)) work l l′ out out′ r
   unfolding nextSession printed listLeft
   call-turns c o steps up up′ kept same w =
-      open-turns (asks (call c)) up (w .fits)
+      open-turns (asks (call c)) up (w .fits) (as-it-was same)
       (λ b x m. is-open up′ (rw kept (steps .follows b x)) (rw (next-size b c) m))
-      (λ b x v t q. (wrote-as (ap answerText (steps .answers b x)) w, same))
+      (λ b x v t q. (wrote-as (ap answerText (ap answerNumber (steps .answers b x) ∙ number-answer (answer b c))) w, same))
 
   -- the two questions, which leave the session as it was
-  pub pairs-turns : (u : List ℕ) (o : Outcome) → st .opened ≡ true → r .state ≡ st
+  pub pairs-turns : (u : List ℕ) (o : Outcome) → st .opened ≡ true → r .state ≡ st → l′ ≡ listAfter o l
       → ((b : Book) → Represents (st .register) b → (o ≡ pairsAnswer b (verdict u) work (length l)) × (l′ ≡ listAfter (pairsAnswer b (verdict u) work (length l)) l))
       → Wrote 0 (outcomeText o) out out′ (r .written) → Turns st (asks (pairs u)) work l l′ out out′ r
   unfolding nextSession printed listLeft
-  pairs-turns u o up kept says w =
-      open-turns (asks (pairs u)) up (w .fits)
+  pairs-turns u o up kept left says w =
+      open-turns (asks (pairs u)) up (w .fits) (answered o w left)
       (λ b x m. rw kept (is-open up x m))
       (λ b x v t q.
       let same = ap (λ (e : Verdict). pairsAnswer b e work (length l)) (sym (verdict-only q)) in
       (wrote-as (ap outcomeText (says b x .0 ∙ same)) w, says b x .1 ∙ ap (λ (a : Outcome). listAfter a l) same))
 
-  pub chain-turns : (x y : ℕ) (u : List ℕ) (o : Outcome) → st .opened ≡ true → r .state ≡ st
+  pub chain-turns : (x y : ℕ) (u : List ℕ) (o : Outcome) → st .opened ≡ true → r .state ≡ st → l′ ≡ listAfter o l
       → ((b : Book) → Represents (st .register) b → (t : Reply) → ReplyTo (asked b) (verdict u) x y t
       → (o ≡ chainAnswer b x y (verdict u) t work (length l)) × (l′ ≡ listAfter (chainAnswer b x y (verdict u) t work (length l)) l))
       → Wrote 0 (outcomeText o) out out′ (r .written) → Turns st (asks (chain x y u)) work l l′ out out′ r
   unfolding nextSession printed listLeft
-  chain-turns x y u o up kept says w =
-      open-turns (asks (chain x y u)) up (w .fits)
+  chain-turns x y u o up kept left says w =
+      open-turns (asks (chain x y u)) up (w .fits) (answered o w left)
       (λ b h m. rw kept (is-open up h m))
       (λ b h v t q.
       let e = verdict-only (q .0) in

@@ -2,10 +2,13 @@
 --   StateOf st s    the state st is that of the session s: opened or not, and its register represents the book, of at most 64 records
 --   maxLine, room list
 --                   the most bytes of a line; and those that a frame may print, if so many words of list are lent: a line for each, and a first one
+--   Spares l l′ out out′ w
+--                   the list l is as it was, or l′ holds the answer that the w bytes printed into out say, and past it the words that it held
 --   Turns st f work l l′ out out′ r
 --                   what a frame that says f promises, from the state st, with so many words of work, a list that held l and then holds l′, and room
---                   in out for what it prints. Over any contents it prints within out; for every session that st is the state of, it leaves the
---                   state of the session after it, prints what the program must, and leaves the list that it must
+--                   in out for what it prints. Over any contents it prints within out, and writes nothing into the list but the
+--                   answer that it prints; for every session that st is the state of, it leaves the state of the session after it, prints what the
+--                   program must, and leaves the list that it must
 --   Framing st f work l l′ out out′ r
 --                   the same with any room: if there is too little, nothing is done
 -- Assumes nothing: these are definitions.
@@ -17,7 +20,9 @@ use lib.ListN.{length}
 use Rattle.book.specs.Book.{Book}
 use Rattle.paths.specs.Grammar.{Verdict}
 use Rattle.paths.specs.Chains.{Reply}
+use Rattle.paths.specs.Questions.{Outcome, listAfter}
 use Rattle.register.specs.Calls.{Represents}
+use Rattle.report.specs.Report.{outcomeText}
 use Rattle.report.specs.Written.{Wrote}
 use Rattle.session.specs.Program.{programRecords, Frame, Session, unopened, opened, nextSession, Right, printed, listLeft}
 use Rattle.session.specs.declared.State.{State}
@@ -34,8 +39,13 @@ maxLine = 13
 abbrev pub room : ℕ → ℕ
 room list = maxLine * (list + 3)
 
+pub data Spares (l l′ out out′ : List ℕ) (w : ℕ) : Type 0 where
+  as-it-was : l′ ≡ l → Spares l l′ out out′ w
+  answered : (o : Outcome) → Wrote 0 (outcomeText o) out out′ w → l′ ≡ listAfter o l → Spares l l′ out out′ w
+
 pub record Turns (st : State) (f : Frame) (work : ℕ) (l l′ out out′ : List ℕ) (r : Framed) : Type 0 where
   pub within : r .written ≤ length out
+  pub spares : Spares l l′ out out′ (r .written)
   pub next : (s : Session) → StateOf st s → StateOf (r .state) (nextSession s f)
   pub prints : (s : Session) → StateOf st s → (v : Verdict) (t : Reply) → Right s f v t → Wrote 0 (printed work (length l) s f v t) out out′ (r .written)
   pub list : (s : Session) → StateOf st s → (v : Verdict) (t : Reply) → Right s f v t → l′ ≡ listLeft work l s f v t

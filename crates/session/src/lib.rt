@@ -12,7 +12,8 @@ ghost use Rattle.register.specs.Calls.{Steps};
 ghost use Rattle.report.specs.Report.{refusedText, outcomeText};
 ghost use Rattle.report.specs.Written.{Wrote};
 ghost use Rattle.session.specs.Listing.{listing};
-ghost use Rattle.chains.specs.Replies.{outcomeOf, answerLength};
+ghost use Rattle.pairs.specs.Asking.{pairsLength};
+ghost use Rattle.chains.specs.Replies.{outcomeOf, stepsLength};
 use chains::ChainAnswer;
 use pairs::PairsAnswer;
 use register::Outcome;
@@ -224,7 +225,7 @@ fn edit(state: State, call: Call, out: &mut [u8]) -> Framed
 }
 
 fn put_reply(answer: ChainAnswer, list: &[u32], out: &mut [u8]) -> usize
-    requires { ⌜ (answerLength answer ≤ length (now list)) × (room (length (now list)) ≤ length (now out)) ⌝ }
+    requires { ⌜ (stepsLength answer ≤ length (now list)) × (room (length (now list)) ≤ length (now out)) ⌝ }
     ensures { λ r. ⌜ Wrote 0 (outcomeText (outcomeOf answer (now (list .entry)))) (now (out .entry)) (now (out .exit)) r ⌝ }
 {
     match answer {
@@ -256,16 +257,11 @@ fn ask_chain(
 }
 
 fn put_listing(answer: PairsAnswer, list: &[u32], out: &mut [u8]) -> usize
-    requires { ⌜ room (length (now list)) ≤ length (now out) ⌝ }
+    requires { ⌜ (pairsLength answer ≤ length (now list)) × (room (length (now list)) ≤ length (now out)) ⌝ }
     ensures { λ r. ⌜ Wrote 0 (outcomeText (listing answer (now (list .entry)))) (now (out .entry)) (now (out .exit)) r ⌝ }
 {
     match answer {
-        PairsAnswer::Pairs(k) => {
-            if list.len() < k {
-                return report::put_pairs(list, out, 0);
-            }
-            report::put_pairs(&list[..k], out, 0)
-        }
+        PairsAnswer::Pairs(k) => report::put_pairs(&list[..k], out, 0),
         PairsAnswer::Refused(k) => report::put_refused(k, out, 0),
     }
 }

@@ -15,8 +15,8 @@
 --   TreeOfOne op n t xs, TreeOfTwo op n t u xs
 --                   xs are the words of the tree of what op makes of the set of the tree t, or of the sets of t and u
 --   OutcomeListed kind n la lb links sense ws before after
---                   what `list_with` returns, and makes of its list: with room, the pairs of an operation's outcome; without, 12. Refused, the list is as it
---                   was, whatever the words ws are
+--                   what `list_with` returns, and makes of its list: with room, it is settled by some pairs, whatever the words ws are, and where they
+--                   are trees, by those of the operation's outcome; without, 12, and the list is as it was
 -- Assumes nothing: these are definitions.
 use mathlib.Core.Path.{_≡_}
 use mathlib.Core.List.{List, _++_, map}
@@ -87,7 +87,7 @@ pub record TreeOfTwo (op : Cells → Cells → Cells) (n : ℕ) (t u xs : List �
   pub words : xs ≡ treeWords n (op first second)
 
 pub record OutcomeListed (kind n la lb : ℕ) (links : List ℕ) (sense : ℕ) (ws before after : List ℕ) (r : Answer) : Type 0 where
+  pub settles : Room n la lb (length ws) → sense ≤ 1 → (xs : List ℕ) × Settled xs before after r
   pub gives : Room n la lb (length ws) → sense ≤ 1 → (a b : Cells) → IsSet n a → IsSet n b → take la ws ≡ treeWords n a → take lb (drop la ws) ≡ treeWords n b
       → IsSet n (setOf (map linkPair links)) → Settled (listed n (outcome kind n a (union b (sensed sense (setOf (map linkPair links)))))) before after r
-  pub without : (Room n la lb (length ws) × (sense ≤ 1) → ⊥) → r ≡ Refused 12
-  pub unchanged : (k : ℕ) → r ≡ Refused k → after ≡ before
+  pub without : (Room n la lb (length ws) × (sense ≤ 1) → ⊥) → (r ≡ Refused 12) × (after ≡ before)

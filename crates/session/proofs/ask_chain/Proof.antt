@@ -7,6 +7,7 @@ use lib.ListN.{length}
 use Rattle.book.specs.Causes.{number}
 use Rattle.chains.specs.Replies.{outcomeOf}
 use Rattle.session.specs.Program.{asks, chain, nextSession, printed, listLeft}
+use Rattle.session.specs.Listing.{reply-left}
 use Rattle.session.specs.TurnLaws.{closed-turns, chain-turns}
 use borrow.Author.Needs.{needs}
 use Rattle.session.proofs.ask_chain.Statement.{statement}
@@ -46,7 +47,7 @@ returns-2 c =
     let a = c .before .before .before .before .before .before .before .before .before .chain in
     let w = c .before .before .put-reply in
     chain-turns (s .state) (length (now (s .work))) (now (s .list)) _ (now (s .out)) (w .last .1 .1 .0) _ (s .x) (s .y) (now (s .text)) _ (not-false _ (c .before .before .before .before .before .before .before .before .before .before .before .before .if1 .left)) refl
-    (a .ensures .answers) (w .ensures)
+    (reply-left (now (s .list)) _ (a .kept .1 .1 .1 .1 .1 .0) (a .result) (a .ensures .fits) (a .ensures .past)) (a .ensures .answers) (w .ensures)
 
 pub ask-chain-spec : {M : Type 1} → statement M
 ask-chain-spec =

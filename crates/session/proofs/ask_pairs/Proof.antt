@@ -6,7 +6,7 @@ use denote.Ref.{now}
 use lib.ListN.{length}
 use Rattle.book.specs.Causes.{number}
 use Rattle.session.specs.Program.{asks, pairs, nextSession, printed, listLeft}
-use Rattle.session.specs.Listing.{listing-is}
+use Rattle.session.specs.Listing.{listing-is, listing-left}
 use Rattle.session.specs.TurnLaws.{closed-turns, pairs-turns}
 use borrow.Author.Needs.{needs}
 use Rattle.session.proofs.ask_pairs.Statement.{statement}
@@ -46,7 +46,8 @@ returns-2 c =
     let a = c .before .before .before .before .before .before .before .before .before .pairs in
     let w = c .before .before .put-listing in
     pairs-turns (s .state) (length (now (s .work))) (now (s .list)) _ (now (s .out)) (w .last .1 .1 .0) _ (now (s .text)) _ (not-false _ (c .before .before .before .before .before .before .before .before .before .before .before .before .if1 .left)) refl
-    (λ b h. (listing-is _ (a .result) (now (s .list)) _ (a .ensures .tells b h) (a .ensures .list b h), a .ensures .list b h)) (w .ensures)
+    (listing-left (now (s .list)) _ (a .kept .1 .1 .1 .0) (a .result) (a .ensures .fits) (a .ensures .past))
+    (λ b h. let q = a .ensures .book b h in (listing-is _ (a .result) (now (s .list)) _ (q .tells) (q .list), q .list)) (w .ensures)
 
 pub ask-pairs-spec : {M : Type 1} → statement M
 ask-pairs-spec =
