@@ -1,4 +1,6 @@
 -- The program: frames, requests, what each does to the session and what it prints.
+--   programRecords, programWords, minFrame, maxFrame
+--                   the most records, the words of work and of list that the program lends, and the least and the most that a frame's length may be
 --   number16 s p    the two-byte number at place p of the bytes s, little-endian
 --   twoBytes n, frameOf k s
 --                   a number below 65,536 as two bytes, little-endian; the bytes of a frame of kind k with the body s
@@ -31,7 +33,6 @@ use Rattle.paths.specs.Chains.{asked, Reply}
 use Rattle.paths.specs.Questions.{pairsAnswer, chainAnswer, ReplyTo, listAfter}
 use Rattle.report.specs.Report.{refusedText, answerText, outcomeText}
 
--- the limits, and the words of work and of list that the program lends
 abbrev pub programRecords : ℕ
 programRecords = 64
 

@@ -5,10 +5,10 @@
 --   pairs-answered, chain-answered
 --                   with 4,096 words of work and list, a question whose expression and records are accepted is not refused: 12 and 13 never come
 -- Assumes nothing.
-use mathlib.Core.Path.{_≡_, refl, sym, ap, subst, _∙_}
+use mathlib.Core.Path.{_≡_, refl, ap, subst}
 use mathlib.Core.List.{List, [], _∷_, _++_}
-use mathlib.Core.Bool.{Bool, true, false, _||_}
-use Prim.Native.Nat.{ℕ, zero, suc, _+_, _-_, _*_, _/_, _^_, _≤_, _<_}
+use mathlib.Core.Bool.{Bool, false, _||_}
+use Prim.Native.Nat.{ℕ, zero, suc, _+_, _-_, _*_, _^_, _≤_, _<_}
 use native.Mathlib.Nat.{suc-mul, mul-le-mul}
 use native.Mathlib.Decide.{decLt}
 use native.Mathlib.Omega.{arith}
@@ -25,16 +25,16 @@ use Rattle.k2.specs.PairSets.{Cells, pairWord, ifSet, rowPairs, rowsPairs, list
 use Rattle.k2.specs.Trees.{height, treeUnit}
 use Rattle.k2.specs.HeightLaws.{height-is}
 use Rattle.paths.specs.Expressions.{Expr, letters}
-use Rattle.paths.specs.Grammar.{Verdict, accepted, long, outside, large, Judged, verdictCause}
-use Rattle.paths.specs.Chains.{Graph, asked, Reply, none, chain, ChainIs, no-chain, first-chain, stepWords}
+use Rattle.paths.specs.Grammar.{Verdict, accepted, long, outside, large, verdictCause}
+use Rattle.paths.specs.Chains.{asked, Reply, none, chain, ChainIs, first-chain, stepWords}
 use Rattle.paths.specs.Relations.{pairs, cells}
-use Rattle.paths.specs.Questions.{Outcome, paired, replied, unless, pairsWork, chainWork, pairsOf, pairsCauses, pairsAnswer, steps, ReplyTo, chainCauses, chainAnswer, over, listAfter}
+use Rattle.paths.specs.Questions.{paired, replied, unless, pairsWork, chainWork, pairsOf, pairsCauses, pairsAnswer, steps, ReplyTo, chainCauses, chainAnswer, over, listAfter}
 use Rattle.paths.specs.Verdicts.{verdict, verdict-right}
 use Rattle.paths.specs.PairLaws.{fit-inside}
 use Rattle.paths.specs.FirstChain.{reply}
 use Rattle.automaton.specs.WalkLaws.{length-stepWords}
 use Rattle.automaton.specs.ShortChains.{chains-63}
-use Rattle.session.specs.Program.{programRecords, programWords, Request, Frame, asks, faulty, opening, call, pairs as pairs-asked, chain as chain-asked, Session, unopened, opened, openAnswer, nextSession, Right, listLeft}
+use Rattle.session.specs.Program.{programRecords, programWords, Frame, asks, faulty, opening, call, pairs as pairs-asked, chain as chain-asked, Session, unopened, opened, openAnswer, nextSession, Right, listLeft}
 use Rattle.session.specs.TurnLaws.{open-none, open-many, open-fine, next-size}
 
 -- ---- at most n × n pairs

@@ -3,7 +3,7 @@
 --   Ends work s l l′ i out out′ r
 --                   r tells of a run from the session s and the list l that came to its end: what it printed at the front of out, the session
 --                   that the state handed back is of, and the list l′, are those of a run over i
---   Goes work s l l′ i out out′ r
+--   GoesOn work s l l′ i out out′ r
 --                   r tells of one that has more to do: what it printed, followed by what a run prints from the session and the list that it left
 --                   over the rest of i, and whatever input comes after it, is what a run over all of it prints; and both leave the same
 --   Advances st i work l l′ out out′ r
@@ -12,7 +12,7 @@
 --                   and, if there is room for what a frame may print, ends or reads on. For every session that st is the state of, it ended or
 --                   has more to do, as it says
 --   RunsOn st i work l l′ out out′ r
---                   the same of a run that goes on as far as there is such room: what is left has more to do only if it has less room
+--                   the same of a run that goes on as long as there is such room: there is more to do only if less is left of out
 --   Stepped work st l l′ st′ more
 --                   a turn that so advanced, over some input and with some room, led from the state st and the list l to the state st′ and the list l′;
 --                   there is more only if the turn said so
@@ -45,7 +45,7 @@ pub record Ends (work : ℕ) (s : Session) (l l′ i out out′ : List ℕ) (r :
   pub holds : StateOf (r .state) session
   pub runs : Run work s l i output session l′
 
-pub record Goes (work : ℕ) (s : Session) (l l′ i out out′ : List ℕ) (r : Ran) : Type 0 where
+pub record GoesOn (work : ℕ) (s : Session) (l l′ i out out′ : List ℕ) (r : Ran) : Type 0 where
   pub output : List ℕ
   pub session : Session
   pub wrote : Wrote 0 output out out′ (r .written)
@@ -57,7 +57,7 @@ pub record Advances (st : State) (i : List ℕ) (work : ℕ) (l l′ out out′ 
   pub within : r .written ≤ length out
   pub onward : room (length l) ≤ length out → r .more ≡ true → 0 < r .read
   pub ends : r .more ≡ false → (s : Session) → StateOf st s → Ends work s l l′ i out out′ r
-  pub goes : r .more ≡ true → (s : Session) → StateOf st s → Goes work s l l′ i out out′ r
+  pub goes : r .more ≡ true → (s : Session) → StateOf st s → GoesOn work s l l′ i out out′ r
 
 pub record RunsOn (st : State) (i : List ℕ) (work : ℕ) (l l′ out out′ : List ℕ) (r : Ran) : Type 0 where
   pub advances : Advances st i work l l′ out out′ r

@@ -6,7 +6,7 @@
 --   loop-runs       so has the program's loop, if what it lends is its input and what it prints its output
 -- Assumes nothing.
 use mathlib.Core.Path.{_≡_, refl, sym, ap, subst, _∙_}
-use mathlib.Core.Logic.{_⊎_, inl, inr}
+use mathlib.Core.Logic.{_⊎_}
 use mathlib.Core.List.{List, [], _∷_, _++_, append-assoc, append-nil}
 use mathlib.Core.Bool.{Bool, true, false}
 use Prim.Native.Nat.{ℕ, zero, suc, _+_, _-_, _*_, _≤_, _<_}
@@ -17,19 +17,18 @@ use lib.ListN.{length, take, drop, length-append, length-take, length-drop, drop
 use lib.Seq.{take-all, take-at, take-append-le, drop-append-le, drop-drop}
 use borrow.Rule.Slice.PartMut.{putMid}
 use Rattle.book.specs.Causes.{broken-frame, number}
-use Rattle.book.specs.Book.{Book}
 use Rattle.paths.specs.Grammar.{Verdict}
 use Rattle.paths.specs.Chains.{Reply}
 use Rattle.register.specs.HistoryLaws.{represents-sound}
 use Rattle.report.specs.Report.{refusedText}
 use Rattle.report.specs.Written.{written, Wrote}
 use Rattle.report.specs.WrittenLaws.{wrote-as, wrote-none, wrote-then}
-use Rattle.session.specs.Program.{minFrame, maxFrame, number16, Frame, decode, Session, unopened, opened, nextSession, Right, printed, listLeft, Run, ended, lone-byte, bad-length, cut}
+use Rattle.session.specs.Program.{minFrame, maxFrame, number16, Frame, decode, Session, nextSession, Right, printed, listLeft, Run, ended, lone-byte, bad-length, cut}
 use Rattle.session.specs.ProgramLaws.{Steady, right-exists}
 use Rattle.session.specs.RunLaws.{run-only, framed-as}
 use Rattle.session.specs.TurnLaws.{both-ways}
 use Rattle.session.specs.Turns.{StateOf, is-closed, is-open, room, Turns}
-use Rattle.session.specs.Runs.{Lives, Ends, Goes, Advances, RunsOn, Loop, stops, goes-on, Front, no-frame, a-frame}
+use Rattle.session.specs.Runs.{Lives, Ends, GoesOn, Advances, Loop, stops, goes-on, Front, no-frame, a-frame}
 use Rattle.session.specs.declared.State.{State}
 use Rattle.session.specs.declared.Framed.{Framed}
 use Rattle.session.specs.declared.Ran.{Ran}
@@ -68,8 +67,8 @@ state-steady (is-open e r k) = (represents-sound r, k)
 abbrev pub andThen : Ran → Ran → Ran
 andThen r q = record { state = q .state; read = r .read + q .read; written = r .written + q .written; more = q .more }
 
-abbrev pub joined : ℕ → List ℕ → List ℕ → List ℕ
-joined w m part = putMid w (length m - w) m part
+abbrev pub withRest : ℕ → List ℕ → List ℕ → List ℕ
+withRest w m part = putMid w (length m - w) m part
 
 module _ (work : ℕ) where
   -- ---- a whole frame at the front, and more input after what is lent
@@ -105,7 +104,7 @@ module _ (work : ℕ) where
       (whole a b c d (n - 2) i j p v t (omega arith) (omega arith) (omega arith) (rw part at right) (rw (part, after) at run))
 
   -- ---- a turn
-  stands : (st : State) (s : Session) (l i out : List ℕ) (more : Bool) → StateOf st s → Goes work s l l i out out (record { state = st; read = 0; written = 0; more = more })
+  stands : (st : State) (s : Session) (l i out : List ℕ) (more : Bool) → StateOf st s → GoesOn work s l l i out out (record { state = st; read = 0; written = 0; more = more })
   stands st s l i out more h = record { output = []; session = s; wrote = wrote-none 0 out (omega arith); holds = h; runs = λ j p s′ l″ r. r }
 
   pub stays : (st : State) (i l out : List ℕ) → length out < room (length l) → Advances st i work l l out out (record { state = st; read = 0; written = 0; more = true })
@@ -172,7 +171,7 @@ module _ (work : ℕ) where
     pub inside : r .read ≤ length i
     pub within : r .written ≤ length out
     pub begun : r .read ≡ 0 → r .written ≡ 0
-    pub goes : (s : Session) → StateOf st s → Goes work s l l′ i out out′ r
+    pub goes : (s : Session) → StateOf st s → GoesOn work s l l′ i out out′ r
 
   pub not-begun : (st : State) (i l out : List ℕ) → Reached st i l l out out (record { state = st; read = 0; written = 0; more = true })
   not-begun st i l out = record { inside = omega arith; within = omega arith; begun = λ e. refl; goes = λ s h. stands st s l i out true h }
@@ -181,7 +180,7 @@ module _ (work : ℕ) where
   has-read a more some = record { inside = a .inside; within = a .within; begun = λ e. absurd (omega arith); goes = a .goes more }
 
   -- a text written into a part of out is written into out
-  wrote-part : (w q : ℕ) (p m part : List ℕ) → w ≤ length m → Wrote 0 p (drop w m) part q → Wrote w p m (joined w m part) (w + q)
+  wrote-part : (w q : ℕ) (p m part : List ℕ) → w ≤ length m → Wrote 0 p (drop w m) part q → Wrote w p m (withRest w m part) (w + q)
   unfolding written
   wrote-part w q p m part h r =
       let rest : drop (length m - w) (drop w m) ≡ [] = drop-of-length-le (drop w m) {i = length m - w} (omega (arith, length-drop w m)) in
@@ -195,7 +194,7 @@ module _ (work : ℕ) where
   -- the list is then k, and out m
   pub goes-further : (st : State) (i l k k′ out m part : List ℕ) (r q : Ran) → length k ≡ length l → length m ≡ length out → Reached st i l k out m r
       → Advances (r .state) (drop (r .read) i) work k k′ (drop (r .written) m) part q
-      → Advances st i work l k′ out (joined (r .written) m part) (andThen r q)
+      → Advances st i work l k′ out (withRest (r .written) m part) (andThen r q)
   goes-further st i l k k′ out m part r q long same a b =
       record {
         inside = omega (arith, a .inside, b .inside, length-drop (r .read) i);
@@ -215,11 +214,11 @@ module _ (work : ℕ) where
               let enough : room (length k) ≤ length (drop (r .written) m) = omega (arith, length-drop (r .written) m) in
               omega (arith, b .onward enough e)
 
-      wrote : (o p : List ℕ) → Wrote 0 o out m (r .written) → Wrote 0 p (drop (r .written) m) part (q .written) → Wrote 0 (o ++ p) out (joined (r .written) m part) (r .written + q .written)
+      wrote : (o p : List ℕ) → Wrote 0 o out m (r .written) → Wrote 0 p (drop (r .written) m) part (q .written) → Wrote 0 (o ++ p) out (withRest (r .written) m part) (r .written + q .written)
       wrote o p u v = wrote-then u (wrote-part (r .written) (q .written) p m part (omega (arith, a .within)) v)
 
       ending : q .more ≡ false → (s : Session) → StateOf st s
-          → Ends work s l k′ i out (joined (r .written) m part) (andThen r q)
+          → Ends work s l k′ i out (withRest (r .written) m part) (andThen r q)
       ending e s h =
           let x = a .goes s h in
           let y = b .ends e (x .session) (x .holds) in
@@ -235,7 +234,7 @@ module _ (work : ℕ) where
           }
 
       going : q .more ≡ true → (s : Session) → StateOf st s
-          → Goes work s l k′ i out (joined (r .written) m part) (andThen r q)
+          → GoesOn work s l k′ i out (withRest (r .written) m part) (andThen r q)
       going e s h =
           let x = a .goes s h in
           let y = b .goes e (x .session) (x .holds) in
@@ -253,7 +252,7 @@ module _ (work : ℕ) where
   -- the same, where the rest of the input and of out are lent as parts
   pub goes-on-part : (st : State) (i l k k′ out m part : List ℕ) (r q : Ran) (w : ℕ) → length k ≡ length l → length m ≡ length out → w ≡ work → Reached st i l k out m r
       → Advances (r .state) (take (length i - r .read) (drop (r .read) i)) w k k′ (take (length m - r .written) (drop (r .written) m)) part q
-      → Advances st i work l k′ out (joined (r .written) m part) (andThen r q)
+      → Advances st i work l k′ out (withRest (r .written) m part) (andThen r q)
   goes-on-part st i l k k′ out m part r q w long same ew a b =
       let input : take (length i - r .read) (drop (r .read) i) ≡ drop (r .read) i = take-all (length i - r .read) (drop (r .read) i) (omega (arith, length-drop (r .read) i)) in
       let rest : take (length m - r .written) (drop (r .written) m) ≡ drop (r .written) m = take-all (length m - r .written) (drop (r .written) m) (omega (arith, length-drop (r .written) m)) in

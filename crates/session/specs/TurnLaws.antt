@@ -2,12 +2,12 @@
 -- Assumes nothing.
 use mathlib.Core.Path.{_≡_, refl, sym, ap, subst, _∙_}
 use mathlib.Core.List.{List, [], _∷_}
-use mathlib.Core.Bool.{Bool, true, false, _||_}
+use mathlib.Core.Bool.{Bool, true, false}
 use Prim.Native.Nat.{ℕ, zero, suc, _-_, _≤_, _<_}
 use native.Mathlib.Omega.{arith}
 use lib.ListN.{length, take, drop, length-drop}
 use lib.Seq.{take-all}
-use lib.Dec.{ltb, eqb}
+use lib.Dec.{ltb}
 use borrow.Author.Tests.{lt-ltb, le-ltb}
 use Rattle.book.specs.Causes.{Cause, bad-size, not-open, number, maxRecords}
 use Rattle.book.specs.Book.{Book, Sheet, Call, edit, undo, turned, undone, editAnswer, edited, answer, next, freshAnswer, fresh}
@@ -19,10 +19,9 @@ use Rattle.register.specs.declared.Outcome.{Outcome as Told}
 use Rattle.register.specs.Calls.{answerNumber, Represents, Steps}
 use Rattle.register.specs.HistoryLaws.{number-answer}
 use Rattle.report.specs.Report.{refusedText, answerText, okText, outcomeText}
-use Rattle.report.specs.ReportLaws.{refused-text}
 use Rattle.report.specs.Written.{Wrote}
 use Rattle.report.specs.WrittenLaws.{wrote-as}
-use Rattle.session.specs.Program.{programRecords, Request, Frame, asks, faulty, opening, call, pairs, chain, Session, unopened, opened, openAnswer, nextSession, Right, printed, listLeft}
+use Rattle.session.specs.Program.{programRecords, Frame, asks, faulty, opening, call, pairs, chain, Session, unopened, opened, openAnswer, nextSession, Right, printed, listLeft}
 use Rattle.session.specs.Turns.{StateOf, is-closed, is-open, room, Spares, as-it-was, answered, Turns, Framing}
 use Rattle.session.specs.declared.State.{State}
 use Rattle.session.specs.declared.Framed.{Framed}

@@ -1,9 +1,9 @@
 -- What the program's state says, and what a frame promises.
 --   StateOf st s    the state st is that of the session s: opened or not, and its register represents the book, of at most 64 records
 --   maxLine, room list
---                   the most bytes of a line; and those that a frame may print, if so many words of list are lent: a line for each, and a first one
+--                   the most bytes of a line; and of all that a frame may print, if so many words of list are lent: a line for each, and one before them
 --   Spares l l′ out out′ w
---                   the list l is as it was, or l′ holds the answer that the w bytes printed into out say, and past it the words that it held
+--                   a list that held l and then holds l′ is as it was, or has the answer that the w bytes printed into out say, and past it what it held
 --   Turns st f work l l′ out out′ r
 --                   what a frame that says f promises, from the state st, with so many words of work, a list that held l and then holds l′, and room
 --                   in out for what it prints. Over any contents it prints within out, and writes nothing into the list but the
@@ -35,7 +35,7 @@ pub data StateOf : State → Session → Type 0 where
 abbrev pub maxLine : ℕ
 maxLine = 13
 
--- the first line, or a refusal, takes no more than three such
+-- the line before them, and a refusal, take no more than three such
 abbrev pub room : ℕ → ℕ
 room list = maxLine * (list + 3)
 

@@ -382,18 +382,18 @@ pub fn run(state: State, input: &[u8], work: &mut [u64], list: &mut [u32], out: 
     ensures { λ r. ⌜ RunsOn state (now (input .entry)) (length (now (work .entry)))
         (now (list .entry)) (now (list .exit)) (now (out .entry)) (now (out .exit)) r ⌝ }
 {
-    let mut at = state;
+    let mut state = state;
     let mut read = 0;
     let mut written = 0;
     loop {
-        let ran = step(at, &input[read..], work, list, &mut out[written..]);
-        let left = ran.state;
-        at = left;
+        let ran = step(state, &input[read..], work, list, &mut out[written..]);
+        let next = ran.state;
+        state = next;
         read += ran.read;
         written += ran.written;
         if !ran.more {
             return Ran {
-                state: left,
+                state,
                 read,
                 written,
                 more: false,
@@ -401,7 +401,7 @@ pub fn run(state: State, input: &[u8], work: &mut [u64], list: &mut [u32], out: 
         }
         if ran.read == 0 {
             return Ran {
-                state: at,
+                state,
                 read,
                 written,
                 more: true,

@@ -1,6 +1,5 @@
 -- `dating::turn` meets its contract: it is one call of `session::step`, and goes on only if that has more to do. Assumes nothing.
 use mathlib.Core.Path.{refl, sym}
-use mathlib.Core.Bool.{false}
 use native.Mathlib.Omega.{arith}
 use lib.Seq.{length-take-le}
 use Rattle.session.specs.TurnLaws.{both-ways}

@@ -5,7 +5,6 @@ use borrow.Author.Tests.{not-true, not-false}
 use denote.Ref.{now}
 use lib.ListN.{length}
 use Rattle.book.specs.Causes.{number}
-use Rattle.chains.specs.Replies.{outcomeOf}
 use Rattle.session.specs.Program.{asks, chain, nextSession, printed, listLeft}
 use Rattle.session.specs.Listing.{reply-left}
 use Rattle.session.specs.TurnLaws.{closed-turns, chain-turns}

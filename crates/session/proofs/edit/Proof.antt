@@ -1,5 +1,5 @@
 -- `session::edit` meets its contract: before an open it is refused (`closed-turns`), else it is the register's call (`call-turns`). Assumes nothing.
-use mathlib.Core.Path.{refl, sym, ap}
+use mathlib.Core.Path.{refl, ap}
 use borrow.Author.Tests.{not-true, not-false}
 use denote.Ref.{now}
 use Rattle.book.specs.Causes.{number}

@@ -11,18 +11,18 @@ use lib.ListN.{length}
 use Rattle.session.specs.Turns.{room}
 use Rattle.session.specs.Runs.{Advances}
 use Rattle.session.specs.TurnLaws.{both-ways}
-use Rattle.session.specs.RunsLaws.{joined, Reached, not-begun, has-read, goes-on-part, no-room, rest-short}
+use Rattle.session.specs.RunsLaws.{withRest, Reached, not-begun, has-read, goes-on-part, no-room, rest-short}
 use borrow.Author.Needs.{needs}
 use Rattle.session.proofs.run.Statement.{statement}
 use Rattle.session.proofs.run.Tie as tie
 
 abbrev Inv-loop : tie.InvT-loop
-Inv-loop input work₀ list₀ out₀ at₀ read₀ written₀ work list out at read written =
-    Reached (length work₀) at₀ input list₀ list out₀ out (record { state = at; read = read; written = written; more = true })
+Inv-loop input work₀ list₀ out₀ state₀ read₀ written₀ work list out state read written =
+    Reached (length work₀) state₀ input list₀ list out₀ out (record { state = state; read = read; written = written; more = true })
     × (length work ≡ length work₀) × (length list ≡ length list₀) × (length out ≡ length out₀)
 
 abbrev μ-loop : tie.MeasureT-loop
-μ-loop input work₀ list₀ out₀ at₀ read₀ written₀ work list out at read written = length input - read
+μ-loop input work₀ list₀ out₀ state₀ read₀ written₀ work list out state read written = length input - read
 
 loop-holds : tie.Need-loop-holds Inv-loop μ-loop
 loop-holds c = (not-begun _ _ _ _ _, refl, refl, refl)
@@ -52,15 +52,15 @@ step-requires c κs = tt
 went : (c : tie.After-step Inv-loop μ-loop) (more : Bool) → c .step .result .more ≡ more
     → let l = c .before .before .before .before .before .loop in let q = c .step .result in let s = c .before .before .before .before .before .before .before .before .before .before .args in
     Advances (s .state) (now (s .input)) (length (now (s .work))) (now (s .list)) (c .step .last .1 .1 .1 .0) (now (s .out))
-    (joined (l .written) (l .out) (c .step .last .1 .1 .1 .1 .0)) (record { state = q .state; read = l .read + q .read; written = l .written + q .written; more = more })
+    (withRest (l .written) (l .out) (c .step .last .1 .1 .1 .1 .0)) (record { state = q .state; read = l .read + q .read; written = l .written + q .written; more = more })
 went c more e =
     let l = c .before .before .before .before .before .loop in
     let s = c .before .before .before .before .before .before .before .before .before .before .args in
     let q = c .step .result in
     subst (λ (b : Bool). Advances (s .state) (now (s .input)) (length (now (s .work))) (now (s .list)) (c .step .last .1 .1 .1 .0) (now (s .out))
-    (joined (l .written) (l .out) (c .step .last .1 .1 .1 .1 .0)) (record { state = q .state; read = l .read + q .read; written = l .written + q .written; more = b })) e
+    (withRest (l .written) (l .out) (c .step .last .1 .1 .1 .1 .0)) (record { state = q .state; read = l .read + q .read; written = l .written + q .written; more = b })) e
     (goes-on-part (length (now (s .work))) (s .state) (now (s .input)) (now (s .list)) (l .list) _ (now (s .out)) (l .out) (c .step .last .1 .1 .1 .1 .0)
-    (record { state = l .at; read = l .read; written = l .written; more = true }) q _ (l .inv .2) (l .inv .3) (l .inv .1) (l .inv .0) (c .step .ensures))
+    (record { state = l .state; read = l .read; written = l .written; more = true }) q _ (l .inv .2) (l .inv .3) (l .inv .1) (l .inv .0) (c .step .ensures))
 
 -- the lent slices keep their lengths
 works : (c : tie.After-step Inv-loop μ-loop) → length (c .step .last .1 .1 .0) ≡ length (now (c .before .before .before .before .before .before .before .before .before .before .args .work))
@@ -69,7 +69,7 @@ works c = c .step .kept .1 .1 .0 ∙ c .before .before .before .before .before .
 lists : (c : tie.After-step Inv-loop μ-loop) → length (c .step .last .1 .1 .1 .0) ≡ length (now (c .before .before .before .before .before .before .before .before .before .before .args .list))
 lists c = c .step .kept .1 .1 .1 .0 ∙ c .before .before .before .before .before .loop .inv .2
 
-outs : (c : tie.After-step Inv-loop μ-loop) → let l = c .before .before .before .before .before .loop in length (joined (l .written) (l .out) (c .step .last .1 .1 .1 .1 .0))
+outs : (c : tie.After-step Inv-loop μ-loop) → let l = c .before .before .before .before .before .loop in length (withRest (l .written) (l .out) (c .step .last .1 .1 .1 .1 .0))
     ≡ length (now (c .before .before .before .before .before .before .before .before .before .before .args .out))
 outs c =
     let l = c .before .before .before .before .before .loop in

@@ -5,7 +5,7 @@ use Prim.Native.Nat.{_+_, _≤_}
 use native.Mathlib.Omega.{arith}
 use denote.Ref.{now}
 use lib.ListN.{length}
-use Rattle.book.specs.Causes.{number, broken-frame}
+use Rattle.book.specs.Causes.{number}
 use Rattle.session.specs.Program.{minFrame, maxFrame, number16}
 use Rattle.session.specs.RunsLaws.{front-frame, front-none, stays, at-end, is-broken, one-frame}
 use borrow.Author.Needs.{needs}
