@@ -1,6 +1,8 @@
 -- Laws of what is said, by what the code has read.
 --   typed-long, typed-short, begun-none, begun-comment, begun-request
 --                   a line, by its length and its first byte that is no blank
+--   requested-as    a word that is the same as another says what that one says
+--   requested-none  a word that is none of the requests
 --   numbered-not, numbered-more, numbered-is
 --                   one number and no more: it is none; more follows; it is
 --   linked-not-from, linked-not-label, linked-not-to, linked-more, linked-is
@@ -10,7 +12,7 @@
 --   chained-not-from, chained-not-to, chained-is
 --                   FROM TO EXPRESSION, in this order
 -- Assumes nothing.
-use mathlib.Core.Path.{_≡_, refl, _∙_}
+use mathlib.Core.Path.{_≡_, refl, ap, _∙_}
 use mathlib.Core.List.{List, [], _∷_}
 use mathlib.Core.Bool.{true, false}
 use Prim.Native.Nat.{ℕ, _≤_, _<_}
@@ -19,9 +21,10 @@ use lib.ListN.{length, getD}
 use borrow.Author.Tests.{lt-ltb, le-ltb, eq-eqb, ne-eqb}
 use Rattle.book.specs.Causes.{labels}
 use Rattle.book.specs.Book.{Link, Edit, edit}
+use Rattle.report.specs.Report.{bytes}
 use Rattle.session.specs.Program.{Request, asks, call, chain}
-use Rattle.lines.specs.Typed.{word, rest, skip, empty, isNumber, numberOf, isLabel, labelOf, text, hash, maxLine, nothing, saying, misfit, numbered, linked, alone, chained, requested, begun, typed}
-use Rattle.lines.specs.TypedLaws.{and-false}
+use Rattle.lines.specs.Typed.{word, rest, skip, sameBytes, empty, isNumber, numberOf, isLabel, labelOf, text, hash, maxLine, nothing, saying, unknown, misfit, numbered, linked, alone, chained, requested, begun, typed}
+use Rattle.lines.specs.TypedLaws.{and-false, same-equal}
 use Rattle.lines.specs.Read.{unfit, read}
 use Rattle.lines.specs.ReadLaws.{read-fits, read-not, number-small, label-small}
 
@@ -48,6 +51,16 @@ pub begun-request : (s : List ℕ) → (length s ≡ 0 → ⊥) → (getD s 0 0 
 unfolding begun
 begun-request [] h k = absurd (h refl)
 begun-request (c ∷ s) h k = rw (ne-eqb c hash k)
+
+pub requested-as : (v w r : List ℕ) → sameBytes w v ≡ true → requested w r ≡ requested v r
+requested-as v w r h = ap (λ (u : List ℕ). requested u r) (same-equal w v h)
+
+pub requested-none : (w r : List ℕ)
+    → sameBytes w (bytes "open") ≡ false → sameBytes w (bytes "add") ≡ false → sameBytes w (bytes "remove") ≡ false
+    → sameBytes w (bytes "lock") ≡ false → sameBytes w (bytes "unlock") ≡ false → sameBytes w (bytes "undo") ≡ false
+    → sameBytes w (bytes "pairs") ≡ false → sameBytes w (bytes "chain") ≡ false → requested w r ≡ unknown
+unfolding requested
+requested-none w r a b d e f g h i = rw (a, b, d, e, f, g, h, i)
 
 -- ---- words as read
 number-fits : (w : List ℕ) (n : ℕ) → n ≡ read (isNumber w) (numberOf w) → n < unfit → (isNumber w ≡ true) × (n ≡ numberOf w)

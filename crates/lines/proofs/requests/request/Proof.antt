@@ -1,48 +1,44 @@
--- `lines::requests::request` meets its contract: the words are tried in the order of the definition. Assumes nothing.
-use mathlib.Core.Path.{_≡_, refl, sym, _∙_}
+-- `lines::requests::request` meets its contract: a word that is a request's says what that one says (`requested-as`), any other nothing known
+-- (`requested-none`). Assumes nothing.
+use mathlib.Core.Path.{_≡_, refl, sym, ap, _∙_}
 use mathlib.Core.Bool.{true, false}
 use denote.Ref.{now}
 use Rattle.book.specs.Causes.{number}
 use Rattle.book.specs.Book.{edit, add, remove, lock, unlock}
 use Rattle.report.specs.Report.{bytes}
+use Rattle.report.specs.WrittenLaws.{wrote-as}
 use Rattle.session.specs.Program.{opening, call}
 use Rattle.lines.specs.Typed.{sameBytes, requested}
+use Rattle.lines.specs.SaidLaws.{requested-as, requested-none}
 use Rattle.lines.specs.Encoding.{kindOf, bodyOf, frameFor, sent}
 use borrow.Author.Needs.{needs}
 use Rattle.lines.proofs.requests.request.Statement.{statement}
 use Rattle.lines.proofs.requests.request.Tie as tie
 
-not-open : (c : tie.Else1) → sameBytes (now (c .before .before .before .before .before .before .args .word)) (bytes "open") ≡ false
-unfolding bytes
-not-open c = sym (c .before .same .ensures) ∙ c .if1 .left
+-- the start, from where each word was not the request's
+abbrev start1 : tie.Else1 → tie.Start
+start1 c = c .before .before .before .before .before .before
 
-not-add : (c : tie.Else2) → sameBytes (now (c .before .before .before .before .before .before .before .before .before .args .word)) (bytes "add") ≡ false
-unfolding bytes
-not-add c = sym (c .before .same2 .ensures) ∙ c .if2 .left
+abbrev start2 : tie.Else2 → tie.Start
+start2 c = start1 (c .before .before .before)
 
-not-remove : (c : tie.Else3) → sameBytes (now (c .before .before .before .before .before .before .before .before .before .before .before .before .args .word)) (bytes "remove") ≡ false
-unfolding bytes
-not-remove c = sym (c .before .same3 .ensures) ∙ c .if3 .left
+abbrev start3 : tie.Else3 → tie.Start
+start3 c = start2 (c .before .before .before)
 
-not-lock : (c : tie.Else4) → sameBytes (now (c .before .before .before .before .before .before .before .before .before .before .before .before .before .before .before .args .word)) (bytes "lock") ≡ false
-unfolding bytes
-not-lock c = sym (c .before .same4 .ensures) ∙ c .if4 .left
+abbrev start4 : tie.Else4 → tie.Start
+start4 c = start3 (c .before .before .before)
 
-not-unlock : (c : tie.Else5) → sameBytes (now (c .before .before .before .before .before .before .before .before .before .before .before .before .before .before .before .before .before .before .args .word)) (bytes "unlock") ≡ false
-unfolding bytes
-not-unlock c = sym (c .before .same5 .ensures) ∙ c .if5 .left
+abbrev start5 : tie.Else5 → tie.Start
+start5 c = start4 (c .before .before .before)
 
-not-undo : (c : tie.Else6) → sameBytes (now (c .before .before .before .before .before .before .before .before .before .before .before .before .before .before .before .before .before .before .before .before .before .args .word)) (bytes "undo") ≡ false
-unfolding bytes
-not-undo c = sym (c .before .same6 .ensures) ∙ c .if6 .left
+abbrev start6 : tie.Else6 → tie.Start
+start6 c = start5 (c .before .before .before)
 
-not-pairs : (c : tie.Else7) → sameBytes (now (c .before .before .before .before .before .before .before .before .before .before .before .before .before .before .before .before .before .before .before .before .before .before .before .before .args .word)) (bytes "pairs") ≡ false
-unfolding bytes
-not-pairs c = sym (c .before .same7 .ensures) ∙ c .if7 .left
+abbrev start7 : tie.Else7 → tie.Start
+start7 c = start6 (c .before .before .before)
 
-not-chain : (c : tie.Else8) → sameBytes (now (c .before .before .before .before .before .before .before .before .before .before .before .before .before .before .before .before .before .before .before .before .before .before .before .before .before .before .before .args .word)) (bytes "chain") ≡ false
-unfolding bytes
-not-chain c = sym (c .before .same8 .ensures) ∙ c .if8 .left
+abbrev start8 : tie.Else8 → tie.Start
+start8 c = start7 (c .before .before .before)
 
 slice-aggregate-same : tie.Need-slice-aggregate-same
 slice-aggregate-same c = search needs
@@ -57,10 +53,12 @@ same-length : tie.Need-same-length
 same-length c = search needs
 
 returns : tie.Need-returns
-unfolding requested bytes sent frameFor kindOf bodyOf
+unfolding requested sameBytes bytes sent frameFor kindOf bodyOf
 returns c =
-    let yes : sameBytes (now (c .before .before .before .before .before .before .before .before .before .before .args .word)) (bytes "open") ≡ true = sym (c .before .before .before .before .before .same .ensures) ∙ c .before .before .before .before .if1 .taken in
-    rw (yes) (c .before .before .numbered .ensures opening (λ n. refl))
+    let t = c .before .before .before .before in
+    let a = (t .before .before .before .before .before .before) .args in
+    let yes = sym (t .before .same .ensures) ∙ t .if1 .taken in
+    wrote-as (ap sent (sym (requested-as (bytes "open") (now (a .word)) (now (a .s)) yes))) (c .before .before .numbered .ensures opening (λ n. refl))
 
 slice-aggregate-same-2 : tie.Need-slice-aggregate-same-2
 slice-aggregate-same-2 c = search needs
@@ -75,10 +73,12 @@ same-length-2 : tie.Need-same-length-2
 same-length-2 c = search needs
 
 returns-2 : tie.Need-returns-2
-unfolding requested bytes sent frameFor kindOf bodyOf
+unfolding requested sameBytes bytes sent frameFor kindOf bodyOf
 returns-2 c =
-    let yes : sameBytes (now (c .before .before .before .before .before .before .before .before .before .before .before .before .before .args .word)) (bytes "add") ≡ true = sym (c .before .before .before .before .before .same2 .ensures) ∙ c .before .before .before .before .if2 .taken in
-    rw (not-open (c .before .before .before .before .before .before .before), yes) (c .before .before .linked .ensures add (λ k. refl))
+    let t = c .before .before .before .before in
+    let a = (start1 (t .before .before .before)) .args in
+    let yes = sym (t .before .same2 .ensures) ∙ t .if2 .taken in
+    wrote-as (ap sent (sym (requested-as (bytes "add") (now (a .word)) (now (a .s)) yes))) (c .before .before .linked .ensures add (λ k. refl))
 
 slice-aggregate-same-3 : tie.Need-slice-aggregate-same-3
 slice-aggregate-same-3 c = search needs
@@ -93,10 +93,12 @@ same-length-3 : tie.Need-same-length-3
 same-length-3 c = search needs
 
 returns-3 : tie.Need-returns-3
-unfolding requested bytes sent frameFor kindOf bodyOf
+unfolding requested sameBytes bytes sent frameFor kindOf bodyOf
 returns-3 c =
-    let yes : sameBytes (now (c .before .before .before .before .before .before .before .before .before .before .before .before .before .before .before .before .args .word)) (bytes "remove") ≡ true = sym (c .before .before .before .before .before .same3 .ensures) ∙ c .before .before .before .before .if3 .taken in
-    rw (not-open (c .before .before .before .before .before .before .before .before .before .before), not-add (c .before .before .before .before .before .before .before), yes) (c .before .before .linked2 .ensures remove (λ k. refl))
+    let t = c .before .before .before .before in
+    let a = (start2 (t .before .before .before)) .args in
+    let yes = sym (t .before .same3 .ensures) ∙ t .if3 .taken in
+    wrote-as (ap sent (sym (requested-as (bytes "remove") (now (a .word)) (now (a .s)) yes))) (c .before .before .linked2 .ensures remove (λ k. refl))
 
 slice-aggregate-same-4 : tie.Need-slice-aggregate-same-4
 slice-aggregate-same-4 c = search needs
@@ -111,10 +113,12 @@ same-length-4 : tie.Need-same-length-4
 same-length-4 c = search needs
 
 returns-4 : tie.Need-returns-4
-unfolding requested bytes sent frameFor kindOf bodyOf
+unfolding requested sameBytes bytes sent frameFor kindOf bodyOf
 returns-4 c =
-    let yes : sameBytes (now (c .before .before .before .before .before .before .before .before .before .before .before .before .before .before .before .before .before .before .before .args .word)) (bytes "lock") ≡ true = sym (c .before .before .before .before .before .same4 .ensures) ∙ c .before .before .before .before .if4 .taken in
-    rw (not-open (c .before .before .before .before .before .before .before .before .before .before .before .before .before), not-add (c .before .before .before .before .before .before .before .before .before .before), not-remove (c .before .before .before .before .before .before .before), yes) (c .before .before .numbered2 .ensures (λ x. call (edit (lock x))) (λ n. refl))
+    let t = c .before .before .before .before in
+    let a = (start3 (t .before .before .before)) .args in
+    let yes = sym (t .before .same4 .ensures) ∙ t .if4 .taken in
+    wrote-as (ap sent (sym (requested-as (bytes "lock") (now (a .word)) (now (a .s)) yes))) (c .before .before .numbered2 .ensures (λ x. call (edit (lock x))) (λ n. refl))
 
 slice-aggregate-same-5 : tie.Need-slice-aggregate-same-5
 slice-aggregate-same-5 c = search needs
@@ -129,10 +133,12 @@ same-length-5 : tie.Need-same-length-5
 same-length-5 c = search needs
 
 returns-5 : tie.Need-returns-5
-unfolding requested bytes sent frameFor kindOf bodyOf
+unfolding requested sameBytes bytes sent frameFor kindOf bodyOf
 returns-5 c =
-    let yes : sameBytes (now (c .before .before .before .before .before .before .before .before .before .before .before .before .before .before .before .before .before .before .before .before .before .before .args .word)) (bytes "unlock") ≡ true = sym (c .before .before .before .before .before .same5 .ensures) ∙ c .before .before .before .before .if5 .taken in
-    rw (not-open (c .before .before .before .before .before .before .before .before .before .before .before .before .before .before .before .before), not-add (c .before .before .before .before .before .before .before .before .before .before .before .before .before), not-remove (c .before .before .before .before .before .before .before .before .before .before), not-lock (c .before .before .before .before .before .before .before), yes) (c .before .before .numbered3 .ensures (λ x. call (edit (unlock x))) (λ n. refl))
+    let t = c .before .before .before .before in
+    let a = (start4 (t .before .before .before)) .args in
+    let yes = sym (t .before .same5 .ensures) ∙ t .if5 .taken in
+    wrote-as (ap sent (sym (requested-as (bytes "unlock") (now (a .word)) (now (a .s)) yes))) (c .before .before .numbered3 .ensures (λ x. call (edit (unlock x))) (λ n. refl))
 
 slice-aggregate-same-6 : tie.Need-slice-aggregate-same-6
 slice-aggregate-same-6 c = search needs
@@ -147,10 +153,12 @@ same-length-6 : tie.Need-same-length-6
 same-length-6 c = search needs
 
 returns-6 : tie.Need-returns-6
-unfolding requested bytes sent frameFor kindOf bodyOf
+unfolding requested sameBytes bytes sent frameFor kindOf bodyOf
 returns-6 c =
-    let yes : sameBytes (now (c .before .before .before .before .before .before .before .before .before .before .before .before .before .before .before .before .before .before .before .before .before .before .before .before .before .args .word)) (bytes "undo") ≡ true = sym (c .before .before .before .before .before .same6 .ensures) ∙ c .before .before .before .before .if6 .taken in
-    rw (not-open (c .before .before .before .before .before .before .before .before .before .before .before .before .before .before .before .before .before .before .before), not-add (c .before .before .before .before .before .before .before .before .before .before .before .before .before .before .before .before), not-remove (c .before .before .before .before .before .before .before .before .before .before .before .before .before), not-lock (c .before .before .before .before .before .before .before .before .before .before), not-unlock (c .before .before .before .before .before .before .before), yes) (c .before .before .undo .ensures)
+    let t = c .before .before .before .before in
+    let a = (start5 (t .before .before .before)) .args in
+    let yes = sym (t .before .same6 .ensures) ∙ t .if6 .taken in
+    wrote-as (ap sent (sym (requested-as (bytes "undo") (now (a .word)) (now (a .s)) yes))) (c .before .before .undo .ensures)
 
 slice-aggregate-same-7 : tie.Need-slice-aggregate-same-7
 slice-aggregate-same-7 c = search needs
@@ -165,10 +173,12 @@ same-length-7 : tie.Need-same-length-7
 same-length-7 c = search needs
 
 returns-7 : tie.Need-returns-7
-unfolding requested bytes sent frameFor kindOf bodyOf
+unfolding requested sameBytes bytes sent frameFor kindOf bodyOf
 returns-7 c =
-    let yes : sameBytes (now (c .before .before .before .before .before .before .before .before .before .before .before .before .before .before .before .before .before .before .before .before .before .before .before .before .before .before .before .before .args .word)) (bytes "pairs") ≡ true = sym (c .before .before .before .before .before .same7 .ensures) ∙ c .before .before .before .before .if7 .taken in
-    rw (not-open (c .before .before .before .before .before .before .before .before .before .before .before .before .before .before .before .before .before .before .before .before .before .before), not-add (c .before .before .before .before .before .before .before .before .before .before .before .before .before .before .before .before .before .before .before), not-remove (c .before .before .before .before .before .before .before .before .before .before .before .before .before .before .before .before), not-lock (c .before .before .before .before .before .before .before .before .before .before .before .before .before), not-unlock (c .before .before .before .before .before .before .before .before .before .before), not-undo (c .before .before .before .before .before .before .before), yes) (c .before .before .pairs .ensures)
+    let t = c .before .before .before .before in
+    let a = (start6 (t .before .before .before)) .args in
+    let yes = sym (t .before .same7 .ensures) ∙ t .if7 .taken in
+    wrote-as (ap sent (sym (requested-as (bytes "pairs") (now (a .word)) (now (a .s)) yes))) (c .before .before .pairs .ensures)
 
 slice-aggregate-same-8 : tie.Need-slice-aggregate-same-8
 slice-aggregate-same-8 c = search needs
@@ -183,10 +193,12 @@ same-length-8 : tie.Need-same-length-8
 same-length-8 c = search needs
 
 returns-8 : tie.Need-returns-8
-unfolding requested bytes sent frameFor kindOf bodyOf
+unfolding requested sameBytes bytes sent frameFor kindOf bodyOf
 returns-8 c =
-    let yes : sameBytes (now (c .before .before .before .before .before .before .before .before .before .before .before .before .before .before .before .before .before .before .before .before .before .before .before .before .before .before .before .before .before .before .before .args .word)) (bytes "chain") ≡ true = sym (c .before .before .before .before .before .same8 .ensures) ∙ c .before .before .before .before .if8 .taken in
-    rw (not-open (c .before .before .before .before .before .before .before .before .before .before .before .before .before .before .before .before .before .before .before .before .before .before .before .before .before), not-add (c .before .before .before .before .before .before .before .before .before .before .before .before .before .before .before .before .before .before .before .before .before .before), not-remove (c .before .before .before .before .before .before .before .before .before .before .before .before .before .before .before .before .before .before .before), not-lock (c .before .before .before .before .before .before .before .before .before .before .before .before .before .before .before .before), not-unlock (c .before .before .before .before .before .before .before .before .before .before .before .before .before), not-undo (c .before .before .before .before .before .before .before .before .before .before), not-pairs (c .before .before .before .before .before .before .before), yes) (c .before .before .chain .ensures)
+    let t = c .before .before .before .before in
+    let a = (start7 (t .before .before .before)) .args in
+    let yes = sym (t .before .same8 .ensures) ∙ t .if8 .taken in
+    wrote-as (ap sent (sym (requested-as (bytes "chain") (now (a .word)) (now (a .s)) yes))) (c .before .before .chain .ensures)
 
 slice-aggregate-put-frame : tie.Need-slice-aggregate-put-frame
 slice-aggregate-put-frame c = search needs
@@ -201,8 +213,27 @@ same-length-9 : tie.Need-same-length-9
 same-length-9 c = search needs
 
 returns-9 : tie.Need-returns-9
-unfolding requested bytes sent frameFor kindOf bodyOf number
-returns-9 c = rw (not-open (c .before .before .before .before .before .before .before .before .before .before .before .before .before .before .before .before .before .before .before .before .before .before .before .before .before .before .before), not-add (c .before .before .before .before .before .before .before .before .before .before .before .before .before .before .before .before .before .before .before .before .before .before .before .before), not-remove (c .before .before .before .before .before .before .before .before .before .before .before .before .before .before .before .before .before .before .before .before .before), not-lock (c .before .before .before .before .before .before .before .before .before .before .before .before .before .before .before .before .before .before), not-unlock (c .before .before .before .before .before .before .before .before .before .before .before .before .before .before .before), not-undo (c .before .before .before .before .before .before .before .before .before .before .before .before), not-pairs (c .before .before .before .before .before .before .before .before .before), not-chain (c .before .before .before .before .before .before)) (c .before .before .put-frame .ensures)
+unfolding bytes sent frameFor kindOf bodyOf number
+returns-9 c =
+    let e8 = c .before .before .before .before .before .before in
+    let e7 = e8 .before .before .before in
+    let e6 = e7 .before .before .before in
+    let e5 = e6 .before .before .before in
+    let e4 = e5 .before .before .before in
+    let e3 = e4 .before .before .before in
+    let e2 = e3 .before .before .before in
+    let e1 = e2 .before .before .before in
+    let a = (start8 e8) .args in
+    wrote-as (ap sent (sym (requested-none (now (a .word)) (now (a .s))
+    (sym (e1 .before .same .ensures) ∙ e1 .if1 .left)
+    (sym (e2 .before .same2 .ensures) ∙ e2 .if2 .left)
+    (sym (e3 .before .same3 .ensures) ∙ e3 .if3 .left)
+    (sym (e4 .before .same4 .ensures) ∙ e4 .if4 .left)
+    (sym (e5 .before .same5 .ensures) ∙ e5 .if5 .left)
+    (sym (e6 .before .same6 .ensures) ∙ e6 .if6 .left)
+    (sym (e7 .before .same7 .ensures) ∙ e7 .if7 .left)
+    (sym (e8 .before .same8 .ensures) ∙ e8 .if8 .left))))
+    (c .before .before .put-frame .ensures)
 
 pub request-spec : {M : Type 1} → statement M
 request-spec =
