@@ -7,22 +7,25 @@
 --                   every frame of a request f of a number, or of an edit f of a link, has the kind k, and that as its body
 --   maxBody, frameRoom
 --                   the most bytes of a frame's body, and of a whole frame
---   afterTyped s t, RightTyped s t v u, printedTyped w r s t v u
---                   of a line that says t: the session after it, the right verdict and reply, and what is printed; as of its frame, if it has one
+--   afterTyped s t, RightTyped s t v u, printedTyped w r s t v u, leftTyped w k s t v u
+--                   of a line that says t: the session after it, the right verdict and reply, what is printed, and the list that is left; as of its
+--                   frame, if it has one
 --   sentAll ls      the bytes that become of the lines ls
---   TypedRun w r s ls o
---                   a typed session: from the session s on, the lines ls are answered by the bytes o, line by line
+--   TypedRun w s k ls o s′ k′
+--                   a typed session: from the session s and the list k on, the lines ls are answered by the bytes o, line by line, and leave the session
+--                   s′ and the list k′
 -- Assumes nothing: these are definitions.
 use mathlib.Core.Path.{_≡_}
 use mathlib.Core.List.{List, [], _∷_, _++_}
 use Prim.Native.Nat.{ℕ, _+_, _-_}
 use lib.Dec.{eqb}
+use lib.ListN.{length}
 use Rattle.book.specs.Basics.{pick}
 use Rattle.book.specs.Causes.{number, unknown-kind}
 use Rattle.book.specs.Book.{Link, Edit, edit, undo, add, remove, lock, unlock}
 use Rattle.paths.specs.Grammar.{Verdict}
 use Rattle.paths.specs.Chains.{Reply}
-use Rattle.session.specs.Program.{twoBytes, frameOf, Request, Frame, asks, faulty, opening, call, pairs, chain, Session, nextSession, Right, printed, minFrame, maxFrame}
+use Rattle.session.specs.Program.{twoBytes, frameOf, Request, Frame, asks, faulty, opening, call, pairs, chain, Session, nextSession, Right, printed, listLeft, minFrame, maxFrame}
 use Rattle.lines.specs.Typed.{Typed, nothing, saying, typed}
 
 unfoldable pub linkBytes : Link → List ℕ
@@ -83,11 +86,16 @@ abbrev pub printedTyped : ℕ → ℕ → Session → Typed → Verdict → Repl
 printedTyped work room s nothing v u = []
 printedTyped work room s (saying f) v u = printed work room s f v u
 
+abbrev pub leftTyped : ℕ → List ℕ → Session → Typed → Verdict → Reply → List ℕ
+leftTyped work k s nothing v u = k
+leftTyped work k s (saying f) v u = listLeft work k s f v u
+
 unfoldable pub sentAll : List (List ℕ) → List ℕ
 sentAll [] = []
 sentAll (l ∷ ls) = sent (typed l) ++ sentAll ls
 
-pub data TypedRun (work room : ℕ) : Session → List (List ℕ) → List ℕ → Type 0 where
-  no-lines : {s : Session} → TypedRun work room s [] []
-  next-line : {s : Session} {ls : List (List ℕ)} {o : List ℕ} (l : List ℕ) (v : Verdict) (u : Reply) → RightTyped s (typed l) v u
-      → TypedRun work room (afterTyped s (typed l)) ls o → TypedRun work room s (l ∷ ls) (printedTyped work room s (typed l) v u ++ o)
+pub data TypedRun (work : ℕ) : Session → List ℕ → List (List ℕ) → List ℕ → Session → List ℕ → Type 0 where
+  no-lines : {s : Session} {k : List ℕ} → TypedRun work s k [] [] s k
+  next-line : {s s′ : Session} {k k′ : List ℕ} {ls : List (List ℕ)} {o : List ℕ} (l : List ℕ) (v : Verdict) (u : Reply) → RightTyped s (typed l) v u
+      → TypedRun work (afterTyped s (typed l)) (leftTyped work k s (typed l) v u) ls o s′ k′
+      → TypedRun work s k (l ∷ ls) (printedTyped work (length k) s (typed l) v u ++ o) s′ k′

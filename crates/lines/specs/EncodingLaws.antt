@@ -20,11 +20,11 @@ use Rattle.book.specs.Book.{Link, Edit, edit, undo, add, remove, lock, unlock}
 use Rattle.paths.specs.Grammar.{Verdict}
 use Rattle.paths.specs.Chains.{Reply}
 use Rattle.report.specs.Report.{bytes}
-use Rattle.session.specs.Program.{number16, twoBytes, frameOf, linkIn, Request, Frame, asks, faulty, opening, call, pairs, chain, decode, Session, nextSession, Right, printed, frameIn, Run, ended}
+use Rattle.session.specs.Program.{number16, twoBytes, frameOf, linkIn, Request, Frame, asks, faulty, opening, call, pairs, chain, decode, Session, nextSession, Right, printed, listLeft, frameIn, Run, ended}
 use Rattle.session.specs.RunLaws.{framed-as}
 use Rattle.lines.specs.Typed.{Typed, nothing, saying, fitting, word, rest, skip, sameBytes, empty, isNumber, numberOf, isLabel, labelOf, text, maxText, maxLine, hash, numbered, linked, alone, chained, requested, begun, typed}
 use Rattle.lines.specs.TypedLaws.{length-text}
-use Rattle.lines.specs.Encoding.{linkBytes, kindOf, bodyOf, frameFor, sent, maxBody, afterTyped, printedTyped, RightTyped, sentAll, TypedRun, no-lines, next-line}
+use Rattle.lines.specs.Encoding.{linkBytes, kindOf, bodyOf, frameFor, sent, maxBody, afterTyped, printedTyped, leftTyped, RightTyped, sentAll, TypedRun, no-lines, next-line}
 
 -- a number from its two bytes
 both : (n : ℕ) → n % 256 + 256 * (n / 256) ≡ n
@@ -149,28 +149,28 @@ length-body (request h) = omega arith
 length-body misfits = omega arith
 length-body unknowns = omega arith
 
-run-frame : (work room : ℕ) (s : Session) (f : Frame) (i o : List ℕ) (v : Verdict) (u : Reply) → Sendable f
-    → Right s f v u → Run work room (nextSession s f) i o → Run work room s (frameFor f ++ i) (printed work room s f v u ++ o)
+run-frame : (work : ℕ) (s s′ : Session) (k k′ : List ℕ) (f : Frame) (i o : List ℕ) (v : Verdict) (u : Reply) → Sendable f → Right s f v u
+    → Run work (nextSession s f) (listLeft work k s f v u) i o s′ k′ → Run work s k (frameFor f ++ i) (printed work (length k) s f v u ++ o) s′ k′
 unfolding frameFor frameOf twoBytes
-run-frame work room s f i o v u x right run =
+run-frame work s s′ k k′ f i o v u x right run =
     let b = bodyOf f in
-    let k = kindOf f in
+    let c = kindOf f in
     let n = length b + 2 in
     let size : n % 256 + 256 * (n / 256) ≡ n = both n in
     let short = length-body x in
-    framed-as work room (n % 256) (n / 256) (k % 256 ∷ k / 256 ∷ (b ++ i)) i o f v u
-    (frame-in (n % 256 + 256 * (n / 256)) k b i size ∙ decode-sendable x)
-    (frame-out (n % 256 + 256 * (n / 256)) (k % 256) (k / 256) b i size)
+    framed-as work {l = k} {l′ = k′} (n % 256) (n / 256) (c % 256 ∷ c / 256 ∷ (b ++ i)) i o f v u
+    (frame-in (n % 256 + 256 * (n / 256)) c b i size ∙ decode-sendable x)
+    (frame-out (n % 256 + 256 * (n / 256)) (c % 256) (c / 256) b i size)
     (omega arith) (omega arith) (omega (arith, length-append b i)) right run
 
-run-sends : (work room : ℕ) (s : Session) (t : Typed) (i o : List ℕ) (v : Verdict) (u : Reply) → Sends t
-    → RightTyped s t v u → Run work room (afterTyped s t) i o → Run work room s (sent t ++ i) (printedTyped work room s t v u ++ o)
+run-sends : (work : ℕ) (s s′ : Session) (k k′ : List ℕ) (t : Typed) (i o : List ℕ) (v : Verdict) (u : Reply) → Sends t → RightTyped s t v u
+    → Run work (afterTyped s t) (leftTyped work k s t v u) i o s′ k′ → Run work s k (sent t ++ i) (printedTyped work (length k) s t v u ++ o) s′ k′
 unfolding sent
-run-sends work room s nothing i o v u none right run = run
-run-sends work room s (saying f) i o v u (one x) right run = run-frame work room s f i o v u x right run
+run-sends work s s′ k k′ nothing i o v u none right run = run
+run-sends work s s′ k k′ (saying f) i o v u (one x) right run = run-frame work s s′ k k′ f i o v u x right run
 
-pub run-lines : {work room : ℕ} {s : Session} {ls : List (List ℕ)} {o : List ℕ} → TypedRun work room s ls o → Run work room s (sentAll ls) o
+pub run-lines : {work : ℕ} {s s′ : Session} {k k′ : List ℕ} {ls : List (List ℕ)} {o : List ℕ} → TypedRun work s k ls o s′ k′ → Run work s k (sentAll ls) o s′ k′
 unfolding sentAll
 run-lines no-lines = ended
-run-lines {work} {room} {s} (next-line {ls = ls} {o = o} l v u right run) =
-    run-sends work room s (typed l) (sentAll ls) o v u (typed-sends l) right (run-lines run)
+run-lines {work} {s} {s′} {k} {k′} (next-line {ls = ls} {o = o} l v u right run) =
+    run-sends work s s′ k k′ (typed l) (sentAll ls) o v u (typed-sends l) right (run-lines run)

@@ -26,7 +26,7 @@ use Prim.Native.Nat.{ℕ, _+_, _-_, _*_, _/_, _%_, _≤_, _<_}
 use lib.ListN.{length, getD, take, drop}
 use lib.Dec.{leb, ltb, eqb}
 use Rattle.book.specs.Basics.{pick}
-use Rattle.book.specs.Causes.{Cause, bad-size, broken-frame, unknown-kind, not-open, number}
+use Rattle.book.specs.Causes.{Cause, bad-size, broken-frame, unknown-kind, not-open, number, firstNumber}
 use Rattle.book.specs.Book.{Link, Book, Call, edit, undo, add, remove, lock, unlock, answer, next, fresh}
 use Rattle.paths.specs.Grammar.{Verdict, Judged}
 use Rattle.paths.specs.Chains.{asked, Reply}
@@ -89,7 +89,7 @@ pub data Session : Type 0 where
   opened : Book → Session
 
 unfoldable pub openAnswer : ℕ → ℕ
-openAnswer n = pick (ltb n 1 || ltb programRecords n) (number bad-size) 0
+openAnswer n = firstNumber ((bad-size, ltb n 1 || ltb programRecords n) ∷ [])
 
 -- a refused open keeps the old register
 unfoldable pub nextSession : Session → Frame → Session

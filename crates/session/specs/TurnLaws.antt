@@ -9,7 +9,7 @@ use lib.ListN.{length, take, drop, length-drop}
 use lib.Seq.{take-all}
 use lib.Dec.{ltb}
 use borrow.Author.Tests.{lt-ltb, le-ltb}
-use Rattle.book.specs.Causes.{Cause, bad-size, not-open, number, maxRecords}
+use Rattle.book.specs.Causes.{Cause, bad-size, not-open, number, firstNumber, maxRecords}
 use Rattle.book.specs.Book.{Book, Sheet, Call, edit, undo, turned, undone, editAnswer, edited, answer, next, freshAnswer, fresh}
 use Rattle.paths.specs.Grammar.{Verdict}
 use Rattle.paths.specs.Chains.{asked, Reply}
@@ -31,19 +31,19 @@ both-ways b h k = let z : _≡_ {A = ℕ} 0 1 = cc in omega arith
 
 -- ---- opening
 pub open-none : (n : ℕ) → n < 1 → openAnswer n ≡ number bad-size
-unfolding openAnswer number
+unfolding openAnswer firstNumber number
 open-none n h = rw (lt-ltb n 1 h)
 
 pub open-many : (n : ℕ) → 1 ≤ n → programRecords < n → openAnswer n ≡ number bad-size
-unfolding openAnswer number
+unfolding openAnswer firstNumber number
 open-many n h k = rw (le-ltb n 1 h, lt-ltb programRecords n k)
 
 pub open-fine : (n : ℕ) → 1 ≤ n → n ≤ programRecords → openAnswer n ≡ 0
-unfolding openAnswer
+unfolding openAnswer firstNumber number
 open-fine n h k = rw (le-ltb n 1 h, le-ltb programRecords n k)
 
 pub fresh-fine : (n : ℕ) → 1 ≤ n → n ≤ programRecords → freshAnswer n ≡ 0
-unfolding freshAnswer
+unfolding freshAnswer firstNumber number
 fresh-fine n h k = rw (le-ltb n 1 h, le-ltb maxRecords n (omega arith))
 
 -- ---- a call keeps n

@@ -1,6 +1,6 @@
 -- What the program's state says, and what a frame promises.
 --   StateOf st s    the state st is that of the session s: opened or not, and its register represents the book, of at most 64 records
---   maxLine, room list
+--   printedLine, room list
 --                   the most bytes of a line; and of all that a frame may print, if so many words of list are lent: a line for each, and one before them
 --   Spares l l′ out out′ w
 --                   a list that held l and then holds l′ is as it was, or has the answer that the w bytes printed into out say, and past it what it held
@@ -32,12 +32,12 @@ pub data StateOf : State → Session → Type 0 where
   is-closed : {st : State} → st .opened ≡ false → StateOf st unopened
   is-open : {st : State} {b : Book} → st .opened ≡ true → Represents (st .register) b → b .n ≤ programRecords → StateOf st (opened b)
 
-abbrev pub maxLine : ℕ
-maxLine = 13
+abbrev pub printedLine : ℕ
+printedLine = 13
 
 -- the line before them, and a refusal, take no more than three such
 abbrev pub room : ℕ → ℕ
-room list = maxLine * (list + 3)
+room list = printedLine * (list + 3)
 
 pub data Spares (l l′ out out′ : List ℕ) (w : ℕ) : Type 0 where
   as-it-was : l′ ≡ l → Spares l l′ out out′ w
