@@ -49,10 +49,10 @@ long : (c : tie.After-decoded3) → 4 ≤ length (now (c .before .before .before
 long c = subst (λ d. Long d (now (c .before .before .before .before .before .before .before .before .args .body))) (c .decoded3 .given .1) (c .before .before .decode .ensures .1)
 
 sub-ask-chain : tie.Need-sub-ask-chain
-sub-ask-chain c = long (c .before)
+sub-ask-chain c = omega (arith, long (c .before))
 
 part-ask-chain-start : tie.Need-part-ask-chain-start
-part-ask-chain-start c = long (c .before)
+part-ask-chain-start c = omega (arith, long (c .before))
 
 part-ask-chain-end : tie.Need-part-ask-chain-end
 part-ask-chain-end c = search needs
