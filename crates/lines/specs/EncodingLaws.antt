@@ -118,12 +118,14 @@ says-sendable : {f : Frame} (t : Typed) → Sends t → t ≡ saying f → Senda
 says-sendable nothing none e = absurd (let z : _≡_ {A = ℕ} 0 1 = cc in omega arith)
 says-sendable {f} (saying g) (one x) e = let h : g ≡ f = cc in subst (λ (k : Frame). Sendable k) h x
 
-pub decode-line : (s : List ℕ) (f : Frame) → typed s ≡ saying f → (sent (typed s) ≡ frameOf (kindOf f) (bodyOf f)) × (decode (kindOf f) (bodyOf f) ≡ f)
+pub decode-line : (s : List ℕ) (f : Frame) → typed s ≡ saying f
+    → (sent (typed s) ≡ frameOf (kindOf f) (bodyOf f)) × (decode (kindOf f) (bodyOf f) ≡ f)
 unfolding sent frameFor
 decode-line s f e = (rw e, decode-sendable (says-sendable (typed s) (typed-sends s) e))
 
 -- a frame from its four bytes in front and the two parts of its body
-pub frame-parts : (k : ℕ) (h t : List ℕ) → k < 256 → (((length h + length t + 2) % 256 ∷ (length h + length t + 2) / 256 ∷ k ∷ 0 ∷ []) ++ h) ++ t ≡ frameOf k (h ++ t)
+pub frame-parts : (k : ℕ) (h t : List ℕ) → k < 256
+    → (((length h + length t + 2) % 256 ∷ (length h + length t + 2) / 256 ∷ k ∷ 0 ∷ []) ++ h) ++ t ≡ frameOf k (h ++ t)
 unfolding frameOf twoBytes
 frame-parts k h t b =
     let low : k % 256 ≡ k = omega arith in

@@ -67,7 +67,8 @@ pub number-below : (v : ℕ) (w : List ℕ) (i : ℕ) → i < length w → getD 
 unfolding readAfter allFigures figure numberAfter read
 number-below v w i h l = rw (drop-cons w i 0 h, lt-leb figure-0 (getD w i 0) l)
 
-pub number-above : (v : ℕ) (w : List ℕ) (i : ℕ) → i < length w → figure-0 ≤ getD w i 0 → figure-0 + 10 ≤ getD w i 0 → readAfter v (drop i w) ≡ unfit
+pub number-above : (v : ℕ) (w : List ℕ) (i : ℕ) → i < length w → figure-0 ≤ getD w i 0 → figure-0 + 10 ≤ getD w i 0
+    → readAfter v (drop i w) ≡ unfit
 unfolding readAfter allFigures figure numberAfter read
 number-above v w i h l m = rw (drop-cons w i 0 h, le-leb figure-0 (getD w i 0) l, le-ltb (getD w i 0) (figure-0 + 10) m)
 
@@ -114,7 +115,8 @@ label-above (c ∷ []) h l =
     rw (le-leb letter-a c k, le-ltb c (letter-a + labels) l)
 label-above (c ∷ d ∷ w) h l = refl
 
-pub label-is : (w : List ℕ) → length w ≡ 1 → letter-a ≤ getD w 0 0 → getD w 0 0 < letter-a + labels → read (isLabel w) (labelOf w) ≡ getD w 0 0 - letter-a
+pub label-is : (w : List ℕ) → length w ≡ 1 → letter-a ≤ getD w 0 0 → getD w 0 0 < letter-a + labels
+    → read (isLabel w) (labelOf w) ≡ getD w 0 0 - letter-a
 unfolding read isLabel labelOf
 label-is [] h l m = absurd (omega arith)
 label-is (c ∷ []) h l m = rw (le-leb letter-a c l, lt-ltb c (letter-a + labels) m)

@@ -69,7 +69,8 @@ pub word-none : (s : List ℕ) (i : ℕ) → length s ≤ i → length (word (dr
 unfolding word
 word-none s i h = rw (drop-of-length-le s h)
 
-take-word-by : (c : ℕ) (s : List ℕ) (b : Bool) → blank c ≡ b → take (length (word s)) s ≡ word s → take (length (word (c ∷ s))) (c ∷ s) ≡ word (c ∷ s)
+take-word-by : (c : ℕ) (s : List ℕ) (b : Bool) → blank c ≡ b → take (length (word s)) s ≡ word s
+    → take (length (word (c ∷ s))) (c ∷ s) ≡ word (c ∷ s)
 unfolding word
 take-word-by c s true e h = rw e
 take-word-by c s false e h = rw e (ap (λ (t : List ℕ). c ∷ t) h)
@@ -111,11 +112,13 @@ unfolding text
 length-text s = omega (arith, length-take maxText (trim s))
 
 -- ---- the same text
-pub same-next : (s t : List ℕ) (i : ℕ) → i < length s → i < length t → getD s i 0 ≡ getD t i 0 → sameBytes (drop (i + 1) s) (drop (i + 1) t) ≡ sameBytes (drop i s) (drop i t)
+pub same-next : (s t : List ℕ) (i : ℕ) → i < length s → i < length t → getD s i 0 ≡ getD t i 0
+    → sameBytes (drop (i + 1) s) (drop (i + 1) t) ≡ sameBytes (drop i s) (drop i t)
 unfolding sameBytes
 same-next s t i h k e = rw (add-one i, drop-cons s i 0 h, drop-cons t i 0 k, eq-eqb (getD s i 0) (getD t i 0) e)
 
-pub same-not : (s t : List ℕ) (i : ℕ) → i < length s → i < length t → (getD s i 0 ≡ getD t i 0 → ⊥) → sameBytes (drop i s) (drop i t) ≡ false
+pub same-not : (s t : List ℕ) (i : ℕ) → i < length s → i < length t → (getD s i 0 ≡ getD t i 0 → ⊥)
+    → sameBytes (drop i s) (drop i t) ≡ false
 unfolding sameBytes
 same-not s t i h k e = rw (drop-cons s i 0 h, drop-cons t i 0 k, ne-eqb (getD s i 0) (getD t i 0) e)
 

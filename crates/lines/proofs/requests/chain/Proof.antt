@@ -34,9 +34,13 @@ same-length c = search needs
 
 returns : tie.Need-returns
 returns c =
-    wrote-as (ap sent (sym (chained-not-from (now (c .before .before .before .before .before .before .before .before .before .before .before .before .args .s))
-    (c .before .before .before .before .before .before .before .before .before .number .ensures) (c .before .before .before .before .before .before .before .before .rest .ensures)
-    (c .before .before .before .before .before .before .before .number2 .ensures) (c .before .before .before .before .before .before .rest2 .ensures) (c .before .before .before .before .before .text .ensures)
+    let v = c .before .before .before .before .before in
+    let u = v .before in
+    let y = u .before in
+    let t = y .before in
+    let x = t .before in
+    let s = now (x .before .before .before .args .s) in
+    wrote-as (ap sent (sym (chained-not-from s (x .number .ensures) (t .rest .ensures) (y .number2 .ensures) (u .rest2 .ensures) (v .text .ensures)
     (c .before .before .before .before .if1 .taken))))
     (c .before .before .broken .ensures)
 
@@ -48,9 +52,13 @@ same-length-2 c = search needs
 
 returns-2 : tie.Need-returns-2
 returns-2 c =
-    wrote-as (ap sent (sym (chained-not-to (now (c .before .before .before .before .before .before .before .before .before .before .before .before .before .args .s))
-    (c .before .before .before .before .before .before .before .before .before .before .number .ensures) (c .before .before .before .before .before .before .before .before .before .rest .ensures)
-    (c .before .before .before .before .before .before .before .before .number2 .ensures) (c .before .before .before .before .before .before .before .rest2 .ensures) (c .before .before .before .before .before .before .text .ensures)
+    let v = c .before .before .before .before .before .before in
+    let u = v .before in
+    let y = u .before in
+    let t = y .before in
+    let x = t .before in
+    let s = now (x .before .before .before .args .s) in
+    wrote-as (ap sent (sym (chained-not-to s (x .number .ensures) (t .rest .ensures) (y .number2 .ensures) (u .rest2 .ensures) (v .text .ensures)
     (c .before .before .before .before .before .if1 .left) (c .before .before .before .before .if2 .taken))))
     (c .before .before .broken2 .ensures)
 
@@ -61,7 +69,9 @@ cast-put-chain-2 : tie.Need-cast-put-chain-2
 cast-put-chain-2 c = search needs
 
 put-chain-requires : tie.Need-put-chain-requires
-put-chain-requires c κs = (omega (arith, ap length (c .before .before .before .text .ensures), length-text (now (c .before .before .before .before .rest2 .result))), search needs)
+put-chain-requires c κs =
+    let v = c .before .before .before in
+    (omega (arith, ap length (v .text .ensures), length-text (now (v .before .rest2 .result))), search needs)
 
 same-length-3 : tie.Need-same-length-3
 same-length-3 c = search needs
@@ -69,9 +79,13 @@ same-length-3 c = search needs
 returns-3 : tie.Need-returns-3
 unfolding sent frameFor kindOf bodyOf
 returns-3 c =
-    wrote-as (ap sent (sym (chained-is (now (c .before .before .before .before .before .before .before .before .before .before .before .before .before .args .s))
-    (c .before .before .before .before .before .before .before .before .before .before .number .ensures) (c .before .before .before .before .before .before .before .before .before .rest .ensures)
-    (c .before .before .before .before .before .before .before .before .number2 .ensures) (c .before .before .before .before .before .before .before .rest2 .ensures) (c .before .before .before .before .before .before .text .ensures)
+    let v = c .before .before .before .before .before .before in
+    let u = v .before in
+    let y = u .before in
+    let t = y .before in
+    let x = t .before in
+    let s = now (x .before .before .before .args .s) in
+    wrote-as (ap sent (sym (chained-is s (x .number .ensures) (t .rest .ensures) (y .number2 .ensures) (u .rest2 .ensures) (v .text .ensures)
     (c .before .before .before .before .before .if1 .left) (c .before .before .before .before .if2 .left))))
     (c .before .before .put-chain .ensures)
 

@@ -26,10 +26,13 @@ skip-requires c κs = search needs
 returns-2 : tie.Need-returns-2
 unfolding sent
 returns-2 c =
-    let line = now (c .before .before .before .before .before .args .line) in
-    let t = now (c .before .skip .result) in
-    let from-word : typed line ≡ begun t = typed-short line (c .before .before .if1 .left) ∙ ap begun (sym (c .before .skip .ensures)) in
-    wrote-as (ap sent (sym (from-word ∙ begun-none t (c .if2 .taken)))) (wrote-none 0 (now (c .before .before .before .before .before .args .out)) (omega arith))
+    let k = c .before in
+    let e = k .before in
+    let a = e .before .before .before .args in
+    let line = now (a .line) in
+    let t = now (k .skip .result) in
+    let from-word : typed line ≡ begun t = typed-short line (e .if1 .left) ∙ ap begun (sym (k .skip .ensures)) in
+    wrote-as (ap sent (sym (from-word ∙ begun-none t (c .if2 .taken)))) (wrote-none 0 (now (a .out)) (omega arith))
 
 shared-slice-read-if3 : tie.Need-shared-slice-read-if3
 shared-slice-read-if3 c = search needs
@@ -37,10 +40,13 @@ shared-slice-read-if3 c = search needs
 returns-3 : tie.Need-returns-3
 unfolding sent
 returns-3 c =
-    let line = now (c .before .before .before .before .before .before .before .args .line) in
-    let t = now (c .before .before .before .skip .result) in
-    let from-word : typed line ≡ begun t = typed-short line (c .before .before .before .before .if1 .left) ∙ ap begun (sym (c .before .before .before .skip .ensures)) in
-    wrote-as (ap sent (sym (from-word ∙ begun-comment t (c .if3 .taken)))) (wrote-none 0 (now (c .before .before .before .before .before .before .before .args .out)) (omega arith))
+    let k = c .before .before .before in
+    let e = k .before in
+    let a = e .before .before .before .args in
+    let line = now (a .line) in
+    let t = now (k .skip .result) in
+    let from-word : typed line ≡ begun t = typed-short line (e .if1 .left) ∙ ap begun (sym (k .skip .ensures)) in
+    wrote-as (ap sent (sym (from-word ∙ begun-comment t (c .if3 .taken)))) (wrote-none 0 (now (a .out)) (omega arith))
 
 word-requires : tie.Need-word-requires
 word-requires c κs = search needs
@@ -56,9 +62,12 @@ same-length-2 c = search needs
 
 returns-4 : tie.Need-returns-4
 returns-4 c =
-    let line = now (c .before .before .before .before .before .before .before .before .before .before .before .before .before .args .line) in
-    let t = now (c .before .before .before .before .before .before .before .before .before .skip .result) in
-    let from-word : typed line ≡ begun t = typed-short line (c .before .before .before .before .before .before .before .before .before .before .if1 .left) ∙ ap begun (sym (c .before .before .before .before .before .before .before .before .before .skip .ensures)) in
+    let k = c .before .before .before .before .before .before .before .before .before in
+    let e = k .before in
+    let a = e .before .before .before .args in
+    let line = now (a .line) in
+    let t = now (k .skip .result) in
+    let from-word : typed line ≡ begun t = typed-short line (e .if1 .left) ∙ ap begun (sym (k .skip .ensures)) in
     let w = c .before .before .before .before .before .word in
     let r = c .before .before .before .before .rest in
     let parts : requested (word t) (rest t) ≡ requested (now (w .result)) (now (r .result)) = rw (w .ensures, r .ensures) in

@@ -38,11 +38,14 @@ same-length c = search needs
 
 returns : tie.Need-returns
 returns c =
-    let s = now (c .before .before .before .before .before .before .before .before .before .before .before .before .before .args .s) in
-    λ f g. wrote-as (ap sent (sym (linked-not-from s
-    (c .before .before .before .before .before .before .before .before .before .before .number .ensures) (c .before .before .before .before .before .before .before .before .before .rest .ensures)
-    (c .before .before .before .before .before .before .before .before .label .ensures) (c .before .before .before .before .before .before .before .rest2 .ensures)
-    (c .before .before .before .before .before .before .number2 .ensures) (c .before .before .before .before .before .rest3 .ensures) f
+    let v = c .before .before .before .before .before in
+    let y = v .before in
+    let u = y .before in
+    let l = u .before in
+    let t = l .before in
+    let x = t .before in
+    let s = now (x .before .before .before .args .s) in
+    λ f g. wrote-as (ap sent (sym (linked-not-from s (x .number .ensures) (t .rest .ensures) (l .label .ensures) (u .rest2 .ensures) (y .number2 .ensures) (v .rest3 .ensures) f
     (c .before .before .before .before .if1 .taken))))
     (c .before .before .broken .ensures)
 
@@ -54,11 +57,14 @@ same-length-2 c = search needs
 
 returns-2 : tie.Need-returns-2
 returns-2 c =
-    let s = now (c .before .before .before .before .before .before .before .before .before .before .before .before .before .before .args .s) in
-    λ f g. wrote-as (ap sent (sym (linked-not-label s
-    (c .before .before .before .before .before .before .before .before .before .before .before .number .ensures) (c .before .before .before .before .before .before .before .before .before .before .rest .ensures)
-    (c .before .before .before .before .before .before .before .before .before .label .ensures) (c .before .before .before .before .before .before .before .before .rest2 .ensures)
-    (c .before .before .before .before .before .before .before .number2 .ensures) (c .before .before .before .before .before .before .rest3 .ensures) f
+    let v = c .before .before .before .before .before .before in
+    let y = v .before in
+    let u = y .before in
+    let l = u .before in
+    let t = l .before in
+    let x = t .before in
+    let s = now (x .before .before .before .args .s) in
+    λ f g. wrote-as (ap sent (sym (linked-not-label s (x .number .ensures) (t .rest .ensures) (l .label .ensures) (u .rest2 .ensures) (y .number2 .ensures) (v .rest3 .ensures) f
     (c .before .before .before .before .before .if1 .left) (c .before .before .before .before .if2 .taken))))
     (c .before .before .broken2 .ensures)
 
@@ -70,11 +76,14 @@ same-length-3 c = search needs
 
 returns-3 : tie.Need-returns-3
 returns-3 c =
-    let s = now (c .before .before .before .before .before .before .before .before .before .before .before .before .before .before .before .args .s) in
-    λ f g. wrote-as (ap sent (sym (linked-not-to s
-    (c .before .before .before .before .before .before .before .before .before .before .before .before .number .ensures) (c .before .before .before .before .before .before .before .before .before .before .before .rest .ensures)
-    (c .before .before .before .before .before .before .before .before .before .before .label .ensures) (c .before .before .before .before .before .before .before .before .before .rest2 .ensures)
-    (c .before .before .before .before .before .before .before .before .number2 .ensures) (c .before .before .before .before .before .before .before .rest3 .ensures) f
+    let v = c .before .before .before .before .before .before .before in
+    let y = v .before in
+    let u = y .before in
+    let l = u .before in
+    let t = l .before in
+    let x = t .before in
+    let s = now (x .before .before .before .args .s) in
+    λ f g. wrote-as (ap sent (sym (linked-not-to s (x .number .ensures) (t .rest .ensures) (l .label .ensures) (u .rest2 .ensures) (y .number2 .ensures) (v .rest3 .ensures) f
     (c .before .before .before .before .before .before .if1 .left) (c .before .before .before .before .before .if2 .left) (c .before .before .before .before .if3 .taken))))
     (c .before .before .broken3 .ensures)
 
@@ -86,11 +95,14 @@ same-length-4 c = search needs
 
 returns-4 : tie.Need-returns-4
 returns-4 c =
-    let s = now (c .before .before .before .before .before .before .before .before .before .before .before .before .before .before .before .before .args .s) in
-    λ f g. wrote-as (ap sent (sym (linked-more s
-    (c .before .before .before .before .before .before .before .before .before .before .before .before .before .number .ensures) (c .before .before .before .before .before .before .before .before .before .before .before .before .rest .ensures)
-    (c .before .before .before .before .before .before .before .before .before .before .before .label .ensures) (c .before .before .before .before .before .before .before .before .before .before .rest2 .ensures)
-    (c .before .before .before .before .before .before .before .before .before .number2 .ensures) (c .before .before .before .before .before .before .before .before .rest3 .ensures) f
+    let v = c .before .before .before .before .before .before .before .before in
+    let y = v .before in
+    let u = y .before in
+    let l = u .before in
+    let t = l .before in
+    let x = t .before in
+    let s = now (x .before .before .before .args .s) in
+    λ f g. wrote-as (ap sent (sym (linked-more s (x .number .ensures) (t .rest .ensures) (l .label .ensures) (u .rest2 .ensures) (y .number2 .ensures) (v .rest3 .ensures) f
     (c .before .before .before .before .before .before .before .if1 .left) (c .before .before .before .before .before .before .if2 .left) (c .before .before .before .before .before .if3 .left) (c .before .before .before .before .if4 .taken))))
     (c .before .before .broken4 .ensures)
 
@@ -98,7 +110,9 @@ cast-put-link : tie.Need-cast-put-link
 cast-put-link c = search needs
 
 cast-put-link-2 : tie.Need-cast-put-link-2
-cast-put-link-2 c = omega (arith, label-under (word (now (c .before .before .before .before .before .before .before .before .rest .result))) (c .before .before .before .before .before .before .before .label .result) (c .before .before .before .before .before .before .before .label .ensures) (c .before .before .if2 .left))
+cast-put-link-2 c =
+    let l = c .before .before .before .before .before .before .before in
+    omega (arith, label-under (word (now (l .before .rest .result))) (l .label .result) (l .label .ensures) (c .before .before .if2 .left))
 
 cast-put-link-3 : tie.Need-cast-put-link-3
 cast-put-link-3 c = search needs
@@ -112,12 +126,15 @@ same-length-5 c = search needs
 returns-5 : tie.Need-returns-5
 unfolding sent linkBytes
 returns-5 c =
-    let s = now (c .before .before .before .before .before .before .before .before .before .before .before .before .before .before .before .before .args .s) in
-    let k : Link = record { from = c .before .before .before .before .before .before .before .before .before .before .before .before .before .number .result; label = c .before .before .before .before .before .before .before .before .before .before .before .label .result; to = c .before .before .before .before .before .before .before .before .before .number2 .result } in
-    λ f g. wrote-as (sym (g k) ∙ ap sent (sym (linked-is s
-    (c .before .before .before .before .before .before .before .before .before .before .before .before .before .number .ensures) (c .before .before .before .before .before .before .before .before .before .before .before .before .rest .ensures)
-    (c .before .before .before .before .before .before .before .before .before .before .before .label .ensures) (c .before .before .before .before .before .before .before .before .before .before .rest2 .ensures)
-    (c .before .before .before .before .before .before .before .before .before .number2 .ensures) (c .before .before .before .before .before .before .before .before .rest3 .ensures) f
+    let v = c .before .before .before .before .before .before .before .before in
+    let y = v .before in
+    let u = y .before in
+    let l = u .before in
+    let t = l .before in
+    let x = t .before in
+    let s = now (x .before .before .before .args .s) in
+    let k : Link = record { from = x .number .result; label = l .label .result; to = y .number2 .result } in
+    λ f g. wrote-as (sym (g k) ∙ ap sent (sym (linked-is s (x .number .ensures) (t .rest .ensures) (l .label .ensures) (u .rest2 .ensures) (y .number2 .ensures) (v .rest3 .ensures) f
     (c .before .before .before .before .before .before .before .if1 .left) (c .before .before .before .before .before .before .if2 .left) (c .before .before .before .before .before .if3 .left) (c .before .before .before .before .if4 .left))))
     (c .before .before .put-link .ensures)
 

@@ -22,8 +22,10 @@ same-length c = search needs
 
 returns : tie.Need-returns
 returns c =
-    let s = now (c .before .before .before .before .before .before .before .before .before .args .s) in
-    λ f g. wrote-as (ap sent (sym (numbered-not s (c .before .before .before .before .before .before .number .ensures) (c .before .before .before .before .before .rest .ensures) f (c .before .before .before .before .if1 .taken)))) (c .before .before .broken .ensures)
+    let u = c .before .before .before .before .before in
+    let n = u .before in
+    let s = now (n .before .before .before .args .s) in
+    λ f g. wrote-as (ap sent (sym (numbered-not s (n .number .ensures) (u .rest .ensures) f (c .before .before .before .before .if1 .taken)))) (c .before .before .broken .ensures)
 
 broken-requires-2 : tie.Need-broken-requires-2
 broken-requires-2 c κs = search needs
@@ -33,8 +35,10 @@ same-length-2 c = search needs
 
 returns-2 : tie.Need-returns-2
 returns-2 c =
-    let s = now (c .before .before .before .before .before .before .before .before .before .before .args .s) in
-    λ f g. wrote-as (ap sent (sym (numbered-more s (c .before .before .before .before .before .before .before .number .ensures) (c .before .before .before .before .before .before .rest .ensures) f (c .before .before .before .before .if2 .taken)))) (c .before .before .broken2 .ensures)
+    let u = c .before .before .before .before .before .before in
+    let n = u .before in
+    let s = now (n .before .before .before .args .s) in
+    λ f g. wrote-as (ap sent (sym (numbered-more s (n .number .ensures) (u .rest .ensures) f (c .before .before .before .before .if2 .taken)))) (c .before .before .broken2 .ensures)
 
 cast-put-number : tie.Need-cast-put-number
 cast-put-number c = search needs
@@ -48,8 +52,10 @@ same-length-3 c = search needs
 returns-3 : tie.Need-returns-3
 unfolding sent
 returns-3 c =
-    let s = now (c .before .before .before .before .before .before .before .before .before .before .args .s) in
-    λ f g. wrote-as (sym (g (c .before .before .before .before .before .before .before .number .result)) ∙ ap sent (sym (numbered-is s (c .before .before .before .before .before .before .before .number .ensures) (c .before .before .before .before .before .before .rest .ensures) f (c .before .before .before .before .before .if1 .left) (c .before .before .before .before .if2 .left)))) (c .before .before .put-number .ensures)
+    let u = c .before .before .before .before .before .before in
+    let n = u .before in
+    let s = now (n .before .before .before .args .s) in
+    λ f g. wrote-as (sym (g (n .number .result)) ∙ ap sent (sym (numbered-is s (n .number .ensures) (u .rest .ensures) f (c .before .before .before .before .before .if1 .left) (c .before .before .before .before .if2 .left)))) (c .before .before .put-number .ensures)
 
 pub numbered-spec : {M : Type 1} → statement M
 numbered-spec =

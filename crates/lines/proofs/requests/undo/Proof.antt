@@ -18,7 +18,10 @@ same-length : tie.Need-same-length
 same-length c = search needs
 
 returns : tie.Need-returns
-returns c = wrote-as (ap sent (sym (alone-more (call undo) (now (c .before .before .before .before .before .before .before .args .s)) (c .before .before .before .before .if1 .taken)))) (c .before .before .broken .ensures)
+returns c =
+    let t = c .before .before .before .before in
+    let s = now (t .before .before .before .args .s) in
+    wrote-as (ap sent (sym (alone-more (call undo) s (t .if1 .taken)))) (c .before .before .broken .ensures)
 
 slice-aggregate-put-frame : tie.Need-slice-aggregate-put-frame
 slice-aggregate-put-frame c = search needs
@@ -34,7 +37,10 @@ same-length-2 c = search needs
 
 returns-2 : tie.Need-returns-2
 unfolding sent frameFor kindOf bodyOf
-returns-2 c = wrote-as (ap sent (sym (alone-is (call undo) (now (c .before .before .before .before .before .before .before .before .before .args .s)) (c .before .before .before .before .before .before .if1 .left)))) (c .before .before .put-frame .ensures)
+returns-2 c =
+    let t = c .before .before .before .before .before .before in
+    let s = now (t .before .before .before .args .s) in
+    wrote-as (ap sent (sym (alone-is (call undo) s (t .if1 .left)))) (c .before .before .put-frame .ensures)
 
 pub undo-spec : {M : Type 1} → statement M
 undo-spec =

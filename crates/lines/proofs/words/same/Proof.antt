@@ -30,8 +30,9 @@ shared-slice-read-if2-2 c = omega arith
 
 returns-2 : tie.Need-returns-2 Inv-loop μ-loop
 returns-2 c =
-    let l = c .before .before .before .before .loop in
-    sym (same-not (now (c .before .before .before .before .before .before .args .a)) (now (c .before .before .before .before .before .before .args .b)) (l .i) (omega arith) (omega arith) (c .if2 .taken)) ∙ l .inv .1
+    let l = c .before .before .before .before in
+    let a = l .before .before .args in
+    sym (same-not (now (a .a)) (now (a .b)) (l .loop .i) (omega arith) (omega arith) (c .if2 .taken)) ∙ l .loop .inv .1
 
 add-i : tie.Need-add-i Inv-loop μ-loop
 add-i c = omega arith
@@ -41,8 +42,9 @@ loop-less c = omega arith
 
 loop-again : tie.Need-loop-again Inv-loop μ-loop
 loop-again c =
-    let l = c .before .before .before .before .loop in
-    (omega arith, same-next (now (c .before .before .before .before .before .before .args .a)) (now (c .before .before .before .before .before .before .args .b)) (l .i) (omega arith) (omega arith) (c .if2 .left) ∙ l .inv .1)
+    let l = c .before .before .before .before in
+    let a = l .before .before .args in
+    (omega arith, same-next (now (a .a)) (now (a .b)) (l .loop .i) (omega arith) (omega arith) (c .if2 .left) ∙ l .loop .inv .1)
 
 returns-3 : tie.Need-returns-3 Inv-loop μ-loop
 returns-3 c =
