@@ -1,4 +1,4 @@
-//! Made-up sheets of one density for n from 64 to 1,024: four links to a record, early letters the commoner.
+//! Made-up sheets for n from 64 to 1,024: of one density, four links to a record, early letters the commoner; and rings.
 
 use crate::sheet::{Link, Question, Sheet};
 
@@ -70,9 +70,21 @@ pub fn sheet(n: u32) -> Sheet {
     sheet
 }
 
+/// The most letters that an expression may have.
+const LETTERS: usize = 63;
+
+/// A ring of n records, asked for the longest chain that a sheet of that size has: with n a power of 2, as in the growth table, it has 63 × n steps.
+pub fn ring(n: u32) -> Sheet {
+    let links = (0..n).map(|from| Link { from, label: 0, to: (from + 1) % n }).collect();
+    let expression = format!("({})+", ["a"; LETTERS].join("/"));
+    let longest = Question::Chain { class: "chain-longest".into(), from: 0, to: 0, expression };
+    Sheet { name: format!("ring-{n}"), n, links, questions: vec![longest] }
+}
+
 #[cfg(test)]
 mod tests {
     use super::*;
+    use crate::system::{ask, LIST};
     use crate::{plain, runner};
 
     #[test]
@@ -81,6 +93,16 @@ mod tests {
             let sheet = sheet(n);
             assert_eq!(sheet, super::sheet(n));
             runner::run(plain::PEER, &sheet, true, &mut Vec::new()).unwrap();
+        }
+    }
+
+    #[test]
+    fn the_longest_chain_of_a_ring_has_a_step_for_each_record_and_letter() {
+        for n in [64, 1024] {
+            let mut list = vec![0; LIST];
+            let sheet = ring(n);
+            let mut system = (plain::PEER.load)(n, &sheet.links).unwrap();
+            assert_eq!(ask(&mut *system, &sheet.questions[0], &mut list), Ok(Some(LETTERS * n as usize)));
         }
     }
 }

@@ -1,6 +1,6 @@
 //! `compare FILE..`: a table for each sheet, with differences from the answers stored beside it.
 //! `compare --check FILE..`: each question once, differences only.
-//! `compare --growth`: made-up sheets with n from 64 to 1,024.
+//! `compare --growth`: made-up sheets and rings with n from 64 to 1,024.
 //! Each fails if there is a difference.
 
 use bench::answer::once;
@@ -62,8 +62,12 @@ fn check(files: &[&str]) -> Result<usize, String> {
 }
 
 fn growth() -> Result<usize, String> {
-    let sheets = [64, 128, 256, 512, 1024].map(made::sheet);
-    let growth = sheets.iter().map(|sheet| compare(PEERS, sheet, None, once())).collect::<Result<_, _>>().map(Growth)?;
-    println!("{growth}");
-    Ok(growth.0.iter().map(|comparison| comparison.differences.len()).sum())
+    let mut differences = 0;
+    for make in [made::sheet, made::ring] {
+        let sheets = [64, 128, 256, 512, 1024].map(make);
+        let growth = sheets.iter().map(|sheet| compare(PEERS, sheet, None, once())).collect::<Result<_, _>>().map(Growth)?;
+        println!("{growth}");
+        differences += growth.0.iter().map(|comparison| comparison.differences.len()).sum::<usize>();
+    }
+    Ok(differences)
 }

@@ -25,7 +25,7 @@ use Rattle.register.specs.Links.{linkWord, linkOf, Linked}
 use Rattle.register.specs.LinkLaws.{linkOf-word}
 use Rattle.register.specs.Calls.{Represents}
 use Rattle.automaton.specs.WalkLaws.{length-stepWords}
-use Rattle.search.specs.Arcs.{Spans}
+use Rattle.arcs.specs.Arcs.{Spans}
 use Rattle.search.specs.Steps.{Untouched, written, none as none-found, too-long, Answered, first, none, short}
 use Rattle.search.specs.declared.Found.{Found}
 use Rattle.search.specs.declared.Found.the-variants.{Steps, Nowhere, Short}

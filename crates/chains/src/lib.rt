@@ -9,7 +9,7 @@ ghost use Rattle.paths.specs.Chains.{Graph};
 ghost use Rattle.paths.specs.ChainLaws.{Inside};
 ghost use Rattle.paths.specs.Verdicts.{InLimits};
 ghost use Rattle.reader.specs.Code.{code};
-ghost use Rattle.search.specs.Arcs.{Spans};
+ghost use Rattle.arcs.specs.Arcs.{Spans};
 ghost use Rattle.search.specs.Steps.{Untouched, Answered};
 ghost use Rattle.chains.specs.Replies.{Replies};
 use reader::Answer;

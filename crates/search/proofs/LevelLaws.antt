@@ -2,7 +2,7 @@
 -- Assumes nothing.
 use mathlib.Core.Path.{_≡_, refl, sym, _∙_, subst}
 use mathlib.Core.List.{List, [], _∷_}
-use mathlib.Core.Bool.{true, false}
+use mathlib.Core.Bool.{true}
 use Prim.Native.Nat.{ℕ, zero, suc, _+_, _*_, _/_, _%_, _≤_, _<_}
 use native.Mathlib.Nat.{one-mul, zero-mul}
 use native.Mathlib.Omega.{arith}
@@ -10,17 +10,19 @@ use native.Mathlib.Decide.{decLt}
 use lib.ListN.{length, getD, set, replicate, length-replicate, List·getD-eq-default}
 use lib.Seq.{getD-set-same, getD-set-other}
 use Rattle.k2.specs.Bits.{digit, bitAt, onesBelow}
+use Rattle.k2.specs.BitLaws.{ones-le}
 use Rattle.k2.specs.DigitLaws.{digit-lt, digit-none}
 use Rattle.paths.specs.Chains.{Graph, Step, crossing}
 use Rattle.automaton.specs.Automata.{On, Automaton}
 use Rattle.automaton.specs.Masks.{letterNumber}
 use Rattle.automaton.specs.Searches.{Walk, Moves, Reach, Shut, Known, Grown}
 use Rattle.automaton.specs.LevelLaws.{walk-stop, walk-ends, known-grown, known-none, Which, less, same, more, which}
-use Rattle.search.specs.Arcs.{arcFrom, arcTo, arcLetter, letterOf, arcStep, Setting}
-use Rattle.search.specs.Levels.{numberAt, distance, Levelled, Stamped, Committed, Any, some, empty, Sought, found}
-use Rattle.search.proofs.LowestLaws.{Digit, is-on, is-off, digit-of, none-on}
+use Rattle.arcs.specs.Arcs.{arcFrom, arcTo, arcLetter, letterOf, arcStep}
+use Rattle.arcs.specs.ArcLaws.{none-on, number-letter}
+use Rattle.search.specs.Levels.{Setting, numberAt, distance, Levelled, Stamped, Committed, Sought, found}
+use Rattle.search.specs.Frontiers.{Zero}
+use Rattle.search.proofs.LowestLaws.{Digit, is-on, is-off, digit-of}
 use Rattle.search.proofs.MaskLaws.{zero-at}
-use Rattle.search.proofs.ArcLaws.{number-letter}
 
 -- ---- the number counts where the state was seen
 module _ (w seen : List ℕ) (r q : ℕ) where
@@ -43,15 +45,15 @@ module _ (w seen : List ℕ) (r q : ℕ) where
       go (is-off e) = absurd (let z = distance-off e in omega arith)
 
 -- ---- how many bits are set
-ones-le : (f g : ℕ → ℕ) (k : ℕ) → ((i : ℕ) → i < k → f i ≤ g i) → onesBelow f k ≤ onesBelow g k
+pub ones-mono : (f g : ℕ → ℕ) (k : ℕ) → ((i : ℕ) → i < k → f i ≤ g i) → onesBelow f k ≤ onesBelow g k
 unfolding onesBelow
-ones-le f g zero h = omega arith
-ones-le f g (suc k) h = let z = ones-le f g k (λ i l. h i (omega arith)) in let y = h k (omega arith) in omega arith
+ones-mono f g zero h = omega arith
+ones-mono f g (suc k) h = let z = ones-mono f g k (λ i l. h i (omega arith)) in let y = h k (omega arith) in omega arith
 
-ones-less : (f g : ℕ → ℕ) (k j : ℕ) → ((i : ℕ) → i < k → f i ≤ g i) → j < k → f j < g j → onesBelow f k < onesBelow g k
+pub ones-less : (f g : ℕ → ℕ) (k j : ℕ) → ((i : ℕ) → i < k → f i ≤ g i) → j < k → f j < g j → onesBelow f k < onesBelow g k
 unfolding onesBelow
 ones-less f g zero j h l s = absurd (omega arith)
-ones-less f g (suc k) j h l s = go (which j k) (ones-less f g k j (λ i m. h i (omega arith))) (ones-le f g k (λ i m. h i (omega arith))) (h k (omega arith))
+ones-less f g (suc k) j h l s = go (which j k) (ones-less f g k j (λ i m. h i (omega arith))) (ones-mono f g k (λ i m. h i (omega arith))) (h k (omega arith))
   where
     go : Which j k → (j < k → f j < g j → onesBelow f k < onesBelow g k) → onesBelow f k ≤ onesBelow g k → f k ≤ g k → onesBelow f k + f k < onesBelow g k + g k
     go (less m) ih a b = let z = ih m s in omega arith
@@ -59,15 +61,14 @@ ones-less f g (suc k) j h l s = go (which j k) (ones-less f g k j (λ i m. h i (
     go (more m) ih a b = absurd (omega arith)
 
 pub ones-most : (ws : List ℕ) (k : ℕ) → onesBelow (bitAt ws) k ≤ k
-unfolding onesBelow bitAt
-ones-most ws zero = omega arith
-ones-most ws (suc k) = let z = ones-most ws k in let d = digit-lt (getD ws (k / 64) 0) (k % 64) in omega arith
+unfolding bitAt
+ones-most ws k = ones-le (bitAt ws) (λ i. digit-lt (getD ws (i / 64) 0) (i % 64)) k
 
 -- a level that is not empty has more states seen
-pub level-falls : {cs ps es cur seen : List ℕ} {m mark n : ℕ} {nx w w′ seen′ : List ℕ} → Levelled cs ps es cur seen m nx → Committed w seen nx mark n w′ seen′ → Any nx n true
+pub level-falls : {cs ps es cur seen : List ℕ} {m mark n : ℕ} {nx w w′ seen′ : List ℕ} → Levelled cs ps es cur seen n m nx → Committed w seen nx mark n w′ seen′ → {r q : ℕ} → r < n → q < 64 → On (digit (getD nx r 0) q)
     → onesBelow (bitAt seen) (n * 64) < onesBelow (bitAt seen′) (n * 64)
 unfolding bitAt
-level-falls {seen = seen} {n = n} {nx = nx} {seen′ = seen′} N C (some {r} {q} hr hq o) =
+level-falls {seen = seen} {n = n} {nx = nx} {seen′ = seen′} N C {r} {q} hr hq o =
     let a : (r * 64 + q) / 64 ≡ r = omega arith in
     let b : (r * 64 + q) % 64 ≡ q = omega arith in
     let f = N .fresh r q hq o in
@@ -106,7 +107,7 @@ pub record Level (g : Graph) (M : Automaton) (y n l : ℕ) (w seen cur : List �
   pub cur-all : (r q : ℕ) → r < n → q < 64 → distance w seen r q ≡ suc l → On (digit (getD cur r 0) q)
 
 module _ {g : Graph} {M : Automaton} {fs ps es : List ℕ} {f n : ℕ} {cs : List ℕ} {k : ℕ} (S : Setting g M fs ps es f n cs k)
-    {y l : ℕ} {w seen cur nx w′ seen′ : List ℕ} (I : Level g M y n l w seen cur) (N : Levelled cs ps es cur seen k nx) (C : Committed w seen nx (suc (suc l)) n w′ seen′) where
+    {y l : ℕ} {w seen cur nx w′ seen′ : List ℕ} (I : Level g M y n l w seen cur) (N : Levelled cs ps es cur seen n k nx) (C : Committed w seen nx (suc (suc l)) n w′ seen′) where
   abbrev d : ℕ → ℕ → ℕ
   d = distance w seen
 
@@ -167,7 +168,7 @@ module _ {g : Graph} {M : Automaton} {fs ps es : List ℕ} {f n : ℕ} {cs : Lis
               let t : On (digit (getD es (arcLetter cs (a .0)) 0) q′) = rw (a .4, S .masked .enters q′ (s .spelt)) (m .enters) in
               let u : digit (getD seen (arcFrom cs (a .0)) 0) q ≡ 0 = rw (a .2) z in
               let p : On (digit (getD ps q′ 0) q) = rw (S .masked .before q q′) (m .follow) in
-              let v : On (digit (getD nx r 0) q) = rw (a .2) at (N .all q (a .0) q′ hq (a .1) c t p u) in
+              let v : On (digit (getD nx r 0) q) = rw (a .2) at (N .all q (a .0) q′ hq (a .1) (rw (a .2) hr) c t p u) in
               let i = is-new r q hr hq v in omega arith
 
   pub level-next : Level g M y n (suc l) w′ seen′ nx
@@ -189,10 +190,10 @@ module _ {g : Graph} {M : Automaton} {fs ps es : List ℕ} {f n : ℕ} {cs : Lis
           go (is-off p) (is-off z) = absurd (let a = neither r q hr z hq p in omega arith)
 
   -- an empty level: no walk from where the state was not seen
-  pub level-empty : (x : ℕ) → x < n → digit (getD seen x 0) 0 ≡ 0 → Any nx n false → (ss : List Step) → Walk g M y x 0 ss → ⊥
-  level-empty x hx e (empty none) ss v =
-      let o = known-none (shut S) (level-next .known) (λ r q hr hq z. none-on q (rw (none r hr) at (level-next .cur-all r q hr hq z))) (length ss) x 0 hx (omega arith) (ss, refl, v) in
-      let z : digit (getD nx x 0) 0 ≡ 0 = rw (none x hx) (digit-none 0) in
+  pub level-empty : (x : ℕ) → x < n → digit (getD seen x 0) 0 ≡ 0 → Zero nx → (ss : List Step) → Walk g M y x 0 ss → ⊥
+  level-empty x hx e none ss v =
+      let o = known-none (shut S) (level-next .known) (λ r q hr hq z. none-on q (rw (none r) at (level-next .cur-all r q hr hq z))) (length ss) x 0 hx (omega arith) (ss, refl, v) in
+      let z : digit (getD nx x 0) 0 ≡ 0 = rw (none x) (digit-none 0) in
       let a = neither x 0 hx (distance-off w seen x 0 e) (omega arith) z in
       omega arith
 

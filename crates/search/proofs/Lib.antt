@@ -1,7 +1,9 @@
 pub mod LowestLaws
 pub mod MaskLaws
 pub mod MarkLaws
-pub mod ArcLaws
 pub mod LevelLaws
+pub mod FrontierLaws
+pub mod LevellingLaws
+pub mod CommitLaws
 pub mod WalkLaws
 pub mod AnswerLaws

@@ -1,9 +1,8 @@
--- Laws of the numbers in work: marks written, a level committed, states kept, the smallest step chosen. Assumes nothing.
+-- Laws of the numbers in work: marks written, states kept, the smallest step chosen. Assumes nothing.
 use mathlib.Core.Path.{_≡_, refl, sym, ap, _∙_, subst}
 use mathlib.Core.Logic.{_⊎_, inl, inr}
 use mathlib.Core.List.{List}
-use mathlib.Core.Bool.{Bool, true, false}
-use Prim.Native.Nat.{ℕ, _+_, _*_, _^_, _≤_, _<_, max}
+use Prim.Native.Nat.{ℕ, _*_, _+_, _^_, _≤_, _<_, max}
 use native.Mathlib.Omega.{arith}
 use lib.Bits.{bitAnd, bitOr}
 use lib.ListN.{length, getD, set}
@@ -14,10 +13,11 @@ use Rattle.k2.specs.DigitLaws.{digit-none, digit-or, digit-and, digit-pow}
 use Rattle.automaton.specs.Automata.{On}
 use Rattle.automaton.specs.SetLaws.{on-max, on-min, on-is}
 use Rattle.automaton.specs.LevelLaws.{Which, less, same, more, which}
-use Rattle.search.specs.Arcs.{arcFrom, arcTo, arcLetter, arcStepWord}
-use Rattle.search.specs.Levels.{numberAt, Stamped, Committed, Any, some, empty}
+use Rattle.arcs.specs.Arcs.{arcFrom, arcTo, arcLetter, arcStepWord}
+use Rattle.arcs.specs.ArcLaws.{none-on}
+use Rattle.search.specs.Levels.{numberAt, Stamped}
 use Rattle.search.specs.Steps.{Kept, Serve, Chosen, Better, no-states, not-less, less as smaller}
-use Rattle.search.proofs.LowestLaws.{none-on, some-digit, below-pow, Lowest, gone, Among}
+use Rattle.search.proofs.LowestLaws.{some-digit, below-pow, Lowest, gone, Among}
 
 -- ---- a number written
 module _ (w : List ℕ) (r q v : ℕ) where
@@ -46,67 +46,6 @@ stamp-more {w} {r} {m} {mark} {left} {v} {k} {left′} I A L l =
 
     ms : (q : ℕ) → q < 64 → digit m q ≡ 0 → numberAt (set v (r * 64 + k) mark) r q ≡ numberAt w r q
     ms q h e = number-other v r k mark r q (λ z. let f : q ≡ k = omega arith in let o : On (digit m q) = rw f (A k (L .on)) in omega arith) ∙ I .miss q h e
-
--- ---- a level committed
-pub commit-none : (w s nx : List ℕ) (mark : ℕ) → Committed w s nx mark 0 w s
-commit-none w s nx mark = record { hit = λ r q h. absurd (omega arith); miss = λ r q h e. refl; seen-more = λ r q h. absurd (omega arith); seen-same = λ r q h. refl }
-
-module _ {w s nx : List ℕ} {mark k : ℕ} {w₁ s₁ : List ℕ} (I : Committed w s nx mark k w₁ s₁) where
-  pub commit-no : getD nx k 0 ≡ 0 → Committed w s nx mark (k + 1) w₁ s₁
-  commit-no e = record { hit = λ r q h g o. ht r q h g o (which r k); miss = I .miss; seen-more = λ r q h. sm r q h (which r k); seen-same = λ r q h. I .seen-same r q (omega arith) }
-    where
-      ht : (r q : ℕ) → r < k + 1 → q < 64 → On (digit (getD nx r 0) q) → Which r k → numberAt w₁ r q ≡ mark
-      ht r q h g o (less f) = I .hit r q f g o
-      ht r q h g o (same f) = absurd (none-on q (rw e at (rw f at o)))
-      ht r q h g o (more f) = absurd (omega arith)
-
-      sm : (r q : ℕ) → r < k + 1 → Which r k → digit (getD s₁ r 0) q ≡ max (digit (getD s r 0) q) (digit (getD nx r 0) q)
-      sm r q h (less f) = I .seen-more r q f
-      sm r q h (same f) = rw (f, e, digit-none) (I .seen-same k q (omega arith) ∙ (let z : digit (getD s k 0) q ≡ max (digit (getD s k 0) q) 0 = omega arith in z))
-      sm r q h (more f) = absurd (omega arith)
-
-  pub commit-yes : {w₂ : List ℕ} → Stamped w₁ k (getD nx k 0) mark 0 w₂ → k < length s₁ → Committed w s nx mark (k + 1) w₂ (set s₁ k (bitOr (getD s₁ k 0) (getD nx k 0)))
-  commit-yes {w₂} S l = record {
-    hit = λ r q h g o. ht r q h g o (which r k);
-    miss = λ r q h e. ms r q h e (which r k);
-    seen-more = λ r q h. sm r q h (which r k);
-    seen-same = λ r q h. off r q (λ e. omega arith) ∙ I .seen-same r q (omega arith);
-  }
-    where
-      off : (r q : ℕ) → (r ≡ k → ⊥) → digit (getD (set s₁ k (bitOr (getD s₁ k 0) (getD nx k 0))) r 0) q ≡ digit (getD s₁ r 0) q
-      off r q n = ap (λ (x : ℕ). digit x q) (getD-set-other s₁ k r (bitOr (getD s₁ k 0) (getD nx k 0)) 0 n)
-
-      ht : (r q : ℕ) → r < k + 1 → q < 64 → On (digit (getD nx r 0) q) → Which r k → numberAt w₂ r q ≡ mark
-      ht r q h g o (less f) = S .rest r q g (λ e. omega arith) ∙ I .hit r q f g o
-      ht r q h g o (same f) = rw f (S .hit q g (rw f at o) (digit-none q))
-      ht r q h g o (more f) = absurd (omega arith)
-
-      ms : (r q : ℕ) → q < 64 → digit (getD nx r 0) q ≡ 0 → Which r k → numberAt w₂ r q ≡ numberAt w r q
-      ms r q h e (less f) = S .rest r q h (λ z. omega arith) ∙ I .miss r q h e
-      ms r q h e (same f) = let d : digit (getD nx k 0) q ≡ 0 = rw f at e in rw f (S .miss q h d ∙ I .miss k q h d)
-      ms r q h e (more f) = S .rest r q h (λ z. omega arith) ∙ I .miss r q h e
-
-      sm : (r q : ℕ) → r < k + 1 → Which r k → digit (getD (set s₁ k (bitOr (getD s₁ k 0) (getD nx k 0))) r 0) q ≡ max (digit (getD s r 0) q) (digit (getD nx r 0) q)
-      sm r q h (less f) = off r q (λ e. omega arith) ∙ I .seen-more r q f
-      sm r q h (same f) =
-          rw f (ap (λ (x : ℕ). digit x q) (getD-set-same s₁ k (bitOr (getD s₁ k 0) (getD nx k 0)) 0 l)
-          ∙ digit-or (getD s₁ k 0) (getD nx k 0) q ∙ ap (λ (x : ℕ). max x (digit (getD nx k 0) q)) (I .seen-same k q (omega arith)))
-      sm r q h (more f) = absurd (omega arith)
-
-pub any-none : (nx : List ℕ) → Any nx 0 false
-any-none nx = empty (λ r h. absurd (omega arith))
-
-pub any-no : {nx : List ℕ} {k : ℕ} {b : Bool} → Any nx k b → getD nx k 0 ≡ 0 → Any nx (k + 1) b
-any-no (some {r} h g o) e = some {r = r} (omega arith) g o
-any-no {nx} {k} (empty a) e = empty (λ r h. go r h (which r k))
-  where
-    go : (r : ℕ) → r < k + 1 → Which r k → getD nx r 0 ≡ 0
-    go r h (less f) = a r f
-    go r h (same f) = rw f e
-    go r h (more f) = absurd (omega arith)
-
-pub any-yes : (nx : List ℕ) (k : ℕ) → 0 < getD nx k 0 → getD nx k 0 < 2 ^ 64 → Any nx (k + 1) true
-any-yes nx k h g = let z = some-digit 64 (getD nx k 0) g h in some {r = k} (omega arith) (z .1) (z .2)
 
 -- ---- states kept
 pub bit-off : (q j : ℕ) → On (digit (2 ^ q) j) → j ≡ q
@@ -141,72 +80,73 @@ module _ {w : List ℕ} {n a m d left r k left′ : ℕ} (I : Kept w n a m d lef
       al q h o f (inr e) = let z : On (digit (2 ^ k) q) = rw e (bit-at k) in omega arith
 
 -- ---- the smallest step
-pub chosen-none : (cs es w seen : List ℕ) (n r fo d : ℕ) → Chosen cs es w seen n r fo d 0 65536 0
-chosen-none cs es w seen n r fo d = record { from = λ q o. absurd (none-on q o); all = λ j q h. absurd (omega arith); some = λ h. absurd (omega arith); top = omega arith }
+pub chosen-none : (cs es w seen : List ℕ) (n r fo d k : ℕ) → Chosen cs es w seen n r fo d k k 65536 0
+chosen-none cs es w seen n r fo d k = record { from = λ q o. absurd (none-on q o); all = λ j q h g. absurd (omega arith); some = λ h. absurd (omega arith); top = omega arith }
 
 pub arc-small : (cs : List ℕ) (j : ℕ) → (arcLetter cs j < 64) × (arcTo cs j < 1024)
 unfolding arcLetter arcTo
 arc-small cs j = (omega arith, omega arith)
 
-module _ {cs es w seen : List ℕ} {n r fo d k word states : ℕ} (I : Chosen cs es w seen n r fo d k word states) where
+module _ {cs es w seen : List ℕ} {n r fo d k p word states : ℕ} (I : Chosen cs es w seen n r fo d k p word states) where
+  -- arcs before p, if none of them is of the record
+  pub chosen-first : {u : ℕ} → u ≤ p → ((j : ℕ) → j < k → arcFrom cs j ≡ r → u ≤ j → p ≤ j) → Chosen cs es w seen n r fo d k u word states
+  chosen-first lo h = record { from = λ q o. (let g = I .from q o in (g .0, g .1, g .2, g .3, omega (arith, g .4))); all = λ j q l g s. I .all j q l (h j l (s .from) g) s; some = I .some; top = I .top }
+
+module _ {cs es w seen : List ℕ} {n r fo d k p word states : ℕ} (I : Chosen cs es w seen n r fo d k p word states)
+    {m u : ℕ} (hm : m < k) (hp : m < p) (hu : u ≤ m) (only : (j : ℕ) → j < k → arcFrom cs j ≡ r → u ≤ j → (j ≡ m) ⊎ (p ≤ j)) where
   abbrev Leads : ℕ → ℕ → ℕ → ℕ → Type 0
   Leads word states j q = (word < arcStepWord cs j) ⊎ ((word ≡ arcStepWord cs j) × On (digit states q))
 
-  -- where arc k serves no state, or none that is not there already
-  chosen-same : ((q : ℕ) → Serve cs es w seen n r fo d k q → Leads word states k q) → Chosen cs es w seen n r fo d (k + 1) word states
-  chosen-same at = record { from = λ q o. (let g = I .from q o in (g .0, omega arith, g .2, g .3)); all = λ j q h s. go j q h s (which j k); some = I .some; top = I .top }
+  -- where arc m serves no state, or none that is not there already
+  chosen-same : ((q : ℕ) → Serve cs es w seen n r fo d m q → Leads word states m q) → Chosen cs es w seen n r fo d k u word states
+  chosen-same at = record { from = λ q o. (let g = I .from q o in (g .0, g .1, g .2, g .3, omega (arith, g .4))); all = λ j q h g s. go j q h s (only j h (s .from) g); some = I .some; top = I .top }
     where
-      go : (j q : ℕ) → j < k + 1 → Serve cs es w seen n r fo d j q → Which j k → Leads word states j q
-      go j q h s (less f) = I .all j q f s
-      go j q h s (same f) = subst (λ (i : ℕ). Leads word states i q) (sym f) (at q (subst (λ (i : ℕ). Serve cs es w seen n r fo d i q) f s))
-      go j q h s (more f) = absurd (omega arith)
+      go : (j q : ℕ) → j < k → Serve cs es w seen n r fo d j q → (j ≡ m) ⊎ (p ≤ j) → Leads word states j q
+      go j q h s (inr f) = I .all j q h f s
+      go j q h s (inl f) = subst (λ (i : ℕ). Leads word states i q) (sym f) (at q (subst (λ (i : ℕ). Serve cs es w seen n r fo d i q) f s))
 
-  pub chosen-skip : (arcFrom cs k ≡ r → ⊥) → Chosen cs es w seen n r fo d (k + 1) word states
-  chosen-skip n = chosen-same (λ q s. absurd (n (s .from)))
-
-  module _ (K : ℕ) (at : arcFrom cs k ≡ r) (Q : Kept w n (arcTo cs k) (bitAnd (bitAnd fo (getD es (arcLetter cs k) 0)) (getD seen (arcTo cs k) 0)) d 0 K) where
+  module _ (K : ℕ) (at : arcFrom cs m ≡ r) (Q : Kept w n (arcTo cs m) (bitAnd (bitAnd fo (getD es (arcLetter cs m) 0)) (getD seen (arcTo cs m) 0)) d 0 K) where
     -- the states kept are those that serve
-    serves : (q : ℕ) → On (digit K q) → Serve cs es w seen n r fo d k q
+    serves : (q : ℕ) → On (digit K q) → Serve cs es w seen n r fo d m q
     serves q o =
         let z = Q .from q o in
         let b = on-min _ _ (rw digit-and at (z .2)) in
         let c = on-min _ _ (rw digit-and at (b .0)) in
         record { from = at; small = z .0; to = z .1; among = c .0; enters = c .1; seen-at = b .1; number = z .3 }
 
-    served : (q : ℕ) → Serve cs es w seen n r fo d k q → On (digit K q)
+    served : (q : ℕ) → Serve cs es w seen n r fo d m q → On (digit K q)
     served q s = Q .all q (s .to) (rw (digit-and, digit-and) (let a = s .among in let b = s .enters in let c = s .seen-at in omega arith)) (digit-none q) (s .number)
 
-    pub chosen-more : {word′ states′ : ℕ} → Better word states (arcStepWord cs k) K word′ states′ → Chosen cs es w seen n r fo d (k + 1) word′ states′
+    pub chosen-more : {word′ states′ : ℕ} → Better word states (arcStepWord cs m) K word′ states′ → Chosen cs es w seen n r fo d k u word′ states′
     chosen-more (no-states e) = chosen-same (λ q s. absurd (none-on q (rw e at (served q s))))
-    chosen-more (not-less e) = chosen-same (λ q s. last q s (which word (arcStepWord cs k)))
+    chosen-more (not-less e) = chosen-same (λ q s. last q s (which word (arcStepWord cs m)))
       where
         -- the same word comes from the same letter and record
-        twin : (q : ℕ) → word ≡ arcStepWord cs k → Serve cs es w seen n r fo d k q → On (digit states q)
+        twin : (q : ℕ) → word ≡ arcStepWord cs m → Serve cs es w seen n r fo d m q → On (digit states q)
         twin q f s =
-            let c = arc-small cs k in
+            let c = arc-small cs m in
             let o = I .some (omega arith) in
             let g = I .from (o .0) (o .1) in
             let a = arc-small cs (g .0) in
-            let el : arcLetter cs (g .0) ≡ arcLetter cs k = omega (arith, g .2) in
-            let et : arcTo cs (g .0) ≡ arcTo cs k = omega (arith, g .2) in
+            let el : arcLetter cs (g .0) ≡ arcLetter cs m = omega (arith, g .2) in
+            let et : arcTo cs (g .0) ≡ arcTo cs m = omega (arith, g .2) in
             let s′ : Serve cs es w seen n r fo d (g .0) q = record { from = g .3 .from; small = s .small; to = rw et (s .to); among = s .among; enters = rw el (s .enters); seen-at = rw et (s .seen-at); number = rw et (s .number) } in
-            pick (g .0) (g .2) (I .all (g .0) q (g .1) s′)
+            pick (g .0) (g .2) (I .all (g .0) q (g .1) (g .4) s′)
           where
             pick : (j : ℕ) → arcStepWord cs j ≡ word → Leads word states j q → On (digit states q)
             pick j u (inl v) = absurd (omega arith)
             pick j u (inr v) = v .1
 
-        last : (q : ℕ) → Serve cs es w seen n r fo d k q → Which word (arcStepWord cs k) → Leads word states k q
+        last : (q : ℕ) → Serve cs es w seen n r fo d m q → Which word (arcStepWord cs m) → Leads word states m q
         last q s (less f) = inl f
         last q s (same f) = inr (f, twin q f s)
         last q s (more f) = absurd (omega arith)
-    chosen-more (smaller p e) = record { from = λ q o. (k, omega arith, refl, serves q o); all = λ j q h s. go j q h s (which j k); some = λ h. (let z = some-digit K K (below-pow K) p in (z .0, z .2)); top = (let t = I .top in omega arith) }
+    chosen-more (smaller z₀ e) = record { from = λ q o. (m, hm, refl, serves q o, hu); all = λ j q h g s. go j q h s (only j h (s .from) g); some = λ h. (let z = some-digit K K (below-pow K) z₀ in (z .0, z .2)); top = (let t = I .top in omega arith) }
       where
-        old : (j q : ℕ) → Leads word states j q → Leads (arcStepWord cs k) K j q
+        old : (j q : ℕ) → Leads word states j q → Leads (arcStepWord cs m) K j q
         old j q (inl f) = inl (omega arith)
         old j q (inr f) = inl (let g = f .0 in omega arith)
 
-        go : (j q : ℕ) → j < k + 1 → Serve cs es w seen n r fo d j q → Which j k → Leads (arcStepWord cs k) K j q
-        go j q h s (less f) = old j q (I .all j q f s)
-        go j q h s (same f) = inr (ap (arcStepWord cs) (sym f), served q (subst (λ (i : ℕ). Serve cs es w seen n r fo d i q) f s))
-        go j q h s (more f) = absurd (omega arith)
+        go : (j q : ℕ) → j < k → Serve cs es w seen n r fo d j q → (j ≡ m) ⊎ (p ≤ j) → Leads (arcStepWord cs m) K j q
+        go j q h s (inr f) = old j q (I .all j q h f s)
+        go j q h s (inl f) = inr (ap (arcStepWord cs) (sym f), served q (subst (λ (i : ℕ). Serve cs es w seen n r fo d i q) f s))

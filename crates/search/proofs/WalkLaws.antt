@@ -17,11 +17,11 @@ use Rattle.automaton.specs.Masks.{letterNumber}
 use Rattle.automaton.specs.Searches.{Walk, Moves, Reach, Known, Best, Picks}
 use Rattle.automaton.specs.LevelLaws.{reach-less, exact}
 use Rattle.automaton.specs.WalkLaws.{best-more, best-none}
-use Rattle.search.specs.Arcs.{arcTo, arcLetter, arcStepWord, letterOf, arcStep, Setting}
-use Rattle.search.specs.Levels.{distance, Spread}
+use Rattle.arcs.specs.Arcs.{arcTo, arcLetter, arcStepWord, letterOf, arcStep}
+use Rattle.arcs.specs.ArcLaws.{number-letter, letter-number}
+use Rattle.search.specs.Levels.{Setting, distance, Spread}
 use Rattle.search.specs.Steps.{Serve, Chosen, stepOf}
 use Rattle.search.proofs.MarkLaws.{arc-small, bit-off, bit-at}
-use Rattle.search.proofs.ArcLaws.{number-letter, letter-number}
 use Rattle.search.proofs.LevelLaws.{distance-on, distance-seen, step-arc, shut, arc-moves}
 
 -- ---- step words
@@ -65,7 +65,7 @@ module _ {g : Graph} {M : Automaton} {fs ps es : List ℕ} {f n : ℕ} {cs : Lis
       let b : Best g M y (digit st) r (steps - t) [] = rw z (best-none (q .1) (K .sound r (q .0) 0 (G .below) (a .0) (rw z at (a .1)))) in
       subst (λ (ss : List Step). Best g M y (is 0) x steps ss) (append-nil (map stepOf (take t out))) (G .goes-on [] b)
 
-  module _ (m : ℕ) (em : steps - t ≡ suc m) (fo word states : ℕ) (F : Spread fs st 0 fo) (C : Chosen cs es w seen n r fo (suc m) k word states) where
+  module _ (m : ℕ) (em : steps - t ≡ suc m) (fo word states : ℕ) (F : Spread fs st 0 fo) (C : Chosen cs es w seen n r fo (suc m) k 0 word states) where
     -- a step that leads on is one of an arc that serves
     leads : (q q′ : ℕ) (s : Step) → On (digit st q) → Moves g M r q s q′ → Reach g M y m (s .reached) q′
         → (j : ℕ) × (arcStepWord cs j ≡ stepWord s) × (s .reached < 1024) × ((word < arcStepWord cs j) ⊎ ((word ≡ arcStepWord cs j) × On (digit states q′)))
@@ -77,7 +77,7 @@ module _ {g : Graph} {M : Automaton} {fs ps es : List ℕ} {f n : ℕ} {cs : Lis
         let c = step-arc S r q q′ s v in
         let fo-on = F .all q′ q o (digit-none q) (rw (S .masked .follow q q′) (v .follow)) in
         let sv : Serve cs es w seen n r fo (suc m) (c .0) q′ = record { from = c .2; small = b .1; to = rw (c .3) (b .0); among = fo-on; enters = rw (c .4, S .masked .enters q′ (s .spelt)) (v .enters); seen-at = rw (c .3) i; number = rw (c .3) (sym (distance-on w seen (s .reached) q′ i) ∙ e) } in
-        (c .0, ap₂ (λ (c : ℕ) (d : ℕ). c * 1024 + d) (c .4) (c .3), omega (arith, b .0), C .all (c .0) q′ (c .1) sv)
+        (c .0, ap₂ (λ (c : ℕ) (d : ℕ). c * 1024 + d) (c .4) (c .3), omega (arith, b .0), C .all (c .0) q′ (c .1) (omega arith) sv)
 
     picks : Picks g M y (digit st) r m (stepOf word) (digit states)
     picks = record { came = cm; least = ls }

@@ -1,3 +1,3 @@
-pub mod Arcs
 pub mod Levels
+pub mod Frontiers
 pub mod Steps

@@ -3,8 +3,8 @@
 --                   r are the states of m that are not left and whose number at the record a, below n, is d
 --   Serve cs es w seen n r fo d j q
 --                   arc j leads from the record r to the state q, one of fo, whose number there is d
---   Chosen cs es w seen n r fo d k word states
---                   the smallest step word of the first k arcs that serve, and its states; 65,536 and none if none serves
+--   Chosen cs es w seen n r fo d k p word states
+--                   the smallest step word of the arcs that serve, from p on and below k, and its states; 65,536 and none if none serves
 --   Better w₀ s₀ w s w′ s′
 --                   w′ and s′ are the smaller of two step words, of which the second counts only with a state, and its states
 --   Walked ..       the steps that the walk forward writes are the best walk, and the words past them are as they were
@@ -24,8 +24,8 @@ use Rattle.paths.specs.Expressions.{Expr}
 use Rattle.paths.specs.Chains.{Graph, Step, stepWords, Answers, First}
 use Rattle.automaton.specs.Automata.{On, is, Automaton}
 use Rattle.automaton.specs.Searches.{Known, Best}
-use Rattle.search.specs.Arcs.{arcFrom, arcTo, arcLetter, arcStepWord, letterOf, Setting}
-use Rattle.search.specs.Levels.{numberAt, distance}
+use Rattle.arcs.specs.Arcs.{arcFrom, arcTo, arcLetter, arcStepWord, letterOf}
+use Rattle.search.specs.Levels.{Setting, numberAt, distance}
 use Rattle.search.specs.declared.Found.{Found}
 use Rattle.search.specs.declared.Found.the-variants.{Steps, Nowhere, Short}
 
@@ -42,9 +42,9 @@ pub record Serve (cs es w seen : List ℕ) (n r fo d j q : ℕ) : Type 0 where
   pub seen-at : On (digit (getD seen (arcTo cs j) 0) q)
   pub number : numberAt w (arcTo cs j) q ≡ d
 
-pub record Chosen (cs es w seen : List ℕ) (n r fo d k word states : ℕ) : Type 0 where
-  pub from : (q : ℕ) → On (digit states q) → (j : ℕ) × (j < k) × (arcStepWord cs j ≡ word) × Serve cs es w seen n r fo d j q
-  pub all : (j q : ℕ) → j < k → Serve cs es w seen n r fo d j q → (word < arcStepWord cs j) ⊎ ((word ≡ arcStepWord cs j) × On (digit states q))
+pub record Chosen (cs es w seen : List ℕ) (n r fo d k p word states : ℕ) : Type 0 where
+  pub from : (q : ℕ) → On (digit states q) → (j : ℕ) × (j < k) × (arcStepWord cs j ≡ word) × Serve cs es w seen n r fo d j q × (p ≤ j)
+  pub all : (j q : ℕ) → j < k → p ≤ j → Serve cs es w seen n r fo d j q → (word < arcStepWord cs j) ⊎ ((word ≡ arcStepWord cs j) × On (digit states q))
   pub some : word < 65536 → (q : ℕ) × On (digit states q)
   pub top : word ≤ 65536
 

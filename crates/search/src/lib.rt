@@ -1,54 +1,21 @@
 // The search for a chain: levels of states backward from its end, then a walk forward.
+// A level is the list of its records, each with a word of its states. The next one comes from the arcs into those records alone, found by an
+// index, and a step of the walk from the arcs out of its record: so the cost goes with the states that are reached and the arcs at them.
 ghost use mathlib.Core.Path.{_≡_};
-ghost use mathlib.Core.Bool.{true, false};
+ghost use mathlib.Core.Bool.{true};
 ghost use mathlib.Core.List.{List};
-ghost use Prim.Native.Nat.{ℕ, _+_, _*_, _/_, _%_, _<_, _≤_};
-ghost use lib.ListN.{length};
+ghost use Prim.Native.Nat.{ℕ, _+_, _*_, _<_, _≤_};
+ghost use lib.ListN.{length, getD};
 ghost use Rattle.paths.specs.Expressions.{Expr};
 ghost use Rattle.paths.specs.Chains.{Graph};
 ghost use Rattle.paths.specs.ChainLaws.{Inside};
 ghost use Rattle.automaton.specs.Automata.{Automaton, automaton};
 ghost use Rattle.automaton.specs.Masks.{Masked};
-ghost use Rattle.search.specs.Arcs.{Spans, arcOf, Crossings, Setting};
-ghost use Rattle.search.specs.Levels.{Spread, Levelled, Stamped, Committed, Any, Sought};
+ghost use Rattle.arcs.specs.Arcs.{Spans, arcFrom, arcTo};
+ghost use Rattle.arcs.specs.Index.{Indexed};
+ghost use Rattle.search.specs.Levels.{Setting, Spread, Levelled, Stamped, Committed, Sought};
+ghost use Rattle.search.specs.Frontiers.{Levelling, Added, Listed, Frontier, Zero};
 ghost use Rattle.search.specs.Steps.{Kept, Chosen, Better, Walked, Untouched, Answered};
-
-// The word of a link crossed, forward or against its sense.
-fn arc(w: u32, sense: u32) -> u32
-    ensures { λ r. ⌜ r ≡ arcOf w sense ⌝ }
-{
-    let label = w / 1048576 % 32;
-    let from = w / 1024 % 1024;
-    let to = w % 1024;
-    if sense == 0 {
-        return (label * 2 * 1024 + from) * 1024 + to;
-    }
-    ((label * 2 + 1) * 1024 + to) * 1024 + from
-}
-
-struct Arcs {
-    words: [u32; 8192],
-    count: usize,
-}
-
-// The crossings that can be of use: each of the first `count` links, in each sense whose letter enters a state.
-fn arcs_of(links: &[u32], count: usize, enter: &[u64]) -> Arcs
-    requires { ⌜ (count ≤ length (now links)) × (count ≤ 4096) × (length (now enter) ≡ 64) ⌝ }
-    ensures { λ r. ⌜ (r .count ≤ 8192) × Crossings (now (links .entry)) (now (enter .entry)) (2 * count) (r .words) (r .count) ⌝ }
-{
-    let mut words = [0u32; 8192];
-    let mut k = 0;
-    let mut j = 0;
-    while j < 2 * count {
-        let a = arc(links[j / 2], (j % 2) as u32);
-        if enter[(a / 1048576) as usize] != 0 {
-            words[k] = a;
-            k += 1;
-        }
-        j += 1;
-    }
-    Arcs { words, count: k }
-}
 
 // The rows of the states in x, joined.
 fn spread(rows: &[u64], x: u64) -> u64
@@ -65,30 +32,97 @@ fn spread(rows: &[u64], x: u64) -> u64
     r
 }
 
-// One level: the states, not seen yet, from which an arc leads to one of the current level.
+// The states v at the record r, if it is below n, besides those of next, whose records are the first c of the list. How many are they now?
+fn add_states(next: &mut [u64], list: &mut [u16], c: usize, n: usize, r: usize, v: u64) -> usize
+    requires { ⌜ (n ≤ 1024) × (length (now next) ≡ 1024) × (length (now list) ≡ 1024) × (r < 1024) × Listed (now list) c n (now next) ⌝ }
+    ensures { λ k. ⌜ Listed (now (list .exit)) k n (now (next .exit)) × Added (now (next .entry)) n r v (now (next .exit)) ⌝ }
+{
+    if v == 0 {
+        return c;
+    }
+    if n <= r {
+        return c;
+    }
+    let old = next[r];
+    next[r] = old | v;
+    if old != 0 {
+        return c;
+    }
+    list[c] = r as u16;
+    c + 1
+}
+
+// The states, not seen yet, from which an arc leads to one of the states m at the record r, besides those of next.
+fn into(
+    arcs: &[u32],
+    count: usize,
+    index: &[u16],
+    pred: &[u64],
+    enter: &[u64],
+    r: usize,
+    m: u64,
+    seen: &[u64],
+    n: usize,
+    next: &mut [u64],
+    list: &mut [u16],
+    c: usize,
+) -> usize
+    requires { ⌜ (count ≤ length (now arcs)) × (count ≤ 8192) × (length (now index) ≡ 9216) × (length (now pred) ≡ 64) × (length (now enter) ≡ 64) × (r < 1024) × (length (now seen) ≡ 1024) × (n ≤ 1024) × (length (now next) ≡ 1024) × (length (now list) ≡ 1024) × Indexed (arcTo (now arcs)) count (now index) × Listed (now list) c n (now next) ⌝ }
+    ensures { λ k. ⌜ Listed (now (list .exit)) k n (now (next .exit)) × ((cur records : List ℕ) (i : ℕ) → r ≡ getD records i 0 → m ≡ getD cur r 0 → Levelling (now (arcs .entry)) (now (pred .entry)) (now (enter .entry)) cur (now (seen .entry)) n count records i count (now (next .entry)) → Levelling (now (arcs .entry)) (now (pred .entry)) (now (enter .entry)) cur (now (seen .entry)) n count records (i + 1) count (now (next .exit))) ⌝ }
+{
+    let mut k = c;
+    let mut p = arcs::first_arc(index, r);
+    while p != 0 {
+        let j = p - 1;
+        let a = arcs[j] as usize;
+        let from = a / 1024 % 1024;
+        let v = spread(pred, m & enter[a / 1048576 % 64]);
+        k = add_states(next, list, k, n, from, v & !seen[from]);
+        p = arcs::next_arc(index, j);
+    }
+    k
+}
+
+// One level: the states, not seen yet, from which an arc leads to one of the current level, and the list of their records.
 fn level(
     arcs: &[u32],
     count: usize,
+    index: &[u16],
     pred: &[u64],
     enter: &[u64],
-    cur: &[u64],
+    records: &[u16],
+    masks: &[u64],
+    c: usize,
     seen: &[u64],
-) -> [u64; 1024]
-    requires { ⌜ (count ≤ length (now arcs)) × (length (now pred) ≡ 64) × (length (now enter) ≡ 64) × (length (now cur) ≡ 1024) × (length (now seen) ≡ 1024) ⌝ }
-    ensures { λ r. ⌜ Levelled (now (arcs .entry)) (now (pred .entry)) (now (enter .entry)) (now (cur .entry)) (now (seen .entry)) count r ⌝ }
+    n: usize,
+    next: &mut [u64],
+    list: &mut [u16],
+) -> usize
+    requires { ⌜ (count ≤ length (now arcs)) × (count ≤ 8192) × (length (now index) ≡ 9216) × (length (now pred) ≡ 64) × (length (now enter) ≡ 64) × (c ≤ length (now records)) × (c ≤ length (now masks)) × (length (now seen) ≡ 1024) × (n ≤ 1024) × (length (now next) ≡ 1024) × (length (now list) ≡ 1024) × ((i : ℕ) → i < c → getD (now records) i 0 < 1024) × Indexed (arcTo (now arcs)) count (now index) × Zero (now next) ⌝ }
+    ensures { λ k. ⌜ Listed (now (list .exit)) k n (now (next .exit)) × ((cur : List ℕ) → Frontier (now (records .entry)) (now (masks .entry)) c cur → Levelled (now (arcs .entry)) (now (pred .entry)) (now (enter .entry)) cur (now (seen .entry)) n count (now (next .exit))) ⌝ }
 {
-    let mut next = [0u64; 1024];
-    let mut j = 0;
-    while j < count {
-        let a = arcs[j] as usize;
-        let from = a / 1024 % 1024;
-        let x = cur[a % 1024] & enter[a / 1048576 % 64];
-        if x != 0 {
-            next[from] = next[from] | (spread(pred, x) & !seen[from]);
-        }
-        j += 1;
+    let mut k = 0;
+    let mut i = 0;
+    while i < c {
+        let r = records[i] as usize;
+        let m = masks[i];
+        k = into(
+            arcs,
+            count,
+            index,
+            pred,
+            enter,
+            r,
+            m,
+            seen,
+            n,
+            next,
+            list,
+            k,
+        );
+        i += 1;
     }
-    next
+    k
 }
 
 // The mark at a record, at the states of m.
@@ -104,23 +138,32 @@ fn stamp(work: &mut [u64], r: usize, m: u64, mark: u64)
     }
 }
 
-// The mark at every record, at the states of its word, which are seen from now on. Is there any?
-fn commit(work: &mut [u64], seen: &mut [u64], next: &[u64], n: usize, mark: u64) -> bool
-    requires { ⌜ (n ≤ 1024) × (n * 64 ≤ length (now work)) × (n ≤ length (now seen)) × (n ≤ length (now next)) ⌝ }
-    ensures { λ r. ⌜ Committed (now (work .entry)) (now (seen .entry)) (now (next .entry)) mark n (now (work .exit)) (now (seen .exit)) × Any (now (next .entry)) n r ⌝ }
+// The mark at the first c records of the list, at the states of their words, which are seen from now on and become the current level.
+fn commit(
+    work: &mut [u64],
+    seen: &mut [u64],
+    next: &mut [u64],
+    list: &[u16],
+    c: usize,
+    n: usize,
+    mark: u64,
+    records: &mut [u16],
+    masks: &mut [u64],
+)
+    requires { ⌜ (n ≤ 1024) × (n * 64 ≤ length (now work)) × (n ≤ length (now seen)) × (length (now next) ≡ 1024) × (length (now list) ≡ 1024) × (length (now records) ≡ 1024) × (length (now masks) ≡ 1024) × (c ≤ 1024) × Listed (now list) c n (now next) ⌝ }
+    ensures { λ _. ⌜ Committed (now (work .entry)) (now (seen .entry)) (now (next .entry)) mark n (now (work .exit)) (now (seen .exit)) × Zero (now (next .exit)) × Frontier (now (records .exit)) (now (masks .exit)) c (now (next .entry)) ⌝ }
 {
-    let mut any = false;
-    let mut r = 0;
-    while r < n {
+    let mut i = 0;
+    while i < c {
+        let r = list[i] as usize;
         let m = next[r];
-        if m != 0 {
-            stamp(work, r, m, mark);
-            seen[r] = seen[r] | m;
-            any = true;
-        }
-        r += 1;
+        stamp(work, r, m, mark);
+        seen[r] = seen[r] | m;
+        next[r] = 0;
+        records[i] = list[i];
+        masks[i] = m;
+        i += 1;
     }
-    any
 }
 
 struct Levels {
@@ -140,21 +183,48 @@ fn backward(
     y: usize,
     work: &mut [u64],
 ) -> Levels
-    requires { ⌜ (count ≤ length (now arcs)) × (n ≤ 1024) × (length (now pred) ≡ 64) × (length (now enter) ≡ 64) × (x < n) × (y < n) × (n * 64 ≤ length (now work)) ⌝ }
+    requires { ⌜ (count ≤ length (now arcs)) × (n ≤ 1024) × (count ≤ 8192) × (length (now pred) ≡ 64) × (length (now enter) ≡ 64) × (x < n) × (y < n) × (n * 64 ≤ length (now work)) ⌝ }
     ensures { λ r. ⌜ ((g : Graph) (M : Automaton) (fs : List ℕ) → Setting g M fs (now (pred .entry)) (now (enter .entry)) fin n (now (arcs .entry)) count → Sought g M x y n (now (work .exit)) (r .seen) (r .number)) ⌝ }
 {
+    let index = arcs::index_by_reached(arcs, count);
     stamp(work, y, fin, 1);
-    let mut cur = [0u64; 1024];
-    cur[y] = fin;
-    let mut seen = cur;
+    let mut seen = [0u64; 1024];
+    seen[y] = fin;
+    let mut next = [0u64; 1024];
+    let mut list = [0u16; 1024];
+    let mut records = [y as u16; 1024];
+    let mut masks = [fin; 1024];
+    let mut c = 1;
     let mut l: u64 = 0;
     while seen[x] % 2 == 0 {
-        let next = level(arcs, count, pred, enter, &cur, &seen);
-        let any = commit(work, &mut seen, &next, n, l + 2);
-        if !any {
+        c = level(
+            arcs,
+            count,
+            &index,
+            pred,
+            enter,
+            &records,
+            &masks,
+            c,
+            &seen,
+            n,
+            &mut next,
+            &mut list,
+        );
+        if c == 0 {
             return Levels { seen, number: 0 };
         }
-        cur = next;
+        commit(
+            work,
+            &mut seen,
+            &mut next,
+            &list,
+            c,
+            n,
+            l + 2,
+            &mut records,
+            &mut masks,
+        );
         l += 1;
     }
     Levels {
@@ -183,6 +253,9 @@ fn kept(work: &[u64], n: usize, a: usize, m: u64, want: u64) -> u64
     r
 }
 
+// No step word: each is less.
+const NO_STEP: u32 = 65536;
+
 struct Choice {
     word: u32,
     states: u64,
@@ -205,6 +278,7 @@ fn better(p: Choice, word: u32, states: u64) -> Choice
 fn choose(
     arcs: &[u32],
     count: usize,
+    index: &[u16],
     enter: &[u64],
     work: &[u64],
     seen: &[u64],
@@ -213,23 +287,22 @@ fn choose(
     fo: u64,
     want: u64,
 ) -> Choice
-    requires { ⌜ (count ≤ length (now arcs)) × (length (now enter) ≡ 64) × (n * 64 ≤ length (now work)) × (length (now seen) ≡ 1024) × (n ≤ 1024) ⌝ }
-    ensures { λ p. ⌜ Chosen (now (arcs .entry)) (now (enter .entry)) (now (work .entry)) (now (seen .entry)) n r fo want count (p .word) (p .states) ⌝ }
+    requires { ⌜ (count ≤ length (now arcs)) × (count ≤ 8192) × (length (now index) ≡ 9216) × (length (now enter) ≡ 64) × (n * 64 ≤ length (now work)) × (length (now seen) ≡ 1024) × (n ≤ 1024) × (r < 1024) × Indexed (arcFrom (now arcs)) count (now index) ⌝ }
+    ensures { λ p. ⌜ Chosen (now (arcs .entry)) (now (enter .entry)) (now (work .entry)) (now (seen .entry)) n r fo want count 0 (p .word) (p .states) ⌝ }
 {
     let mut best = Choice {
-        word: 65536,
+        word: NO_STEP,
         states: 0,
     };
-    let mut j = 0;
-    while j < count {
+    let mut p = arcs::first_arc(index, r);
+    while p != 0 {
+        let j = p - 1;
         let a = arcs[j] as usize;
-        if a / 1024 % 1024 == r {
-            let to = a % 1024;
-            let letter = a / 1048576 % 64;
-            let k = kept(work, n, to, fo & enter[letter] & seen[to], want);
-            best = better(best, (letter * 1024 + to) as u32, k);
-        }
-        j += 1;
+        let to = a % 1024;
+        let letter = a / 1048576 % 64;
+        let k = kept(work, n, to, fo & enter[letter] & seen[to], want);
+        best = better(best, (letter * 1024 + to) as u32, k);
+        p = arcs::next_arc(index, j);
     }
     best
 }
@@ -247,15 +320,27 @@ fn forward(
     steps: usize,
     out: &mut [u32],
 )
-    requires { ⌜ (count ≤ length (now arcs)) × (length (now follow) ≡ 64) × (length (now enter) ≡ 64) × (n * 64 ≤ length (now work)) × (length (now seen) ≡ 1024) × (n ≤ 1024) × (x < n) × (steps ≤ length (now out)) ⌝ }
+    requires { ⌜ (count ≤ length (now arcs)) × (length (now follow) ≡ 64) × (count ≤ 8192) × (length (now enter) ≡ 64) × (n * 64 ≤ length (now work)) × (length (now seen) ≡ 1024) × (n ≤ 1024) × (x < n) × (steps ≤ length (now out)) ⌝ }
     ensures { λ _. ⌜ Walked (now (follow .entry)) (now (enter .entry)) (now (work .entry)) (now (seen .entry)) (now (arcs .entry)) count n x steps (now (out .entry)) (now (out .exit)) ⌝ }
 {
+    let index = arcs::index_by_left(arcs, count);
     let mut r = x;
     let mut states: u64 = 1;
     let mut t = 0;
     while t < steps {
         let fo = spread(follow, states);
-        let p = choose(arcs, count, enter, work, seen, n, r, fo, (steps - t) as u64);
+        let p = choose(
+            arcs,
+            count,
+            &index,
+            enter,
+            work,
+            seen,
+            n,
+            r,
+            fo,
+            (steps - t) as u64,
+        );
         out[t] = p.word;
         r = (p.word % 1024) as usize;
         states = p.states;
@@ -286,7 +371,7 @@ pub fn first_chain(
     requires { ⌜ (count ≤ length (now links)) × (count ≤ 4096) × (n ≤ 1024) × (length (now follow) ≡ 64) × (length (now pred) ≡ 64) × (length (now enter) ≡ 64) × (x < n) × (y < n) × (n * 64 ≤ length (now work)) ⌝ }
     ensures { λ r. ⌜ Untouched (now (out .entry)) (now (out .exit)) r × ((g : Graph) (e : Expr) → g .n ≡ n → Inside g → Spans (now (links .entry)) count g → Masked (now (follow .entry)) (now (pred .entry)) (now (enter .entry)) fin (automaton e) → g .inUse x ≡ true → g .inUse y ≡ true → Answered g e x y (now (out .entry)) (now (out .exit)) r) ⌝ }
 {
-    let arcs = arcs_of(links, count, enter);
+    let arcs = arcs::arcs_of(links, count, enter);
     let levels = backward(&arcs.words, arcs.count, pred, enter, fin, n, x, y, work);
     if levels.number == 0 {
         return Found::Nowhere;

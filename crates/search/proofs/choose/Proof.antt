@@ -1,32 +1,48 @@
--- `choose` meets its contract. The loop's invariant: it is met for the first j arcs (Chosen). The measure is what is left of the arcs. Assumes nothing.
+-- `choose` goes over the arcs out of the record. The loop's invariant: p stands at one of them (`Cursor`), and the choice is that of the arcs from p on (`Chosen`).
+-- The measure is p, which falls (`next-falls`). It rests on `chosen-more`. Assumes nothing.
 use mathlib.Core.Path.{_≡_}
-use mathlib.Core.Logic.{⊎-elim}
-use Prim.Native.Nat.{_-_, _≤_}
+use Prim.Native.Nat.{_-_, _<_, _≤_}
 use native.Mathlib.Omega.{arith}
 use borrow.Author.Needs.{needs}
-use Rattle.search.specs.Arcs.{arcFrom, arcTo, arcLetter}
+use Rattle.arcs.specs.Arcs.{arcFrom, arcTo, arcLetter}
 use Rattle.search.specs.Steps.{Chosen}
-use Rattle.search.proofs.MarkLaws.{chosen-none, chosen-skip, chosen-more}
+use Rattle.arcs.specs.Index.{Cursor}
+use Rattle.arcs.specs.IndexLaws.{next-falls, cursor-next, before-first, only-arc}
+use Rattle.search.proofs.MarkLaws.{chosen-none, chosen-first, chosen-more}
 use Rattle.search.proofs.choose.Statement.{statement}
 use Rattle.search.proofs.choose.Tie as tie
 
 abbrev Inv-loop : tie.InvT-loop
-Inv-loop arcs count enter work seen n r fo want best₀ j₀ best j = (j ≤ count) × Chosen arcs enter work seen n r fo want j (best .word) (best .states)
+Inv-loop arcs count index enter work seen n r fo want best₀ p₀ best p =
+    Cursor (arcFrom arcs) count r p × Chosen arcs enter work seen n r fo want count p (best .word) (best .states)
 
 abbrev μ-loop : tie.MeasureT-loop
-μ-loop arcs count enter work seen n r fo want best₀ j₀ best j = count - j
+μ-loop arcs count index enter work seen n r fo want best₀ p₀ best p = p
+
+first-arc-requires : tie.Need-first-arc-requires Inv-loop μ-loop
+first-arc-requires c κs = (c .before .before .before .before .before .pre .2, c .before .before .before .before .before .pre .7)
 
 loop-holds : tie.Need-loop-holds Inv-loop μ-loop
-loop-holds c = (omega arith, chosen-none _ _ _ _ _ _ _ _)
+loop-holds c =
+    let p = c .before .before .before .before .before .before .pre in
+    let T = p .8 .first-at _ (p .7) in
+    rw (c .first-arc .ensures) (T, chosen-first (chosen-none _ _ _ _ _ _ _ _ _) (T .0) (before-first (p .8)))
+
+-- the arc at which p stands
+stands : (c : tie.In-loop Inv-loop μ-loop) → (0 < c .before .loop .p) × (c .before .loop .p ≤ c .before .before .before .before .before .before .before .before .args .count)
+stands c = (omega arith, c .before .loop .inv .0 .0)
+
+sub-j : tie.Need-sub-j Inv-loop μ-loop
+sub-j c = omega arith
 
 mul-a : tie.Need-mul-a Inv-loop μ-loop
 mul-a c = omega arith
 
 shared-slice-read-a : tie.Need-shared-slice-read-a Inv-loop μ-loop
-shared-slice-read-a c = omega arith
+shared-slice-read-a c = omega (arith, stands (c .before))
 
 cast-a : tie.Need-cast-a Inv-loop μ-loop
-cast-a c = let f = c .shared-slice-known5 .given (c .before .before .loop .j) in omega arith
+cast-a c = omega (arith, c .shared-slice-known6 .given (c .before .before .loop .p - 1) .fits)
 
 mul-kept : tie.Need-mul-kept Inv-loop μ-loop
 mul-kept c = omega arith
@@ -55,23 +71,23 @@ cast-better c = omega arith
 better-requires : tie.Need-better-requires Inv-loop μ-loop
 better-requires c κs = search needs
 
-add-j : tie.Need-add-j Inv-loop μ-loop
-add-j c = omega arith
+next-arc-requires : tie.Need-next-arc-requires Inv-loop μ-loop
+next-arc-requires c κs = (c .before .before .before .before .before .before .before .before .before .before .before .before .before .pre .2, omega (arith, stands (c .before .before .before .before .before)))
 
 loop-less : tie.Need-loop-less Inv-loop μ-loop
-loop-less c = omega arith
+loop-less c = omega (arith, c .next-arc .ensures, stands (c .before .before .before .before .before .before), next-falls (c .before .before .before .before .before .before .before .before .before .before .before .before .before .before .pre .8) (c .before .before .before .before .before .before .before .loop .inv .0) (stands (c .before .before .before .before .before .before) .0))
 
 loop-again : tie.Need-loop-again Inv-loop μ-loop
 unfolding arcFrom arcTo arcLetter
 loop-again c =
-    let l = c .before .before .before .loop in
-    ⊎-elim
-    (λ w. (omega arith, rw (w .5) (chosen-more (l .inv .1) (w .3 .result) (w .0 .taken) (w .3 .ensures) (w .4 .ensures))))
-    (λ w. (omega arith, rw (w .1) (chosen-skip (l .inv .1) (w .0 .left))))
-    (c .if1 .came)
+    let l = c .before .before .before .before .before .before .before .loop in
+    let X = c .before .before .before .before .before .before .before .before .before .before .before .before .before .before .pre .8 in
+    let C = l .inv .0 in
+    let z = stands (c .before .before .before .before .before .before) in
+    rw (c .next-arc .ensures) (cursor-next X C (z .0), chosen-more (l .inv .1) (omega arith) (omega arith) (next-falls X C (z .0)) (only-arc X C (z .0)) (c .before .before .kept .result) (C .1 (z .0)) (c .before .before .kept .ensures) (c .before .better .ensures))
 
 returns : tie.Need-returns Inv-loop μ-loop
-returns c = let l = c .before .loop in let e : l .j ≡ c .before .before .before .before .before .before .args .count = omega arith in rw e at (l .inv .1)
+returns c = let l = c .before .loop in let z : l .p ≡ 0 = omega arith in rw z at (l .inv .1)
 
 pub choose-spec : {M : Type 1} → statement M
 choose-spec =
@@ -79,7 +95,9 @@ choose-spec =
     (tie.spec
     Inv-loop
     μ-loop
+    first-arc-requires
     loop-holds
+    sub-j
     mul-a
     shared-slice-read-a
     cast-a
@@ -92,7 +110,7 @@ choose-spec =
     add-better
     cast-better
     better-requires
-    add-j
+    next-arc-requires
     loop-less
     loop-again
     returns)

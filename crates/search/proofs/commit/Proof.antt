@@ -1,58 +1,93 @@
--- `commit` meets its contract. The loop's invariant: it is met below r (Committed, Any). The measure is what is left of the records. Assumes nothing.
+-- `commit` goes over the list. The loop's invariant: the first i records of the list are marked, seen, held, and cleared in next (`Committing`). The measure is
+-- what is left of the list. It rests on `committing-more`. Assumes nothing.
 use mathlib.Core.Path.{_≡_, refl, _∙_}
-use mathlib.Core.Logic.{⊎-elim}
-use Prim.Native.Nat.{_-_, _≤_}
+use Prim.Native.Nat.{_-_, _≤_, _<_}
 use native.Mathlib.Omega.{arith}
-use lib.ListN.{length, length-set}
-use Rattle.search.specs.Levels.{Committed, Any}
-use Rattle.search.proofs.MarkLaws.{commit-none, commit-yes, commit-no, any-none, any-yes, any-no}
+use lib.ListN.{length, getD, length-set}
+use Rattle.search.proofs.CommitLaws.{Committing, committing-none, committing-more, committed, cleared, held}
 use Rattle.search.proofs.commit.Statement.{statement}
 use Rattle.search.proofs.commit.Tie as tie
 
 abbrev Inv-loop : tie.InvT-loop
-Inv-loop work₀ seen₀ next n mark any₀ r₀ work seen any r =
-    (r ≤ n) × (length work ≡ length work₀) × (length seen ≡ length seen₀) × Committed work₀ seen₀ next mark r work seen × Any next r any
+Inv-loop work₀ seen₀ next₀ list c n mark records₀ masks₀ i₀ work seen next records masks i =
+    (i ≤ c) × (length work ≡ length work₀) × (length seen ≡ length seen₀) × (length next ≡ length next₀) × (length records ≡ length records₀) × (length masks ≡ length masks₀) × Committing work₀ seen₀ next₀ mark list i work seen next records masks
 
 abbrev μ-loop : tie.MeasureT-loop
-μ-loop work₀ seen₀ next n mark any₀ r₀ work seen any r = n - r
+μ-loop work₀ seen₀ next₀ list c n mark records₀ masks₀ i₀ work seen next records masks i = c - i
 
 loop-holds : tie.Need-loop-holds Inv-loop μ-loop
-loop-holds c = (omega arith, refl, refl, commit-none _ _ _ _, any-none _)
+loop-holds c = (omega arith, refl, refl, refl, refl, refl, committing-none _ _ _ _ _ _ _)
+
+-- the record at i
+inside : (c : tie.In-loop Inv-loop μ-loop) → getD (c .before .before .before .before .before .before .before .before .args .list .now) (c .before .loop .i) 0 < c .before .before .before .before .before .before .before .before .args .n
+inside c = c .before .before .before .before .before .before .before .before .pre .8 .small (c .before .loop .i) (omega arith)
+
+mul-r : tie.Need-mul-r Inv-loop μ-loop
+mul-r c = omega arith
+
+shared-slice-read-r : tie.Need-shared-slice-read-r Inv-loop μ-loop
+shared-slice-read-r c = omega arith
+
+cast-r : tie.Need-cast-r Inv-loop μ-loop
+cast-r c = omega (arith, inside (c .before))
 
 mul-m : tie.Need-mul-m Inv-loop μ-loop
-mul-m c = omega arith
+mul-m c = omega (arith, inside (c .before))
 
-shared-slice-read-m : tie.Need-shared-slice-read-m Inv-loop μ-loop
-shared-slice-read-m c = omega arith
+slice-read-m : tie.Need-slice-read-m Inv-loop μ-loop
+slice-read-m c = omega (arith, inside (c .before .before))
 
 stamp-requires : tie.Need-stamp-requires Inv-loop μ-loop
-stamp-requires c κs = omega arith
+stamp-requires c κs = let z = inside (c .before .before .before) in (omega arith, omega arith)
 
 mul-seen : tie.Need-mul-seen Inv-loop μ-loop
-mul-seen c = omega arith
+mul-seen c = omega (arith, inside (c .before .before .before .before .before .before))
 
 slice-read-seen : tie.Need-slice-read-seen Inv-loop μ-loop
-slice-read-seen c = omega arith
+slice-read-seen c = omega (arith, inside (c .before .before .before .before .before .before .before))
 
 mul-seen-2 : tie.Need-mul-seen-2 Inv-loop μ-loop
-mul-seen-2 c = omega arith
+mul-seen-2 c = omega (arith, inside (c .before .before .before .before .before .before .before))
 
 slice-write-seen : tie.Need-slice-write-seen Inv-loop μ-loop
-slice-write-seen c = omega arith
+slice-write-seen c = omega (arith, inside (c .before .before .before .before .before .before .before))
 
-add-r : tie.Need-add-r Inv-loop μ-loop
-add-r c = omega arith
+mul-next : tie.Need-mul-next Inv-loop μ-loop
+mul-next c = omega (arith, inside (c .before .before .before .before .before .before .before))
+
+slice-write-next : tie.Need-slice-write-next Inv-loop μ-loop
+slice-write-next c = omega (arith, inside (c .before .before .before .before .before .before .before))
+
+mul-records : tie.Need-mul-records Inv-loop μ-loop
+mul-records c = omega arith
+
+shared-slice-read-records : tie.Need-shared-slice-read-records Inv-loop μ-loop
+shared-slice-read-records c = omega arith
+
+mul-records-2 : tie.Need-mul-records-2 Inv-loop μ-loop
+mul-records-2 c = omega arith
+
+slice-write-records : tie.Need-slice-write-records Inv-loop μ-loop
+slice-write-records c = omega arith
+
+mul-masks : tie.Need-mul-masks Inv-loop μ-loop
+mul-masks c = omega arith
+
+slice-write-masks : tie.Need-slice-write-masks Inv-loop μ-loop
+slice-write-masks c = omega arith
+
+add-i : tie.Need-add-i Inv-loop μ-loop
+add-i c = omega arith
 
 loop-less : tie.Need-loop-less Inv-loop μ-loop
 loop-less c = omega arith
 
 loop-again : tie.Need-loop-again Inv-loop μ-loop
 loop-again c =
-    let l = c .before .before .before .loop in
-    ⊎-elim
-    (λ w. (omega arith, rw (w .6) (w .2 .kept .0 ∙ l .inv .1), rw (w .7) (simp length-set (l .inv .2)), rw (w .6, w .7) (commit-yes (l .inv .3) (w .2 .ensures) (omega arith)), rw (w .8) (any-yes _ (l .r) (omega (arith, w .0 .taken)) (c .before .shared-slice-known2 .given (l .r) .fits))))
-    (λ w. (omega arith, rw (w .1) (l .inv .1), rw (w .2) (l .inv .2), rw (w .1, w .2) (commit-no (l .inv .3) (w .0 .left)), rw (w .3) (any-no (l .inv .4) (w .0 .left))))
-    (c .if1 .came)
+    let l = c .before .before .before .before .before .before .before .before .before .loop in
+    let T = c .before .before .before .before .stamp in
+    let z = inside (c .before .before .before .before .before .before .before .before) in
+    (omega arith, T .kept .0 ∙ l .inv .1, simp length-set (l .inv .2), simp length-set (l .inv .3), simp length-set (l .inv .4), simp length-set (l .inv .5), committing-more (l .inv .6) (c .before .before .before .before .before .before .before .before .before .before .before .before .before .before .before .before .pre .8) (omega arith) (T .ensures) (omega arith) (omega arith) (omega arith) (omega arith))
 
 same-length : tie.Need-same-length Inv-loop μ-loop
 same-length c = c .before .loop .inv .1
@@ -60,8 +95,22 @@ same-length c = c .before .loop .inv .1
 same-length-2 : tie.Need-same-length-2 Inv-loop μ-loop
 same-length-2 c = c .before .loop .inv .2
 
+same-length-3 : tie.Need-same-length-3 Inv-loop μ-loop
+same-length-3 c = c .before .loop .inv .3
+
+same-length-4 : tie.Need-same-length-4 Inv-loop μ-loop
+same-length-4 c = c .before .loop .inv .4
+
+same-length-5 : tie.Need-same-length-5 Inv-loop μ-loop
+same-length-5 c = c .before .loop .inv .5
+
 returns : tie.Need-returns Inv-loop μ-loop
-returns c = let l = c .before .loop in let e : l .r ≡ c .before .before .before .before .before .args .n = omega arith in (rw e at (l .inv .3), rw e at (l .inv .4))
+returns c =
+    let l = c .before .loop in
+    let p = c .before .before .before .before .before .before .before .before .pre in
+    let e : l .i ≡ c .before .before .before .before .before .before .before .before .args .c = omega arith in
+    let I = rw e at (l .inv .6) in
+    (committed I (p .8), cleared I (p .8), held I (p .8) (p .0))
 
 pub commit-spec : {M : Type 1} → statement M
 commit-spec =
@@ -70,16 +119,30 @@ commit-spec =
     Inv-loop
     μ-loop
     loop-holds
+    mul-r
+    shared-slice-read-r
+    cast-r
     mul-m
-    shared-slice-read-m
+    slice-read-m
     stamp-requires
     mul-seen
     slice-read-seen
     mul-seen-2
     slice-write-seen
-    add-r
+    mul-next
+    slice-write-next
+    mul-records
+    shared-slice-read-records
+    mul-records-2
+    slice-write-records
+    mul-masks
+    slice-write-masks
+    add-i
     loop-less
     loop-again
     same-length
     same-length-2
+    same-length-3
+    same-length-4
+    same-length-5
     returns)

@@ -1,84 +1,71 @@
--- `level` meets its contract. The loop's invariant: the words are those that the first j arcs give (Levelled). The measure is what is left of the arcs.
--- Assumes nothing.
-use mathlib.Core.Path.{_≡_}
-use mathlib.Core.Logic.{⊎-elim}
-use Prim.Native.Nat.{ℕ, _-_, _≤_}
+-- `level` goes over the records of the current level. The loop's invariant: the list has the records of the words (`Listed`), and the arcs passed are those into
+-- the first i records (`Levelling`). The measure is what is left of the records. It rests on `levelling-all`. Assumes nothing.
+use mathlib.Core.Path.{_≡_, refl, _∙_}
+use mathlib.Core.List.{List}
+use Prim.Native.Nat.{ℕ, _-_, _≤_, _<_}
 use native.Mathlib.Omega.{arith}
-use lib.ListN.{length, length-set, length-replicate}
-use Rattle.search.specs.Arcs.{arcFrom, arcTo, arcLetter}
-use Rattle.search.specs.Levels.{Levelled}
-use Rattle.search.proofs.MaskLaws.{level-none, level-skip, level-more}
+use lib.ListN.{length, getD}
+use Rattle.search.specs.Frontiers.{Levelling, Listed, Frontier}
+use Rattle.search.proofs.FrontierLaws.{listed-none}
+use Rattle.search.proofs.LevellingLaws.{levelling-none, levelling-all}
 use Rattle.search.proofs.level.Statement.{statement}
 use Rattle.search.proofs.level.Tie as tie
 
 abbrev Inv-loop : tie.InvT-loop
-Inv-loop arcs count pred enter cur seen next₀ j₀ next j = (j ≤ count) × (length next ≡ 1024) × Levelled arcs pred enter cur seen j next
+Inv-loop arcs count index pred enter records masks c seen n next₀ list₀ k₀ i₀ next list k i =
+    (i ≤ c) × (length next ≡ length next₀) × (length list ≡ length list₀) × Listed list k n next
+    × ((cur : List ℕ) → Frontier records masks c cur → Levelling arcs pred enter cur seen n count records i count next)
 
 abbrev μ-loop : tie.MeasureT-loop
-μ-loop arcs count pred enter cur seen next₀ j₀ next j = count - j
+μ-loop arcs count index pred enter records masks c seen n next₀ list₀ k₀ i₀ next list k i = c - i
 
 loop-holds : tie.Need-loop-holds Inv-loop μ-loop
-loop-holds c = (omega arith, length-replicate {A = ℕ} 1024 0, level-none _ _ _ _ _ 1024)
+loop-holds c = let z = c .before .before .before .before .before .before .before .before .before .pre .13 in (omega arith, refl, refl, listed-none _ _ _ z, λ cur F. levelling-none _ _ _ _ _ _ _ _ _ z)
 
-mul-a : tie.Need-mul-a Inv-loop μ-loop
-mul-a c = omega arith
+-- the record at i
+inside : (c : tie.In-loop Inv-loop μ-loop) → getD (c .before .before .before .before .before .before .before .before .before .before .before .args .records .now) (c .before .loop .i) 0 < 1024
+inside c = c .before .before .before .before .before .before .before .before .before .before .before .pre .11 (c .before .loop .i) (omega arith)
 
-shared-slice-read-a : tie.Need-shared-slice-read-a Inv-loop μ-loop
-shared-slice-read-a c = omega arith
+mul-r : tie.Need-mul-r Inv-loop μ-loop
+mul-r c = omega arith
 
-cast-a : tie.Need-cast-a Inv-loop μ-loop
-cast-a c = let f = c .shared-slice-known6 .given (c .before .before .loop .j) in omega arith
+shared-slice-read-r : tie.Need-shared-slice-read-r Inv-loop μ-loop
+shared-slice-read-r c = omega arith
 
-mul-x : tie.Need-mul-x Inv-loop μ-loop
-mul-x c = omega arith
+cast-r : tie.Need-cast-r Inv-loop μ-loop
+cast-r c = omega (arith, inside (c .before))
 
-shared-slice-read-x : tie.Need-shared-slice-read-x Inv-loop μ-loop
-shared-slice-read-x c = omega arith
+mul-m : tie.Need-mul-m Inv-loop μ-loop
+mul-m c = omega arith
 
-mul-x-2 : tie.Need-mul-x-2 Inv-loop μ-loop
-mul-x-2 c = omega arith
+shared-slice-read-m : tie.Need-shared-slice-read-m Inv-loop μ-loop
+shared-slice-read-m c = omega arith
 
-shared-slice-read-x-2 : tie.Need-shared-slice-read-x-2 Inv-loop μ-loop
-shared-slice-read-x-2 c = omega arith
+into-requires : tie.Need-into-requires Inv-loop μ-loop
+into-requires c κs =
+    let p = c .before .before .before .before .before .before .before .before .before .before .before .before .before .before .before .pre in
+    (p .0, p .1, p .2, p .3, p .4, inside (c .before .before .before .before), p .7, p .8, omega arith, omega arith, p .12, c .before .before .before .before .before .loop .inv .3)
 
-mul-next : tie.Need-mul-next Inv-loop μ-loop
-mul-next c = omega arith
-
-array-read-next : tie.Need-array-read-next Inv-loop μ-loop
-array-read-next c = omega arith
-
-spread-requires : tie.Need-spread-requires Inv-loop μ-loop
-spread-requires c κs = omega arith
-
-mul-next-2 : tie.Need-mul-next-2 Inv-loop μ-loop
-mul-next-2 c = omega arith
-
-shared-slice-read-next : tie.Need-shared-slice-read-next Inv-loop μ-loop
-shared-slice-read-next c = omega arith
-
-mul-next-3 : tie.Need-mul-next-3 Inv-loop μ-loop
-mul-next-3 c = omega arith
-
-array-write-next : tie.Need-array-write-next Inv-loop μ-loop
-array-write-next c = omega arith
-
-add-j : tie.Need-add-j Inv-loop μ-loop
-add-j c = omega arith
+add-i : tie.Need-add-i Inv-loop μ-loop
+add-i c = omega arith
 
 loop-less : tie.Need-loop-less Inv-loop μ-loop
 loop-less c = omega arith
 
 loop-again : tie.Need-loop-again Inv-loop μ-loop
-unfolding arcFrom arcTo arcLetter
 loop-again c =
-    let l = c .before .before .before .before .before .loop in
-    ⊎-elim
-    (λ w. (omega arith, rw (w .3) (simp length-set (l .inv .1)), rw (w .3) (level-more (l .inv .2) (w .1 .result) (w .1 .ensures) (w .2 .given (arcFrom (c .before .before .before .before .before .before .before .before .before .before .before .args .arcs .now) (l .j)) .fits) (omega arith))))
-    (λ w. (omega arith, rw (w .1) (l .inv .1), rw (w .1) (level-skip (l .inv .2) (w .0 .left))))
-    (c .if1 .came)
+    let l = c .before .before .before .before .before .before .before .before .before .before .loop in
+    let P = c .before .before .before .before .into in
+    (omega arith, _∙_ {b = length (l .next)} (P .kept .1 .1 .1 .1 .1 .1 .1 .1 .1 .0) (l .inv .1), _∙_ {b = length (l .list)} (P .kept .1 .1 .1 .1 .1 .1 .1 .1 .1 .1 .0) (l .inv .2), P .ensures .0, λ cur F. P .ensures .1 cur _ (l .i) refl (F .at (l .i) (omega arith)) (l .inv .4 cur F))
+
+same-length : tie.Need-same-length Inv-loop μ-loop
+same-length c = c .before .loop .inv .1
+
+same-length-2 : tie.Need-same-length-2 Inv-loop μ-loop
+same-length-2 c = c .before .loop .inv .2
 
 returns : tie.Need-returns Inv-loop μ-loop
-returns c = let e : c .before .loop .j ≡ c .before .before .before .before .before .before .before .args .count = omega arith in rw e at (c .before .loop .inv .2)
+returns c = let l = c .before .loop in let e : l .i ≡ c .before .before .before .before .before .before .before .before .before .before .before .args .c = omega arith in (l .inv .3, λ cur F. levelling-all (rw e at (l .inv .4 cur F)) F)
 
 pub level-spec : {M : Type 1} → statement M
 level-spec =
@@ -87,21 +74,15 @@ level-spec =
     Inv-loop
     μ-loop
     loop-holds
-    mul-a
-    shared-slice-read-a
-    cast-a
-    mul-x
-    shared-slice-read-x
-    mul-x-2
-    shared-slice-read-x-2
-    mul-next
-    array-read-next
-    spread-requires
-    mul-next-2
-    shared-slice-read-next
-    mul-next-3
-    array-write-next
-    add-j
+    mul-r
+    shared-slice-read-r
+    cast-r
+    mul-m
+    shared-slice-read-m
+    into-requires
+    add-i
     loop-less
     loop-again
+    same-length
+    same-length-2
     returns)

@@ -1,0 +1,4 @@
+pub mod Arcs
+pub mod ArcLaws
+pub mod Index
+pub mod IndexLaws
