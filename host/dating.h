@@ -5,7 +5,7 @@
  *
  * A uint32_t answer is 0, or the number of a refusal, unless it says otherwise. A uint64_t answer is the number of words written to the list;
  * DATING_NO_CHAIN; or DATING_REFUSED plus the number of a refusal. A refused call leaves state and list as they were; words of a list past the
- * answer are never touched; work may hold anything after a call. The numbers:
+ * answer, and of a state past DATING_STATE_WORDS, are never touched; work may hold anything after a call. The numbers:
  *
  *    1  n outside 1 to 1,024                        9  expression outside the grammar
  *    2  record not below n                         10  expression over 256 bytes, 63 letters or 8 deep
@@ -37,7 +37,7 @@ extern "C" {
 /* Plus the number of a refusal. */
 #define DATING_REFUSED (UINT64_C(1) << 33)
 
-/* A fresh register of n records: 0, 1, or 12 if the state has not DATING_STATE_WORDS words. */
+/* A fresh register of n records at the front of the state: 0, 1, or 12 if it has fewer than DATING_STATE_WORDS words. */
 uint32_t dating_fresh(uint16_t n, uint32_t *state, size_t state_len);
 
 /* Edits; labels 0 to 25 are the letters a to z. Undo takes back the latest of at most 256 held edits. */

@@ -1,4 +1,4 @@
-//! Expressions: the grammar of the scope paper, read by recursive descent.
+//! Expressions: the grammar of `docs/SCOPE.md`, S3, read by recursive descent.
 
 use crate::system::Refusal;
 

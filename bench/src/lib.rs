@@ -1,10 +1,10 @@
 //! The benchmark: sheets and questions in, result lines and tables out; and the plain baseline beside which systems are measured.
 //!
-//! * `sheet`, `answer`, `clock`: the files, result lines and times of `../shared/bench/README.md`.
+//! * `sheet`, `answer`, `clock`: the files, result lines and times of `bench/sheets/README.md`.
 //! * `system`: what a system under test has to offer, and the list of those that are compared.
 //! * `runner`, `comparison`, `made`, `memory`: one system on one file; all systems side by side; made-up sheets; memory in use.
 //! * `engine`: the engine, through the crate `dating`.
-//! * `plain`, over `register`, `expression`, `rows` and `chains`: the baseline, written from the meaning in the scope paper (01).
+//! * `plain`, over `register`, `expression`, `rows` and `chains`: the baseline, written from the meaning in `docs/SCOPE.md`.
 
 pub mod answer;
 pub mod chains;

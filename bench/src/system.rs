@@ -3,7 +3,7 @@
 use crate::sheet::{Link, Question};
 use crate::{engine, plain};
 
-/// The number of a refusal, from the scope paper's table of causes.
+/// The number of a refusal, from the table of causes (`docs/SCOPE.md`, S6).
 pub type Refusal = u32;
 
 /// A register with its links in place. Questions change nothing in it.

@@ -1,4 +1,4 @@
-//! The baseline against the scope paper: its cases, and small random registers against the definitions of words and chains.
+//! The baseline against `docs/SCOPE.md`: its cases, and small random registers against the definitions of words and chains.
 
 use bench::expression::{read, Expression};
 use bench::made::Random;
@@ -34,7 +34,7 @@ fn written(steps: Option<Vec<u32>>) -> String {
 }
 
 #[test]
-fn the_papers_cases() {
+fn the_scopes_cases() {
     let system = &mut *load(4, &[(0, 'a', 1), (1, 'a', 2), (2, 'b', 0)]);
     for (expression, expected) in [
         ("a", &[(0, 1), (1, 2)][..]),

@@ -2,8 +2,9 @@
 //!
 //! A `u32` answer is 0 or the number of a refusal. A `u64` answer is the number of words written to the list; [`NO_CHAIN`] if there is no
 //! chain; [`REFUSED`] + the number of a refusal. A refused call leaves the state and the list as they were, and words of a list past
-//! the answer are never touched; work may hold anything after a call. Words that are no register's (another length, a number of records
-//! of 65,536 or more, a lock above 1) are refused with 16.
+//! the answer are never touched; work may hold anything after a call. A state may be longer than a register's words: its front is the
+//! register, and no call touches the words past it. Words that are no register's (too few, a counter out of range, a lock above 1) are
+//! refused with 16.
 
 use crate::Refusal;
 
@@ -39,8 +40,9 @@ pub fn told(answer: u64) -> Result<Option<usize>, Refusal> {
     }
 }
 
+/// Every refusal has the number of a cause: so it is proved of every call (`caused` of `register/Calls`, `pairs/Asking`, `chains/Replies`).
 fn refusal(number: u32) -> Refusal {
-    Refusal::of(number).expect("a refusal has a number from 1 to 16")
+    Refusal::of(number).expect("a refusal has the number of a cause")
 }
 
 // A slice is lent as a pointer to its first word and its length. `tests/declarations.rs` holds these to the Rattle source.
@@ -161,7 +163,7 @@ extern "C" {
 // SAFETY, of each: the function is the declared one, and has no `requires`; it is proved to end, and to read and write nothing but the
 // slices that it is lent, which are valid for the length that stands beside them and, where they are written, lent to nobody else.
 
-/// A fresh register's words: 0, or 1; 12 if there are not [`STATE_WORDS`].
+/// A fresh register's words at the front of a state: 0, or 1; 12 if it has fewer than [`STATE_WORDS`].
 pub fn fresh(n: u16, state: &mut [u32]) -> u32 {
     unsafe { dating_fresh(n, state.as_mut_ptr(), state.len()) }
 }

@@ -24,7 +24,8 @@ impl Register {
         Ok(Register { words, work: Vec::new(), list: Vec::new() })
     }
 
-    /// A register from the words of one. What is promised is promised of words that a register had; any others do no harm.
+    /// A register from the words of one, at the front of a state. What is promised is promised of words that a register had; any others do no
+    /// harm.
     pub fn of_words(words: &[u32]) -> Result<Register, Refusal> {
         if calls::size(words) == 0 {
             return Err(Refusal::NotOpened);

@@ -2,6 +2,7 @@
 --   pick b x y      x if b is true, else y
 --   bit b           1 if b is true, else 0
 --   In w l          w is a member of the list l
+--   All P l         P holds of every member of the list l
 --   has same x l    whether a member of l is the same as x, computed
 --   without x l     the members of l that are not the same as x
 --   Rises m l       the numbers of l ascend, each once, the first at least m
@@ -20,6 +21,10 @@ bit b = pick b 1 0
 pub data In {A : Type 0} (w : A) : List A → Type 0 where
   here : {l : List A} → In w (w ∷ l)
   there : {v : A} {l : List A} → In w l → In w (v ∷ l)
+
+pub data All {A : Type 0} (P : A → Type 0) : List A → Type 0 where
+  all-none : All P []
+  all-more : {x : A} {l : List A} → P x → All P l → All P (x ∷ l)
 
 module _ {A : Type 0} (same : A → A → Bool) where
   unfoldable pub has : A → List A → Bool

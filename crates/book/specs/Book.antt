@@ -19,7 +19,7 @@ use mathlib.Core.Bool.{Bool, not, _||_, _&&_}
 use Prim.Native.Nat.{ℕ, zero, suc}
 use lib.ListN.{length, take}
 use lib.Dec.{leb, ltb, eqb}
-use Rattle.book.specs.Basics.{pick, has, without}
+use Rattle.book.specs.Basics.{has, without}
 use Rattle.book.specs.Causes.{Cause, bad-size, no-record, bad-label, locked-end, already, missing, full, none-held, number, firstNumber, maxRecords, labels, maxLinks, maxHeld}
 
 pub record Link : Type 0 where
@@ -102,7 +102,7 @@ next b undo = undone b (b .pile)
 
 -- n is 1 to 1,024
 unfoldable pub freshAnswer : ℕ → ℕ
-freshAnswer n = pick (ltb n 1 || ltb maxRecords n) (number bad-size) 0
+freshAnswer n = firstNumber ((bad-size, ltb n 1 || ltb maxRecords n) ∷ [])
 
 unfoldable pub fresh : ℕ → Book
 fresh n = record { n = n; sheet = record { links = []; locks = [] }; pile = [] }

@@ -29,7 +29,7 @@ unlocks r = edit (unlock r)
 
 -- a register has 1 to 1,024 records
 fresh-1 : freshAnswer 0 ∷ freshAnswer 1 ∷ freshAnswer 1024 ∷ freshAnswer 1025 ∷ [] ≡ 1 ∷ 0 ∷ 0 ∷ 1 ∷ []
-unfolding freshAnswer number
+unfolding freshAnswer firstNumber number
 fresh-1 = refl
 
 -- 01's sample edits

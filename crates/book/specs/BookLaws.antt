@@ -7,10 +7,10 @@ use native.Mathlib.Omega.{arith}
 use lib.ListN.{length, take}
 use lib.Dec.{leb, eqb}
 use borrow.Author.Tests.{leb-false, not-false}
-use Rattle.book.specs.Basics.{has, without}
-use Rattle.book.specs.Causes.{Cause, bad-size, no-record, bad-label, locked-end, already, missing, full, none-held, no-expression, too-many-bytes, too-large, bad-tree, short-work, short-list, broken-frame, unknown-kind, not-open, number, editOrder, firstNumber, InOrder, none-left, same-cause, passed-over, maxRecords, labels, maxLinks, maxHeld}
+use Rattle.book.specs.Basics.{pick, has, without, All, all-none, all-more}
+use Rattle.book.specs.Causes.{Cause, bad-size, no-record, bad-label, locked-end, already, missing, full, none-held, no-expression, too-many-bytes, too-large, bad-tree, short-work, short-list, broken-frame, unknown-kind, not-open, number, Caused, editOrder, firstNumber, InOrder, none-left, same-cause, passed-over, maxRecords, labels, maxLinks, maxHeld}
 use Rattle.book.specs.Book.{Link, sameLink, Sheet, Book, Edit, add, remove, lock, unlock, Call, edit, undo, present, isLocked, causes, editAnswer, edited, turned, undoAnswer, undone, answer, next, fresh, answers, after}
-use Rattle.book.specs.Sheets.{Distinct, Proper, Fit, All, all-none, all-more, Sound}
+use Rattle.book.specs.Sheets.{Distinct, Proper, Fit, Sound}
 use Rattle.book.specs.SetLaws.{sameLink-test, eqb-test, and-both, or-neither, has-without, distinct-without, length-without}
 
 -- ---- causes
@@ -42,6 +42,19 @@ number-positive short-list = omega arith
 number-positive broken-frame = omega arith
 number-positive unknown-kind = omega arith
 number-positive not-open = omega arith
+
+pub caused-positive : {k : ℕ} → Caused k → 0 < k
+caused-positive c = omega (arith, number-positive (c .0), c .1)
+
+-- a number that is found is a cause's
+pick-caused : (c : Cause) (t : Bool) (cs : List (Cause × Bool)) {k : ℕ} → k ≡ pick t (number c) (firstNumber cs) → (k ≡ firstNumber cs → Caused k) → Caused k
+pick-caused c true cs e f = (c, e)
+pick-caused c false cs e f = f e
+
+pub first-caused : (cs : List (Cause × Bool)) {k : ℕ} → k ≡ firstNumber cs → (k ≡ 0 → ⊥) → Caused k
+unfolding firstNumber
+first-caused [] e z = absurd (z e)
+first-caused (c ∷ cs) e z = pick-caused (c .0) (c .1) cs e (λ q. first-caused cs q z)
 
 -- accepted: the first cause is not there, nor any after it
 pub first-none : (c : Cause) (t : Bool) (cs : List (Cause × Bool)) → firstNumber ((c, t) ∷ cs) ≡ 0 → (t ≡ false) × (firstNumber cs ≡ 0)

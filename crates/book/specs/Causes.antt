@@ -1,15 +1,15 @@
 -- The causes of a refusal, their numbers, and the order in which they are looked for.
 --   Cause           a row of 01's table of causes; the row of number 10 is two, since its two halves stand at different places in an order
 --   number c        the number of a cause
+--   Caused k        k is the number of a cause
 --   editOrder, questionOrder, treeOrder
 --                   the causes of each kind of call, in the order in which they are looked for
 --   firstNumber cs  of causes, each with whether it is there: the number of the first that is there, or 0 if none is
---   IsFirst Holds cs k
---                   the same for causes that are facts: k is the number of the first cause of cs that holds, or 0 if none does
 --   InOrder cs os   the causes cs are some of the order os, in that order
 --   maxRecords, labels, maxLinks, maxHeld, maxBytes, maxLetters, maxDepth
 --                   the limits
 -- Assumes nothing: these are definitions.
+use mathlib.Core.Path.{_≡_}
 use mathlib.Core.List.{List, [], _∷_}
 use mathlib.Core.Bool.{Bool}
 use Prim.Native.Nat.{ℕ}
@@ -70,6 +70,9 @@ number broken-frame = 14
 number unknown-kind = 15
 number not-open = 16
 
+abbrev pub Caused : ℕ → Type 0
+Caused k = (c : Cause) × (k ≡ number c)
+
 -- the orders: edits 2, 3, 4, 5, 6, 7; questions 2, 10 for bytes, 9, 10 for letters and depth, 12, 13; trees 1, 2, 11, 12, 13
 unfoldable pub editOrder : List Cause
 editOrder = no-record ∷ bad-label ∷ locked-end ∷ already ∷ missing ∷ full ∷ []
@@ -83,11 +86,6 @@ treeOrder = bad-size ∷ no-record ∷ bad-tree ∷ short-work ∷ short-list �
 unfoldable pub firstNumber : List (Cause × Bool) → ℕ
 firstNumber [] = 0
 firstNumber (c ∷ cs) = pick (c .1) (number (c .0)) (firstNumber cs)
-
-pub data IsFirst (Holds : Cause → Type 0) : List Cause → ℕ → Type 0 where
-  no-cause : IsFirst Holds [] 0
-  this : {c : Cause} {cs : List Cause} → Holds c → IsFirst Holds (c ∷ cs) (number c)
-  later : {c : Cause} {cs : List Cause} {k : ℕ} → (Holds c → ⊥) → IsFirst Holds cs k → IsFirst Holds (c ∷ cs) k
 
 pub data InOrder : List (Cause × Bool) → List Cause → Type 0 where
   none-left : {os : List Cause} → InOrder [] os

@@ -10,7 +10,7 @@ use mathlib.Core.Bool.{Bool, true, false}
 use Prim.Native.Nat.{ℕ, _≤_, _<_}
 use lib.ListN.{length}
 use lib.Dec.{eqb}
-use Rattle.book.specs.Basics.{has}
+use Rattle.book.specs.Basics.{has, All}
 use Rattle.book.specs.Causes.{maxRecords, labels, maxLinks}
 use Rattle.book.specs.Book.{Link, sameLink, Sheet, Book, present, isLocked}
 
@@ -29,10 +29,6 @@ pub record Fit (n : ℕ) (s : Sheet) : Type 0 where
   pub once : Distinct sameLink (s .links)
   pub single : Distinct eqb (s .locks)
   pub room : length (s .links) ≤ maxLinks
-
-pub data All (P : Sheet → Type 0) : List Sheet → Type 0 where
-  all-none : All P []
-  all-more : {s : Sheet} {ss : List Sheet} → P s → All P ss → All P (s ∷ ss)
 
 pub record Sound (b : Book) : Type 0 where
   pub small : b .n ≤ maxRecords

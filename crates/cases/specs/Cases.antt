@@ -7,10 +7,10 @@ use Prim.Native.Nat.{ℕ, _≤_}
 use Prim.Native.String.{String}
 use native.Mathlib.Omega.{arith}
 use lib.ListN.{length}
-use Rattle.book.specs.Basics.{has, without}
+use Rattle.book.specs.Basics.{has, without, All, all-none, all-more}
 use Rattle.book.specs.Causes.{number, firstNumber}
 use Rattle.book.specs.Book.{Call, causes, editAnswer, edited, turned, next, fresh, after}
-use Rattle.k2.specs.PairSets.{rowPairs, rowsPairs, listed, union, transpose, most, serves, product, over, closure, diagonal}
+use Rattle.k2.specs.PairSets.{rowPairs, rowsPairs, listed, union, transpose, most, serves, product, via, closure, diagonal}
 use Rattle.k2.specs.Trees.{rise, height, quadrant, filled, quarters, keep, levels, treeBits}
 use Rattle.paths.specs.Expressions.{standsFor, Expr, letters, depth}
 use Rattle.paths.specs.Grammar.{Verdict, accepted, long, outside, large, Judged}
@@ -25,7 +25,7 @@ use Rattle.paths.specs.PairLaws.{pairs-are, history-inside, history-small}
 use Rattle.paths.specs.ChainOrder.{before}
 use Rattle.paths.specs.Acceptance.{parted, many, accepts}
 use Rattle.paths.specs.FirstChain.{reach, stepsBelow, before-each, after-each, walks, walksTo, end, best, just, firstTo, chainTo, chain-first}
-use Rattle.cases.specs.Tables.{bytes, Case, pairs-of, chain-of, none-of, tree-of, wordOf, Holds, All, none-left, also, made, links, table, ring, ring-table, swapped-table, ties, ties-table}
+use Rattle.cases.specs.Tables.{bytes, Case, pairs-of, chain-of, none-of, tree-of, wordOf, Met, made, links, table, ring, ring-table, swapped-table, ties, ties-table}
 
 -- ---- a case from what is computed
 read : (t : String) (e : Expr) → verdict (bytes t) ≡ accepted e → Judged (bytes t) (accepted e)
@@ -48,7 +48,7 @@ Computed g outside k = ⊥
 Computed g large k = ⊥
 
 module _ (g : Graph) (I : Inside g) (s : g .n ≤ 1024) where
-  holds : (k : Case) (v : Verdict) → verdict (bytes (text k)) ≡ v → Computed g v k → Holds g k
+  holds : (k : Case) (v : Verdict) → verdict (bytes (text k)) ≡ v → Computed g v k → Met g k
   holds (pairs-of t l) (accepted e) h q = (e, read t e h, subst (λ (m : List ℕ). PairsAre g e m) q (pairs-are g I s e))
   holds (chain-of x y t ss) (accepted e) h q = (e, read t e h, chain-first g I (length ss) e x y ss q)
   holds (none-of x y t) (accepted e) h q = (e, read t e h, no-chain (λ ss r. let z = cells-has g I e x y .1 (ss, r) in omega arith))
@@ -57,12 +57,12 @@ module _ (g : Graph) (I : Inside g) (s : g .n ≤ 1024) where
   holds k outside h q = absurd q
   holds k large h q = absurd q
 
-by : (n : ℕ) (cs : List Call) → n ≤ 1024 → (k : Case) {ks : List Case} → Computed (made n cs) (verdict (bytes (text k))) k → All (made n cs) ks → All (made n cs) (k ∷ ks)
-by n cs h k q r = also (holds (made n cs) (history-inside n h cs) (history-small n h cs) k _ refl q) r
+by : (n : ℕ) (cs : List Call) → n ≤ 1024 → (k : Case) {ks : List Case} → Computed (made n cs) (verdict (bytes (text k))) k → All (Met (made n cs)) ks → All (Met (made n cs)) (k ∷ ks)
+by n cs h k q r = all-more (holds (made n cs) (history-inside n h cs) (history-small n h cs) k _ refl q) r
 
 -- K1 to K12
-pub k1-to-k12 : All (made 4 links) table
-unfolding table links bytes verdict readAlternatives alternativesIn letters depth standsFor after next turned editAnswer firstNumber number causes edited fresh has without asked most crossed zeroSteps diagonal transpose union serves product over closure cells rowPairs rowsPairs listed pairs parted many accepts before reach stepsBelow before-each after-each walks walksTo end best firstTo chainTo spell stepWords quadrant filled quarters keep levels treeBits rise height backwards
+pub k1-to-k12 : All (Met (made 4 links)) table
+unfolding table links bytes verdict readAlternatives alternativesIn letters depth standsFor after next turned editAnswer firstNumber number causes edited fresh has without asked most crossed zeroSteps diagonal transpose union serves product via closure cells rowPairs rowsPairs listed pairs parted many accepts before reach stepsBelow before-each after-each walks walksTo end best firstTo chainTo spell stepWords quadrant filled quarters keep levels treeBits rise height backwards
 k1-to-k12 =
     let h : 4 ≤ 1024 = omega arith in
     by 4 links h _ refl
@@ -77,16 +77,16 @@ k1-to-k12 =
     (by 4 links h _ refl
     (by 4 links h _ refl
     (by 4 links h _ refl
-    none-left)))))))))))
+    all-none)))))))))))
 
 -- what looks right and is wrong, and chains as short as one another
-pub others : All (made 3 ring) ring-table × All (made 4 links) swapped-table × All (made 4 ties) ties-table
-unfolding ring-table ring swapped-table links ties-table ties bytes verdict readAlternatives alternativesIn letters depth standsFor after next turned editAnswer firstNumber number causes edited fresh has without asked most crossed zeroSteps diagonal transpose union serves product over closure cells rowPairs rowsPairs listed pairs parted many accepts before reach stepsBelow before-each after-each walks walksTo end best firstTo chainTo spell stepWords quadrant filled quarters keep levels treeBits rise height backwards
+pub others : All (Met (made 3 ring)) ring-table × All (Met (made 4 links)) swapped-table × All (Met (made 4 ties)) ties-table
+unfolding ring-table ring swapped-table links ties-table ties bytes verdict readAlternatives alternativesIn letters depth standsFor after next turned editAnswer firstNumber number causes edited fresh has without asked most crossed zeroSteps diagonal transpose union serves product via closure cells rowPairs rowsPairs listed pairs parted many accepts before reach stepsBelow before-each after-each walks walksTo end best firstTo chainTo spell stepWords quadrant filled quarters keep levels treeBits rise height backwards
 others =
     let h : 3 ≤ 1024 = omega arith in
     let i : 4 ≤ 1024 = omega arith in (
-      by 3 ring h _ refl (by 3 ring h _ refl (by 3 ring h _ refl none-left)),
-      by 4 links i _ refl none-left,
+      by 3 ring h _ refl (by 3 ring h _ refl (by 3 ring h _ refl all-none)),
+      by 4 links i _ refl all-none,
       by 4 ties i _ refl
           (by 4 ties i _ refl
           (by 4 ties i _ refl
@@ -95,5 +95,5 @@ others =
           (by 4 ties i _ refl
           (by 4 ties i _ refl
           (by 4 ties i _ refl
-          none-left))))))),
+          all-none))))))),
     )

@@ -1,7 +1,6 @@
--- The worked cases of 01 as tables, and what it is for a case to hold.
+-- The worked cases of 01 as tables, and what it is for a case to be met.
 --   Case            the pairs of an expression; the first chain; no chain of any length; the tree's bits
---   Holds g k       the text is an expression of the grammar, and of the graph g its meaning is as the case k says
---   All g ks        every case of a table holds
+--   Met g k         the text is an expression of the grammar, and of the graph g its meaning is as the case k says
 --   made n cs       the graph of the book after the calls cs, from a fresh one of n records
 --   links, table    K1 to K12: the links 0 a 1, 1 a 2, 2 b 0, with n = 4
 --   ring, ring-table, swapped-table
@@ -45,15 +44,11 @@ pub data Case : Type 0 where
 abbrev pub wordOf : ℕ × ℕ → ℕ
 wordOf p = pairWord (p .0) (p .1)
 
-abbrev pub Holds : Graph → Case → Type 0
-Holds g (pairs-of t l) = (e : Expr) × Judged (bytes t) (accepted e) × PairsAre g e (map wordOf l)
-Holds g (chain-of x y t ss) = (e : Expr) × Judged (bytes t) (accepted e) × First g e x y ss
-Holds g (none-of x y t) = (e : Expr) × Judged (bytes t) (accepted e) × ChainIs g e x y none
-Holds g (tree-of t bits) = (e : Expr) × Judged (bytes t) (accepted e) × TreeIs g e bits
-
-pub data All (g : Graph) : List Case → Type 0 where
-  none-left : All g []
-  also : {k : Case} {ks : List Case} → Holds g k → All g ks → All g (k ∷ ks)
+abbrev pub Met : Graph → Case → Type 0
+Met g (pairs-of t l) = (e : Expr) × Judged (bytes t) (accepted e) × PairsAre g e (map wordOf l)
+Met g (chain-of x y t ss) = (e : Expr) × Judged (bytes t) (accepted e) × First g e x y ss
+Met g (none-of x y t) = (e : Expr) × Judged (bytes t) (accepted e) × ChainIs g e x y none
+Met g (tree-of t bits) = (e : Expr) × Judged (bytes t) (accepted e) × TreeIs g e bits
 
 abbrev pub made : ℕ → List Call → Graph
 made n cs = asked (after (fresh n) cs)

@@ -8,7 +8,7 @@ use native.Mathlib.Omega.{arith}
 use lib.ListN.{length, getD, take, drop, take-append-drop}
 use lib.Seq.{getD-take, length-take-le}
 use borrow.Author.Tests.{le-leb, lt-leb, le-ltb, lt-ltb}
-use Rattle.book.specs.Causes.{number, firstNumber}
+use Rattle.book.specs.Causes.{no-record, short-work, short-list, number, Caused, firstNumber}
 use Rattle.book.specs.Book.{Link, Book, present}
 use Rattle.book.specs.SetLaws.{or-true}
 use Rattle.book.specs.ListLaws.{in-at, at-in}
@@ -17,7 +17,7 @@ use Rattle.paths.specs.Grammar.{Verdict, accepted, long, outside, large, verdic
 use Rattle.paths.specs.Verdicts.{verdict}
 use Rattle.paths.specs.Chains.{Graph, asked, Step, Answers, Reply, none as no-reply, chain as chain-reply, ChainIs, no-chain, first-chain}
 use Rattle.paths.specs.ChainLaws.{Inside}
-use Rattle.paths.specs.PairLaws.{fit-inside}
+use Rattle.paths.specs.PairLaws.{fit-inside, verdict-caused}
 use Rattle.paths.specs.FirstChain.{reply-only}
 use Rattle.paths.specs.Questions.{refused, replied, ReplyTo, chainWork, steps, chainCauses, chainAnswer, listAfter}
 use Rattle.register.specs.declared.Register.{Register}
@@ -31,7 +31,7 @@ use Rattle.search.specs.declared.Found.{Found}
 use Rattle.search.specs.declared.Found.the-variants.{Steps, Nowhere, Short}
 use Rattle.chains.specs.declared.ChainAnswer.{ChainAnswer}
 use Rattle.chains.specs.declared.ChainAnswer.the-variants.{Chain, NoChain, Refused}
-use Rattle.chains.specs.Replies.{outcomeOf, answerLength, Replies}
+use Rattle.chains.specs.Replies.{outcomeOf, stepsLength, Replies}
 
 -- ---- the register's words span the book's graph
 module _ {self : Register} {b : Book} (R : Represents self b) where
@@ -100,10 +100,10 @@ module _ (b : Book) (x y : ℕ) (t : Reply) (work room : ℕ) where
         answer-reply h = rw (a, lt-leb (b .n) x hx, lt-leb (b .n) y hy, le-ltb work (64 * b .n) enough, le-ltb room (length (steps t)) h)
 
 -- the answer, by what the search found
-abbrev pub answerOf : Found → ChainAnswer
-answerOf (Steps k) = Chain k
-answerOf Nowhere = NoChain
-answerOf Short = Refused 13
+abbrev pub foundAnswer : Found → ChainAnswer
+foundAnswer (Steps k) = Chain k
+foundAnswer Nowhere = NoChain
+foundAnswer Short = Refused 13
 
 -- no reply is shorter than a shortest chain
 reply-long : {g : Graph} {e : Expr} {x y : ℕ} {t : Reply} → ChainIs g e x y t → (ss : List Step) → Answers g e x y ss → ((ts : List Step) → Answers g e x y ts → length ss ≤ length ts) → length ss ≤ length (steps t)
@@ -112,27 +112,34 @@ reply-long (no-chain h) ss s l = absurd (h ss s)
 reply-long (first-chain ts F) ss s l = let z = l ts (F .answers) in let y = length-stepWords ts in omega arith
 
 -- ---- the promise
+-- the number of a refusal is its own
+refused-as : {k : ℕ} → Caused k → (j : ℕ) → Refused k ≡ Refused j → Caused j
+refused-as {k} c j e = let z : k ≡ j = cc in subst Caused z c
+
 module _ {self : Register} {x y : ℕ} {text : List ℕ} {work : ℕ} {list : List ℕ} where
   -- a refusal
-  pub refuses : (k : ℕ) → ((b : Book) → Represents self b → (t : Reply) → ReplyTo (asked b) (verdict text) x y t → chainAnswer b x y (verdict text) t work (length list) ≡ refused k) → Replies self x y text work list list (Refused k)
-  unfolding outcomeOf answerLength listAfter
-  refuses k h = record { fits = omega arith; past = refl; answers = λ b R t q. (let e = h b R t q in (sym e, rw e refl)) }
+  pub refuses : (k : ℕ) → Caused k → ((b : Book) → Represents self b → (t : Reply) → ReplyTo (asked b) (verdict text) x y t → chainAnswer b x y (verdict text) t work (length list) ≡ refused k) → Replies self x y text work list list (Refused k)
+  unfolding outcomeOf stepsLength listAfter
+  refuses k c h = record { fits = omega arith; past = refl; caused = refused-as c; answers = λ b R t q. (let e = h b R t q in (sym e, rw e refl)) }
 
   module _ {n : ℕ} (size : (b : Book) → Represents self b → n ≡ b .n) where
     pub refuses-record : (n ≤ x) ⊎ (n ≤ y) → Replies self x y text work list list (Refused 2)
-    refuses-record h = refuses 2 (λ b R t q. answer-record b x y t work (length list) (verdict text) (subst (λ (m : ℕ). (m ≤ x) ⊎ (m ≤ y)) (size b R) h))
+    unfolding number
+    refuses-record h = refuses 2 (no-record, refl) (λ b R t q. answer-record b x y t work (length list) (verdict text) (subst (λ (m : ℕ). (m ≤ x) ⊎ (m ≤ y)) (size b R) h))
 
     module _ (hx : x < n) (hy : y < n) where
       pub refuses-text : (k : ℕ) → firstNumber (verdictCause (verdict text)) ≡ k → 0 < k → Replies self x y text work list list (Refused k)
-      refuses-text k e h = refuses k (λ b R t q. (let s = size b R in answer-text b x y t work (length list) (omega arith) (omega arith) (verdict text) k e h))
+      refuses-text k e h = refuses k (verdict-caused (verdict text) k e h) (λ b R t q. (let s = size b R in answer-text b x y t work (length list) (omega arith) (omega arith) (verdict text) k e h))
 
       module _ (e : Expr) (a : verdict text ≡ accepted e) where
         pub refuses-work : work < n * 64 → Replies self x y text work list list (Refused 12)
-        refuses-work h = refuses 12 (λ b R t q. (let s = size b R in answer-work b x y t work (length list) (omega arith) (omega arith) (verdict text) e a (omega arith)))
+        unfolding number
+        refuses-work h = refuses 12 (short-work, refl) (λ b R t q. (let s = size b R in answer-work b x y t work (length list) (omega arith) (omega arith) (verdict text) e a (omega arith)))
 
         module _ (enough : n * 64 ≤ work) where
           replies-short : ((b : Book) → Represents self b → Answered (asked b) e x y list list Short) → Replies self x y text work list list (Refused 13)
-          replies-short h = refuses 13 (λ b R t q. (let s = size b R in answer-list b x y t work (length list) (omega arith) (omega arith) (verdict text) e a (omega arith) (go (h b R) refl (q e a))))
+          unfolding number
+          replies-short h = refuses 13 (short-list, refl) (λ b R t q. (let s = size b R in answer-list b x y t work (length list) (omega arith) (omega arith) (verdict text) e a (omega arith) (go (h b R) refl (q e a))))
             where
               go : {g : Graph} {t : Reply} {r : Found} → Answered g e x y list list r → r ≡ Short → ChainIs g e x y t → length list < length (steps t)
               go (first ss F z) i c = absurd (let z : _≡_ {A = ℕ} 0 1 = cc in omega arith)
@@ -140,8 +147,8 @@ module _ {self : Register} {x y : ℕ} {text : List ℕ} {work : ℕ} {list : Li
               go (short ss s l m) i c = let z = reply-long c ss s l in omega arith
 
           replies-none : ((b : Book) → Represents self b → Answered (asked b) e x y list list Nowhere) → Replies self x y text work list list NoChain
-          unfolding outcomeOf answerLength listAfter steps
-          replies-none h = record { fits = omega arith; past = refl; answers = ans }
+          unfolding outcomeOf stepsLength listAfter steps
+          replies-none h = record { fits = omega arith; past = refl; caused = λ k q. absurd (let z : _≡_ {A = ℕ} 0 1 = cc in omega arith); answers = ans }
             where
               is-none : {g : Graph} {t : Reply} {r : Found} → Answered g e x y list list r → r ≡ Nowhere → ChainIs g e x y t → t ≡ no-reply
               is-none (first ss F z) i c = absurd (let z : _≡_ {A = ℕ} 0 1 = cc in omega arith)
@@ -156,8 +163,8 @@ module _ {self : Register} {x y : ℕ} {text : List ℕ} {work : ℕ} {list : Li
                   (ap replied (sym i) ∙ sym r, rw (r, i) refl)
 
           replies-chain : {list′ : List ℕ} {k : ℕ} → k ≤ length list → length list′ ≡ length list → drop k list′ ≡ drop k list → ((b : Book) → Represents self b → Answered (asked b) e x y list list′ (Steps k)) → Replies self x y text work list list′ (Chain k)
-          unfolding outcomeOf answerLength listAfter steps
-          replies-chain {list′} {k} hk same rest h = record { fits = hk; past = rest; answers = ans }
+          unfolding outcomeOf stepsLength listAfter steps
+          replies-chain {list′} {k} hk same rest h = record { fits = hk; past = rest; caused = λ k q. absurd (let z : _≡_ {A = ℕ} 0 1 = cc in omega arith); answers = ans }
             where
               is-chain : {g : Graph} {t : Reply} {r : Found} → Answered g e x y list list′ r → r ≡ Steps k → ChainIs g e x y t → t ≡ chain-reply (take k list′)
               is-chain (none z) i c = absurd (let z : _≡_ {A = ℕ} 0 1 = cc in omega arith)
@@ -172,7 +179,7 @@ module _ {self : Register} {x y : ℕ} {text : List ℕ} {work : ℕ} {list : Li
                   let r = answer-reply b x y t work (length list) (omega arith) (omega arith) (verdict text) e a (omega arith) (rw i (omega arith)) in
                   (ap replied (sym i) ∙ sym r, rw (r, i, l) (sym (take-append-drop k list′) ∙ ap (λ (m : List ℕ). take k list′ ++ m) rest))
 
-          pub replies : {list′ : List ℕ} {r : Found} → Untouched list list′ r → length list′ ≡ length list → ((b : Book) → Represents self b → Answered (asked b) e x y list list′ r) → Replies self x y text work list list′ (answerOf r)
+          pub replies : {list′ : List ℕ} {r : Found} → Untouched list list′ r → length list′ ≡ length list → ((b : Book) → Represents self b → Answered (asked b) e x y list list′ r) → Replies self x y text work list list′ (foundAnswer r)
           replies (written hk rest) same h = replies-chain hk same rest h
           replies (none-found q) same h = subst (λ (l : List ℕ). Replies self x y text work list l NoChain) (sym q) (replies-none (λ b R. subst (λ (l : List ℕ). Answered (asked b) e x y list l Nowhere) q (h b R)))
           replies (too-long q) same h = subst (λ (l : List ℕ). Replies self x y text work list l (Refused 13)) (sym q) (replies-short (λ b R. subst (λ (l : List ℕ). Answered (asked b) e x y list l Short) q (h b R)))

@@ -1,14 +1,17 @@
 -- What a chain question promises.
 --   outcomeOf r l   the outcome that the answer r says, with the steps in the first words of the list l
---   answerLength r  how many words of the list are the answer's
+--   stepsLength r  how many words of the list are the answer's
+--   BookReplies b from to text work list list′ r
+--                   asked of the book b: the outcome is the one that the definition gives for the reply to the question, and so is the list
 --   Replies self from to text work list list′ r
---                   over any contents: the answer fits the list, and the words past it are as they were, all of them with a refusal or no chain.
---                   For every book that the register represents: the outcome is the book's, and so is the list
+--                   over any contents: the answer fits the list, the words past it are as they were, all of them with a refusal or no chain, and a
+--                   refusal has the number of a cause. For every book that the register represents: the answer and the list are the book's
 -- Assumes nothing: these are definitions.
 use mathlib.Core.Path.{_≡_}
 use mathlib.Core.List.{List}
 use Prim.Native.Nat.{ℕ, _≤_}
 use lib.ListN.{length, take, drop}
+use Rattle.book.specs.Causes.{Caused}
 use Rattle.book.specs.Book.{Book}
 use Rattle.paths.specs.Chains.{asked, Reply, none, chain}
 use Rattle.paths.specs.Questions.{Outcome, refused, replied, ReplyTo, chainAnswer, listAfter}
@@ -23,13 +26,18 @@ outcomeOf (Chain k) l = replied (chain (take k l))
 outcomeOf NoChain l = replied none
 outcomeOf (Refused k) l = refused k
 
-unfoldable pub answerLength : ChainAnswer → ℕ
-answerLength (Chain k) = k
-answerLength NoChain = 0
-answerLength (Refused k) = 0
+unfoldable pub stepsLength : ChainAnswer → ℕ
+stepsLength (Chain k) = k
+stepsLength NoChain = 0
+stepsLength (Refused k) = 0
+
+abbrev pub BookReplies : Book → ℕ → ℕ → List ℕ → ℕ → List ℕ → List ℕ → ChainAnswer → Type 0
+BookReplies b from to text work list list′ r = (t : Reply) → ReplyTo (asked b) (verdict text) from to t
+    → (outcomeOf r list′ ≡ chainAnswer b from to (verdict text) t work (length list))
+    × (list′ ≡ listAfter (chainAnswer b from to (verdict text) t work (length list)) list)
 
 pub record Replies (self : Register) (from to : ℕ) (text : List ℕ) (work : ℕ) (list list′ : List ℕ) (r : ChainAnswer) : Type 0 where
-  pub fits : answerLength r ≤ length list
-  pub past : drop (answerLength r) list′ ≡ drop (answerLength r) list
-  pub answers : (b : Book) → Represents self b → (t : Reply) → ReplyTo (asked b) (verdict text) from to t
-      → (outcomeOf r list′ ≡ chainAnswer b from to (verdict text) t work (length list)) × (list′ ≡ listAfter (chainAnswer b from to (verdict text) t work (length list)) list)
+  pub fits : stepsLength r ≤ length list
+  pub past : drop (stepsLength r) list′ ≡ drop (stepsLength r) list
+  pub caused : (k : ℕ) → r ≡ Refused k → Caused k
+  pub answers : (b : Book) → Represents self b → BookReplies b from to text work list list′ r

@@ -3,11 +3,10 @@
 use libc::STDIN_FILENO;
 use libc::STDOUT_FILENO;
 use session::State;
-ghost use mathlib.Core.Path.{_≡_};
-ghost use mathlib.Core.Bool.{true};
 ghost use Prim.Native.Nat.{_≤_};
 ghost use lib.ListN.{length};
-ghost use Rattle.session.specs.Runs.{Lives};
+ghost use Rattle.session.specs.Program.{programWords};
+ghost use Rattle.session.specs.Runs.{Stepped};
 
 // The most bytes of a frame after its length.
 const MAX_FRAME: usize = 1024;
@@ -36,15 +35,14 @@ fn read_frame(bytes: &mut [u8]) -> usize
 }
 
 // Reads a frame and answers it.
-fn turn(state: State) -> Turned
-    ensures { λ r. ⌜ (Lives state → r .more ≡ true → Lives (r .state)) ⌝ }
+fn turn(state: State, list: &mut [u32]) -> Turned
+    ensures { λ r. ⌜ Stepped programWords state (now (list .entry)) (now (list .exit)) (r .state) (r .more) ⌝ }
 {
     let mut bytes = [0u8; 1026];
     let mut work = [0u64; 4096];
-    let mut list = [0u32; 4096];
     let mut out = [0u8; 65536];
     let got = read_frame(&mut bytes);
-    let ran = session::step(state, &bytes[..got], &mut work, &mut list, &mut out);
+    let ran = session::step(state, &bytes[..got], &mut work, list, &mut out);
     let next = ran.state;
     let written = ran.written;
     let sent = io::write_all(STDOUT_FILENO, &out[..written]);
@@ -56,9 +54,10 @@ fn turn(state: State) -> Turned
 
 fn main() {
     let mut state = session::unopened();
+    let mut list = [0u32; 4096];
     let mut turns = u64::MAX;
     while turns > 0 {
-        let turned = turn(state);
+        let turned = turn(state, &mut list);
         let next = turned.state;
         state = next;
         if !turned.more {

@@ -1,4 +1,4 @@
-// Runs the register's calls and prints the answers: 01's sample edits, every refusal that a register can give,
+// Runs the register's calls and prints the answers: 01's sample edits, as calls and as words, a register kept as words, every refusal that a register can give,
 // 257 edits with 257 undos, and a register filled to 4,096 links with one more, of which a removed link's space is used again.
 use libc::STDOUT_FILENO;
 use register::Answer;
@@ -136,31 +136,75 @@ fn numbers(told: &[u32]) {
     }
 }
 
-// The sample edits again, as words: a list with a word to spare, which stays as it was, one too short, and no register.
+// The word of a call, by its kind: 2 add, 3 remove, 4 lock, 5 unlock, 6 undo.
+fn word(kind: u8, from: u16, label: u8, to: u16) -> u64 {
+    ((kind as u64 * 65536 + from as u64) * 256 + label as u64) * 65536 + to as u64
+}
+
+// The sample edits again, as words, with words of kinds that do not exist among them, which are told 15 and change nothing: a list with a word to spare,
+// which stays as it was, one too short, and no register.
 fn replayed() {
     line(b"replay");
-    let calls = [
-        1u64,
-        33554433,
-        2199040032768,
-        16842755,
-        4398046511104,
-        16842755,
+    let words = [
+        word(2, 0, 0, 1),
+        word(0, 2, 0, 1),
+        word(2, 2, 0, 1),
+        word(4, 1, 0, 0),
+        word(7, 0, 0, 0),
+        word(2, 1, 1, 3),
+        word(6, 0, 0, 0),
+        word(2, 1, 1, 3),
+        18446744073709551615,
     ];
-    let mut told = [9u32; 7];
-    let out = register::replay(4, &calls, &mut told);
+    let mut told = [99u32; 10];
+    let out = register::replay(4, &words, &mut told);
     let answer = out.answer;
     say(answer);
     numbers(&told);
     count(b"links", out.register.links().count);
-    let mut few = [9u32; 5];
-    let out = register::replay(4, &calls, &mut few);
+    let mut few = [99u32; 8];
+    let out = register::replay(4, &words, &mut few);
     let answer = out.answer;
     say(answer);
     numbers(&few);
-    let out = register::replay(0, &calls, &mut few);
+    count(b"records", out.register.size());
+    let out = register::replay(0, &words, &mut few);
     let answer = out.answer;
     say(answer);
+    count(b"records", out.register.size());
+}
+
+fn wide(x: u32) -> usize {
+    x as usize
+}
+
+fn too_many_held(mut state: [u32; 5381]) -> [u32; 5381] {
+    state[3] = 257;
+    state
+}
+
+// A register kept as words in the front of a longer slice, whose last word stays as it was, and loaded again; then a counter out of range, and too few words.
+fn kept() {
+    line(b"state");
+    let r = open(4);
+    let r = after(r.add(0, 0, 1));
+    let mut state = [99u32; 5381];
+    if r.store(&mut state) {
+        line(b"stored");
+    }
+    let out = Register::load(&state);
+    let answer = out.answer;
+    say(answer);
+    count(b"links", out.register.links().count);
+    count(b"past", wide(state[5380]));
+    let few = [0u32; 5379];
+    let out = Register::load(&few);
+    let answer = out.answer;
+    say(answer);
+    let out = Register::load(&too_many_held(state));
+    let answer = out.answer;
+    say(answer);
+    count(b"records", out.register.size());
 }
 
 // A register after many calls, and how many of them were accepted.
@@ -261,6 +305,7 @@ fn full() {
 fn main() {
     sample();
     replayed();
+    kept();
     refusals();
     depth();
     full();

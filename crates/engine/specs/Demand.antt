@@ -1,14 +1,18 @@
 -- Demand 3, undivided: what is claimed of every history, and of the questions asked after it. It speaks of the plain book, of chains and of words.
---   PairsClaim b text work before after a
---                   a pair question about the book b, answered with a into a list that held `before` and then holds `after`: of an accepted expression,
---                   with space enough, it is not refused, the list has exactly the pairs with a chain, ascending, each once, and the number given is theirs
---   ChainClaim b x y text work before after a
---                   a chain question: where there is a chain, there is a first of all chains, and with space enough it is handed out and the number given is
---                   that of its steps; where there is none of any length, the answer says so; and it never says so otherwise
---   Demand n cs told ls ks text work list list′ p u x y work′ steps steps′ t
---                   the calls cs, made one after the other on a fresh register of n records, were answered by the numbers told, and at the end the links
---                   have the words ls, and ks says of each record whether it is locked; then a pair question about the text was answered by p, and a
---                   chain question about the text u, from x to y, by t: answers, links, locks and questions are all the plain book's
+--   PairsAsked      a pair question: its text, how many words of work were lent, the list as it was and as it is then, and the answer
+--   ChainAsked      a chain question: from, to, and the same
+--   Transcript      a history and the questions after it: n, the calls, the number told to each, at the end the words of the links and whether each
+--                   record is locked, and the two questions asked then
+--   bookAfter i     the plain book after the calls of i, from a fresh one
+--   PairsAccepted b q e
+--                   the pair question q about the book b is accepted: its text is the expression e, and work is enough
+--   PairsClaim b q  an accepted pair question is answered by the pairs with a chain, ascending, each once, and by their number, if the list takes them
+--   ChainAccepted b q e
+--                   the chain question q about the book b is accepted: its text is the expression e, its records exist, and work is enough
+--   ChainSays g e q of an accepted chain question: where there is a chain there is a first of all chains, none shorter and none as short before it, and it
+--                   is handed out with the number of its steps, if the list takes it; none is said exactly if there is no chain of any length
+--   ChainClaim b q  so for every accepted chain question
+--   Demand i        answers, links, locks and both questions are those of the plain book
 -- Assumes nothing: these are definitions.
 use mathlib.Core.Path.{_≡_}
 use mathlib.Core.List.{List}
@@ -18,7 +22,7 @@ use lib.ListN.{length, getD}
 use Rattle.book.specs.Book.{Book, Call, isLocked, fresh, answers, after}
 use Rattle.paths.specs.Expressions.{Expr}
 use Rattle.paths.specs.Grammar.{accepted, Judged}
-use Rattle.paths.specs.Chains.{asked, Step, stepWords, Answers, First}
+use Rattle.paths.specs.Chains.{Graph, asked, Step, stepWords, Answers, First}
 use Rattle.paths.specs.Relations.{PairsAre}
 use Rattle.paths.specs.Questions.{pairsWork, chainWork, over}
 use Rattle.register.specs.Links.{Linked}
@@ -27,24 +31,65 @@ use Rattle.pairs.specs.declared.PairsAnswer.the-variants.{Pairs}
 use Rattle.chains.specs.declared.ChainAnswer.{ChainAnswer}
 use Rattle.chains.specs.declared.ChainAnswer.the-variants.{Chain, NoChain}
 
-abbrev pub PairsClaim : Book → List ℕ → ℕ → List ℕ → List ℕ → PairsAnswer → Type 0
-PairsClaim b text work before after a =
-    (e : Expr) → Judged text (accepted e) → pairsWork (b .n) ≤ work
-    → (l : List ℕ) × PairsAre (asked b) e l × (length l ≤ length before → (a ≡ Pairs (length l)) × (after ≡ over l before))
+-- ---- what was lent, and what came back
+pub record PairsAsked : Type 0 where
+  pub text : List ℕ
+  pub work : ℕ
+  pub before : List ℕ
+  pub after : List ℕ
+  pub answer : PairsAnswer
 
-pub record ChainClaim (b : Book) (x y : ℕ) (text : List ℕ) (work : ℕ) (before after : List ℕ) (a : ChainAnswer) : Type 0 where
-  pub first : (e : Expr) → Judged text (accepted e) → x < b .n → y < b .n → chainWork (b .n) ≤ work
-      → (ts : List Step) → Answers (asked b) e x y ts
-      → (ss : List Step) × First (asked b) e x y ss × (length ss ≤ length before → (a ≡ Chain (length ss)) × (after ≡ over (stepWords ss) before))
-  pub none : (e : Expr) → Judged text (accepted e) → x < b .n → y < b .n → chainWork (b .n) ≤ work
-      → ((ss : List Step) → Answers (asked b) e x y ss → ⊥) → (a ≡ NoChain) × (after ≡ before)
-  pub no-other : (e : Expr) → Judged text (accepted e) → x < b .n → y < b .n → chainWork (b .n) ≤ work
-      → a ≡ NoChain → (ss : List Step) → Answers (asked b) e x y ss → ⊥
+pub record ChainAsked : Type 0 where
+  pub from : ℕ
+  pub to : ℕ
+  pub text : List ℕ
+  pub work : ℕ
+  pub before : List ℕ
+  pub after : List ℕ
+  pub answer : ChainAnswer
 
-pub record Demand (n : ℕ) (cs : List Call) (told ls : List ℕ) (ks : List Bool) (text : List ℕ) (work : ℕ) (list list′ : List ℕ) (p : PairsAnswer)
-    (u : List ℕ) (x y work′ : ℕ) (steps steps′ : List ℕ) (t : ChainAnswer) : Type 0 where
-  pub answers : told ≡ answers (fresh n) cs
-  pub links : Linked ls (after (fresh n) cs .sheet)
-  pub locks : (k : ℕ) → getD ks k false ≡ isLocked (after (fresh n) cs .sheet) k
-  pub pairs : PairsClaim (after (fresh n) cs) text work list list′ p
-  pub chain : ChainClaim (after (fresh n) cs) x y u work′ steps steps′ t
+pub record Transcript : Type 0 where
+  pub n : ℕ
+  pub calls : List Call
+  pub told : List ℕ
+  pub links : List ℕ
+  pub locks : List Bool
+  pub pairs : PairsAsked
+  pub chain : ChainAsked
+
+abbrev pub bookAfter : Transcript → Book
+bookAfter i = after (fresh (i .n)) (i .calls)
+
+-- ---- pair questions
+pub record PairsAccepted (b : Book) (q : PairsAsked) (e : Expr) : Type 0 where
+  pub expression : Judged (q .text) (accepted e)
+  pub work : pairsWork (b .n) ≤ q .work
+
+abbrev pub PairsClaim : Book → PairsAsked → Type 0
+PairsClaim b q = (e : Expr) → PairsAccepted b q e
+    → (l : List ℕ) × PairsAre (asked b) e l × (length l ≤ length (q .before) → (q .answer ≡ Pairs (length l)) × (q .after ≡ over l (q .before)))
+
+-- ---- chain questions
+pub record ChainAccepted (b : Book) (q : ChainAsked) (e : Expr) : Type 0 where
+  pub expression : Judged (q .text) (accepted e)
+  pub from : q .from < b .n
+  pub to : q .to < b .n
+  pub work : chainWork (b .n) ≤ q .work
+
+pub record ChainSays (g : Graph) (e : Expr) (q : ChainAsked) : Type 0 where
+  pub first : (ts : List Step) → Answers g e (q .from) (q .to) ts
+      → (ss : List Step) × First g e (q .from) (q .to) ss
+      × (length ss ≤ length (q .before) → (q .answer ≡ Chain (length ss)) × (q .after ≡ over (stepWords ss) (q .before)))
+  pub none : ((ss : List Step) → Answers g e (q .from) (q .to) ss → ⊥) → (q .answer ≡ NoChain) × (q .after ≡ q .before)
+  pub no-other : q .answer ≡ NoChain → (ss : List Step) → Answers g e (q .from) (q .to) ss → ⊥
+
+abbrev pub ChainClaim : Book → ChainAsked → Type 0
+ChainClaim b q = (e : Expr) → ChainAccepted b q e → ChainSays (asked b) e q
+
+-- ---- the whole
+pub record Demand (i : Transcript) : Type 0 where
+  pub answers : i .told ≡ answers (fresh (i .n)) (i .calls)
+  pub links : Linked (i .links) (bookAfter i .sheet)
+  pub locks : (r : ℕ) → getD (i .locks) r false ≡ isLocked (bookAfter i .sheet) r
+  pub pairs : PairsClaim (bookAfter i) (i .pairs)
+  pub chain : ChainClaim (bookAfter i) (i .chain)

@@ -1,23 +1,24 @@
 -- Demand 3: the theorem. It rests on what the calls promise and on nothing else of the engine.
 --   pairs-claim, chain-claim
 --                   what the questions promise gives what is claimed of them
+--   faulty-kept     of a faulty expression: its number, and the list as it was
 --   claims          answers and register of the book are all that is needed
 --   demand-3        for every n from 1 to 1,024, every list of calls, and every question asked of the register at the end
---   replayed-told, replayed-past
---                   what `replay` promises of its list: the answers at the front, and the rest as it was
+--   replayed-calls  what `replay` tells the calls among its words is what the book answers
+--   none-linked     a fresh register shows no link
 -- Assumes nothing.
 use mathlib.Core.Path.{_≡_, refl, sym, ap, _∙_, subst}
-use mathlib.Core.List.{List, [], _∷_, _++_, map}
+use mathlib.Core.List.{List, [], _∷_, _++_}
 use mathlib.Core.Bool.{Bool, true, false}
 use Prim.Native.Nat.{ℕ, zero, suc, _+_, _*_, _≤_, _<_}
 use native.Mathlib.Omega.{arith}
 use lib.Dec.{leb, ltb}
-use lib.ListN.{length, take, drop, length-append, length-drop, length-map}
-use lib.Seq.{length-take-le, take-append-seam, drop-append-seam}
+use lib.ListN.{length, take, drop, length-append, length-drop}
+use lib.Seq.{length-take-le}
 use borrow.Author.Tests.{lt-leb, le-ltb}
-use Rattle.book.specs.Causes.{number, firstNumber}
+use Rattle.book.specs.Basics.{pick, bit, here, has}
+use Rattle.book.specs.Causes.{number, firstNumber, maxRecords}
 use Rattle.book.specs.Book.{Book, Call, fresh, answers, after, freshAnswer}
-use Rattle.book.specs.BookLaws.{answers-length}
 use Rattle.paths.specs.Expressions.{Expr}
 use Rattle.paths.specs.Grammar.{Verdict, accepted, Judged, verdictCause}
 use Rattle.paths.specs.Chains.{asked, Step, stepWords, Answers, First, Reply, none, chain, ChainIs, no-chain, first-chain}
@@ -26,22 +27,26 @@ use Rattle.paths.specs.PairLaws.{fit-inside, pairs-are}
 use Rattle.paths.specs.FirstChain.{has-first}
 use Rattle.paths.specs.Verdicts.{verdict, verdict-only}
 use Rattle.paths.specs.Questions.{Outcome, refused, paired, replied, unless, pairsWork, chainWork, ReplyTo, steps, chainCauses, chainAnswer, pairsAnswer, over, listAfter}
-use Rattle.register.specs.Calls.{Represents, Opens, wordCall}
-use Rattle.register.specs.History.{Run, replayNumber, Replays}
-use Rattle.register.specs.HistoryLaws.{history}
-use Rattle.register.specs.Questions.{Listing, Locks}
+use Rattle.register.specs.Links.{Linked}
+use Rattle.register.specs.Calls.{Represents, Opens}
+use Rattle.register.specs.History.{CallsMade, wordCall, wordAnswers, isCall, callsOf, toldCalls}
+use Rattle.register.specs.HistoryLaws.{history, word-answers-length, told-calls}
+use Rattle.register.specs.Questions.{Listing, LockList}
 use Rattle.register.specs.declared.Register.{Register}
 use Rattle.register.specs.declared.Links.{Links}
 use Rattle.register.specs.declared.Opened.{Opened}
-use Rattle.pairs.specs.Asking.{Tells, told-number, told-pairs, AsksPairs}
-use Rattle.pairs.specs.AskingLaws.{asks-paired}
+use Rattle.reader.specs.Reads.{readAnswer}
+use Rattle.reader.specs.declared.Answer.the-variants.{Refused as Faulty}
+use Rattle.pairs.specs.Asking.{Tells, told-number, told-pairs, BookPairs, AsksPairs}
+use Rattle.pairs.specs.AskingLaws.{asks-refused, asks-paired}
 use Rattle.pairs.specs.declared.PairsAnswer.{PairsAnswer}
 use Rattle.pairs.specs.declared.PairsAnswer.the-variants.{Pairs, Refused}
 use Rattle.automaton.specs.WalkLaws.{length-stepWords}
-use Rattle.chains.specs.Replies.{outcomeOf, answerLength, Replies}
+use Rattle.chains.specs.Replies.{outcomeOf, stepsLength, Replies}
 use Rattle.chains.specs.declared.ChainAnswer.{ChainAnswer}
 use Rattle.chains.specs.declared.ChainAnswer.the-variants.{Chain, NoChain, Refused as NotAnswered}
-use Rattle.engine.specs.Demand.{PairsClaim, ChainClaim, Demand}
+use Rattle.engine.specs.Inquiries.{Gave}
+use Rattle.engine.specs.Demand.{PairsAsked, ChainAsked, Transcript, bookAfter, PairsAccepted, PairsClaim, ChainAccepted, ChainClaim, Demand}
 
 -- what a register shows lies within its records
 small : {e : Register} {b : Book} → Represents e b → b .n ≤ 1024
@@ -52,18 +57,30 @@ told-as : {o : Outcome} {a : PairsAnswer} (ws : List ℕ) → Tells o a → o �
 told-as ws (told-number {k}) e = absurd (let z : _≡_ {A = ℕ} 0 1 = cc in omega arith)
 told-as ws (told-pairs {ws = vs}) e = let z : vs ≡ ws = cc in ap (λ (l : List ℕ). Pairs (length l)) z
 
-pub pairs-claim : {e : Register} {b : Book} → Represents e b → (text : List ℕ) (work : ℕ) (before after′ : List ℕ) (a : PairsAnswer) → AsksPairs e text work before after′ a → PairsClaim b text work before after′ a
+pub pairs-claim : {r : Register} {b : Book} → Represents r b → (q : PairsAsked) → AsksPairs r (q .text) (q .work) (q .before) (q .after) (q .answer) → PairsClaim b q
 unfolding listAfter asked
-pairs-claim {e} {b} R text work before after′ a Q f J w =
-    let v : accepted f ≡ verdict text = verdict-only J in
-    let l = pairs (asked b) f in (
+pairs-claim {r} {b} R q Q e A =
+    let v : accepted e ≡ verdict (q .text) = verdict-only (A .expression) in
+    let l = pairs (asked b) e in (
       l,
-      pairs-are (asked b) (fit-inside b (R .sheet .fit)) (small R) f,
+      pairs-are (asked b) (fit-inside b (R .sheet .fit)) (small R) e,
       λ h.
-          let o : pairsAnswer b (verdict text) work (length before) ≡ paired l =
-          ap (λ (u : Verdict). pairsAnswer b u work (length before)) (sym v) ∙ asks-paired b work (length before) f w h in
-          (told-as l (Q .tells b R) o, Q .list b R ∙ ap (λ (u : Outcome). listAfter u before) o),
+          let o : pairsAnswer b (verdict (q .text)) (q .work) (length (q .before)) ≡ paired l =
+          ap (λ (u : Verdict). pairsAnswer b u (q .work) (length (q .before))) (sym v) ∙ asks-paired b (q .work) (length (q .before)) e (A .work) h in
+          (told-as l (Q .book b R .tells) o, Q .book b R .list ∙ ap (λ (u : Outcome). listAfter u (q .before)) o),
     )
+
+-- a faulty expression is refused with its number, and the list is as it was
+told-refused : {o : Outcome} {a : PairsAnswer} (k : ℕ) → Tells o a → o ≡ refused k → a ≡ Refused k
+told-refused k (told-number {k = j}) e = let z : j ≡ k = cc in ap Refused z
+told-refused k (told-pairs {ws}) e = absurd (let z : _≡_ {A = ℕ} 0 1 = cc in omega arith)
+
+pub faulty-kept : {b : Book} {v : Verdict} {work : ℕ} {before after′ : List ℕ} {a : PairsAnswer} (k : ℕ) → readAnswer v ≡ Faulty k → BookPairs b v work before after′ a
+    → (a ≡ Refused k) × (after′ ≡ before)
+unfolding listAfter
+faulty-kept {b} {v} {work} {before} k e B =
+    let o = asks-refused b work (length before) v k e in
+    (told-refused k (B .tells) o, B .list ∙ ap (λ (u : Outcome). listAfter u before) o)
 
 -- ---- chain questions
 module _ {e : Register} {b : Book} (R : Represents e b) (x y : ℕ) (text : List ℕ) (work : ℕ) (before after′ : List ℕ) (a : ChainAnswer) (Q : Replies e x y text work before after′ a)
@@ -88,13 +105,13 @@ module _ {e : Register} {b : Book} (R : Represents e b) (x y : ℕ) (text : List
 
   -- the answer that says a chain, and the one that says none
   says-chain : (ws : List ℕ) → outcomeOf a after′ ≡ replied (chain ws) → after′ ≡ over ws before → length ws ≤ length before → a ≡ Chain (length ws)
-  unfolding outcomeOf answerLength
+  unfolding outcomeOf stepsLength
   says-chain ws o l h = go a o (Q .fits)
     where
       long : length after′ ≡ length before
       long = ap length l ∙ length-append ws (drop (length ws) before) ∙ (let d = length-drop (length ws) before in let z : length ws + length (drop (length ws) before) ≡ length before = omega arith in z)
 
-      go : (r : ChainAnswer) → outcomeOf r after′ ≡ replied (chain ws) → answerLength r ≤ length before → r ≡ Chain (length ws)
+      go : (r : ChainAnswer) → outcomeOf r after′ ≡ replied (chain ws) → stepsLength r ≤ length before → r ≡ Chain (length ws)
       go (Chain k) o q =
           let t : take k after′ ≡ ws = cc in
           let m : k ≡ length ws = sym (length-take-le k after′ (omega (arith, long))) ∙ ap length t in
@@ -137,51 +154,53 @@ module _ {e : Register} {b : Book} (R : Represents e b) (x y : ℕ) (text : List
       → (ss : List Step) × First (asked b) f x y ss × (length ss ≤ length before → (a ≡ Chain (length ss)) × (after′ ≡ over (stepWords ss) before))
   first-of ts A = let F = has-first (asked b) (fit-inside b (R .sheet .fit)) f x y (ts, A) in (F .0, F .1, λ h. first-handed (F .0) (F .1) h)
 
-pub chain-claim : {e : Register} {b : Book} → Represents e b → (x y : ℕ) (text : List ℕ) (work : ℕ) (before after′ : List ℕ) (a : ChainAnswer) → Replies e x y text work before after′ a
-    → ChainClaim b x y text work before after′ a
-chain-claim R x y text work before after′ a Q = record {
-  first = λ f J hx hy w ts A. first-of R x y text work before after′ a Q f J hx hy w ts A;
-  none = λ f J hx hy w n. none-handed R x y text work before after′ a Q f J hx hy w n;
-  no-other = λ f J hx hy w q ss A. none-only R x y text work before after′ a Q f J hx hy w q ss A;
-}
+pub chain-claim : {r : Register} {b : Book} → Represents r b → (q : ChainAsked)
+    → Replies r (q .from) (q .to) (q .text) (q .work) (q .before) (q .after) (q .answer) → ChainClaim b q
+chain-claim {r} {b} R q Q e A =
+    record {
+      first = first-of R (q .from) (q .to) (q .text) (q .work) (q .before) (q .after) (q .answer) Q e (A .expression) (A .from) (A .to) (A .work);
+      none = none-handed R (q .from) (q .to) (q .text) (q .work) (q .before) (q .after) (q .answer) Q e (A .expression) (A .from) (A .to) (A .work);
+      no-other = none-only R (q .from) (q .to) (q .text) (q .work) (q .before) (q .after) (q .answer) Q e (A .expression) (A .from) (A .to) (A .work);
+    }
 
 -- ---- the whole claim
-module _ (n : ℕ) (cs : List Call) {told : List ℕ} {e : Register} {ls : Links} {locks : List Bool} (L : Listing e ls) (K : Locks e locks)
-    (text : List ℕ) (work : ℕ) (list list′ : List ℕ) (p : PairsAnswer) (P : AsksPairs e text work list list′ p)
-    (u : List ℕ) (x y work′ : ℕ) (steps steps′ : List ℕ) (t : ChainAnswer) (C : Replies e x y u work′ steps steps′ t) where
-  pub claims : told ≡ answers (fresh n) cs → Represents e (after (fresh n) cs)
-      → Demand n cs told (take (ls .count) (ls .words)) locks text work list list′ p u x y work′ steps steps′ t
-  claims a R = record {
-    answers = a;
-    links = L .linked (after (fresh n) cs) R;
-    locks = K .locked (after (fresh n) cs) R;
-    pairs = pairs-claim R text work list list′ p P;
-    chain = chain-claim R x y u work′ steps steps′ t C;
-  }
+module _ {r : Register} (i : Transcript) (G : Gave r i) where
+  pub claims : i .told ≡ answers (fresh (i .n)) (i .calls) → Represents r (bookAfter i) → Demand i
+  claims a R =
+      let l = G .links in
+      record {
+        answers = a;
+        links = subst (λ (ws : List ℕ). Linked ws (bookAfter i .sheet)) (sym (l .2)) (l .1 .linked (bookAfter i) R);
+        locks = G .locks .locked (bookAfter i) R;
+        pairs = pairs-claim R (i .pairs) (G .pairs);
+        chain = chain-claim R (i .chain) (G .chain);
+      }
 
-  pub demand-3 : {out : Opened} → 1 ≤ n → n ≤ 1024 → Opens n out → Run (out .register) cs told e
-      → Demand n cs told (take (ls .count) (ls .words)) locks text work list list′ p u x y work′ steps steps′ t
-  unfolding freshAnswer
+  pub demand-3 : {out : Opened} → 1 ≤ i .n → i .n ≤ maxRecords → Opens (i .n) out → CallsMade (out .register) (i .calls) (i .told) r → Demand i
+  unfolding freshAnswer firstNumber number
   demand-3 l h O run =
-      let z : freshAnswer n ≡ 0 = rw (le-ltb n 1 l, le-ltb 1024 n h) in
-      let o = history n (O .made z) run in
+      let z : freshAnswer (i .n) ≡ 0 = rw (le-ltb (i .n) 1 l, le-ltb maxRecords (i .n) h) in
+      let o = history (i .n) (O .made z) run in
       claims (o .0) (o .1)
 
--- of a replay: the front of the list has the answers, and the rest is as it was
-pub replayed-told : (n : ℕ) (words old new : List ℕ) {out : Opened} → Replays n words old new out → replayNumber n words old ≡ 0 → take (length words) new ≡ answers (fresh n) (map wordCall words)
-replayed-told n words old new P z =
-    let told = answers (fresh n) (map wordCall words) in
-    let l : length told ≡ length words = answers-length (fresh n) (map wordCall words) ∙ length-map words wordCall in
-    ap (take (length words)) (P .told z) ∙ ap (λ (k : ℕ). take k (told ++ drop (length words) old)) (sym l) ∙ take-append-seam told (drop (length words) old)
+-- ---- of a replay
+-- of numbers told to words, and others after them, the calls are told the first
+told-front : (words xs ys : List ℕ) → length xs ≡ length words → toldCalls words (xs ++ ys) ≡ toldCalls words xs
+unfolding toldCalls
+told-front [] xs ys h = refl
+told-front (w ∷ ws) [] ys h = absurd (omega arith)
+told-front (w ∷ ws) (k ∷ xs) ys h = ap (λ (l : List ℕ). pick (isCall (wordCall w)) (k ∷ l) l) (told-front ws xs ys (omega arith))
 
-pub replayed-past : (n : ℕ) (words old new : List ℕ) {out : Opened} → Replays n words old new out → drop (length words) new ≡ drop (length words) old
-replayed-past n words old new P = go (replayNumber n words old) refl
+-- the calls among the words are told the book's answers
+pub replayed-calls : (n : ℕ) (words old new : List ℕ) → new ≡ wordAnswers (fresh n) words ++ drop (length words) old → toldCalls words new ≡ answers (fresh n) (callsOf words)
+replayed-calls n words old new e =
+    ap (toldCalls words) e ∙ told-front words (wordAnswers (fresh n) words) (drop (length words) old) (word-answers-length (fresh n) words) ∙ told-calls (fresh n) words
+
+-- a fresh register shows no link
+pub none-linked : (n : ℕ) (ws : List ℕ) → Linked ws (fresh n .sheet) → ws ≡ []
+unfolding fresh has
+none-linked n [] L = refl
+none-linked n (w ∷ ws) L = absurd (both-ways (L .sound w here .2))
   where
-    told : List ℕ
-    told = answers (fresh n) (map wordCall words)
-
-    go : (k : ℕ) → replayNumber n words old ≡ k → drop (length words) new ≡ drop (length words) old
-    go zero z =
-        let l : length told ≡ length words = answers-length (fresh n) (map wordCall words) ∙ length-map words wordCall in
-        ap (drop (length words)) (P .told z) ∙ ap (λ (k : ℕ). drop k (told ++ drop (length words) old)) (sym l) ∙ drop-append-seam told (drop (length words) old)
-    go (suc k) z = ap (drop (length words)) (P .refused (λ q. let w : _≡_ {A = ℕ} 0 (suc k) = sym q ∙ z in omega arith))
+    both-ways : false ≡ true → ⊥
+    both-ways e = let z : _≡_ {A = ℕ} 0 1 = ap bit e in omega arith

@@ -1,25 +1,59 @@
--- What `inquire` promises: a history and the questions after it, made by one function.
---   Inquires n words told told′ text x y work list list′ steps steps′ r
---                   of the calls that a list of words stands for, on a fresh register of n records: demand 3, their answers in the list `told` and its words
---                   past them as they were; refused if n is outside 1 to 1,024 (1) or `told` is shorter than the answers (13), and then no question is asked: both are
---                   told the same number, and every list is as it was
+-- What `inquire` promises: a history and the questions after it, made by one function; and what any calls gave, of which demand 3 is a theorem.
+--   Gave r t        the register r at the end of a history gave, read and asked, what the transcript t says (DemandLaws `demand-3`)
+--   linksShown r    the words of the links that an inquiry shows
+--   Unasked k told told′ p c r
+--                   the history was refused with the number k, and no question asked: both are told that number, every list is as it was, and no link and
+--                   no lock is shown
+--   Inquired n words told told′ p c r
+--                   the history was made: each word's number stands in the list `told`, whose words past them are as they were; both questions are
+--                   answered as the plain book answers them, refusals too; and demand 3, of the calls among the words
+--   Inquires n words told told′ p c r
+--                   refused if n is outside 1 to 1,024 (1) or `told` is shorter than the answers (13), else made
 -- Assumes nothing: these are definitions.
 use mathlib.Core.Path.{_≡_}
-use mathlib.Core.List.{List, map}
+use mathlib.Core.List.{List, [], _++_}
+use mathlib.Core.Bool.{false}
 use Prim.Native.Nat.{ℕ}
-use lib.ListN.{length, take, drop}
-use Rattle.register.specs.Calls.{answerNumber, wordCall}
-use Rattle.register.specs.History.{replayNumber}
+use lib.ListN.{length, take, drop, getD}
+use Rattle.book.specs.Book.{Book, fresh, after}
+use Rattle.paths.specs.Verdicts.{verdict}
+use Rattle.register.specs.Calls.{answerOf}
+use Rattle.register.specs.History.{wordAnswers, callsOf, toldCalls, replayNumber}
+use Rattle.register.specs.Questions.{Listing, LockList}
+use Rattle.register.specs.declared.Register.{Register}
+use Rattle.register.specs.declared.Links.{Links}
+use Rattle.pairs.specs.Asking.{BookPairs, AsksPairs}
 use Rattle.pairs.specs.declared.PairsAnswer.the-variants.{Refused}
+use Rattle.chains.specs.Replies.{BookReplies, Replies}
 use Rattle.chains.specs.declared.ChainAnswer.the-variants.{Refused as Unanswered}
-use Rattle.engine.specs.Demand.{Demand}
+use Rattle.engine.specs.Demand.{PairsAsked, ChainAsked, Transcript, Demand}
 use Rattle.engine.specs.declared.Inquiry.{Inquiry}
 
-pub record Inquires (n : ℕ) (words told told′ text : List ℕ) (x y work : ℕ) (list list′ steps steps′ : List ℕ) (r : Inquiry) : Type 0 where
-  pub number : answerNumber (r .answer) ≡ replayNumber n words told
-  pub refused : (replayNumber n words told ≡ 0 → ⊥)
-      → (r .pairs ≡ Refused (replayNumber n words told)) × (r .chain ≡ Unanswered (replayNumber n words told)) × (told′ ≡ told) × (list′ ≡ list) × (steps′ ≡ steps)
-  pub past : drop (length words) told′ ≡ drop (length words) told
-  pub demand : replayNumber n words told ≡ 0
-      → Demand n (map wordCall words) (take (length words) told′) (take (r .links .count) (r .links .words)) (r .locks) text work list list′ (r .pairs)
-      text x y work steps steps′ (r .chain)
+pub record Gave (r : Register) (t : Transcript) : Type 0 where
+  pub links : (ls : Links) × Listing r ls × (t .links ≡ take (ls .count) (ls .words))
+  pub locks : LockList r (t .locks)
+  pub pairs : AsksPairs r (t .pairs .text) (t .pairs .work) (t .pairs .before) (t .pairs .after) (t .pairs .answer)
+  pub chain : Replies r (t .chain .from) (t .chain .to) (t .chain .text) (t .chain .work) (t .chain .before) (t .chain .after) (t .chain .answer)
+
+abbrev pub linksShown : Inquiry → List ℕ
+linksShown r = take (r .links .count) (r .links .words)
+
+pub record Unasked (k : ℕ) (told told′ : List ℕ) (p : PairsAsked) (c : ChainAsked) (r : Inquiry) : Type 0 where
+  pub pairs : p .answer ≡ Refused k
+  pub chain : c .answer ≡ Unanswered k
+  pub numbers : told′ ≡ told
+  pub list : p .after ≡ p .before
+  pub steps : c .after ≡ c .before
+  pub links : linksShown r ≡ []
+  pub locks : (x : ℕ) → getD (r .locks) x false ≡ false
+
+pub record Inquired (n : ℕ) (words told told′ : List ℕ) (p : PairsAsked) (c : ChainAsked) (r : Inquiry) : Type 0 where
+  pub numbers : told′ ≡ wordAnswers (fresh n) words ++ drop (length words) told
+  pub pairs : BookPairs (after (fresh n) (callsOf words)) (verdict (p .text)) (p .work) (p .before) (p .after) (p .answer)
+  pub chain : BookReplies (after (fresh n) (callsOf words)) (c .from) (c .to) (c .text) (c .work) (c .before) (c .after) (c .answer)
+  pub demand : Demand (record { n = n; calls = callsOf words; told = toldCalls words told′; links = linksShown r; locks = r .locks; pairs = p; chain = c })
+
+pub record Inquires (n : ℕ) (words told told′ : List ℕ) (p : PairsAsked) (c : ChainAsked) (r : Inquiry) : Type 0 where
+  pub answer : r .answer ≡ answerOf (replayNumber n words told)
+  pub refused : (replayNumber n words told ≡ 0 → ⊥) → Unasked (replayNumber n words told) told told′ p c r
+  pub made : replayNumber n words told ≡ 0 → Inquired n words told told′ p c r

@@ -5,7 +5,7 @@ ghost use mathlib.Core.List.{[], _∷_};
 ghost use lib.ListN.{length};
 ghost use Rattle.book.specs.Book.{add, remove, lock, unlock, edit, undo};
 ghost use Rattle.k2.specs.PairSets.{union, intersection, difference, product, transpose, closure};
-ghost use Rattle.tree.specs.Calls.{Answered, TreeOf, ListOf, TreeOfOne, TreeOfTwo};
+ghost use Rattle.tree.specs.Calls.{Answered, treeOf, listOf, treeOfOne, treeOfTwo};
 ghost use Rattle.register.specs.Calls.{Opens, Steps};
 ghost use Rattle.register.specs.Questions.{Sized, Listing, Locking};
 ghost use Rattle.pairs.specs.Asking.{AsksPairs};
@@ -106,7 +106,7 @@ pub fn chain(
 // The tree of a list of pair words, in any order and with repeats.
 pub fn tree_make(n: usize, pairs: &[u32], out: &mut [u64], work: &mut [u64]) -> tree::Answer
     ensures { λ r. ⌜ Answered n (now (pairs .entry)) [] (length (now (work .entry)))
-        (TreeOf n (now (pairs .entry))) (now (out .entry)) (now (out .exit)) r ⌝ }
+        (treeOf n (now (pairs .entry))) (now (out .entry)) (now (out .exit)) r ⌝ }
 {
     tree::make(n, pairs, out, work)
 }
@@ -114,7 +114,7 @@ pub fn tree_make(n: usize, pairs: &[u32], out: &mut [u64], work: &mut [u64]) -> 
 // The pairs of a tree, ascending.
 pub fn tree_list(n: usize, a: &[u64], out: &mut [u32], work: &mut [u64]) -> tree::Answer
     ensures { λ r. ⌜ Answered n [] (now (a .entry) ∷ []) (length (now (work .entry)))
-        (ListOf n (now (a .entry))) (now (out .entry)) (now (out .exit)) r ⌝ }
+        (listOf n (now (a .entry))) (now (out .entry)) (now (out .exit)) r ⌝ }
 {
     tree::list(n, a, out, work)
 }
@@ -122,7 +122,7 @@ pub fn tree_list(n: usize, a: &[u64], out: &mut [u32], work: &mut [u64]) -> tree
 // The tree of the pairs in either.
 pub fn tree_union(n: usize, a: &[u64], b: &[u64], out: &mut [u64], work: &mut [u64]) -> tree::Answer
     ensures { λ r. ⌜ Answered n [] (now (a .entry) ∷ now (b .entry) ∷ []) (length (now (work .entry)))
-        (TreeOfTwo union n (now (a .entry)) (now (b .entry))) (now (out .entry)) (now (out .exit)) r ⌝ }
+        (treeOfTwo union n (now (a .entry)) (now (b .entry))) (now (out .entry)) (now (out .exit)) r ⌝ }
 {
     tree::union(n, a, b, out, work)
 }
@@ -136,7 +136,7 @@ pub fn tree_intersection(
     work: &mut [u64],
 ) -> tree::Answer
     ensures { λ r. ⌜ Answered n [] (now (a .entry) ∷ now (b .entry) ∷ []) (length (now (work .entry)))
-        (TreeOfTwo intersection n (now (a .entry)) (now (b .entry))) (now (out .entry)) (now (out .exit)) r ⌝ }
+        (treeOfTwo intersection n (now (a .entry)) (now (b .entry))) (now (out .entry)) (now (out .exit)) r ⌝ }
 {
     tree::intersection(n, a, b, out, work)
 }
@@ -150,7 +150,7 @@ pub fn tree_difference(
     work: &mut [u64],
 ) -> tree::Answer
     ensures { λ r. ⌜ Answered n [] (now (a .entry) ∷ now (b .entry) ∷ []) (length (now (work .entry)))
-        (TreeOfTwo difference n (now (a .entry)) (now (b .entry))) (now (out .entry)) (now (out .exit)) r ⌝ }
+        (treeOfTwo difference n (now (a .entry)) (now (b .entry))) (now (out .entry)) (now (out .exit)) r ⌝ }
 {
     tree::difference(n, a, b, out, work)
 }
@@ -164,7 +164,7 @@ pub fn tree_product(
     work: &mut [u64],
 ) -> tree::Answer
     ensures { λ r. ⌜ Answered n [] (now (a .entry) ∷ now (b .entry) ∷ []) (length (now (work .entry)))
-        (TreeOfTwo (product n) n (now (a .entry)) (now (b .entry))) (now (out .entry)) (now (out .exit)) r ⌝ }
+        (treeOfTwo (product n) n (now (a .entry)) (now (b .entry))) (now (out .entry)) (now (out .exit)) r ⌝ }
 {
     tree::product(n, a, b, out, work)
 }
@@ -172,7 +172,7 @@ pub fn tree_product(
 // The tree of the pairs exchanged.
 pub fn tree_transpose(n: usize, a: &[u64], out: &mut [u64], work: &mut [u64]) -> tree::Answer
     ensures { λ r. ⌜ Answered n [] (now (a .entry) ∷ []) (length (now (work .entry)))
-        (TreeOfOne transpose n (now (a .entry))) (now (out .entry)) (now (out .exit)) r ⌝ }
+        (treeOfOne transpose n (now (a .entry))) (now (out .entry)) (now (out .exit)) r ⌝ }
 {
     tree::transpose(n, a, out, work)
 }
@@ -180,7 +180,7 @@ pub fn tree_transpose(n: usize, a: &[u64], out: &mut [u64], work: &mut [u64]) ->
 // The tree of the closure: one or more pairs that lead from one to the other.
 pub fn tree_closure(n: usize, a: &[u64], out: &mut [u64], work: &mut [u64]) -> tree::Answer
     ensures { λ r. ⌜ Answered n [] (now (a .entry) ∷ []) (length (now (work .entry)))
-        (TreeOfOne (closure n) n (now (a .entry))) (now (out .entry)) (now (out .exit)) r ⌝ }
+        (treeOfOne (closure n) n (now (a .entry))) (now (out .entry)) (now (out .exit)) r ⌝ }
 {
     tree::closure(n, a, out, work)
 }
@@ -194,8 +194,8 @@ pub struct Inquiry {
     pub chain: ChainAnswer,
 }
 
-// A whole history, its calls as words on a fresh register of n records, and then both questions about one expression: `told` takes the number of each
-// call's answer, `list` the pairs, `steps` the chain.
+// A whole history, its calls as words on a fresh register of n records, and then both questions about one expression: `told` takes the number told to
+// each word, `list` the pairs, `steps` the chain.
 pub fn inquire(
     n: u16,
     calls: &[u64],
@@ -207,8 +207,17 @@ pub fn inquire(
     list: &mut [u32],
     steps: &mut [u32],
 ) -> Inquiry
-    ensures { λ r. ⌜ Inquires n (now (calls .entry)) (now (told .entry)) (now (told .exit)) (now (text .entry)) from to (length (now (work .entry)))
-        (now (list .entry)) (now (list .exit)) (now (steps .entry)) (now (steps .exit)) r ⌝ }
+    ensures { λ r. ⌜ Inquires n (now (calls .entry)) (now (told .entry)) (now (told .exit))
+        (record { text = now (text .entry); work = length (now (work .entry)); before = now (list .entry); after = now (list .exit); answer = r .pairs })
+        (record {
+          from = from;
+          to = to;
+          text = now (text .entry);
+          work = length (now (work .entry));
+          before = now (steps .entry);
+          after = now (steps .exit);
+          answer = r .chain;
+        }) r ⌝ }
 {
     let opened = register::replay(n, calls, told);
     let answer = opened.answer;

@@ -1,88 +1,143 @@
 -- Laws by which a promise of the engine is carried over to words: words have one register (`keeps-same`), so what holds of the one that was loaded holds of
 -- every register whose words they are. Assumes nothing.
 use mathlib.Core.Path.{_≡_, refl, sym, ap, subst, _∙_}
-use mathlib.Core.Bool.{Bool, true, false, true≢false, false≢true}
+use mathlib.Core.Bool.{Bool, true, false, _||_, true≢false, false≢true}
 use mathlib.Core.List.{List, _++_}
-use Prim.Native.Nat.{ℕ, _+_, _<_}
+use Prim.Native.Nat.{ℕ, _+_, _≤_, _<_}
 use native.Mathlib.Decide.{decLt}
 use native.Mathlib.Omega.{arith}
 use mir.Val.{boolByte}
+use lib.Dec.{ltb}
 use lib.ListN.{length, take, drop}
+use borrow.Author.Tests.{lt-ltb, le-ltb}
+use Rattle.book.specs.Basics.{pick}
+use Rattle.book.specs.Causes.{short-work, short-list, not-open, number, Caused, firstNumber, maxRecords}
 use Rattle.book.specs.Book.{Book, Call, freshAnswer, fresh}
-use Rattle.register.specs.Calls.{answerNumber, Ranged, Represents, Opens, Steps}
+use Rattle.register.specs.Calls.{answerOf, answerNumber, Represents, Opens, Steps}
+use Rattle.register.specs.HistoryLaws.{number-answer}
 use Rattle.register.specs.Questions.{Sized, Listing, Locking}
 use Rattle.register.specs.Words.{stateWords, lockWord, Keeps, Foreign, Copies, Loads, Stores}
-use Rattle.register.specs.WordLaws.{keeps-long, keeps-same}
+use Rattle.register.specs.WordLaws.{keeps-long, keeps-same, load-done}
 use Rattle.register.specs.declared.Register.{Register}
 use Rattle.register.specs.declared.Outcome.{Outcome}
 use Rattle.register.specs.declared.Opened.{Opened}
 use Rattle.register.specs.declared.Links.{Links}
-use Rattle.register.specs.declared.Answer.the-variants.{Refused}
+use Rattle.register.specs.declared.Answer.the-variants.{Done, Refused}
 use Rattle.pairs.specs.Asking.{Handed, too-long, handed}
 use Rattle.pairs.specs.declared.PairsAnswer.the-variants.{Pairs, Refused as Unpaired}
-use Rattle.host.specs.Host.{Freshens, Edits, refusal, toldPairs, Told, Asked, Lists, Sizes, Locks}
+use Rattle.host.specs.Host.{freshNumber, Freshens, Edits, refusal, toldPairs, Told, Asked, Lists, Sizes, TellsLock}
 use Rattle.host.specs.Inner.{Finishes, refused, kept, lost}
+
+-- a refused call is not accepted
+pub refused-done : {k : ℕ} → Refused k ≡ Done → ⊥
+refused-done e = let z : _≡_ {A = ℕ} 0 1 = cc in omega arith
 
 -- ---- what was loaded, by the number of the answer
 module _ {ws : List ℕ} {o : Opened} {k : ℕ} (l : Loads ws o) (e : k ≡ answerNumber (o .answer)) where
   pub load-none : (k ≡ 0 → ⊥) → Foreign ws
-  load-none z = l .refused (λ y. z (e ∙ y)) .1
+  load-none z = l .refused (λ d. z (e ∙ ap answerNumber d)) .1
 
   pub load-some : k ≡ 0 → Keeps ws (o .register)
-  load-some z = l .loaded (sym e ∙ z)
+  load-some z = l .loaded (load-done l (sym e ∙ z))
 
 -- ---- edits
-pub edit-foreign : (c : Call) (ws : List ℕ) → Foreign ws → Edits c ws ws 16
-edit-foreign c ws f = record { refused = λ _. refl; foreign = λ _. refl; steps = λ r k. absurd (f r k) }
+pub edit-foreign : (c : Call) (ws : List ℕ) → Foreign ws → Edits c ws ws (number not-open)
+edit-foreign c ws f = record { refused = λ _. refl; past = refl; foreign = λ _. refl; steps = λ r k. absurd (f r k) }
 
 abbrev Stepped : Call → List ℕ → ℕ → Register → Type 0
 Stepped c after k s = (o : Outcome) × Steps s c o × (k ≡ answerNumber (o .answer)) × Keeps after (o .register)
 
 module _ {c : Call} {before after : List ℕ} {k : ℕ} {r : Register} (w : Keeps before r) where
-  stepped : ((k ≡ 0 → ⊥) → after ≡ before) → Stepped c after k r → Edits c before after k
-  stepped e t = record { refused = e; foreign = λ f. absurd (f r w); steps = λ s v. subst (Stepped c after k) (keeps-same w v) t }
+  stepped : ((k ≡ 0 → ⊥) → after ≡ before) → drop stateWords after ≡ drop stateWords before → Stepped c after k r → Edits c before after k
+  stepped e p t = record { refused = e; past = p; foreign = λ f. absurd (f r w); steps = λ s v. subst (Stepped c after k) (keeps-same w v) t }
 
   pub edit-kept : {o : Outcome} → Steps r c o → Finishes o before after k → Edits c before after k
-  edit-kept {o} t (refused n e a) = stepped (λ _. a) (o, t, e, subst (λ (ws : List ℕ). Keeps ws (o .register)) (sym a) (subst (Keeps before) (sym (t .refused n)) w))
-  edit-kept {o} t (kept n e v) = stepped (λ z. absurd (z e)) (o, t, e ∙ sym n, v)
-  edit-kept {o} t (lost e a g) = stepped (λ _. a) (record { register = r; answer = Refused 16 }, unmet, e, subst (λ (ws : List ℕ). Keeps ws r) (sym a) w)
+  unfolding number
+  edit-kept {o} t (refused n e a) =
+      stepped (λ _. a) (ap (drop stateWords) a) (o, t, e, subst (λ (ws : List ℕ). Keeps ws (o .register)) (sym a) (subst (Keeps before) (sym (t .refused n)) w))
+  edit-kept {o} t (kept n e v p) = stepped (λ z. absurd (z e)) p (o, t, e ∙ sym (ap answerNumber n), v)
+  edit-kept {o} t (lost e a g) =
+      stepped (λ _. a) (ap (drop stateWords) a) (record { register = r; answer = answerOf (number not-open) }, unmet, told e, subst (λ (ws : List ℕ). Keeps ws r) (sym a) w)
     where
       none : (b : Book) → Represents r b → ⊥
       none b h = g (keeps-long w) (t .follows b h .ranged)
 
-      unmet : Steps r c (record { register = r; answer = Refused 16 })
-      unmet = record { refused = λ _. refl; answers = λ b h. absurd (none b h); follows = λ b h. absurd (none b h) }
+      told : {j : ℕ} → j ≡ number not-open → j ≡ answerNumber (answerOf (number not-open))
+      told q = q ∙ sym (number-answer (number not-open))
+
+      told-as : {j : ℕ} → answerOf (number not-open) ≡ Refused j → number not-open ≡ j
+      told-as q = cc
+
+      unmet : Steps r c (record { register = r; answer = answerOf (number not-open) })
+      unmet = record { caused = λ j q. (not-open, sym (told-as q)); refused = λ _. refl; foreign = λ _. refl; answers = λ b h. absurd (none b h); follows = λ b h. absurd (none b h) }
 
 -- ---- a fresh register
+-- the number of asking for one: by its size first, then by the room
+module _ (n room : ℕ) where
+  pub size-first : (freshAnswer n ≡ 0 → ⊥) → freshNumber n room ≡ freshAnswer n
+  unfolding freshAnswer freshNumber firstNumber number
+  size-first z = go (ltb n 1 || ltb maxRecords n) z
+    where
+      go : (t : Bool) → (_≡_ {A = ℕ} (pick t 1 0) 0 → ⊥) → _≡_ {A = ℕ} (pick t 1 (pick (ltb room stateWords) 12 0)) (pick t 1 0)
+      go true z = refl
+      go false z = absurd (z refl)
+
+  by-room : freshAnswer n ≡ 0 → freshNumber n room ≡ pick (ltb room stateWords) (number short-work) 0
+  unfolding freshAnswer freshNumber firstNumber number
+  by-room z = go (ltb n 1 || ltb maxRecords n) z
+    where
+      go : (t : Bool) → _≡_ {A = ℕ} (pick t 1 0) 0 → _≡_ {A = ℕ} (pick t 1 (pick (ltb room stateWords) 12 0)) (pick (ltb room stateWords) 12 0)
+      go true z = absurd (omega arith)
+      go false z = refl
+
+  pub room-short : freshAnswer n ≡ 0 → room < stateWords → freshNumber n room ≡ number short-work
+  room-short z l = by-room z ∙ ap (λ (t : Bool). pick t (number short-work) 0) (lt-ltb room stateWords l)
+
+  pub room-enough : freshAnswer n ≡ 0 → stateWords ≤ room → freshNumber n room ≡ 0
+  room-enough z l = by-room z ∙ ap (λ (t : Bool). pick t (number short-work) 0) (le-ltb room stateWords l)
+
 module _ {n : ℕ} {o : Opened} (p : Opens n o) (before : List ℕ) where
+  answered : {k : ℕ} → k ≡ answerNumber (o .answer) → k ≡ freshAnswer n
+  answered e = e ∙ ap answerNumber (p .answers) ∙ number-answer (freshAnswer n)
+
   pub fresh-refused : {k : ℕ} → k ≡ answerNumber (o .answer) → (k ≡ 0 → ⊥) → Freshens n before before k
   fresh-refused {k} e z = record {
+    number = answered e ∙ sym (size-first n (length before) (λ y. z (answered e ∙ y)));
     refused = λ _. refl;
-    bad-size = λ _. e ∙ p .answers;
-    short = λ y. absurd (z (e ∙ p .answers ∙ y));
-    made = λ y. absurd (z (e ∙ p .answers ∙ y));
+    made = λ y. absurd (z y);
+    past = refl;
   }
 
-  pub fresh-short : answerNumber (o .answer) ≡ 0 → (after : List ℕ) (ok : Bool) → Stores (o .register) before after ok → ok ≡ false → Freshens n before after 12
-  fresh-short e after ok s f =
-      let z : freshAnswer n ≡ 0 = sym (p .answers) ∙ e in
-      let q = s .refused f in
-      record { refused = λ _. q .0; bad-size = λ y. absurd (y z); short = λ _ _. refl; made = λ _ l. absurd (q .1 l (p .made z .ranged)) }
+  pub fresh-short : answerNumber (o .answer) ≡ 0 → (after : List ℕ) (ok : Bool) → Stores (o .register) before after ok → ok ≡ false → Freshens n before after (number short-work)
+  unfolding number
+  fresh-short e after ok s f = go (decLt (length before) stateWords)
+    where
+      z : freshAnswer n ≡ 0
+      z = sym (answered (sym e))
+
+      go : Dec (length before < stateWords) → Freshens n before after (number short-work)
+      go (yes l) = record {
+        number = sym (room-short n (length before) z l);
+        refused = λ _. s .refused f .0;
+        made = λ y. absurd (let w : _≡_ {A = ℕ} 12 0 = y in omega arith);
+        past = ap (drop stateWords) (s .refused f .0);
+      }
+      go (no l) = absurd (s .refused f .1 (omega (arith, l)) (p .made z .ranged))
 
   pub fresh-made : answerNumber (o .answer) ≡ 0 → (after : List ℕ) (ok : Bool) → length after ≡ length before → Stores (o .register) before after ok → ok ≡ true → Freshens n before after 0
   fresh-made e after ok l s f =
-      let z : freshAnswer n ≡ 0 = sym (p .answers) ∙ e in
+      let z : freshAnswer n ≡ 0 = sym (answered (sym e)) in
       let w = s .done f in
       record {
+        number = sym (room-enough n (length before) z (omega (arith, l, keeps-long (w .0))));
         refused = λ y. absurd (y refl);
-        bad-size = λ y. absurd (y z);
-        short = λ _ y. absurd (y (sym l ∙ keeps-long w));
-        made = λ _ _. (refl, (o .register, w, p .made z));
+        made = λ _. (o .register, w .0, p .made z);
+        past = w .1;
       }
 
 -- ---- questions
 module _ {A : Type 0} {ws : List ℕ} {P : Register → A → Type 0} {f : A → ℕ} {before after : List ℕ} {k : ℕ} where
-  pub asked-foreign : Foreign ws → k ≡ refusal 16 → after ≡ before → Asked ws P f before after k
+  pub asked-foreign : Foreign ws → k ≡ refusal (number not-open) → after ≡ before → Asked ws P f before after k
   asked-foreign g e a = record { answers = λ r w. absurd (g r w); foreign = λ _. (e, a) }
 
   pub asked : {r : Register} → Keeps ws r → (a : A) → P r a → k ≡ f a → Asked ws P f before after k
@@ -93,10 +148,10 @@ abbrev front : Links → List ℕ
 front ls = take (ls .count) (ls .words)
 
 module _ {ws before after : List ℕ} {r : Register} (w : Keeps ws r) (ls : Links) (g : Listing r ls) {ok : Bool} (c : Copies (front ls) 0 before after ok) {k : ℕ} where
-  pub links-short : ok ≡ false → k ≡ refusal 13 → Asked ws (Lists before after) toldPairs before after k
-  links-short f e = asked w (Unpaired 13) (ls, g, go (decLt (length before) (length (front ls)))) e
+  pub links-short : ok ≡ false → k ≡ refusal (number short-list) → Asked ws (Lists before after) toldPairs before after k
+  links-short f e = asked w (Unpaired (number short-list)) (ls, g, go (decLt (length before) (length (front ls)))) e
     where
-      go : Dec (length before < length (front ls)) → Handed (front ls) before after (Unpaired 13)
+      go : Dec (length before < length (front ls)) → Handed (front ls) before after (Unpaired (number short-list))
       go (yes l) = too-long l (c .short (omega (arith, l)) .1)
       go (no l) = absurd (false≢true (sym f ∙ c .fits (omega (arith, l)) .0))
 
@@ -118,11 +173,11 @@ module _ {ws : List ℕ} where
   pub sized : {r : Register} {k : ℕ} → Keeps ws r → Sized r k → Sizes ws k
   sized {r} {k} w z = record { size = λ s v. subst (λ (t : Register). Sized t k) (keeps-same w v) z; foreign = λ g. absurd (g r w) }
 
-  pub lock-foreign : (x : ℕ) → Foreign ws → Locks ws x 0
+  pub lock-foreign : (x : ℕ) → Foreign ws → TellsLock ws x 0
   lock-foreign x g = record { locked = λ b h. absurd (g (h .0) (h .1)); foreign = λ _. refl }
 
-  pub locked-word : {r : Register} {x : ℕ} (l : Bool) → Keeps ws r → Locking r x l → Locks ws x (boolByte l)
+  pub locked-word : {r : Register} {x : ℕ} (l : Bool) → Keeps ws r → Locking r x l → TellsLock ws x (boolByte l)
   locked-word {r} {x} l w z = record {
-    locked = λ b h. byte l ∙ ap lockWord (subst (λ (t : Register). Locking t x l) (keeps-same w (h .1)) z b (h .2));
+    locked = λ b h. byte l ∙ ap lockWord (subst (λ (t : Register). Locking t x l) (keeps-same w (h .1)) z .locked b (h .2));
     foreign = λ g. absurd (g r w);
   }

@@ -1,5 +1,8 @@
--- What the exported calls promise of the words that a caller keeps: the promises of the engine, carried over to words.
---   Holds ws b      ws are the words of a register that represents the book b
+-- What the exported calls promise of the words that a caller keeps: the promises of the engine, carried over to words. A caller's state may be longer
+-- than a register's words; no call touches the words past them.
+--   KeepsBook ws b  the front of ws is the words of a register that represents the book b
+--   freshNumber n room
+--                   the number of asking for a fresh register in a state of so many words: n outside 1 to 1,024, or a state shorter than a register's
 --   Freshens n before after k
 --                   what asking for a fresh register promises: the number k, and the words after it
 --   Edits c before after k
@@ -16,14 +19,17 @@
 --                   are refused with 16, and the list is left
 --   Lists r before after a
 --                   the words of the links of the register r, handed over into a list that held `before`
---   Sizes ws k, Locks ws x k
+--   Sizes ws k, TellsLock ws x k
 --                   the number of records; whether a record is locked: 0 if the words are no register's
 -- Assumes nothing: these are definitions.
 use mathlib.Core.Path.{_≡_}
 use mathlib.Core.List.{List, [], _∷_}
+use mathlib.Core.Bool.{_||_}
 use Prim.Native.Nat.{ℕ, _+_}
-use lib.ListN.{length, take}
-use Rattle.book.specs.Book.{Book, Call, isLocked, freshAnswer, fresh}
+use lib.ListN.{length, take, drop}
+use lib.Dec.{ltb}
+use Rattle.book.specs.Causes.{bad-size, short-work, not-open, number, firstNumber, maxRecords}
+use Rattle.book.specs.Book.{Book, Call, isLocked, fresh}
 use Rattle.register.specs.Calls.{answerNumber, Represents, Steps}
 use Rattle.register.specs.Questions.{Sized, Listing}
 use Rattle.register.specs.Words.{stateWords, lockWord, Keeps, Foreign}
@@ -38,18 +44,22 @@ use Rattle.chains.specs.declared.ChainAnswer.the-variants.{Chain, NoChain, Refu
 use Rattle.tree.specs.declared.Answer.{Answer}
 use Rattle.tree.specs.declared.Answer.the-variants.{Done, Refused as Untreed}
 
-abbrev pub Holds : List ℕ → Book → Type 0
-Holds ws b = (r : Register) × Keeps ws r × Represents r b
+abbrev pub KeepsBook : List ℕ → Book → Type 0
+KeepsBook ws b = (r : Register) × Keeps ws r × Represents r b
+
+unfoldable pub freshNumber : ℕ → ℕ → ℕ
+freshNumber n room = firstNumber ((bad-size, ltb n 1 || ltb maxRecords n) ∷ (short-work, ltb room stateWords) ∷ [])
 
 pub record Freshens (n : ℕ) (before after : List ℕ) (k : ℕ) : Type 0 where
+  pub number : k ≡ freshNumber n (length before)
   pub refused : (k ≡ 0 → ⊥) → after ≡ before
-  pub bad-size : (freshAnswer n ≡ 0 → ⊥) → k ≡ freshAnswer n
-  pub short : freshAnswer n ≡ 0 → (length before ≡ stateWords → ⊥) → k ≡ 12
-  pub made : freshAnswer n ≡ 0 → length before ≡ stateWords → (k ≡ 0) × Holds after (fresh n)
+  pub made : k ≡ 0 → KeepsBook after (fresh n)
+  pub past : drop stateWords after ≡ drop stateWords before
 
 pub record Edits (c : Call) (before after : List ℕ) (k : ℕ) : Type 0 where
   pub refused : (k ≡ 0 → ⊥) → after ≡ before
-  pub foreign : Foreign before → k ≡ 16
+  pub past : drop stateWords after ≡ drop stateWords before
+  pub foreign : Foreign before → k ≡ number not-open
   pub steps : (r : Register) → Keeps before r → (o : Outcome) × Steps r c o × (k ≡ answerNumber (o .answer)) × Keeps after (o .register)
 
 pub data Calls : List Call → List ℕ → List ℕ → List ℕ → Type 0 where
@@ -77,7 +87,7 @@ Told {A} P f k = (a : A) × P a × (k ≡ f a)
 
 pub record Asked {A : Type 0} (ws : List ℕ) (P : Register → A → Type 0) (f : A → ℕ) (before after : List ℕ) (k : ℕ) : Type 0 where
   pub answers : (r : Register) → Keeps ws r → Told (P r) f k
-  pub foreign : Foreign ws → (k ≡ refusal 16) × (after ≡ before)
+  pub foreign : Foreign ws → (k ≡ refusal (number not-open)) × (after ≡ before)
 
 abbrev pub Lists : List ℕ → List ℕ → Register → PairsAnswer → Type 0
 Lists before after r a = (ls : Links) × Listing r ls × Handed (take (ls .count) (ls .words)) before after a
@@ -86,6 +96,6 @@ pub record Sizes (ws : List ℕ) (k : ℕ) : Type 0 where
   pub size : (r : Register) → Keeps ws r → Sized r k
   pub foreign : Foreign ws → k ≡ 0
 
-pub record Locks (ws : List ℕ) (x k : ℕ) : Type 0 where
-  pub locked : (b : Book) → Holds ws b → k ≡ lockWord (isLocked (b .sheet) x)
+pub record TellsLock (ws : List ℕ) (x k : ℕ) : Type 0 where
+  pub locked : (b : Book) → KeepsBook ws b → k ≡ lockWord (isLocked (b .sheet) x)
   pub foreign : Foreign ws → k ≡ 0

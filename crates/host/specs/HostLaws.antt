@@ -1,8 +1,8 @@
 -- What the promises over words say of the plain book. Assumes nothing.
---   edits-book      the number is the book's answer, and the words then hold the next book
+--   edits-book      the number is the book's answer, and the words then keep the next book
 --   calls-book      so for a whole history of calls, each given the words that the call before left
 --   pairs-book, chain-book
---                   a question asked of words that hold a book: the number tells the book's outcome, and the list is as that outcome leaves it
+--                   a question asked of words that keep a book: the number tells the book's answer, and the list is as that answer leaves it
 --   pairs-told, chain-told, none-told, tree-told
 --                   which answer a number tells
 use mathlib.Core.Path.{_≡_, refl, ap, _∙_}
@@ -11,25 +11,25 @@ use Prim.Native.Nat.{ℕ, _<_}
 use native.Mathlib.Omega.{arith}
 use lib.ListN.{length}
 use Rattle.book.specs.Book.{Book, Call, answer, next, answers, after}
-use Rattle.paths.specs.Chains.{asked, Reply}
-use Rattle.paths.specs.Questions.{Outcome, ReplyTo, pairsAnswer, chainAnswer, listAfter}
 use Rattle.paths.specs.Verdicts.{verdict}
-use Rattle.pairs.specs.Asking.{Tells, AsksPairs}
-use Rattle.chains.specs.Replies.{Replies, outcomeOf, answerLength}
+use Rattle.register.specs.Calls.{answerNumber}
+use Rattle.register.specs.HistoryLaws.{number-answer}
+use Rattle.pairs.specs.Asking.{BookPairs, AsksPairs}
+use Rattle.chains.specs.Replies.{BookReplies, Replies, stepsLength}
 use Rattle.pairs.specs.declared.PairsAnswer.{PairsAnswer}
 use Rattle.pairs.specs.declared.PairsAnswer.the-variants.{Pairs, Refused}
 use Rattle.chains.specs.declared.ChainAnswer.{ChainAnswer}
 use Rattle.chains.specs.declared.ChainAnswer.the-variants.{Chain, NoChain, Refused as Unchained}
 use Rattle.tree.specs.declared.Answer.{Answer}
 use Rattle.tree.specs.declared.Answer.the-variants.{Done, Refused as Untreed}
-use Rattle.host.specs.Host.{Holds, Edits, Calls, none, then, toldPairs, toldChain, toldTree, Told, Asked}
+use Rattle.host.specs.Host.{KeepsBook, Edits, Calls, none, then, toldPairs, toldChain, toldTree, Told, Asked}
 
-pub edits-book : {c : Call} {ws vs : List ℕ} {k : ℕ} → Edits c ws vs k → (b : Book) → Holds ws b → (k ≡ answer b c) × Holds vs (next b c)
+pub edits-book : {c : Call} {ws vs : List ℕ} {k : ℕ} → Edits c ws vs k → (b : Book) → KeepsBook ws b → (k ≡ answer b c) × KeepsBook vs (next b c)
 edits-book e b h =
     let o = e .steps (h .0) (h .1) in
-    (o .2 ∙ o .1 .answers b (h .2), (o .0 .register, o .3, o .1 .follows b (h .2)))
+    (o .2 ∙ ap answerNumber (o .1 .answers b (h .2)) ∙ number-answer (answer b _), (o .0 .register, o .3, o .1 .follows b (h .2)))
 
-pub calls-book : {cs : List Call} {ws vs ks : List ℕ} → Calls cs ws vs ks → (b : Book) → Holds ws b → (ks ≡ answers b cs) × Holds vs (after b cs)
+pub calls-book : {cs : List Call} {ws vs ks : List ℕ} → Calls cs ws vs ks → (b : Book) → KeepsBook ws b → (ks ≡ answers b cs) × KeepsBook vs (after b cs)
 unfolding answers after
 calls-book none b h = (refl, h)
 calls-book (then e r) b h =
@@ -37,20 +37,13 @@ calls-book (then e r) b h =
     let g = calls-book r (next b _) (f .1) in
     ((λ i. f .0 i ∷ g .0 i), g .1)
 
-module _ {ws before after′ : List ℕ} {k : ℕ} (text : List ℕ) (work : ℕ) (b : Book) (h : Holds ws b) where
-  pub pairs-book : Asked ws (λ r. AsksPairs r text work before after′) toldPairs before after′ k
-      → Told (Tells (pairsAnswer b (verdict text) work (length before))) toldPairs k × (after′ ≡ listAfter (pairsAnswer b (verdict text) work (length before)) before)
-  pairs-book q =
-      let t = q .answers (h .0) (h .1) in
-      ((t .0, t .1 .tells b (h .2), t .2), t .1 .list b (h .2))
+module _ {ws before after′ : List ℕ} {k : ℕ} (text : List ℕ) (work : ℕ) (b : Book) (h : KeepsBook ws b) where
+  pub pairs-book : Asked ws (λ r. AsksPairs r text work before after′) toldPairs before after′ k → Told (BookPairs b (verdict text) work before after′) toldPairs k
+  pairs-book q = let t = q .answers (h .0) (h .1) in (t .0, t .1 .book b (h .2), t .2)
 
-  pub chain-book : (x y : ℕ) → Asked ws (λ r. Replies r x y text work before after′) toldChain before after′ k → (t : Reply) → ReplyTo (asked b) (verdict text) x y t
-      → Told (λ a. outcomeOf a after′ ≡ chainAnswer b x y (verdict text) t work (length before)) toldChain k
-      × (after′ ≡ listAfter (chainAnswer b x y (verdict text) t work (length before)) before)
-  chain-book x y q t p =
-      let s = q .answers (h .0) (h .1) in
-      let a = s .1 .answers b (h .2) t p in
-      ((s .0, a .0, s .2), a .1)
+  pub chain-book : (x y : ℕ) → Asked ws (λ r. Replies r x y text work before after′) toldChain before after′ k
+      → Told (BookReplies b x y text work before after′) toldChain k
+  chain-book x y q = let t = q .answers (h .0) (h .1) in (t .0, t .1 .answers b (h .2), t .2)
 
 pub pairs-told : (a : PairsAnswer) (k : ℕ) → toldPairs a ≡ k → k < 8589934592 → a ≡ Pairs k
 pairs-told (Pairs j) k e l = ap Pairs e
@@ -61,8 +54,8 @@ chain-told (Chain j) k e l = ap Chain e
 chain-told NoChain k e l = absurd (omega arith)
 chain-told (Unchained j) k e l = absurd (omega arith)
 
-pub none-told : (a : ChainAnswer) → toldChain a ≡ 4294967296 → answerLength a < 4294967296 → a ≡ NoChain
-unfolding answerLength
+pub none-told : (a : ChainAnswer) → toldChain a ≡ 4294967296 → stepsLength a < 4294967296 → a ≡ NoChain
+unfolding stepsLength
 none-told (Chain j) e l = absurd (omega arith)
 none-told NoChain e l = refl
 none-told (Unchained j) e l = absurd (omega arith)

@@ -1,4 +1,5 @@
-// The engine for Rust and C: the caller keeps a register as 5,380 words, and every call takes numbers and slices.
+// The engine for Rust and C: the caller keeps a register as 5,380 words, at the front of a state that may be longer, and every call takes numbers and
+// slices.
 // A number told as 64 bits is a count; 2^32 for no chain; 2^33 and the number of the cause for a refusal.
 ghost use mathlib.Core.Path.{_≡_};
 ghost use mathlib.Core.List.{[], _∷_};
@@ -6,17 +7,18 @@ ghost use Prim.Native.Nat.{_<_};
 ghost use lib.ListN.{length};
 ghost use Rattle.book.specs.Book.{add, remove, lock, unlock, edit, undo};
 ghost use Rattle.k2.specs.PairSets.{union, intersection, difference, product, transpose, closure};
-ghost use Rattle.tree.specs.Calls.{Answered, TreeOf, ListOf, TreeOfOne, TreeOfTwo};
+ghost use Rattle.tree.specs.Calls.{Answered, treeOf, listOf, treeOfOne, treeOfTwo};
 ghost use Rattle.pairs.specs.Asking.{AsksPairs};
 ghost use Rattle.chains.specs.Replies.{Replies};
-ghost use Rattle.host.specs.Host.{Freshens, Edits, refusal, toldPairs, toldChain, toldTree, Told, Asked, Lists, Sizes, Locks};
+ghost use Rattle.host.specs.Host.{Freshens, Edits, refusal, toldPairs, toldChain, toldTree, Told, Asked, Lists, Sizes, TellsLock};
 ghost use Rattle.host.specs.Inner.{Finishes};
 use chains::ChainAnswer;
 use pairs::PairsAnswer;
+use register::Answer;
 use register::Outcome;
 use register::Register;
 
-// The numbers of the causes that are looked for here: state not as long as a register's words, answer longer than its list, words that are no register's.
+// The numbers of the causes that are looked for here: state shorter than a register's words, answer longer than its list, words that are no register's.
 const SHORT_WORK: u32 = 12;
 
 const SHORT_LIST: u32 = 13;
@@ -63,15 +65,16 @@ fn keep(outcome: Outcome, state: &mut [u32]) -> u32
     ensures { λ k. ⌜ Finishes outcome (now (state .entry)) (now (state .exit)) k ⌝ }
 {
     let answer = outcome.answer;
-    let number = register::number_of(answer);
-    if 0 < number {
-        return number;
+    match answer {
+        Answer::Refused(number) => number,
+        Answer::Done => {
+            let register = outcome.register;
+            if !register.store(state) {
+                return NOT_OPEN;
+            }
+            0
+        }
     }
-    let register = outcome.register;
-    if !register.store(state) {
-        return NOT_OPEN;
-    }
-    0
 }
 
 // The words of a fresh register of n records.
@@ -203,7 +206,7 @@ pub extern "C" fn dating_links(state: &[u32], list: &mut [u32]) -> u64
 // Whether a record is locked: 1 or 0; 0 if the words are no register's.
 #[no_mangle]
 pub extern "C" fn dating_locked(state: &[u32], record: u16) -> u32
-    ensures { λ k. ⌜ Locks (now (state .entry)) «record» k ⌝ }
+    ensures { λ k. ⌜ TellsLock (now (state .entry)) «record» k ⌝ }
 {
     let loaded = Register::load(state);
     let answer = loaded.answer;
@@ -260,7 +263,7 @@ pub extern "C" fn dating_tree_make(
     tree: &mut [u64],
     work: &mut [u64],
 ) -> u64
-    ensures { λ k. ⌜ Told (Answered n (now (pairs .entry)) [] (length (now (work .entry))) (TreeOf n (now (pairs .entry))) (now (tree .entry)) (now (tree .exit))) toldTree k ⌝ }
+    ensures { λ k. ⌜ Told (Answered n (now (pairs .entry)) [] (length (now (work .entry))) (treeOf n (now (pairs .entry))) (now (tree .entry)) (now (tree .exit))) toldTree k ⌝ }
 {
     told_tree(engine::tree_make(n, pairs, tree, work))
 }
@@ -273,7 +276,7 @@ pub extern "C" fn dating_tree_list(
     list: &mut [u32],
     work: &mut [u64],
 ) -> u64
-    ensures { λ k. ⌜ Told (Answered n [] (now (tree .entry) ∷ []) (length (now (work .entry))) (ListOf n (now (tree .entry))) (now (list .entry)) (now (list .exit))) toldTree k ⌝ }
+    ensures { λ k. ⌜ Told (Answered n [] (now (tree .entry) ∷ []) (length (now (work .entry))) (listOf n (now (tree .entry))) (now (list .entry)) (now (list .exit))) toldTree k ⌝ }
 {
     told_tree(engine::tree_list(n, tree, list, work))
 }
@@ -287,7 +290,7 @@ pub extern "C" fn dating_tree_union(
     out: &mut [u64],
     work: &mut [u64],
 ) -> u64
-    ensures { λ k. ⌜ Told (Answered n [] (now (a .entry) ∷ now (b .entry) ∷ []) (length (now (work .entry))) (TreeOfTwo union n (now (a .entry)) (now (b .entry))) (now (out .entry)) (now (out .exit))) toldTree k ⌝ }
+    ensures { λ k. ⌜ Told (Answered n [] (now (a .entry) ∷ now (b .entry) ∷ []) (length (now (work .entry))) (treeOfTwo union n (now (a .entry)) (now (b .entry))) (now (out .entry)) (now (out .exit))) toldTree k ⌝ }
 {
     told_tree(engine::tree_union(n, a, b, out, work))
 }
@@ -301,7 +304,7 @@ pub extern "C" fn dating_tree_intersection(
     out: &mut [u64],
     work: &mut [u64],
 ) -> u64
-    ensures { λ k. ⌜ Told (Answered n [] (now (a .entry) ∷ now (b .entry) ∷ []) (length (now (work .entry))) (TreeOfTwo intersection n (now (a .entry)) (now (b .entry))) (now (out .entry)) (now (out .exit))) toldTree k ⌝ }
+    ensures { λ k. ⌜ Told (Answered n [] (now (a .entry) ∷ now (b .entry) ∷ []) (length (now (work .entry))) (treeOfTwo intersection n (now (a .entry)) (now (b .entry))) (now (out .entry)) (now (out .exit))) toldTree k ⌝ }
 {
     told_tree(engine::tree_intersection(n, a, b, out, work))
 }
@@ -315,7 +318,7 @@ pub extern "C" fn dating_tree_difference(
     out: &mut [u64],
     work: &mut [u64],
 ) -> u64
-    ensures { λ k. ⌜ Told (Answered n [] (now (a .entry) ∷ now (b .entry) ∷ []) (length (now (work .entry))) (TreeOfTwo difference n (now (a .entry)) (now (b .entry))) (now (out .entry)) (now (out .exit))) toldTree k ⌝ }
+    ensures { λ k. ⌜ Told (Answered n [] (now (a .entry) ∷ now (b .entry) ∷ []) (length (now (work .entry))) (treeOfTwo difference n (now (a .entry)) (now (b .entry))) (now (out .entry)) (now (out .exit))) toldTree k ⌝ }
 {
     told_tree(engine::tree_difference(n, a, b, out, work))
 }
@@ -329,7 +332,7 @@ pub extern "C" fn dating_tree_product(
     out: &mut [u64],
     work: &mut [u64],
 ) -> u64
-    ensures { λ k. ⌜ Told (Answered n [] (now (a .entry) ∷ now (b .entry) ∷ []) (length (now (work .entry))) (TreeOfTwo (product n) n (now (a .entry)) (now (b .entry))) (now (out .entry)) (now (out .exit))) toldTree k ⌝ }
+    ensures { λ k. ⌜ Told (Answered n [] (now (a .entry) ∷ now (b .entry) ∷ []) (length (now (work .entry))) (treeOfTwo (product n) n (now (a .entry)) (now (b .entry))) (now (out .entry)) (now (out .exit))) toldTree k ⌝ }
 {
     told_tree(engine::tree_product(n, a, b, out, work))
 }
@@ -342,7 +345,7 @@ pub extern "C" fn dating_tree_transpose(
     out: &mut [u64],
     work: &mut [u64],
 ) -> u64
-    ensures { λ k. ⌜ Told (Answered n [] (now (a .entry) ∷ []) (length (now (work .entry))) (TreeOfOne transpose n (now (a .entry))) (now (out .entry)) (now (out .exit))) toldTree k ⌝ }
+    ensures { λ k. ⌜ Told (Answered n [] (now (a .entry) ∷ []) (length (now (work .entry))) (treeOfOne transpose n (now (a .entry))) (now (out .entry)) (now (out .exit))) toldTree k ⌝ }
 {
     told_tree(engine::tree_transpose(n, a, out, work))
 }
@@ -350,7 +353,7 @@ pub extern "C" fn dating_tree_transpose(
 // The tree of the closure: one or more pairs that lead from one to the other.
 #[no_mangle]
 pub extern "C" fn dating_tree_closure(n: usize, a: &[u64], out: &mut [u64], work: &mut [u64]) -> u64
-    ensures { λ k. ⌜ Told (Answered n [] (now (a .entry) ∷ []) (length (now (work .entry))) (TreeOfOne (closure n) n (now (a .entry))) (now (out .entry)) (now (out .exit))) toldTree k ⌝ }
+    ensures { λ k. ⌜ Told (Answered n [] (now (a .entry) ∷ []) (length (now (work .entry))) (treeOfOne (closure n) n (now (a .entry))) (now (out .entry)) (now (out .exit))) toldTree k ⌝ }
 {
     told_tree(engine::tree_closure(n, a, out, work))
 }

@@ -13,3 +13,5 @@ pub mod TreeLaws
 pub mod PlaceLaws
 pub mod HeapLaws
 pub mod SizeLaws
+pub mod TreeSets
+pub mod TreeSetLaws

@@ -1,6 +1,5 @@
 -- Laws of sets of pairs: a product holds exactly where a middle record serves, the closure exactly where one or more pairs lead;
 -- each operation makes a set of sets; the listed words ascend and are exactly the set's pairs.
---   PairsBelow n ps both ends of each pair word of the list ps are below n
 --   Within m l t    the numbers of l ascend, from m on, and are below t
 -- Assumes nothing.
 use mathlib.Core.Path.{_≡_, refl, sym, ap, _∙_, fun-ext, subst}
@@ -16,7 +15,7 @@ use borrow.Author.Tests.{eqb-true, lt-ltb, le-ltb}
 use Rattle.book.specs.Basics.{bit, has, In, here, Rises, ended, rises}
 use Rattle.book.specs.ListLaws.{in-left, in-right, in-either, in-none, in-one}
 use Rattle.book.specs.SetLaws.{eqb-test, has-in, in-has}
-use Rattle.k2.specs.PairSets.{Cells, IsSet, pairWord, ifSet, rowPairs, rowsPairs, listed, setOf, union, intersection, difference, transpose, most, serves, product, OneOrMore, once, more, over, closure, diagonal}
+use Rattle.k2.specs.PairSets.{Cells, IsSet, pairWord, ifSet, rowPairs, rowsPairs, listed, setOf, PairsBelow, union, intersection, difference, transpose, most, serves, product, OneOrMore, once, more, via, closure, diagonal}
 
 -- ---- numbers that are not 0
 pub one-of : (a b : ℕ) → 1 ≤ max a b → (1 ≤ a) ⊎ (1 ≤ b)
@@ -100,9 +99,9 @@ module _ (n : ℕ) (a : Cells) (A : IsSet n a) where
   unfolding transpose
   transpose-set = record { bit = λ x y. A .bit y x; row = λ x y l. A .column y x l; column = λ x y l. A .row y x l }
 
-  pub over-set : (k : ℕ) → IsSet n (over k a)
-  unfolding over
-  over-set k = record {
+  pub via-set : (k : ℕ) → IsSet n (via k a)
+  unfolding via
+  via-set k = record {
     bit = λ x y. omega (arith, A .bit x y, A .bit x k);
     row = λ x y l. omega (arith, A .row x y l, A .row x k l);
     column = λ x y l. omega (arith, A .column x y l, A .column k y l);
@@ -111,7 +110,7 @@ module _ (n : ℕ) (a : Cells) (A : IsSet n a) where
 pub closure-set : (n k : ℕ) (a : Cells) → IsSet n a → IsSet n (closure k a)
 unfolding closure
 closure-set n zero a A = A
-closure-set n (suc k) a A = over-set n (closure k a) (closure-set n k a A) k
+closure-set n (suc k) a A = via-set n (closure k a) (closure-set n k a A) k
 
 pub diagonal-set : (n : ℕ) (f : ℕ → ℕ) → ((x : ℕ) → f x < 2) → ((x : ℕ) → n ≤ x → f x ≡ 0) → IsSet n (diagonal f)
 unfolding diagonal
@@ -143,22 +142,22 @@ pub leads-on : {a : Cells} {x z y : ℕ} → OneOrMore a x z → OneOrMore a z y
 leads-on (once e) q = more e q
 leads-on (more e p) q = more e (leads-on p q)
 
--- a pair of `over k a`
-over-by : (k : ℕ) (a : Cells) (x y : ℕ) → a x y < 2 → a x k < 2 → a k y < 2 → over k a x y ≡ 1 → (a x y ≡ 1) ⊎ ((a x k ≡ 1) × (a k y ≡ 1))
-unfolding over
-over-by k a x y p q r e = go (decLt 0 (a x y))
+-- a pair of `via k a`
+via-by : (k : ℕ) (a : Cells) (x y : ℕ) → a x y < 2 → a x k < 2 → a k y < 2 → via k a x y ≡ 1 → (a x y ≡ 1) ⊎ ((a x k ≡ 1) × (a k y ≡ 1))
+unfolding via
+via-by k a x y p q r e = go (decLt 0 (a x y))
   where
     go : Dec (0 < a x y) → (a x y ≡ 1) ⊎ ((a x k ≡ 1) × (a k y ≡ 1))
     go (yes l) = inl (omega arith)
     go (no l) = inr (omega arith, omega arith)
 
-over-old : (k : ℕ) (a : Cells) (x y : ℕ) → a x k < 2 → a x y ≡ 1 → over k a x y ≡ 1
-unfolding over
-over-old k a x y p e = omega arith
+via-old : (k : ℕ) (a : Cells) (x y : ℕ) → a x k < 2 → a x y ≡ 1 → via k a x y ≡ 1
+unfolding via
+via-old k a x y p e = omega arith
 
-over-new : (k : ℕ) (a : Cells) (x y : ℕ) → a x y < 2 → a x k ≡ 1 → a k y ≡ 1 → over k a x y ≡ 1
-unfolding over
-over-new k a x y p q r = omega arith
+via-new : (k : ℕ) (a : Cells) (x y : ℕ) → a x y < 2 → a x k ≡ 1 → a k y ≡ 1 → via k a x y ≡ 1
+unfolding via
+via-new k a x y p q r = omega arith
 
 module _ (n : ℕ) (a : Cells) (A : IsSet n a) where
   closure-bit : (k x y : ℕ) → closure k a x y < 2
@@ -169,12 +168,12 @@ module _ (n : ℕ) (a : Cells) (A : IsSet n a) where
   closure-leads zero x y e = once e
   closure-leads (suc k) x y e =
       ⊎-elim (λ p. closure-leads k x y p) (λ w. leads-on (closure-leads k x k (w .0)) (closure-leads k k y (w .1)))
-      (over-by k (closure k a) x y (closure-bit k x y) (closure-bit k x k) (closure-bit k k y) e)
+      (via-by k (closure k a) x y (closure-bit k x y) (closure-bit k x k) (closure-bit k k y) e)
 
   closure-keeps : (k x y : ℕ) → a x y ≡ 1 → closure k a x y ≡ 1
   unfolding closure
   closure-keeps zero x y e = e
-  closure-keeps (suc k) x y e = over-old k (closure k a) x y (closure-bit k x k) (closure-keeps k x y e)
+  closure-keeps (suc k) x y e = via-old k (closure k a) x y (closure-bit k x k) (closure-keeps k x y e)
 
   -- it leads on at every middle record below k
   closure-joins : (k z x y : ℕ) → z < k → closure k a x z ≡ 1 → closure k a z y ≡ 1 → closure k a x y ≡ 1
@@ -182,22 +181,22 @@ module _ (n : ℕ) (a : Cells) (A : IsSet n a) where
   closure-joins zero z x y l p q = absurd (omega arith)
   closure-joins (suc k) z x y l p q =
       go (decLt z k) (λ x y. closure-joins k z x y)
-      (over-by k Q x z (closure-bit k x z) (closure-bit k x k) (closure-bit k k z) p) (over-by k Q z y (closure-bit k z y) (closure-bit k z k) (closure-bit k k y) q)
+      (via-by k Q x z (closure-bit k x z) (closure-bit k x k) (closure-bit k k z) p) (via-by k Q z y (closure-bit k z y) (closure-bit k z k) (closure-bit k k y) q)
     where
       Q : Cells
       Q = closure k a
 
-      new : Q x k ≡ 1 → Q k y ≡ 1 → over k Q x y ≡ 1
-      new p q = over-new k Q x y (closure-bit k x y) p q
+      new : Q x k ≡ 1 → Q k y ≡ 1 → via k Q x y ≡ 1
+      new p q = via-new k Q x y (closure-bit k x y) p q
 
-      last : (z ≡ k) → (Q x z ≡ 1) ⊎ ((Q x k ≡ 1) × (Q k z ≡ 1)) → (Q z y ≡ 1) ⊎ ((Q z k ≡ 1) × (Q k y ≡ 1)) → over k Q x y ≡ 1
+      last : (z ≡ k) → (Q x z ≡ 1) ⊎ ((Q x k ≡ 1) × (Q k z ≡ 1)) → (Q z y ≡ 1) ⊎ ((Q z k ≡ 1) × (Q k y ≡ 1)) → via k Q x y ≡ 1
       last e p q =
           new (⊎-elim (λ h. ap (λ (t : ℕ). Q x t) (sym e) ∙ h) (λ w. w .0) p) (⊎-elim (λ h. ap (λ (t : ℕ). Q t y) (sym e) ∙ h) (λ w. w .1) q)
 
       go : Dec (z < k) → ((x y : ℕ) → z < k → Q x z ≡ 1 → Q z y ≡ 1 → Q x y ≡ 1)
-          → (Q x z ≡ 1) ⊎ ((Q x k ≡ 1) × (Q k z ≡ 1)) → (Q z y ≡ 1) ⊎ ((Q z k ≡ 1) × (Q k y ≡ 1)) → over k Q x y ≡ 1
+          → (Q x z ≡ 1) ⊎ ((Q x k ≡ 1) × (Q k z ≡ 1)) → (Q z y ≡ 1) ⊎ ((Q z k ≡ 1) × (Q k y ≡ 1)) → via k Q x y ≡ 1
       go (no d) ih p q = last (omega arith) p q
-      go (yes d) ih (inl p) (inl q) = over-old k Q x y (closure-bit k x k) (ih x y d p q)
+      go (yes d) ih (inl p) (inl q) = via-old k Q x y (closure-bit k x k) (ih x y d p q)
       go (yes d) ih (inl p) (inr w) = new (ih x k d p (w .0)) (w .1)
       go (yes d) ih (inr w) (inl q) = new (w .0) (ih k y d (w .1) q)
       go (yes d) ih (inr w) (inr v) = new (w .0) (v .1)
@@ -227,9 +226,6 @@ module _ (ps : List ℕ) (x y : ℕ) where
   pub set-past : 1024 ≤ y → setOf ps x y ≡ 0
   unfolding setOf
   set-past l = rw (le-ltb y 1024 l) (omega arith)
-
-abbrev pub PairsBelow : ℕ → List ℕ → Type 0
-PairsBelow n ps = (w : ℕ) → In w ps → (w / 1024 < n) × (w % 1024 < n)
 
 pub setOf-set : (n : ℕ) (ps : List ℕ) → n ≤ 1024 → PairsBelow n ps → IsSet n (setOf ps)
 setOf-set n ps nl b = record {

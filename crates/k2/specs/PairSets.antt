@@ -4,6 +4,7 @@
 --   pairWord x y    a pair's word, from × 1,024 + to
 --   listed n a      the words of a set's pairs, ascending
 --   setOf ps        the set of a list of pair words
+--   PairsBelow n ps both ends of each pair word of the list ps are below n
 --   union, intersection, difference, transpose
 --                   pairs in either, in both, in the first and not in the second; each pair exchanged
 --   product n a b   (x, y) where some middle record z below n serves: (x, z) is in a and (z, y) in b
@@ -13,9 +14,9 @@
 -- Assumes nothing: these are definitions.
 use mathlib.Core.Path.{_≡_}
 use mathlib.Core.List.{List, [], _∷_, _++_}
-use Prim.Native.Nat.{ℕ, zero, suc, _+_, _-_, _*_, _≤_, _<_, min, max}
+use Prim.Native.Nat.{ℕ, zero, suc, _+_, _-_, _*_, _/_, _%_, _≤_, _<_, min, max}
 use lib.Dec.{ltb, eqb}
-use Rattle.book.specs.Basics.{bit, has}
+use Rattle.book.specs.Basics.{bit, has, In}
 
 abbrev pub Cells : Type 0
 Cells = ℕ → ℕ → ℕ
@@ -50,6 +51,9 @@ listed n a = rowsPairs a n n
 unfoldable pub setOf : List ℕ → Cells
 setOf ps x y = min (bit (ltb y 1024)) (bit (has eqb (pairWord x y) ps))
 
+abbrev pub PairsBelow : ℕ → List ℕ → Type 0
+PairsBelow n ps = (w : ℕ) → In w ps → (w / 1024 < n) × (w % 1024 < n)
+
 unfoldable pub union : Cells → Cells → Cells
 union a b x y = max (a x y) (b x y)
 
@@ -78,13 +82,13 @@ pub data OneOrMore (a : Cells) : ℕ → ℕ → Type 0 where
   once : {x y : ℕ} → a x y ≡ 1 → OneOrMore a x y
   more : {x z y : ℕ} → a x z ≡ 1 → OneOrMore a z y → OneOrMore a x y
 
--- a, and the pairs that lead over the record k
-unfoldable pub over : ℕ → Cells → Cells
-over k a x y = max (a x y) (min (a x k) (a k y))
+-- a, and the pairs that lead from one to the other via the record k
+unfoldable pub via : ℕ → Cells → Cells
+via k a x y = max (a x y) (min (a x k) (a k y))
 
 unfoldable pub closure : ℕ → Cells → Cells
 closure zero a = a
-closure (suc k) a = over k (closure k a)
+closure (suc k) a = via k (closure k a)
 
 unfoldable pub diagonal : (ℕ → ℕ) → Cells
 diagonal f x y = min (f x) (bit (eqb x y))

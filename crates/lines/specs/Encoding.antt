@@ -1,71 +1,101 @@
--- The frame of what a line says.
---   callKind c, callBody c
---                   its kind and its body, if the line says the edit or undo c
---   kindOf d, bodyOf d t, frameFor d t
---                   its kind, its body and its bytes, if the line says d and its question has the text t
---   meant d t       what the program should take the frame for
---   OneFrame out out′ r
---                   what a line leaves: nothing, or one whole frame at the front of the buffer
+-- The frame of what a line says, and a typed session.
+--   linkBytes k     a link in a frame's body: from in two bytes, label in one, to in two
+--   kindOf f, bodyOf f, frameFor f
+--                   the kind, the body and the bytes of the frame that says f
+--   sent t          the bytes that become of a line that says t
+--   OfNumber k f, OfLink k f
+--                   every frame of a request f of a number, or of an edit f of a link, has the kind k, and that as its body
+--   maxBody, frameRoom
+--                   the most bytes of a frame's body, and of a whole frame
+--   afterTyped s t, RightTyped s t v u, printedTyped w r s t v u, leftTyped w k s t v u
+--                   of a line that says t: the session after it, the right verdict and reply, what is printed, and the list that is left; as of its
+--                   frame, if it has one
+--   sentAll ls      the bytes that become of the lines ls
+--   TypedRun w s k ls o s′ k′
+--                   a typed session: from the session s and the list k on, the lines ls are answered by the bytes o, line by line, and leave the session
+--                   s′ and the list k′
 -- Assumes nothing: these are definitions.
 use mathlib.Core.Path.{_≡_}
 use mathlib.Core.List.{List, [], _∷_, _++_}
-use Prim.Native.Nat.{ℕ, _≤_}
+use Prim.Native.Nat.{ℕ, _+_, _-_}
+use lib.Dec.{eqb}
 use lib.ListN.{length}
-use Rattle.book.specs.Causes.{broken-frame, unknown-kind}
-use Rattle.report.specs.Written.{Wrote}
-use Rattle.session.specs.Program.{twoBytes, frameOf, Frame, asks, faulty, opening, call, pairs, chain}
-use Rattle.session.specs.Says.{callOf}
-use Rattle.session.specs.declared.Call.{Call}
-use Rattle.session.specs.declared.Call.the-variants.{Add, Remove, Lock, Unlock, Undo}
-use Rattle.session.specs.declared.Decoded.{Decoded}
-use Rattle.session.specs.declared.Decoded.the-variants.{Open, Edit, Pairs, Chain, Broken, Unknown}
+use Rattle.book.specs.Basics.{pick}
+use Rattle.book.specs.Causes.{number, unknown-kind}
+use Rattle.book.specs.Book.{Link, Edit, edit, undo, add, remove, lock, unlock}
+use Rattle.paths.specs.Grammar.{Verdict}
+use Rattle.paths.specs.Chains.{Reply}
+use Rattle.session.specs.Program.{twoBytes, frameOf, Request, Frame, asks, faulty, opening, call, pairs, chain, Session, nextSession, Right, printed, listLeft, minFrame, maxFrame}
+use Rattle.lines.specs.Typed.{Typed, nothing, saying, typed}
 
-unfoldable pub callKind : Call → ℕ
-callKind (Add x l y) = 2
-callKind (Remove x l y) = 3
-callKind (Lock r) = 4
-callKind (Unlock r) = 5
-callKind Undo = 6
+unfoldable pub linkBytes : Link → List ℕ
+linkBytes k = twoBytes (k .from) ++ (k .label ∷ twoBytes (k .to))
 
-unfoldable pub callBody : Call → List ℕ
-callBody (Add x l y) = twoBytes x ++ (l ∷ twoBytes y)
-callBody (Remove x l y) = twoBytes x ++ (l ∷ twoBytes y)
-callBody (Lock r) = twoBytes r
-callBody (Unlock r) = twoBytes r
-callBody Undo = []
+-- a word that is not known gives the kind 0, and arguments that do not fit an undo with a body
+unfoldable pub kindOf : Frame → ℕ
+kindOf (asks (opening n)) = 1
+kindOf (asks (call (edit (add k)))) = 2
+kindOf (asks (call (edit (remove k)))) = 3
+kindOf (asks (call (edit (lock r)))) = 4
+kindOf (asks (call (edit (unlock r)))) = 5
+kindOf (asks (call undo)) = 6
+kindOf (asks (pairs t)) = 7
+kindOf (asks (chain x y t)) = 8
+kindOf (faulty c) = pick (eqb (number c) (number unknown-kind)) 0 6
 
--- arguments that do not fit their word give an undo with a body, and a word that is not known the kind 0
-unfoldable pub kindOf : Decoded → ℕ
-kindOf (Open n) = 1
-kindOf (Edit c) = callKind c
-kindOf Pairs = 7
-kindOf (Chain x y) = 8
-kindOf Broken = 6
-kindOf Unknown = 0
+unfoldable pub bodyOf : Frame → List ℕ
+bodyOf (asks (opening n)) = twoBytes n
+bodyOf (asks (call (edit (add k)))) = linkBytes k
+bodyOf (asks (call (edit (remove k)))) = linkBytes k
+bodyOf (asks (call (edit (lock r)))) = twoBytes r
+bodyOf (asks (call (edit (unlock r)))) = twoBytes r
+bodyOf (asks (call undo)) = []
+bodyOf (asks (pairs t)) = t
+bodyOf (asks (chain x y t)) = twoBytes x ++ (twoBytes y ++ t)
+bodyOf (faulty c) = pick (eqb (number c) (number unknown-kind)) [] (0 ∷ [])
 
-unfoldable pub bodyOf : Decoded → List ℕ → List ℕ
-bodyOf (Open n) t = twoBytes n
-bodyOf (Edit c) t = callBody c
-bodyOf Pairs t = t
-bodyOf (Chain x y) t = twoBytes x ++ (twoBytes y ++ t)
-bodyOf Broken t = 0 ∷ []
-bodyOf Unknown t = []
+unfoldable pub frameFor : Frame → List ℕ
+frameFor f = frameOf (kindOf f) (bodyOf f)
 
-unfoldable pub frameFor : Decoded → List ℕ → List ℕ
-frameFor d t = frameOf (kindOf d) (bodyOf d t)
+unfoldable pub sent : Typed → List ℕ
+sent nothing = []
+sent (saying f) = frameFor f
 
-unfoldable pub meant : Decoded → List ℕ → Frame
-meant (Open n) t = asks (opening n)
-meant (Edit c) t = asks (call (callOf c))
-meant Pairs t = asks (pairs t)
-meant (Chain x y) t = asks (chain x y t)
-meant Broken t = faulty broken-frame
-meant Unknown t = faulty unknown-kind
+abbrev pub OfNumber : ℕ → (ℕ → Request) → Type 0
+OfNumber k f = (n : ℕ) → frameFor (asks (f n)) ≡ frameOf k (twoBytes n)
 
--- the most bytes of a question's text
-abbrev pub maxText : ℕ
-maxText = 1018
+abbrev pub OfLink : ℕ → (Link → Edit) → Type 0
+OfLink k f = (l : Link) → frameFor (asks (call (edit (f l)))) ≡ frameOf k (linkBytes l)
 
-pub data OneFrame (out out′ : List ℕ) (r : ℕ) : Type 0 where
-  blank : r ≡ 0 → out′ ≡ out → OneFrame out out′ r
-  said : (d : Decoded) (t : List ℕ) → length t ≤ maxText → Wrote 0 (frameFor d t) out out′ r → OneFrame out out′ r
+abbrev pub maxBody : ℕ
+maxBody = maxFrame - minFrame
+
+abbrev pub frameRoom : ℕ
+frameRoom = maxFrame + 2
+
+-- ---- a typed session
+abbrev pub afterTyped : Session → Typed → Session
+afterTyped s nothing = s
+afterTyped s (saying f) = nextSession s f
+
+abbrev pub RightTyped : Session → Typed → Verdict → Reply → Type 0
+RightTyped s nothing v u = Unit
+RightTyped s (saying f) v u = Right s f v u
+
+abbrev pub printedTyped : ℕ → ℕ → Session → Typed → Verdict → Reply → List ℕ
+printedTyped work room s nothing v u = []
+printedTyped work room s (saying f) v u = printed work room s f v u
+
+abbrev pub leftTyped : ℕ → List ℕ → Session → Typed → Verdict → Reply → List ℕ
+leftTyped work k s nothing v u = k
+leftTyped work k s (saying f) v u = listLeft work k s f v u
+
+unfoldable pub sentAll : List (List ℕ) → List ℕ
+sentAll [] = []
+sentAll (l ∷ ls) = sent (typed l) ++ sentAll ls
+
+pub data TypedRun (work : ℕ) : Session → List ℕ → List (List ℕ) → List ℕ → Session → List ℕ → Type 0 where
+  no-lines : {s : Session} {k : List ℕ} → TypedRun work s k [] [] s k
+  next-line : {s s′ : Session} {k k′ : List ℕ} {ls : List (List ℕ)} {o : List ℕ} (l : List ℕ) (v : Verdict) (u : Reply) → RightTyped s (typed l) v u
+      → TypedRun work (afterTyped s (typed l)) (leftTyped work k s (typed l) v u) ls o s′ k′
+      → TypedRun work s k (l ∷ ls) (printedTyped work (length k) s (typed l) v u ++ o) s′ k′

@@ -1,86 +1,136 @@
 -- Laws of the frames of lines.
---   decode-frame    the program takes the frame of what a line says for that
---   run-frame       in a run, such a frame is one turn, whatever comes after it: the frames of lines keep in step with the answers
+--   decode-request  the program takes the frame of a request for that request
+--   typed-sends     a line says nothing, a request whose text is within its limit, or one of two faults
+--   decode-line     for every line: the program takes the frame that is sent for what the line says
+--   run-lines       for all lines of a session: on the frames that are sent the program prints what the lines ask for, line by line
 --   frame-parts     a frame from its parts
 -- Assumes nothing.
-use mathlib.Core.Path.{_≡_, refl, _∙_}
+use mathlib.Core.Path.{_≡_, refl, subst, _∙_}
 use mathlib.Core.List.{List, [], _∷_, _++_, append-assoc}
-use mathlib.Core.Bool.{true}
+use mathlib.Core.Bool.{Bool, true, false, _&&_}
 use Prim.Native.Nat.{ℕ, suc, _+_, _-_, _*_, _/_, _%_, _≤_, _<_}
 use native.Mathlib.Omega.{arith}
-use lib.ListN.{length, take, drop, length-append}
+use lib.ListN.{length, drop, length-append}
 use lib.Seq.{take-at, drop-at}
-use lib.Dec.{leb}
+use lib.Dec.{leb, ltb, eqb}
 use borrow.Author.Tests.{le-leb}
+use Rattle.book.specs.Basics.{pick}
+use Rattle.book.specs.Causes.{number, broken-frame, unknown-kind}
+use Rattle.book.specs.Book.{Link, Edit, edit, undo, add, remove, lock, unlock}
 use Rattle.paths.specs.Grammar.{Verdict}
 use Rattle.paths.specs.Chains.{Reply}
-use Rattle.report.specs.Written.{Wrote}
-use Rattle.session.specs.Program.{number16, twoBytes, frameOf, linkIn, Frame, decode, asks, call, Session, nextSession, Right, printed, frameIn, Run}
+use Rattle.report.specs.Report.{bytes}
+use Rattle.session.specs.Program.{number16, twoBytes, frameOf, linkIn, Request, Frame, asks, faulty, opening, call, pairs, chain, decode, Session, nextSession, Right, printed, listLeft, frameIn, Run, ended}
 use Rattle.session.specs.RunLaws.{framed-as}
-use Rattle.session.specs.Says.{callOf}
-use Rattle.session.specs.declared.Call.{Call}
-use Rattle.session.specs.declared.Call.the-variants.{Add, Remove, Lock, Unlock, Undo}
-use Rattle.session.specs.declared.Decoded.{Decoded}
-use Rattle.session.specs.declared.Decoded.the-variants.{Open, Edit, Pairs, Chain, Broken, Unknown}
-use Rattle.lines.specs.Encoding.{callKind, callBody, kindOf, bodyOf, frameFor, meant, maxText, OneFrame, blank, said}
+use Rattle.lines.specs.Typed.{Typed, nothing, saying, fitting, word, rest, skip, sameBytes, empty, isNumber, numberOf, isLabel, labelOf, text, maxText, maxLine, hash, numbered, linked, alone, chained, requested, begun, typed}
+use Rattle.lines.specs.TypedLaws.{length-text}
+use Rattle.lines.specs.Encoding.{linkBytes, kindOf, bodyOf, frameFor, sent, maxBody, afterTyped, printedTyped, leftTyped, RightTyped, sentAll, TypedRun, no-lines, next-line}
 
 -- a number from its two bytes
 both : (n : ℕ) → n % 256 + 256 * (n / 256) ≡ n
 both n = omega arith
 
-decode-call : (c : Call) → decode (callKind c) (callBody c) ≡ asks (call (callOf c))
-unfolding decode callKind callBody callOf twoBytes number16 linkIn
-decode-call (Add x l y) = rw (both x, both y)
-decode-call (Remove x l y) = rw (both x, both y)
-decode-call (Lock r) = rw (both r)
-decode-call (Unlock r) = rw (both r)
-decode-call Undo = refl
-
-pub decode-frame : (d : Decoded) (t : List ℕ) → decode (kindOf d) (bodyOf d t) ≡ meant d t
-unfolding decode kindOf bodyOf meant twoBytes number16
-decode-frame (Open n) t = rw (both n)
-decode-frame (Edit c) t = decode-call c
-decode-frame Pairs t = refl
-decode-frame (Chain x y) t =
-    let enough : leb 4 (length (bodyOf (Chain x y) t)) ≡ true = le-leb 4 (suc (suc (suc (suc (length t))))) (omega arith) in
+pub decode-request : (q : Request) → decode (kindOf (asks q)) (bodyOf (asks q)) ≡ asks q
+unfolding decode kindOf bodyOf linkBytes twoBytes number16 linkIn
+decode-request (opening n) = rw (both n)
+decode-request (call (edit (add k))) = rw (both (k .from), both (k .to))
+decode-request (call (edit (remove k))) = rw (both (k .from), both (k .to))
+decode-request (call (edit (lock r))) = rw (both r)
+decode-request (call (edit (unlock r))) = rw (both r)
+decode-request (call undo) = refl
+decode-request (pairs t) = refl
+decode-request (chain x y t) =
+    let enough : leb 4 (suc (suc (suc (suc (length t))))) ≡ true = le-leb 4 (suc (suc (suc (suc (length t))))) (omega arith) in
     rw (both x, both y, enough)
-decode-frame Broken t = refl
-decode-frame Unknown t = refl
+
+-- ---- what lines say
+-- a request whose text is within its limit, or one of the two faults
+pub data Sendable : Frame → Type 0 where
+  request : {q : Request} → length (bodyOf (asks q)) ≤ maxText + 4 → Sendable (asks q)
+  misfits : Sendable (faulty broken-frame)
+  unknowns : Sendable (faulty unknown-kind)
+
+pub data Sends : Typed → Type 0 where
+  none : Sends nothing
+  one : {f : Frame} → Sendable f → Sends (saying f)
+
+fits : (b : Bool) (q : Request) → length (bodyOf (asks q)) ≤ maxText + 4 → Sends (fitting b q)
+fits true q h = one (request h)
+fits false q h = one misfits
+
+choose : (b : Bool) (t u : Typed) → Sends t → Sends u → Sends (pick b t u)
+choose true t u x y = x
+choose false t u x y = y
+
+length-link : (k : Link) → length (linkBytes k) ≡ 5
+unfolding linkBytes twoBytes
+length-link k = refl
+
+numbered-sends : (f : ℕ → Request) (r : List ℕ) → ((n : ℕ) → length (bodyOf (asks (f n))) ≡ 2) → Sends (numbered f r)
+unfolding numbered
+numbered-sends f r h = fits (isNumber (word r) && empty (rest r)) (f (numberOf (word r))) (omega (arith, h (numberOf (word r))))
+
+linked-sends : (f : Link → Edit) (r : List ℕ) → ((k : Link) → length (bodyOf (asks (call (edit (f k))))) ≡ 5) → Sends (linked f r)
+unfolding linked
+linked-sends f r h =
+    let x = word r in
+    let l = word (rest r) in
+    let y = word (rest (rest r)) in
+    let k : Link = record { from = numberOf x; label = labelOf l; to = numberOf y } in
+    fits (isNumber x && (isLabel l && (isNumber y && empty (rest (rest (rest r)))))) (call (edit (f k))) (omega (arith, h k))
+
+chained-sends : (r : List ℕ) → Sends (chained r)
+unfolding chained bodyOf twoBytes
+chained-sends r =
+    let t = text (rest (rest r)) in
+    fits (isNumber (word r) && isNumber (word (rest r))) (chain (numberOf (word r)) (numberOf (word (rest r))) t) (omega (arith, length-text (rest (rest r))))
+
+requested-sends : (w r : List ℕ) → Sends (requested w r)
+unfolding requested alone bodyOf twoBytes
+requested-sends w r =
+    choose (sameBytes w (bytes "open")) _ _ (numbered-sends opening r (λ n. refl))
+    (choose (sameBytes w (bytes "add")) _ _ (linked-sends add r length-link)
+    (choose (sameBytes w (bytes "remove")) _ _ (linked-sends remove r length-link)
+    (choose (sameBytes w (bytes "lock")) _ _ (numbered-sends (λ x. call (edit (lock x))) r (λ n. refl))
+    (choose (sameBytes w (bytes "unlock")) _ _ (numbered-sends (λ x. call (edit (unlock x))) r (λ n. refl))
+    (choose (sameBytes w (bytes "undo")) _ _ (fits (empty r) (call undo) (omega arith))
+    (choose (sameBytes w (bytes "pairs")) _ _ (one (request {q = pairs (text r)} (omega (arith, length-text r))))
+    (choose (sameBytes w (bytes "chain")) _ _ (chained-sends r)
+    (one unknowns))))))))
+
+begun-sends : (s : List ℕ) → Sends (begun s)
+unfolding begun
+begun-sends [] = none
+begun-sends (c ∷ s) = choose (eqb c hash) _ _ none (requested-sends _ _)
+
+pub typed-sends : (s : List ℕ) → Sends (typed s)
+unfolding typed
+typed-sends s = choose (ltb maxLine (length s)) _ _ (one misfits) (begun-sends (skip s))
+
+-- ---- frames
+decode-sendable : {f : Frame} → Sendable f → decode (kindOf f) (bodyOf f) ≡ f
+unfolding decode kindOf bodyOf number
+decode-sendable (request {q} h) = decode-request q
+decode-sendable misfits = refl
+decode-sendable unknowns = refl
+
+says-sendable : {f : Frame} (t : Typed) → Sends t → t ≡ saying f → Sendable f
+says-sendable nothing none e = absurd (let z : _≡_ {A = ℕ} 0 1 = cc in omega arith)
+says-sendable {f} (saying g) (one x) e = let h : g ≡ f = cc in subst (λ (k : Frame). Sendable k) h x
+
+pub decode-line : (s : List ℕ) (f : Frame) → typed s ≡ saying f
+    → (sent (typed s) ≡ frameOf (kindOf f) (bodyOf f)) × (decode (kindOf f) (bodyOf f) ≡ f)
+unfolding sent frameFor
+decode-line s f e = (rw e, decode-sendable (says-sendable (typed s) (typed-sends s) e))
 
 -- a frame from its four bytes in front and the two parts of its body
-pub frame-parts : (k : ℕ) (h t : List ℕ) → k < 256 → (((length h + length t + 2) % 256 ∷ (length h + length t + 2) / 256 ∷ k ∷ 0 ∷ []) ++ h) ++ t ≡ frameOf k (h ++ t)
+pub frame-parts : (k : ℕ) (h t : List ℕ) → k < 256
+    → (((length h + length t + 2) % 256 ∷ (length h + length t + 2) / 256 ∷ k ∷ 0 ∷ []) ++ h) ++ t ≡ frameOf k (h ++ t)
 unfolding frameOf twoBytes
 frame-parts k h t b =
     let low : k % 256 ≡ k = omega arith in
     let high : k / 256 ≡ 0 = omega arith in
     rw (length-append h t, low, high, append-assoc)
-
--- what a frame takes of room
-pub length-frame : (k : ℕ) (s : List ℕ) → length (frameOf k s) ≡ length s + 4
-unfolding frameOf twoBytes
-length-frame k s = omega arith
-
-length-call : (c : Call) → length (callBody c) ≤ 5
-unfolding callBody twoBytes
-length-call (Add x l y) = omega arith
-length-call (Remove x l y) = omega arith
-length-call (Lock r) = omega arith
-length-call (Unlock r) = omega arith
-length-call Undo = omega arith
-
-pub length-body : (d : Decoded) (t : List ℕ) → length t ≤ 1018 → length (bodyOf d t) ≤ 1022
-unfolding bodyOf twoBytes
-length-body (Open n) t h = omega arith
-length-body (Edit c) t h = omega (arith, length-call c)
-length-body Pairs t h = omega arith
-length-body (Chain x y) t h = omega arith
-length-body Broken t h = omega arith
-length-body Unknown t h = omega arith
-
-pub frame-short : {l m : List ℕ} {r : ℕ} → OneFrame l m r → r ≤ 1026
-unfolding frameFor
-frame-short (blank h k) = omega arith
-frame-short (said d t h w) = omega (arith, w .place, length-frame (kindOf d) (bodyOf d t), length-body d t h)
 
 -- ---- a frame in a run
 -- the frame that stands in a frame's bytes, and what follows it
@@ -95,16 +145,34 @@ frame-out n a b s i h =
     let size : n ≡ suc (suc (length s)) = omega arith in
     rw size (drop-at s i (length s) refl)
 
-pub run-frame : (work room : ℕ) (s : Session) (d : Decoded) (t i o : List ℕ) (v : Verdict) (u : Reply) → length t ≤ maxText
-    → Right s (meant d t) v u → Run work room (nextSession s (meant d t)) i o → Run work room s (frameFor d t ++ i) (printed work room s (meant d t) v u ++ o)
+length-body : {f : Frame} → Sendable f → length (bodyOf f) ≤ maxBody
+unfolding bodyOf number
+length-body (request h) = omega arith
+length-body misfits = omega arith
+length-body unknowns = omega arith
+
+run-frame : (work : ℕ) (s s′ : Session) (k k′ : List ℕ) (f : Frame) (i o : List ℕ) (v : Verdict) (u : Reply) → Sendable f → Right s f v u
+    → Run work (nextSession s f) (listLeft work k s f v u) i o s′ k′ → Run work s k (frameFor f ++ i) (printed work (length k) s f v u ++ o) s′ k′
 unfolding frameFor frameOf twoBytes
-run-frame work room s d t i o v u h right run =
-    let b = bodyOf d t in
-    let k = kindOf d in
+run-frame work s s′ k k′ f i o v u x right run =
+    let b = bodyOf f in
+    let c = kindOf f in
     let n = length b + 2 in
     let size : n % 256 + 256 * (n / 256) ≡ n = both n in
-    let short = length-body d t h in
-    framed-as work room (n % 256) (n / 256) (k % 256 ∷ k / 256 ∷ (b ++ i)) i o (meant d t) v u
-    (frame-in (n % 256 + 256 * (n / 256)) k b i size ∙ decode-frame d t)
-    (frame-out (n % 256 + 256 * (n / 256)) (k % 256) (k / 256) b i size)
+    let short = length-body x in
+    framed-as work {l = k} {l′ = k′} (n % 256) (n / 256) (c % 256 ∷ c / 256 ∷ (b ++ i)) i o f v u
+    (frame-in (n % 256 + 256 * (n / 256)) c b i size ∙ decode-sendable x)
+    (frame-out (n % 256 + 256 * (n / 256)) (c % 256) (c / 256) b i size)
     (omega arith) (omega arith) (omega (arith, length-append b i)) right run
+
+run-sends : (work : ℕ) (s s′ : Session) (k k′ : List ℕ) (t : Typed) (i o : List ℕ) (v : Verdict) (u : Reply) → Sends t → RightTyped s t v u
+    → Run work (afterTyped s t) (leftTyped work k s t v u) i o s′ k′ → Run work s k (sent t ++ i) (printedTyped work (length k) s t v u ++ o) s′ k′
+unfolding sent
+run-sends work s s′ k k′ nothing i o v u none right run = run
+run-sends work s s′ k k′ (saying f) i o v u (one x) right run = run-frame work s s′ k k′ f i o v u x right run
+
+pub run-lines : {work : ℕ} {s s′ : Session} {k k′ : List ℕ} {ls : List (List ℕ)} {o : List ℕ} → TypedRun work s k ls o s′ k′ → Run work s k (sentAll ls) o s′ k′
+unfolding sentAll
+run-lines no-lines = ended
+run-lines {work} {s} {s′} {k} {k′} (next-line {ls = ls} {o = o} l v u right run) =
+    run-sends work s s′ k k′ (typed l) (sentAll ls) o v u (typed-sends l) right (run-lines run)

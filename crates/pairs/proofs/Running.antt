@@ -6,6 +6,7 @@ use native.Mathlib.Numerals.{add-one}
 use native.Mathlib.Omega.{arith}
 use lib.ListN.{length, take, drop, getD, set, replicate, length-drop, drop-of-length-le}
 use lib.Seq.{drop-cons, drop-drop}
+use Rattle.book.specs.Causes.{number}
 use Rattle.book.specs.Book.{Book}
 use Rattle.k2.specs.PairSets.{Cells, IsSet, listed, union}
 use Rattle.k2.specs.Trees.{treeUnit, treeWords}
@@ -17,7 +18,7 @@ use Rattle.rows.specs.Rows.{noPairs}
 use Rattle.rows.specs.RowLaws.{none-set, none-tree, union-none}
 use Rattle.reader.specs.Code.{run}
 use Rattle.packing.specs.Reading.{sensed}
-use Rattle.tree.specs.Inner.{outcome}
+use Rattle.tree.specs.Inner.{outcome, Room as Spaces}
 use Rattle.tree.specs.Calls.{Settled as Told, too-long, given, OutcomeListed}
 use Rattle.tree.specs.declared.Answer.{Answer}
 use Rattle.tree.specs.declared.Answer.the-variants.{Done, Refused as Unlisted}
@@ -70,7 +71,7 @@ module _ (n : ℕ) (ws c : List ℕ) where
       let w = G .waits b L s e k in
       let z : drop (length c - 1) c ≡ getD c (length c - 1) 0 ∷ [] =
       next-number (length c - 1) (omega arith) G ∙ ap (λ (x : List ℕ). getD c (length c - 1) 0 ∷ x) (drop-of-length-le c {i = suc (length c - 1)} (omega arith)) in
-      l b L e (w .0) (subst (λ (x : List ℕ). Waiting (asked b) e x work S (w .0)) z (w .1))
+      l .pairs b L e (w .0) (subst (λ (x : List ℕ). Waiting (asked b) e x work S (w .0)) z (w .1))
 
 -- ---- the last number's value
 head-same : {x y : Cells} {xs ys : List Cells} → x ∷ xs ≡ y ∷ ys → x ≡ y
@@ -80,80 +81,102 @@ module _ (n op : ℕ) (ws links work before after : List ℕ) (r : Answer) (smal
   -- a letter alone
   pub lists-letter : (S : Stack) → op < 26 → LabelPart ws op links → OutcomeListed 0 n 0 0 links 0 work before after r → Lists n ws op work S before after r
   unfolding run asked
-  lists-letter S l P told b L e st w =
-      let g : Graph = asked b in
-      let T : Stack = record { sizes = S .sizes; count = S .count; end = S .end; label = op; sense = 0 } in
-      let c : cells g e ≡ crossed g (letter op) = sym (head-same (sym (does-label g op (beside (held g S) st) l) ∙ w .rest)) in
-      let t : Told (listed n (union noPairs (union noPairs (letters b n ws links T P L)))) before after r =
-      told .gives (record { size = small; first = omega arith; second = omega arith; work = omega arith }) (omega arith) noPairs noPairs (none-set n) (none-set n) (none-tree n) (none-tree n)
-      (subst (λ (i : ℕ). IsSet i (letters b n ws links T P L)) (sym (L .size)) (letters-set b n ws links T P L)) in
-      let q : union noPairs (union noPairs (letters b n ws links T P L)) ≡ cells g e = union-none _ ∙ union-none _ ∙ letters-held b n ws links T P L ∙ sym c in
-      subst (λ (i : ℕ). Told (listed i (cells g e)) before after r) (L .size) (subst (λ (x : Cells). Told (listed n x) before after r) q t)
+  lists-letter S l P told = record { settles = told .settles room (omega arith); pairs = value }
+    where
+      room : Spaces n 0 0 (length work)
+      room = record { size = small; first = omega arith; second = omega arith; work = omega arith }
+
+      value : (b : Book) → Lettered b n ws → (e : Expr) (st : List Cells) → Waiting (asked b) e (op ∷ []) work S st → Told (listed (b .n) (cells (asked b) e)) before after r
+      value b L e st w =
+          let g : Graph = asked b in
+          let T : Stack = record { sizes = S .sizes; count = S .count; end = S .end; label = op; sense = 0 } in
+          let c : cells g e ≡ crossed g (letter op) = sym (head-same (sym (does-label g op (beside (held g S) st) l) ∙ w .rest)) in
+          let t : Told (listed n (union noPairs (union noPairs (letters b n ws links T P L)))) before after r =
+          told .gives room (omega arith) noPairs noPairs (none-set n) (none-set n) (none-tree n) (none-tree n)
+          (subst (λ (i : ℕ). IsSet i (letters b n ws links T P L)) (sym (L .size)) (letters-set b n ws links T P L)) in
+          let q : union noPairs (union noPairs (letters b n ws links T P L)) ≡ cells g e = union-none _ ∙ union-none _ ∙ letters-held b n ws links T P L ∙ sym c in
+          subst (λ (i : ℕ). Told (listed i (cells g e)) before after r) (L .size) (subst (λ (x : Cells). Told (listed n x) before after r) q t)
 
   -- an operator on one operand
   module _ (S : Stack) (k start : ℕ) (few : S .count ≤ 19) (P : Placed (treeUnit n) S) (B : LabelPart ws (S .label) links) where
     pub lists-one : 26 ≤ op → op < 30 → 1 ≤ S .count → start ≡ S .end - getD (S .sizes) (S .count - 1) 0 → ((n : ℕ) (x : Cells) → outcome k n noPairs x ≡ onOne n op x)
         → OutcomeListed k n 0 (getD (S .sizes) (S .count - 1) 0) links (S .sense) (take (length work - start) (drop start work)) before after r → Lists n ws op work S before after r
     unfolding run asked
-    lists-one low high some at is told b L e [] w = absurd (omega (arith, runs-operands (relations (asked b)) (w .runs), operands-one op low high))
-    lists-one low high some at is made b L e (t ∷ st) w =
-        let told = subst (λ (z : List ℕ). OutcomeListed k n 0 (getD (S .sizes) (S .count - 1) 0) links (S .sense) z before after r) (rest work start) made in
-        let g : Graph = asked b in
-        let I = w .lie in
-        let T = top (I .sets) (I .sizes) (I .ends) (I .trees) in
-        let u : Cells = union t (held g S) in
-        let c : cells g e ≡ onOne (b .n) op u = sym (head-same (sym (does-one g (zero-identity b) op u st low high) ∙ w .rest)) in
-        let z = lies-one P few some in
-        let t′ : Told (listed n (outcome k n noPairs (union t (sensed (S .sense) (letters b n ws links S B L))))) before after r =
-        told .gives (record { size = small; first = omega arith; second = z .1; work = rw (length-drop start work) (omega (arith, z .2)) }) (P .sense) noPairs t (none-set n)
-        (subst (λ (i : ℕ). IsSet i t) (sym (L .size)) (T .set)) (none-tree n)
-        (subst (λ (i : ℕ). take (getD (S .sizes) (S .count - 1) 0) (drop start work) ≡ treeWords i t) (sym (L .size)) (ap (λ (j : ℕ). take (getD (S .sizes) (S .count - 1) 0) (drop j work)) at ∙ T .tree))
-        (subst (λ (i : ℕ). IsSet i (letters b n ws links S B L)) (sym (L .size)) (letters-set b n ws links S B L)) in
-        let q : outcome k n noPairs (union t (sensed (S .sense) (letters b n ws links S B L))) ≡ onOne n op u =
-        is n _ ∙ ap (λ (a : Cells). onOne n op (union t a)) (letters-held b n ws links S B L) in
-        subst (λ (x : Cells). Told (listed (b .n) x) before after r) (sym c)
-        (subst (λ (i : ℕ). Told (listed i (onOne i op u)) before after r) (L .size) (subst (λ (x : Cells). Told (listed n x) before after r) q t′))
+    lists-one low high some at is made = record { settles = told .settles room (P .sense); pairs = value }
+      where
+        right : ℕ
+        right = getD (S .sizes) (S .count - 1) 0
+
+        told : OutcomeListed k n 0 right links (S .sense) (drop start work) before after r
+        told = subst (λ (z : List ℕ). OutcomeListed k n 0 right links (S .sense) z before after r) (rest work start) made
+
+        room : Spaces n 0 right (length (drop start work))
+        room = let z = lies-one P few some in record { size = small; first = omega arith; second = z .1; work = rw (length-drop start work) (omega (arith, z .2)) }
+
+        value : (b : Book) → Lettered b n ws → (e : Expr) (st : List Cells) → Waiting (asked b) e (op ∷ []) work S st → Told (listed (b .n) (cells (asked b) e)) before after r
+        value b L e [] w = absurd (omega (arith, runs-operands (relations (asked b)) (w .runs), operands-one op low high))
+        value b L e (t ∷ st) w =
+            let g : Graph = asked b in
+            let I = w .lie in
+            let T = top (I .sets) (I .sizes) (I .ends) (I .trees) in
+            let u : Cells = union t (held g S) in
+            let c : cells g e ≡ onOne (b .n) op u = sym (head-same (sym (does-one g (zero-identity b) op u st low high) ∙ w .rest)) in
+            let t′ : Told (listed n (outcome k n noPairs (union t (sensed (S .sense) (letters b n ws links S B L))))) before after r =
+            told .gives room (P .sense) noPairs t (none-set n)
+            (subst (λ (i : ℕ). IsSet i t) (sym (L .size)) (T .set)) (none-tree n)
+            (subst (λ (i : ℕ). take right (drop start work) ≡ treeWords i t) (sym (L .size)) (ap (λ (j : ℕ). take right (drop j work)) at ∙ T .tree))
+            (subst (λ (i : ℕ). IsSet i (letters b n ws links S B L)) (sym (L .size)) (letters-set b n ws links S B L)) in
+            let q : outcome k n noPairs (union t (sensed (S .sense) (letters b n ws links S B L))) ≡ onOne n op u =
+            is n _ ∙ ap (λ (a : Cells). onOne n op (union t a)) (letters-held b n ws links S B L) in
+            subst (λ (x : Cells). Told (listed (b .n) x) before after r) (sym c)
+            (subst (λ (i : ℕ). Told (listed i (onOne i op u)) before after r) (L .size) (subst (λ (x : Cells). Told (listed n x) before after r) q t′))
 
     -- and on two
     pub lists-two : 30 ≤ op → 2 ≤ S .count → start ≡ S .end - getD (S .sizes) (S .count - 1) 0 - getD (S .sizes) (S .count - 1 - 1) 0
         → ((n : ℕ) (x y : Cells) → outcome k n x y ≡ onTwo n op x y)
         → OutcomeListed k n (getD (S .sizes) (S .count - 1 - 1) 0) (getD (S .sizes) (S .count - 1) 0) links (S .sense) (take (length work - start) (drop start work)) before after r → Lists n ws op work S before after r
     unfolding run asked
-    lists-two low some at is told b L e [] w = absurd (omega (arith, runs-operands (relations (asked b)) (w .runs), operands-two op low))
-    lists-two low some at is told b L e (y ∷ []) w = absurd (omega (arith, runs-operands (relations (asked b)) (w .runs), operands-two op low))
-    lists-two low some at is made b L e (y ∷ x ∷ st) w =
-        let told = subst (λ (z : List ℕ). OutcomeListed k n (getD (S .sizes) (S .count - 1 - 1) 0) (getD (S .sizes) (S .count - 1) 0) links (S .sense) z before after r) (rest work start) made in
-        let g : Graph = asked b in
-        let I = w .lie in
-        let T = top (I .sets) (I .sizes) (I .ends) (I .trees) in
-        let U = top (T .below) (T .sizes) (T .begins) (T .trees) in
-        let right : ℕ = getD (S .sizes) (S .count - 1) 0 in
-        let left : ℕ = getD (S .sizes) (S .count - 1 - 1) 0 in
-        let u : Cells = union y (held g S) in
-        let c : cells g e ≡ onTwo (b .n) op x u = sym (head-same (sym (does-two g op x u st low (runs-number (relations g) (w .runs))) ∙ w .rest)) in
-        let z = lies-two P few some in
-        let p : take right (drop left (drop start work)) ≡ treeWords (b .n) y =
-        ap (take right) (drop-drop left start work ∙ ap (λ (i : ℕ). drop i work) (ap (λ (j : ℕ). j + left) at ∙ sym (U .ends))) ∙ T .tree in
-        let t′ : Told (listed n (outcome k n x (union y (sensed (S .sense) (letters b n ws links S B L))))) before after r =
-        told .gives (record { size = small; first = z .3; second = z .1; work = rw (length-drop start work) (omega (arith, z .4)) }) (P .sense) x y
-        (subst (λ (i : ℕ). IsSet i x) (sym (L .size)) (U .set)) (subst (λ (i : ℕ). IsSet i y) (sym (L .size)) (T .set))
-        (subst (λ (i : ℕ). take left (drop start work) ≡ treeWords i x) (sym (L .size)) (ap (λ (j : ℕ). take left (drop j work)) at ∙ U .tree))
-        (subst (λ (i : ℕ). take right (drop left (drop start work)) ≡ treeWords i y) (sym (L .size)) p)
-        (subst (λ (i : ℕ). IsSet i (letters b n ws links S B L)) (sym (L .size)) (letters-set b n ws links S B L)) in
-        let q : outcome k n x (union y (sensed (S .sense) (letters b n ws links S B L))) ≡ onTwo n op x u =
-        is n x _ ∙ ap (λ (a : Cells). onTwo n op x (union y a)) (letters-held b n ws links S B L) in
-        subst (λ (v : Cells). Told (listed (b .n) v) before after r) (sym c)
-        (subst (λ (i : ℕ). Told (listed i (onTwo i op x u)) before after r) (L .size) (subst (λ (v : Cells). Told (listed n v) before after r) q t′))
+    lists-two low some at is made = record { settles = told .settles room (P .sense); pairs = value }
+      where
+        right : ℕ
+        right = getD (S .sizes) (S .count - 1) 0
+
+        left : ℕ
+        left = getD (S .sizes) (S .count - 1 - 1) 0
+
+        told : OutcomeListed k n left right links (S .sense) (drop start work) before after r
+        told = subst (λ (z : List ℕ). OutcomeListed k n left right links (S .sense) z before after r) (rest work start) made
+
+        room : Spaces n left right (length (drop start work))
+        room = let z = lies-two P few some in record { size = small; first = z .3; second = z .1; work = rw (length-drop start work) (omega (arith, z .4)) }
+
+        value : (b : Book) → Lettered b n ws → (e : Expr) (st : List Cells) → Waiting (asked b) e (op ∷ []) work S st → Told (listed (b .n) (cells (asked b) e)) before after r
+        value b L e [] w = absurd (omega (arith, runs-operands (relations (asked b)) (w .runs), operands-two op low))
+        value b L e (y ∷ []) w = absurd (omega (arith, runs-operands (relations (asked b)) (w .runs), operands-two op low))
+        value b L e (y ∷ x ∷ st) w =
+            let g : Graph = asked b in
+            let I = w .lie in
+            let T = top (I .sets) (I .sizes) (I .ends) (I .trees) in
+            let U = top (T .below) (T .sizes) (T .begins) (T .trees) in
+            let u : Cells = union y (held g S) in
+            let c : cells g e ≡ onTwo (b .n) op x u = sym (head-same (sym (does-two g op x u st low (runs-number (relations g) (w .runs))) ∙ w .rest)) in
+            let p : take right (drop left (drop start work)) ≡ treeWords (b .n) y =
+            ap (take right) (drop-drop left start work ∙ ap (λ (i : ℕ). drop i work) (ap (λ (j : ℕ). j + left) at ∙ sym (U .ends))) ∙ T .tree in
+            let t′ : Told (listed n (outcome k n x (union y (sensed (S .sense) (letters b n ws links S B L))))) before after r =
+            told .gives room (P .sense) x y
+            (subst (λ (i : ℕ). IsSet i x) (sym (L .size)) (U .set)) (subst (λ (i : ℕ). IsSet i y) (sym (L .size)) (T .set))
+            (subst (λ (i : ℕ). take left (drop start work) ≡ treeWords i x) (sym (L .size)) (ap (λ (j : ℕ). take left (drop j work)) at ∙ U .tree))
+            (subst (λ (i : ℕ). take right (drop left (drop start work)) ≡ treeWords i y) (sym (L .size)) p)
+            (subst (λ (i : ℕ). IsSet i (letters b n ws links S B L)) (sym (L .size)) (letters-set b n ws links S B L)) in
+            let q : outcome k n x (union y (sensed (S .sense) (letters b n ws links S B L))) ≡ onTwo n op x u =
+            is n x _ ∙ ap (λ (a : Cells). onTwo n op x (union y a)) (letters-held b n ws links S B L) in
+            subst (λ (v : Cells). Told (listed (b .n) v) before after r) (sym c)
+            (subst (λ (i : ℕ). Told (listed i (onTwo i op x u)) before after r) (L .size) (subst (λ (v : Cells). Told (listed n v) before after r) q t′))
 
 -- ---- the pairs handed over
 pub told-handed : {l before after : List ℕ} (k : ℕ) → Told l before after (Done k) → Handed l before after (Pairs k)
 told-handed k (given h e) = handed h e
 
 pub told-refused : {l before after : List ℕ} (k : ℕ) → Told l before after (Unlisted k) → Handed l before after (Refused k)
+unfolding number
 told-refused k (too-long h e) = not-taken h e
-
-pub not-refused : {A : Type 0} (k j : ℕ) → Pairs k ≡ Refused j → A
-not-refused k j e = absurd (let z : _≡_ {A = ℕ} 0 1 = cc in omega arith)
-
-pub same-number : (k j : ℕ) → Refused k ≡ Refused j → Unlisted k ≡ Unlisted j
-same-number k j e = let z : k ≡ j = cc in ap Unlisted z

@@ -10,7 +10,7 @@
 --   Going n ws c work S i
 --                   the first i numbers of the code c have been run
 --   Lists n ws op work S before after a
---                   the last number of the code: the answer a and its list, for every book whose links ws are
+--                   the last number of the code: the answer a and its list are settled by some pairs, and for every book whose links ws are by the value's
 -- Assumes nothing: these are definitions.
 use mathlib.Core.Path.{_≡_}
 use mathlib.Core.List.{List, [], _∷_}
@@ -63,6 +63,7 @@ pub record Going (n : ℕ) (ws c work : List ℕ) (S : Stack) (i : ℕ) : Type 0
   pub room : Room (treeUnit n) (drop i c) S
   pub waits : (b : Book) → Lettered b n ws → (s : List ℕ) (e : Expr) → Coded s e c → (st : List Cells) × Waiting (asked b) e (drop i c) work S st
 
-abbrev pub Lists : ℕ → List ℕ → ℕ → List ℕ → Stack → List ℕ → List ℕ → Answer → Type 0
-Lists n ws op work S before after a =
-    (b : Book) → Lettered b n ws → (e : Expr) (st : List Cells) → Waiting (asked b) e (op ∷ []) work S st → Told (listed (b .n) (cells (asked b) e)) before after a
+pub record Lists (n : ℕ) (ws : List ℕ) (op : ℕ) (work : List ℕ) (S : Stack) (before after : List ℕ) (a : Answer) : Type 0 where
+  pub settles : (xs : List ℕ) × Told xs before after a
+  pub pairs : (b : Book) → Lettered b n ws → (e : Expr) (st : List Cells) → Waiting (asked b) e (op ∷ []) work S st
+      → Told (listed (b .n) (cells (asked b) e)) before after a

@@ -12,11 +12,9 @@ ghost use Rattle.paths.specs.Chains.{asked};
 ghost use Rattle.paths.specs.Relations.{cells};
 ghost use Rattle.rows.specs.Rows.{noPairs};
 ghost use Rattle.tree.specs.Inner.{outcome, OneWithLinks, TwoWithLinks};
-ghost use Rattle.tree.specs.declared.Answer.the-variants.{Refused as Unlisted};
 ghost use Rattle.pairs.specs.Evaluation.{onOne, onTwo, Placed, Room};
 ghost use Rattle.pairs.specs.Steps.{Lettered, Topped, Settled, Goes, Coded, Going, Lists};
 ghost use Rattle.pairs.specs.Asking.{Handed, AsksFor, AsksPairs};
-ghost use Rattle.pairs.specs.declared.PairsAnswer.the-variants.{Refused};
 
 // The answer to a pair question: the number of pairs, or refused with the number of the cause.
 pub enum PairsAnswer {
@@ -238,8 +236,7 @@ fn last(
     list: &mut [u32],
 ) -> tree::Answer
     requires { ⌜ (n ≤ 1024) × (32 * treeUnit n ≤ length (now work)) × Room (treeUnit n) (op ∷ []) stack ⌝ }
-    ensures unchanged { λ a. ⌜ ((k : ℕ) → a ≡ Unlisted k → now (list .exit) ≡ now (list .entry)) ⌝ }
-    ensures pairs { λ a. ⌜ Lists n (now (words .entry)) op (now (work .entry)) stack (now (list .entry)) (now (list .exit)) a ⌝ }
+    ensures { λ a. ⌜ Lists n (now (words .entry)) op (now (work .entry)) stack (now (list .entry)) (now (list .exit)) a ⌝ }
 {
     if op < 26 {
         let links = register::label_part(words, op);
@@ -284,7 +281,7 @@ fn hand_over(
     list: &mut [u32],
 ) -> PairsAnswer
     requires { ⌜ (n ≤ 1024) × (32 * treeUnit n ≤ length (now work)) × ((s : List ℕ) × (e : Expr) × Coded s e (now code)) ⌝ }
-    ensures unchanged { λ a. ⌜ ((k : ℕ) → a ≡ Refused k → now (list .exit) ≡ now (list .entry)) ⌝ }
+    ensures settles { λ a. ⌜ ((l : List ℕ) × Handed l (now (list .entry)) (now (list .exit)) a) ⌝ }
     ensures pairs { λ a. ⌜ ((b : Book) → Lettered b n (now (words .entry)) → (s : List ℕ) (e : Expr) → Coded s e (now (code .entry))
         → Handed (listed (b .n) (cells (asked b) e)) (now (list .entry)) (now (list .exit)) a) ⌝ }
 {

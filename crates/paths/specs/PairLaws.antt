@@ -5,15 +5,17 @@
 --                   after every history the links lie between records in use, and n is at most 1,024
 --   pairs-in-order, chain-in-order
 --                   the causes against a question stand in the order of 01
+--   verdict-caused  the number of a faulty text is that of a cause
 -- Assumes nothing.
-use mathlib.Core.Path.{_≡_}
+use mathlib.Core.Path.{_≡_, sym}
 use mathlib.Core.List.{List, [], _∷_, _++_}
 use mathlib.Core.Bool.{Bool}
-use Prim.Native.Nat.{ℕ, _≤_}
+use Prim.Native.Nat.{ℕ, _≤_, _<_}
+use native.Mathlib.Omega.{arith}
 use lib.ListN.{length}
 use lib.Dec.{ltb}
 use borrow.Author.Tests.{ltb-true, lt-ltb}
-use Rattle.book.specs.Causes.{Cause, no-expression, too-many-bytes, too-large, short-work, short-list, questionOrder, InOrder, none-left, same-cause, passed-over}
+use Rattle.book.specs.Causes.{Cause, no-expression, too-many-bytes, too-large, short-work, short-list, number, Caused, firstNumber, questionOrder, InOrder, none-left, same-cause, passed-over}
 use Rattle.book.specs.Book.{Sheet, Book, Call, fresh, after}
 use Rattle.book.specs.ListLaws.{rises-same}
 use Rattle.book.specs.Sheets.{Fit}
@@ -76,3 +78,10 @@ pairs-in-order b v work room = passed-over (text-in-order v (ltb work (pairsWork
 pub chain-in-order : (b : Book) (x y : ℕ) (v : Verdict) (t : Reply) (work room : ℕ) → InOrder (chainCauses b x y v t work room) questionOrder
 unfolding chainCauses questionOrder
 chain-in-order b x y v t work room = same-cause (text-in-order v (ltb work (chainWork (b .n))) (ltb room (length (steps t))))
+
+pub verdict-caused : (v : Verdict) (k : ℕ) → firstNumber (verdictCause v) ≡ k → 0 < k → Caused k
+unfolding firstNumber number verdictCause
+verdict-caused (accepted e) k q h = absurd (omega arith)
+verdict-caused long k q h = (too-many-bytes, sym q)
+verdict-caused outside k q h = (no-expression, sym q)
+verdict-caused large k q h = (too-large, sym q)

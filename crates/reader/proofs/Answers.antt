@@ -22,26 +22,26 @@ use Rattle.reader.specs.Code.{code}
 use Rattle.reader.specs.declared.Spot.{Spot}
 use Rattle.reader.specs.declared.Answer.the-variants.{Accepted, Refused}
 use Rattle.reader.specs.declared.Reading.{Reading}
-use Rattle.reader.specs.Reads.{answerOf, codeArray, Reads}
+use Rattle.reader.specs.Reads.{readAnswer, codeArray, Reads}
 use Rattle.reader.proofs.Steps.{Gave}
 
 -- a refusal
 abbrev pub Refuses : ℕ → Reading → Type 0
 Refuses k r = (r .answer ≡ Refused k) × (r .code ≡ replicate maxBytes 0)
 
-refuses : {s : List ℕ} {r : Reading} (v : Verdict) (k : ℕ) → answerOf v ≡ Refused k → codeArray v ≡ replicate maxBytes 0 → verdict s ≡ v → Refuses k r → Reads s r
-refuses v k a c h f = record { answered = f .0 ∙ sym a ∙ ap answerOf (sym h); coded = f .1 ∙ sym c ∙ ap codeArray (sym h) }
+refuses : {s : List ℕ} {r : Reading} (v : Verdict) (k : ℕ) → readAnswer v ≡ Refused k → codeArray v ≡ replicate maxBytes 0 → verdict s ≡ v → Refuses k r → Reads s r
+refuses v k a c h f = record { answered = f .0 ∙ sym a ∙ ap readAnswer (sym h); coded = f .1 ∙ sym c ∙ ap codeArray (sym h) }
 
 pub refuses-long : {s : List ℕ} {r : Reading} → verdict s ≡ long → Refuses 10 r → Reads s r
-unfolding answerOf codeArray firstNumber verdictCause number
+unfolding readAnswer codeArray firstNumber verdictCause number
 refuses-long h f = refuses long 10 refl refl h f
 
 pub refuses-outside : {s : List ℕ} {r : Reading} → verdict s ≡ outside → Refuses 9 r → Reads s r
-unfolding answerOf codeArray firstNumber verdictCause number
+unfolding readAnswer codeArray firstNumber verdictCause number
 refuses-outside h f = refuses outside 9 refl refl h f
 
 pub refuses-large : {s : List ℕ} {r : Reading} → verdict s ≡ large → Refuses 10 r → Reads s r
-unfolding answerOf codeArray firstNumber verdictCause number
+unfolding readAnswer codeArray firstNumber verdictCause number
 refuses-large h f = refuses large 10 refl refl h f
 
 -- the zeros after a code
@@ -74,13 +74,13 @@ module _ {s b a : List ℕ} {q : Spot} (h : length s ≤ maxBytes) (g : Gave got
   too-deep k l d = verdict-deep s (g .e) h (whole-text k) (omega (arith, g .found .letters-are)) (omega (arith, g .found .depth-is))
 
 pub accepts : {s a : List ℕ} {q : Spot} → length s ≤ maxBytes → Gave got s 0 0 (replicate maxBytes 0) a (readAlternatives s) q → length s ≤ q .at → q .letters ≤ maxLetters → q .depth ≤ maxDepth → Reads s (record { answer = Accepted (q .end); code = a })
-unfolding answerOf codeArray
+unfolding readAnswer codeArray
 accepts {s} {a} {q} h g k l d =
     let f = g .found in
     let v : verdict s ≡ accepted (g .e) = verdict-accepted s (g .e) h (whole-text h g k) (omega (arith, f .letters-are)) (omega (arith, f .depth-is)) in
     let end : q .end ≡ length (code (g .e)) = omega (arith, f .end-is) in
     let zeros = code-then-zeros (code (g .e)) maxBytes (omega (arith, f .short, f .inside)) in
-    record { answered = ap Accepted end ∙ ap answerOf (sym v); coded = f .written ∙ zeros ∙ ap codeArray (sym v) }
+    record { answered = ap Accepted end ∙ ap readAnswer (sym v); coded = f .written ∙ zeros ∙ ap codeArray (sym v) }
 
 -- no text is no expression
 pub empty-text : {s : List ℕ} → s ≡ [] → verdict s ≡ outside

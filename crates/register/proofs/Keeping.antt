@@ -8,11 +8,13 @@ use native.Mathlib.Omega.{arith}
 use native.Mathlib.Numerals.{add-one}
 use mir.Val.{boolByte}
 use lib.Dec.{eqb}
-use lib.ListN.{length, take, drop, set, getD, length-append, length-drop, length-map, drop-of-length-le, List·getD-eq-default, List·getD-map}
-use lib.Seq.{ext-getD, getD-set-same, getD-set-other, take-at, drop-at, take-all, take-length, take-add, length-take-le, paste, paste-suc}
-use Rattle.register.specs.Calls.{Ranged}
+use lib.ListN.{length, take, drop, set, getD, length-append, length-map, drop-of-length-le, List·getD-eq-default, List·getD-map}
+use lib.Seq.{ext-getD, getD-set-same, getD-set-other, take-at, drop-at, drop-drop, take-all, take-length, length-take-le, paste, paste-suc}
+use Rattle.book.specs.Causes.{number, maxRecords, maxLinks, maxHeld}
+use Rattle.book.specs.Book.{fresh}
+use Rattle.register.specs.Calls.{Ranged, InRange, Represents}
 use Rattle.register.specs.Inner.{Flags, Formed, Tested}
-use Rattle.register.specs.Words.{lockWord, numbersOf, wordsOf, Keeps, Copies, Loads, Stores}
+use Rattle.register.specs.Words.{stateWords, linksAt, ringAt, locksAt, lockWord, numbersOf, stateOf, Keeps, Copies, Loads, Stores}
 use Rattle.register.specs.WordLaws.{lock-back, keeps-formed}
 use Rattle.register.specs.declared.Register.{Register}
 use Rattle.register.specs.declared.Answer.the-variants.{Done, Refused}
@@ -80,23 +82,17 @@ locks-written ls at before after e =
     e ∙ ap (λ (t : List ℕ). take at before ++ t ++ drop (at + length ls) before) (take-all (length ls) (map lockWord ls) (omega (arith, length-map ls lockWord)))
 
 -- ---- load
-to-end : (ws : List ℕ) → take (length ws - 4356) (drop 4356 ws) ≡ drop 4356 ws
-to-end ws = take-all (length ws - 4356) (drop 4356 ws) (omega (arith, length-drop 4356 ws))
+pub formed-by : (ws : List ℕ) (ok : Bool) → stateWords ≤ length ws → Ranged (getD ws 0 0) (getD ws 1 0) (getD ws 2 0) (getD ws 3 0)
+    → Tested (Flags (take maxRecords (drop locksAt ws))) ok → Tested (Formed ws) ok
+formed-by ws ok l r t = record { sure = λ e. record { long = l; ranged = r; flags = t .sure e }; none = λ e f. t .none e (f .flags) }
 
-pub formed-by : (ws : List ℕ) (ok : Bool) → length ws ≡ 5380 → getD ws 0 0 < 65536 → Tested (Flags (take (length ws - 4356) (drop 4356 ws))) ok → Tested (Formed ws) ok
-formed-by ws ok l n t = record {
-  sure = λ e. record { long = l; size = n; flags = rw (to-end ws) at (t .sure e) };
-  none = λ e f. t .none e (rw (to-end ws) (f .flags));
+pub load-refused : (ws : List ℕ) (ok : Bool) {r : Register} → Tested (Formed ws) ok → ok ≡ false → Represents r (fresh 0)
+    → Loads ws (record { register = r; answer = Refused 16 })
+unfolding number
+load-refused ws ok t e h = record {
+  loaded = λ z. let u : _≡_ {A = ℕ} 0 1 = cc in absurd (omega arith);
+  refused = λ _. (refl, (λ r k. t .none e (keeps-formed ws r k)), h);
 }
-
-pub locks-loaded : (ws : List ℕ) (ks : List Bool) → Formed ws → (Flags (take (length ws - 4356) (drop 4356 ws)) → map lockWord ks ≡ take (length ws - 4356) (drop 4356 ws))
-    → map lockWord ks ≡ take 1024 (drop 4356 ws)
-locks-loaded ws ks f g =
-    let e : length ws - 4356 ≡ 1024 = omega (arith, f .long) in
-    g (rw (to-end ws) (f .flags)) ∙ ap (λ (k : ℕ). take k (drop 4356 ws)) e
-
-pub load-refused : (ws : List ℕ) (ok : Bool) {r : Register} → Tested (Formed ws) ok → ok ≡ false → Loads ws (record { register = r; answer = Refused 16 })
-load-refused ws ok t e = record { loaded = λ z. absurd (omega (arith, z)); refused = λ _. (refl, λ r k. t .none e (keeps-formed ws r k)) }
 
 pub load-made : {ws : List ℕ} {r : Register} → Keeps ws r → Loads ws (record { register = r; answer = Done })
 load-made k = record { loaded = λ _. k; refused = λ n. absurd (n refl) }
@@ -109,27 +105,43 @@ behind front xs before after at end f l e c =
     ap (take end) (c ∙ ap (λ (t : List ℕ). t ++ xs ++ drop (at + length xs) before) f)
     ∙ take-at (front ++ xs) (drop (at + length xs) before) end (length-append front xs ∙ omega arith)
 
-pub stored : (r : Register) (w₀ w₁ w₂ w₃ w₄ : List ℕ) → Ranged (r .n) (r .count) (r .top) (r .held)
-    → length (r .links) ≡ 4096 → length (r .ring) ≡ 256 → length (r .locks) ≡ 1024 → length w₄ ≡ 5380
+-- the words past what is copied
+past : (xs before after : List ℕ) (at k : ℕ) → at + length xs ≤ k → k ≤ length before
+    → after ≡ take at before ++ xs ++ drop (at + length xs) before → drop k after ≡ drop k before
+past xs before after at k h l c =
+    let m = at + length xs in
+    let e : m + (k - m) ≡ k = omega arith in
+    let p : length (take at before ++ xs) ≡ m = length-append (take at before) xs ∙ omega (arith, length-take-le at before (omega arith)) in
+    ap (λ (i : ℕ). drop i after) (sym e)
+    ∙ sym (drop-drop (k - m) m after)
+    ∙ ap (drop (k - m)) (ap (drop m) c ∙ drop-at (take at before ++ xs) (drop m before) m p)
+    ∙ drop-drop (k - m) m before
+    ∙ ap (λ (i : ℕ). drop i before) e
+
+pub stored : (r : Register) (w₀ w₁ w₂ w₃ w₄ : List ℕ) → InRange r
+    → length (r .links) ≡ maxLinks → length (r .ring) ≡ maxHeld → length (r .locks) ≡ maxRecords
+    → stateWords ≤ length w₀ → stateWords ≤ length w₁ → stateWords ≤ length w₂ → stateWords ≤ length w₃
     → w₁ ≡ take 0 w₀ ++ numbersOf r ++ drop (0 + length (numbersOf r)) w₀
-    → w₂ ≡ take 4 w₁ ++ r .links ++ drop (4 + length (r .links)) w₁
-    → w₃ ≡ take 4100 w₂ ++ r .ring ++ drop (4100 + length (r .ring)) w₂
-    → w₄ ≡ take 4356 w₃ ++ map lockWord (r .locks) ++ drop (4356 + length (r .locks)) w₃
-    → Keeps w₄ r
-stored r w₀ w₁ w₂ w₃ w₄ g ls rs ks l a b c d =
+    → w₂ ≡ take linksAt w₁ ++ r .links ++ drop (linksAt + length (r .links)) w₁
+    → w₃ ≡ take ringAt w₂ ++ r .ring ++ drop (ringAt + length (r .ring)) w₂
+    → w₄ ≡ take locksAt w₃ ++ map lockWord (r .locks) ++ drop (locksAt + length (r .locks)) w₃
+    → Stores r w₀ w₄ true
+stored r w₀ w₁ w₂ w₃ w₄ g ls rs ks l₀ l₁ l₂ l₃ a b c d =
     let m : length (map lockWord (r .locks)) ≡ length (r .locks) = length-map (r .locks) lockWord in
-    let e₁ : take 4 w₁ ≡ numbersOf r = behind [] (numbersOf r) w₀ w₁ 0 4 refl refl refl a in
-    let l₂ : length (numbersOf r ++ r .links) ≡ 4100 = length-append (numbersOf r) (r .links) ∙ omega (arith, ls) in
-    let e₂ : take 4100 w₂ ≡ numbersOf r ++ r .links = behind (numbersOf r) (r .links) w₁ w₂ 4 4100 e₁ refl (omega (arith, ls)) b in
-    let l₃ : length (numbersOf r ++ r .links ++ r .ring) ≡ 4356 = length-append (numbersOf r ++ r .links) (r .ring) ∙ omega (arith, l₂, rs) in
-    let e₃ : take 4356 w₃ ≡ numbersOf r ++ r .links ++ r .ring = behind (numbersOf r ++ r .links) (r .ring) w₂ w₃ 4100 4356 e₂ l₂ (omega (arith, rs)) c in
-    let e₄ : take 5380 w₄ ≡ wordsOf r =
-    behind (numbersOf r ++ r .links ++ r .ring) (map lockWord (r .locks)) w₃ w₄ 4356 5380 e₃ l₃ (omega (arith, m, ks))
-    (rw m d) in
-    record { size = omega (arith, g .size); links = ls; ring = rs; locks = ks; words = sym (take-all 5380 w₄ (omega (arith, l))) ∙ e₄ }
+    let d′ : w₄ ≡ take locksAt w₃ ++ map lockWord (r .locks) ++ drop (locksAt + length (map lockWord (r .locks))) w₃ = rw m d in
+    let e₁ : take linksAt w₁ ≡ numbersOf r = behind [] (numbersOf r) w₀ w₁ 0 linksAt refl refl refl a in
+    let f₂ : length (numbersOf r ++ r .links) ≡ ringAt = length-append (numbersOf r) (r .links) ∙ omega (arith, ls) in
+    let e₂ : take ringAt w₂ ≡ numbersOf r ++ r .links = behind (numbersOf r) (r .links) w₁ w₂ linksAt ringAt e₁ refl (omega (arith, ls)) b in
+    let f₃ : length (numbersOf r ++ r .links ++ r .ring) ≡ locksAt = length-append (numbersOf r ++ r .links) (r .ring) ∙ omega (arith, f₂, rs) in
+    let e₃ : take locksAt w₃ ≡ numbersOf r ++ r .links ++ r .ring = behind (numbersOf r ++ r .links) (r .ring) w₂ w₃ ringAt locksAt e₂ f₂ (omega (arith, rs)) c in
+    let e₄ : take stateWords w₄ ≡ stateOf r =
+    behind (numbersOf r ++ r .links ++ r .ring) (map lockWord (r .locks)) w₃ w₄ locksAt stateWords e₃ f₃ (omega (arith, m, ks)) d′ in
+    let rest : drop stateWords w₄ ≡ drop stateWords w₀ =
+    past (map lockWord (r .locks)) w₃ w₄ locksAt stateWords (omega (arith, m, ks)) l₃ d′
+    ∙ past (r .ring) w₂ w₃ ringAt stateWords (omega (arith, rs)) l₂ c
+    ∙ past (r .links) w₁ w₂ linksAt stateWords (omega (arith, ls)) l₁ b
+    ∙ past (numbersOf r) w₀ w₁ 0 stateWords (omega arith) l₀ a in
+    record { done = λ _. (record { ranged = g; links = ls; ring = rs; locks = ks; words = e₄ }, rest); refused = λ e. absurd (true≢false e) }
 
-pub store-refused : (r : Register) (ws : List ℕ) → (length ws ≡ 5380 → Ranged (r .n) (r .count) (r .top) (r .held) → ⊥) → Stores r ws ws false
+pub store-refused : (r : Register) (ws : List ℕ) → (stateWords ≤ length ws → InRange r → ⊥) → Stores r ws ws false
 store-refused r ws f = record { done = λ e. absurd (false≢true e); refused = λ _. (refl, f) }
-
-pub store-done : {r : Register} {ws after : List ℕ} → Keeps after r → Stores r ws after true
-store-done k = record { done = λ _. k; refused = λ e. absurd (true≢false e) }

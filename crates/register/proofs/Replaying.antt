@@ -1,20 +1,20 @@
--- Laws of replaying a list of words: its refusals, the call of a word by its kind, and the answers and the book after one call more. Assumes nothing.
-use mathlib.Core.Path.{_≡_, refl, sym, _∙_}
-use mathlib.Core.List.{List, [], _∷_, _++_, append-assoc, map, map-append}
+-- Laws of replaying a list of words: its refusals, the kinds that are no call, and the numbers told and the book after one word more. Assumes nothing.
+use mathlib.Core.Path.{_≡_, refl, sym, ap, _∙_}
+use mathlib.Core.List.{List, [], _∷_, _++_, append-assoc}
 use mathlib.Core.Bool.{Bool, true, false, _||_}
 use Prim.Native.Nat.{ℕ, zero, suc, _+_, _≤_, _<_}
 use native.Mathlib.Numerals.{add-one}
 use native.Mathlib.Omega.{arith}
 use lib.Dec.{ltb}
-use lib.ListN.{length, take, drop, set, getD, length-map}
+use lib.ListN.{length, take, drop, set, getD}
 use lib.Seq.{take-suc, drop-cons, set-at, length-take-le}
-use borrow.Author.Tests.{lt-ltb, le-ltb}
+use borrow.Author.Tests.{lt-ltb, le-ltb, ne-eqb}
 use Rattle.book.specs.Basics.{pick}
 use Rattle.book.specs.Causes.{number, firstNumber, maxRecords}
-use Rattle.book.specs.Book.{Book, undo, answer, next, freshAnswer, answers, after}
-use Rattle.book.specs.BookLaws.{after-more, answers-more, answers-length}
-use Rattle.register.specs.Calls.{callOf, wordCall}
-use Rattle.register.specs.History.{replayNumber}
+use Rattle.book.specs.Book.{Book, freshAnswer, after}
+use Rattle.register.specs.History.{addKind, removeKind, lockKind, unlockKind, undoKind, no-call, kindCall, wordCall}
+use Rattle.register.specs.History.{entryNumber, entryNext, wordAnswers, callsOf, replayNumber}
+use Rattle.register.specs.HistoryLaws.{after-append, after-entry, calls-append, word-answers-length, word-answers-append}
 
 -- ---- refusals
 pub replay-size : (n : ℕ) (ws old : List ℕ) → (freshAnswer n ≡ 0 → ⊥) → replayNumber n ws old ≡ 1
@@ -40,28 +40,36 @@ pub replay-free : (n : ℕ) (ws old : List ℕ) → freshAnswer n ≡ 0 → leng
 replay-free n ws old z h = replay-rest n ws old z ∙ rw (le-ltb (length old) (length ws) h)
 
 -- ---- kinds
-pub call-rest : (k f l t : ℕ) → (k ≡ 0 → ⊥) → (k ≡ 1 → ⊥) → (k ≡ 2 → ⊥) → (k ≡ 3 → ⊥) → callOf k f l t ≡ undo
-unfolding callOf
-call-rest zero f l t a b c d = absurd (a refl)
-call-rest (suc zero) f l t a b c d = absurd (b refl)
-call-rest (suc (suc zero)) f l t a b c d = absurd (c refl)
-call-rest (suc (suc (suc zero))) f l t a b c d = absurd (d refl)
-call-rest (suc (suc (suc (suc k)))) f l t a b c d = refl
+pub kind-none : (k f l t : ℕ) → (k ≡ addKind → ⊥) → (k ≡ removeKind → ⊥) → (k ≡ lockKind → ⊥) → (k ≡ unlockKind → ⊥) → (k ≡ undoKind → ⊥)
+    → kindCall k f l t ≡ no-call
+unfolding kindCall
+kind-none k f l t a b c d e = rw (ne-eqb k addKind a, ne-eqb k removeKind b, ne-eqb k lockKind c, ne-eqb k unlockKind d, ne-eqb k undoKind e)
 
--- ---- one call more
-calls-more : (ws : List ℕ) (i : ℕ) → i < length ws → map wordCall (take (i + 1) ws) ≡ map wordCall (take i ws) ++ (wordCall (getD ws i 0) ∷ [])
-calls-more ws i h = rw (add-one, take-suc ws i 0 h, map-append)
-
-pub after-turn : (b : Book) (ws : List ℕ) (i : ℕ) → i < length ws → after b (map wordCall (take (i + 1) ws)) ≡ next (after b (map wordCall (take i ws))) (wordCall (getD ws i 0))
-after-turn b ws i h = rw (calls-more ws i h) (after-more b (map wordCall (take i ws)) (wordCall (getD ws i 0)))
-
+-- ---- one word more
 set-next : (told old : List ℕ) (i a : ℕ) → length told ≡ i → i < length old → set (told ++ drop i old) i a ≡ (told ++ (a ∷ [])) ++ drop (suc i) old
 set-next told old i a e h = rw (drop-cons old i 0 h) (set-at told (getD old i 0) (drop (suc i) old) a i e ∙ sym (append-assoc told (a ∷ []) (drop (suc i) old)))
 
--- the list after one answer more
-pub told-turn : (b : Book) (ws old : List ℕ) (i a : ℕ) → i < length ws → i < length old → a ≡ answer (after b (map wordCall (take i ws))) (wordCall (getD ws i 0)) →
-    set (answers b (map wordCall (take i ws)) ++ drop i old) i a ≡ answers b (map wordCall (take (i + 1) ws)) ++ drop (i + 1) old
-told-turn b ws old i a h k e =
-    let cs = map wordCall (take i ws) in
-    let l : length (answers b cs) ≡ i = answers-length b cs ∙ length-map (take i ws) wordCall ∙ length-take-le i ws (omega arith) in
-    rw (calls-more ws i h, add-one, answers-more b cs (wordCall (getD ws i 0)), ← e) (set-next (answers b cs) old i a l k)
+module _ (b : Book) (ws : List ℕ) (i : ℕ) (h : i < length ws) where
+  abbrev reached : Book
+  reached = after b (callsOf (take i ws))
+
+  one-more : take (i + 1) ws ≡ take i ws ++ (getD ws i 0 ∷ [])
+  one-more = rw (add-one, take-suc ws i 0 h)
+
+  pub after-turn : after b (callsOf (take (i + 1) ws)) ≡ entryNext reached (wordCall (getD ws i 0))
+  unfolding callsOf after
+  after-turn =
+      ap (λ (l : List ℕ). after b (callsOf l)) one-more
+      ∙ ap (after b) (calls-append (take i ws) (getD ws i 0 ∷ []))
+      ∙ after-append b (callsOf (take i ws)) (callsOf (getD ws i 0 ∷ []))
+      ∙ after-entry reached (wordCall (getD ws i 0)) []
+
+  -- the list after one number more
+  pub told-turn : (old : List ℕ) (a : ℕ) → i < length old → a ≡ entryNumber reached (wordCall (getD ws i 0)) →
+      set (wordAnswers b (take i ws) ++ drop i old) i a ≡ wordAnswers b (take (i + 1) ws) ++ drop (i + 1) old
+  unfolding wordAnswers
+  told-turn old a k e =
+      let l : length (wordAnswers b (take i ws)) ≡ i = word-answers-length b (take i ws) ∙ length-take-le i ws (omega arith) in
+      let m : wordAnswers b (take (i + 1) ws) ≡ wordAnswers b (take i ws) ++ (a ∷ []) =
+      ap (wordAnswers b) one-more ∙ word-answers-append b (take i ws) (getD ws i 0 ∷ []) ∙ ap (λ (x : ℕ). wordAnswers b (take i ws) ++ (x ∷ [])) (sym e) in
+      rw (m, add-one) (set-next (wordAnswers b (take i ws)) old i a l k)

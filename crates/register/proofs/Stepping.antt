@@ -8,26 +8,43 @@ use lib.Dec.{leb, eqb}
 use lib.ListN.{length, take, set}
 use borrow.Author.Tests.{not-true, not-false}
 use Rattle.book.specs.Basics.{Rises, has}
-use Rattle.book.specs.Causes.{already, missing, full, firstNumber, number, maxRecords, maxLinks, maxHeld}
+use Rattle.book.specs.Causes.{already, missing, full, none-held, not-open, firstNumber, number, Caused, maxRecords, maxLinks, maxHeld}
 use Rattle.book.specs.Book.{Link, Sheet, Book, Edit, add, remove, Call, edit, undo, editAnswer, turned, undoAnswer, undone, freshAnswer, fresh, answer, next}
 use Rattle.book.specs.Sheets.{Proper}
-use Rattle.book.specs.BookLaws.{first-proper}
+use Rattle.book.specs.BookLaws.{caused-positive, first-proper}
 use Rattle.register.specs.Links.{linkWord}
 use Rattle.register.specs.Packed.{Packed, heldWord, takeBackKind, takeBack, Piled}
-use Rattle.register.specs.Calls.{heldWords, packedOf, Ranged, Represents, Opens, Steps}
+use Rattle.register.specs.Calls.{answerOf, heldWords, packedOf, Ranged, InRange, Represents, Opens, Steps}
 use Rattle.register.specs.Inner.{linkCauses, Guarded, Holding, Changed}
 use Rattle.register.specs.declared.Register.{Register}
 use Rattle.register.specs.declared.Answer.the-variants.{Done, Refused}
 use Rattle.register.proofs.Showing.{packedCauses, first-append, first-stop, shows-cause, packedEdit, shows-edited, taken-back}
 
--- ---- contents that represent no book: any number will do
-pub outside : (self : Register) (c : Call) (k : ℕ) (ok : Bool) → Guarded (self .n) (self .count) (self .top) (self .held) ok → not ok ≡ true → Steps self c (record { register = self; answer = Refused k })
-outside self c k ok g e =
-    let none = g .none (not-true ok e) in
-    record { refused = λ _. refl; answers = λ b h. absurd (none (h .ranged)); follows = λ b h. absurd (none (h .ranged)) }
+-- ---- answers
+-- the number of a refusal is its own
+caused-as : {k : ℕ} → Caused k → (j : ℕ) → Refused k ≡ Refused j → Caused j
+caused-as {k} c j e = let z : k ≡ j = cc in subst Caused z c
 
-pub inside : (self : Register) (ok : Bool) → Guarded (self .n) (self .count) (self .top) (self .held) ok → not ok ≡ false → Ranged (self .n) (self .count) (self .top) (self .held)
+-- an accepted call is not refused
+done-refused : {k : ℕ} → Done ≡ Refused k → ⊥
+done-refused e = let z : _≡_ {A = ℕ} 0 1 = cc in omega arith
+
+-- ---- contents out of range, which represent no book
+pub outside : (self : Register) (ok : Bool) → Guarded (self .n) (self .count) (self .top) (self .held) ok → not ok ≡ true → InRange self → ⊥
+outside self ok g e = g .none (not-true ok e)
+
+pub inside : (self : Register) (ok : Bool) → Guarded (self .n) (self .count) (self .top) (self .held) ok → not ok ≡ false → InRange self
 inside self ok g e = g .sure (not-false ok e)
+
+pub refuse-foreign : (self : Register) (c : Call) → (InRange self → ⊥) → Steps self c (record { register = self; answer = Refused 16 })
+unfolding number
+refuse-foreign self c none = record {
+  caused = caused-as (not-open, refl);
+  refused = λ _. refl;
+  foreign = λ _. refl;
+  answers = λ b h. absurd (none (h .ranged));
+  follows = λ b h. absurd (none (h .ranged));
+}
 
 -- ---- edits
 -- the book's answer, by what the register keeps
@@ -35,18 +52,26 @@ same-answer : (self : Register) (b : Book) (e : Edit) → Represents self b → 
 same-answer self b e h = rw (h .size) (shows-cause (subst (λ (n : ℕ). n ≤ maxRecords) (h .size) (h .ranged .size)) (h .sheet) e)
 
 module _ (self : Register) (e : Edit) where
-  pub refuse : (k : ℕ) → (k ≡ 0 → ⊥) → (Ranged (self .n) (self .count) (self .top) (self .held) → Rises 0 (packedOf self .links) → firstNumber (packedCauses (self .n) (packedOf self) e) ≡ k)
+  pub refuse : (k : ℕ) → Caused k → ((InRange self → ⊥) → k ≡ number not-open)
+      → (InRange self → Rises 0 (packedOf self .links) → firstNumber (packedCauses (self .n) (packedOf self) e) ≡ k)
       → Steps self (edit e) (record { register = self; answer = Refused k })
   unfolding answer next turned
-  refuse zero z p = absurd (z refl)
-  refuse (suc k) z p = record {
+  refuse zero z f p = absurd (omega (arith, caused-positive z))
+  refuse (suc k) z f p = record {
+    caused = caused-as z;
     refused = λ _. refl;
-    answers = λ b h. sym (told b h);
+    foreign = λ o. ap answerOf (f o);
+    answers = λ b h. ap answerOf (sym (told b h));
     follows = λ b h. rw (told b h) h;
   }
     where
       told : (b : Book) → Represents self b → editAnswer (b .n) (b .sheet) e ≡ suc k
       told b h = sym (same-answer self b e h) ∙ p (h .ranged) (h .sheet .links .ascending)
+
+  -- the same of contents in range
+  pub refuse-ranged : InRange self → (k : ℕ) → Caused k → (Rises 0 (packedOf self .links) → firstNumber (packedCauses (self .n) (packedOf self) e) ≡ k)
+      → Steps self (edit e) (record { register = self; answer = Refused k })
+  refuse-ranged i k z p = refuse k z (λ o. absurd (o i)) (λ _. p)
 
 piled-take : (k : ℕ) (n : ℕ) (p : Packed) (ws : List ℕ) (ss : List Sheet) → Piled n p ws ss → Piled n p (take k ws) (take k ss)
 unfolding Piled
@@ -60,7 +85,7 @@ piled-take (suc k) n p (w ∷ ws) [] h = h
 piled-take (suc k) n p (w ∷ ws) (s ∷ ss) h = (h .0, piled-take k n (takeBack w p) ws ss (h .1))
 
 -- an accepted edit: the sheet is changed, then the edit is held
-module _ (self : Register) (e : Edit) (m r : Register) (inside : Ranged (self .n) (self .count) (self .top) (self .held)) (long : length (self .locks) ≡ maxRecords)
+module _ (self : Register) (e : Edit) (m r : Register) (inside : InRange self) (long : length (self .locks) ≡ maxRecords)
     (free : Rises 0 (packedOf self .links) → firstNumber (packedCauses (self .n) (packedOf self) e) ≡ 0)
     (c : Changed self (packedEdit e (packedOf self)) m) (o : Holding m (heldWord e) r) where
   none : (b : Book) → Represents self b → editAnswer (b .n) (b .sheet) e ≡ 0
@@ -72,8 +97,10 @@ module _ (self : Register) (e : Edit) (m r : Register) (inside : Ranged (self .n
   pub accept : Steps self (edit e) (record { register = r; answer = Done })
   unfolding answer next turned Piled
   accept = record {
+    caused = λ k q. absurd (done-refused q);
     refused = λ x. absurd (x refl);
-    answers = λ b h. sym (none b h);
+    foreign = λ o. absurd (o inside);
+    answers = λ b h. ap answerOf (sym (none b h));
     follows = λ b h.
         let small = subst (λ (n : ℕ). n ≤ maxRecords) (h .size) (h .ranged .size) in
         let s = o .sheet ∙ c .sheet (h .sheet .links .ascending) in
@@ -113,7 +140,7 @@ link-proper n locks k e = first-proper n k _ e .0
 
 -- ---- undo
 -- nothing is held
-module _ (self : Register) (none : heldWords self ≡ []) where
+module _ (self : Register) (inside : InRange self) (none : heldWords self ≡ []) where
   empty-pile : (n : ℕ) (p : Packed) (ss : List Sheet) → Piled n p (heldWords self) ss → ss ≡ []
   unfolding Piled
   empty-pile n p ss h = go ss (rw none at h)
@@ -125,7 +152,9 @@ module _ (self : Register) (none : heldWords self ≡ []) where
   pub refuse-undo : Steps self undo (record { register = self; answer = Refused 8 })
   unfolding answer next undoAnswer undone number
   refuse-undo = record {
+    caused = caused-as (none-held, refl);
     refused = λ _. refl;
+    foreign = λ o. absurd (o inside);
     answers = λ b h. rw (empty-pile _ _ (b .pile) (h .pile));
     follows = λ b h. rw (ap (undone b) (empty-pile _ _ (b .pile) (h .pile))) h;
   }
@@ -141,11 +170,11 @@ back-rest (suc (suc (suc k))) x p a b c = refl
 -- what the register that an accepted undo hands back has to be: the latest word w is taken back
 pub record Restored (self : Register) (w : ℕ) (r : Register) : Type 0 where
   pub n : r .n ≡ self .n
-  pub ranged : Ranged (r .n) (r .count) (r .top) (r .held)
+  pub ranged : InRange r
   pub words : heldWords self ≡ w ∷ heldWords r
   pub sheet : Rises 0 (packedOf self .links) → length (takeBack w (packedOf self) .links) ≤ maxLinks → packedOf r ≡ takeBack w (packedOf self)
 
-module _ (self : Register) (w : ℕ) (r : Register) (u : Restored self w r) where
+module _ (self : Register) (inside : InRange self) (w : ℕ) (r : Register) (u : Restored self w r) where
   -- the pile has a top, and the register goes back to it
   restored : (b : Book) → Represents self b → (undoAnswer (b .pile) ≡ 0) × Represents r (undone b (b .pile))
   unfolding Piled undoAnswer undone
@@ -161,8 +190,10 @@ module _ (self : Register) (w : ℕ) (r : Register) (u : Restored self w r) wher
   pub accept-undo : Steps self undo (record { register = r; answer = Done })
   unfolding answer next
   accept-undo = record {
+    caused = λ k q. absurd (done-refused q);
     refused = λ x. absurd (x refl);
-    answers = λ b h. sym (restored b h .0);
+    foreign = λ o. absurd (o inside);
+    answers = λ b h. ap answerOf (sym (restored b h .0));
     follows = λ b h. restored b h .1;
   }
 
@@ -172,7 +203,7 @@ guard-none f = record { sure = λ e. absurd (false≢true e); none = λ _. f }
 
 -- ---- a fresh register
 pub opens : (n : ℕ) {r : Register} → freshAnswer n ≡ 0 → Represents r (fresh n) → Opens n (record { register = r; answer = Done })
-opens n e h = record { answers = sym e; made = λ _. h; empty = λ z. absurd (z e) }
+opens n e h = record { answers = ap answerOf (sym e); made = λ _. h; empty = λ z. absurd (z e) }
 
 pub not-opens : (n : ℕ) {r : Register} → freshAnswer n ≡ 1 → Represents r (fresh 0) → Opens n (record { register = r; answer = Refused 1 })
-not-opens n e h = record { answers = sym e; made = λ z. absurd (omega arith); empty = λ _. h }
+not-opens n e h = record { answers = ap answerOf (sym e); made = λ z. absurd (omega arith); empty = λ _. h }

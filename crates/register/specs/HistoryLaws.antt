@@ -1,35 +1,56 @@
 -- The history theorem: whatever calls are made, refused ones included, the answers are the book's, and the register at the end represents the book at the end.
--- Assumes nothing.
+-- And laws of a history as words: the numbers told to words, the calls among them, and that every call has a word. Assumes nothing.
 --   Small c         the arguments of the call are as wide as the frames': records of 16 bits, a label of 8
 --   Members e b     what the register e and the book b have in common, as sets: the links, each once, and the locks
-use mathlib.Core.Path.{_≡_, refl, ap₂}
-use mathlib.Core.List.{List, [], _∷_, map}
+use mathlib.Core.Path.{_≡_, refl, ap, ap₂, sym, _∙_}
+use mathlib.Core.List.{List, [], _∷_, _++_, append-assoc}
 use mathlib.Core.Bool.{false}
-use Prim.Native.Nat.{ℕ, _+_, _*_, _/_, _%_, _<_}
+use Prim.Native.Nat.{ℕ, zero, suc, _+_, _*_, _/_, _%_, _≤_, _<_}
 use native.Mathlib.Omega.{arith}
 use lib.Dec.{eqb}
 use lib.ListN.{length, take, getD}
-use Rattle.book.specs.Book.{sameLink, Sheet, Book, add, remove, lock, unlock, Call, edit, undo, isLocked, next, fresh, answers, after}
-use Rattle.book.specs.Sheets.{Distinct, Fit, All, all-none, all-more, Sound}
+use Rattle.book.specs.Basics.{pick, All, all-none, all-more}
+use Rattle.book.specs.Book.{sameLink, Sheet, Book, add, remove, lock, unlock, Call, edit, undo, isLocked, answer, next, fresh, answers, after}
+use Rattle.book.specs.BookLaws.{caused-positive}
+use Rattle.book.specs.Sheets.{Distinct, Fit, Sound}
 use Rattle.register.specs.Links.{Linked}
 use Rattle.register.specs.Packed.{Packed, takeBack, Piled}
-use Rattle.register.specs.Calls.{heldWords, packedOf, Represents, callOf, wordCall}
-use Rattle.register.specs.History.{Run, done, more, replayNumber, Replays}
+use Rattle.register.specs.Calls.{answerOf, answerNumber, heldWords, packedOf, Represents, Steps}
+use Rattle.register.specs.History.{CallsMade, done, more, addKind, removeKind, lockKind, unlockKind, undoKind, kindCall, wordCall}
+use Rattle.register.specs.History.{Entry, is-call, no-call, entryNumber, entryNext, EntrySteps, entryCalls, isCall}
+use Rattle.register.specs.History.{wordAnswers, callsOf, toldCalls, replayNumber, Replays}
 use Rattle.register.specs.declared.Register.{Register}
+use Rattle.register.specs.declared.Answer.{Answer}
+use Rattle.register.specs.declared.Answer.the-variants.{Done, Refused}
 use Rattle.register.specs.declared.Opened.{Opened}
+use Rattle.register.specs.declared.Outcome.{Outcome}
 
-pub answered : {r e : Register} {cs : List Call} {told : List ℕ} → Run r cs told e → (b : Book) → Represents r b → told ≡ answers b cs
+pub number-answer : (k : ℕ) → answerNumber (answerOf k) ≡ k
+number-answer zero = refl
+number-answer (suc k) = refl
+
+pub answer-done : (a : Answer) (k : ℕ) → a ≡ answerOf k → answerNumber a ≡ 0 → a ≡ Done
+answer-done a zero e z = e
+answer-done a (suc k) e z = absurd (omega (arith, ap answerNumber e, z))
+
+-- no call refuses with the number 0, whatever the register contains
+pub not-zero : (self r : Register) (c : Call) → Steps self c (record { register = r; answer = Refused 0 }) → ⊥
+not-zero self r c s = let z : 1 ≤ 0 = caused-positive (s .caused 0 refl) in omega arith
+
+pub answered : {r e : Register} {cs : List Call} {told : List ℕ} → CallsMade r cs told e → (b : Book) → Represents r b → told ≡ answers b cs
 unfolding answers
 answered done b h = refl
-answered (more out s run) b h = ap₂ (λ (x : ℕ) (l : List ℕ). x ∷ l) (s .answers b h) (answered run (next b _) (s .follows b h))
+answered (more {c = c} out s run) b h =
+    ap₂ (λ (x : ℕ) (l : List ℕ). x ∷ l) (ap answerNumber (s .answers b h) ∙ number-answer (answer b c)) (answered run (next b c) (s .follows b h))
 
-pub kept : {r e : Register} {cs : List Call} {told : List ℕ} → Run r cs told e → (b : Book) → Represents r b → Represents e (after b cs)
+pub kept : {r e : Register} {cs : List Call} {told : List ℕ} → CallsMade r cs told e → (b : Book) → Represents r b → Represents e (after b cs)
 unfolding after
 kept done b h = h
 kept (more out s run) b h = kept run (next b _) (s .follows b h)
 
 -- a history of any length from a fresh register
-pub history : (n : ℕ) {r e : Register} {cs : List Call} {told : List ℕ} → Represents r (fresh n) → Run r cs told e → (told ≡ answers (fresh n) cs) × Represents e (after (fresh n) cs)
+pub history : (n : ℕ) {r e : Register} {cs : List Call} {told : List ℕ} → Represents r (fresh n) → CallsMade r cs told e
+    → (told ≡ answers (fresh n) cs) × Represents e (after (fresh n) cs)
 history n h run = (answered run (fresh n) h, kept run (fresh n) h)
 
 -- ---- what the register at the end shows
@@ -45,11 +66,13 @@ pub record Members (e : Register) (b : Book) : Type 0 where
 pub members : {e : Register} {b : Book} → Represents e b → Members e b
 members h = let s = h .sheet in record { links = s .links; once = s .fit .once; count = s .count; locks = s .locks; single = s .fit .single }
 
-pub history-members : (n : ℕ) {r e : Register} {cs : List Call} {told : List ℕ} → Represents r (fresh n) → Run r cs told e → (told ≡ answers (fresh n) cs) × Members e (after (fresh n) cs)
+pub history-members : (n : ℕ) {r e : Register} {cs : List Call} {told : List ℕ} → Represents r (fresh n) → CallsMade r cs told e
+    → (told ≡ answers (fresh n) cs) × Members e (after (fresh n) cs)
 history-members n h run = let o = history n h run in (o .0, members (o .1))
 
 -- the same of the code itself
-pub replay-members : {n : ℕ} {ws old new : List ℕ} {out : Opened} → Replays n ws old new out → replayNumber n ws old ≡ 0 → Members (out .register) (after (fresh n) (map wordCall ws))
+pub replay-members : {n : ℕ} {ws old new : List ℕ} {out : Opened} → Replays n ws old new out → replayNumber n ws old ≡ 0
+    → Members (out .register) (after (fresh n) (callsOf ws))
 replay-members r z = members (r .book z)
 
 -- every sheet of a book that a register represents fits
@@ -63,11 +86,65 @@ piled-fit n p (w ∷ ws) (s ∷ ss) h = all-more (h .0 .fit) (piled-fit n (takeB
 pub represents-sound : {r : Register} {b : Book} → Represents r b → Sound b
 represents-sound {r} {b} h = record { small = omega (arith, h .size, h .ranged .size); sheet = h .sheet .fit; pile = piled-fit (b .n) (packedOf r) (heldWords r) (b .pile) (h .pile) }
 
+-- ---- entries
+module _ (self : Register) (out : Outcome) where
+  pub entry-answers : (e : Entry) → EntrySteps self e out → (b : Book) → Represents self b → out .answer ≡ answerOf (entryNumber b e)
+  unfolding entryNumber
+  entry-answers (is-call c) s b h = s .answers b h
+  entry-answers no-call s b h = s .0
+
+  pub entry-follows : (e : Entry) → EntrySteps self e out → (b : Book) → Represents self b → Represents (out .register) (entryNext b e)
+  unfolding entryNext
+  entry-follows (is-call c) s b h = s .follows b h
+  entry-follows no-call s b h = rw (s .1) h
+
+pub after-append : (b : Book) (cs ds : List Call) → after b (cs ++ ds) ≡ after (after b cs) ds
+unfolding after
+after-append b [] ds = refl
+after-append b (c ∷ cs) ds = after-append (next b c) cs ds
+
+pub after-entry : (b : Book) (e : Entry) (cs : List Call) → after b (entryCalls e ++ cs) ≡ after (entryNext b e) cs
+unfolding after entryCalls entryNext
+after-entry b (is-call c) cs = refl
+after-entry b no-call cs = refl
+
+-- ---- words
+pub calls-append : (ws vs : List ℕ) → callsOf (ws ++ vs) ≡ callsOf ws ++ callsOf vs
+unfolding callsOf
+calls-append [] vs = refl
+calls-append (w ∷ ws) vs =
+    ap (λ (l : List Call). entryCalls (wordCall w) ++ l) (calls-append ws vs) ∙ sym (append-assoc (entryCalls (wordCall w)) (callsOf ws) (callsOf vs))
+
+pub word-answers-length : (b : Book) (ws : List ℕ) → length (wordAnswers b ws) ≡ length ws
+unfolding wordAnswers
+word-answers-length b [] = refl
+word-answers-length b (w ∷ ws) = ap suc (word-answers-length (entryNext b (wordCall w)) ws)
+
+-- after the words ws the book is the one after their calls: by it more words are answered
+pub word-answers-append : (b : Book) (ws vs : List ℕ) → wordAnswers b (ws ++ vs) ≡ wordAnswers b ws ++ wordAnswers (after b (callsOf ws)) vs
+unfolding wordAnswers callsOf after
+word-answers-append b [] vs = refl
+word-answers-append b (w ∷ ws) vs =
+    ap (λ (l : List ℕ). entryNumber b (wordCall w) ∷ l) (word-answers-append (entryNext b (wordCall w)) ws vs
+    ∙ ap (λ (a : Book). wordAnswers (entryNext b (wordCall w)) ws ++ wordAnswers a vs) (sym (after-entry b (wordCall w) (callsOf ws))))
+
+-- the numbers told to the calls are the book's answers to them
+pub told-calls : (b : Book) (ws : List ℕ) → toldCalls ws (wordAnswers b ws) ≡ answers b (callsOf ws)
+unfolding wordAnswers callsOf toldCalls isCall entryNumber entryNext entryCalls answers
+told-calls b [] = refl
+told-calls b (w ∷ ws) = go (wordCall w) (told-calls (entryNext b (wordCall w)) ws)
+  where
+    go : (e : Entry) → toldCalls ws (wordAnswers (entryNext b e) ws) ≡ answers (entryNext b e) (callsOf ws)
+        → pick (isCall e) (entryNumber b e ∷ toldCalls ws (wordAnswers (entryNext b e) ws)) (toldCalls ws (wordAnswers (entryNext b e) ws))
+        ≡ answers b (entryCalls e ++ callsOf ws)
+    go (is-call c) h = ap (λ (l : List ℕ). answer b c ∷ l) h
+    go no-call h = h
+
 -- ---- every call that a frame can carry has a word
 abbrev callWord : ℕ → ℕ → ℕ → ℕ → ℕ
 callWord k f l t = ((k * 65536 + f) * 256 + l) * 65536 + t
 
-word-of : (k f l t : ℕ) → f < 65536 → l < 256 → t < 65536 → wordCall (callWord k f l t) ≡ callOf k f l t
+word-of : (k f l t : ℕ) → f < 65536 → l < 256 → t < 65536 → wordCall (callWord k f l t) ≡ kindCall k f l t
 unfolding wordCall
 word-of k f l t p q r =
     let a : callWord k f l t / 1099511627776 ≡ k = omega arith in
@@ -83,10 +160,10 @@ Small (edit (lock r)) = r < 65536
 Small (edit (unlock r)) = r < 65536
 Small undo = Unit {0}
 
-pub has-word : (c : Call) → Small c → (w : ℕ) × (wordCall w ≡ c)
-unfolding Small callOf
-has-word (edit (add k)) h = (callWord 0 (k .from) (k .label) (k .to), word-of 0 (k .from) (k .label) (k .to) (h .0) (h .1) (h .2))
-has-word (edit (remove k)) h = (callWord 1 (k .from) (k .label) (k .to), word-of 1 (k .from) (k .label) (k .to) (h .0) (h .1) (h .2))
-has-word (edit (lock r)) h = (callWord 2 r 0 0, word-of 2 r 0 0 h (omega arith) (omega arith))
-has-word (edit (unlock r)) h = (callWord 3 r 0 0, word-of 3 r 0 0 h (omega arith) (omega arith))
-has-word undo h = (callWord 4 0 0 0, word-of 4 0 0 0 (omega arith) (omega arith) (omega arith))
+pub has-word : (c : Call) → Small c → (w : ℕ) × (wordCall w ≡ is-call c)
+unfolding Small kindCall
+has-word (edit (add k)) h = (callWord addKind (k .from) (k .label) (k .to), word-of addKind (k .from) (k .label) (k .to) (h .0) (h .1) (h .2))
+has-word (edit (remove k)) h = (callWord removeKind (k .from) (k .label) (k .to), word-of removeKind (k .from) (k .label) (k .to) (h .0) (h .1) (h .2))
+has-word (edit (lock r)) h = (callWord lockKind r 0 0, word-of lockKind r 0 0 h (omega arith) (omega arith))
+has-word (edit (unlock r)) h = (callWord unlockKind r 0 0, word-of unlockKind r 0 0 h (omega arith) (omega arith))
+has-word undo h = (callWord undoKind 0 0 0, word-of undoKind 0 0 0 (omega arith) (omega arith) (omega arith))

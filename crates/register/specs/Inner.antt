@@ -8,7 +8,7 @@
 --                   the causes against the ends and the label of a link, in their order
 --   hasAt unit r w  whether a word has the record r in the ten bits from unit on
 --   Flags ws        every word is 0 or 1
---   Formed ws       the words of a register, as they are told: their number, n of 16 bits, each lock 0 or 1
+--   Formed ws       the words of a register, as they are told: enough of them, the counters in range, each lock 0 or 1
 --   Tested P ok     ok is whether P
 --   Guarded, Checks, Holding, Changed, TakenBack
 --                   what `ranged`, `check_link`, `hold`, the inner edits and `taken_back` promise
@@ -20,11 +20,12 @@ use Prim.Native.Nat.{ℕ, suc, _/_, _%_, _≤_, _<_}
 use lib.ListN.{length, take, drop, getD}
 use lib.Dec.{leb, ltb, eqb}
 use Rattle.book.specs.Basics.{Rises}
-use Rattle.book.specs.Causes.{Cause, no-record, bad-label, locked-end, firstNumber, labels, maxLinks, maxHeld}
+use Rattle.book.specs.Causes.{Cause, no-record, bad-label, locked-end, not-open, number, Caused, firstNumber, labels, maxRecords, maxLinks, maxHeld}
 use Rattle.book.specs.Book.{Link}
 use Rattle.register.specs.Links.{linkWord}
 use Rattle.register.specs.Packed.{Packed, takeBackKind}
 use Rattle.register.specs.Calls.{heldWords, packedOf, Ranged}
+use Rattle.register.specs.Words.{stateWords, locksAt}
 use Rattle.register.specs.declared.Register.{Register}
 use Rattle.register.specs.declared.LinkCheck.{LinkCheck}
 use Rattle.register.specs.declared.LinkCheck.the-variants.{Word, Fault}
@@ -56,9 +57,10 @@ pub record Guarded (n c t h : ℕ) (ok : Bool) : Type 0 where
   pub sure : ok ≡ true → Ranged n c t h
   pub none : ok ≡ false → Ranged n c t h → ⊥
 
--- a fault is a number, and of a register in range that of the first cause; a word is the link's, with no cause so far
+-- a fault is the number of a refusal: of a register in range that of the first cause, of any other contents that of no register;
+-- a word is the link's, with no cause so far
 abbrev pub Checks : ℕ → ℕ → ℕ → ℕ → List Bool → Link → LinkCheck → Type 0
-Checks n c t h locks k (Fault z) = (z ≡ 0 → ⊥) × (Ranged n c t h → z ≡ firstNumber (linkCauses n locks k))
+Checks n c t h locks k (Fault z) = Caused z × (Ranged n c t h → z ≡ firstNumber (linkCauses n locks k)) × ((Ranged n c t h → ⊥) → z ≡ number not-open)
 Checks n c t h locks k (Word x) = Ranged n c t h × (x ≡ linkWord k) × (firstNumber (linkCauses n locks k) ≡ 0)
 
 -- one more word is held, and the oldest is forgotten where 256 were
@@ -92,9 +94,9 @@ abbrev pub Flags : List ℕ → Type 0
 Flags ws = (i : ℕ) → getD ws i 0 ≤ 1
 
 pub record Formed (ws : List ℕ) : Type 0 where
-  pub long : length ws ≡ 5380
-  pub size : getD ws 0 0 < 65536
-  pub flags : Flags (drop 4356 ws)
+  pub long : stateWords ≤ length ws
+  pub ranged : Ranged (getD ws 0 0) (getD ws 1 0) (getD ws 2 0) (getD ws 3 0)
+  pub flags : Flags (take maxRecords (drop locksAt ws))
 
 pub record Tested (P : Type 0) (ok : Bool) : Type 0 where
   pub sure : ok ≡ true → P

@@ -1,10 +1,10 @@
 pub mod Links
 pub mod Packed
 pub mod Calls
-pub mod Inner
 pub mod History
 pub mod Questions
+pub mod Words
+pub mod Inner
 pub mod LinkLaws
 pub mod HistoryLaws
-pub mod Words
 pub mod WordLaws

@@ -1,7 +1,8 @@
 -- What is read of a register: its size, its locks, its links as a slice of words, the part of one label, and the next link out of or into a record.
+-- Contents out of range are those of no register: nothing is read of them.
 --   Sized self n    what `size` promises: at most 1,024, and the number of records of every book that the register represents
 --   Listing self r  what `links` promises: at most 4,096 words, and for every book that the register represents, the words of its links
---   Locks self r    what `locks` promises: for every book that the register represents, whether each record is locked
+--   LockList self r what `locks` promises: for every book that the register represents, whether each record is locked
 --   Locking self k r
 --                   what `is_locked` promises: the same of the record k
 --   pairOf w        the pair of a link's word, from × 1,024 + to
@@ -23,32 +24,36 @@ use mathlib.Core.Logic.{_⊎_}
 use mathlib.Core.List.{List, [], _∷_, map}
 use mathlib.Core.Bool.{Bool, true, false}
 use Prim.Native.Nat.{ℕ, suc, _+_, _*_, _%_, _≤_, _<_, min}
-use lib.ListN.{length, take, drop, getD}
+use lib.ListN.{length, take, drop, getD, replicate}
 use lib.Dec.{eqb}
 use Rattle.book.specs.Basics.{pick, In, Rises}
 use Rattle.book.specs.Causes.{maxRecords, maxLinks}
 use Rattle.book.specs.Book.{Link, Sheet, Book, present, isLocked}
 use Rattle.book.specs.Sheets.{Fit}
 use Rattle.register.specs.Links.{linkWord, linkOf, Linked}
-use Rattle.register.specs.Calls.{Represents}
+use Rattle.register.specs.Calls.{InRange, Represents}
 use Rattle.register.specs.declared.Register.{Register}
 use Rattle.register.specs.declared.Links.{Links}
 
 pub record Sized (self : Register) (n : ℕ) : Type 0 where
   pub small : n ≤ maxRecords
+  pub foreign : (InRange self → ⊥) → n ≡ 0
   pub size : (b : Book) → Represents self b → n ≡ b .n
 
 pub record Listing (self : Register) (r : Links) : Type 0 where
   pub few : r .count ≤ maxLinks
   pub long : length (r .words) ≡ maxLinks
+  pub foreign : (InRange self → ⊥) → r .count ≡ 0
   pub linked : (b : Book) → Represents self b → Linked (take (r .count) (r .words)) (b .sheet)
 
-pub record Locks (self : Register) (r : List Bool) : Type 0 where
+pub record LockList (self : Register) (r : List Bool) : Type 0 where
   pub long : length r ≡ maxRecords
+  pub foreign : (InRange self → ⊥) → r ≡ replicate maxRecords false
   pub locked : (b : Book) → Represents self b → (k : ℕ) → getD r k false ≡ isLocked (b .sheet) k
 
-abbrev pub Locking : Register → ℕ → Bool → Type 0
-Locking self k r = (b : Book) → Represents self b → r ≡ isLocked (b .sheet) k
+pub record Locking (self : Register) (k : ℕ) (r : Bool) : Type 0 where
+  pub foreign : (InRange self → ⊥) → r ≡ false
+  pub locked : (b : Book) → Represents self b → r ≡ isLocked (b .sheet) k
 
 abbrev pub pairOf : ℕ → ℕ
 pairOf w = w % 1048576

@@ -1,15 +1,22 @@
--- Laws of a register's words: how many they are, that they are the words of one register, and which words are a register's. Assumes nothing.
+-- Laws of a register's words: how many they are, that they are the words of one register, which words are a register's, and when they are loaded.
+-- Assumes nothing.
 use mathlib.Core.Path.{_≡_, refl, sym, ap, _∙_}
 use mathlib.Core.List.{List, [], _∷_, _++_, map}
 use mathlib.Core.Bool.{Bool, true, false}
-use Prim.Native.Nat.{ℕ, zero, suc, _+_, _≤_}
+use Prim.Native.Nat.{ℕ, zero, suc, _+_, _≤_, _<_}
 use native.Mathlib.Omega.{arith}
 use lib.Dec.{eqb}
-use lib.ListN.{length, take, drop, getD, length-append, length-drop, length-map, List·getD-map}
-use lib.Seq.{take-at, drop-at, take-all, take-add, length-take-le}
+use lib.ListN.{length, take, drop, getD, length-append, length-take, length-drop, length-map, List·getD-map}
+use lib.Seq.{take-at, drop-at, getD-take, take-add, length-take-le}
+use Rattle.book.specs.Causes.{not-open, number, maxLinks, maxHeld, maxRecords}
+use Rattle.register.specs.Calls.{answerNumber, Ranged}
+use Rattle.register.specs.HistoryLaws.{answer-done}
 use Rattle.register.specs.Inner.{Flags, Formed}
-use Rattle.register.specs.Words.{stateWords, lockWord, numbersOf, wordsOf, Keeps, Foreign}
+use Rattle.register.specs.Words.{stateWords, linksAt, ringAt, locksAt, lockWord, numbersOf, stateOf, Keeps, Foreign, Loads}
 use Rattle.register.specs.declared.Register.{Register}
+use Rattle.register.specs.declared.Answer.{Answer}
+use Rattle.register.specs.declared.Answer.the-variants.{Done, Refused}
+use Rattle.register.specs.declared.Opened.{Opened}
 
 -- the halves of two lists that are the same, parted at the same place
 pub parted : (a b a′ b′ : List ℕ) → length a ≡ length a′ → a ++ b ≡ a′ ++ b′ → (a ≡ a′) × (b ≡ b′)
@@ -26,15 +33,15 @@ unlock (false ∷ ls) = ap (λ (t : List Bool). false ∷ t) (unlock ls)
 pub locks-same : (ls ks : List Bool) → map lockWord ls ≡ map lockWord ks → ls ≡ ks
 locks-same ls ks e = sym (unlock ls) ∙ ap (map (λ w. eqb w 1)) e ∙ unlock ks
 
-pub words-long : (r : Register) → length (wordsOf r) ≡ 4 + length (r .links) + length (r .ring) + length (r .locks)
+pub words-long : (r : Register) → length (stateOf r) ≡ 4 + length (r .links) + length (r .ring) + length (r .locks)
 words-long r =
     length-append (numbersOf r ++ r .links ++ r .ring) (map lockWord (r .locks))
     ∙ ap (λ (k : ℕ). k + length (map lockWord (r .locks))) (length-append (numbersOf r ++ r .links) (r .ring) ∙ ap (λ (k : ℕ). k + length (r .ring)) (length-append (numbersOf r) (r .links)))
     ∙ ap (λ (k : ℕ). 4 + length (r .links) + length (r .ring) + k) (length-map (r .locks) lockWord)
 
 module _ {ws : List ℕ} where
-  pub keeps-long : {r : Register} → Keeps ws r → length ws ≡ stateWords
-  keeps-long {r} k = ap length (k .words) ∙ words-long r ∙ omega (arith, k .links, k .ring, k .locks)
+  pub keeps-long : {r : Register} → Keeps ws r → stateWords ≤ length ws
+  keeps-long {r} k = omega (arith, length-take stateWords ws, ap length (k .words), words-long r, k .links, k .ring, k .locks)
 
   pub keeps-same : {r s : Register} → Keeps ws r → Keeps ws s → r ≡ s
   keeps-same {r} {s} k l =
@@ -75,41 +82,59 @@ four (a ∷ b ∷ c ∷ d ∷ ws) h = refl
 pub part-long : (ws : List ℕ) (i k : ℕ) → i + k ≤ length ws → length (take k (drop i ws)) ≡ k
 part-long ws i k h = length-take-le k (drop i ws) (omega (arith, length-drop i ws))
 
-pub loaded : (ws ls rs : List ℕ) (ks : List Bool) → Formed ws → ls ≡ take 4096 (drop 4 ws) → rs ≡ take 256 (drop 4100 ws) → map lockWord ks ≡ take 1024 (drop 4356 ws)
+pub loaded : (ws ls rs : List ℕ) (ks : List Bool) → Formed ws
+    → ls ≡ take maxLinks (drop linksAt ws) → rs ≡ take maxHeld (drop ringAt ws) → map lockWord ks ≡ take maxRecords (drop locksAt ws)
     → Keeps ws (record { n = getD ws 0 0; count = getD ws 1 0; links = ls; locks = ks; ring = rs; top = getD ws 2 0; held = getD ws 3 0 })
 loaded ws ls rs ks f e g h = record {
-  size = f .size;
-  links = ap length e ∙ part-long ws 4 4096 (omega (arith, f .long));
-  ring = ap length g ∙ part-long ws 4100 256 (omega (arith, f .long));
-  locks = sym (length-map ks lockWord) ∙ ap length h ∙ part-long ws 4356 1024 (omega (arith, f .long));
-  words = sym (take-all 5380 ws (omega (arith, f .long))) ∙ take-add 4356 1024 ws ∙ ap (λ (t : List ℕ). take 4356 ws ++ t) (sym h) ∙ ap (λ (t : List ℕ). t ++ map lockWord ks) front;
+  ranged = f .ranged;
+  links = ap length e ∙ part-long ws linksAt maxLinks (omega (arith, f .long));
+  ring = ap length g ∙ part-long ws ringAt maxHeld (omega (arith, f .long));
+  locks = sym (length-map ks lockWord) ∙ ap length h ∙ part-long ws locksAt maxRecords (omega (arith, f .long));
+  words = take-add locksAt maxRecords ws ∙ ap (λ (t : List ℕ). take locksAt ws ++ t) (sym h) ∙ ap (λ (t : List ℕ). t ++ map lockWord ks) front;
 }
   where
-    front : take 4356 ws ≡ (getD ws 0 0 ∷ getD ws 1 0 ∷ getD ws 2 0 ∷ getD ws 3 0 ∷ []) ++ ls ++ rs
+    front : take locksAt ws ≡ (getD ws 0 0 ∷ getD ws 1 0 ∷ getD ws 2 0 ∷ getD ws 3 0 ∷ []) ++ ls ++ rs
     front =
-        take-add 4100 256 ws ∙ ap (λ (t : List ℕ). take 4100 ws ++ t) (sym g)
-        ∙ ap (λ (t : List ℕ). t ++ rs) (take-add 4 4096 ws ∙ ap (λ (t : List ℕ). take 4 ws ++ t) (sym e) ∙ ap (λ (t : List ℕ). t ++ ls) (four ws (omega (arith, f .long))))
+        take-add ringAt maxHeld ws ∙ ap (λ (t : List ℕ). take ringAt ws ++ t) (sym g)
+        ∙ ap (λ (t : List ℕ). t ++ rs) (take-add linksAt maxLinks ws ∙ ap (λ (t : List ℕ). take linksAt ws ++ t) (sym e) ∙ ap (λ (t : List ℕ). t ++ ls) (four ws (omega (arith, f .long))))
 
 pub keeps-formed : (ws : List ℕ) (r : Register) → Keeps ws r → Formed ws
 keeps-formed ws r k = record {
   long = keeps-long k;
-  size = let e : getD ws 0 0 ≡ r .n = ap (λ (t : List ℕ). getD t 0 0) (k .words) in omega (arith, k .size);
-  flags = rw (ap (drop 4356) (k .words) ∙ drop-at (numbersOf r ++ r .links ++ r .ring) (map lockWord (r .locks)) 4356 long) (lock-flags (r .locks));
+  ranged = rw (front 0 (omega arith), front 1 (omega arith), front 2 (omega arith), front 3 (omega arith)) (k .ranged);
+  flags = rw (sym back ∙ ap (drop locksAt) (k .words) ∙ drop-at (numbersOf r ++ r .links ++ r .ring) (map lockWord (r .locks)) locksAt long) (lock-flags (r .locks));
 }
   where
-    long : length (numbersOf r ++ r .links ++ r .ring) ≡ 4356
+    front : (i : ℕ) → i < stateWords → getD ws i 0 ≡ getD (stateOf r) i 0
+    front i h = sym (getD-take stateWords ws i 0 h) ∙ ap (λ (t : List ℕ). getD t i 0) (k .words)
+
+    back : drop locksAt (take stateWords ws) ≡ take maxRecords (drop locksAt ws)
+    back =
+        ap (drop locksAt) (take-add locksAt maxRecords ws)
+        ∙ drop-at (take locksAt ws) (take maxRecords (drop locksAt ws)) locksAt (length-take-le locksAt ws (omega (arith, keeps-long k)))
+
+    long : length (numbersOf r ++ r .links ++ r .ring) ≡ locksAt
     long = length-append (numbersOf r ++ r .links) (r .ring) ∙ omega (arith, length-append (numbersOf r) (r .links), k .links, k .ring)
 
 pub formed-keeps : (ws : List ℕ) → Formed ws → (r : Register) × Keeps ws r
-formed-keeps ws f = (_, loaded ws (take 4096 (drop 4 ws)) (take 256 (drop 4100 ws)) (map (λ w. eqb w 1) (take 1024 (drop 4356 ws))) f refl refl (locks (drop 4356 ws) (f .flags) 1024))
+formed-keeps ws f =
+    let ks = take maxRecords (drop locksAt ws) in
+    (_, loaded ws (take maxLinks (drop linksAt ws)) (take maxHeld (drop ringAt ws)) (map (λ w. eqb w 1) ks) f refl refl (locks ks (f .flags)))
   where
-    locks : (vs : List ℕ) → Flags vs → (k : ℕ) → map lockWord (map (λ w. eqb w 1) (take k vs)) ≡ take k vs
-    locks vs g zero = refl
-    locks [] g (suc k) = refl
-    locks (v ∷ vs) g (suc k) = ap (λ (t : List ℕ). lockWord (eqb v 1) ∷ t) (locks vs (λ i. g (suc i)) k) ∙ ap (λ (w : ℕ). w ∷ take k vs) (lock-back v (g 0))
+    locks : (vs : List ℕ) → Flags vs → map lockWord (map (λ w. eqb w 1) vs) ≡ vs
+    locks [] g = refl
+    locks (v ∷ vs) g = ap (λ (t : List ℕ). lockWord (eqb v 1) ∷ t) (locks vs (λ i. g (suc i))) ∙ ap (λ (w : ℕ). w ∷ vs) (lock-back v (g 0))
 
 pub foreign-form : {ws : List ℕ} → Foreign ws → Formed ws → ⊥
 foreign-form {ws} g f = let k = formed-keeps ws f in g (k .0) (k .1)
 
 pub form-foreign : {ws : List ℕ} → (Formed ws → ⊥) → Foreign ws
 form-foreign {ws} g r k = g (keeps-formed ws r k)
+
+-- the number 0 says that they were loaded
+pub load-done : {ws : List ℕ} {o : Opened} → Loads ws o → answerNumber (o .answer) ≡ 0 → o .answer ≡ Done
+load-done {o = o} l z = go (o .answer) refl
+  where
+    go : (a : Answer) → o .answer ≡ a → o .answer ≡ Done
+    go Done e = e
+    go (Refused k) e = answer-done (o .answer) (number not-open) (l .refused (λ d. let u : _≡_ {A = ℕ} 0 1 = cc in omega arith) .0) z

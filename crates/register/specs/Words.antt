@@ -1,27 +1,41 @@
--- A register kept by a caller as plain words.
---   stateWords      how many words it has
+-- A register kept by a caller as plain words. A state may be longer than a register's words: its front is the register, and the words past it are left.
+--   stateWords      how many words a register has
+--   linksAt, ringAt, locksAt
+--                   the places of its first link, of the ring and of its first lock
 --   lockWord l      1 if locked, 0 if not
---   wordsOf r       the words of a register: its numbers, its links, its ring, its locks
---   Keeps ws r      ws are the words of the register r
---   Foreign ws      ws are the words of no register
+--   numbersOf r, stateOf r
+--                   the words of a register: its counters, its links, its ring, its locks
+--   Keeps ws r      the front of ws is the words of the register r, whose counters are in range
+--   Foreign ws      the front of ws is the words of no register
 --   Copies xs at before after ok
 --                   what `copy` promises: xs from place `at` on, or, if they do not fit there, false and nothing changed
---   Loads ws out    what `load` promises: the register of the words, or 16 if they are no register's
+--   Loads ws out    what `load` promises: the register of the words, or, if they are no register's, 16 and the register of no records
 --   Stores r before after ok
---                   what `store` promises: the register's words, or, with too many or too few words or numbers out of range, false and nothing changed
+--                   what `store` promises: the register's words in the front, or, with too few words or counters out of range, false and nothing changed
 -- Assumes nothing: these are definitions.
 use mathlib.Core.Path.{_≡_}
 use mathlib.Core.List.{List, [], _∷_, _++_, map}
 use mathlib.Core.Bool.{Bool, true, false}
 use Prim.Native.Nat.{ℕ, _+_, _≤_, _<_}
 use lib.ListN.{length, take, drop}
-use Rattle.book.specs.Causes.{maxLinks, maxHeld, maxRecords}
-use Rattle.register.specs.Calls.{answerNumber, Ranged}
+use Rattle.book.specs.Causes.{not-open, number, maxLinks, maxHeld, maxRecords}
+use Rattle.book.specs.Book.{fresh}
+use Rattle.register.specs.Calls.{answerOf, InRange, Represents}
 use Rattle.register.specs.declared.Register.{Register}
+use Rattle.register.specs.declared.Answer.the-variants.{Done}
 use Rattle.register.specs.declared.Opened.{Opened}
 
 abbrev pub stateWords : ℕ
 stateWords = 5380
+
+abbrev pub linksAt : ℕ
+linksAt = 4
+
+abbrev pub ringAt : ℕ
+ringAt = 4100
+
+abbrev pub locksAt : ℕ
+locksAt = 4356
 
 abbrev pub lockWord : Bool → ℕ
 lockWord true = 1
@@ -30,16 +44,16 @@ lockWord false = 0
 abbrev pub numbersOf : Register → List ℕ
 numbersOf r = r .n ∷ r .count ∷ r .top ∷ r .held ∷ []
 
-abbrev pub wordsOf : Register → List ℕ
-wordsOf r = numbersOf r ++ r .links ++ r .ring ++ map lockWord (r .locks)
+abbrev pub stateOf : Register → List ℕ
+stateOf r = numbersOf r ++ r .links ++ r .ring ++ map lockWord (r .locks)
 
 -- the lengths are those of the arrays
 pub record Keeps (ws : List ℕ) (r : Register) : Type 0 where
-  pub size : r .n < 65536
+  pub ranged : InRange r
   pub links : length (r .links) ≡ maxLinks
   pub ring : length (r .ring) ≡ maxHeld
   pub locks : length (r .locks) ≡ maxRecords
-  pub words : ws ≡ wordsOf r
+  pub words : take stateWords ws ≡ stateOf r
 
 abbrev pub Foreign : List ℕ → Type 0
 Foreign ws = (r : Register) → Keeps ws r → ⊥
@@ -49,9 +63,9 @@ pub record Copies (xs : List ℕ) (at : ℕ) (before after : List ℕ) (ok : Boo
   pub short : length before < at + length xs → (ok ≡ false) × (after ≡ before)
 
 pub record Loads (ws : List ℕ) (out : Opened) : Type 0 where
-  pub loaded : answerNumber (out .answer) ≡ 0 → Keeps ws (out .register)
-  pub refused : (answerNumber (out .answer) ≡ 0 → ⊥) → (answerNumber (out .answer) ≡ 16) × Foreign ws
+  pub loaded : out .answer ≡ Done → Keeps ws (out .register)
+  pub refused : (out .answer ≡ Done → ⊥) → (out .answer ≡ answerOf (number not-open)) × Foreign ws × Represents (out .register) (fresh 0)
 
 pub record Stores (r : Register) (before after : List ℕ) (ok : Bool) : Type 0 where
-  pub done : ok ≡ true → Keeps after r
-  pub refused : ok ≡ false → (after ≡ before) × (length before ≡ stateWords → Ranged (r .n) (r .count) (r .top) (r .held) → ⊥)
+  pub done : ok ≡ true → Keeps after r × (drop stateWords after ≡ drop stateWords before)
+  pub refused : ok ≡ false → (after ≡ before) × (stateWords ≤ length before → InRange r → ⊥)

@@ -12,10 +12,10 @@ ghost use Rattle.book.specs.Causes.{firstNumber};
 ghost use Rattle.book.specs.Book.{add, remove, lock, unlock, edit, undo, fresh};
 ghost use Rattle.register.specs.Links.{linkWord};
 ghost use Rattle.register.specs.Packed.{insert};
-ghost use Rattle.register.specs.Calls.{answerNumber, packedOf, Represents, Opens, Steps, wordCall};
+ghost use Rattle.register.specs.Calls.{answerNumber, packedOf, Represents, Opens, Steps};
 ghost use Rattle.register.specs.Inner.{putAt, cutAt, Seam, standsAt, linkCauses, hasAt, Guarded, Checks, Holding, Changed, TakenBack};
-ghost use Rattle.register.specs.History.{Replays};
-ghost use Rattle.register.specs.Questions.{Sized, Listing, Locks, Locking, LabelPart, nextPlace, NextLink, start, end};
+ghost use Rattle.register.specs.History.{wordCall, EntrySteps, Replays};
+ghost use Rattle.register.specs.Questions.{Sized, Listing, LockList, Locking, LabelPart, nextPlace, NextLink, start, end};
 
 // n records; the first count words of links, ascending, are the links present; of ring, the held words before top are the latest accepted edits.
 pub struct Register {
@@ -350,7 +350,7 @@ impl Register {
                 let changed = self.put_in(x);
                 Outcome {
                     register: changed.hold(x),
-                    answer: Answer::Done,
+                    answer: Answer::Done, // the link is in
                 }
             }
         }
@@ -484,39 +484,43 @@ impl Register {
         }
     }
 
-    // Any call, by its word.
+    // Any call, by its word; a kind that does not exist gives 15.
     pub fn step(self, word: u64) -> Outcome
-        ensures { λ r. ⌜ Steps self (wordCall «word») r ⌝ }
+        ensures { λ r. ⌜ EntrySteps self (wordCall «word») r ⌝ }
     {
         let kind = word / 1099511627776;
         let from = (word / 16777216 % 65536) as u16;
         let label = (word / 65536 % 256) as u8;
         let to = (word % 65536) as u16;
         match kind {
-            0 => self.add(from, label, to),
-            1 => self.remove(from, label, to),
-            2 => self.lock(from),
-            3 => self.unlock(from),
-            _ => self.undo(),
+            2 => self.add(from, label, to),
+            3 => self.remove(from, label, to),
+            4 => self.lock(from),
+            5 => self.unlock(from),
+            6 => self.undo(),
+            _ => Outcome {
+                register: self,
+                answer: Answer::Refused(15),
+            },
         }
     }
 
-    // The number of records; 0 if it is above 1,024, as in no register.
+    // The number of records; none of contents out of range, which are those of no register.
     pub fn size(self) -> usize
         ensures { λ r. ⌜ Sized self r ⌝ }
     {
-        if 1024 < self.n {
+        if !ranged(self.n, self.count, self.top, self.held) {
             return 0;
         }
         self.n as usize
     }
 
-    // The links; none if more than 4,096 are counted, as in no register.
+    // The links; none of contents out of range.
     pub fn links(self) -> Links
         ensures { λ r. ⌜ Listing self r ⌝ }
     {
         let words = self.links;
-        if 4096 < self.count {
+        if !ranged(self.n, self.count, self.top, self.held) {
             return Links { words, count: 0 };
         }
         Links {
@@ -525,17 +529,23 @@ impl Register {
         }
     }
 
-    // Whether each record is locked.
+    // Whether each record is locked; none is of contents out of range.
     pub fn locks(self) -> [bool; 1024]
-        ensures { λ r. ⌜ Locks self r ⌝ }
+        ensures { λ r. ⌜ LockList self r ⌝ }
     {
+        if !ranged(self.n, self.count, self.top, self.held) {
+            return [false; 1024];
+        }
         self.locks
     }
 
-    // Whether a record is locked.
+    // Whether a record is locked; none is of contents out of range.
     pub fn is_locked(self, record: u16) -> bool
         ensures { λ r. ⌜ Locking self «record» r ⌝ }
     {
+        if !ranged(self.n, self.count, self.top, self.held) {
+            return false;
+        }
         if 1024 <= record {
             return false;
         }
@@ -553,9 +563,9 @@ pub fn number_of(a: Answer) -> u32
     }
 }
 
-// A whole history on a fresh register of n records: calls are words, told takes the number of each answer.
-pub fn replay(n: u16, calls: &[u64], told: &mut [u32]) -> Opened
-    ensures { λ r. ⌜ Replays n (now (calls .entry)) (now (told .entry)) (now (told .exit)) r ⌝ }
+// A whole history on a fresh register of n records, as words: told takes the number of each answer. A refused one hands back the register of no records.
+pub fn replay(n: u16, words: &[u64], told: &mut [u32]) -> Opened
+    ensures { λ r. ⌜ Replays n (now (words .entry)) (now (told .entry)) (now (told .exit)) r ⌝ }
 {
     let opened = Register::fresh(n);
     let answer = opened.answer;
@@ -566,15 +576,15 @@ pub fn replay(n: u16, calls: &[u64], told: &mut [u32]) -> Opened
             answer: Answer::Refused(1),
         };
     }
-    if told.len() < calls.len() {
+    if told.len() < words.len() {
         return Opened {
-            register,
+            register: empty(0),
             answer: Answer::Refused(13),
         };
     }
     let mut i = 0;
-    while i < calls.len() {
-        let out = register.step(calls[i]);
+    while i < words.len() {
+        let out = register.step(words[i]);
         let answer = out.answer;
         told[i] = number_of(answer);
         register = out.register;

@@ -1,5 +1,5 @@
-// A register kept as words by its caller: n, count, top, held, 4,096 words of links, 256 of the ring, 1,024 of locks.
-// What reading and writing them promise is stated in specs/Words.antt.
+// A register kept as words by its caller: n, count, top, held, 4,096 words of links, 256 of the ring, 1,024 of locks, in the front of a slice of at least
+// so many. What reading and writing them promise is stated in specs/Words.antt.
 use crate::Answer;
 use crate::Opened;
 use crate::Register;
@@ -68,21 +68,28 @@ fn write_locks(locks: &[bool], words: &mut [u32], at: usize)
     }
 }
 
-// Whether words are those of a register: as many as it has, n of 16 bits, each lock 0 or 1.
+// Whether the front of words is a register's: as many as it has, counters in range, each lock 0 or 1.
 fn is_register(words: &[u32]) -> bool
     ensures { λ r. ⌜ Tested (Formed (now (words .entry))) r ⌝ }
 {
-    if words.len() != 5380 {
+    if words.len() < 5380 {
         return false;
     }
     if 65536 <= words[0] {
         return false;
     }
-    flags(&words[4356..])
+    let n = words[0] as u16;
+    let count = words[1] as usize;
+    let top = words[2] as usize;
+    let held = words[3] as usize;
+    if !ranged(n, count, top, held) {
+        return false;
+    }
+    flags(&words[4356..5380])
 }
 
 impl Register {
-    // The register of the words; words that are no register's are refused with 16.
+    // The register of the words; words that are no register's are refused with 16, and the register handed back has no records.
     pub fn load(words: &[u32]) -> Opened
         ensures { λ r. ⌜ Loads (now (words .entry)) r ⌝ }
     {
@@ -97,7 +104,7 @@ impl Register {
         let mut ring: [u32; 256] = [0; 256];
         copy(&words[4100..4356], &mut ring, 0);
         let mut locks: [bool; 1024] = [false; 1024];
-        read_locks(&words[4356..], &mut locks);
+        read_locks(&words[4356..5380], &mut locks);
         Opened {
             register: Register {
                 n: words[0] as u16,
@@ -112,11 +119,11 @@ impl Register {
         }
     }
 
-    // The register's words; false, and nothing written, if its numbers are out of range or the slice is not as long as its words.
+    // The register's words in the front of a slice; false, and nothing written, if its counters are out of range or the slice is shorter than its words.
     pub fn store(self, words: &mut [u32]) -> bool
         ensures { λ r. ⌜ Stores self (now (words .entry)) (now (words .exit)) r ⌝ }
     {
-        if words.len() != 5380 {
+        if words.len() < 5380 {
             return false;
         }
         if !ranged(self.n, self.count, self.top, self.held) {

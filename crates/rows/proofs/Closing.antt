@@ -15,8 +15,8 @@ use Rattle.book.specs.Basics.{pick}
 use Rattle.k2.specs.Bits.{digit, bitAt}
 use Rattle.k2.specs.DigitLaws.{digit-or}
 use Rattle.k2.specs.BitLaws.{bit-in, bit-set, bit-set-off}
-use Rattle.k2.specs.PairSets.{Cells, IsSet, over, closure}
-use Rattle.k2.specs.PairSetLaws.{over-set}
+use Rattle.k2.specs.PairSets.{Cells, IsSet, via, closure}
+use Rattle.k2.specs.PairSetLaws.{via-set}
 use Rattle.rows.specs.Rows.{flat}
 use Rattle.rows.specs.RowLaws.{flat-at}
 use Rattle.rows.specs.Steps.{EmptyRow, Occupied, rowsTo, plusRow, partRow}
@@ -101,74 +101,74 @@ empty-cell n x nl X i z y = go (decLt y 1024)
 -- ---- a round: the rows below i lead over k
 module _ (n k : ℕ) (x : Cells) (nl : n ≤ 1024) (X : IsSet n x) where
   -- row k stays
-  stays : (i y : ℕ) → rowsTo i (over k x) x k y ≡ x k y
+  stays : (i y : ℕ) → rowsTo i (via k x) x k y ≡ x k y
   stays i y = go (decLt k i)
     where
-      go : Dec (k < i) → rowsTo i (over k x) x k y ≡ x k y
-      go (yes l) = to-new i (over k x) x k y l ∙ unfold over in (omega (arith, X .bit k k, X .bit k y))
-      go (no l) = to-old i (over k x) x k y (omega arith)
+      go : Dec (k < i) → rowsTo i (via k x) x k y ≡ x k y
+      go (yes l) = to-new i (via k x) x k y l ∙ unfold via in (omega (arith, X .bit k k, X .bit k y))
+      go (no l) = to-old i (via k x) x k y (omega arith)
 
-  pub over-yes : (i : ℕ) → x i k ≡ 1 → plusRow i k (rowsTo i (over k x) x) ≡ rowsTo (i + 1) (over k x) x
-  over-yes i e = fun-ext (λ v. fun-ext (λ y. go v y (ℕ-discrete v i) (decLt v i)))
+  pub via-yes : (i : ℕ) → x i k ≡ 1 → plusRow i k (rowsTo i (via k x) x) ≡ rowsTo (i + 1) (via k x) x
+  via-yes i e = fun-ext (λ v. fun-ext (λ y. go v y (ℕ-discrete v i) (decLt v i)))
     where
-      here : (y : ℕ) → max (rowsTo i (over k x) x i y) (rowsTo i (over k x) x k y) ≡ over k x i y
-      here y = rw (to-old i (over k x) x i y (omega arith), stays i y) (unfold over in (rw e (omega (arith, X .bit k y))))
+      here : (y : ℕ) → max (rowsTo i (via k x) x i y) (rowsTo i (via k x) x k y) ≡ via k x i y
+      here y = rw (to-old i (via k x) x i y (omega arith), stays i y) (unfold via in (rw e (omega (arith, X .bit k y))))
 
-      go : (v y : ℕ) → Dec (v ≡ i) → Dec (v < i) → plusRow i k (rowsTo i (over k x) x) v y ≡ rowsTo (i + 1) (over k x) x v y
-      go v y (yes s) d = rw s (plus-at i k (rowsTo i (over k x) x) y ∙ here y ∙ sym (to-new (i + 1) (over k x) x i y (omega arith)))
-      go v y (no s) (yes d) = plus-off i k (rowsTo i (over k x) x) v y s ∙ to-new i (over k x) x v y d ∙ sym (to-new (i + 1) (over k x) x v y (omega arith))
+      go : (v y : ℕ) → Dec (v ≡ i) → Dec (v < i) → plusRow i k (rowsTo i (via k x) x) v y ≡ rowsTo (i + 1) (via k x) x v y
+      go v y (yes s) d = rw s (plus-at i k (rowsTo i (via k x) x) y ∙ here y ∙ sym (to-new (i + 1) (via k x) x i y (omega arith)))
+      go v y (no s) (yes d) = plus-off i k (rowsTo i (via k x) x) v y s ∙ to-new i (via k x) x v y d ∙ sym (to-new (i + 1) (via k x) x v y (omega arith))
       go v y (no s) (no d) =
           let z : (v ≡ i → ⊥) = s in
-          plus-off i k (rowsTo i (over k x) x) v y s ∙ to-old i (over k x) x v y (omega arith) ∙ sym (to-old (i + 1) (over k x) x v y (omega (arith, z)))
+          plus-off i k (rowsTo i (via k x) x) v y s ∙ to-old i (via k x) x v y (omega arith) ∙ sym (to-old (i + 1) (via k x) x v y (omega (arith, z)))
 
-  pub over-no : (i : ℕ) → x i k ≡ 0 → rowsTo i (over k x) x ≡ rowsTo (i + 1) (over k x) x
-  over-no i e = to-more i (over k x) x (λ y. unfold over in (rw e (omega arith)))
+  pub via-no : (i : ℕ) → x i k ≡ 0 → rowsTo i (via k x) x ≡ rowsTo (i + 1) (via k x) x
+  via-no i e = to-more i (via k x) x (λ y. unfold via in (rw e (omega arith)))
 
   -- rows that are empty
-  over-far : (i d : ℕ) → ((j : ℕ) → i ≤ j → j < i + d → EmptyRow (flat x) j) → rowsTo i (over k x) x ≡ rowsTo (i + d) (over k x) x
-  over-far i zero z = ap (λ (t : ℕ). rowsTo t (over k x) x) (sym (add-zero i))
-  over-far i (suc d) z =
-      over-far i d (λ j a b. z j a (omega arith)) ∙ over-no (i + d) (empty-cell n x nl X (i + d) (z (i + d) (omega arith) (omega arith)) k)
-      ∙ ap (λ (t : ℕ). rowsTo t (over k x) x) (sym (add-suc i d ∙ sym (add-one (i + d))))
+  via-far : (i d : ℕ) → ((j : ℕ) → i ≤ j → j < i + d → EmptyRow (flat x) j) → rowsTo i (via k x) x ≡ rowsTo (i + d) (via k x) x
+  via-far i zero z = ap (λ (t : ℕ). rowsTo t (via k x) x) (sym (add-zero i))
+  via-far i (suc d) z =
+      via-far i d (λ j a b. z j a (omega arith)) ∙ via-no (i + d) (empty-cell n x nl X (i + d) (z (i + d) (omega arith) (omega arith)) k)
+      ∙ ap (λ (t : ℕ). rowsTo t (via k x) x) (sym (add-suc i d ∙ sym (add-one (i + d))))
 
-  over-gap : (i j : ℕ) → i ≤ j → ((v : ℕ) → i ≤ v → v < j → EmptyRow (flat x) v) → rowsTo i (over k x) x ≡ rowsTo j (over k x) x
-  over-gap i j l z =
+  via-gap : (i j : ℕ) → i ≤ j → ((v : ℕ) → i ≤ v → v < j → EmptyRow (flat x) v) → rowsTo i (via k x) x ≡ rowsTo j (via k x) x
+  via-gap i j l z =
       let e : i + (j - i) ≡ j = omega arith in
-      over-far i (j - i) (λ v a b. z v a (omega arith)) ∙ ap (λ (t : ℕ). rowsTo t (over k x) x) e
+      via-far i (j - i) (λ v a b. z v a (omega arith)) ∙ ap (λ (t : ℕ). rowsTo t (via k x) x) e
 
   module _ (m : ℕ) (r : ℕ → ℕ) (O : Occupied (flat x) n r m) where
-    pub round-start : x ≡ rowsTo (r 0) (over k x) x
-    round-start = sym (to-none (over k x) x) ∙ over-gap 0 (r 0) (omega arith) (λ v a b. O .first v b)
+    pub round-start : x ≡ rowsTo (r 0) (via k x) x
+    round-start = sym (to-none (via k x) x) ∙ via-gap 0 (r 0) (omega arith) (λ v a b. O .first v b)
 
-    pub round-yes : (t : ℕ) → t < m → x (r t) k ≡ 1 → plusRow (r t) k (rowsTo (r t) (over k x) x) ≡ rowsTo (r (t + 1)) (over k x) x
+    pub round-yes : (t : ℕ) → t < m → x (r t) k ≡ 1 → plusRow (r t) k (rowsTo (r t) (via k x) x) ≡ rowsTo (r (t + 1)) (via k x) x
     round-yes t l e =
-        over-yes (r t) e ∙ over-gap (r t + 1) (r (t + 1)) (omega (arith, O .rise t l)) (λ v a b. O .gap t l v (omega arith) b)
+        via-yes (r t) e ∙ via-gap (r t + 1) (r (t + 1)) (omega (arith, O .rise t l)) (λ v a b. O .gap t l v (omega arith) b)
 
-    pub round-no : (t : ℕ) → t < m → x (r t) k ≡ 0 → rowsTo (r t) (over k x) x ≡ rowsTo (r (t + 1)) (over k x) x
+    pub round-no : (t : ℕ) → t < m → x (r t) k ≡ 0 → rowsTo (r t) (via k x) x ≡ rowsTo (r (t + 1)) (via k x) x
     round-no t l e =
-        over-no (r t) e ∙ over-gap (r t + 1) (r (t + 1)) (omega (arith, O .rise t l)) (λ v a b. O .gap t l v (omega arith) b)
+        via-no (r t) e ∙ via-gap (r t + 1) (r (t + 1)) (omega (arith, O .rise t l)) (λ v a b. O .gap t l v (omega arith) b)
 
-    pub round-end : rowsTo (r m) (over k x) x ≡ over k x
-    round-end = ap (λ (t : ℕ). rowsTo t (over k x) x) (O .last) ∙ to-all n (over k x) x (over-set n x X k) X
+    pub round-end : rowsTo (r m) (via k x) x ≡ via k x
+    round-end = ap (λ (t : ℕ). rowsTo t (via k x) x) (O .last) ∙ to-all n (via k x) x (via-set n x X k) X
 
 -- ---- the rounds
 -- a row that is empty stays so
 closure-empty : (k : ℕ) (x : Cells) (i : ℕ) → ((y : ℕ) → x i y ≡ 0) → (y : ℕ) → closure k x i y ≡ 0
-unfolding closure over
+unfolding closure via
 closure-empty zero x i z y = z y
 closure-empty (suc k) x i z y = rw (closure-empty k x i z y, closure-empty k x i z k) (omega arith)
 
 -- and nothing leads over it
-over-empty : (k : ℕ) (x : Cells) → ((y : ℕ) → x k y ≡ 0) → over k x ≡ x
-unfolding over
-over-empty k x z = fun-ext (λ v. fun-ext (λ y. rw (z y) (omega arith)))
+via-empty : (k : ℕ) (x : Cells) → ((y : ℕ) → x k y ≡ 0) → via k x ≡ x
+unfolding via
+via-empty k x z = fun-ext (λ v. fun-ext (λ y. rw (z y) (omega arith)))
 
 closure-far : (x : Cells) (p d : ℕ) → ((i : ℕ) → p ≤ i → i < p + d → (y : ℕ) → x i y ≡ 0) → closure (p + d) x ≡ closure p x
 unfolding closure
 closure-far x p zero z = ap (λ (t : ℕ). closure t x) (add-zero p)
 closure-far x p (suc d) z =
     ap (λ (t : ℕ). closure t x) (add-suc p d)
-    ∙ over-empty (p + d) (closure (p + d) x) (closure-empty (p + d) x (p + d) (z (p + d) (omega arith) (omega arith)))
+    ∙ via-empty (p + d) (closure (p + d) x) (closure-empty (p + d) x (p + d) (z (p + d) (omega arith) (omega arith)))
     ∙ closure-far x p d (λ i a b. z i a (omega arith))
 
 module _ (n m : ℕ) (x : Cells) (nl : n ≤ 1024) (X : IsSet n x) (r : ℕ → ℕ) (O : Occupied (flat x) n r m) where
@@ -180,7 +180,7 @@ module _ (n m : ℕ) (x : Cells) (nl : n ≤ 1024) (X : IsSet n x) (r : ℕ → 
   pub rounds-start : x ≡ closure (r 0) x
   rounds-start = sym (closure-gap 0 (r 0) (omega arith) (λ i a b. O .first i b) ∙ unfold closure in refl)
 
-  pub rounds-more : (t : ℕ) → t < m → over (r t) (closure (r t) x) ≡ closure (r (t + 1)) x
+  pub rounds-more : (t : ℕ) → t < m → via (r t) (closure (r t) x) ≡ closure (r (t + 1)) x
   rounds-more t l =
       sym (closure-gap (r t + 1) (r (t + 1)) (omega (arith, O .rise t l)) (λ i a b. O .gap t l i (omega arith) b) ∙ ap (λ (k : ℕ). closure k x) (add-one (r t)) ∙ unfold closure in refl)
 

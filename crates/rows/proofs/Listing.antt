@@ -1,10 +1,9 @@
--- Laws of listing: the words of a set's pairs are the places of the bits of its rows, ascending; and what is written of them.
---   places f n      the places below n at which f is not 0, ascending
+-- Laws of listing: the places of the bits of rows, word by word, and what is written of them.
 --   Wrote l e now   the list that held e holds l, and then what was there
 -- Assumes nothing.
 use mathlib.Core.Path.{_≡_, refl, sym, ap, ap₂, _∙_}
 use mathlib.Core.List.{List, [], _∷_, _++_, append-nil, append-assoc}
-use Prim.Native.Nat.{ℕ, zero, suc, _+_, _-_, _*_, _/_, _%_, _^_, _≤_, _<_}
+use Prim.Native.Nat.{ℕ, zero, suc, _+_, _-_, _*_, _/_, _^_, _≤_, _<_}
 use native.Mathlib.Nat.{add-zero, add-suc}
 use native.Mathlib.Numerals.{add-one}
 use native.Mathlib.Decide.{decLt}
@@ -15,28 +14,15 @@ use lib.Pow.{shr-shr}
 use lib.Seq.{drop-cons, drop-drop, set-at, take-at, drop-at, take-all}
 use Rattle.k2.specs.Bits.{bitAt, onesBelow}
 use Rattle.k2.specs.BitLaws.{Bits}
-use Rattle.k2.specs.PairSets.{Cells, IsSet, ifSet, rowPairs, rowsPairs, listed}
+use Rattle.k2.specs.PairSets.{ifSet}
 use Rattle.bits.specs.BitSets.{Gap, Next}
 use Rattle.bits.specs.ScanLaws.{rest-inside, next-here, gap-rest}
-use Rattle.rows.specs.Rows.{flat}
-use Rattle.rows.specs.RowLaws.{flat-at, flat-bit}
-
-unfoldable pub places : (ℕ → ℕ) → ℕ → List ℕ
-places f zero = []
-places f (suc n) = places f n ++ ifSet (f n) n
+use Rattle.rows.specs.Rows.{places}
+use Rattle.rows.specs.RowLaws.{places-gap}
 
 pub places-hit : (f : ℕ → ℕ) (p : ℕ) → f p ≡ 1 → places f (p + 1) ≡ places f p ++ (p ∷ [])
 unfolding places
 places-hit f p e = rw (add-one, e)
-
-places-far : (f : ℕ → ℕ) (p d : ℕ) → Gap f p (p + d) → places f (p + d) ≡ places f p
-unfolding places
-places-far f p zero g = ap (places f) (add-zero p)
-places-far f p (suc d) g =
-    ap (places f) (add-suc p d) ∙ rw (g (p + d) (omega arith) (omega arith)) (append-nil (places f (p + d))) ∙ places-far f p d (λ k a b. g k a (omega arith))
-
-pub places-gap : (f : ℕ → ℕ) (p q : ℕ) → p ≤ q → Gap f p q → places f q ≡ places f p
-places-gap f p q l g = let e : q ≡ p + (q - p) = omega arith in ap (places f) e ∙ places-far f p (q - p) (λ k a b. g k a (omega arith))
 
 pub places-length : (f : ℕ → ℕ) → Bits f → (n : ℕ) → length (places f n) ≡ onesBelow f n
 unfolding places onesBelow
@@ -63,36 +49,6 @@ places-first f p q l =
 
 pub places-longer : (f : ℕ → ℕ) (p q : ℕ) → p ≤ q → length (places f p) ≤ length (places f q)
 places-longer f p q l = let r = places-first f p q l in omega (arith, ap length (r .1), length-append (places f p) (r .0))
-
--- ---- a set's pairs
-row-places : (a : Cells) (x m : ℕ) → m ≤ 1024 → places (flat a) (x * 1024 + m) ≡ places (flat a) (x * 1024) ++ rowPairs a x m
-unfolding rowPairs places
-row-places a x zero l = ap (places (flat a)) (add-zero (x * 1024)) ∙ sym (append-nil (places (flat a) (x * 1024)))
-row-places a x (suc m) l =
-    ap (places (flat a)) (add-suc (x * 1024) m)
-    ∙ ap₂ (λ (l : List ℕ) (v : ℕ). l ++ ifSet v (x * 1024 + m)) (row-places a x m (omega arith)) (flat-at a x m (omega arith))
-    ∙ append-assoc (places (flat a) (x * 1024)) (rowPairs a x m) (ifSet (a x m) (x * 1024 + m))
-
-module _ (n : ℕ) (a : Cells) (nl : n ≤ 1024) (A : IsSet n a) where
-  -- a row has no pair from column n on
-  row-gap : (x : ℕ) → Gap (flat a) (x * 1024 + n) ((x + 1) * 1024)
-  unfolding flat
-  row-gap x k l h = A .column (k / 1024) (k % 1024) (omega arith)
-
-  rows-places : (m : ℕ) → rowsPairs a n m ≡ places (flat a) (m * 1024)
-  unfolding rowsPairs places
-  rows-places zero = refl
-  rows-places (suc m) =
-      let e : (m + 1) * 1024 ≡ suc m * 1024 = omega arith in
-      ap (λ (l : List ℕ). l ++ rowPairs a m n) (rows-places m)
-      ∙ sym (row-places a m n nl) ∙ sym (places-gap (flat a) (m * 1024 + n) ((m + 1) * 1024) (omega arith) (row-gap m)) ∙ ap (places (flat a)) e
-
-  pub listed-places : listed n a ≡ places (flat a) (n * 1024)
-  unfolding listed
-  listed-places = rows-places n
-
-  pub listed-length : length (listed n a) ≡ onesBelow (flat a) (n * 1024)
-  listed-length = ap length listed-places ∙ places-length (flat a) (flat-bit n a A) (n * 1024)
 
 -- ---- written
 abbrev pub Wrote : List ℕ → List ℕ → List ℕ → Type 0

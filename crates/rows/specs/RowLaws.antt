@@ -1,18 +1,20 @@
--- Laws of rows: a row's bits are the set's cells, the rows of the operations on sets, and the pairs of link words. Assumes nothing.
-use mathlib.Core.Path.{_≡_, refl, sym, ap, _∙_, fun-ext}
-use mathlib.Core.List.{List, [], _∷_, map}
-use Prim.Native.Nat.{ℕ, _+_, _*_, _/_, _%_, _<_}
-use native.Mathlib.Nat.{mod-eq-of-lt}
+-- Laws of rows: a row's bits are the set's cells, the rows of the operations on sets, the pairs of link words, and the pairs that rows hold.
+-- Assumes nothing.
+use mathlib.Core.Path.{_≡_, refl, sym, ap, ap₂, _∙_, fun-ext}
+use mathlib.Core.List.{List, [], _∷_, _++_, map, append-nil, append-assoc}
+use Prim.Native.Nat.{ℕ, zero, suc, _+_, _-_, _*_, _/_, _%_, _≤_, _<_}
+use native.Mathlib.Nat.{add-zero, add-suc, mod-eq-of-lt}
 use native.Mathlib.Omega.{arith}
 use lib.Dec.{ltb}
 use borrow.Author.Tests.{le-ltb}
 use Rattle.book.specs.Basics.{bit, here, there}
-use Rattle.k2.specs.PairSets.{Cells, IsSet, union, intersection, difference}
-use Rattle.k2.specs.PairSetLaws.{bit-small, diagonal-set, PairsBelow}
+use Rattle.k2.specs.Bits.{bitAt}
+use Rattle.k2.specs.PairSets.{Cells, IsSet, ifSet, rowPairs, rowsPairs, listed, union, intersection, difference, PairsBelow}
+use Rattle.k2.specs.PairSetLaws.{bit-small, diagonal-set}
 use Rattle.k2.specs.Trees.{treeWords}
 use Rattle.k2.specs.TreeLaws.{treeWords-none}
-use Rattle.bits.specs.BitSets.{none, both, minus}
-use Rattle.rows.specs.Rows.{flat, noPairs, identity, linkPair}
+use Rattle.bits.specs.BitSets.{none, both, minus, Gap}
+use Rattle.rows.specs.Rows.{flat, noPairs, identity, linkPair, places, pairsIn}
 
 pub flat-at : (a : Cells) (x y : ℕ) → y < 1024 → flat a (x * 1024 + y) ≡ a x y
 unfolding flat
@@ -20,10 +22,6 @@ flat-at a x y l =
     let p : (x * 1024 + y) / 1024 ≡ x = omega arith in
     let q : (x * 1024 + y) % 1024 ≡ y = omega arith in
     rw (p, q)
-
-pub flat-bit : (n : ℕ) (a : Cells) → IsSet n a → (p : ℕ) → flat a p < 2
-unfolding flat
-flat-bit n a A p = A .bit (p / 1024) (p % 1024)
 
 -- ---- no pair
 pub flat-none : flat noPairs ≡ none
@@ -67,3 +65,40 @@ pair-links (w ∷ ps) b =
     let r = b w here in
     let e : w % 1048576 ≡ w = mod-eq-of-lt (omega (arith, r .0, r .1)) in
     rw (e, pair-links ps (λ v h. b v (there h)))
+
+-- ---- the pairs that rows hold
+places-far : (f : ℕ → ℕ) (p d : ℕ) → Gap f p (p + d) → places f (p + d) ≡ places f p
+unfolding places
+places-far f p zero g = ap (places f) (add-zero p)
+places-far f p (suc d) g =
+    ap (places f) (add-suc p d) ∙ rw (g (p + d) (omega arith) (omega arith)) (append-nil (places f (p + d))) ∙ places-far f p d (λ k a b. g k a (omega arith))
+
+pub places-gap : (f : ℕ → ℕ) (p q : ℕ) → p ≤ q → Gap f p q → places f q ≡ places f p
+places-gap f p q l g = let e : q ≡ p + (q - p) = omega arith in ap (places f) e ∙ places-far f p (q - p) (λ k a b. g k a (omega arith))
+
+row-places : (a : Cells) (x m : ℕ) → m ≤ 1024 → places (flat a) (x * 1024 + m) ≡ places (flat a) (x * 1024) ++ rowPairs a x m
+unfolding rowPairs places
+row-places a x zero l = ap (places (flat a)) (add-zero (x * 1024)) ∙ sym (append-nil (places (flat a) (x * 1024)))
+row-places a x (suc m) l =
+    ap (places (flat a)) (add-suc (x * 1024) m)
+    ∙ ap₂ (λ (l : List ℕ) (v : ℕ). l ++ ifSet v (x * 1024 + m)) (row-places a x m (omega arith)) (flat-at a x m (omega arith))
+    ∙ append-assoc (places (flat a) (x * 1024)) (rowPairs a x m) (ifSet (a x m) (x * 1024 + m))
+
+module _ (n : ℕ) (a : Cells) (nl : n ≤ 1024) (A : IsSet n a) where
+  -- a row has no pair from column n on
+  row-gap : (x : ℕ) → Gap (flat a) (x * 1024 + n) ((x + 1) * 1024)
+  unfolding flat
+  row-gap x k l h = A .column (k / 1024) (k % 1024) (omega arith)
+
+  rows-places : (m : ℕ) → rowsPairs a n m ≡ places (flat a) (m * 1024)
+  unfolding rowsPairs places
+  rows-places zero = refl
+  rows-places (suc m) =
+      let e : (m + 1) * 1024 ≡ suc m * 1024 = omega arith in
+      ap (λ (l : List ℕ). l ++ rowPairs a m n) (rows-places m)
+      ∙ sym (row-places a m n nl) ∙ sym (places-gap (flat a) (m * 1024 + n) ((m + 1) * 1024) (omega arith) (row-gap m)) ∙ ap (places (flat a)) e
+
+  -- rows of a set hold its pairs
+  pub pairs-in : (ws : List ℕ) → bitAt ws ≡ flat a → pairsIn n ws ≡ listed n a
+  unfolding listed
+  pairs-in ws e = ap (λ (f : ℕ → ℕ). places f (n * 1024)) e ∙ sym (rows-places n)

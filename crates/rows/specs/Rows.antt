@@ -4,14 +4,16 @@
 --   identity n      each record below n joined to itself
 --   linkPair w      the pair word of a link's word, label × 1,048,576 + pair word
 --   RowsOf n ws     the words are the rows of some set of pairs below n
+--   places f n      the places below n at which f is not 0, ascending
+--   pairsIn n ws    the pair words that the first n rows of ws hold, ascending, whatever the words are
 -- Assumes nothing: these are definitions.
 use mathlib.Core.Path.{_≡_}
-use mathlib.Core.List.{List}
-use Prim.Native.Nat.{ℕ, _/_, _%_}
+use mathlib.Core.List.{List, [], _++_}
+use Prim.Native.Nat.{ℕ, zero, suc, _*_, _/_, _%_}
 use lib.Dec.{ltb}
 use Rattle.book.specs.Basics.{bit}
 use Rattle.k2.specs.Bits.{bitAt}
-use Rattle.k2.specs.PairSets.{Cells, IsSet, diagonal}
+use Rattle.k2.specs.PairSets.{Cells, IsSet, ifSet, diagonal}
 
 unfoldable pub flat : Cells → ℕ → ℕ
 flat a p = a (p / 1024) (p % 1024)
@@ -29,3 +31,10 @@ pub record RowsOf (n : ℕ) (ws : List ℕ) : Type 0 where
   pub set : Cells
   pub is-set : IsSet n set
   pub rows : bitAt ws ≡ flat set
+
+unfoldable pub places : (ℕ → ℕ) → ℕ → List ℕ
+places f zero = []
+places f (suc n) = places f n ++ ifSet (f n) n
+
+abbrev pub pairsIn : ℕ → List ℕ → List ℕ
+pairsIn n ws = places (bitAt ws) (n * 1024)

@@ -6,9 +6,9 @@ ghost use mathlib.Core.List.{_++_, map};
 ghost use Prim.Native.Nat.{ℕ, _+_, _*_, _≤_, _<_};
 ghost use lib.ListN.{length, take, drop};
 ghost use Rattle.k2.specs.Bits.{bitAt};
-ghost use Rattle.k2.specs.PairSets.{Cells, IsSet, listed, setOf, union, intersection, difference, transpose, product, over, closure};
+ghost use Rattle.k2.specs.PairSets.{Cells, IsSet, setOf, union, intersection, difference, transpose, product, via, closure};
 ghost use Rattle.bits.specs.BitSets.{none};
-ghost use Rattle.rows.specs.Rows.{flat, identity, linkPair, RowsOf};
+ghost use Rattle.rows.specs.Rows.{flat, identity, linkPair, RowsOf, pairsIn};
 ghost use Rattle.rows.specs.Steps.{Masked, rowAt, Occupied, Masks, Common, served, below, withRow, plusRow};
 
 // The pairs of a that b lacks taken out of a.
@@ -76,19 +76,19 @@ pub fn put_turned(words: &[u32], rows: &mut [u64])
     }
 }
 
-// How many pairs there are.
+// How many pairs the first n rows hold. Of the rows of a set below n they are the set's, ascending (RowLaws `pairs-in`).
 pub fn count_pairs(rows: &[u64], n: usize) -> usize
     requires { ⌜ n ≤ 1024 ⌝ }
-    ensures { λ r. ⌜ ((a : Cells) → IsSet n a → bitAt (now (rows .entry)) ≡ flat a → r ≡ length (listed n a)) ⌝ }
+    ensures { λ r. ⌜ r ≡ length (pairsIn n (now (rows .entry))) ⌝ }
 {
     bits::rank(rows, n * 1024)
 }
 
-// The pair words, ascending, as many as the list takes.
+// Their words, ascending, as many as the list takes; the words past them are left.
 pub fn write_pairs(rows: &[u64], n: usize, out: &mut [u32])
     requires { ⌜ (n ≤ 1024) × (length (now rows) ≡ 16384) ⌝ }
-    ensures { λ _. ⌜ ((a : Cells) → IsSet n a → bitAt (now (rows .entry)) ≡ flat a
-        → now (out .exit) ≡ take (length (now (out .entry))) (listed n a) ++ drop (length (listed n a)) (now (out .entry))) ⌝ }
+    ensures { λ _. ⌜ now (out .exit) ≡ take (length (now (out .entry))) (pairsIn n (now (rows .entry)))
+        ++ drop (length (pairsIn n (now (rows .entry)))) (now (out .entry)) ⌝ }
 {
     let mut t = 0;
     let mut q = 0;
@@ -259,7 +259,7 @@ fn or_row(rows: &mut [u64], i: usize, k: usize)
 fn lead_over(rows: &mut [u64], k: usize, list: &[u32], m: usize)
     requires { ⌜ (length (now rows) ≡ 16384) × (k < 1024) × (length (now list) ≡ 1024) × (m ≤ 1024) ⌝ }
     ensures { λ _. ⌜ ((n : ℕ) (x : Cells) → n ≤ 1024 → IsSet n x → Occupied (flat x) n (rowAt n m (now (list .entry))) m
-        → bitAt (now (rows .entry)) ≡ flat x → bitAt (now (rows .exit)) ≡ flat (over k x)) ⌝ }
+        → bitAt (now (rows .entry)) ≡ flat x → bitAt (now (rows .exit)) ≡ flat (via k x)) ⌝ }
 {
     let mut t = 0;
     while t < m {

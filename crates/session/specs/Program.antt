@@ -1,4 +1,6 @@
 -- The program: frames, requests, what each does to the session and what it prints.
+--   programRecords, programWords, minFrame, maxFrame
+--                   the most records, the words of work and of list that the program lends, and the least and the most that a frame's length may be
 --   number16 s p    the two-byte number at place p of the bytes s, little-endian
 --   twoBytes n, frameOf k s
 --                   a number below 65,536 as two bytes, little-endian; the bytes of a frame of kind k with the body s
@@ -11,7 +13,11 @@
 --   Right s f v t   v is the verdict on the frame's text, and t the reply to its chain question, where it has them
 --   printed w r s f v t
 --                   the bytes that the frame prints, if w words of work and a list of r words are lent
---   Run w r s i o   a run from the session s on: with the bytes i on standard input it prints the bytes o
+--   listLeft w l s f v t
+--                   what the list holds after the frame, if it held l: only a question to an opened session writes its answer there
+--   Run w s l i o s′ l′
+--                   a run with w words of work from the session s on, and a list that holds l: with the bytes i on standard input it prints the bytes o,
+--                   and leaves the session s′ and the list l′
 -- Assumes nothing: these are definitions.
 use mathlib.Core.List.{List, [], _∷_, _++_}
 use mathlib.Core.Logic.{_⊎_}
@@ -20,16 +26,18 @@ use Prim.Native.Nat.{ℕ, _+_, _-_, _*_, _/_, _%_, _≤_, _<_}
 use lib.ListN.{length, getD, take, drop}
 use lib.Dec.{leb, ltb, eqb}
 use Rattle.book.specs.Basics.{pick}
-use Rattle.book.specs.Causes.{Cause, bad-size, broken-frame, unknown-kind, not-open, number}
+use Rattle.book.specs.Causes.{Cause, bad-size, broken-frame, unknown-kind, not-open, number, firstNumber}
 use Rattle.book.specs.Book.{Link, Book, Call, edit, undo, add, remove, lock, unlock, answer, next, fresh}
 use Rattle.paths.specs.Grammar.{Verdict, Judged}
 use Rattle.paths.specs.Chains.{asked, Reply}
-use Rattle.paths.specs.Questions.{pairsAnswer, chainAnswer, ReplyTo}
+use Rattle.paths.specs.Questions.{pairsAnswer, chainAnswer, ReplyTo, listAfter}
 use Rattle.report.specs.Report.{refusedText, answerText, outcomeText}
 
--- the limits
 abbrev pub programRecords : ℕ
 programRecords = 64
+
+abbrev pub programWords : ℕ
+programWords = 4096
 
 abbrev pub minFrame : ℕ
 minFrame = 2
@@ -81,7 +89,7 @@ pub data Session : Type 0 where
   opened : Book → Session
 
 unfoldable pub openAnswer : ℕ → ℕ
-openAnswer n = pick (ltb n 1 || ltb programRecords n) (number bad-size) 0
+openAnswer n = firstNumber ((bad-size, ltb n 1 || ltb programRecords n) ∷ [])
 
 -- a refused open keeps the old register
 unfoldable pub nextSession : Session → Frame → Session
@@ -111,20 +119,29 @@ printed work room (opened b) (asks (call c)) v t = answerText (answer b c)
 printed work room (opened b) (asks (pairs u)) v t = outcomeText (pairsAnswer b v work room)
 printed work room (opened b) (asks (chain x y u)) v t = outcomeText (chainAnswer b x y v t work room)
 
+unfoldable pub listLeft : ℕ → List ℕ → Session → Frame → Verdict → Reply → List ℕ
+listLeft work l s (faulty c) v t = l
+listLeft work l s (asks (opening n)) v t = l
+listLeft work l s (asks (call c)) v t = l
+listLeft work l unopened (asks (pairs u)) v t = l
+listLeft work l unopened (asks (chain x y u)) v t = l
+listLeft work l (opened b) (asks (pairs u)) v t = listAfter (pairsAnswer b v work (length l)) l
+listLeft work l (opened b) (asks (chain x y u)) v t = listAfter (chainAnswer b x y v t work (length l)) l
+
 -- of bytes that follow a length n: the frame's kind and body
 abbrev pub frameIn : ℕ → List ℕ → Frame
 frameIn n i = decode (number16 i 0) (take (n - 2) (drop 2 i))
 
-pub data Run (work room : ℕ) : Session → List ℕ → List ℕ → Type 0 where
+pub data Run (work : ℕ) : Session → List ℕ → List ℕ → List ℕ → Session → List ℕ → Type 0 where
   -- input that stops between frames
-  ended : {s : Session} → Run work room s [] []
+  ended : {s : Session} {l : List ℕ} → Run work s l [] [] s l
   -- a frame that is cut in its length, has a length below 2 or above 1,024, or is cut after it
-  lone-byte : {s : Session} {a : ℕ} → Run work room s (a ∷ []) (refusedText (number broken-frame))
-  bad-length : {s : Session} {a b : ℕ} {i : List ℕ} → (a + 256 * b < minFrame) ⊎ (maxFrame < a + 256 * b)
-      → Run work room s (a ∷ b ∷ i) (refusedText (number broken-frame))
-  cut : {s : Session} {a b : ℕ} {i : List ℕ} → length i < a + 256 * b → Run work room s (a ∷ b ∷ i) (refusedText (number broken-frame))
-  framed : {s : Session} {a b : ℕ} {i o : List ℕ} (v : Verdict) (t : Reply)
+  lone-byte : {s : Session} {l : List ℕ} {a : ℕ} → Run work s l (a ∷ []) (refusedText (number broken-frame)) s l
+  bad-length : {s : Session} {l : List ℕ} {a b : ℕ} {i : List ℕ} → (a + 256 * b < minFrame) ⊎ (maxFrame < a + 256 * b)
+      → Run work s l (a ∷ b ∷ i) (refusedText (number broken-frame)) s l
+  cut : {s : Session} {l : List ℕ} {a b : ℕ} {i : List ℕ} → length i < a + 256 * b → Run work s l (a ∷ b ∷ i) (refusedText (number broken-frame)) s l
+  framed : {s s′ : Session} {l l′ : List ℕ} {a b : ℕ} {i o : List ℕ} (v : Verdict) (t : Reply)
       → minFrame ≤ a + 256 * b → a + 256 * b ≤ maxFrame → a + 256 * b ≤ length i
       → Right s (frameIn (a + 256 * b) i) v t
-      → Run work room (nextSession s (frameIn (a + 256 * b) i)) (drop (a + 256 * b) i) o
-      → Run work room s (a ∷ b ∷ i) (printed work room s (frameIn (a + 256 * b) i) v t ++ o)
+      → Run work (nextSession s (frameIn (a + 256 * b) i)) (listLeft work l s (frameIn (a + 256 * b) i) v t) (drop (a + 256 * b) i) o s′ l′
+      → Run work s l (a ∷ b ∷ i) (printed work (length l) s (frameIn (a + 256 * b) i) v t ++ o) s′ l′

@@ -1,12 +1,13 @@
 -- Two runs as theorems, 01's sample and one of refusals: these frames on standard input, these lines on standard output.
 --   input           the frames: open 4; add 0 a 1; add 2 a 1; lock 1; add 1 b 3; pairs a/^a; undo; add 1 b 3; chain 0 to 3 a/b
 --   output          the lines
+--   Prints s i o    from the session s, with 4,096 words of work and any list of 4,096, a run over i prints o
 --   sample          the run prints them
 --   faults, refusals, refused-run
 --                   a run of refused frames: the order of 15, 14 and 16; a refused open keeps the register; a cut frame ends it
 -- Assumes nothing.
-use mathlib.Core.Path.{_≡_, refl, subst}
-use mathlib.Core.List.{List, [], _∷_, _++_, map}
+use mathlib.Core.Path.{_≡_, refl, subst, _∙_}
+use mathlib.Core.List.{List, [], _∷_, _++_}
 use mathlib.Core.Bool.{true, false}
 use Prim.Native.Nat.{ℕ, _+_, _*_}
 use native.Mathlib.Omega.{arith}
@@ -16,7 +17,7 @@ use borrow.Author.Tests.{leb-true}
 use Rattle.book.specs.Basics.{has, without}
 use Rattle.book.specs.Causes.{number, firstNumber}
 use Rattle.book.specs.Book.{Call, edit, undo, add, lock, causes, editAnswer, edited, turned, undoAnswer, undone, answer, next, fresh, after}
-use Rattle.k2.specs.PairSets.{rowPairs, rowsPairs, listed, union, transpose, most, serves, product, over, closure, diagonal}
+use Rattle.k2.specs.PairSets.{rowPairs, rowsPairs, listed, union, transpose, most, serves, product, via, closure, diagonal}
 use Rattle.k2.specs.Trees.{rise, height, treeUnit}
 use Rattle.paths.specs.Expressions.{Expr, symbol, letter, sequence, standsFor, letters, depth}
 use Rattle.paths.specs.Grammar.{Verdict, accepted, long, outside, Judged, verdictCause}
@@ -30,7 +31,8 @@ use Rattle.paths.specs.ChainOrder.{before}
 use Rattle.paths.specs.Acceptance.{parted, many, accepts}
 use Rattle.paths.specs.FirstChain.{reach, stepsBelow, before-each, after-each, walks, walksTo, end, best, firstTo, chainTo, chain-first}
 use Rattle.report.specs.Report.{bytes, figures, decimal, pairLine, labelLetter, senseSign, stepLine, lines, counted, okText, refusedText, pairsText, chainText, answerText, outcomeText}
-use Rattle.session.specs.Program.{minFrame, maxFrame, number16, twoBytes, frameOf, linkIn, decode, Session, unopened, openAnswer, nextSession, Right, printed, frameIn, Run, framed, ended, lone-byte}
+use Rattle.session.specs.Program.{programWords, minFrame, maxFrame, number16, twoBytes, frameOf, linkIn, decode, Session, unopened, openAnswer, nextSession, Right, printed, listLeft, frameIn, Run, framed, ended, lone-byte}
+use Rattle.session.specs.ProgramLaws.{length-left}
 
 unfoldable pub input : List ℕ
 input =
@@ -47,13 +49,23 @@ input =
 unfoldable pub output : List ℕ
 output = bytes "ok\nok\nok\nok\nrefused 4\npairs 4\n0 0\n0 2\n2 0\n2 2\nok\nok\nchain 2\na + 1\nb + 3\n"
 
+abbrev pub Prints : Session → List ℕ → List ℕ → Type 0
+Prints s i o = (l : List ℕ) → length l ≡ programWords → (s′ : Session) × (l′ : List ℕ) × Run programWords s l i o s′ l′
+
 -- one frame more
 by : {s : Session} {a b : ℕ} {i : List ℕ} (o : List ℕ) (v : Verdict) (t : Reply)
     → leb minFrame (a + 256 * b) ≡ true → leb (a + 256 * b) maxFrame ≡ true → leb (a + 256 * b) (length i) ≡ true
     → Right s (frameIn (a + 256 * b) i) v t
-    → Run 4096 4096 (nextSession s (frameIn (a + 256 * b) i)) (drop (a + 256 * b) i) o
-    → Run 4096 4096 s (a ∷ b ∷ i) (printed 4096 4096 s (frameIn (a + 256 * b) i) v t ++ o)
-by {s} {a} {b} {i} o v t h k l r rest = framed v t (leb-true _ _ h) (leb-true _ _ k) (leb-true _ _ l) r rest
+    → Prints (nextSession s (frameIn (a + 256 * b) i)) (drop (a + 256 * b) i) o
+    → Prints s (a ∷ b ∷ i) (printed programWords programWords s (frameIn (a + 256 * b) i) v t ++ o)
+by {s} {a} {b} {i} o v t h k m r rest l e =
+    let f = frameIn (a + 256 * b) i in
+    let x = rest (listLeft programWords l s f v t) (length-left programWords l s f v t ∙ e) in (
+      x .0,
+      x .1,
+      subst (λ (room : ℕ). Run programWords s l (a ∷ b ∷ i) (printed programWords room s f v t ++ o) (x .0) (x .1)) e
+          (framed {a = a} {b = b} {i = i} v t (leb-true _ _ h) (leb-true _ _ k) (leb-true _ _ m) r (x .2)),
+    )
 
 -- the register's history in the sample, and the chain that it asks for in the end
 abbrev link : ℕ → ℕ → ℕ → Call
@@ -84,8 +96,8 @@ last-right : Judged (bytes "a/b") (verdict (bytes "a/b")) × ReplyTo (asked (aft
 unfolding bytes verdict readAlternatives alternativesIn letters depth
 last-right = (verdict-right (bytes "a/b"), asked-last)
 
-pub sample : Run 4096 4096 unopened input output
-unfolding input output twoBytes frameOf bytes number16 linkIn decode openAnswer nextSession printed answerText outcomeText okText refusedText pairsText chainText counted lines pairLine stepLine labelLetter senseSign decimal figures number firstNumber causes editAnswer edited turned undoAnswer undone answer next fresh after has without verdict readAlternatives alternativesIn letters depth verdictCause standsFor asked most crossed zeroSteps diagonal transpose union serves product over closure cells rowPairs rowsPairs listed pairs pairsOf pairsCauses pairsAnswer steps stepWords chainCauses chainAnswer rise height treeUnit
+pub sample : Prints unopened input output
+unfolding input output twoBytes frameOf bytes number16 linkIn decode openAnswer nextSession printed answerText outcomeText okText refusedText pairsText chainText counted lines pairLine stepLine labelLetter senseSign decimal figures number firstNumber causes editAnswer edited turned undoAnswer undone answer next fresh after has without verdict readAlternatives alternativesIn letters depth verdictCause standsFor asked most crossed zeroSteps diagonal transpose union serves product via closure cells rowPairs rowsPairs listed pairs pairsOf pairsCauses pairsAnswer steps stepWords chainCauses chainAnswer rise height treeUnit
 sample =
     by (drop 3 output) long none refl refl refl tt
     (by (drop 6 output) long none refl refl refl tt
@@ -96,7 +108,7 @@ sample =
     (by (drop 49 output) long none refl refl refl tt
     (by (drop 52 output) long none refl refl refl tt
     (by [] (verdict (bytes "a/b")) (chain (stepWords steps-found)) refl refl refl last-right
-    ended))))))))
+    (λ l e. (_, l, ended))))))))))
 
 unfoldable pub faults : List ℕ
 faults =
@@ -132,7 +144,7 @@ none-asked : Judged [] (verdict []) × ReplyTo (asked (fresh 64)) (verdict []) 0
 unfolding verdict readAlternatives alternativesIn
 none-asked = (verdict-right [], λ e h. absurd (outside-none e h))
 
-pub refused-run : Run 4096 4096 unopened faults refusals
+pub refused-run : Prints unopened faults refusals
 unfolding faults refusals twoBytes frameOf bytes number16 linkIn decode openAnswer nextSession printed answerText outcomeText okText refusedText counted decimal figures number firstNumber causes editAnswer edited turned undoAnswer undone answer next fresh has without verdict readAlternatives alternativesIn letters depth verdictCause asked pairsOf pairsCauses pairsAnswer steps chainCauses chainAnswer
 refused-run =
     by (drop 11 refusals) long none refl refl refl tt
@@ -154,4 +166,4 @@ refused-run =
     (by (drop 154 refusals) long none refl refl refl tt
     (by (drop 164 refusals) (verdict []) none refl refl refl none-asked
     (by (drop 175 refusals) long none refl refl refl tt
-    lone-byte))))))))))))))))))
+    (λ l e. (_, l, lone-byte))))))))))))))))))))

@@ -1,39 +1,40 @@
 -- Laws of the program.
 --   Steady s        the session's book, if any, is sound and has at most 64 records; so from the start, after every frame
+--   length-left     a frame leaves the list as long as it was
 --   right-exists    every frame has a verdict and a reply, so that what it prints is always said
 --   pairs-answered, chain-answered
 --                   with 4,096 words of work and list, a question whose expression and records are accepted is not refused: 12 and 13 never come
 -- Assumes nothing.
-use mathlib.Core.Path.{_≡_, refl, sym, ap, subst, _∙_}
+use mathlib.Core.Path.{_≡_, refl, ap, subst}
 use mathlib.Core.List.{List, [], _∷_, _++_}
-use mathlib.Core.Bool.{Bool, true, false, _||_}
-use Prim.Native.Nat.{ℕ, zero, suc, _+_, _-_, _*_, _/_, _^_, _≤_, _<_}
+use mathlib.Core.Bool.{Bool, false, _||_}
+use Prim.Native.Nat.{ℕ, zero, suc, _+_, _-_, _*_, _^_, _≤_, _<_}
 use native.Mathlib.Nat.{suc-mul, mul-le-mul}
 use native.Mathlib.Decide.{decLt}
 use native.Mathlib.Omega.{arith}
 use lib.Pow.{pow-mono}
-use lib.ListN.{length, length-append}
+use lib.ListN.{length, drop, length-append, length-drop}
 use lib.Dec.{ltb, leb, eqb}
-use borrow.Author.Tests.{le-ltb, lt-leb}
+use borrow.Author.Tests.{le-ltb, lt-leb, ltb-false}
 use Rattle.book.specs.Basics.{pick}
-use Rattle.book.specs.Causes.{number, firstNumber}
+use Rattle.book.specs.Causes.{Cause, no-record, short-work, short-list, number, firstNumber}
 use Rattle.book.specs.Book.{Book, fresh}
 use Rattle.book.specs.Sheets.{Sound}
-use Rattle.book.specs.BookLaws.{next-sound, fresh-sound}
+use Rattle.book.specs.BookLaws.{first-none, next-sound, fresh-sound}
 use Rattle.k2.specs.PairSets.{Cells, pairWord, ifSet, rowPairs, rowsPairs, listed}
 use Rattle.k2.specs.Trees.{height, treeUnit}
 use Rattle.k2.specs.HeightLaws.{height-is}
 use Rattle.paths.specs.Expressions.{Expr, letters}
-use Rattle.paths.specs.Grammar.{Verdict, accepted, long, outside, large, Judged, verdictCause}
-use Rattle.paths.specs.Chains.{Graph, asked, Reply, none, chain, ChainIs, no-chain, first-chain, stepWords}
+use Rattle.paths.specs.Grammar.{Verdict, accepted, long, outside, large, verdictCause}
+use Rattle.paths.specs.Chains.{asked, Reply, none, chain, ChainIs, first-chain, stepWords}
 use Rattle.paths.specs.Relations.{pairs, cells}
-use Rattle.paths.specs.Questions.{paired, replied, unless, pairsOf, pairsCauses, pairsAnswer, steps, ReplyTo, chainCauses, chainAnswer}
+use Rattle.paths.specs.Questions.{paired, replied, unless, pairsWork, chainWork, pairsOf, pairsCauses, pairsAnswer, steps, ReplyTo, chainCauses, chainAnswer, over, listAfter}
 use Rattle.paths.specs.Verdicts.{verdict, verdict-right}
 use Rattle.paths.specs.PairLaws.{fit-inside}
 use Rattle.paths.specs.FirstChain.{reply}
 use Rattle.automaton.specs.WalkLaws.{length-stepWords}
 use Rattle.automaton.specs.ShortChains.{chains-63}
-use Rattle.session.specs.Program.{programRecords, Request, Frame, asks, faulty, opening, call, pairs as pairs-asked, chain as chain-asked, Session, unopened, opened, openAnswer, nextSession, Right}
+use Rattle.session.specs.Program.{programRecords, programWords, Frame, asks, faulty, opening, call, pairs as pairs-asked, chain as chain-asked, Session, unopened, opened, openAnswer, nextSession, Right, listLeft}
 use Rattle.session.specs.TurnLaws.{open-none, open-many, open-fine, next-size}
 
 -- ---- at most n × n pairs
@@ -56,7 +57,7 @@ unfolding listed
 listed-length n a = rows-length a n n
 
 -- ---- the tree of at most 64 records
-small-tree : (n : ℕ) → n ≤ 64 → treeUnit n ≤ 86
+small-tree : (n : ℕ) → n ≤ programRecords → treeUnit n ≤ 86
 unfolding treeUnit
 small-tree n h =
     let low : height n ≤ 6 = height-is n .2 6 (omega arith) h in
@@ -72,7 +73,7 @@ Steady (opened b) = Sound b × (b .n ≤ programRecords)
 pub start-steady : Steady unopened
 start-steady = tt
 
-open-steady : (n : ℕ) (s : Session) → Steady s → Dec (n < 1) → Dec (64 < n) → Steady (pick (eqb (openAnswer n) 0) (opened (fresh n)) s)
+open-steady : (n : ℕ) (s : Session) → Steady s → Dec (n < 1) → Dec (programRecords < n) → Steady (pick (eqb (openAnswer n) 0) (opened (fresh n)) s)
 unfolding number fresh
 open-steady n s h (yes i) k = rw (open-none n i) h
 open-steady n s h (no i) (yes k) = rw (open-many n (omega arith) k) h
@@ -81,11 +82,50 @@ open-steady n s h (no i) (no k) = rw (open-fine n (omega arith) (omega arith)) (
 pub next-steady : (s : Session) (f : Frame) → Steady s → Steady (nextSession s f)
 unfolding nextSession
 next-steady s (faulty c) h = h
-next-steady s (asks (opening n)) h = open-steady n s h (decLt n 1) (decLt 64 n)
+next-steady s (asks (opening n)) h = open-steady n s h (decLt n 1) (decLt programRecords n)
 next-steady unopened (asks (call c)) h = tt
 next-steady (opened b) (asks (call c)) h = (next-sound b c (h .0), rw (next-size b c) (h .1))
 next-steady s (asks (pairs-asked u)) h = h
 next-steady s (asks (chain-asked x y u)) h = h
+
+-- ---- a frame leaves the list as long as it was
+length-over : (ws l : List ℕ) → length ws ≤ length l → length (over ws l) ≡ length l
+length-over ws l h = omega (arith, length-append ws (drop (length ws) l), length-drop (length ws) l)
+
+length-pairs : (k : ℕ) (ws l : List ℕ) → (k ≡ 0 → length ws ≤ length l) → length (listAfter (unless k (paired ws)) l) ≡ length l
+unfolding listAfter
+length-pairs zero ws l h = length-over ws l (h refl)
+length-pairs (suc k) ws l h = refl
+
+length-reply : (k : ℕ) (t : Reply) (l : List ℕ) → (k ≡ 0 → length (steps t) ≤ length l) → length (listAfter (unless k (replied t)) l) ≡ length l
+unfolding listAfter
+length-reply zero t l h = length-over (steps t) l (h refl)
+length-reply (suc k) t l h = refl
+
+-- with no cause, the answer is within the room
+room-enough : (v : Verdict) (c d : Cause) (short : Bool) (k room : ℕ) → firstNumber (verdictCause v ++ ((c, short) ∷ (d, ltb room k) ∷ [])) ≡ 0 → k ≤ room
+unfolding verdictCause firstNumber number
+room-enough (accepted e) c d short k room h = ltb-false _ _ (first-none d (ltb room k) [] (first-none c short ((d, ltb room k) ∷ []) h .1) .0)
+room-enough long c d short k room h = absurd (omega arith)
+room-enough outside c d short k room h = absurd (omega arith)
+room-enough large c d short k room h = absurd (omega arith)
+
+pub length-left : (work : ℕ) (l : List ℕ) (s : Session) (f : Frame) (v : Verdict) (t : Reply) → length (listLeft work l s f v t) ≡ length l
+unfolding listLeft pairsAnswer pairsCauses chainAnswer chainCauses
+length-left work l unopened (faulty c) v t = refl
+length-left work l unopened (asks (opening n)) v t = refl
+length-left work l unopened (asks (call c)) v t = refl
+length-left work l unopened (asks (pairs-asked u)) v t = refl
+length-left work l unopened (asks (chain-asked x y u)) v t = refl
+length-left work l (opened b) (faulty c) v t = refl
+length-left work l (opened b) (asks (opening n)) v t = refl
+length-left work l (opened b) (asks (call c)) v t = refl
+length-left work l (opened b) (asks (pairs-asked u)) v t =
+    length-pairs (firstNumber (pairsCauses b v work (length l))) (pairsOf b v) l
+    (room-enough v short-work short-list (ltb work (pairsWork (b .n))) (length (pairsOf b v)) (length l))
+length-left work l (opened b) (asks (chain-asked x y u)) v t =
+    length-reply (firstNumber (chainCauses b x y v t work (length l))) t l
+    (λ h. room-enough v short-work short-list (ltb work (chainWork (b .n))) (length (steps t)) (length l) (first-none no-record (leb (b .n) x || leb (b .n) y) _ h .1))
 
 -- ---- every frame has a verdict and a reply
 same-expression : (e f : Expr) → accepted e ≡ accepted f → e ≡ f
@@ -110,22 +150,22 @@ right-exists (opened b) (asks (chain-asked x y u)) h =
     (verdict u, r .0, (verdict-right u, r .1))
 
 -- ---- with 4,096 words each, no question is refused for room
-pub pairs-answered : (b : Book) (e : Expr) → b .n ≤ programRecords → pairsAnswer b (accepted e) 4096 4096 ≡ paired (pairs (asked b) e)
+pub pairs-answered : (b : Book) (e : Expr) → b .n ≤ programRecords → pairsAnswer b (accepted e) programWords programWords ≡ paired (pairs (asked b) e)
 unfolding pairsAnswer pairsCauses pairsOf pairs asked verdictCause firstNumber
 pairs-answered b e h =
     let square : b .n * b .n ≤ 64 * 64 = mul-le-mul h h in
-    let few : length (listed (b .n) (cells (asked b) e)) ≤ 4096 = omega (arith, listed-length (b .n) (cells (asked b) e)) in
-    let work : 32 * treeUnit (b .n) ≤ 4096 = omega (arith, small-tree (b .n) h) in
-    rw (le-ltb 4096 (32 * treeUnit (b .n)) work, le-ltb 4096 (length (listed (b .n) (cells (asked b) e))) few)
+    let few : length (listed (b .n) (cells (asked b) e)) ≤ programWords = omega (arith, listed-length (b .n) (cells (asked b) e)) in
+    let work : 32 * treeUnit (b .n) ≤ programWords = omega (arith, small-tree (b .n) h) in
+    rw (le-ltb programWords (32 * treeUnit (b .n)) work, le-ltb programWords (length (listed (b .n) (cells (asked b) e))) few)
 
-steps-few : (b : Book) → Sound b → b .n ≤ programRecords → (e : Expr) → letters e ≤ 63 → (x y : ℕ) (t : Reply) → ChainIs (asked b) e x y t → length (steps t) ≤ 4096
+steps-few : (b : Book) → Sound b → b .n ≤ programRecords → (e : Expr) → letters e ≤ 63 → (x y : ℕ) (t : Reply) → ChainIs (asked b) e x y t → length (steps t) ≤ programWords
 unfolding steps asked
 steps-few b h m e l x y none r = omega arith
 steps-few b h m e l x y (chain ws) (first-chain ss f) = omega (arith, length-stepWords ss, chains-63 (asked b) (fit-inside b (h .sheet)) e l x y ss f)
 
 pub chain-answered : (b : Book) → Sound b → b .n ≤ programRecords → (e : Expr) → letters e ≤ 63 → (x y : ℕ) → x < b .n → y < b .n → (t : Reply) → ChainIs (asked b) e x y t
-    → chainAnswer b x y (accepted e) t 4096 4096 ≡ replied t
+    → chainAnswer b x y (accepted e) t programWords programWords ≡ replied t
 unfolding chainAnswer chainCauses verdictCause firstNumber
 chain-answered b h m e l x y i j t r =
-    let work : 64 * b .n ≤ 4096 = omega arith in
-    rw (lt-leb (b .n) x i, lt-leb (b .n) y j, le-ltb 4096 (64 * b .n) work, le-ltb 4096 (length (steps t)) (steps-few b h m e l x y t r))
+    let work : 64 * b .n ≤ programWords = omega arith in
+    rw (lt-leb (b .n) x i, lt-leb (b .n) y j, le-ltb programWords (64 * b .n) work, le-ltb programWords (length (steps t)) (steps-few b h m e l x y t r))

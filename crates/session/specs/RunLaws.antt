@@ -1,6 +1,6 @@
--- A run is determined: for every input there is one output, and only one.
---   run-exists      there is an output
---   run-only        there is no other
+-- A run is determined: for every session, list and input there is one output, one session and one list at the end, and only one.
+--   run-exists      there are such
+--   run-only        there are no others
 --   framed-as       a turn of a run, if it is known which frame stands in the bytes and what follows it
 -- Assumes nothing.
 use mathlib.Core.Path.{_≡_, refl, sym, ap, ap₂, subst, _∙_}
@@ -15,94 +15,120 @@ use lib.Dec.{leb}
 use Rattle.book.specs.Basics.{pick}
 use Rattle.book.specs.Causes.{number, firstNumber}
 use Rattle.book.specs.Book.{Book}
-use Rattle.paths.specs.Grammar.{Verdict, accepted, long, outside, large, verdictCause}
+use Rattle.paths.specs.Grammar.{Verdict, accepted, long, outside, large, Judged, verdictCause}
 use Rattle.paths.specs.Chains.{asked, Reply}
-use Rattle.paths.specs.Questions.{Outcome, unless, replied, pairsAnswer, ReplyTo, chainCauses, chainAnswer}
+use Rattle.paths.specs.Questions.{Outcome, unless, replied, pairsAnswer, ReplyTo, chainCauses, chainAnswer, listAfter}
 use Rattle.paths.specs.Verdicts.{verdict-only}
 use Rattle.paths.specs.FirstChain.{reply-only}
 use Rattle.report.specs.Report.{outcomeText}
-use Rattle.session.specs.Program.{minFrame, maxFrame, Frame, asks, faulty, opening, call, pairs, chain, Session, unopened, opened, nextSession, Right, printed, frameIn, Run, ended, lone-byte, bad-length, cut, framed}
+use Rattle.session.specs.Program.{minFrame, maxFrame, Frame, asks, faulty, opening, call, pairs, chain, Session, unopened, opened, nextSession, Right, printed, listLeft, frameIn, Run, ended, lone-byte, bad-length, cut, framed}
 use Rattle.session.specs.ProgramLaws.{Steady, next-steady, right-exists}
 
-module _ (work room : ℕ) where
-  -- there is an output for the inputs of at most k bytes
+module _ (work : ℕ) where
+  abbrev Results : Session → List ℕ → List ℕ → Type 0
+  Results s l i = (o : List ℕ) × (s′ : Session) × (l′ : List ℕ) × Run work s l i o s′ l′
+
+  -- there are such for the inputs of at most k bytes
   abbrev Outputs : ℕ → Type 0
-  Outputs k = (s : Session) → Steady s → (i : List ℕ) → length i ≤ k → (o : List ℕ) × Run work room s i o
+  Outputs k = (s : Session) → Steady s → (l i : List ℕ) → length i ≤ k → Results s l i
 
   one-more : (k : ℕ) → Outputs k → Outputs (suc k)
-  one-more k outputs s h [] l = ([], ended)
-  one-more k outputs s h (a ∷ []) l = (_, lone-byte)
-  one-more k outputs s h (a ∷ b ∷ i) l = go (decLt (a + 256 * b) minFrame) (decLt maxFrame (a + 256 * b)) (decLt (length i) (a + 256 * b))
+  one-more k outputs s h l [] m = ([], s, l, ended)
+  one-more k outputs s h l (a ∷ []) m = (_, s, l, lone-byte)
+  one-more k outputs s h l (a ∷ b ∷ i) m = go (decLt (a + 256 * b) minFrame) (decLt maxFrame (a + 256 * b)) (decLt (length i) (a + 256 * b))
     where
-      go : Dec (a + 256 * b < minFrame) → Dec (maxFrame < a + 256 * b) → Dec (length i < a + 256 * b) → (o : List ℕ) × Run work room s (a ∷ b ∷ i) o
-      go (yes p) q r = (_, bad-length (inl p))
-      go (no p) (yes q) r = (_, bad-length (inr q))
-      go (no p) (no q) (yes r) = (_, cut r)
+      go : Dec (a + 256 * b < minFrame) → Dec (maxFrame < a + 256 * b) → Dec (length i < a + 256 * b) → Results s l (a ∷ b ∷ i)
+      go (yes p) q r = (_, s, l, bad-length (inl p))
+      go (no p) (yes q) r = (_, s, l, bad-length (inr q))
+      go (no p) (no q) (yes r) = (_, s, l, cut r)
       go (no p) (no q) (no r) =
           let f = frameIn (a + 256 * b) i in
           let t = right-exists s f h in
-          let more = outputs (nextSession s f) (next-steady s f h) (drop (a + 256 * b) i) (omega (arith, length-drop (a + 256 * b) i)) in
-          (_, framed {a = a} {b = b} {i = i} (t .0) (t .1) (omega arith) (omega arith) (omega arith) (t .2) (more .1))
+          let more = outputs (nextSession s f) (next-steady s f h) (listLeft work l s f (t .0) (t .1)) (drop (a + 256 * b) i) (omega (arith, length-drop (a + 256 * b) i)) in
+          (_, more .1, more .2, framed {a = a} {b = b} {i = i} (t .0) (t .1) (omega arith) (omega arith) (omega arith) (t .2) (more .3))
 
   outputs : (k : ℕ) → Outputs k
-  outputs zero s h [] l = ([], ended)
-  outputs zero s h (a ∷ i) l = absurd (omega arith)
-  outputs (suc k) s h i l = one-more k (outputs k) s h i l
+  outputs zero s h l [] m = ([], s, l, ended)
+  outputs zero s h l (a ∷ i) m = absurd (omega arith)
+  outputs (suc k) s h l i m = one-more k (outputs k) s h l i m
 
-  pub run-exists : (s : Session) → Steady s → (i : List ℕ) → (o : List ℕ) × Run work room s i o
-  run-exists s h i = outputs (length i) s h i (omega arith)
+  pub run-exists : (s : Session) → Steady s → (l i : List ℕ) → Results s l i
+  run-exists s h l i = outputs (length i) s h l i (omega arith)
 
   -- a refusal for the text does not depend on the reply
   text-refused : (records : Bool) (k : ℕ) (o p : Outcome) → unless (pick records 2 (suc k)) o ≡ unless (pick records 2 (suc k)) p
   text-refused true k o p = refl
   text-refused false k o p = refl
 
-  -- what a frame prints is the same for every verdict and reply that are right
-  chain-only : (b : Book) (x y : ℕ) (v : Verdict) (t u : Reply) → ReplyTo (asked b) v x y t → ReplyTo (asked b) v x y u → chainAnswer b x y v t work room ≡ chainAnswer b x y v u work room
-  unfolding chainAnswer chainCauses verdictCause firstNumber number
-  chain-only b x y (accepted e) t u h k = ap (λ (r : Reply). chainAnswer b x y (accepted e) r work room) (reply-only (h e refl) (k e refl))
-  chain-only b x y long t u h k = text-refused (leb (b .n) x || leb (b .n) y) 9 (replied t) (replied u)
-  chain-only b x y outside t u h k = text-refused (leb (b .n) x || leb (b .n) y) 8 (replied t) (replied u)
-  chain-only b x y large t u h k = text-refused (leb (b .n) x || leb (b .n) y) 9 (replied t) (replied u)
+  -- the outcome of a question is the same for every verdict and reply that are right
+  pairs-only : (room : ℕ) (b : Book) (u : List ℕ) (v w : Verdict) → Judged u v → Judged u w → pairsAnswer b v work room ≡ pairsAnswer b w work room
+  pairs-only room b u v w h k = ap (λ (d : Verdict). pairsAnswer b d work room) (verdict-only h ∙ sym (verdict-only k))
 
-  printed-only : (s : Session) (f : Frame) (v w : Verdict) (t u : Reply) → Right s f v t → Right s f w u → printed work room s f v t ≡ printed work room s f w u
-  unfolding printed
-  printed-only unopened (faulty c) v w t u h k = refl
-  printed-only unopened (asks (opening n)) v w t u h k = refl
-  printed-only unopened (asks (call c)) v w t u h k = refl
-  printed-only unopened (asks (pairs e)) v w t u h k = refl
-  printed-only unopened (asks (chain x y e)) v w t u h k = refl
-  printed-only (opened b) (faulty c) v w t u h k = refl
-  printed-only (opened b) (asks (opening n)) v w t u h k = refl
-  printed-only (opened b) (asks (call c)) v w t u h k = refl
-  printed-only (opened b) (asks (pairs e)) v w t u h k = ap (λ (d : Verdict). outcomeText (pairsAnswer b d work room)) (verdict-only h ∙ sym (verdict-only k))
-  printed-only (opened b) (asks (chain x y e)) v w t u h k =
+  reply-same : (room : ℕ) (b : Book) (x y : ℕ) (v : Verdict) (t u : Reply) → ReplyTo (asked b) v x y t → ReplyTo (asked b) v x y u
+      → chainAnswer b x y v t work room ≡ chainAnswer b x y v u work room
+  unfolding chainAnswer chainCauses verdictCause firstNumber number
+  reply-same room b x y (accepted e) t u h k = ap (λ (r : Reply). chainAnswer b x y (accepted e) r work room) (reply-only (h e refl) (k e refl))
+  reply-same room b x y long t u h k = text-refused (leb (b .n) x || leb (b .n) y) 9 (replied t) (replied u)
+  reply-same room b x y outside t u h k = text-refused (leb (b .n) x || leb (b .n) y) 8 (replied t) (replied u)
+  reply-same room b x y large t u h k = text-refused (leb (b .n) x || leb (b .n) y) 9 (replied t) (replied u)
+
+  chain-only : (room : ℕ) (b : Book) (x y : ℕ) (e : List ℕ) (v w : Verdict) (t u : Reply) → Judged e v × ReplyTo (asked b) v x y t → Judged e w × ReplyTo (asked b) w x y u
+      → chainAnswer b x y v t work room ≡ chainAnswer b x y w u work room
+  chain-only room b x y e v w t u h k =
       let same = verdict-only (h .0) ∙ sym (verdict-only (k .0)) in
-      ap outcomeText
-      (ap (λ (d : Verdict). chainAnswer b x y d t work room) same
-      ∙ chain-only b x y w t u (subst (λ (d : Verdict). ReplyTo (asked b) d x y t) same (h .1)) (k .1))
+      ap (λ (d : Verdict). chainAnswer b x y d t work room) same
+      ∙ reply-same room b x y w t u (subst (λ (d : Verdict). ReplyTo (asked b) d x y t) same (h .1)) (k .1)
+
+  -- so are what a frame prints and the list that it leaves
+  abbrev Same : List ℕ → Session → Frame → Verdict → Verdict → Reply → Reply → Type 0
+  Same l s f v w t u = (printed work (length l) s f v t ≡ printed work (length l) s f w u) × (listLeft work l s f v t ≡ listLeft work l s f w u)
+
+  frame-only : (l : List ℕ) (s : Session) (f : Frame) (v w : Verdict) (t u : Reply) → Right s f v t → Right s f w u → Same l s f v w t u
+  unfolding printed listLeft
+  frame-only l unopened (faulty c) v w t u h k = (refl, refl)
+  frame-only l unopened (asks (opening n)) v w t u h k = (refl, refl)
+  frame-only l unopened (asks (call c)) v w t u h k = (refl, refl)
+  frame-only l unopened (asks (pairs e)) v w t u h k = (refl, refl)
+  frame-only l unopened (asks (chain x y e)) v w t u h k = (refl, refl)
+  frame-only l (opened b) (faulty c) v w t u h k = (refl, refl)
+  frame-only l (opened b) (asks (opening n)) v w t u h k = (refl, refl)
+  frame-only l (opened b) (asks (call c)) v w t u h k = (refl, refl)
+  frame-only l (opened b) (asks (pairs e)) v w t u h k =
+      let same = pairs-only (length l) b e v w h k in
+      (ap outcomeText same, ap (λ (o : Outcome). listAfter o l) same)
+  frame-only l (opened b) (asks (chain x y e)) v w t u h k =
+      let same = chain-only (length l) b x y e v w t u h k in
+      (ap outcomeText same, ap (λ (o : Outcome). listAfter o l) same)
 
   fits : (a b : ℕ) → (a + 256 * b < minFrame) ⊎ (maxFrame < a + 256 * b) → minFrame ≤ a + 256 * b → a + 256 * b ≤ maxFrame → ⊥
   fits a b (inl p) h k = omega arith
   fits a b (inr p) h k = omega arith
 
-  pub run-only : {s : Session} {i o p : List ℕ} → Run work room s i o → Run work room s i p → o ≡ p
-  run-only ended ended = refl
-  run-only lone-byte lone-byte = refl
-  run-only (bad-length h) (bad-length k) = refl
-  run-only (bad-length h) (cut k) = refl
-  run-only (bad-length {a = a} {b = b} h) (framed v t j k l r m) = absurd (fits a b h j k)
-  run-only (cut h) (bad-length k) = refl
-  run-only (cut h) (cut k) = refl
-  run-only (cut h) (framed v t j k l r m) = absurd (omega arith)
-  run-only (framed v t j k l r m) (bad-length {a = a} {b = b} h) = absurd (fits a b h j k)
-  run-only (framed v t j k l r m) (cut h) = absurd (omega arith)
-  run-only (framed {s = s} {a = a} {b = b} {i = i} v t j k l r m) (framed w u j′ k′ l′ r′ m′) =
-      ap₂ (λ (x y : List ℕ). x ++ y) (printed-only s (frameIn (a + 256 * b) i) v w t u r r′) (run-only m m′)
+  -- two runs from lists that are the same
+  only : {s s′ t : Session} {l l′ m m′ i o p : List ℕ} → l ≡ m → Run work s l i o s′ l′ → Run work s m i p t m′ → (o ≡ p) × (s′ ≡ t) × (l′ ≡ m′)
+  only e ended ended = (refl, refl, e)
+  only e lone-byte lone-byte = (refl, refl, e)
+  only e (bad-length h) (bad-length k) = (refl, refl, e)
+  only e (bad-length h) (cut k) = (refl, refl, e)
+  only e (bad-length {a = a} {b = b} h) (framed v t j k x r q) = absurd (fits a b h j k)
+  only e (cut h) (bad-length k) = (refl, refl, e)
+  only e (cut h) (cut k) = (refl, refl, e)
+  only e (cut h) (framed v t j k x r q) = absurd (omega arith)
+  only e (framed v t j k x r q) (bad-length {a = a} {b = b} h) = absurd (fits a b h j k)
+  only e (framed v t j k x r q) (cut h) = absurd (omega arith)
+  only e (framed {s = s} {l = l} {a = a} {b = b} {i = i} v t j k x r q) (framed {l = m} w u j′ k′ x′ r′ q′) =
+      let f = frameIn (a + 256 * b) i in
+      let same = frame-only l s f v w t u r r′ in
+      let rest = only (same .1 ∙ ap (λ (d : List ℕ). listLeft work d s f w u) e) q q′ in
+      (ap₂ (λ (c d : List ℕ). c ++ d) (same .0 ∙ ap (λ (d : List ℕ). printed work (length d) s f w u) e) (rest .0), rest .1, rest .2)
 
-  pub framed-as : {s : Session} (a b : ℕ) (i j o : List ℕ) (f : Frame) (v : Verdict) (t : Reply) → frameIn (a + 256 * b) i ≡ f → drop (a + 256 * b) i ≡ j
-      → minFrame ≤ a + 256 * b → a + 256 * b ≤ maxFrame → a + 256 * b ≤ length i → Right s f v t → Run work room (nextSession s f) j o
-      → Run work room s (a ∷ b ∷ i) (printed work room s f v t ++ o)
-  framed-as {s} a b i j o f v t e d h k l =
-      subst (λ (g : Frame). Right s g v t → Run work room (nextSession s g) j o → Run work room s (a ∷ b ∷ i) (printed work room s g v t ++ o)) e
-      (λ r m. framed {a = a} {b = b} {i = i} v t h k l r (subst (λ (x : List ℕ). Run work room (nextSession s (frameIn (a + 256 * b) i)) x o) (sym d) m))
+  pub run-only : {s s′ t : Session} {l l′ m i o p : List ℕ} → Run work s l i o s′ l′ → Run work s l i p t m → (o ≡ p) × (s′ ≡ t) × (l′ ≡ m)
+  run-only q r = only refl q r
+
+  pub framed-as : {s s′ : Session} {l l′ : List ℕ} (a b : ℕ) (i j o : List ℕ) (f : Frame) (v : Verdict) (t : Reply) → frameIn (a + 256 * b) i ≡ f → drop (a + 256 * b) i ≡ j
+      → minFrame ≤ a + 256 * b → a + 256 * b ≤ maxFrame → a + 256 * b ≤ length i → Right s f v t → Run work (nextSession s f) (listLeft work l s f v t) j o s′ l′
+      → Run work s l (a ∷ b ∷ i) (printed work (length l) s f v t ++ o) s′ l′
+  framed-as {s} {s′} {l} {l′} a b i j o f v t e d h k x =
+      subst (λ (g : Frame). Right s g v t → Run work (nextSession s g) (listLeft work l s g v t) j o s′ l′ → Run work s l (a ∷ b ∷ i) (printed work (length l) s g v t ++ o) s′ l′) e
+      (λ r m. framed {a = a} {b = b} {i = i} v t h k x r
+      (subst (λ (c : List ℕ). Run work (nextSession s (frameIn (a + 256 * b) i)) (listLeft work l s (frameIn (a + 256 * b) i) v t) c o s′ l′) (sym d) m))

@@ -2,27 +2,27 @@
 -- Assumes nothing.
 use mathlib.Core.Path.{_≡_, refl, sym, ap, subst, _∙_}
 use mathlib.Core.List.{List, [], _∷_}
-use mathlib.Core.Bool.{Bool, true, false, _||_}
+use mathlib.Core.Bool.{Bool, true, false}
 use Prim.Native.Nat.{ℕ, zero, suc, _-_, _≤_, _<_}
 use native.Mathlib.Omega.{arith}
 use lib.ListN.{length, take, drop, length-drop}
 use lib.Seq.{take-all}
-use lib.Dec.{ltb, eqb}
+use lib.Dec.{ltb}
 use borrow.Author.Tests.{lt-ltb, le-ltb}
-use Rattle.book.specs.Causes.{Cause, bad-size, not-open, number}
+use Rattle.book.specs.Causes.{Cause, bad-size, not-open, number, firstNumber, maxRecords}
 use Rattle.book.specs.Book.{Book, Sheet, Call, edit, undo, turned, undone, editAnswer, edited, answer, next, freshAnswer, fresh}
 use Rattle.paths.specs.Grammar.{Verdict}
 use Rattle.paths.specs.Chains.{asked, Reply}
-use Rattle.paths.specs.Questions.{Outcome, pairsAnswer, ReplyTo, chainAnswer}
+use Rattle.paths.specs.Questions.{Outcome, pairsAnswer, ReplyTo, chainAnswer, listAfter}
 use Rattle.paths.specs.Verdicts.{verdict, verdict-only}
 use Rattle.register.specs.declared.Outcome.{Outcome as Told}
 use Rattle.register.specs.Calls.{answerNumber, Represents, Steps}
+use Rattle.register.specs.HistoryLaws.{number-answer}
 use Rattle.report.specs.Report.{refusedText, answerText, okText, outcomeText}
-use Rattle.report.specs.ReportLaws.{refused-text}
 use Rattle.report.specs.Written.{Wrote}
 use Rattle.report.specs.WrittenLaws.{wrote-as}
-use Rattle.session.specs.Program.{programRecords, Request, Frame, asks, faulty, opening, call, pairs, chain, Session, unopened, opened, openAnswer, nextSession, Right, printed}
-use Rattle.session.specs.Turns.{Holds, is-closed, is-open, room, Turns, Framing}
+use Rattle.session.specs.Program.{programRecords, Frame, asks, faulty, opening, call, pairs, chain, Session, unopened, opened, openAnswer, nextSession, Right, printed, listLeft}
+use Rattle.session.specs.Turns.{StateOf, is-closed, is-open, room, Spares, as-it-was, answered, Turns, Framing}
 use Rattle.session.specs.declared.State.{State}
 use Rattle.session.specs.declared.Framed.{Framed}
 
@@ -31,20 +31,20 @@ both-ways b h k = let z : _≡_ {A = ℕ} 0 1 = cc in omega arith
 
 -- ---- opening
 pub open-none : (n : ℕ) → n < 1 → openAnswer n ≡ number bad-size
-unfolding openAnswer number
+unfolding openAnswer firstNumber number
 open-none n h = rw (lt-ltb n 1 h)
 
-pub open-many : (n : ℕ) → 1 ≤ n → 64 < n → openAnswer n ≡ number bad-size
-unfolding openAnswer number
-open-many n h k = rw (le-ltb n 1 h, lt-ltb 64 n k)
+pub open-many : (n : ℕ) → 1 ≤ n → programRecords < n → openAnswer n ≡ number bad-size
+unfolding openAnswer firstNumber number
+open-many n h k = rw (le-ltb n 1 h, lt-ltb programRecords n k)
 
-pub open-fine : (n : ℕ) → 1 ≤ n → n ≤ 64 → openAnswer n ≡ 0
-unfolding openAnswer
-open-fine n h k = rw (le-ltb n 1 h, le-ltb 64 n k)
+pub open-fine : (n : ℕ) → 1 ≤ n → n ≤ programRecords → openAnswer n ≡ 0
+unfolding openAnswer firstNumber number
+open-fine n h k = rw (le-ltb n 1 h, le-ltb programRecords n k)
 
-pub fresh-fine : (n : ℕ) → 1 ≤ n → n ≤ 64 → freshAnswer n ≡ 0
-unfolding freshAnswer
-fresh-fine n h k = rw (le-ltb n 1 h, le-ltb 1024 n (omega arith))
+pub fresh-fine : (n : ℕ) → 1 ≤ n → n ≤ programRecords → freshAnswer n ≡ 0
+unfolding freshAnswer firstNumber number
+fresh-fine n h k = rw (le-ltb n 1 h, le-ltb maxRecords n (omega arith))
 
 -- ---- a call keeps n
 turned-size : (k : ℕ) (b : Book) (s : Sheet) → turned k b s .n ≡ b .n
@@ -63,87 +63,101 @@ next-size b (edit e) = turned-size (editAnswer (b .n) (b .sheet) e) b (edited e 
 next-size b undo = undone-size b (b .pile)
 
 -- ---- what a frame promises
-module _ (st : State) (work list : ℕ) (out out′ : List ℕ) (r : Framed) where
+module _ (st : State) (work : ℕ) (l l′ out out′ : List ℕ) (r : Framed) where
   -- a frame that says no request
-  pub faulty-turns : (c : Cause) → r .state ≡ st → Wrote 0 (refusedText (number c)) out out′ (r .written) → Turns st (faulty c) work list out out′ r
-  unfolding nextSession printed
-  faulty-turns c kept w = record { within = w .fits; next = λ s h. rw kept h; prints = λ s h v t q. w }
+  pub faulty-turns : (c : Cause) → r .state ≡ st → l′ ≡ l → Wrote 0 (refusedText (number c)) out out′ (r .written) → Turns st (faulty c) work l l′ out out′ r
+  unfolding nextSession printed listLeft
+  faulty-turns c kept same w = record { within = w .fits; spares = as-it-was same; next = λ s h. rw kept h; prints = λ s h v t q. w; list = λ s h v t q. same }
 
   -- any request but open while no register is opened
-  pub closed-turns : (f : Frame) → nextSession unopened f ≡ unopened → ((v : Verdict) (t : Reply) → printed work list unopened f v t ≡ refusedText (number not-open))
-      → st .opened ≡ false → r .state ≡ st → Wrote 0 (refusedText (number not-open)) out out′ (r .written) → Turns st f work list out out′ r
-  closed-turns f n p shut kept w = record { within = w .fits; next = after; prints = told }
+  pub closed-turns : (f : Frame) → nextSession unopened f ≡ unopened → ((v : Verdict) (t : Reply) → printed work (length l) unopened f v t ≡ refusedText (number not-open))
+      → ((v : Verdict) (t : Reply) → listLeft work l unopened f v t ≡ l)
+      → st .opened ≡ false → r .state ≡ st → l′ ≡ l → Wrote 0 (refusedText (number not-open)) out out′ (r .written) → Turns st f work l l′ out out′ r
+  closed-turns f n p k shut kept same w = record { within = w .fits; spares = as-it-was same; next = after; prints = told; list = left }
     where
-      after : (s : Session) → Holds st s → Holds (r .state) (nextSession s f)
+      after : (s : Session) → StateOf st s → StateOf (r .state) (nextSession s f)
       after unopened h = rw (n, kept) h
       after (opened b) (is-open up x m) = absurd (both-ways (st .opened) up shut)
 
-      told : (s : Session) → Holds st s → (v : Verdict) (t : Reply) → Right s f v t → Wrote 0 (printed work list s f v t) out out′ (r .written)
+      told : (s : Session) → StateOf st s → (v : Verdict) (t : Reply) → Right s f v t → Wrote 0 (printed work (length l) s f v t) out out′ (r .written)
       told unopened h v t q = rw (p v t) w
       told (opened b) (is-open up x m) v t q = absurd (both-ways (st .opened) up shut)
 
+      left : (s : Session) → StateOf st s → (v : Verdict) (t : Reply) → Right s f v t → l′ ≡ listLeft work l s f v t
+      left unopened h v t q = same ∙ sym (k v t)
+      left (opened b) (is-open up x m) v t q = absurd (both-ways (st .opened) up shut)
+
   -- a request while one is
-  pub open-turns : (f : Frame) → st .opened ≡ true → r .written ≤ length out
-      → ((b : Book) → Represents (st .register) b → b .n ≤ programRecords → Holds (r .state) (nextSession (opened b) f))
-      → ((b : Book) → Represents (st .register) b → b .n ≤ programRecords → (v : Verdict) (t : Reply) → Right (opened b) f v t → Wrote 0 (printed work list (opened b) f v t) out out′ (r .written))
-      → Turns st f work list out out′ r
-  open-turns f up inside n p = record { within = inside; next = after; prints = told }
+  pub open-turns : (f : Frame) → st .opened ≡ true → r .written ≤ length out → Spares l l′ out out′ (r .written)
+      → ((b : Book) → Represents (st .register) b → b .n ≤ programRecords → StateOf (r .state) (nextSession (opened b) f))
+      → ((b : Book) → Represents (st .register) b → (v : Verdict) (t : Reply) → Right (opened b) f v t
+      → Wrote 0 (printed work (length l) (opened b) f v t) out out′ (r .written) × (l′ ≡ listLeft work l (opened b) f v t))
+      → Turns st f work l l′ out out′ r
+  open-turns f up inside spared n p = record { within = inside; spares = spared; next = after; prints = λ s h v t q. told s h v t q .0; list = λ s h v t q. told s h v t q .1 }
     where
-      after : (s : Session) → Holds st s → Holds (r .state) (nextSession s f)
+      after : (s : Session) → StateOf st s → StateOf (r .state) (nextSession s f)
       after unopened (is-closed shut) = absurd (both-ways (st .opened) up shut)
       after (opened b) (is-open o x m) = n b x m
 
-      told : (s : Session) → Holds st s → (v : Verdict) (t : Reply) → Right s f v t → Wrote 0 (printed work list s f v t) out out′ (r .written)
+      told : (s : Session) → StateOf st s → (v : Verdict) (t : Reply) → Right s f v t
+          → Wrote 0 (printed work (length l) s f v t) out out′ (r .written) × (l′ ≡ listLeft work l s f v t)
       told unopened (is-closed shut) v t q = absurd (both-ways (st .opened) up shut)
-      told (opened b) (is-open o x m) v t q = p b x m v t q
+      told (opened b) (is-open o x m) v t q = p b x v t q
 
   -- a refused open keeps the session, an accepted one begins afresh
-  pub kept-turns : (n : ℕ) → openAnswer n ≡ number bad-size → r .state ≡ st → Wrote 0 (refusedText (number bad-size)) out out′ (r .written) → Turns st (asks (opening n)) work list out out′ r
-  unfolding nextSession printed number answerText
-  kept-turns n e kept w = record { within = w .fits; next = λ s h. rw (e, kept) h; prints = λ s h v t q. rw e w }
+  pub kept-turns : (n : ℕ) → openAnswer n ≡ number bad-size → r .state ≡ st → l′ ≡ l → Wrote 0 (refusedText (number bad-size)) out out′ (r .written)
+      → Turns st (asks (opening n)) work l l′ out out′ r
+  unfolding nextSession printed listLeft number answerText
+  kept-turns n e kept same w = record { within = w .fits; spares = as-it-was same; next = λ s h. rw (e, kept) h; prints = λ s h v t q. rw e w; list = λ s h v t q. same }
 
-  pub fresh-turns : (n : ℕ) → openAnswer n ≡ 0 → n ≤ programRecords → r .state .opened ≡ true → Represents (r .state .register) (fresh n) → Wrote 0 okText out out′ (r .written)
-      → Turns st (asks (opening n)) work list out out′ r
-  unfolding nextSession printed answerText fresh
-  fresh-turns n e small up x w = record { within = w .fits; next = λ s h. rw e (is-open up x small); prints = λ s h v t q. rw e w }
+  pub fresh-turns : (n : ℕ) → openAnswer n ≡ 0 → n ≤ programRecords → r .state .opened ≡ true → Represents (r .state .register) (fresh n) → l′ ≡ l
+      → Wrote 0 okText out out′ (r .written) → Turns st (asks (opening n)) work l l′ out out′ r
+  unfolding nextSession printed listLeft answerText fresh
+  fresh-turns n e small up x same w = record { within = w .fits; spares = as-it-was same; next = λ s h. rw e (is-open up x small); prints = λ s h v t q. rw e w; list = λ s h v t q. same }
 
   -- an edit or undo
-  pub call-turns : (c : Call) (o : Told) → Steps (st .register) c o → st .opened ≡ true → r .state .opened ≡ true → r .state .register ≡ o .register
-      → Wrote 0 (answerText (answerNumber (o .answer))) out out′ (r .written) → Turns st (asks (call c)) work list out out′ r
-  unfolding nextSession printed
-  call-turns c o steps up up′ same w =
-      open-turns (asks (call c)) up (w .fits)
-      (λ b x m. is-open up′ (rw same (steps .follows b x)) (rw (next-size b c) m))
-      (λ b x m v t q. wrote-as (ap answerText (steps .answers b x)) w)
+  pub call-turns : (c : Call) (o : Told) → Steps (st .register) c o → st .opened ≡ true → r .state .opened ≡ true → r .state .register ≡ o .register → l′ ≡ l
+      → Wrote 0 (answerText (answerNumber (o .answer))) out out′ (r .written) → Turns st (asks (call c)) work l l′ out out′ r
+  unfolding nextSession printed listLeft
+  call-turns c o steps up up′ kept same w =
+      open-turns (asks (call c)) up (w .fits) (as-it-was same)
+      (λ b x m. is-open up′ (rw kept (steps .follows b x)) (rw (next-size b c) m))
+      (λ b x v t q. (wrote-as (ap answerText (ap answerNumber (steps .answers b x) ∙ number-answer (answer b c))) w, same))
 
   -- the two questions, which leave the session as it was
-  pub pairs-turns : (u : List ℕ) (o : Outcome) → st .opened ≡ true → r .state ≡ st
-      → ((b : Book) → Represents (st .register) b → o ≡ pairsAnswer b (verdict u) work list)
-      → Wrote 0 (outcomeText o) out out′ (r .written) → Turns st (asks (pairs u)) work list out out′ r
-  unfolding nextSession printed
-  pairs-turns u o up kept says w =
-      open-turns (asks (pairs u)) up (w .fits)
+  pub pairs-turns : (u : List ℕ) (o : Outcome) → st .opened ≡ true → r .state ≡ st → l′ ≡ listAfter o l
+      → ((b : Book) → Represents (st .register) b → (o ≡ pairsAnswer b (verdict u) work (length l)) × (l′ ≡ listAfter (pairsAnswer b (verdict u) work (length l)) l))
+      → Wrote 0 (outcomeText o) out out′ (r .written) → Turns st (asks (pairs u)) work l l′ out out′ r
+  unfolding nextSession printed listLeft
+  pairs-turns u o up kept left says w =
+      open-turns (asks (pairs u)) up (w .fits) (answered o w left)
       (λ b x m. rw kept (is-open up x m))
-      (λ b x m v t q. wrote-as (ap outcomeText (says b x ∙ ap (λ (e : Verdict). pairsAnswer b e work list) (sym (verdict-only q)))) w)
+      (λ b x v t q.
+      let same = ap (λ (e : Verdict). pairsAnswer b e work (length l)) (sym (verdict-only q)) in
+      (wrote-as (ap outcomeText (says b x .0 ∙ same)) w, says b x .1 ∙ ap (λ (a : Outcome). listAfter a l) same))
 
-  pub chain-turns : (x y : ℕ) (u : List ℕ) (o : Outcome) → st .opened ≡ true → r .state ≡ st
-      → ((b : Book) → Represents (st .register) b → (t : Reply) → ReplyTo (asked b) (verdict u) x y t → o ≡ chainAnswer b x y (verdict u) t work list)
-      → Wrote 0 (outcomeText o) out out′ (r .written) → Turns st (asks (chain x y u)) work list out out′ r
-  unfolding nextSession printed
-  chain-turns x y u o up kept says w =
-      open-turns (asks (chain x y u)) up (w .fits)
+  pub chain-turns : (x y : ℕ) (u : List ℕ) (o : Outcome) → st .opened ≡ true → r .state ≡ st → l′ ≡ listAfter o l
+      → ((b : Book) → Represents (st .register) b → (t : Reply) → ReplyTo (asked b) (verdict u) x y t
+      → (o ≡ chainAnswer b x y (verdict u) t work (length l)) × (l′ ≡ listAfter (chainAnswer b x y (verdict u) t work (length l)) l))
+      → Wrote 0 (outcomeText o) out out′ (r .written) → Turns st (asks (chain x y u)) work l l′ out out′ r
+  unfolding nextSession printed listLeft
+  chain-turns x y u o up kept left says w =
+      open-turns (asks (chain x y u)) up (w .fits) (answered o w left)
       (λ b h m. rw kept (is-open up h m))
-      (λ b h m v t q.
+      (λ b h v t q.
       let e = verdict-only (q .0) in
-      wrote-as (ap outcomeText (says b h t (subst (λ (d : Verdict). ReplyTo (asked b) d x y t) e (q .1)) ∙ ap (λ (d : Verdict). chainAnswer b x y d t work list) (sym e))) w)
+      let told = says b h t (subst (λ (d : Verdict). ReplyTo (asked b) d x y t) e (q .1)) in
+      let same = ap (λ (d : Verdict). chainAnswer b x y d t work (length l)) (sym e) in
+      (wrote-as (ap outcomeText (told .0 ∙ same)) w, told .1 ∙ ap (λ (a : Outcome). listAfter a l) same))
 
   -- a chain question's text is the part of its body from byte 4 on
-  pub part-turns : (x y : ℕ) (s : List ℕ) → Turns st (asks (chain x y (take (length s - 4) (drop 4 s)))) work list out out′ r → Turns st (asks (chain x y (drop 4 s))) work list out out′ r
-  part-turns x y s t = subst (λ (u : List ℕ). Turns st (asks (chain x y u)) work list out out′ r) (take-all (length s - 4) (drop 4 s) (omega (arith, length-drop 4 s))) t
+  pub part-turns : (x y : ℕ) (s : List ℕ) → Turns st (asks (chain x y (take (length s - 4) (drop 4 s)))) work l l′ out out′ r
+      → Turns st (asks (chain x y (drop 4 s))) work l l′ out out′ r
+  part-turns x y s t = subst (λ (u : List ℕ). Turns st (asks (chain x y u)) work l l′ out out′ r) (take-all (length s - 4) (drop 4 s) (omega (arith, length-drop 4 s))) t
 
   -- any room: with too little, nothing is done
-  pub none-framed : (f : Frame) → length out < room list → r .state ≡ st → r .written ≡ 0 → out′ ≡ out → Framing st f work list out out′ r
-  none-framed f short kept none same = record { nothing = λ h. (kept, none, same); turns = λ h. absurd (omega arith) }
+  pub none-framed : (f : Frame) → length out < room (length l) → r .state ≡ st → r .written ≡ 0 → out′ ≡ out → l′ ≡ l → Framing st f work l l′ out out′ r
+  none-framed f short kept none same still = record { nothing = λ h. (kept, none, same, still); turns = λ h. absurd (omega arith) }
 
-  pub turned-framed : (f g : Frame) → f ≡ g → room list ≤ length out → Turns st f work list out out′ r → Framing st g work list out out′ r
-  turned-framed f g e h t = record { nothing = λ short. absurd (omega arith); turns = λ k. subst (λ (x : Frame). Turns st x work list out out′ r) e t }
+  pub turned-framed : (f g : Frame) → f ≡ g → room (length l) ≤ length out → Turns st f work l l′ out out′ r → Framing st g work l l′ out out′ r
+  turned-framed f g e h t = record { nothing = λ short. absurd (omega arith); turns = λ k. subst (λ (x : Frame). Turns st x work l l′ out out′ r) e t }

@@ -1,18 +1,19 @@
 // One frame of the program: what it does to the session, and which bytes it prints. What is right is defined in specs/Program.antt.
 ghost use mathlib.Core.Path.{_≡_};
-ghost use mathlib.Core.Bool.{true};
-ghost use Prim.Native.Nat.{ℕ, _+_, _≤_, _<_};
+ghost use mathlib.Core.List.{List};
+ghost use Prim.Native.Nat.{ℕ, _≤_, _<_};
 ghost use lib.ListN.{length, getD};
 ghost use Rattle.session.specs.Program.{decode as Program·decode, number16 as Program·number16};
 ghost use Rattle.session.specs.Program.{opening, call as Program·call, pairs, chain, asks, unopened as Program·unopened};
 ghost use Rattle.session.specs.Says.{says, Long, callOf};
-ghost use Rattle.session.specs.Turns.{Holds, room, Turns, Framing};
-ghost use Rattle.session.specs.Runs.{Advances, Front};
+ghost use Rattle.session.specs.Turns.{StateOf, room, Turns, Framing};
+ghost use Rattle.session.specs.Runs.{Advances, RunsOn, Front};
 ghost use Rattle.register.specs.Calls.{Steps};
 ghost use Rattle.report.specs.Report.{refusedText, outcomeText};
 ghost use Rattle.report.specs.Written.{Wrote};
 ghost use Rattle.session.specs.Listing.{listing};
-ghost use Rattle.chains.specs.Replies.{outcomeOf, answerLength};
+ghost use Rattle.pairs.specs.Asking.{pairsLength};
+ghost use Rattle.chains.specs.Replies.{outcomeOf, stepsLength};
 use chains::ChainAnswer;
 use pairs::PairsAnswer;
 use register::Outcome;
@@ -33,6 +34,9 @@ const MOST_RECORDS: u16 = 64;
 const MIN_FRAME: usize = 2;
 
 const MAX_FRAME: usize = 1024;
+
+// The most bytes of a line.
+const MAX_LINE: usize = 13;
 
 // Whether a register is opened, and the register.
 pub struct State {
@@ -147,7 +151,7 @@ pub fn decode(kind: u16, body: &[u8]) -> Decoded
 
 // The state at the start of a run.
 pub fn unopened() -> State
-    ensures { λ r. ⌜ Holds r Program·unopened ⌝ }
+    ensures { λ r. ⌜ StateOf r Program·unopened ⌝ }
 {
     let made = engine::open(1);
     let register = made.register;
@@ -180,7 +184,7 @@ fn apply(register: Register, call: Call) -> Outcome
 
 fn open(state: State, n: u16, out: &mut [u8]) -> Framed
     requires { ⌜ 29 ≤ length (now out) ⌝ }
-    ensures { λ r. ⌜ ((work list : ℕ) → Turns state (asks (opening n)) work list (now (out .entry)) (now (out .exit)) r) ⌝ }
+    ensures { λ r. ⌜ ((work : ℕ) (l : List ℕ) → Turns state (asks (opening n)) work l l (now (out .entry)) (now (out .exit)) r) ⌝ }
 {
     if n < 1 {
         return refuse(state, BAD_SIZE, out);
@@ -202,7 +206,7 @@ fn open(state: State, n: u16, out: &mut [u8]) -> Framed
 
 fn edit(state: State, call: Call, out: &mut [u8]) -> Framed
     requires { ⌜ 29 ≤ length (now out) ⌝ }
-    ensures { λ r. ⌜ ((work list : ℕ) → Turns state (asks (Program·call (callOf call))) work list (now (out .entry)) (now (out .exit)) r) ⌝ }
+    ensures { λ r. ⌜ ((work : ℕ) (l : List ℕ) → Turns state (asks (Program·call (callOf call))) work l l (now (out .entry)) (now (out .exit)) r) ⌝ }
 {
     if !state.opened {
         return refuse(state, NOT_OPEN, out);
@@ -221,7 +225,7 @@ fn edit(state: State, call: Call, out: &mut [u8]) -> Framed
 }
 
 fn put_reply(answer: ChainAnswer, list: &[u32], out: &mut [u8]) -> usize
-    requires { ⌜ (answerLength answer ≤ length (now list)) × (room (length (now list)) ≤ length (now out)) ⌝ }
+    requires { ⌜ (stepsLength answer ≤ length (now list)) × (room (length (now list)) ≤ length (now out)) ⌝ }
     ensures { λ r. ⌜ Wrote 0 (outcomeText (outcomeOf answer (now (list .entry)))) (now (out .entry)) (now (out .exit)) r ⌝ }
 {
     match answer {
@@ -241,7 +245,8 @@ fn ask_chain(
     out: &mut [u8],
 ) -> Framed
     requires { ⌜ room (length (now list)) ≤ length (now out) ⌝ }
-    ensures { λ r. ⌜ Turns state (asks (chain x y (now (text .entry)))) (length (now (work .entry))) (length (now (list .entry))) (now (out .entry)) (now (out .exit)) r ⌝ }
+    ensures { λ r. ⌜ Turns state (asks (chain x y (now (text .entry)))) (length (now (work .entry)))
+        (now (list .entry)) (now (list .exit)) (now (out .entry)) (now (out .exit)) r ⌝ }
 {
     if !state.opened {
         return refuse(state, NOT_OPEN, out);
@@ -252,16 +257,11 @@ fn ask_chain(
 }
 
 fn put_listing(answer: PairsAnswer, list: &[u32], out: &mut [u8]) -> usize
-    requires { ⌜ room (length (now list)) ≤ length (now out) ⌝ }
+    requires { ⌜ (pairsLength answer ≤ length (now list)) × (room (length (now list)) ≤ length (now out)) ⌝ }
     ensures { λ r. ⌜ Wrote 0 (outcomeText (listing answer (now (list .entry)))) (now (out .entry)) (now (out .exit)) r ⌝ }
 {
     match answer {
-        PairsAnswer::Pairs(k) => {
-            if list.len() < k {
-                return report::put_pairs(list, out, 0);
-            }
-            report::put_pairs(&list[..k], out, 0)
-        }
+        PairsAnswer::Pairs(k) => report::put_pairs(&list[..k], out, 0),
         PairsAnswer::Refused(k) => report::put_refused(k, out, 0),
     }
 }
@@ -274,7 +274,8 @@ fn ask_pairs(
     out: &mut [u8],
 ) -> Framed
     requires { ⌜ room (length (now list)) ≤ length (now out) ⌝ }
-    ensures { λ r. ⌜ Turns state (asks (pairs (now (text .entry)))) (length (now (work .entry))) (length (now (list .entry))) (now (out .entry)) (now (out .exit)) r ⌝ }
+    ensures { λ r. ⌜ Turns state (asks (pairs (now (text .entry)))) (length (now (work .entry)))
+        (now (list .entry)) (now (list .exit)) (now (out .entry)) (now (out .exit)) r ⌝ }
 {
     if !state.opened {
         return refuse(state, NOT_OPEN, out);
@@ -293,9 +294,10 @@ pub fn frame(
     list: &mut [u32],
     out: &mut [u8],
 ) -> Framed
-    ensures { λ r. ⌜ Framing state (Program·decode kind (now (body .entry))) (length (now (work .entry))) (length (now (list .entry))) (now (out .entry)) (now (out .exit)) r ⌝ }
+    ensures { λ r. ⌜ Framing state (Program·decode kind (now (body .entry))) (length (now (work .entry)))
+        (now (list .entry)) (now (list .exit)) (now (out .entry)) (now (out .exit)) r ⌝ }
 {
-    if out.len() / 13 < list.len() + 3 {
+    if out.len() / MAX_LINE < list.len() + 3 {
         return Framed { state, written: 0 };
     }
     let decoded = decode(kind, body);
@@ -333,10 +335,10 @@ fn front(input: &[u8]) -> usize
 
 // One turn of a run: the frame at the front of the input, or the run's end. With too little room for what a frame may print, nothing.
 pub fn step(state: State, input: &[u8], work: &mut [u64], list: &mut [u32], out: &mut [u8]) -> Ran
-    ensures { λ r. ⌜ Advances state (now (input .entry)) (length (now (work .entry))) (length (now (list .entry))) (now (out .entry)) (now (out .exit)) r ⌝ }
-    ensures { λ r. ⌜ (room (length (now (list .entry))) ≤ length (now (out .entry)) → r .more ≡ true → 0 < r .read) ⌝ }
+    ensures { λ r. ⌜ Advances state (now (input .entry)) (length (now (work .entry)))
+        (now (list .entry)) (now (list .exit)) (now (out .entry)) (now (out .exit)) r ⌝ }
 {
-    if out.len() / 13 < list.len() + 3 {
+    if out.len() / MAX_LINE < list.len() + 3 {
         return Ran {
             state,
             read: 0,
@@ -377,8 +379,8 @@ pub fn step(state: State, input: &[u8], work: &mut [u64], list: &mut [u32], out:
 
 // A run over the whole input, as far as there is room for what it prints.
 pub fn run(state: State, input: &[u8], work: &mut [u64], list: &mut [u32], out: &mut [u8]) -> Ran
-    ensures { λ r. ⌜ Advances state (now (input .entry)) (length (now (work .entry))) (length (now (list .entry))) (now (out .entry)) (now (out .exit)) r ⌝ }
-    ensures { λ r. ⌜ (r .more ≡ true → length (now (out .entry)) < r .written + room (length (now (list .entry)))) ⌝ }
+    ensures { λ r. ⌜ RunsOn state (now (input .entry)) (length (now (work .entry)))
+        (now (list .entry)) (now (list .exit)) (now (out .entry)) (now (out .exit)) r ⌝ }
 {
     let mut state = state;
     let mut read = 0;

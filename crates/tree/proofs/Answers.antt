@@ -1,105 +1,77 @@
 -- Laws of the public calls: from the first cause found, or from the answer, to what a call promises. Assumes nothing.
-use mathlib.Core.Path.{_≡_, refl, sym, ap, ap₂, _∙_}
+use mathlib.Core.Path.{_≡_, refl, sym, ap, subst, _∙_}
+use mathlib.Core.Bool.{Bool, true, false}
 use mathlib.Core.List.{List, [], _∷_}
-use Prim.Native.Nat.{ℕ, _*_, _≤_}
+use Prim.Native.Nat.{ℕ, zero, suc, _*_, _≤_}
 use native.Mathlib.Omega.{arith}
 use lib.ListN.{length}
-use Rattle.book.specs.Basics.{here, there}
-use Rattle.book.specs.ListLaws.{in-none}
-use Rattle.book.specs.Causes.{Cause, bad-size, no-record, bad-tree, short-work, short-list, number, treeOrder, no-cause, this, later, maxRecords}
-use Rattle.k2.specs.PairSets.{Cells, listed}
-use Rattle.k2.specs.PairSetLaws.{PairsBelow}
-use Rattle.k2.specs.Trees.{treeWords, treeUnit, WellFormed}
-use Rattle.k2.specs.TreeLaws.{treeWords-tell}
+use borrow.Author.Tests.{lt-ltb, le-ltb}
+use Rattle.book.specs.Causes.{number, firstNumber, maxRecords}
+use Rattle.k2.specs.PairSets.{PairsBelow}
+use Rattle.k2.specs.Trees.{treeUnit, WellFormed}
+use Rattle.k2.specs.TreeSets.{formed}
+use Rattle.k2.specs.TreeSetLaws.{formed-tree, tree-formed}
 use Rattle.k2.specs.SizeLaws.{treeWords-most}
 use Rattle.tree.specs.declared.Answer.{Answer}
 use Rattle.tree.specs.declared.Answer.the-variants.{Refused}
-use Rattle.tree.specs.Calls.{Formed, size, pairs, trees, work, Refuses, unmet, long, Found, found-size, found-pairs, found-trees, found-work, found-none, Settled, too-long, given, Answered, refused, done, ListOf, TreeOfOne, TreeOfTwo}
+use Rattle.tree.specs.Calls.{allBelow, allFormed, lentCauses, treeCauses, treeAnswer, treeList, Answered, Settled, too-long, given}
+use Rattle.tree.specs.CallLaws.{all-below, below-all, two-formed, lent-met, tree-refused, tree-accepted}
 
-module _ (n : ℕ) (ps : List ℕ) (ts : List (List ℕ)) (k : ℕ) (Gives : List ℕ → Type 0) (before after : List ℕ) where
-  abbrev R : Cause → Type 0
-  R = Refuses n ps ts k Gives before
+-- ---- the tests, which are those of the causes
+same-test : {P : Type 0} (s t : Bool) → (s ≡ true → P) → (P → s ≡ true) → (t ≡ true → P) → (P → t ≡ true) → s ≡ t
+same-test true t f g h k = sym (k (f refl))
+same-test false true f g h k = g (h refl)
+same-test false false f g h k = refl
 
-  not-size : 1 ≤ n → n ≤ maxRecords → R bad-size → ⊥
-  not-size l h (unmet (size f)) = f (l, h)
+pub below-test : (n : ℕ) (ps : List ℕ) (s : Bool) → (s ≡ true → PairsBelow n ps) × (PairsBelow n ps → s ≡ true) → s ≡ allBelow n ps
+below-test n ps s e = same-test {P = PairsBelow n ps} s (allBelow n ps) (e .0) (e .1) (all-below n ps) (below-all n ps)
 
-  not-pairs : PairsBelow n ps → R no-record → ⊥
-  not-pairs b (unmet (pairs f)) = f b
+pub formed-test : (n : ℕ) (t : List ℕ) (s : Bool) → (s ≡ true → WellFormed n t) × (WellFormed n t → s ≡ true) → s ≡ formed n t
+formed-test n t s e = same-test s (formed n t) (e .0) (e .1) formed-tree tree-formed
 
-  not-trees : Formed n ts → R bad-tree → ⊥
-  not-trees t (unmet (trees f)) = f t
+module _ (n : ℕ) (t u : List ℕ) where
+  pub first-bad : formed n t ≡ false → allFormed n (t ∷ u ∷ []) ≡ false
+  unfolding allFormed
+  first-bad e = rw e refl
 
-  not-work : 32 * treeUnit n ≤ k → R short-work → ⊥
-  not-work l (unmet (work f)) = omega arith
+  pub second-bad : formed n t ≡ true → formed n u ≡ false → allFormed n (t ∷ u ∷ []) ≡ false
+  unfolding allFormed
+  second-bad e f = rw (e, f) refl
+
+  pub both-good : formed n t ≡ true → formed n u ≡ true → allFormed n (t ∷ u ∷ []) ≡ true
+  unfolding allFormed
+  both-good e f = rw (e, f) refl
+
+-- ---- answers
+-- what is lent with as good trees has the same first cause
+pub as-good : (n : ℕ) (ps : List ℕ) (ts us : List (List ℕ)) (k : ℕ) → allFormed n ts ≡ allFormed n us → firstNumber (lentCauses n ps ts k) ≡ firstNumber (lentCauses n ps us k)
+unfolding lentCauses
+as-good n ps ts us k e = rw e refl
+
+module _ (n : ℕ) (ps : List ℕ) (ts : List (List ℕ)) (k : ℕ) (xs before after : List ℕ) where
+  by-cause : {r : Answer} (c : ℕ) → firstNumber (treeCauses n ps ts k xs (length before)) ≡ c → r ≡ treeAnswer c (length xs) → after ≡ treeList c xs before
+      → Answered n ps ts k xs before after r
+  by-cause c e a l = record { answer = rw e a; list = rw e l }
 
   -- a cause before the answer
-  pub refuse : {T : Type 0} {r : ℕ} → (T → Formed n ts) → (Formed n ts → T) → Found n ps T k r → (r ≡ 0 → ⊥) → after ≡ before → Answered n ps ts k Gives before after (Refused r)
-  unfolding treeOrder number
-  refuse to from (found-size f) z e = refused (this (unmet (size f))) e
-  refuse to from (found-pairs l h f) z e = refused (later (not-size l h) (this (unmet (pairs f)))) e
-  refuse to from (found-trees l h b f) z e = refused (later (not-size l h) (later (not-pairs b) (this (unmet (trees (λ t. f (from t))))))) e
-  refuse to from (found-work l h b t f) z e = refused (later (not-size l h) (later (not-pairs b) (later (not-trees (to t)) (this (unmet (work f)))))) e
-  refuse to from (found-none l h b t w) z e = absurd (z refl)
+  pub refuse : (r : ℕ) → r ≡ firstNumber (lentCauses n ps ts k) → (r ≡ 0 → ⊥) → after ≡ before → Answered n ps ts k xs before after (Refused r)
+  unfolding treeAnswer treeList
+  refuse zero e z q = absurd (z refl)
+  refuse (suc c) e z q = by-cause (suc c) (tree-refused n ps ts k xs (length before) (sym e)) refl q
+
+  settle : {v : Answer} → firstNumber (lentCauses n ps ts k) ≡ 0 → Settled xs before after v → Answered n ps ts k xs before after v
+  unfolding treeAnswer treeList number
+  settle e (too-long h q) = by-cause 13 (tree-accepted n ps ts k xs (length before) e ∙ rw (lt-ltb (length before) (length xs) h) refl) refl q
+  settle e (given h q) = by-cause 0 (tree-accepted n ps ts k xs (length before) e ∙ rw (le-ltb (length before) (length xs) h) refl) refl q
 
   -- none: the answer decides
-  pub accept : {T : Type 0} {r : ℕ} {v : Answer} → (T → Formed n ts) → Found n ps T k r → r ≡ 0 → (xs : List ℕ) → Gives xs → ((ys : List ℕ) → Gives ys → ys ≡ xs)
-      → Settled xs before after v → Answered n ps ts k Gives before after v
-  unfolding treeOrder number
-  accept to (found-size f) z xs g only s = absurd (omega arith)
-  accept to (found-pairs l h f) z xs g only s = absurd (omega arith)
-  accept to (found-trees l h b f) z xs g only s = absurd (omega arith)
-  accept to (found-work l h b t f) z xs g only s = absurd (omega arith)
-  accept to (found-none l h b t w) z xs g only (too-long f e) =
-      refused (later (not-size l h) (later (not-pairs b) (later (not-trees (to t)) (later (not-work w) (this (long g f)))))) e
-  accept to (found-none l h b t w) z xs g only (given f e) =
-      done (later (not-size l h) (later (not-pairs b) (later (not-trees (to t)) (later (not-work w) (later not-long no-cause))))) g e
-    where
-      not-long : R short-list → ⊥
-      not-long (long {xs = ys} q m) = omega (arith, ap length (only ys q))
+  pub accept : {r : ℕ} {v : Answer} → r ≡ firstNumber (lentCauses n ps ts k) → r ≡ 0 → (ys : List ℕ) → ys ≡ xs → Settled ys before after v → Answered n ps ts k xs before after v
+  accept {v = v} e z ys q s = settle (sym e ∙ z) (subst (λ (l : List ℕ). Settled l before after v) q s)
 
 -- ---- the facts that no cause leaves
-pub met : {n k r : ℕ} {ps : List ℕ} {T : Type 0} → Found n ps T k r → r ≡ 0 → (1 ≤ n) × (n ≤ 1024) × PairsBelow n ps × T × (32 * treeUnit n ≤ k)
-met (found-size f) z = absurd (omega arith)
-met (found-pairs l h f) z = absurd (omega arith)
-met (found-trees l h b f) z = absurd (omega arith)
-met (found-work l h b t f) z = absurd (omega arith)
-met (found-none l h b t w) z = (l, h, b, t, w)
-
--- ---- lent trees
-pub formed-none : {n : ℕ} → Formed n []
-formed-none t i = absurd (in-none i refl)
-
-pub formed-one : {n : ℕ} {a : List ℕ} → WellFormed n a → Formed n (a ∷ [])
-formed-one w t here = w
-formed-one w t (there i) = absurd (in-none i refl)
-
-pub one-formed : {n : ℕ} {a : List ℕ} → Formed n (a ∷ []) → WellFormed n a
-one-formed {a = a} f = f a here
-
-pub formed-two : {n : ℕ} {a b : List ℕ} → WellFormed n a → WellFormed n b → Formed n (a ∷ b ∷ [])
-formed-two v w t here = v
-formed-two v w t (there here) = w
-formed-two v w t (there (there i)) = absurd (in-none i refl)
-
-pub two-formed : {n : ℕ} {a b : List ℕ} → Formed n (a ∷ b ∷ []) → WellFormed n a × WellFormed n b
-two-formed {a = a} {b = b} f = (f a here, f b (there here))
-
--- ---- an answer is the only one
-pub list-only : {n : ℕ} {t xs ys : List ℕ} → ListOf n t xs → ListOf n t ys → ys ≡ xs
-list-only {n} x y =
-    let e : y .set ≡ x .set = treeWords-tell n (y .set) (x .set) (y .is-set) (x .is-set) (sym (y .tree) ∙ x .tree) in
-    y .pairs ∙ ap (listed n) e ∙ sym (x .pairs)
-
-pub one-only : {op : Cells → Cells} {n : ℕ} {t xs ys : List ℕ} → TreeOfOne op n t xs → TreeOfOne op n t ys → ys ≡ xs
-one-only {op} {n} x y =
-    let e : y .set ≡ x .set = treeWords-tell n (y .set) (x .set) (y .is-set) (x .is-set) (sym (y .tree) ∙ x .tree) in
-    y .words ∙ ap (λ (s : Cells). treeWords n (op s)) e ∙ sym (x .words)
-
-pub two-only : {op : Cells → Cells → Cells} {n : ℕ} {t u xs ys : List ℕ} → TreeOfTwo op n t u xs → TreeOfTwo op n t u ys → ys ≡ xs
-two-only {op} {n} x y =
-    let e : y .first ≡ x .first = treeWords-tell n (y .first) (x .first) (y .first-set) (x .first-set) (sym (y .first-tree) ∙ x .first-tree) in
-    let f : y .second ≡ x .second = treeWords-tell n (y .second) (x .second) (y .second-set) (x .second-set) (sym (y .second-tree) ∙ x .second-tree) in
-    y .words ∙ ap₂ (λ (s r : Cells). treeWords n (op s r)) e f ∙ sym (x .words)
+pub met : (n k : ℕ) (ps t u : List ℕ) {r : ℕ} → r ≡ firstNumber (lentCauses n ps (t ∷ u ∷ []) k) → r ≡ 0
+    → (1 ≤ n) × (n ≤ maxRecords) × PairsBelow n ps × (WellFormed n t × WellFormed n u) × (32 * treeUnit n ≤ k)
+met n k ps t u e z = let m = lent-met n ps (t ∷ u ∷ []) k (sym e ∙ z) in (m .0, m .1, all-below n ps (m .2), two-formed n t u (m .3), m .4)
 
 pub formed-most : {n : ℕ} {t : List ℕ} → WellFormed n t → length t ≤ treeUnit n
 formed-most {n} w = omega (arith, ap length (w .tree), treeWords-most n (w .set))

@@ -8,8 +8,8 @@ use native.Mathlib.Omega.{arith}
 use lib.ListN.{length, take, drop, getD, set, length-take, length-drop, length-append, List·getD-append}
 use lib.Seq.{ext-getD, getD-append-add, getD-take, getD-drop, getD-set-same, getD-set-other, take-append-le, take-length, take-at, drop-at}
 use Rattle.book.specs.Basics.{In, here, there}
-use Rattle.k2.specs.PairSetLaws.{PairsBelow}
-use Rattle.tree.specs.declared.Answer.the-variants.{Done, Refused}
+use Rattle.k2.specs.PairSets.{PairsBelow}
+use Rattle.tree.specs.declared.Answer.the-variants.{Done}
 use Rattle.tree.specs.Calls.{Settled, given}
 
 -- ---- after i words
@@ -88,9 +88,6 @@ off e = absurd (let y : _≡_ {A = ℕ} 0 1 = cc in omega arith)
 
 pub wrong : {b : Bool} → b ≡ false → b ≡ true → ⊥
 wrong e f = off (sym e ∙ f)
-
-pub not-refused : {A : Type 0} (r k : ℕ) → Done r ≡ Refused k → A
-not-refused r k e = absurd (let z : _≡_ {A = ℕ} 0 1 = cc in omega arith)
 
 -- an answer of r words
 pub given-at : (xs before after : List ℕ) (r : ℕ) → r ≡ length xs → r ≤ length before → after ≡ xs ++ drop (length xs) before → Settled xs before after (Done r)

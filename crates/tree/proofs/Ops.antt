@@ -6,16 +6,18 @@ use native.Mathlib.Omega.{arith}
 use lib.ListN.{take, replicate}
 use Rattle.book.specs.Basics.{has}
 use Rattle.k2.specs.Bits.{bitAt}
-use Rattle.k2.specs.PairSets.{Cells, IsSet, setOf, union, transpose, closure}
+use Rattle.k2.specs.PairSets.{Cells, IsSet, setOf, listed, union, transpose, closure}
 use Rattle.k2.specs.PairSetLaws.{union-set, intersection-set, difference-set, product-set, transpose-set, closure-set}
 use Rattle.k2.specs.Trees.{treeWords, treeUnit}
 use Rattle.k2.specs.SizeLaws.{treeUnit-some}
 use Rattle.bits.specs.BitSetLaws.{bits-none}
-use Rattle.rows.specs.Rows.{flat, noPairs, identity, linkPair}
-use Rattle.rows.specs.RowLaws.{flat-none, none-set, none-tree, union-none, identity-set}
+use Rattle.rows.specs.Rows.{flat, noPairs, identity, linkPair, pairsIn}
+use Rattle.rows.specs.RowLaws.{flat-none, none-set, none-tree, union-none, identity-set, pairs-in}
 use Rattle.packing.specs.Reading.{sensed}
 use Rattle.packing.specs.ReadingLaws.{sensed-set, other-sense}
 use Rattle.tree.specs.Inner.{Room, TreeAt, outcome, OneWithLinks, TwoWithLinks, Guarded}
+use Rattle.tree.specs.declared.Answer.{Answer}
+use Rattle.tree.specs.Calls.{Settled}
 
 pub rows-none : bitAt (replicate 16384 0) ≡ flat noPairs
 rows-none = bits-none 16384 ∙ sym flat-none
@@ -23,6 +25,11 @@ rows-none = bits-none 16384 ∙ sym flat-none
 -- what `load` adds to none
 pub from-none : (a : Cells) (f : ℕ → ℕ) → f ≡ flat (union noPairs a) → f ≡ flat a
 from-none a f e = e ∙ ap flat (union-none a)
+
+-- rows of a set settle its pairs
+pub set-settled : (n : ℕ) (a : Cells) (rows before after : List ℕ) {r : Answer} → n ≤ 1024 → IsSet n a → bitAt rows ≡ flat a
+    → Settled (pairsIn n rows) before after r → Settled (listed n a) before after r
+set-settled n a rows before after {r} nl A e s = subst (λ (xs : List ℕ). Settled xs before after r) (pairs-in n a nl A rows e) s
 
 -- a set read with sense 1
 pub sensed-turned : (s : ℕ) (a : Cells) → (s ≡ 0 → ⊥) → transpose a ≡ sensed s a

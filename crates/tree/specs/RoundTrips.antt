@@ -1,114 +1,115 @@
--- Demand 2 over what the calls promise: a list of pairs made into a tree and listed again gives its set, ascending and each pair once; a tree that is
--- listed and made again is the same. Assumes nothing.
+-- Demand 2 over what the calls promise. Pairs below n are made into a tree, and the tree is listed: with space enough neither call refuses, and the
+-- list is the set, ascending and each pair once. A well-formed tree is listed, and the list made into a tree: neither refuses, and the tree is the same.
+--   answerWords r l the words of the list l that are the answer r's; a refusal has none
+--   Enough n a work work′ out list
+--                   space enough for the set a: n is 1 to 1,024, both calls are lent 32 D words of work, out is as long as the set's tree and list as
+--                   long as its pairs
+--   MadeListed n ps out′ list′ v u
+--                   the answers v of `make` and u of `list` and what they wrote: the set of the pairs ps
+--   ListedMade n t a list′ out′ u v
+--                   the answers u of `list` and v of `make` and what they wrote: the pairs of the set a, and its tree t
+-- Assumes nothing.
 use mathlib.Core.Path.{_≡_, refl, sym, ap, subst, _∙_}
-use mathlib.Core.List.{List, [], _∷_}
-use Prim.Native.Nat.{ℕ, _/_, _%_, _≤_, _<_}
-use native.Mathlib.Decide.{decLt}
+use mathlib.Core.Bool.{true}
+use mathlib.Core.List.{List, [], _∷_, _++_}
+use Prim.Native.Nat.{ℕ, _*_, _/_, _%_, _≤_}
 use native.Mathlib.Omega.{arith}
 use lib.ListN.{length, take, drop}
 use lib.Seq.{take-at}
-use Rattle.book.specs.Basics.{In, here, there, Rises}
-use Rattle.book.specs.Causes.{bad-size, no-record, number, treeOrder, IsFirst, this, later}
+use borrow.Author.Tests.{le-ltb}
+use Rattle.book.specs.Basics.{In, Rises}
+use Rattle.book.specs.Causes.{firstNumber, maxRecords}
 use Rattle.book.specs.ListLaws.{in-none}
-use Rattle.k2.specs.PairSets.{IsSet, listed, setOf, pairWord}
-use Rattle.k2.specs.PairSetLaws.{PairsBelow, setOf-set, setOf-listed, set-in, in-set, in-listed, listed-in, listed-rises}
-use Rattle.k2.specs.Trees.{treeWords}
-use Rattle.k2.specs.TreeLaws.{treeWords-tell}
+use Rattle.k2.specs.PairSets.{Cells, IsSet, listed, setOf, pairWord, PairsBelow}
+use Rattle.k2.specs.PairSetLaws.{setOf-set, setOf-listed, set-in, in-set, in-listed, listed-in, listed-rises, listed-below}
+use Rattle.k2.specs.Trees.{treeWords, treeUnit, WellFormed}
+use Rattle.k2.specs.TreeSetLaws.{formed-set}
 use Rattle.tree.specs.declared.Answer.{Answer}
-use Rattle.tree.specs.declared.Answer.the-variants.{Done}
-use Rattle.tree.specs.Calls.{size, pairs, Refuses, unmet, Answered, refused, done, TreeOf, ListOf}
+use Rattle.tree.specs.declared.Answer.the-variants.{Done, Refused}
+use Rattle.tree.specs.Calls.{allFormed, treeCauses, treeAnswer, treeList, Answered, treeOf, listOf}
+use Rattle.tree.specs.CallLaws.{below-all, one-formed, lent-none, tree-accepted}
 
--- ---- an accepted call
-record Accepted (n : ℕ) (ps : List ℕ) (ts : List (List ℕ)) (k : ℕ) (Gives : List ℕ → Type 0) (before after : List ℕ) (m : ℕ) : Type 0 where
-  words : List ℕ
-  given : Gives words
-  taken : take m after ≡ words
-  small : n ≤ 1024
-  below : (PairsBelow n ps → ⊥) → ⊥
+unfoldable pub answerWords : Answer → List ℕ → List ℕ
+answerWords (Done k) l = take k l
+answerWords (Refused k) l = []
 
-module _ (n : ℕ) (ps : List ℕ) (ts : List (List ℕ)) (k : ℕ) (Gives : List ℕ → Type 0) (before after : List ℕ) where
-  -- no cause holds
-  none-holds : {m : ℕ} → IsFirst (Refuses n ps ts k Gives before) treeOrder m → m ≡ 0 → (Refuses n ps ts k Gives before bad-size → ⊥) × (Refuses n ps ts k Gives before no-record → ⊥)
-  unfolding treeOrder number
-  none-holds (this h) e = absurd (omega arith)
-  none-holds (later p (this h)) e = absurd (omega arith)
-  none-holds (later p (later q r)) e = (p, q)
+pub record Enough (n : ℕ) (a : Cells) (work work′ : ℕ) (out list : List ℕ) : Type 0 where
+  pub some : 1 ≤ n
+  pub few : n ≤ maxRecords
+  pub first : 32 * treeUnit n ≤ work
+  pub second : 32 * treeUnit n ≤ work′
+  pub words : length (treeWords n a) ≤ length out
+  pub pairs : length (listed n a) ≤ length list
 
-  accepted : {m : ℕ} {v : Answer} → Answered n ps ts k Gives before after v → v ≡ Done m → Accepted n ps ts k Gives before after m
-  accepted (refused f g) e = absurd (let z : _≡_ {A = ℕ} 0 1 = cc in omega arith)
-  accepted {m} (done {xs} f g h) e =
-      let l : length xs ≡ m = cc in
-      let q = none-holds f refl in
-      record {
-        words = xs;
-        given = g;
-        taken = ap (take m) h ∙ take-at xs (drop (length xs) before) m l;
-        small = by (q .0) (decLt 1024 n);
-        below = λ b. q .1 (unmet (pairs b));
-      }
-    where
-      by : (Refuses n ps ts k Gives before bad-size → ⊥) → Dec (1024 < n) → n ≤ 1024
-      by f (yes l) = absurd (f (unmet (size (λ s. omega (arith, s .1)))))
-      by f (no l) = omega arith
+pub record MadeListed (n : ℕ) (ps out′ list′ : List ℕ) (v u : Answer) : Type 0 where
+  pub made : v ≡ Done (length (treeWords n (setOf ps)))
+  pub told : u ≡ Done (length (listed n (setOf ps)))
+  pub tree : answerWords v out′ ≡ treeWords n (setOf ps)
+  pub pairs : answerWords u list′ ≡ listed n (setOf ps)
+  pub rises : Rises 0 (answerWords u list′)
+  pub same : (w : ℕ) → (In w (answerWords u list′) → In w ps) × (In w ps → In w (answerWords u list′))
 
--- pairs are below n or not
-below-dec : (n : ℕ) (ps : List ℕ) → Dec (PairsBelow n ps)
-below-dec n [] = yes (λ w i. absurd (in-none i refl))
-below-dec n (p ∷ ps) = go (decLt (p / 1024) n) (decLt (p % 1024) n) (below-dec n ps)
-  where
-    go : Dec (p / 1024 < n) → Dec (p % 1024 < n) → Dec (PairsBelow n ps) → Dec (PairsBelow n (p ∷ ps))
-    go (no a) b c = no (λ f. a (f p here .0))
-    go (yes a) (no b) c = no (λ f. b (f p here .1))
-    go (yes a) (yes b) (no c) = no (λ f. c (λ w i. f w (there i)))
-    go (yes a) (yes b) (yes c) = yes (λ w i. both w i)
-      where
-        both : (w : ℕ) → In w (p ∷ ps) → (w / 1024 < n) × (w % 1024 < n)
-        both w here = (a, b)
-        both w (there i) = c w i
+pub record ListedMade (n : ℕ) (t : List ℕ) (a : Cells) (list′ out′ : List ℕ) (u v : Answer) : Type 0 where
+  pub told : u ≡ Done (length (listed n a))
+  pub made : v ≡ Done (length t)
+  pub pairs : answerWords u list′ ≡ listed n a
+  pub tree : answerWords v out′ ≡ t
 
-below-sure : (n : ℕ) (ps : List ℕ) → ((PairsBelow n ps → ⊥) → ⊥) → PairsBelow n ps
-below-sure n ps f = go (below-dec n ps)
-  where
-    go : Dec (PairsBelow n ps) → PairsBelow n ps
-    go (yes b) = b
-    go (no b) = absurd (f b)
+-- ---- a call with space enough is not refused
+enough : {n : ℕ} {ps : List ℕ} {ts : List (List ℕ)} {k : ℕ} {xs before after : List ℕ} {v : Answer} → 1 ≤ n → n ≤ maxRecords → PairsBelow n ps → allFormed n ts ≡ true
+    → 32 * treeUnit n ≤ k → length xs ≤ length before → Answered n ps ts k xs before after v → (v ≡ Done (length xs)) × (answerWords v after ≡ xs)
+unfolding treeAnswer treeList answerWords
+enough {n} {ps} {ts} {k} {xs} {before} {after} some few below trees wide fits A =
+    let z : firstNumber (treeCauses n ps ts k xs (length before)) ≡ 0 =
+    tree-accepted n ps ts k xs (length before) (lent-none n ps ts k some few (below-all n ps below) trees wide) ∙ rw (le-ltb (length before) (length xs) fits) refl in
+    let r = A .answer ∙ ap (λ (c : ℕ). treeAnswer c (length xs)) z in
+    let l : after ≡ xs ++ drop (length xs) before = A .list ∙ ap (λ (c : ℕ). treeList c xs before) z in
+    (r, rw (r, l) (take-at xs (drop (length xs) before) (length xs) refl))
 
--- ---- made, and listed again
-module _ {n k m room room′ : ℕ} {ps out out′ list list′ : List ℕ} where
-  pub make-list : Answered n ps [] room (TreeOf n ps) out out′ (Done k) → Answered n [] (take k out′ ∷ []) room′ (ListOf n (take k out′)) list list′ (Done m)
-      → take m list′ ≡ listed n (setOf ps)
-  make-list a b =
-      let x = accepted n ps [] room (TreeOf n ps) out out′ a refl in
-      let y = accepted n [] (take k out′ ∷ []) room′ (ListOf n (take k out′)) list list′ b refl in
-      let is : IsSet n (setOf ps) = setOf-set n ps (x .small) (below-sure n ps (x .below)) in
-      let l = y .given in
-      let s : l .set ≡ setOf ps = treeWords-tell n (l .set) (setOf ps) (l .is-set) is (sym (l .tree) ∙ x .taken ∙ x .given) in
-      y .taken ∙ l .pairs ∙ ap (listed n) s
+no-tree : (n : ℕ) → allFormed n [] ≡ true
+unfolding allFormed
+no-tree n = refl
 
-  -- the same pairs, ascending, each once
-  pub make-list-rises : Answered n ps [] room (TreeOf n ps) out out′ (Done k) → Answered n [] (take k out′ ∷ []) room′ (ListOf n (take k out′)) list list′ (Done m)
-      → Rises 0 (take m list′)
-  make-list-rises a b = rw (make-list a b) (listed-rises n (setOf ps) (accepted n ps [] room (TreeOf n ps) out out′ a refl .small))
+no-pair : {n : ℕ} → PairsBelow n []
+no-pair w i = absurd (in-none i refl)
 
-  pub make-list-same : Answered n ps [] room (TreeOf n ps) out out′ (Done k) → Answered n [] (take k out′ ∷ []) room′ (ListOf n (take k out′)) list list′ (Done m)
-      → (w : ℕ) → (In w (take m list′) → In w ps) × (In w ps → In w (take m list′))
-  make-list-same a b w =
-      let x = accepted n ps [] room (TreeOf n ps) out out′ a refl in
-      let f = below-sure n ps (x .below) in
-      rw (make-list a b) (
+-- ---- made, and listed
+pub make-list : {n work work′ : ℕ} {ps out out′ list list′ : List ℕ} {v u : Answer} → PairsBelow n ps → Enough n (setOf ps) work work′ out list
+    → Answered n ps [] work (treeOf n ps) out out′ v → Answered n [] (answerWords v out′ ∷ []) work′ (listOf n (answerWords v out′)) list list′ u
+    → MadeListed n ps out′ list′ v u
+make-list {n} {ps = ps} {out′ = out′} {list = list} {list′ = list′} {v = v} {u = u} b E A B =
+    let is : IsSet n (setOf ps) = setOf-set n ps (E .few) b in
+    let x = enough (E .some) (E .few) b (no-tree n) (E .first) (E .words) A in
+    let F : WellFormed n (answerWords v out′) = record { set = setOf ps; is-set = is; tree = x .1 } in
+    let s : listOf n (answerWords v out′) ≡ listed n (setOf ps) = ap (listed n) (formed-set F) in
+    let z = enough (E .some) (E .few) no-pair (one-formed n (answerWords v out′) F) (E .second) (subst (λ (l : List ℕ). length l ≤ length list) (sym s) (E .pairs)) B in
+    let y : (u ≡ Done (length (listed n (setOf ps)))) × (answerWords u list′ ≡ listed n (setOf ps)) = (z .0 ∙ ap (λ (l : List ℕ). Done (length l)) s, z .1 ∙ s) in
+    record {
+      made = x .0;
+      told = y .0;
+      tree = x .1;
+      pairs = y .1;
+      rises = rw (y .1) (listed-rises n (setOf ps) (E .few));
+      same = λ w. rw (y .1) (
         λ i. let r = in-listed n (setOf ps) i in subst (λ (v : ℕ). In v ps) (sym (r .5)) (set-in ps (r .0) (r .1) (r .4)),
         λ i.
-            let l = f w i in
+            let l = b w i in
             let q : pairWord (w / 1024) (w % 1024) ≡ w = omega arith in
             subst (λ (v : ℕ). In v (listed n (setOf ps))) q
             (listed-in n (setOf ps) (w / 1024) (w % 1024) (l .0) (l .1) (omega (arith, in-set ps (w / 1024) (w % 1024) (omega arith) (subst (λ (v : ℕ). In v ps) (sym q) i)))),
-      )
+      );
+    }
 
--- ---- listed, and made again
-pub list-make : {n k m room room′ : ℕ} {t out out′ list list′ : List ℕ} → Answered n [] (t ∷ []) room (ListOf n t) list list′ (Done m)
-    → Answered n (take m list′) [] room′ (TreeOf n (take m list′)) out out′ (Done k) → take k out′ ≡ t
-list-make {n} {k} {m} {room} {room′} {t} {out} {out′} {list} {list′} a b =
-    let x = accepted n [] (t ∷ []) room (ListOf n t) list list′ a refl in
-    let y = accepted n (take m list′) [] room′ (TreeOf n (take m list′)) out out′ b refl in
-    let l = x .given in
-    y .taken ∙ y .given ∙ ap (λ (ws : List ℕ). treeWords n (setOf ws)) (x .taken ∙ l .pairs) ∙ ap (treeWords n) (setOf-listed n (l .set) (x .small) (l .is-set)) ∙ sym (l .tree)
+-- ---- listed, and made
+pub list-make : {n work work′ : ℕ} {t out out′ list list′ : List ℕ} {u v : Answer} (F : WellFormed n t) → Enough n (F .set) work work′ out list
+    → Answered n [] (t ∷ []) work (listOf n t) list list′ u → Answered n (answerWords u list′) [] work′ (treeOf n (answerWords u list′)) out out′ v
+    → ListedMade n t (F .set) list′ out′ u v
+list-make {n} {t = t} {out = out} {list = list} {list′ = list′} {u = u} F E A B =
+    let a : Cells = F .set in
+    let q : listOf n t ≡ listed n a = ap (listed n) (formed-set F) in
+    let x = enough (E .some) (E .few) no-pair (one-formed n t F) (E .first) (subst (λ (l : List ℕ). length l ≤ length list) (sym q) (E .pairs)) A in
+    let p : answerWords u list′ ≡ listed n a = x .1 ∙ q in
+    let s : treeOf n (answerWords u list′) ≡ t = ap (treeOf n) p ∙ ap (treeWords n) (setOf-listed n a (E .few) (F .is-set)) ∙ sym (F .tree) in
+    let b : PairsBelow n (answerWords u list′) = subst (PairsBelow n) (sym p) (listed-below n a (E .few)) in
+    let y = enough (E .some) (E .few) b (no-tree n) (E .second) (subst (λ (l : List ℕ). length l ≤ length out) (sym (s ∙ F .tree)) (E .words)) B in
+    record { told = x .0 ∙ ap (λ (l : List ℕ). Done (length l)) q; made = y .0 ∙ ap (λ (l : List ℕ). Done (length l)) s; pairs = p; tree = y .1 ∙ s }

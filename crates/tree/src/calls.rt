@@ -11,11 +11,11 @@ ghost use mathlib.Core.Bool.{true};
 ghost use mathlib.Core.List.{[], _∷_, _++_};
 ghost use Prim.Native.Nat.{_+_, _≤_};
 ghost use lib.ListN.{length, take, drop};
-ghost use Rattle.k2.specs.PairSets.{Cells, IsSet, listed, union, intersection, difference, product, transpose, closure};
-ghost use Rattle.k2.specs.PairSetLaws.{PairsBelow};
-ghost use Rattle.k2.specs.Trees.{treeWords, WellFormed};
+ghost use Rattle.book.specs.Causes.{firstNumber};
+ghost use Rattle.k2.specs.PairSets.{Cells, IsSet, listed, union, intersection, difference, product, transpose, closure, PairsBelow};
+ghost use Rattle.k2.specs.Trees.{treeWords};
 ghost use Rattle.tree.specs.Inner.{outcome};
-ghost use Rattle.tree.specs.Calls.{Found, Settled, Answered, TreeOf, ListOf, TreeOfOne, TreeOfTwo};
+ghost use Rattle.tree.specs.Calls.{lentCauses, Settled, Answered, treeOf, listOf, treeOfOne, treeOfTwo};
 
 // Are both ends of each pair below n?
 fn pairs_below(pairs: &[u32], n: usize) -> bool
@@ -37,7 +37,7 @@ fn pairs_below(pairs: &[u32], n: usize) -> bool
 
 // The number of the first cause against n, the pairs, the trees and the length of the work, in this order; 0 if there is none.
 fn refusal(n: usize, pairs: &[u32], a: &[u64], b: &[u64], room: usize) -> u32
-    ensures { λ r. ⌜ Found n (now (pairs .entry)) (WellFormed n (now (a .entry)) × WellFormed n (now (b .entry))) room r ⌝ }
+    ensures { λ r. ⌜ r ≡ firstNumber (lentCauses n (now (pairs .entry)) (now (a .entry) ∷ now (b .entry) ∷ []) room) ⌝ }
 {
     if n < 1 {
         return 1;
@@ -87,7 +87,7 @@ fn settle(work: &[u64], len: usize, out: &mut [u64]) -> Answer
 // An operation on two lent trees, by its number.
 fn binary(kind: u8, n: usize, a: &[u64], b: &[u64], out: &mut [u64], work: &mut [u64]) -> Answer
     ensures { λ r. ⌜ Answered n [] (now (a .entry) ∷ now (b .entry) ∷ []) (length (now (work .entry)))
-        (TreeOfTwo (outcome kind n) n (now (a .entry)) (now (b .entry))) (now (out .entry)) (now (out .exit)) r ⌝ }
+        (treeOfTwo (outcome kind n) n (now (a .entry)) (now (b .entry))) (now (out .entry)) (now (out .exit)) r ⌝ }
 {
     let none: [u32; 1] = [0; 1];
     let cause = refusal(n, &none[..0], a, b, work.len());
@@ -103,7 +103,7 @@ fn binary(kind: u8, n: usize, a: &[u64], b: &[u64], out: &mut [u64], work: &mut 
 // The tree of the pairs in either.
 pub fn union(n: usize, a: &[u64], b: &[u64], out: &mut [u64], work: &mut [u64]) -> Answer
     ensures { λ r. ⌜ Answered n [] (now (a .entry) ∷ now (b .entry) ∷ []) (length (now (work .entry)))
-        (TreeOfTwo union n (now (a .entry)) (now (b .entry))) (now (out .entry)) (now (out .exit)) r ⌝ }
+        (treeOfTwo union n (now (a .entry)) (now (b .entry))) (now (out .entry)) (now (out .exit)) r ⌝ }
 {
     binary(0, n, a, b, out, work)
 }
@@ -111,7 +111,7 @@ pub fn union(n: usize, a: &[u64], b: &[u64], out: &mut [u64], work: &mut [u64]) 
 // The tree of the pairs in both.
 pub fn intersection(n: usize, a: &[u64], b: &[u64], out: &mut [u64], work: &mut [u64]) -> Answer
     ensures { λ r. ⌜ Answered n [] (now (a .entry) ∷ now (b .entry) ∷ []) (length (now (work .entry)))
-        (TreeOfTwo intersection n (now (a .entry)) (now (b .entry))) (now (out .entry)) (now (out .exit)) r ⌝ }
+        (treeOfTwo intersection n (now (a .entry)) (now (b .entry))) (now (out .entry)) (now (out .exit)) r ⌝ }
 {
     binary(1, n, a, b, out, work)
 }
@@ -119,7 +119,7 @@ pub fn intersection(n: usize, a: &[u64], b: &[u64], out: &mut [u64], work: &mut 
 // The tree of the pairs in the first and not in the second.
 pub fn difference(n: usize, a: &[u64], b: &[u64], out: &mut [u64], work: &mut [u64]) -> Answer
     ensures { λ r. ⌜ Answered n [] (now (a .entry) ∷ now (b .entry) ∷ []) (length (now (work .entry)))
-        (TreeOfTwo difference n (now (a .entry)) (now (b .entry))) (now (out .entry)) (now (out .exit)) r ⌝ }
+        (treeOfTwo difference n (now (a .entry)) (now (b .entry))) (now (out .entry)) (now (out .exit)) r ⌝ }
 {
     binary(2, n, a, b, out, work)
 }
@@ -127,7 +127,7 @@ pub fn difference(n: usize, a: &[u64], b: &[u64], out: &mut [u64], work: &mut [u
 // The tree of the product: the pairs for which some middle record serves.
 pub fn product(n: usize, a: &[u64], b: &[u64], out: &mut [u64], work: &mut [u64]) -> Answer
     ensures { λ r. ⌜ Answered n [] (now (a .entry) ∷ now (b .entry) ∷ []) (length (now (work .entry)))
-        (TreeOfTwo (product n) n (now (a .entry)) (now (b .entry))) (now (out .entry)) (now (out .exit)) r ⌝ }
+        (treeOfTwo (product n) n (now (a .entry)) (now (b .entry))) (now (out .entry)) (now (out .exit)) r ⌝ }
 {
     binary(3, n, a, b, out, work)
 }
@@ -135,7 +135,7 @@ pub fn product(n: usize, a: &[u64], b: &[u64], out: &mut [u64], work: &mut [u64]
 // The tree of the pairs exchanged.
 pub fn transpose(n: usize, a: &[u64], out: &mut [u64], work: &mut [u64]) -> Answer
     ensures { λ r. ⌜ Answered n [] (now (a .entry) ∷ []) (length (now (work .entry)))
-        (TreeOfOne transpose n (now (a .entry))) (now (out .entry)) (now (out .exit)) r ⌝ }
+        (treeOfOne transpose n (now (a .entry))) (now (out .entry)) (now (out .exit)) r ⌝ }
 {
     let none: [u32; 1] = [0; 1];
     let cause = refusal(n, &none[..0], a, &a[..0], work.len());
@@ -150,7 +150,7 @@ pub fn transpose(n: usize, a: &[u64], out: &mut [u64], work: &mut [u64]) -> Answ
 // The tree of the closure: one or more pairs that lead from one to the other.
 pub fn closure(n: usize, a: &[u64], out: &mut [u64], work: &mut [u64]) -> Answer
     ensures { λ r. ⌜ Answered n [] (now (a .entry) ∷ []) (length (now (work .entry)))
-        (TreeOfOne (closure n) n (now (a .entry))) (now (out .entry)) (now (out .exit)) r ⌝ }
+        (treeOfOne (closure n) n (now (a .entry))) (now (out .entry)) (now (out .exit)) r ⌝ }
 {
     let none: [u32; 1] = [0; 1];
     let cause = refusal(n, &none[..0], a, &a[..0], work.len());
@@ -165,7 +165,7 @@ pub fn closure(n: usize, a: &[u64], out: &mut [u64], work: &mut [u64]) -> Answer
 // The tree of a list of pair words, in any order and with repeats.
 pub fn make(n: usize, pairs: &[u32], out: &mut [u64], work: &mut [u64]) -> Answer
     ensures { λ r. ⌜ Answered n (now (pairs .entry)) [] (length (now (work .entry)))
-        (TreeOf n (now (pairs .entry))) (now (out .entry)) (now (out .exit)) r ⌝ }
+        (treeOf n (now (pairs .entry))) (now (out .entry)) (now (out .exit)) r ⌝ }
 {
     let none: [u64; 1] = [0; 1];
     let empty = &none[..0];
@@ -190,7 +190,7 @@ fn list_pairs(tree: &[u64], n: usize, out: &mut [u32]) -> Answer
 // The pairs of a tree, ascending.
 pub fn list(n: usize, a: &[u64], out: &mut [u32], work: &mut [u64]) -> Answer
     ensures { λ r. ⌜ Answered n [] (now (a .entry) ∷ []) (length (now (work .entry)))
-        (ListOf n (now (a .entry))) (now (out .entry)) (now (out .exit)) r ⌝ }
+        (listOf n (now (a .entry))) (now (out .entry)) (now (out .exit)) r ⌝ }
 {
     let none: [u32; 1] = [0; 1];
     let cause = refusal(n, &none[..0], a, &a[..0], work.len());

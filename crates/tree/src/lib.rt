@@ -13,14 +13,13 @@ pub use calls::union;
 ghost use mathlib.Core.Path.{_≡_};
 ghost use mathlib.Core.Bool.{true};
 ghost use mathlib.Core.List.{map};
-ghost use Prim.Native.Nat.{ℕ, _+_, _≤_};
+ghost use Prim.Native.Nat.{_+_, _≤_};
 ghost use lib.ListN.{length, take, drop};
 ghost use Rattle.k2.specs.Bits.{bitAt};
-ghost use Rattle.k2.specs.PairSets.{Cells, IsSet, setOf, listed, union, intersection, difference, product, transpose, closure};
+ghost use Rattle.k2.specs.PairSets.{Cells, IsSet, setOf, union, intersection, difference, product, transpose, closure};
 ghost use Rattle.k2.specs.Trees.{treeWords, treeUnit};
-ghost use Rattle.rows.specs.Rows.{flat, identity, linkPair};
+ghost use Rattle.rows.specs.Rows.{flat, identity, linkPair, pairsIn};
 ghost use Rattle.packing.specs.Reading.{sensed};
-ghost use Rattle.tree.specs.declared.Answer.the-variants.{Refused};
 ghost use Rattle.tree.specs.Inner.{Room, TreeAt, outcome, OneTree, TwoTrees, OneWithLinks, TwoWithLinks, Guarded};
 ghost use Rattle.tree.specs.Calls.{Settled, OutcomeListed};
 
@@ -375,11 +374,10 @@ pub fn product_with(
     guarded(3, work, n, la, lb, 0, 0, words, sense)
 }
 
-// 13 if rows hold more pairs than the list takes; otherwise they are written, ascending.
+// 13 if the first n rows hold more pairs than the list takes; otherwise they are written, ascending.
 fn hand_over(rows: &[u64], n: usize, out: &mut [u32]) -> Answer
     requires { ⌜ (n ≤ 1024) × (length (now rows) ≡ 16384) ⌝ }
-    ensures unchanged { λ r. ⌜ ((k : ℕ) → r ≡ Refused k → now (out .exit) ≡ now (out .entry)) ⌝ }
-    ensures listed { λ r. ⌜ ((a : Cells) → IsSet n a → bitAt (now (rows .entry)) ≡ flat a → Settled (listed n a) (now (out .entry)) (now (out .exit)) r) ⌝ }
+    ensures { λ r. ⌜ Settled (pairsIn n (now (rows .entry))) (now (out .entry)) (now (out .exit)) r ⌝ }
 {
     let total = rows::count_pairs(rows, n);
     if out.len() < total {

@@ -47,14 +47,11 @@ fn damage(random: &mut Random, words: &mut Vec<u32>) {
     }
 }
 
-/// Whether these could be the words of a register at all; if not, the answer is 16.
+/// Whether the front of these could be the words of a register: enough of them, counters in range, locks 0 or 1. If not, the answer is 16.
 fn possible(words: &[u32]) -> bool {
-    words.len() == 5380 && words[N] < 65536 && words[LOCKS..].iter().all(|&word| word <= 1)
-}
-
-/// Whether the numbers of records, links and held edits are in range; if not, an edit is answered with 16.
-fn in_range(words: &[u32]) -> bool {
-    possible(words) && words[N] <= 1024 && words[1] <= 4096 && words[2] < 256 && words[3] <= 256
+    words.len() >= 5380
+        && (words[N] <= 1024 && words[1] <= 4096 && words[2] < 256 && words[3] <= 256)
+        && words[LOCKS..5380].iter().all(|&word| word <= 1)
 }
 
 pub fn damaged(run: &mut Run, seed: u64, size: Size) {
@@ -64,7 +61,6 @@ pub fn damaged(run: &mut Run, seed: u64, size: Size) {
     let random = &mut Random::new(!seed);
     let mut words = made.clone();
     damage(random, &mut words);
-    let possible = possible(&words);
     let n = size.records(random);
     for _ in 0..random.between(1, 30) {
         let mut record = || if random.chance(90) { random.record(n) } else { random.word() as u32 % 65536 };
@@ -77,15 +73,19 @@ pub fn damaged(run: &mut Run, seed: u64, size: Size) {
             4 => Call::Lock(link.from),
             _ => Call::Unlock(link.from),
         };
-        let refused = !in_range(&words);
+        let refused = !possible(&words);
         let answer = run.engine.edit(&mut words, call);
         if refused {
             run.same_of(|| format!("{call:?} on words of no register"), &answer, &16);
         }
     }
+    let possible = possible(&words);
     let text = in_grammar(random, &[0, 1, 25], 4, 2);
     let sized = run.engine.size(&words);
     run.same_of(|| format!("size {sized} is at most 1,024"), &(sized <= 1024), &true);
+    if !possible {
+        run.same("size of words of no register", &sized, &0);
+    }
     let sized = sized.clamp(1, 1024);
     for list in [0, 3, 5000] {
         let spaces = [(tree::work(sized), 64 * sized as usize), (tree::work(sized) - 1, 64 * sized as usize - 1)];

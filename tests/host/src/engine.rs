@@ -91,8 +91,10 @@ impl Engine {
         let state = self.state.lend_words(words);
         let answer = call(state);
         let kept = state == words;
+        let past = state.get(calls::STATE_WORDS..) == words.get(calls::STATE_WORDS..);
         words.copy_from_slice(state);
         self.intact();
+        self.fault(past, "changes a state past the register's words");
         self.fault(answer <= 16, &format!("answers an edit with {answer}"));
         self.fault(answer == 0 || kept, &format!("changes the register and answers {answer}"));
         answer

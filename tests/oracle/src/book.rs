@@ -84,7 +84,7 @@ impl Book {
         Ok(())
     }
 
-    /// The first cause, in 01's order for edits, to refuse an edit.
+    /// The first cause, in the order for edits (S6.6), to refuse an edit.
     pub fn first_cause(&self, edit: Call) -> Option<Refusal> {
         let Sheet { links, locked } = &self.sheet;
         let (records, label) = match edit {

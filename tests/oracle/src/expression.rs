@@ -25,7 +25,7 @@ pub enum Expression {
     Sequence(Box<Expression>, Box<Expression>),
 }
 
-/// Reads a whole text. Refusals in 01's order: 10 for bytes, then 9, then 10 for letters and depth.
+/// Reads a whole text. Refusals in their order: 10 for bytes, then 9, then 10 for letters and depth (S6.7).
 pub fn read(text: &[u8]) -> Result<Expression, Refusal> {
     if text.len() > MAX_BYTES {
         return Err(Refusal::TooLong);

@@ -1,16 +1,16 @@
-//! An interpreter of 01, "The dating register and its path engine", written from its words alone. It shares no code and
+//! An interpreter of `docs/SCOPE.md`, written from its words alone; comments cite its sentences (S6.7). It shares no code and
 //! no table with the engine: tests hold the engine's answers against those given here.
 //!
-//! | Module | Holds | Section of 01 |
+//! | Module | Holds | Section |
 //! |---|---|---|
-//! | `book` | the plain book: sheets of links and locks, the pile of earlier sheets | The plain book |
-//! | `expression` | the reader of expressions, with its refusals | Expressions |
-//! | `relation` | sets of pairs as rows of bits, and the set that an expression means | Expressions |
-//! | `chain` | the first chain between two records | Chains |
-//! | `tree` | k2-trees, well-formedness, the operations on trees | Trees |
-//! | `question` | pair and chain questions with all their refusals | Causes and numbers |
-//! | `frame` | requests as frames, and frames read as requests | The program |
-//! | `program` | the program: frames in, lines out | The program |
+//! | `book` | the plain book: sheets of links and locks, the pile of earlier sheets | S2 The plain book |
+//! | `expression` | the reader of expressions, with its refusals | S3 Expressions |
+//! | `relation` | sets of pairs as rows of bits, and the set that an expression means | S3 Expressions |
+//! | `chain` | the first chain between two records | S4 Chains |
+//! | `tree` | k2-trees, well-formedness, the operations on trees | S5 Trees |
+//! | `question` | pair and chain questions with all their refusals | S6 Causes and numbers |
+//! | `frame` | requests as frames, and frames read as requests | S7 The program |
+//! | `program` | the program: frames in, lines out | S7 The program |
 //! | `lines` | typed lines such as `add 0 a 1` to requests | – |
 //! | `random` | random numbers, expressions and sessions, each the same for the same seed | – |
 //!
@@ -39,7 +39,7 @@ pub fn check_size(n: u32) -> Result<(), Refusal> {
     }
 }
 
-/// A cause of refusal; its number is that of 01's table.
+/// A cause of refusal; its number is that of the table in S6.3.
 #[derive(Clone, Copy, Debug, PartialEq, Eq, PartialOrd, Ord)]
 pub enum Refusal {
     /// n outside 1 to 1,024, or above 64 in the program

@@ -1,4 +1,4 @@
-//! Pair and chain questions. Refusals in 01's order: 2, 10 for bytes, 9, 10 for letters and depth, 12, 13.
+//! Pair and chain questions. Refusals in their order: 2, 10 for bytes, 9, 10 for letters and depth, 12, 13 (S6.7).
 
 use crate::book::Book;
 use crate::relation::Relation;

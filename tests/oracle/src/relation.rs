@@ -57,7 +57,7 @@ impl Relation {
         (0..self.n).flat_map(move |x| self.row(x).map(move |y| (x, y)))
     }
 
-    /// All pairs as 01 writes them, from × 1,024 + to, ascending.
+    /// All pairs as words, from × 1,024 + to, ascending (S5.11).
     pub fn pair_words(&self) -> Vec<u32> {
         self.pairs().map(|(x, y)| x * 1024 + y).collect()
     }

@@ -7,7 +7,7 @@ use oracle::random::{self, Random};
 use oracle::relation::Relation;
 use oracle::{chain, tree};
 
-/// Whether a word is one of the expression's, by 01's sentences on words and all ways to part the word.
+/// Whether a word is one of the expression's, by the sentences on words (S4.5) and all ways to part the word.
 fn spells(expression: &Expression, word: &[Letter]) -> bool {
     match expression {
         Expression::Letter(label) => word == [Letter { label: *label, against: false }],

@@ -1,4 +1,4 @@
-//! 01's sample run, its cases, and the answers that it calls wrong though they look right.
+//! The sample run (S7.8), the cases K1 to K12, and the answers that look right and are wrong (S8).
 
 use oracle::book::{Book, Call, Link};
 use oracle::chain::Step;

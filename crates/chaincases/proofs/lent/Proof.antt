@@ -1,6 +1,6 @@
 -- `lent` is safe: the steps fit the list, as `chain` promises. Assumes nothing.
 use native.Mathlib.Omega.{arith}
-use Rattle.chains.specs.Replies.{answerLength}
+use Rattle.chains.specs.Replies.{stepsLength}
 use borrow.Author.Needs.{needs}
 use Rattle.chaincases.proofs.lent.Statement.{statement}
 use Rattle.chaincases.proofs.lent.Tie as tie
@@ -54,7 +54,7 @@ print-requires-6 : tie.Need-print-requires-6
 print-requires-6 c κs = search needs
 
 print-steps-requires : tie.Need-print-steps-requires
-unfolding answerLength
+unfolding stepsLength
 print-steps-requires c κs =
     let fits = c .before .before .before .before .before .before .before .before .before .before .before .before .before .chain .ensures .fits in
     let steps = rw (c .before .before .before .before .before .before .before .answer .given .1) at fits in

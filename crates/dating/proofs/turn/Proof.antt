@@ -1,5 +1,5 @@
--- `dating::turn` meets its contract: if the run goes on, the state is that of the session after the frame (`goes`). Assumes nothing.
-use mathlib.Core.Path.{sym}
+-- `dating::turn` meets its contract: it is one call of `session::step`, and goes on only if that has more to do. Assumes nothing.
+use mathlib.Core.Path.{refl, sym}
 use native.Mathlib.Omega.{arith}
 use lib.Seq.{length-take-le}
 use Rattle.session.specs.TurnLaws.{both-ways}
@@ -25,9 +25,6 @@ slice-aggregate-step-2 c = search needs
 slice-aggregate-step-3 : tie.Need-slice-aggregate-step-3
 slice-aggregate-step-3 c = search needs
 
-slice-aggregate-step-4 : tie.Need-slice-aggregate-step-4
-slice-aggregate-step-4 c = search needs
-
 step-requires : tie.Need-step-requires
 step-requires c κs = search needs
 
@@ -40,11 +37,21 @@ slice-aggregate-write-all c = sym (length-take-le _ _ (omega arith))
 write-all-requires : tie.Need-write-all-requires
 write-all-requires c κs = search needs
 
+same-length : tie.Need-same-length
+same-length c = search needs
+
 returns : tie.Need-returns
-returns c = λ h e. let g = c .before .before .before .before .before .before .before .step .ensures .0 .goes e (h .0) (h .1) in (g .1, g .3)
+returns c =
+    let w = c .before .before .before .before .before .before .before .before .step in
+    record { input = _; out = _; out′ = _; ran = w .result; advances = w .ensures; state = refl; goes-on = λ e. e }
+
+same-length-2 : tie.Need-same-length-2
+same-length-2 c = search needs
 
 returns-2 : tie.Need-returns-2
-returns-2 c = λ h e. absurd (both-ways _ e (c .if1 .left))
+returns-2 c =
+    let w = c .before .before .before .before .before .before .before .before .step in
+    record { input = _; out = _; out′ = _; ran = w .result; advances = w .ensures; state = refl; goes-on = λ e. absurd (both-ways _ e (c .if1 .left)) }
 
 pub turn-spec : {M : Type 1} → statement M
 turn-spec =
@@ -56,10 +63,11 @@ turn-spec =
     slice-aggregate-step
     slice-aggregate-step-2
     slice-aggregate-step-3
-    slice-aggregate-step-4
     step-requires
     array-share-prefix-out
     slice-aggregate-write-all
     write-all-requires
+    same-length
     returns
+    same-length-2
     returns-2)

@@ -3,12 +3,17 @@ use mathlib.Core.Path.{_≡_, sym, refl, ap, _∙_, subst}
 use mathlib.Core.List.{List}
 use Prim.Native.Nat.{ℕ}
 use borrow.Author.Needs.{needs}
+use Rattle.book.specs.Basics.{has}
+use Rattle.book.specs.Book.{fresh}
+use Rattle.register.specs.Calls.{answerNumber}
+use Rattle.register.specs.History.{replayNumber}
+use Rattle.register.specs.HistoryLaws.{number-answer}
 use Rattle.register.specs.declared.Register.{Register}
 use Rattle.chains.specs.Replies.{Replies}
 use Rattle.pairs.specs.declared.PairsAnswer.the-variants.{Refused}
 use Rattle.chains.specs.declared.ChainAnswer.{ChainAnswer}
 use Rattle.chains.specs.declared.ChainAnswer.the-variants.{Refused as Unanswered}
-use Rattle.engine.specs.DemandLaws.{claims, replayed-told, replayed-past}
+use Rattle.engine.specs.DemandLaws.{claims, replayed-calls, none-linked}
 use Rattle.engine.proofs.inquire.Statement.{statement}
 use Rattle.engine.proofs.inquire.Tie as tie
 
@@ -28,14 +33,25 @@ same-length : tie.Need-same-length
 same-length c = search needs
 
 returns : tie.Need-returns
+unfolding has fresh
 returns c =
     let told = c .before .before .before .number-of .ensures in
     let p = c .before .before .before .before .before .before .before .replay .ensures in
+    let k : c .before .before .before .number-of .result ≡ replayNumber _ _ _ = told ∙ ap answerNumber (p .answer) ∙ number-answer _ in
     record {
-      number = p .answer;
-      refused = λ n. (ap Refused (told ∙ p .answer), ap Unanswered (told ∙ p .answer), p .refused n, refl, refl);
-      past = replayed-past _ _ _ _ p;
-      demand = λ z. absurd (c .if1 .taken (told ∙ p .answer ∙ z));
+      answer = p .answer;
+      refused = λ n.
+          let e = p .refused n .1 in
+          record {
+            pairs = ap Refused k;
+            chain = ap Unanswered k;
+            numbers = p .refused n .0;
+            list = refl;
+            steps = refl;
+            links = none-linked 0 _ (c .before .before .links .ensures .linked (fresh 0) e);
+            locks = c .before .locks .ensures .locked (fresh 0) e;
+          };
+      made = λ z. absurd (c .if1 .taken (k ∙ z));
     }
 
 pairs-requires : tie.Need-pairs-requires
@@ -67,12 +83,17 @@ returns-2 c =
     let asked = c .before .before .before .before .before .before .before .before .before .before .before .pairs .ensures in
     let s = c .before .before .before .before .before .before .before .before .before .before .before .before .before .before in
     let p = s .before .before .before .before .before .before .before .replay .ensures in
-    let zero = sym (p .answer) ∙ sym (s .before .before .before .number-of .ensures) ∙ s .if1 .left in
+    let zero : replayNumber _ _ _ ≡ 0 = sym (number-answer _) ∙ sym (ap answerNumber (p .answer)) ∙ sym (s .before .before .before .number-of .ensures) ∙ s .if1 .left in
     record {
-      number = p .answer;
+      answer = p .answer;
       refused = λ n. absurd (n zero);
-      past = replayed-past _ _ _ _ p;
-      demand = λ z. claims _ _ (s .before .before .links .ensures) (s .before .locks .ensures) _ _ _ _ _ asked _ _ _ _ _ _ _ (lent long replied) (replayed-told _ _ _ _ p z) (p .book z);
+      made = λ z. record {
+        numbers = p .told z;
+        pairs = asked .book _ (p .book z);
+        chain = lent long replied .answers _ (p .book z);
+        demand = claims _ (record { links = (_, s .before .before .links .ensures, refl); locks = s .before .locks .ensures; pairs = asked; chain = lent long replied })
+            (replayed-calls _ _ _ _ (p .told z)) (p .book z);
+      };
     }
 
 pub inquire-spec : {M : Type 1} → statement M

@@ -1,5 +1,6 @@
 -- `host::dating_chain` carries the promise of the question over to words. Assumes nothing.
 use mathlib.Core.Path.{refl}
+use Rattle.book.specs.Causes.{number}
 use Rattle.host.proofs.Carrying.{load-none, load-some, asked-foreign, asked}
 use borrow.Author.Needs.{needs}
 use Rattle.host.proofs.dating_chain.Statement.{statement}
@@ -15,6 +16,7 @@ told-refusal-requires : tie.Need-told-refusal-requires
 told-refusal-requires c κs = search needs
 
 returns : tie.Need-returns
+unfolding number
 returns c = asked-foreign (load-none (c .before .before .before .load .ensures) (c .before .before .number-of .ensures) (c .before .if1 .taken)) (c .told-refusal .ensures) refl
 
 chain-requires : tie.Need-chain-requires

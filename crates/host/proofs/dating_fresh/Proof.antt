@@ -1,6 +1,7 @@
 -- `host::dating_fresh` stores the register that `engine::open` makes. Assumes nothing.
 use mathlib.Core.Path.{sym, _∙_}
 use borrow.Author.Tests.{not-true, not-false}
+use Rattle.book.specs.Causes.{number}
 use Rattle.host.proofs.Carrying.{fresh-refused, fresh-short, fresh-made}
 use borrow.Author.Needs.{needs}
 use Rattle.host.proofs.dating_fresh.Statement.{statement}
@@ -22,6 +23,7 @@ same-length : tie.Need-same-length
 same-length c = search needs
 
 returns-2 : tie.Need-returns-2
+unfolding number
 returns-2 c = fresh-short (c .before .before .before .before .before .before .before .before .open .ensures) _ (sym (c .before .before .before .before .before .before .before .number-of .ensures) ∙ c .before .before .before .before .before .before .if1 .left) _ _ (c .before .before .before .store .ensures) (not-true _ (c .if2 .taken))
 
 same-length-2 : tie.Need-same-length-2

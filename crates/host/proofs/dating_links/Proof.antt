@@ -4,6 +4,7 @@ use native.Mathlib.Omega.{arith}
 use borrow.Author.Tests.{not-true, not-false}
 use lib.ListN.{length, take}
 use lib.Seq.{length-take-le}
+use Rattle.book.specs.Causes.{number}
 use Rattle.host.proofs.Carrying.{load-none, load-some, asked-foreign, links-short, links-given}
 use borrow.Author.Needs.{needs}
 use Rattle.host.proofs.dating_links.Statement.{statement}
@@ -22,6 +23,7 @@ told-refusal-requires : tie.Need-told-refusal-requires
 told-refusal-requires c κs = search needs
 
 returns : tie.Need-returns
+unfolding number
 returns c = asked-foreign (load-none (c .before .before .before .load .ensures) (c .before .before .number-of .ensures) (c .before .if1 .taken)) (c .told-refusal .ensures) refl
 
 links-requires : tie.Need-links-requires
@@ -43,6 +45,7 @@ same-length : tie.Need-same-length
 same-length c = search needs
 
 returns-2 : tie.Need-returns-2
+unfolding number
 returns-2 c = links-short (load-some (c .before .before .before .before .before .before .before .before .before .before .before .before .load .ensures) (c .before .before .before .before .before .before .before .before .before .before .before .number-of .ensures) (c .before .before .before .before .before .before .before .before .before .before .if1 .left)) (c .before .before .before .before .before .before .before .before .links .result) (c .before .before .before .before .before .before .before .before .links .ensures) (c .before .before .before .before .copy .ensures) (not-true _ (c .before .if2 .taken)) (c .told-refusal2 .ensures)
 
 same-length-2 : tie.Need-same-length-2

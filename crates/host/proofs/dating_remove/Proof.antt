@@ -1,4 +1,5 @@
 -- `host::dating_remove` carries the promise of `engine::remove` over to words. Assumes nothing.
+use Rattle.book.specs.Causes.{number}
 use Rattle.host.proofs.Carrying.{load-none, load-some, edit-foreign, edit-kept}
 use borrow.Author.Needs.{needs}
 use Rattle.host.proofs.dating_remove.Statement.{statement}
@@ -14,6 +15,7 @@ same-length : tie.Need-same-length
 same-length c = search needs
 
 returns : tie.Need-returns
+unfolding number
 returns c = edit-foreign _ _ (load-none (c .before .before .load .ensures) (c .before .number-of .ensures) (c .if1 .taken))
 
 remove-requires : tie.Need-remove-requires

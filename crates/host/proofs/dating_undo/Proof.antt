@@ -1,4 +1,5 @@
 -- `host::dating_undo` carries the promise of `engine::undo` over to words. Assumes nothing.
+use Rattle.book.specs.Causes.{number}
 use Rattle.host.proofs.Carrying.{load-none, load-some, edit-foreign, edit-kept}
 use borrow.Author.Needs.{needs}
 use Rattle.host.proofs.dating_undo.Statement.{statement}
@@ -14,6 +15,7 @@ same-length : tie.Need-same-length
 same-length c = search needs
 
 returns : tie.Need-returns
+unfolding number
 returns c = edit-foreign _ _ (load-none (c .before .before .load .ensures) (c .before .number-of .ensures) (c .if1 .taken))
 
 undo-requires : tie.Need-undo-requires

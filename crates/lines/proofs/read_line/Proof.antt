@@ -1,6 +1,6 @@
 -- `lines::read_line` meets its contract. The loop's invariant: len is at most the buffer's length. The measure is the number of turns left.
 -- Assumes nothing.
-use mathlib.Core.Path.{_≡_, refl, ap, _∙_}
+use mathlib.Core.Path.{_≡_, refl}
 use mathlib.Core.Logic.{⊎-elim}
 use Prim.Native.Nat.{_≤_}
 use native.Mathlib.Omega.{arith}

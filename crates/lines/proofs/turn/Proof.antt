@@ -1,8 +1,7 @@
--- `lines::turn` is safe and ends: the parts that it lends are within the whole (`length-take-le`, `frame-short`). Assumes nothing.
+-- `lines::turn` is safe and ends: the parts that it lends are within the whole (`length-take-le`; what is written fits). Assumes nothing.
 use mathlib.Core.Path.{sym}
 use native.Mathlib.Omega.{arith}
 use lib.Seq.{length-take-le}
-use Rattle.lines.specs.EncodingLaws.{frame-short}
 use borrow.Author.Needs.{needs}
 use Rattle.lines.proofs.turn.Statement.{statement}
 use Rattle.lines.proofs.turn.Tie as tie
@@ -26,7 +25,7 @@ frame-requires : tie.Need-frame-requires
 frame-requires c κs = search needs
 
 array-share-prefix-out : tie.Need-array-share-prefix-out
-array-share-prefix-out c = omega (arith, frame-short (c .before .frame .ensures))
+array-share-prefix-out c = omega (arith, c .before .frame .ensures .fits)
 
 slice-aggregate-write-all : tie.Need-slice-aggregate-write-all
 slice-aggregate-write-all c = sym (length-take-le _ _ (array-share-prefix-out (c .before)))

@@ -1,13 +1,13 @@
 -- `pairs::hand_over` runs the code and tells what its last number gives: a number of pairs, or a refusal. Assumes nothing.
 use native.Mathlib.Omega.{arith}
-use mathlib.Core.Path.{_≡_, _∙_, subst}
+use mathlib.Core.Path.{_≡_, subst}
 use lib.ListN.{length}
 use Rattle.k2.specs.PairSets.{listed}
 use Rattle.paths.specs.Chains.{asked}
 use Rattle.paths.specs.Relations.{cells}
 use Rattle.tree.specs.Calls.{Settled as Told}
 use Rattle.tree.specs.declared.Answer.{Answer}
-use Rattle.pairs.proofs.Running.{coded-some, going-last, going-lists, told-handed, told-refused, not-refused, same-number}
+use Rattle.pairs.proofs.Running.{coded-some, going-last, going-lists, told-handed, told-refused}
 use borrow.Author.Needs.{needs}
 use Rattle.pairs.proofs.hand_over.Statement.{statement}
 use Rattle.pairs.proofs.hand_over.Tie as tie
@@ -45,10 +45,10 @@ returns c =
     let A = c .before .before .before .before .before .before .before .before .before .before .before .before .before .before .before .before .before .args in
     let P = c .before .before .before .before .before .before .before .before .before .before .before .before .before .before .before .before .before .pre in
     let I = c .before .before .before .before .before .last in (
-      λ k e. not-refused _ _ e,
+      (I .ensures .settles .0, told-handed _ (subst (λ (v : Answer). Told (I .ensures .settles .0) (A .list .now) (I .last .1 .1 .1 .1 .1 .0) v) (c .before .answer .given .1) (I .ensures .settles .1))),
       λ b L s x q.
           told-handed _ (subst (λ (v : Answer). Told (listed (b .n) (cells (asked b) x)) (A .list .now) (I .last .1 .1 .1 .1 .1 .0) v) (c .before .answer .given .1)
-          (going-lists (A .n) (A .words .now) _ (coded-some (A .n) (A .words .now) _ (P .2 .2)) (c .before .before .before .before .before .before .before .before .before .before .before .evaluate .ensures) (I .ensures .1) b L s x q)),
+          (going-lists (A .n) (A .words .now) _ (coded-some (A .n) (A .words .now) _ (P .2 .2)) (c .before .before .before .before .before .before .before .before .before .before .before .evaluate .ensures) (I .ensures) b L s x q)),
     )
 
 same-length-3 : tie.Need-same-length-3
@@ -62,10 +62,10 @@ returns-2 c =
     let A = c .before .before .before .before .before .before .before .before .before .before .before .before .before .before .before .before .before .args in
     let P = c .before .before .before .before .before .before .before .before .before .before .before .before .before .before .before .before .before .pre in
     let I = c .before .before .before .before .before .last in (
-      λ k e. I .ensures .0 k (c .before .answer2 .given .1 ∙ same-number _ _ e),
+      (I .ensures .settles .0, told-refused _ (subst (λ (v : Answer). Told (I .ensures .settles .0) (A .list .now) (I .last .1 .1 .1 .1 .1 .0) v) (c .before .answer2 .given .1) (I .ensures .settles .1))),
       λ b L s x q.
           told-refused _ (subst (λ (v : Answer). Told (listed (b .n) (cells (asked b) x)) (A .list .now) (I .last .1 .1 .1 .1 .1 .0) v) (c .before .answer2 .given .1)
-          (going-lists (A .n) (A .words .now) _ (coded-some (A .n) (A .words .now) _ (P .2 .2)) (c .before .before .before .before .before .before .before .before .before .before .before .evaluate .ensures) (I .ensures .1) b L s x q)),
+          (going-lists (A .n) (A .words .now) _ (coded-some (A .n) (A .words .now) _ (P .2 .2)) (c .before .before .before .before .before .before .before .before .before .before .before .evaluate .ensures) (I .ensures) b L s x q)),
     )
 
 pub hand-over-spec : {M : Type 1} → statement M

@@ -23,7 +23,7 @@ returns : tie.Need-returns
 returns c =
     let P = c .before .before .before .before .before .before .before .before .before .pre in
     let I = c .before .before .list-with in
-    (I .ensures .unchanged, lists-letter _ _ _ _ _ _ _ _ (P .0) (P .1) _ (omega arith) (c .before .before .before .before .label-part .ensures) (I .ensures))
+    lists-letter _ _ _ _ _ _ _ _ (P .0) (P .1) _ (omega arith) (c .before .before .before .before .label-part .ensures) (I .ensures)
 
 sub-top : tie.Need-sub-top
 sub-top c = let P = c .before .before .before .before .pre in before-some (P .2) (omega arith) .0
@@ -67,7 +67,7 @@ returns-2 c =
     let o = before-one (P .2) (omega arith) (omega arith) in
     let I = c .before .before .list-with2 in
     let S = c .before .before .before .before .before .before .before .before .before .before .before .before .before .args .t4 in
-    (I .ensures .unchanged, lists-one _ _ _ _ _ _ _ _ (P .0) (P .1) S (c .before .before .before .before .before .kind .result) (S .end - getD (S .sizes) (S .count - 1) 0) (o .1) (P .2 .placed) (c .before .before .before .before .before .before .before .label-part2 .ensures) (omega arith) (omega arith) (o .0) refl (λ m x. c .before .before .before .before .before .kind .ensures .0 m x (omega arith)) (I .ensures))
+    lists-one _ _ _ _ _ _ _ _ (P .0) (P .1) S (c .before .before .before .before .before .kind .result) (S .end - getD (S .sizes) (S .count - 1) 0) (o .1) (P .2 .placed) (c .before .before .before .before .before .before .before .label-part2 .ensures) (omega arith) (omega arith) (o .0) refl (λ m x. c .before .before .before .before .before .kind .ensures .0 m x (omega arith)) (I .ensures)
 
 sub-left : tie.Need-sub-left
 sub-left c = let P = c .before .before .before .before .before .before .before .pre in let t = before-two (P .2) (omega arith) in omega (arith, t .0)
@@ -111,7 +111,7 @@ returns-3 c =
     let t = before-two (P .2) (omega arith) in
     let I = c .before .before .list-with3 in
     let S = c .before .before .before .before .before .before .before .before .before .before .before .before .before .before .args .t4 in
-    (I .ensures .unchanged, lists-two _ _ _ _ _ _ _ _ (P .0) (P .1) S (c .before .before .before .before .before .kind2 .result) (S .end - getD (S .sizes) (S .count - 1) 0 - getD (S .sizes) (S .count - 1 - 1) 0) (t .1) (P .2 .placed) (c .before .before .before .before .before .before .before .before .label-part2 .ensures) (omega arith) (t .0) refl (λ m x y. c .before .before .before .before .before .kind2 .ensures .1 m x y (omega arith) (before-number (P .2))) (I .ensures))
+    lists-two _ _ _ _ _ _ _ _ (P .0) (P .1) S (c .before .before .before .before .before .kind2 .result) (S .end - getD (S .sizes) (S .count - 1) 0 - getD (S .sizes) (S .count - 1 - 1) 0) (t .1) (P .2 .placed) (c .before .before .before .before .before .before .before .before .label-part2 .ensures) (omega arith) (t .0) refl (λ m x y. c .before .before .before .before .before .kind2 .ensures .1 m x y (omega arith) (before-number (P .2))) (I .ensures)
 
 pub last-spec : {M : Type 1} → statement M
 last-spec =

@@ -1,9 +1,10 @@
--- `register::check_link` meets its contract: out of range no cause is promised, and in range the causes of the ends and the label decide. Assumes nothing.
-use mathlib.Core.Path.{_≡_, sym, _∙_}
+-- `register::check_link` meets its contract: out of range the number is that of no register, and in range the causes of the ends and the label decide. Assumes nothing.
+use mathlib.Core.Path.{_≡_, refl, sym, _∙_}
 use native.Mathlib.Omega.{arith}
 use borrow.Author.Needs.{needs}
 use borrow.Author.Tests.{not-true, not-false}
-use Rattle.book.specs.Causes.{firstNumber}
+use Rattle.book.specs.Causes.{not-open, number, firstNumber}
+use Rattle.book.specs.BookLaws.{first-caused}
 use Rattle.book.specs.Book.{Link}
 use Rattle.register.specs.Calls.{Ranged}
 use Rattle.register.specs.Inner.{linkCauses}
@@ -15,7 +16,8 @@ ranged-requires : tie.Need-ranged-requires
 ranged-requires c κs = search needs
 
 returns : tie.Need-returns
-returns c = ((λ z. omega arith), λ h. absurd (c .before .ranged .ensures .none (not-true _ (c .if1 .taken)) h))
+unfolding number
+returns c = ((not-open, refl), (λ h. absurd (c .before .ranged .ensures .none (not-true _ (c .if1 .taken)) h)), λ _. refl)
 
 in-range : (c : tie.Else1) → Ranged (c .before .before .before .args .n) (c .before .before .before .args .count) (c .before .before .before .args .top) (c .before .before .before .args .held)
 in-range c = c .before .ranged .ensures .sure (not-false _ (c .if1 .left))
@@ -24,7 +26,7 @@ link-cause-requires : tie.Need-link-cause-requires
 link-cause-requires c κs = omega (arith, in-range (c) .size, c .before .before .before .pre)
 
 returns-2 : tie.Need-returns-2
-returns-2 c = search needs
+returns-2 c = (first-caused _ (c .before .link-cause .ensures) (c .if2 .taken), (λ _. c .before .link-cause .ensures), λ o. absurd (o (in-range (c .before .before))))
 
 abbrev link : (c : tie.Start) → Link
 link c = record { from = c .args .from; label = c .args .label; to = c .args .to }

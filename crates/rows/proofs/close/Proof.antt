@@ -6,7 +6,7 @@ use native.Mathlib.Omega.{arith}
 use borrow.Author.Needs.{needs}
 use lib.ListN.{length}
 use Rattle.k2.specs.Bits.{bitAt}
-use Rattle.k2.specs.PairSets.{Cells, IsSet, over, closure}
+use Rattle.k2.specs.PairSets.{Cells, IsSet, via, closure}
 use Rattle.k2.specs.PairSetLaws.{closure-set}
 use Rattle.rows.specs.Rows.{flat}
 use Rattle.rows.specs.Steps.{rowAt, Occupied}
@@ -73,7 +73,7 @@ loop-again c =
       v .kept .0 ∙ l .inv .1,
       λ x X o e.
           v .ensures (a .n) (closure (r (l .round)) x) nl (closure-set (a .n) (r (l .round)) x X) (rounds-occupied (a .n) m x nl X r o (r (l .round))) (l .inv .2 x X o e)
-          ∙ ap flat (ap (λ (k : ℕ). over k (closure (r (l .round)) x)) (sym (row-at (a .n) m list (l .round) h)) ∙ rounds-more (a .n) m x nl X r o (l .round) h),
+          ∙ ap flat (ap (λ (k : ℕ). via k (closure (r (l .round)) x)) (sym (row-at (a .n) m list (l .round) h)) ∙ rounds-more (a .n) m x nl X r o (l .round) h),
     )
 
 same-length : tie.Need-same-length Inv-loop μ-loop

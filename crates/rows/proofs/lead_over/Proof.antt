@@ -8,7 +8,7 @@ use borrow.Author.Needs.{needs}
 use lib.ListN.{length, getD}
 use mathlib.Core.List.{List}
 use Rattle.k2.specs.Bits.{bitAt}
-use Rattle.k2.specs.PairSets.{Cells, IsSet, over}
+use Rattle.k2.specs.PairSets.{Cells, IsSet, via}
 use Rattle.rows.specs.Rows.{flat}
 use Rattle.rows.specs.Steps.{rowAt, Occupied, rowsTo, plusRow}
 use Rattle.rows.proofs.Search.{to-row}
@@ -20,7 +20,7 @@ use Rattle.rows.proofs.lead_over.Tie as tie
 abbrev Inv-loop : tie.InvT-loop
 Inv-loop rows₀ k list m t₀ rows t =
     (t ≤ m) × (length rows ≡ length rows₀) × ((n : ℕ) (x : Cells) → n ≤ 1024 → IsSet n x → Occupied (flat x) n (rowAt n m list) m → bitAt rows₀ ≡ flat x
-    → bitAt rows ≡ flat (rowsTo (rowAt n m list t) (over k x) x))
+    → bitAt rows ≡ flat (rowsTo (rowAt n m list t) (via k x) x))
 
 abbrev μ-loop : tie.MeasureT-loop
 μ-loop rows₀ k list m t₀ rows t = m - t
@@ -58,10 +58,10 @@ loop-less : tie.Need-loop-less Inv-loop μ-loop
 loop-less c = omega arith
 
 -- the bit of the entry's row and column k is that of the set at the start
-cell : (n k t m : ℕ) (x : Cells) (l rows : List ℕ) → t < m → k < 1024 → bitAt rows ≡ flat (rowsTo (rowAt n m l t) (over k x) x)
+cell : (n k t m : ℕ) (x : Cells) (l rows : List ℕ) → t < m → k < 1024 → bitAt rows ≡ flat (rowsTo (rowAt n m l t) (via k x) x)
     → bitAt rows (getD l t 0 % 1024 * 1024 + k) ≡ x (rowAt n m l t) k
 cell n k t m x l rows h kl e =
-    ap (λ (i : ℕ). bitAt rows (i * 1024 + k)) (sym (row-at n m l t h)) ∙ ap (λ (f : ℕ → ℕ). f (rowAt n m l t * 1024 + k)) e ∙ to-row (rowAt n m l t) (over k x) x k kl
+    ap (λ (i : ℕ). bitAt rows (i * 1024 + k)) (sym (row-at n m l t h)) ∙ ap (λ (f : ℕ → ℕ). f (rowAt n m l t * 1024 + k)) e ∙ to-row (rowAt n m l t) (via k x) x k kl
 
 loop-again : tie.Need-loop-again Inv-loop μ-loop
 loop-again c =
@@ -78,8 +78,8 @@ loop-again c =
       λ n x nl X o e.
           let q = l .inv .2 n x nl X o e in
           let s : x (R n (l .t)) (a .k) ≡ 1 = sym (cell n (a .k) (l .t) (a .m) x (a .list .now) (l .rows) h kl q) ∙ sym (c .before .bit .ensures) ∙ w .0 .taken in
-          rw (w .5) (w .2 .ensures (rowsTo (R n (l .t)) (over (a .k) x) x) q
-          ∙ ap flat (ap (λ (i : ℕ). plusRow i (a .k) (rowsTo (R n (l .t)) (over (a .k) x) x)) (sym (at n)) ∙ round-yes n (a .k) x nl X (a .m) (R n) o (l .t) h s)),
+          rw (w .5) (w .2 .ensures (rowsTo (R n (l .t)) (via (a .k) x) x) q
+          ∙ ap flat (ap (λ (i : ℕ). plusRow i (a .k) (rowsTo (R n (l .t)) (via (a .k) x) x)) (sym (at n)) ∙ round-yes n (a .k) x nl X (a .m) (R n) o (l .t) h s)),
     ))
     (λ w. (
       omega arith,

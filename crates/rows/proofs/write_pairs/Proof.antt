@@ -1,17 +1,17 @@
 -- `write_pairs` goes over the words, and over the bits of a word by its trailing zeros. Both invariants: the places passed of bits that are set
--- are written, and t is their number. The measures are the words and the places of a word left. It rests on `bit-found`, `wrote-one` and, as
--- places of bits are the words of pairs, `listed-places`. Assumes nothing.
+-- are written, and t is their number. The measures are the words and the places of a word left. It rests on `bit-found` and `wrote-one`.
+-- Assumes nothing.
 use mathlib.Core.Path.{_≡_, refl, sym, ap, _∙_}
 use mathlib.Core.List.{[], _∷_, _++_}
-use Prim.Native.Nat.{ℕ, _≤_, _<_, _+_, _-_, _*_, _/_, _^_}
+use Prim.Native.Nat.{_≤_, _<_, _+_, _-_, _*_, _/_, _^_}
 use native.Mathlib.Nat.{div-one}
 use native.Mathlib.Omega.{arith}
 use borrow.Author.Needs.{needs}
 use lib.Count.{trailingZeros, trailing-le}
 use lib.ListN.{length, getD, length-set, length-append}
 use Rattle.k2.specs.Bits.{bitAt}
-use Rattle.k2.specs.PairSets.{listed}
-use Rattle.rows.proofs.Listing.{places, places-first, places-longer, listed-places, Wrote, wrote-one, wrote-again, wrote-on, wrote-all, wrote-full, bit-found, bits-gone}
+use Rattle.rows.specs.Rows.{places}
+use Rattle.rows.proofs.Listing.{places-first, places-longer, Wrote, wrote-one, wrote-again, wrote-on, wrote-all, wrote-full, bit-found, bits-gone}
 use Rattle.rows.proofs.write_pairs.Statement.{statement}
 use Rattle.rows.proofs.write_pairs.Tie as tie
 
@@ -74,10 +74,9 @@ returns c =
     let i = c .before .before .loop2 in
     let b = c .before .before .before .before .before .before .args in
     let f = bitAt (b .rows .now) in
-    let nl : b .n ≤ 1024 = omega arith in
     let r = places-first f (i .p) (b .n * 1024) (omega (arith, i .inv .1, l .inv .0)) in
     let h : length (places f (i .p)) ≡ length (b .out .now) = omega (arith, i .inv .3, i .inv .4, i .inv .5, l .inv .2, c .if1 .taken) in
-    λ a A e. wrote-full (places f (i .p)) (listed (b .n) a) (b .out .now) (i .out) (r .0) h (listed-places (b .n) a nl A ∙ ap (λ (g : ℕ → ℕ). places g (b .n * 1024)) (sym e) ∙ r .1)
+    wrote-full (places f (i .p)) (places f (b .n * 1024)) (b .out .now) (i .out) (r .0) h (r .1)
     (wrote-on (places f (l .q * 64)) (places f (i .p)) (b .out .now) (l .out) (i .out) (places-longer f (l .q * 64) (i .p) (i .inv .0)) (l .inv .4) (i .inv .6))
 
 cast-p : tie.Need-cast-p Inv-loop2 μ-loop2 Inv-loop μ-loop
@@ -155,11 +154,8 @@ returns-2 c =
     let l = c .before .loop in
     let b = c .before .before .args in
     let f = bitAt (b .rows .now) in
-    let nl : b .n ≤ 1024 = omega arith in
     let q : l .q * 64 ≡ b .n * 1024 = omega arith in
-    λ a A e.
-    let s : listed (b .n) a ≡ places f (l .q * 64) = listed-places (b .n) a nl A ∙ ap (λ (g : ℕ → ℕ). places g (b .n * 1024)) (sym e) ∙ ap (places f) (sym q) in
-    rw s (wrote-all (places f (l .q * 64)) (b .out .now) (l .out) (omega (arith, l .inv .1, l .inv .3)) (l .inv .4))
+    rw (← q) (wrote-all (places f (l .q * 64)) (b .out .now) (l .out) (omega (arith, l .inv .1, l .inv .3)) (l .inv .4))
 
 pub write-pairs-spec : {M : Type 1} → statement M
 write-pairs-spec =

@@ -5,8 +5,8 @@ use borrow.Author.Tests.{not-true, not-false}
 use denote.Ref.{now}
 use lib.ListN.{length}
 use Rattle.book.specs.Causes.{number}
-use Rattle.chains.specs.Replies.{outcomeOf}
-use Rattle.session.specs.Program.{asks, chain, nextSession, printed}
+use Rattle.session.specs.Program.{asks, chain, nextSession, printed, listLeft}
+use Rattle.session.specs.Listing.{reply-left}
 use Rattle.session.specs.TurnLaws.{closed-turns, chain-turns}
 use borrow.Author.Needs.{needs}
 use Rattle.session.proofs.ask_chain.Statement.{statement}
@@ -19,11 +19,11 @@ same-length : tie.Need-same-length
 same-length c = search needs
 
 returns : tie.Need-returns
-unfolding nextSession printed number
+unfolding nextSession printed listLeft number
 returns c =
     let s = c .before .before .before .before .before .before .before .before .before .before .args in
     let w = c .before .before .refuse in
-    closed-turns (s .state) _ _ (now (s .out)) (w .last .1 .1 .0) (w .result) (asks (chain (s .x) (s .y) (now (s .text)))) refl (λ v t. refl) (not-true _ (c .before .before .before .before .if1 .taken)) (w .ensures .0) (w .ensures .1)
+    closed-turns (s .state) _ (now (s .list)) (now (s .list)) (now (s .out)) (w .last .1 .1 .0) (w .result) (asks (chain (s .x) (s .y) (now (s .text)))) refl (λ v t. refl) (λ v t. refl) (not-true _ (c .before .before .before .before .if1 .taken)) (w .ensures .0) refl (w .ensures .1)
 
 chain-requires : tie.Need-chain-requires
 chain-requires c κs = search needs
@@ -45,8 +45,8 @@ returns-2 c =
     let s = c .before .before .before .before .before .before .before .before .before .before .before .before .before .before .before .before .before .before .args in
     let a = c .before .before .before .before .before .before .before .before .before .chain in
     let w = c .before .before .put-reply in
-    chain-turns (s .state) (length (now (s .work))) (length (now (s .list))) (now (s .out)) (w .last .1 .1 .0) _ (s .x) (s .y) (now (s .text)) _ (not-false _ (c .before .before .before .before .before .before .before .before .before .before .before .before .if1 .left)) refl
-    (λ b h t q. a .ensures .answers b h t q .0) (w .ensures)
+    chain-turns (s .state) (length (now (s .work))) (now (s .list)) _ (now (s .out)) (w .last .1 .1 .0) _ (s .x) (s .y) (now (s .text)) _ (not-false _ (c .before .before .before .before .before .before .before .before .before .before .before .before .if1 .left)) refl
+    (reply-left (now (s .list)) _ (a .kept .1 .1 .1 .1 .1 .0) (a .result) (a .ensures .fits) (a .ensures .past)) (a .ensures .answers) (w .ensures)
 
 pub ask-chain-spec : {M : Type 1} → statement M
 ask-chain-spec =

@@ -5,8 +5,8 @@ use borrow.Author.Tests.{not-true, not-false}
 use denote.Ref.{now}
 use lib.ListN.{length}
 use Rattle.book.specs.Causes.{number}
-use Rattle.session.specs.Program.{asks, pairs, nextSession, printed}
-use Rattle.session.specs.Listing.{listing-is}
+use Rattle.session.specs.Program.{asks, pairs, nextSession, printed, listLeft}
+use Rattle.session.specs.Listing.{listing-is, listing-left}
 use Rattle.session.specs.TurnLaws.{closed-turns, pairs-turns}
 use borrow.Author.Needs.{needs}
 use Rattle.session.proofs.ask_pairs.Statement.{statement}
@@ -19,11 +19,11 @@ same-length : tie.Need-same-length
 same-length c = search needs
 
 returns : tie.Need-returns
-unfolding nextSession printed number
+unfolding nextSession printed listLeft number
 returns c =
     let s = c .before .before .before .before .before .before .before .before .before .before .args in
     let w = c .before .before .refuse in
-    closed-turns (s .state) _ _ (now (s .out)) (w .last .1 .1 .0) (w .result) (asks (pairs (now (s .text)))) refl (λ v t. refl) (not-true _ (c .before .before .before .before .if1 .taken)) (w .ensures .0) (w .ensures .1)
+    closed-turns (s .state) _ (now (s .list)) (now (s .list)) (now (s .out)) (w .last .1 .1 .0) (w .result) (asks (pairs (now (s .text)))) refl (λ v t. refl) (λ v t. refl) (not-true _ (c .before .before .before .before .if1 .taken)) (w .ensures .0) refl (w .ensures .1)
 
 pairs-requires : tie.Need-pairs-requires
 pairs-requires c κs = search needs
@@ -45,8 +45,9 @@ returns-2 c =
     let s = c .before .before .before .before .before .before .before .before .before .before .before .before .before .before .before .before .before .before .args in
     let a = c .before .before .before .before .before .before .before .before .before .pairs in
     let w = c .before .before .put-listing in
-    pairs-turns (s .state) (length (now (s .work))) (length (now (s .list))) (now (s .out)) (w .last .1 .1 .0) _ (now (s .text)) _ (not-false _ (c .before .before .before .before .before .before .before .before .before .before .before .before .if1 .left)) refl
-    (λ b h. listing-is _ (a .result) (now (s .list)) _ (a .ensures .tells b h) (a .ensures .list b h)) (w .ensures)
+    pairs-turns (s .state) (length (now (s .work))) (now (s .list)) _ (now (s .out)) (w .last .1 .1 .0) _ (now (s .text)) _ (not-false _ (c .before .before .before .before .before .before .before .before .before .before .before .before .if1 .left)) refl
+    (listing-left (now (s .list)) _ (a .kept .1 .1 .1 .0) (a .result) (a .ensures .fits) (a .ensures .past))
+    (λ b h. let q = a .ensures .book b h in (listing-is _ (a .result) (now (s .list)) _ (q .tells) (q .list), q .list)) (w .ensures)
 
 pub ask-pairs-spec : {M : Type 1} → statement M
 ask-pairs-spec =

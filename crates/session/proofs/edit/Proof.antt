@@ -1,11 +1,11 @@
 -- `session::edit` meets its contract: before an open it is refused (`closed-turns`), else it is the register's call (`call-turns`). Assumes nothing.
-use mathlib.Core.Path.{refl, sym, ap}
+use mathlib.Core.Path.{refl, ap}
 use borrow.Author.Tests.{not-true, not-false}
 use denote.Ref.{now}
 use Rattle.book.specs.Causes.{number}
 use Rattle.report.specs.Report.{answerText}
 use Rattle.report.specs.WrittenLaws.{wrote-as}
-use Rattle.session.specs.Program.{asks, call, nextSession, printed}
+use Rattle.session.specs.Program.{asks, call, nextSession, printed, listLeft}
 use Rattle.session.specs.Says.{callOf}
 use Rattle.session.specs.TurnLaws.{closed-turns, call-turns}
 use borrow.Author.Needs.{needs}
@@ -19,11 +19,11 @@ same-length : tie.Need-same-length
 same-length c = search needs
 
 returns : tie.Need-returns
-unfolding nextSession printed number
+unfolding nextSession printed listLeft number
 returns c =
     let s = c .before .before .before .before .before .before .before .args in
     let w = c .before .before .refuse in
-    λ work list. closed-turns (s .state) work list (now (s .out)) (w .last .1 .1 .0) (w .result) (asks (call (callOf (s .call)))) refl (λ v t. refl) (not-true _ (c .before .before .before .before .if1 .taken)) (w .ensures .0) (w .ensures .1)
+    λ work l. closed-turns (s .state) work l l (now (s .out)) (w .last .1 .1 .0) (w .result) (asks (call (callOf (s .call)))) refl (λ v t. refl) (λ v t. refl) (not-true _ (c .before .before .before .before .if1 .taken)) (w .ensures .0) refl (w .ensures .1)
 
 apply-requires : tie.Need-apply-requires
 apply-requires c κs = search needs
@@ -42,7 +42,7 @@ returns-2 c =
     let s = c .before .before .before .before .before .before .before .before .before .before .args in
     let o = c .before .before .before .before .before .before .apply in
     let w = c .before .before .put-answer in
-    λ work list. call-turns (s .state) work list (now (s .out)) (w .last .1 .0) _ (callOf (s .call)) (o .result) (o .ensures) (not-false _ (c .before .before .before .before .before .before .before .if1 .left)) refl refl (wrote-as (ap answerText (c .before .before .before .before .number-of .ensures)) (w .ensures))
+    λ work l. call-turns (s .state) work l l (now (s .out)) (w .last .1 .0) _ (callOf (s .call)) (o .result) (o .ensures) (not-false _ (c .before .before .before .before .before .before .before .if1 .left)) refl refl refl (wrote-as (ap answerText (c .before .before .before .before .number-of .ensures)) (w .ensures))
 
 pub edit-spec : {M : Type 1} → statement M
 edit-spec =

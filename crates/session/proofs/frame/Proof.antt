@@ -18,7 +18,7 @@ add-if1 c = search needs
 returns : tie.Need-returns
 returns c =
     let s = c .before .before .before .before .before .args in
-    none-framed (s .state) (length (now (s .work))) (length (now (s .list))) (now (s .out)) (now (s .out)) _ _ (omega arith) refl refl refl
+    none-framed (s .state) (length (now (s .work))) (now (s .list)) (now (s .list)) (now (s .out)) (now (s .out)) _ _ (omega arith) refl refl refl refl
 
 decode-requires : tie.Need-decode-requires
 decode-requires c κs = search needs
@@ -49,10 +49,10 @@ long : (c : tie.After-decoded3) → 4 ≤ length (now (c .before .before .before
 long c = subst (λ d. Long d (now (c .before .before .before .before .before .before .before .before .args .body))) (c .decoded3 .given .1) (c .before .before .decode .ensures .1)
 
 sub-ask-chain : tie.Need-sub-ask-chain
-sub-ask-chain c = long (c .before)
+sub-ask-chain c = omega (arith, long (c .before))
 
 part-ask-chain-start : tie.Need-part-ask-chain-start
-part-ask-chain-start c = long (c .before)
+part-ask-chain-start c = omega (arith, long (c .before))
 
 part-ask-chain-end : tie.Need-part-ask-chain-end
 part-ask-chain-end c = search needs
@@ -80,7 +80,7 @@ unfolding says
 returns-2 c =
     let s = c .before .before .before .before .before .before .before .before .before .before .before .before .before .args in
     let w = c .before .before .«open» in
-    turned-framed (s .state) (length (now (s .work))) (length (now (s .list))) (now (s .out)) _ _ (says (c .before .before .before .before .before .before .before .decode .result) (now (s .body))) _ (c .before .before .before .before .before .before .before .decode .ensures .0) (omega arith)
+    turned-framed (s .state) (length (now (s .work))) (now (s .list)) _ (now (s .out)) _ _ (says (c .before .before .before .before .before .before .before .decode .result) (now (s .body))) _ (c .before .before .before .before .before .before .before .decode .ensures .0) (omega arith)
     (rw (c .before .before .before .before .before .decoded .given .1) (w .ensures _ _))
 
 same-length-2 : tie.Need-same-length-2
@@ -91,7 +91,7 @@ unfolding says
 returns-3 c =
     let s = c .before .before .before .before .before .before .before .before .before .before .before .before .before .args in
     let w = c .before .before .edit in
-    turned-framed (s .state) (length (now (s .work))) (length (now (s .list))) (now (s .out)) _ _ (says (c .before .before .before .before .before .before .before .decode .result) (now (s .body))) _ (c .before .before .before .before .before .before .before .decode .ensures .0) (omega arith)
+    turned-framed (s .state) (length (now (s .work))) (now (s .list)) _ (now (s .out)) _ _ (says (c .before .before .before .before .before .before .before .decode .result) (now (s .body))) _ (c .before .before .before .before .before .before .before .decode .ensures .0) (omega arith)
     (rw (c .before .before .before .before .before .decoded2 .given .1) (w .ensures _ _))
 
 same-length-3 : tie.Need-same-length-3
@@ -108,7 +108,7 @@ unfolding says
 returns-4 c =
     let s = c .before .before .before .before .before .before .before .before .before .before .before .before .before .before .before .before .before .before .args in
     let w = c .before .before .before .before .before .before .ask-pairs in
-    turned-framed (s .state) (length (now (s .work))) (length (now (s .list))) (now (s .out)) _ _ (says (c .before .before .before .before .before .before .before .before .before .before .before .before .decode .result) (now (s .body))) _ (c .before .before .before .before .before .before .before .before .before .before .before .before .decode .ensures .0) (omega arith)
+    turned-framed (s .state) (length (now (s .work))) (now (s .list)) _ (now (s .out)) _ _ (says (c .before .before .before .before .before .before .before .before .before .before .before .before .decode .result) (now (s .body))) _ (c .before .before .before .before .before .before .before .before .before .before .before .before .decode .ensures .0) (omega arith)
     (rw (c .before .before .before .before .before .before .before .before .before .before .enum-told .given .1) (w .ensures))
 
 same-length-6 : tie.Need-same-length-6
@@ -125,8 +125,8 @@ unfolding says
 returns-5 c =
     let s = c .before .before .before .before .before .before .before .before .before .before .before .before .before .before .before .before .before .before .before .before .args in
     let w = c .before .before .before .before .before .before .ask-chain in
-    turned-framed (s .state) (length (now (s .work))) (length (now (s .list))) (now (s .out)) _ _ (says (c .before .before .before .before .before .before .before .before .before .before .before .before .before .before .decode .result) (now (s .body))) _ (c .before .before .before .before .before .before .before .before .before .before .before .before .before .before .decode .ensures .0) (omega (arith, c .before .before .before .before .before .before .before .before .before .before .before .before .before .before .before .if1 .left))
-    (rw (c .before .before .before .before .before .before .before .before .before .before .before .before .decoded3 .given .1) (part-turns (s .state) _ _ _ _ _ _ _ (now (s .body)) (w .ensures)))
+    turned-framed (s .state) (length (now (s .work))) (now (s .list)) _ (now (s .out)) _ _ (says (c .before .before .before .before .before .before .before .before .before .before .before .before .before .before .decode .result) (now (s .body))) _ (c .before .before .before .before .before .before .before .before .before .before .before .before .before .before .decode .ensures .0) (omega (arith, c .before .before .before .before .before .before .before .before .before .before .before .before .before .before .before .if1 .left))
+    (rw (c .before .before .before .before .before .before .before .before .before .before .before .before .decoded3 .given .1) (part-turns (s .state) _ _ _ _ _ _ _ _ (now (s .body)) (w .ensures)))
 
 same-length-9 : tie.Need-same-length-9
 same-length-9 c = search needs
@@ -136,8 +136,8 @@ unfolding says number
 returns-6 c =
     let s = c .before .before .before .before .before .before .before .before .before .before .before .before .args in
     let w = c .before .before .refuse in
-    turned-framed (s .state) (length (now (s .work))) (length (now (s .list))) (now (s .out)) _ _ (says (c .before .before .before .before .before .before .decode .result) (now (s .body))) _ (c .before .before .before .before .before .before .decode .ensures .0) (omega arith)
-    (rw (c .before .before .before .before .enum-told2 .given .1) (faulty-turns (s .state) _ _ _ _ (w .result) broken-frame (w .ensures .0) (w .ensures .1)))
+    turned-framed (s .state) (length (now (s .work))) (now (s .list)) _ (now (s .out)) _ _ (says (c .before .before .before .before .before .before .decode .result) (now (s .body))) _ (c .before .before .before .before .before .before .decode .ensures .0) (omega arith)
+    (rw (c .before .before .before .before .enum-told2 .given .1) (faulty-turns (s .state) _ _ _ _ _ (w .result) broken-frame (w .ensures .0) refl (w .ensures .1)))
 
 same-length-10 : tie.Need-same-length-10
 same-length-10 c = search needs
@@ -147,8 +147,8 @@ unfolding says number
 returns-7 c =
     let s = c .before .before .before .before .before .before .before .before .before .before .before .before .args in
     let w = c .before .before .refuse2 in
-    turned-framed (s .state) (length (now (s .work))) (length (now (s .list))) (now (s .out)) _ _ (says (c .before .before .before .before .before .before .decode .result) (now (s .body))) _ (c .before .before .before .before .before .before .decode .ensures .0) (omega arith)
-    (rw (c .before .before .before .before .enum-told3 .given .1) (faulty-turns (s .state) _ _ _ _ (w .result) unknown-kind (w .ensures .0) (w .ensures .1)))
+    turned-framed (s .state) (length (now (s .work))) (now (s .list)) _ (now (s .out)) _ _ (says (c .before .before .before .before .before .before .decode .result) (now (s .body))) _ (c .before .before .before .before .before .before .decode .ensures .0) (omega arith)
+    (rw (c .before .before .before .before .enum-told3 .given .1) (faulty-turns (s .state) _ _ _ _ _ (w .result) unknown-kind (w .ensures .0) refl (w .ensures .1)))
 
 pub frame-spec : {M : Type 1} → statement M
 frame-spec =

@@ -1,5 +1,5 @@
 -- `session::front` meets its contract: each test gives the reason why no frame stands there, and all four together that one does. Assumes nothing.
-use mathlib.Core.Path.{sym, subst}
+use mathlib.Core.Path.{sym}
 use mathlib.Core.Logic.{inl, inr}
 use native.Mathlib.Omega.{arith}
 use denote.Ref.{now}

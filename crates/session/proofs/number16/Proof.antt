@@ -1,5 +1,4 @@
 -- `session::number16` meets its contract: the low byte and 256 times the high one; past the end both are 0. Assumes nothing.
-use mathlib.Core.Path.{refl, sym}
 use Prim.Native.Nat.{_+_}
 use native.Mathlib.Omega.{arith}
 use denote.Ref.{now}

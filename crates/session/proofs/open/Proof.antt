@@ -20,7 +20,7 @@ unfolding number
 returns c =
     let s = c .before .before .before .before .before .before .args in
     let w = c .before .before .refuse in
-    λ work list. kept-turns (s .state) work list (now (s .out)) (w .last .1 .1 .0) (w .result) (s .n) (open-none (s .n) (c .before .before .before .before .if1 .taken)) (w .ensures .0) (w .ensures .1)
+    λ work l. kept-turns (s .state) work l l (now (s .out)) (w .last .1 .1 .0) (w .result) (s .n) (open-none (s .n) (c .before .before .before .before .if1 .taken)) (w .ensures .0) refl (w .ensures .1)
 
 refuse-requires-2 : tie.Need-refuse-requires-2
 refuse-requires-2 c κs = search needs
@@ -33,7 +33,7 @@ unfolding number
 returns-2 c =
     let s = c .before .before .before .before .before .before .before .args in
     let w = c .before .before .refuse2 in
-    λ work list. kept-turns (s .state) work list (now (s .out)) (w .last .1 .1 .0) (w .result) (s .n) (open-many (s .n) (c .before .before .before .before .before .if1 .left) (c .before .before .before .before .if2 .taken)) (w .ensures .0) (w .ensures .1)
+    λ work l. kept-turns (s .state) work l l (now (s .out)) (w .last .1 .1 .0) (w .result) (s .n) (open-many (s .n) (c .before .before .before .before .before .if1 .left) (c .before .before .before .before .if2 .taken)) (w .ensures .0) refl (w .ensures .1)
 
 open-requires : tie.Need-open-requires
 open-requires c κs = search needs
@@ -50,7 +50,7 @@ returns-3 c =
     let low : 1 ≤ s .n = omega (arith, c .before .before .before .before .before .before .before .if1 .left) in
     let high : s .n ≤ 64 = omega (arith, c .before .before .before .before .before .before .if2 .left) in
     let w = c .before .before .put-ok in
-    λ work list. fresh-turns (s .state) work list (now (s .out)) (w .last .0) _ (s .n) (open-fine (s .n) low high) high refl (c .before .before .before .before .before .«open» .ensures .made (fresh-fine (s .n) low high)) (w .ensures)
+    λ work l. fresh-turns (s .state) work l l (now (s .out)) (w .last .0) _ (s .n) (open-fine (s .n) low high) high refl (c .before .before .before .before .before .«open» .ensures .made (fresh-fine (s .n) low high)) refl (w .ensures)
 
 pub open-spec : {M : Type 1} → statement M
 open-spec =

@@ -1,13 +1,12 @@
--- `session::put_listing` meets its contract: each arm prints its own text; of a number past the list the whole list is printed. Assumes nothing.
-use mathlib.Core.Path.{sym, ap}
+-- `session::put_listing` meets its contract: each arm prints its own text, and the list holds the pairs. Assumes nothing.
+use mathlib.Core.Path.{sym}
 use Prim.Native.Nat.{_≤_}
-use native.Mathlib.Nat.{le-of-lt}
 use native.Mathlib.Omega.{arith}
 use denote.Ref.{now}
 use lib.ListN.{length, length-take}
-use lib.Seq.{length-take-le, take-all}
-use Rattle.report.specs.Report.{pairsText, outcomeText}
-use Rattle.report.specs.WrittenLaws.{wrote-as}
+use lib.Seq.{length-take-le}
+use Rattle.report.specs.Report.{outcomeText}
+use Rattle.pairs.specs.Asking.{pairsLength}
 use Rattle.session.specs.Listing.{listing}
 use borrow.Author.Needs.{needs}
 use Rattle.session.proofs.put_listing.Statement.{statement}
@@ -16,21 +15,16 @@ use Rattle.session.proofs.put_listing.Tie as tie
 enum-known-answer : tie.Need-enum-known-answer
 enum-known-answer c = search needs
 
-put-pairs-requires : tie.Need-put-pairs-requires
-put-pairs-requires c κs = search needs
-
-same-length : tie.Need-same-length
-same-length c = search needs
-
-returns : tie.Need-returns
-unfolding outcomeText listing
-returns c = rw (c .before .before .before .before .before .before .answer .given .1) (wrote-as (ap pairsText (sym (take-all _ _ (le-of-lt (c .before .before .before .before .if1 .taken))))) (c .before .before .put-pairs .ensures))
+-- the pairs are within the list
+fits : (c : tie.After-answer) → c .answer .given .0 .0 ≤ length (now (c .before .before .before .before .args .list))
+unfolding pairsLength
+fits c = rw (c .answer .given .1) at (c .before .before .before .before .pre .0)
 
 slice-aggregate-put-pairs : tie.Need-slice-aggregate-put-pairs
-slice-aggregate-put-pairs c = sym (length-take-le _ _ (c .before .if1 .left))
+slice-aggregate-put-pairs c = sym (length-take-le _ _ (fits (c .before .before)))
 
-put-pairs-requires-2 : tie.Need-put-pairs-requires-2
-put-pairs-requires-2 c κs = let p = c .before .before .before .before .before .before .before .before .pre in simp length-take (omega arith)
+put-pairs-requires : tie.Need-put-pairs-requires
+put-pairs-requires c κs = let p = c .before .before .before .before .before .before .before .pre .1 in simp length-take (omega arith)
 
 enum-known-answer-2 : tie.Need-enum-known-answer-2
 enum-known-answer-2 c = search needs
@@ -38,33 +32,30 @@ enum-known-answer-2 c = search needs
 put-refused-requires : tie.Need-put-refused-requires
 put-refused-requires c κs = search needs
 
+same-length : tie.Need-same-length
+same-length c = search needs
+
+returns : tie.Need-returns
+unfolding outcomeText listing
+returns c = rw (c .before .before .before .before .before .before .answer .given .1) (c .before .before .put-pairs .ensures)
+
 same-length-2 : tie.Need-same-length-2
 same-length-2 c = search needs
 
 returns-2 : tie.Need-returns-2
 unfolding outcomeText listing
-returns-2 c = rw (c .before .before .before .before .before .before .before .answer .given .1) (c .before .before .put-pairs2 .ensures)
-
-same-length-3 : tie.Need-same-length-3
-same-length-3 c = search needs
-
-returns-3 : tie.Need-returns-3
-unfolding outcomeText listing
-returns-3 c = rw (c .before .before .before .before .before .answer2 .given .1) (c .before .before .put-refused .ensures)
+returns-2 c = rw (c .before .before .before .before .before .answer2 .given .1) (c .before .before .put-refused .ensures)
 
 pub put-listing-spec : {M : Type 1} → statement M
 put-listing-spec =
     tie.close
     (tie.spec
     enum-known-answer
-    put-pairs-requires
-    same-length
-    returns
     slice-aggregate-put-pairs
-    put-pairs-requires-2
+    put-pairs-requires
     enum-known-answer-2
     put-refused-requires
+    same-length
+    returns
     same-length-2
-    returns-2
-    same-length-3
-    returns-3)
+    returns-2)

@@ -1,31 +1,31 @@
--- `session::run` meets its contract. The loop's invariant: what was read and printed so far is how far a run came (`Advances`), and the lengths are as they
--- were. The measure is what is left of the input. Assumes nothing.
+-- `session::run` meets its contract. The loop's invariant: what was read and printed so far is how far a run came that has read, or not yet begun
+-- (`Reached`), and the lengths are as they were. The measure is what is left of the input. Assumes nothing.
 use mathlib.Core.Path.{_≡_, refl, subst, _∙_}
 use mathlib.Core.Bool.{Bool, true, false}
 use Prim.Native.Nat.{ℕ, _+_, _-_, _<_}
 use denote.Ref.{now}
 use borrow.Author.Tests.{not-true, not-false}
-use borrow.Rule.Slice.PartMut.{putMid, same-len-mid}
+use borrow.Rule.Slice.PartMut.{same-len-mid}
 use native.Mathlib.Omega.{arith}
 use lib.ListN.{length}
 use Rattle.session.specs.Turns.{room}
 use Rattle.session.specs.Runs.{Advances}
 use Rattle.session.specs.TurnLaws.{both-ways}
-use Rattle.session.specs.RunsLaws.{stays, goes-on-part, no-room, rest-short}
+use Rattle.session.specs.RunsLaws.{withRest, Reached, not-begun, has-read, goes-on-part, no-room, rest-short}
 use borrow.Author.Needs.{needs}
 use Rattle.session.proofs.run.Statement.{statement}
 use Rattle.session.proofs.run.Tie as tie
 
 abbrev Inv-loop : tie.InvT-loop
 Inv-loop input work₀ list₀ out₀ state₀ read₀ written₀ work list out state read written =
-    Advances state₀ input (length work₀) (length list₀) out₀ out (record { state = state; read = read; written = written; more = true })
+    Reached (length work₀) state₀ input list₀ list out₀ out (record { state = state; read = read; written = written; more = true })
     × (length work ≡ length work₀) × (length list ≡ length list₀) × (length out ≡ length out₀)
 
 abbrev μ-loop : tie.MeasureT-loop
 μ-loop input work₀ list₀ out₀ state₀ read₀ written₀ work list out state read written = length input - read
 
 loop-holds : tie.Need-loop-holds Inv-loop μ-loop
-loop-holds c = (stays _ _ _ _ _, refl, refl, refl)
+loop-holds c = (not-begun _ _ _ _ _, refl, refl, refl)
 
 sub-step : tie.Need-sub-step Inv-loop μ-loop
 sub-step c = omega (arith, c .loop .inv .0 .inside, c .loop .inv .0 .within)
@@ -51,18 +51,16 @@ step-requires c κs = tt
 -- how far the run came with this turn
 went : (c : tie.After-step Inv-loop μ-loop) (more : Bool) → c .step .result .more ≡ more
     → let l = c .before .before .before .before .before .loop in let q = c .step .result in let s = c .before .before .before .before .before .before .before .before .before .before .args in
-    Advances (s .state) (now (s .input)) (length (now (s .work))) (length (now (s .list))) (now (s .out))
-    (putMid (l .written) (length (l .out) - l .written) (l .out) (c .step .last .1 .1 .1 .1 .0))
-    (record { state = q .state; read = l .read + q .read; written = l .written + q .written; more = more })
+    Advances (s .state) (now (s .input)) (length (now (s .work))) (now (s .list)) (c .step .last .1 .1 .1 .0) (now (s .out))
+    (withRest (l .written) (l .out) (c .step .last .1 .1 .1 .1 .0)) (record { state = q .state; read = l .read + q .read; written = l .written + q .written; more = more })
 went c more e =
     let l = c .before .before .before .before .before .loop in
     let s = c .before .before .before .before .before .before .before .before .before .before .args in
     let q = c .step .result in
-    subst (λ (b : Bool). Advances (s .state) (now (s .input)) (length (now (s .work))) (length (now (s .list))) (now (s .out))
-    (putMid (l .written) (length (l .out) - l .written) (l .out) (c .step .last .1 .1 .1 .1 .0))
-    (record { state = q .state; read = l .read + q .read; written = l .written + q .written; more = b })) e
-    (goes-on-part (length (now (s .work))) (length (now (s .list))) (s .state) (now (s .input)) (now (s .out)) (l .out) (c .step .last .1 .1 .1 .1 .0)
-    (record { state = l .state; read = l .read; written = l .written; more = true }) (c .step .result) _ _ refl (l .inv .3) (l .inv .1) (l .inv .2) (l .inv .0) (c .step .ensures .0))
+    subst (λ (b : Bool). Advances (s .state) (now (s .input)) (length (now (s .work))) (now (s .list)) (c .step .last .1 .1 .1 .0) (now (s .out))
+    (withRest (l .written) (l .out) (c .step .last .1 .1 .1 .1 .0)) (record { state = q .state; read = l .read + q .read; written = l .written + q .written; more = b })) e
+    (goes-on-part (length (now (s .work))) (s .state) (now (s .input)) (now (s .list)) (l .list) _ (now (s .out)) (l .out) (c .step .last .1 .1 .1 .1 .0)
+    (record { state = l .state; read = l .read; written = l .written; more = true }) q _ (l .inv .2) (l .inv .3) (l .inv .1) (l .inv .0) (c .step .ensures))
 
 -- the lent slices keep their lengths
 works : (c : tie.After-step Inv-loop μ-loop) → length (c .step .last .1 .1 .0) ≡ length (now (c .before .before .before .before .before .before .before .before .before .before .args .work))
@@ -71,7 +69,8 @@ works c = c .step .kept .1 .1 .0 ∙ c .before .before .before .before .before .
 lists : (c : tie.After-step Inv-loop μ-loop) → length (c .step .last .1 .1 .1 .0) ≡ length (now (c .before .before .before .before .before .before .before .before .before .before .args .list))
 lists c = c .step .kept .1 .1 .1 .0 ∙ c .before .before .before .before .before .loop .inv .2
 
-outs : (c : tie.After-step Inv-loop μ-loop) → let l = c .before .before .before .before .before .loop in length (putMid (l .written) (length (l .out) - l .written) (l .out) (c .step .last .1 .1 .1 .1 .0)) ≡ length (now (c .before .before .before .before .before .before .before .before .before .before .args .out))
+outs : (c : tie.After-step Inv-loop μ-loop) → let l = c .before .before .before .before .before .loop in length (withRest (l .written) (l .out) (c .step .last .1 .1 .1 .1 .0))
+    ≡ length (now (c .before .before .before .before .before .before .before .before .before .before .args .out))
 outs c =
     let l = c .before .before .before .before .before .loop in
     same-len-mid (l .written) (length (l .out) - l .written) (l .out) (c .step .last .1 .1 .1 .1 .0) (c .step .kept .1 .1 .1 .1 .0) ∙ l .inv .3
@@ -92,7 +91,7 @@ same-length-3 : tie.Need-same-length-3 Inv-loop μ-loop
 same-length-3 c = outs (c .before .before .before .before .before .before .before .before .before .before .before)
 
 returns : tie.Need-returns Inv-loop μ-loop
-returns c = (went (c .before .before .before .before .before .before .before .before .before .before .before) false (not-true _ (c .if1 .taken)), λ e. absurd (both-ways _ e refl))
+returns c = record { advances = went (c .before .before .before .before .before .before .before .before .before .before .before) false (not-true _ (c .if1 .taken)); full = λ e. absurd (both-ways _ e refl) }
 
 same-length-4 : tie.Need-same-length-4 Inv-loop μ-loop
 same-length-4 c = works (c .before .before .before .before .before .before .before .before .before .before .before .before .before)
@@ -104,21 +103,26 @@ same-length-6 : tie.Need-same-length-6 Inv-loop μ-loop
 same-length-6 c = outs (c .before .before .before .before .before .before .before .before .before .before .before .before .before)
 
 returns-2 : tie.Need-returns-2 Inv-loop μ-loop
-returns-2 c = (
-  went (c .before .before .before .before .before .before .before .before .before .before .before .before .before) true (not-false _ (c .before .before .if1 .left)),
-  λ e.
-      let l = c .before .before .before .before .before .before .before .before .before .before .before .before .before .before .before .before .before .before .loop in
-      let q = c .before .before .before .before .before .before .before .before .before .before .before .before .before .step .result in
-      let short = no-room 0 _ q _ (c .before .before .before .before .before .before .before .before .before .before .before .before .before .step .ensures .1) (not-false _ (c .before .before .if1 .left)) (omega arith) in
-      subst (λ (k : ℕ). length (now (c .before .before .before .before .before .before .before .before .before .before .before .before .before .before .before .before .before .before .before .before .before .before .before .args .out)) < l .written + q .written + room k) (l .inv .2)
-      (rest-short (l .out) (length (now (c .before .before .before .before .before .before .before .before .before .before .before .before .before .before .before .before .before .before .before .before .before .before .before .args .out))) (l .written) (q .written) (room (length (l .list))) (l .inv .0 .within) (l .inv .3) short),
-)
+returns-2 c =
+    let l = c .before .before .before .before .before .before .before .before .before .before .before .before .before .before .before .before .before .before .loop in
+    let out = now (c .before .before .before .before .before .before .before .before .before .before .before .before .before .before .before .before .before .before .before .before .before .before .before .args .out) in
+    let turn = c .before .before .before .before .before .before .before .before .before .before .before .before .before .step in
+    let more = not-false _ (c .before .before .if1 .left) in
+    let short = no-room (turn .result) _ _ (turn .ensures .onward) more (omega arith) in
+    record {
+      advances = went (c .before .before .before .before .before .before .before .before .before .before .before .before .before) true more;
+      full = λ e.
+          subst (λ (k : ℕ). length out < l .written + turn .result .written + room k) (l .inv .2)
+          (rest-short (l .out) (length out) (l .written) (turn .result .written) (room (length (l .list))) (l .inv .0 .within) (l .inv .3) short);
+    }
 
 loop-less : tie.Need-loop-less Inv-loop μ-loop
 loop-less c = omega (arith, went (c .before .before .before .before .before .before .before .before .before .before .before .before .before) _ refl .inside)
 
 loop-again : tie.Need-loop-again Inv-loop μ-loop
-loop-again c = (went (c .before .before .before .before .before .before .before .before .before .before .before .before .before) true (not-false _ (c .before .before .if1 .left)), works (c .before .before .before .before .before .before .before .before .before .before .before .before .before), lists (c .before .before .before .before .before .before .before .before .before .before .before .before .before), outs (c .before .before .before .before .before .before .before .before .before .before .before .before .before))
+loop-again c =
+    let turn = c .before .before .before .before .before .before .before .before .before .before .before .before .before in
+    (has-read _ (went turn true (not-false _ (c .before .before .if1 .left))) refl (omega arith), works turn, lists turn, outs turn)
 
 pub run-spec : {M : Type 1} → statement M
 run-spec =

@@ -1,13 +1,12 @@
 -- `session::step` meets its contract: with too little room it stays (`stays`), else it is at the end of the input (`at-end`), at no frame (`is-broken`),
 -- or at one, which `frame` does (`one-frame`). Assumes nothing.
-use mathlib.Core.Path.{_≡_, refl}
+use mathlib.Core.Path.{_≡_}
 use Prim.Native.Nat.{_+_, _≤_}
 use native.Mathlib.Omega.{arith}
 use denote.Ref.{now}
 use lib.ListN.{length}
-use Rattle.book.specs.Causes.{number, broken-frame}
+use Rattle.book.specs.Causes.{number}
 use Rattle.session.specs.Program.{minFrame, maxFrame, number16}
-use Rattle.session.specs.TurnLaws.{both-ways}
 use Rattle.session.specs.RunsLaws.{front-frame, front-none, stays, at-end, is-broken, one-frame}
 use borrow.Author.Needs.{needs}
 use Rattle.session.proofs.step.Statement.{statement}
@@ -17,10 +16,14 @@ add-if1 : tie.Need-add-if1
 add-if1 c = search needs
 
 returns : tie.Need-returns
-returns c = (stays _ _ (c .before .before .before .before .before .args .state) (now (c .before .before .before .before .before .args .input)) (now (c .before .before .before .before .before .args .out)), λ h e. absurd (omega arith))
+returns c =
+    let s = c .before .before .before .before .before .args in
+    stays _ (s .state) (now (s .input)) (now (s .list)) (now (s .out)) (omega arith)
 
 returns-2 : tie.Need-returns-2
-returns-2 c = (at-end _ _ (c .before .before .before .before .before .before .args .state) (now (c .before .before .before .before .before .before .args .input)) (now (c .before .before .before .before .before .before .args .out)) (omega arith), λ h e. absurd (both-ways _ e refl))
+returns-2 c =
+    let s = c .before .before .before .before .before .before .args in
+    at-end _ (s .state) (now (s .input)) (now (s .list)) (now (s .out)) (omega arith)
 
 front-requires : tie.Need-front-requires
 front-requires c κs = search needs
@@ -34,7 +37,8 @@ same-length c = search needs
 returns-3 : tie.Need-returns-3
 unfolding number
 returns-3 c =
-    (is-broken _ _ (c .before .before .before .before .before .before .before .before .before .before .before .before .args .state) (now (c .before .before .before .before .before .before .before .before .before .before .before .before .args .input)) (now (c .before .before .before .before .before .before .before .before .before .before .before .before .args .out)) _ _ (c .before .before .put-refused .ensures) (front-none (c .before .before .before .before .before .front .ensures) (omega arith) _ _), λ h e. absurd (both-ways _ e refl))
+    let s = c .before .before .before .before .before .before .before .before .before .before .before .before .args in
+    is-broken _ (s .state) (now (s .input)) (now (s .list)) (now (s .out)) _ _ (c .before .before .put-refused .ensures) (front-none (c .before .before .before .before .before .front .ensures) (omega arith) _)
 
 -- the frame's length, and that it is whole
 facts : (c : tie.Else3) → let n = c .before .front .result in let i = now (c .before .before .before .before .before .before .before .before .args .input) in (n ≡ number16 i 0) × (minFrame ≤ n) × (n ≤ maxFrame) × (n + 2 ≤ length i)
@@ -68,10 +72,10 @@ same-length-4 : tie.Need-same-length-4
 same-length-4 c = search needs
 
 returns-4 : tie.Need-returns-4
-returns-4 c = (
-  one-frame _ _ (c .before .before .before .before .before .before .before .before .before .before .before .before .before .before .before .before .before .before .before .before .before .args .state) (now (c .before .before .before .before .before .before .before .before .before .before .before .before .before .before .before .before .before .before .before .before .before .args .input)) (now (c .before .before .before .before .before .before .before .before .before .before .before .before .before .before .before .before .before .before .before .before .before .args .out)) _ (c .before .before .before .before .before .before .before .before .before .before .before .before .before .before .front .result) _ (c .before .before .before .before .before .before .before .frame .result) (facts (c .before .before .before .before .before .before .before .before .before .before .before .before .before)) (c .before .before .before .before .before .before .before .before .before .before .before .before .number16 .ensures) (c .before .before .before .before .before .before .before .frame .ensures .turns (omega arith)),
-  λ h e. omega arith,
-)
+returns-4 c =
+    let s = c .before .before .before .before .before .before .before .before .before .before .before .before .before .before .before .before .before .before .before .before .before .args in
+    let f = c .before .before .before .before .before .before .before .frame in
+    one-frame _ (s .state) (now (s .input)) (now (s .list)) _ (now (s .out)) _ (c .before .before .before .before .before .before .before .before .before .before .before .before .before .before .front .result) _ (f .result) (facts (c .before .before .before .before .before .before .before .before .before .before .before .before .before)) (c .before .before .before .before .before .before .before .before .before .before .before .before .number16 .ensures) (f .ensures .turns (omega (arith, c .before .before .before .before .before .before .before .before .before .before .before .before .before .before .before .before .if1 .left)))
 
 pub step-spec : {M : Type 1} → statement M
 step-spec =

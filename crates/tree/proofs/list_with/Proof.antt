@@ -5,12 +5,13 @@ use native.Mathlib.Omega.{arith}
 use borrow.Author.Needs.{needs}
 use borrow.Author.Tests.{not-true, not-false}
 use lib.ListN.{length}
+use Rattle.book.specs.Causes.{number}
 use Rattle.k2.specs.PairSets.{Cells, setOf, union}
 use Rattle.rows.specs.Rows.{noPairs, linkPair}
 use Rattle.packing.specs.Reading.{sensed}
 use Rattle.tree.specs.Inner.{Room, outcome}
 use Rattle.tree.proofs.Copies.{wrong}
-use Rattle.tree.proofs.Ops.{rows-none, from-none, last-set, outcome-set}
+use Rattle.tree.proofs.Ops.{rows-none, from-none, set-settled, last-set, outcome-set}
 use Rattle.tree.proofs.list_with.Statement.{statement}
 use Rattle.tree.proofs.list_with.Tie as tie
 
@@ -19,17 +20,21 @@ roomy : (c : tie.Else2) → Room (c .before .before .before .before .before .bef
 roomy c = c .before .room .ensures .0 (not-false (c .before .room .result) (c .if2 .left))
 
 returns : tie.Need-returns
-returns c = record { gives = λ i l. absurd (omega arith); without = λ f. refl; unchanged = λ k e. refl }
+unfolding number
+returns c = record { settles = λ i l. absurd (omega arith); gives = λ i l. absurd (omega arith); without = λ f. (refl, refl) }
 
 room-requires : tie.Need-room-requires
 room-requires c κs = search needs
 
 returns-2 : tie.Need-returns-2
-returns-2 c = record {
-  gives = λ i l. absurd (wrong (not-true (c .before .room .result) (c .if2 .taken)) (c .before .room .ensures .1 i));
-  without = λ f. refl;
-  unchanged = λ k e. refl;
-}
+unfolding number
+returns-2 c =
+    let no = wrong (not-true (c .before .room .result) (c .if2 .taken)) in
+    record {
+      settles = λ i l. absurd (no (c .before .room .ensures .1 i));
+      gives = λ i l. absurd (no (c .before .room .ensures .1 i));
+      without = λ f. (refl, refl);
+    }
 
 slice-aggregate-load-at : tie.Need-slice-aggregate-load-at
 slice-aggregate-load-at c = search needs
@@ -62,12 +67,13 @@ returns-3 c =
     let h = c .before .before .hand-over .ensures in
     let m = roomy (c .before .before .before .before .before .before .before .before .before .before .before) in
     record {
+      settles = λ i k. (_, h);
       gives = λ i k a b ia ib ea eb il.
           let s : Cells = union b (sensed (g .sense) l) in
           let r = from-none a _ (c .before .before .before .before .before .before .before .before .before .load-at .ensures a noPairs ia ea rows-none) in
-          h .1 (outcome (g .kind) n a s) (outcome-set (g .kind) n a s ia (last-set n 0 (g .sense) b l ib il)) (c .before .before .before .before .before .before .combine .ensures a b ia ib r eb il);
+          set-settled n (outcome (g .kind) n a s) _ (g .out .now) _ (m .size) (outcome-set (g .kind) n a s ia (last-set n 0 (g .sense) b l ib il))
+          (c .before .before .before .before .before .before .combine .ensures a b ia ib r eb il) h;
       without = λ f. absurd (f (m, omega arith));
-      unchanged = h .0;
     }
 
 pub list-with-spec : {M : Type 1} → statement M

@@ -1,4 +1,4 @@
-//! 01's program: frames on standard input, lines on standard output.
+//! The program (S7): frames on standard input, lines on standard output.
 
 use std::io::{self, BufReader, BufWriter, Write};
 

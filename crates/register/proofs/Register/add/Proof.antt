@@ -1,6 +1,6 @@
 -- `register::Register::add` meets its contract: each refusal by `refuse` with the tests that led to it, and acceptance by `accept`. Assumes nothing.
 use Prim.Native.Nat.{_≤_, _<_}
-use mathlib.Core.Path.{_≡_, _∙_}
+use mathlib.Core.Path.{_≡_, _∙_, refl}
 use mathlib.Core.List.{[], _∷_}
 use native.Mathlib.Omega.{arith}
 use borrow.Author.Needs.{needs}
@@ -10,13 +10,14 @@ use lib.ListN.{length, take}
 use lib.Seq.{length-take-le}
 use Rattle.book.specs.Basics.{Rises}
 use Rattle.book.specs.Causes.{already, full, number, firstNumber, maxLinks}
+use Rattle.book.specs.BookLaws.{caused-positive}
 use Rattle.book.specs.Book.{Link, add}
 use Rattle.register.specs.Packed.{heldWord}
 use Rattle.register.specs.Calls.{packedOf}
 use Rattle.register.specs.Inner.{Checks}
 use Rattle.register.specs.declared.LinkCheck.the-variants.{Word, Fault}
 use Rattle.register.proofs.Showing.{packedCauses, packedEdit}
-use Rattle.register.proofs.Stepping.{refuse, accept, add-cause, add-stop}
+use Rattle.register.proofs.Stepping.{refuse, refuse-ranged, accept, add-cause, add-stop}
 use Rattle.register.proofs.Register.add.Statement.{statement}
 use Rattle.register.proofs.Register.add.Tie as tie
 
@@ -51,7 +52,7 @@ causes-left c = let w = word (c .before .before .before .before .before) in add-
 
 returns : tie.Need-returns
 unfolding firstNumber number
-returns c = refuse (c .before .before .before .before .before .before .before .before .before .before .before .before .args .t1) (add (link (c .before .before .before .before .before .before .before .before .before .before .before .before))) 5 (omega arith) (λ _ r. causes-left (c .before) r ∙ rw (c .if1 .taken))
+returns c = refuse-ranged (c .before .before .before .before .before .before .before .before .before .before .before .before .args .t1) (add (link (c .before .before .before .before .before .before .before .before .before .before .before .before))) (word (c .before .before .before .before .before .before) .0) 5 (already, refl) (λ r. causes-left (c .before) r ∙ rw (c .if1 .taken))
 
 returns-2 : tie.Need-returns-2
 unfolding firstNumber number
@@ -59,7 +60,7 @@ returns-2 c =
     let s = c .before .before .before .before .before .before .before .before .before .before .before .before .before .args .t1 in
     let k : length (s .links) ≡ 4096 = search needs in
     let h : 4096 ≤ length (take (s .count) (s .links)) = omega (arith, length-take-le (s .count) (s .links) (omega (arith, word (c .before .before .before .before .before .before .before) .0 .count)), c .if2 .taken) in
-    refuse s (add (link (c .before .before .before .before .before .before .before .before .before .before .before .before .before))) 7 (omega arith) (λ _ r. causes-left (c .before .before) r ∙ rw (c .before .if1 .left, le-leb 4096 _ h))
+    refuse-ranged s (add (link (c .before .before .before .before .before .before .before .before .before .before .before .before .before))) (word (c .before .before .before .before .before .before .before) .0) 7 (full, refl) (λ r. causes-left (c .before .before) r ∙ rw (c .before .if1 .left, le-leb 4096 _ h))
 
 put-in-requires : tie.Need-put-in-requires
 put-in-requires c κs = c .if2 .left
@@ -73,7 +74,7 @@ hold-requires c κs =
 returns-3 : tie.Need-returns-3
 returns-3 c =
     let f = fault (c .before) in
-    refuse (c .before .before .before .before .before .before .before .args .t1) (add (link (c .before .before .before .before .before .before .before))) _ (f .0) (λ h _. add-stop (c .before .before .before .before .before .before .before .args .t1) (link (c .before .before .before .before .before .before .before)) _ (f .1 h) (f .0))
+    refuse (c .before .before .before .before .before .before .before .args .t1) (add (link (c .before .before .before .before .before .before .before))) _ (f .0) (f .2) (λ h _. add-stop (c .before .before .before .before .before .before .before .args .t1) (link (c .before .before .before .before .before .before .before)) _ (f .1 h) (λ z. omega (arith, caused-positive (f .0), z)))
 
 returns-4 : tie.Need-returns-4
 unfolding firstNumber number packedEdit heldWord

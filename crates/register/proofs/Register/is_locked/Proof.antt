@@ -1,25 +1,40 @@
--- `register::Register::is_locked` meets its contract: past the array no record is locked. Assumes nothing.
-use mathlib.Core.Path.{_≡_, sym, _∙_}
+-- `register::Register::is_locked` meets its contract, by whether the counters are in range; past the array no record is locked. Assumes nothing.
+use mathlib.Core.Path.{_≡_, refl, sym, _∙_}
 use mathlib.Core.Bool.{false}
 use native.Mathlib.Omega.{arith}
 use lib.ListN.{length, List·getD-eq-default}
 use borrow.Author.Needs.{needs}
+use Rattle.register.specs.Calls.{InRange}
+use Rattle.register.proofs.Stepping.{outside, inside}
 use Rattle.register.proofs.Register.is_locked.Statement.{statement}
 use Rattle.register.proofs.Register.is_locked.Tie as tie
+
+ranged-requires : tie.Need-ranged-requires
+ranged-requires c κs = search needs
+
+returns : tie.Need-returns
+returns c =
+    let none = outside (c .before .before .args .t1) _ (c .before .ranged .ensures) (c .if1 .taken) in
+    record { foreign = λ _. refl; locked = λ b h. absurd (none (h .ranged)) }
+
+in-range : (c : tie.Else1) → InRange (c .before .before .args .t1)
+in-range c = inside (c .before .before .args .t1) (c .before .ranged .result) (c .before .ranged .ensures) (c .if1 .left)
 
 long : (c : tie.Start) → length (c .args .t1 .locks) ≡ 1024
 long c = search needs
 
-returns : tie.Need-returns
-returns c =
-    let a = c .before .args in
-    λ b h. sym (List·getD-eq-default (a .t1 .locks) false {n = a .«record»} (omega (arith, long (c .before)))) ∙ h .sheet .locks _
+returns-2 : tie.Need-returns-2
+returns-2 c =
+    let a = c .before .before .before .args in
+    let none = List·getD-eq-default (a .t1 .locks) false {n = a .«record»} (omega (arith, long (c .before .before .before))) in
+    record { foreign = λ _. refl; locked = λ b h. sym none ∙ h .sheet .locks _ }
 
 element-copy-out-result : tie.Need-element-copy-out-result
 element-copy-out-result c = search needs
 
-returns-2 : tie.Need-returns-2
-returns-2 c = λ b h. h .sheet .locks _
+returns-3 : tie.Need-returns-3
+returns-3 c = record { foreign = λ o. absurd (o (in-range (c .before .before))); locked = λ b h. h .sheet .locks _ }
 
 pub is-locked-spec : {M : Type 1} → statement M
-is-locked-spec = tie.close (tie.spec returns element-copy-out-result returns-2)
+is-locked-spec =
+    tie.close (tie.spec ranged-requires returns returns-2 element-copy-out-result returns-3)

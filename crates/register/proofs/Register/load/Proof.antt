@@ -5,7 +5,7 @@ use native.Mathlib.Omega.{arith}
 use lib.ListN.{take, drop, replicate, length-replicate, length-take, length-drop}
 use borrow.Author.Tests.{not-true, not-false}
 use Rattle.register.specs.Inner.{Formed}
-use Rattle.register.proofs.Keeping.{copied-over, locks-loaded, load-refused, load-made}
+use Rattle.register.proofs.Keeping.{copied-over, load-refused, load-made}
 use Rattle.register.specs.WordLaws.{part-long, loaded}
 use borrow.Author.Needs.{needs}
 use Rattle.register.proofs.Register.load.Statement.{statement}
@@ -21,7 +21,7 @@ empty-requires : tie.Need-empty-requires
 empty-requires c κs = search needs
 
 returns : tie.Need-returns
-returns c = load-refused (c .before .before .before .before .args .words .now) _ (c .before .before .is-register .ensures) (not-true _ (c .before .if1 .taken))
+returns c = load-refused (c .before .before .before .before .args .words .now) _ (c .before .before .is-register .ensures) (not-true _ (c .before .if1 .taken)) (c .empty .ensures)
 
 sub-copy : tie.Need-sub-copy
 sub-copy c = search needs
@@ -54,13 +54,13 @@ copy-requires-2 : tie.Need-copy-requires-2
 copy-requires-2 c κs = search needs
 
 sub-read-locks : tie.Need-sub-read-locks
-sub-read-locks c = omega (arith, made (c .before .before .before .before .before .before .before .before) .long)
+sub-read-locks c = search needs
 
 part-read-locks-start : tie.Need-part-read-locks-start
-part-read-locks-start c = omega (arith, made (c .before .before .before .before .before .before .before .before) .long)
+part-read-locks-start c = search needs
 
 part-read-locks-end : tie.Need-part-read-locks-end
-part-read-locks-end c = search needs
+part-read-locks-end c = omega (arith, made (c .before .before .before .before .before .before .before .before) .long)
 
 slice-aggregate-read-locks : tie.Need-slice-aggregate-read-locks
 slice-aggregate-read-locks c = search needs
@@ -72,7 +72,7 @@ shared-slice-read-t27 : tie.Need-shared-slice-read-t27
 shared-slice-read-t27 c = omega (arith, made (c .before .before .before .before .before .before .before .before .before .before .before .before .before) .long)
 
 cast-t28 : tie.Need-cast-t28
-cast-t28 c = omega (arith, made (c .before .before .before .before .before .before .before .before .before .before .before .before .before) .size)
+cast-t28 c = omega (arith, made (c .before .before .before .before .before .before .before .before .before .before .before .before .before) .ranged .size)
 
 shared-slice-read-t30 : tie.Need-shared-slice-read-t30
 shared-slice-read-t30 c = omega (arith, made (c .before .before .before .before .before .before .before .before .before .before .before .before .before .before) .long)
@@ -110,7 +110,7 @@ returns-2 c =
     let f = made (c .before .before .before .before .before .before .before .before .before .before .before .before .before .before .before .before) in
     load-made (
     loaded ws (c .before .before .before .before .before .before .before .before .before .before .before .before .before .copy .last .1 .0) (c .before .before .before .before .before .before .before .before .before .copy2 .last .1 .0) (c .before .before .before .before .before .read-locks .last .1 .0) f (links-read (c .before .before .before .before .before .before .before .before .before .before .before .before .before)) (ring-read (c .before .before .before .before .before .before .before .before .before))
-    (locks-loaded ws (c .before .before .before .before .before .read-locks .last .1 .0) f (c .before .before .before .before .before .read-locks .ensures)))
+    (c .before .before .before .before .before .read-locks .ensures (f .flags)))
 
 pub load-spec : {M : Type 1} → statement M
 load-spec =

@@ -1,15 +1,15 @@
--- `register::Register::lock` meets its contract: each refusal by `refuse` with the tests that led to it, and acceptance by `accept`. Assumes nothing.
-use mathlib.Core.Path.{_≡_}
+-- `register::Register::lock` meets its contract: each refusal by `refuse-foreign` or `refuse-ranged` with the tests that led to it, and acceptance by `accept`. Assumes nothing.
+use mathlib.Core.Path.{_≡_, refl}
 use native.Mathlib.Omega.{arith}
 use borrow.Author.Needs.{needs}
 use borrow.Author.Tests.{le-leb, lt-leb}
 use lib.ListN.{length}
-use Rattle.book.specs.Causes.{number, firstNumber}
+use Rattle.book.specs.Causes.{no-record, already, number, firstNumber}
 use Rattle.book.specs.Book.{lock}
 use Rattle.register.specs.Packed.{heldWord}
-use Rattle.register.specs.Calls.{Ranged}
+use Rattle.register.specs.Calls.{InRange}
 use Rattle.register.proofs.Showing.{packedCauses, packedEdit}
-use Rattle.register.proofs.Stepping.{outside, inside, refuse, accept}
+use Rattle.register.proofs.Stepping.{outside, inside, refuse-foreign, refuse-ranged, accept}
 use Rattle.register.proofs.Register.lock.Statement.{statement}
 use Rattle.register.proofs.Register.lock.Tie as tie
 
@@ -17,21 +17,21 @@ ranged-requires : tie.Need-ranged-requires
 ranged-requires c κs = search needs
 
 returns : tie.Need-returns
-returns c = outside _ _ 16 _ (c .before .ranged .ensures) (c .if1 .taken)
+returns c = refuse-foreign _ _ (outside (c .before .before .args .t1) _ (c .before .ranged .ensures) (c .if1 .taken))
 
-in-range : (c : tie.Else1) → Ranged (c .before .before .args .t1 .n) (c .before .before .args .t1 .count) (c .before .before .args .t1 .top) (c .before .before .args .t1 .held)
+in-range : (c : tie.Else1) → InRange (c .before .before .args .t1)
 in-range c = inside (c .before .before .args .t1) (c .before .ranged .result) (c .before .ranged .ensures) (c .if1 .left)
 
 returns-2 : tie.Need-returns-2
 unfolding packedCauses firstNumber number
-returns-2 c = refuse (c .before .before .before .args .t1) (lock (c .before .before .before .args .«record»)) 2 (omega arith) (λ _ _. rw (le-leb _ _ (c .if2 .taken)))
+returns-2 c = refuse-ranged (c .before .before .before .args .t1) (lock (c .before .before .before .args .«record»)) (in-range (c .before)) 2 (no-record, refl) (λ _. rw (le-leb _ _ (c .if2 .taken)))
 
 element-copy-out-if3 : tie.Need-element-copy-out-if3
 element-copy-out-if3 c = omega (arith, in-range (c .before) .size)
 
 returns-3 : tie.Need-returns-3
 unfolding packedCauses firstNumber number
-returns-3 c = refuse (c .before .before .before .before .before .args .t1) (lock (c .before .before .before .before .before .args .«record»)) 5 (omega arith) (λ _ _. rw (lt-leb _ _ (c .before .before .if2 .left), c .if3 .taken))
+returns-3 c = refuse-ranged (c .before .before .before .before .before .args .t1) (lock (c .before .before .before .before .before .args .«record»)) (in-range (c .before .before .before)) 5 (already, refl) (λ _. rw (lt-leb _ _ (c .before .before .if2 .left), c .if3 .taken))
 
 set-lock-requires : tie.Need-set-lock-requires
 set-lock-requires c κs = in-range (c .before .before .before) .count

@@ -1,10 +1,25 @@
--- `register::Register::locks` meets its contract: a register that represents a book has its locks. Assumes nothing.
+-- `register::Register::locks` meets its contract, by whether the counters are in range. Assumes nothing.
+use mathlib.Core.Path.{refl}
+use mathlib.Core.Bool.{false}
 use borrow.Author.Needs.{needs}
+use lib.ListN.{length-replicate}
+use Rattle.book.specs.Causes.{maxRecords}
+use Rattle.register.proofs.Stepping.{outside, inside}
 use Rattle.register.proofs.Register.locks.Statement.{statement}
 use Rattle.register.proofs.Register.locks.Tie as tie
 
+ranged-requires : tie.Need-ranged-requires
+ranged-requires c κs = search needs
+
 returns : tie.Need-returns
-returns c = record { long = search needs; locked = λ b h. h .sheet .locks }
+returns c =
+    let none = outside (c .before .before .args .self) _ (c .before .ranged .ensures) (c .if1 .taken) in
+    record { long = length-replicate maxRecords false; foreign = λ _. refl; locked = λ b h. absurd (none (h .ranged)) }
+
+returns-2 : tie.Need-returns-2
+returns-2 c =
+    let made = inside (c .before .before .before .args .self) _ (c .before .before .ranged .ensures) (c .before .if1 .left) in
+    record { long = search needs; foreign = λ o. absurd (o made); locked = λ b h. h .sheet .locks }
 
 pub locks-spec : {M : Type 1} → statement M
-locks-spec = tie.close (tie.spec returns)
+locks-spec = tie.close (tie.spec ranged-requires returns returns-2)

@@ -1,5 +1,5 @@
 -- `register::Register::remove` meets its contract: each refusal by `refuse` with the tests that led to it, and acceptance by `accept`. Assumes nothing.
-use mathlib.Core.Path.{_≡_, _∙_}
+use mathlib.Core.Path.{_≡_, _∙_, refl}
 use mathlib.Core.List.{[], _∷_}
 use mathlib.Core.Bool.{not}
 use native.Mathlib.Omega.{arith}
@@ -7,13 +7,14 @@ use borrow.Author.Needs.{needs}
 use lib.ListN.{length}
 use Rattle.book.specs.Basics.{Rises}
 use Rattle.book.specs.Causes.{missing, number, firstNumber}
+use Rattle.book.specs.BookLaws.{caused-positive}
 use Rattle.book.specs.Book.{Link, remove}
 use Rattle.register.specs.Packed.{heldWord}
 use Rattle.register.specs.Calls.{packedOf}
 use Rattle.register.specs.Inner.{Checks}
 use Rattle.register.specs.declared.LinkCheck.the-variants.{Word, Fault}
 use Rattle.register.proofs.Showing.{packedCauses, packedEdit}
-use Rattle.register.proofs.Stepping.{refuse, accept, remove-cause, remove-stop, link-proper}
+use Rattle.register.proofs.Stepping.{refuse, refuse-ranged, accept, remove-cause, remove-stop, link-proper}
 use Rattle.register.proofs.Register.remove.Statement.{statement}
 use Rattle.register.proofs.Register.remove.Tie as tie
 
@@ -47,7 +48,7 @@ causes-left c = let w = word (c .before .before .before .before .before) in remo
 
 returns : tie.Need-returns
 unfolding firstNumber number
-returns c = refuse (c .before .before .before .before .before .before .before .before .before .before .before .before .args .t1) (remove (link (c .before .before .before .before .before .before .before .before .before .before .before .before))) 6 (omega arith) (λ _ r. causes-left (c .before) r ∙ rw (c .if1 .taken))
+returns c = refuse-ranged (c .before .before .before .before .before .before .before .before .before .before .before .before .args .t1) (remove (link (c .before .before .before .before .before .before .before .before .before .before .before .before))) (word (c .before .before .before .before .before .before) .0) 6 (missing, refl) (λ r. causes-left (c .before) r ∙ rw (c .if1 .taken))
 
 take-out-requires : tie.Need-take-out-requires
 take-out-requires c κs = word (c .before .before .before .before .before .before) .0 .count
@@ -68,7 +69,7 @@ hold-requires c κs =
 returns-2 : tie.Need-returns-2
 returns-2 c =
     let f = fault (c .before) in
-    refuse (c .before .before .before .before .before .before .before .args .t1) (remove (link (c .before .before .before .before .before .before .before))) _ (f .0) (λ h _. remove-stop (c .before .before .before .before .before .before .before .args .t1) (link (c .before .before .before .before .before .before .before)) _ (f .1 h) (f .0))
+    refuse (c .before .before .before .before .before .before .before .args .t1) (remove (link (c .before .before .before .before .before .before .before))) _ (f .0) (f .2) (λ h _. remove-stop (c .before .before .before .before .before .before .before .args .t1) (link (c .before .before .before .before .before .before .before)) _ (f .1 h) (λ z. omega (arith, caused-positive (f .0), z)))
 
 returns-3 : tie.Need-returns-3
 unfolding firstNumber number packedEdit heldWord

@@ -1,7 +1,9 @@
--- `register::Register::step` meets its contract, kind by kind. Assumes nothing.
+-- `register::Register::step` meets its contract, kind by kind; no other kind is a call. Assumes nothing.
+use mathlib.Core.Path.{refl}
 use borrow.Author.Needs.{needs}
-use Rattle.register.specs.Calls.{callOf, wordCall}
-use Rattle.register.proofs.Replaying.{call-rest}
+use Rattle.book.specs.Causes.{number}
+use Rattle.register.specs.History.{kindCall, wordCall}
+use Rattle.register.proofs.Replaying.{kind-none}
 use Rattle.register.proofs.Register.step.Statement.{statement}
 use Rattle.register.proofs.Register.step.Tie as tie
 
@@ -30,26 +32,30 @@ undo-requires : tie.Need-undo-requires
 undo-requires c κs = search needs
 
 returns : tie.Need-returns
-unfolding wordCall callOf
+unfolding wordCall kindCall
 returns c = rw (c .before .match .keys1) (c .add .ensures)
 
 returns-2 : tie.Need-returns-2
-unfolding wordCall callOf
+unfolding wordCall kindCall
 returns-2 c = rw (c .before .match .keys2) (c .remove .ensures)
 
 returns-3 : tie.Need-returns-3
-unfolding wordCall callOf
+unfolding wordCall kindCall
 returns-3 c = rw (c .before .match .keys3) (c .lock .ensures)
 
 returns-4 : tie.Need-returns-4
-unfolding wordCall callOf
+unfolding wordCall kindCall
 returns-4 c = rw (c .before .match .keys4) (c .unlock .ensures)
 
 returns-5 : tie.Need-returns-5
-unfolding wordCall
-returns-5 c =
-    let r = c .before .match .rest in
-    rw (call-rest _ _ _ _ (r .0 .0 .0 .1) (r .0 .0 .1) (r .0 .1) (r .1)) (c .undo .ensures)
+unfolding wordCall kindCall
+returns-5 c = rw (c .before .match .keys5) (c .undo .ensures)
+
+returns-6 : tie.Need-returns-6
+unfolding wordCall number
+returns-6 c =
+    let r = c .match .rest in
+    rw (kind-none _ _ _ _ (r .0 .0 .0 .0 .1) (r .0 .0 .0 .1) (r .0 .0 .1) (r .0 .1) (r .1)) (refl, refl)
 
 pub step-spec : {M : Type 1} → statement M
 step-spec =
@@ -67,4 +73,5 @@ step-spec =
     returns-2
     returns-3
     returns-4
-    returns-5)
+    returns-5
+    returns-6)

@@ -1,16 +1,16 @@
 -- `register::Register::store` copies the numbers and the three arrays one behind another, after the tests. Assumes nothing.
-use mathlib.Core.Path.{_≡_, _∙_}
+use mathlib.Core.Path.{_≡_}
+use Prim.Native.Nat.{_≤_}
 use lib.ListN.{length}
 use native.Mathlib.Omega.{arith}
-use borrow.Author.Tests.{not-true}
-use Rattle.register.specs.Calls.{Ranged}
-use Rattle.register.proofs.Stepping.{inside}
-use Rattle.register.proofs.Keeping.{stored, store-refused, store-done}
+use Rattle.register.specs.Calls.{InRange}
+use Rattle.register.proofs.Stepping.{outside, inside}
+use Rattle.register.proofs.Keeping.{stored, store-refused}
 use borrow.Author.Needs.{needs}
 use Rattle.register.proofs.Register.store.Statement.{statement}
 use Rattle.register.proofs.Register.store.Tie as tie
 
-in-range : (c : tie.Else2) → Ranged (c .before .before .before .before .args .t1 .n) (c .before .before .before .before .args .t1 .count) (c .before .before .before .before .args .t1 .top) (c .before .before .before .before .args .t1 .held)
+in-range : (c : tie.Else2) → InRange (c .before .before .before .before .args .t1)
 in-range c = inside (c .before .before .before .before .args .t1) (c .before .ranged .result) (c .before .ranged .ensures) (c .if2 .left)
 
 links-long : (c : tie.Start) → length (c .args .t1 .links) ≡ 4096
@@ -23,13 +23,13 @@ locks-long : (c : tie.Start) → length (c .args .t1 .locks) ≡ 1024
 locks-long c = search needs
 
 returns : tie.Need-returns
-returns c = store-refused _ _ (λ l g. c .if1 .taken l)
+returns c = store-refused _ _ (λ l g. omega (arith, c .if1 .taken))
 
 ranged-requires : tie.Need-ranged-requires
 ranged-requires c κs = search needs
 
 returns-2 : tie.Need-returns-2
-returns-2 c = store-refused _ _ (λ l g. c .before .ranged .ensures .none (not-true _ (c .if2 .taken)) g)
+returns-2 c = store-refused _ _ (λ l g. outside (c .before .before .before .before .args .t1) _ (c .before .ranged .ensures) (c .if2 .taken) g)
 
 cast-t11 : tie.Need-cast-t11
 cast-t11 c = search needs
@@ -69,20 +69,18 @@ returns-3 c =
     let w₂ = c .before .before .before .before .before .before .before .before .before .before .before .before .before .before .before .before .copy2 .last .1 .0 in
     let w₃ = c .before .before .before .before .before .before .before .before .before .copy3 .last .1 .0 in
     let w₄ = c .before .before .write-locks .last .1 .0 in
-    let k₀ : length w₀ ≡ 5380 = omega (arith, c .before .before .before .before .before .before .before .before .before .before .before .before .before .before .before .before .before .before .before .before .before .before .before .before .before .before .before .before .if1 .left) in
+    let k₀ : 5380 ≤ length w₀ = omega (arith, c .before .before .before .before .before .before .before .before .before .before .before .before .before .before .before .before .before .before .before .before .before .before .before .before .before .before .before .before .if1 .left) in
     let k₁ : length w₁ ≡ length w₀ = c .before .before .before .before .before .before .before .before .before .before .before .before .before .before .before .before .before .before .before .before .before .before .before .copy .kept .1 .0 in
     let k₂ : length w₂ ≡ length w₁ = c .before .before .before .before .before .before .before .before .before .before .before .before .before .before .before .before .copy2 .kept .1 .0 in
     let k₃ : length w₃ ≡ length w₂ = c .before .before .before .before .before .before .before .before .before .copy3 .kept .1 .0 in
-    let k₄ : length w₄ ≡ length w₃ = c .before .before .write-locks .kept .1 .0 in
     let ls = links-long (c .before .before .before .before .before .before .before .before .before .before .before .before .before .before .before .before .before .before .before .before .before .before .before .before .before .before .before .before .before .before) in
     let rs = ring-long (c .before .before .before .before .before .before .before .before .before .before .before .before .before .before .before .before .before .before .before .before .before .before .before .before .before .before .before .before .before .before) in
     let ks = locks-long (c .before .before .before .before .before .before .before .before .before .before .before .before .before .before .before .before .before .before .before .before .before .before .before .before .before .before .before .before .before .before) in
-    store-done (
-    stored r w₀ w₁ w₂ w₃ w₄ (in-range (c .before .before .before .before .before .before .before .before .before .before .before .before .before .before .before .before .before .before .before .before .before .before .before .before .before .before)) ls rs ks (k₄ ∙ k₃ ∙ k₂ ∙ k₁ ∙ k₀)
+    stored r w₀ w₁ w₂ w₃ w₄ (in-range (c .before .before .before .before .before .before .before .before .before .before .before .before .before .before .before .before .before .before .before .before .before .before .before .before .before .before)) ls rs ks k₀ (omega (arith, k₀, k₁)) (omega (arith, k₀, k₁, k₂)) (omega (arith, k₀, k₁, k₂, k₃))
     (c .before .before .before .before .before .before .before .before .before .before .before .before .before .before .before .before .before .before .before .before .before .before .before .copy .ensures .fits (omega (arith, k₀)) .1)
     (c .before .before .before .before .before .before .before .before .before .before .before .before .before .before .before .before .copy2 .ensures .fits (omega (arith, k₀, k₁, ls)) .1)
     (c .before .before .before .before .before .before .before .before .before .copy3 .ensures .fits (omega (arith, k₀, k₁, k₂, rs)) .1)
-    (c .before .before .write-locks .ensures))
+    (c .before .before .write-locks .ensures)
 
 pub store-spec : {M : Type 1} → statement M
 store-spec =

@@ -5,9 +5,9 @@ use mathlib.Core.Logic.{⊎-elim}
 use native.Mathlib.Omega.{arith}
 use borrow.Author.Needs.{needs}
 use lib.ListN.{getD}
-use Rattle.register.specs.Calls.{previous, Ranged}
+use Rattle.register.specs.Calls.{previous, InRange}
 use Rattle.register.proofs.Ring.{latest-step, latest-none, previous-less}
-use Rattle.register.proofs.Stepping.{outside, inside, refuse-undo, accept-undo}
+use Rattle.register.proofs.Stepping.{outside, inside, refuse-foreign, refuse-undo, accept-undo}
 use Rattle.register.proofs.Register.undo.Statement.{statement}
 use Rattle.register.proofs.Register.undo.Tie as tie
 
@@ -15,13 +15,13 @@ ranged-requires : tie.Need-ranged-requires
 ranged-requires c κs = search needs
 
 returns : tie.Need-returns
-returns c = outside _ _ 16 _ (c .before .ranged .ensures) (c .if1 .taken)
+returns c = refuse-foreign _ _ (outside (c .before .before .args .t1) _ (c .before .ranged .ensures) (c .if1 .taken))
 
-in-range : (c : tie.Else1) → Ranged (c .before .before .args .t1 .n) (c .before .before .args .t1 .count) (c .before .before .args .t1 .top) (c .before .before .args .t1 .held)
+in-range : (c : tie.Else1) → InRange (c .before .before .args .t1)
 in-range c = inside (c .before .before .args .t1) (c .before .ranged .result) (c .before .ranged .ensures) (c .if1 .left)
 
 returns-2 : tie.Need-returns-2
-returns-2 c = let s = c .before .before .before .args .t1 in refuse-undo s (latest-none (s .ring) (s .top) (s .held) (c .if2 .taken))
+returns-2 c = let s = c .before .before .before .args .t1 in refuse-undo s (in-range (c .before)) (latest-none (s .ring) (s .top) (s .held) (c .if2 .taken))
 
 sub-at : tie.Need-sub-at
 sub-at c = search needs
@@ -54,7 +54,7 @@ returns-3 c =
     let o = c .taken-back .ensures in
     let k = o .kept in
     let p = latest-place (c .before .before .before) in
-    accept-undo s (getD (s .ring) (c .before .before .before .if3 .at) 0) (c .taken-back .result) (record {
+    accept-undo s h (getD (s .ring) (c .before .before .before .if3 .at) 0) (c .taken-back .result) (record {
       n = k .n;
       ranged = record { size = omega (arith, k .n, h .size); count = k .count; top = omega (arith, k .top, p .1); held = omega (arith, k .held, h .held) };
       words = latest-step (s .ring) (s .top) (s .held) (c .before .before .before .before .if2 .left) ∙ rw (← p .0, k .ring, k .top, k .held);

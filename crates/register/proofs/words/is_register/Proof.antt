@@ -1,18 +1,50 @@
--- `register::words::is_register` looks at the three things in turn. Assumes nothing.
-use Rattle.register.proofs.Keeping.{tested-not, formed-by}
+-- `register::words::is_register` looks at the length, the counters and the locks in turn. Assumes nothing.
+use Prim.Native.Nat.{_≤_}
 use native.Mathlib.Omega.{arith}
+use borrow.Author.Tests.{not-true, not-false}
+use Rattle.register.proofs.Keeping.{tested-not, formed-by}
 use borrow.Author.Needs.{needs}
 use Rattle.register.proofs.words.is_register.Statement.{statement}
 use Rattle.register.proofs.words.is_register.Tie as tie
 
 returns : tie.Need-returns
-returns c = tested-not (λ f. c .if1 .taken (f .long))
+returns c = tested-not (λ f. omega (arith, f .long, c .if1 .taken))
 
 shared-slice-read-if2 : tie.Need-shared-slice-read-if2
 shared-slice-read-if2 c = search needs
 
 returns-2 : tie.Need-returns-2
-returns-2 c = tested-not (λ f. omega (arith, f .size))
+returns-2 c = tested-not (λ f. omega (arith, f .ranged .size))
+
+shared-slice-read-n : tie.Need-shared-slice-read-n
+shared-slice-read-n c = search needs
+
+cast-n : tie.Need-cast-n
+cast-n c = search needs
+
+shared-slice-read-count : tie.Need-shared-slice-read-count
+shared-slice-read-count c = search needs
+
+cast-count : tie.Need-cast-count
+cast-count c = omega (arith, c .shared-slice-known4 .given 1)
+
+shared-slice-read-top : tie.Need-shared-slice-read-top
+shared-slice-read-top c = search needs
+
+cast-top : tie.Need-cast-top
+cast-top c = omega (arith, c .shared-slice-known5 .given 2)
+
+shared-slice-read-held : tie.Need-shared-slice-read-held
+shared-slice-read-held c = search needs
+
+cast-held : tie.Need-cast-held
+cast-held c = omega (arith, c .shared-slice-known6 .given 3)
+
+ranged-requires : tie.Need-ranged-requires
+ranged-requires c κs = search needs
+
+returns-3 : tie.Need-returns-3
+returns-3 c = tested-not (λ f. c .before .ranged .ensures .none (not-true _ (c .if3 .taken)) (f .ranged))
 
 sub-flags : tie.Need-sub-flags
 sub-flags c = search needs
@@ -26,10 +58,10 @@ part-flags-end c = search needs
 flags-requires : tie.Need-flags-requires
 flags-requires c κs = search needs
 
-returns-3 : tie.Need-returns-3
-returns-3 c =
-    let a = c .before .before .before .before .before .before .args in
-    formed-by (a .words .now) (c .flags .result) (omega arith) (c .before .before .if2 .left) (c .flags .ensures)
+returns-4 : tie.Need-returns-4
+returns-4 c =
+    let ws = c .before .before .before .before .before .before .before .before .before .before .before .before .args .words .now in
+    formed-by ws (c .flags .result) (c .before .before .before .before .before .before .before .before .before .before .if1 .left) (c .before .before .before .ranged .ensures .sure (not-false _ (c .before .before .if3 .left))) (c .flags .ensures)
 
 pub is-register-spec : {M : Type 1} → statement M
 is-register-spec =
@@ -38,8 +70,18 @@ is-register-spec =
     returns
     shared-slice-read-if2
     returns-2
+    shared-slice-read-n
+    cast-n
+    shared-slice-read-count
+    cast-count
+    shared-slice-read-top
+    cast-top
+    shared-slice-read-held
+    cast-held
+    ranged-requires
+    returns-3
     sub-flags
     part-flags-start
     part-flags-end
     flags-requires
-    returns-3)
+    returns-4)

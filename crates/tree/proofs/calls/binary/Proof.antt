@@ -1,16 +1,17 @@
 -- `binary` hands over the first cause, or copies the trees to the front of work, one behind the other, and has the operation done there. Assumes
 -- nothing.
-use mathlib.Core.Path.{_≡_, refl, _∙_}
+use mathlib.Core.Path.{_≡_, refl, sym, ap₂, _∙_}
 use mathlib.Core.List.{[], _∷_}
 use Prim.Native.Nat.{_*_, _≤_}
 use native.Mathlib.Omega.{arith}
 use borrow.Author.Needs.{needs}
-use lib.ListN.{length, take}
-use Rattle.k2.specs.PairSetLaws.{PairsBelow}
-use Rattle.k2.specs.Trees.{treeUnit, WellFormed}
+use lib.ListN.{length}
+use Rattle.k2.specs.PairSets.{Cells, PairsBelow}
+use Rattle.k2.specs.Trees.{treeWords, treeUnit, WellFormed}
+use Rattle.k2.specs.TreeSetLaws.{formed-set}
 use Rattle.tree.specs.Inner.{Room, outcome}
-use Rattle.tree.specs.Calls.{TreeOfTwo}
-use Rattle.tree.proofs.Answers.{refuse, accept, met, formed-two, two-formed, formed-most, two-only}
+use Rattle.tree.specs.Calls.{treeOfTwo}
+use Rattle.tree.proofs.Answers.{refuse, accept, met, formed-most}
 use Rattle.tree.proofs.Copies.{copied-two}
 use Rattle.tree.proofs.calls.binary.Statement.{statement}
 use Rattle.tree.proofs.calls.binary.Tie as tie
@@ -18,7 +19,7 @@ use Rattle.tree.proofs.calls.binary.Tie as tie
 -- no cause was found
 none : (c : tie.Else1) → (1 ≤ c .before .before .before .before .before .before .before .args .n) × (c .before .before .before .before .before .before .before .args .n ≤ 1024) × PairsBelow (c .before .before .before .before .before .before .before .args .n) []
     × (WellFormed (c .before .before .before .before .before .before .before .args .n) (c .before .before .before .before .before .before .before .args .a .now) × WellFormed (c .before .before .before .before .before .before .before .args .n) (c .before .before .before .before .before .before .before .args .b .now)) × (32 * treeUnit (c .before .before .before .before .before .before .before .args .n) ≤ length (c .before .before .before .before .before .before .before .args .work .now))
-none c = met (c .before .refusal .ensures) (c .if1 .left)
+none c = met _ _ _ _ _ (c .before .refusal .ensures) (c .if1 .left)
 
 array-share-prefix-none : tie.Need-array-share-prefix-none
 array-share-prefix-none c = search needs
@@ -32,8 +33,8 @@ refusal-requires c κs = search needs
 returns : tie.Need-returns
 returns c =
     let a = c .before .before .before .before .before .before .before .args in
-    refuse (a .n) [] (a .a .now ∷ a .b .now ∷ []) (length (a .work .now)) (TreeOfTwo (outcome (a .kind) (a .n)) (a .n) (a .a .now) (a .b .now)) (a .out .now) (a .out .now)
-    (λ t. formed-two (t .0) (t .1)) two-formed (c .before .refusal .ensures) (c .if1 .taken) refl
+    refuse (a .n) [] (a .a .now ∷ a .b .now ∷ []) (length (a .work .now)) (treeOfTwo (outcome (a .kind) (a .n)) (a .n) (a .a .now) (a .b .now)) (a .out .now) (a .out .now) _
+    (c .before .refusal .ensures) (c .if1 .taken) refl
 
 copy-requires : tie.Need-copy-requires
 copy-requires c κs = let m = none (c .before) in omega (arith, formed-most (m .3 .0), m .4)
@@ -69,10 +70,9 @@ returns-2 c =
     let o : Room (a .n) (length (a .a .now)) (length (a .b .now)) (length (c .before .before .before .before .before .before .before .before .before .before .before .copy2 .last .1 .0)) = record { size = m .1; first = formed-most v; second = formed-most w; work = omega (arith, m .4) } in
     let two = copied-two (a .a .now) (a .b .now) (a .work .now) _ _ (c .before .before .before .before .before .before .before .before .before .before .before .before .before .before .before .copy .ensures) (c .before .before .before .before .before .before .before .before .before .before .before .copy2 .ensures) in
     let r = c .before .before .before .before .before .before .before .operate-on .ensures .done o (v .set) (w .set) (v .is-set) (w .is-set) (two .0 ∙ v .tree) (two .1 ∙ w .tree) in
-    let g : TreeOfTwo (outcome (a .kind) (a .n)) (a .n) (a .a .now) (a .b .now) (take (c .before .before .before .before .before .before .before .operate-on .result) (c .before .before .before .before .before .before .before .operate-on .last .1 .0)) =
-    record { first = v .set; second = w .set; first-set = v .is-set; second-set = w .is-set; first-tree = v .tree; second-tree = w .tree; words = r .words } in
-    accept (a .n) [] (a .a .now ∷ a .b .now ∷ []) (length (a .work .now)) (TreeOfTwo (outcome (a .kind) (a .n)) (a .n) (a .a .now) (a .b .now)) (a .out .now) _
-    (λ t. formed-two (t .0) (t .1)) (c .before .before .before .before .before .before .before .before .before .before .before .before .before .before .before .before .before .before .refusal .ensures) (c .before .before .before .before .before .before .before .before .before .before .before .before .before .before .before .before .before .if1 .left) _ g (λ ys q. two-only g q) (c .before .before .settle .ensures)
+    accept (a .n) [] (a .a .now ∷ a .b .now ∷ []) (length (a .work .now)) (treeOfTwo (outcome (a .kind) (a .n)) (a .n) (a .a .now) (a .b .now)) (a .out .now) _
+    (c .before .before .before .before .before .before .before .before .before .before .before .before .before .before .before .before .before .before .refusal .ensures) (c .before .before .before .before .before .before .before .before .before .before .before .before .before .before .before .before .before .if1 .left)
+    _ (r .words ∙ ap₂ (λ (s t : Cells). treeWords (a .n) (outcome (a .kind) (a .n) s t)) (sym (formed-set v)) (sym (formed-set w))) (c .before .before .settle .ensures)
 
 pub binary-spec : {M : Type 1} → statement M
 binary-spec =

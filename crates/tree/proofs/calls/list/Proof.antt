@@ -1,24 +1,24 @@
 -- `list` hands over the first cause, or has the pairs written. Assumes nothing.
-use mathlib.Core.Path.{refl}
+use mathlib.Core.Path.{refl, sym, ap, _∙_}
 use mathlib.Core.List.{[], _∷_}
 use Prim.Native.Nat.{_*_, _≤_}
 use native.Mathlib.Omega.{arith}
 use borrow.Author.Needs.{needs}
 use lib.ListN.{length}
-use Rattle.k2.specs.PairSets.{listed}
-use Rattle.k2.specs.PairSetLaws.{PairsBelow}
+use Rattle.k2.specs.PairSets.{listed, PairsBelow}
 use Rattle.k2.specs.Trees.{treeUnit, WellFormed}
-use Rattle.k2.specs.TreeLaws.{tree-none}
+use Rattle.k2.specs.TreeSetLaws.{formed-set}
 use Rattle.k2.specs.SizeLaws.{treeUnit-most}
-use Rattle.tree.specs.Calls.{ListOf}
-use Rattle.tree.proofs.Answers.{refuse, accept, met, formed-one, one-formed, formed-most, list-only}
+use Rattle.tree.specs.Calls.{listOf}
+use Rattle.tree.specs.CallLaws.{one-more}
+use Rattle.tree.proofs.Answers.{as-good, refuse, accept, met, formed-most}
 use Rattle.tree.proofs.calls.list.Statement.{statement}
 use Rattle.tree.proofs.calls.list.Tie as tie
 
 -- no cause was found
 none : (c : tie.Else1) → (1 ≤ c .before .before .before .before .before .before .before .args .n) × (c .before .before .before .before .before .before .before .args .n ≤ 1024) × PairsBelow (c .before .before .before .before .before .before .before .args .n) []
     × (WellFormed (c .before .before .before .before .before .before .before .args .n) (c .before .before .before .before .before .before .before .args .a .now) × WellFormed (c .before .before .before .before .before .before .before .args .n) []) × (32 * treeUnit (c .before .before .before .before .before .before .before .args .n) ≤ length (c .before .before .before .before .before .before .before .args .work .now))
-none c = met (c .before .refusal .ensures) (c .if1 .left)
+none c = met _ _ _ _ _ (c .before .refusal .ensures) (c .if1 .left)
 
 array-share-prefix-none : tie.Need-array-share-prefix-none
 array-share-prefix-none c = search needs
@@ -35,8 +35,8 @@ refusal-requires c κs = search needs
 returns : tie.Need-returns
 returns c =
     let a = c .before .before .before .before .before .before .before .args in
-    refuse (a .n) [] (a .a .now ∷ []) (length (a .work .now)) (ListOf (a .n) (a .a .now)) (a .out .now) (a .out .now)
-    (λ t. formed-one (t .0)) (λ f. (one-formed f, tree-none (a .n))) (c .before .refusal .ensures) (c .if1 .taken) refl
+    refuse (a .n) [] (a .a .now ∷ []) (length (a .work .now)) (listOf (a .n) (a .a .now)) (a .out .now) (a .out .now) _
+    (c .before .refusal .ensures ∙ as-good (a .n) [] _ _ (length (a .work .now)) (one-more (a .n) (a .a .now))) (c .if1 .taken) refl
 
 list-pairs-requires : tie.Need-list-pairs-requires
 list-pairs-requires c κs = let m = none (c .before) in (m .1, omega (arith, formed-most (m .3 .0), treeUnit-most (c .before .before .before .before .before .before .before .before .args .n) (m .1)))
@@ -48,9 +48,9 @@ returns-2 : tie.Need-returns-2
 returns-2 c =
     let a = c .before .before .before .before .before .before .before .before .before .before .before .args in
     let v = none (c .before .before .before .before) .3 .0 in
-    let g : ListOf (a .n) (a .a .now) (listed (a .n) (v .set)) = record { set = v .set; is-set = v .is-set; tree = v .tree; pairs = refl } in
-    accept (a .n) [] (a .a .now ∷ []) (length (a .work .now)) (ListOf (a .n) (a .a .now)) (a .out .now) _
-    (λ t. formed-one (t .0)) (c .before .before .before .before .before .refusal .ensures) (c .before .before .before .before .if1 .left) _ g (λ ys q. list-only g q) (c .before .before .list-pairs .ensures (v .set) (v .is-set) (v .tree))
+    accept (a .n) [] (a .a .now ∷ []) (length (a .work .now)) (listOf (a .n) (a .a .now)) (a .out .now) _
+    (c .before .before .before .before .before .refusal .ensures ∙ as-good (a .n) [] _ _ (length (a .work .now)) (one-more (a .n) (a .a .now))) (c .before .before .before .before .if1 .left)
+    _ (ap (listed (a .n)) (sym (formed-set v))) (c .before .before .list-pairs .ensures (v .set) (v .is-set) (v .tree))
 
 pub list-spec : {M : Type 1} → statement M
 list-spec =

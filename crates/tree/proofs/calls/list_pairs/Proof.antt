@@ -1,7 +1,8 @@
 -- `list_pairs` loads the tree and hands its rows over. Assumes nothing.
+use native.Mathlib.Omega.{arith}
 use borrow.Author.Needs.{needs}
 use Rattle.rows.specs.Rows.{noPairs}
-use Rattle.tree.proofs.Ops.{rows-none, from-none}
+use Rattle.tree.proofs.Ops.{rows-none, from-none, set-settled}
 use Rattle.tree.proofs.calls.list_pairs.Statement.{statement}
 use Rattle.tree.proofs.calls.list_pairs.Tie as tie
 
@@ -21,7 +22,11 @@ same-length : tie.Need-same-length
 same-length c = search needs
 
 returns : tie.Need-returns
-returns c = λ s is e. c .before .before .hand-over .ensures .1 s is (from-none s _ (c .before .before .before .before .before .before .load .ensures s noPairs is e rows-none))
+returns c =
+    let a = c .before .before .before .before .before .before .before .before .before .before .args in
+    λ s is e.
+    set-settled (a .n) s _ (a .out .now) _ (omega arith) is (from-none s _ (c .before .before .before .before .before .before .load .ensures s noPairs is e rows-none))
+    (c .before .before .hand-over .ensures)
 
 pub list-pairs-spec : {M : Type 1} → statement M
 list-pairs-spec =

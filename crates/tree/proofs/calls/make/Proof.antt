@@ -1,25 +1,25 @@
 -- `make` hands over the first cause, or has the tree made at the front of work. Assumes nothing.
-use mathlib.Core.Path.{_≡_, refl, sym, ap, _∙_}
+use mathlib.Core.Path.{_≡_, refl, ap, _∙_}
 use mathlib.Core.List.{List, []}
 use Prim.Native.Nat.{ℕ, _*_, _≤_}
 use native.Mathlib.Omega.{arith}
 use borrow.Author.Needs.{needs}
 use lib.ListN.{length, take}
-use Rattle.k2.specs.PairSets.{IsSet, setOf}
-use Rattle.k2.specs.PairSetLaws.{PairsBelow, setOf-set}
+use Rattle.k2.specs.PairSets.{IsSet, setOf, PairsBelow}
+use Rattle.k2.specs.PairSetLaws.{setOf-set}
 use Rattle.k2.specs.Trees.{treeWords, treeUnit, WellFormed}
-use Rattle.k2.specs.TreeLaws.{tree-none}
 use Rattle.rows.specs.RowLaws.{pair-links}
 use Rattle.tree.specs.Inner.{Room}
-use Rattle.tree.specs.Calls.{TreeOf}
-use Rattle.tree.proofs.Answers.{refuse, accept, met, formed-none}
+use Rattle.tree.specs.Calls.{treeOf}
+use Rattle.tree.specs.CallLaws.{none-more}
+use Rattle.tree.proofs.Answers.{as-good, refuse, accept, met}
 use Rattle.tree.proofs.calls.make.Statement.{statement}
 use Rattle.tree.proofs.calls.make.Tie as tie
 
 -- no cause was found
 none : (c : tie.Else1) → (1 ≤ c .before .before .before .before .before .before .args .n) × (c .before .before .before .before .before .before .args .n ≤ 1024) × PairsBelow (c .before .before .before .before .before .before .args .n) (c .before .before .before .before .before .before .args .pairs .now)
     × (WellFormed (c .before .before .before .before .before .before .args .n) [] × WellFormed (c .before .before .before .before .before .before .args .n) []) × (32 * treeUnit (c .before .before .before .before .before .before .args .n) ≤ length (c .before .before .before .before .before .before .args .work .now))
-none c = met (c .before .refusal .ensures) (c .if1 .left)
+none c = met _ _ _ _ _ (c .before .refusal .ensures) (c .if1 .left)
 
 array-share-prefix-none : tie.Need-array-share-prefix-none
 array-share-prefix-none c = search needs
@@ -33,8 +33,8 @@ refusal-requires c κs = search needs
 returns : tie.Need-returns
 returns c =
     let a = c .before .before .before .before .before .before .args in
-    refuse (a .n) (a .pairs .now) [] (length (a .work .now)) (TreeOf (a .n) (a .pairs .now)) (a .out .now) (a .out .now)
-    (λ t. formed-none) (λ f. (tree-none (a .n), tree-none (a .n))) (c .before .refusal .ensures) (c .if1 .taken) refl
+    refuse (a .n) (a .pairs .now) [] (length (a .work .now)) (treeOf (a .n) (a .pairs .now)) (a .out .now) (a .out .now) _
+    (c .before .refusal .ensures ∙ as-good (a .n) (a .pairs .now) _ _ (length (a .work .now)) (none-more (a .n))) (c .if1 .taken) refl
 
 letter-in-requires : tie.Need-letter-in-requires
 letter-in-requires c κs = search needs
@@ -60,8 +60,8 @@ returns-2 c =
     let is : IsSet (a .n) (setOf ps) = setOf-set (a .n) ps (m .1) (m .2) in
     let r : take (c .before .before .before .before .before .before .before .letter-in .result) (c .before .before .before .before .before .before .before .letter-in .last .0) ≡ treeWords (a .n) (setOf ps) =
     c .before .before .before .before .before .before .before .letter-in .ensures .done o (rw e is) .words ∙ ap (λ (t : List ℕ). treeWords (a .n) (setOf t)) e in
-    accept (a .n) ps [] (length (a .work .now)) (TreeOf (a .n) ps) (a .out .now) _
-    (λ t. formed-none) (c .before .before .before .before .before .before .before .before .before .before .refusal .ensures) (c .before .before .before .before .before .before .before .before .before .if1 .left) _ r (λ ys q. q ∙ sym r) (c .before .before .settle .ensures)
+    accept (a .n) ps [] (length (a .work .now)) (treeOf (a .n) ps) (a .out .now) _
+    (c .before .before .before .before .before .before .before .before .before .before .refusal .ensures ∙ as-good (a .n) ps _ _ (length (a .work .now)) (none-more (a .n))) (c .before .before .before .before .before .before .before .before .before .if1 .left) _ r (c .before .before .settle .ensures)
 
 pub make-spec : {M : Type 1} → statement M
 make-spec =

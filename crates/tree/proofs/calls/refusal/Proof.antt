@@ -1,35 +1,59 @@
--- `refusal` looks for the causes in their order. Assumes nothing.
+-- `refusal` looks for the causes in their order; its tests of pairs and trees are those of the causes. Assumes nothing.
+use mathlib.Core.Path.{_≡_, refl, sym, _∙_}
+use mathlib.Core.Bool.{true}
 use native.Mathlib.Omega.{arith}
 use borrow.Author.Needs.{needs}
-use borrow.Author.Tests.{not-true, not-false}
-use Rattle.tree.specs.Calls.{found-size, found-pairs, found-trees, found-work, found-none}
-use Rattle.tree.proofs.Copies.{wrong}
+use borrow.Author.Tests.{lt-ltb, le-ltb, not-true, not-false}
+use Rattle.book.specs.Causes.{maxRecords}
+use Rattle.k2.specs.TreeSets.{formed}
+use Rattle.tree.specs.Calls.{allBelow}
+use Rattle.tree.specs.CallLaws.{lent-size, lent-pairs, lent-trees, lent-work, lent-none}
+use Rattle.tree.proofs.Answers.{below-test, formed-test, first-bad, second-bad, both-good}
 use Rattle.tree.proofs.calls.refusal.Statement.{statement}
 use Rattle.tree.proofs.calls.refusal.Tie as tie
 
+-- the tests that are passed
+below : (c : tie.Else3) → allBelow (c .before .before .before .before .before .before .before .args .n) (c .before .before .before .before .before .before .before .args .pairs .now) ≡ true
+below c = sym (below-test _ _ _ (c .before .pairs-below .ensures)) ∙ not-false (c .before .pairs-below .result) (c .if3 .left)
+
+first : (c : tie.Else4) → formed (c .before .before .before .before .before .before .before .before .before .args .n) (c .before .before .before .before .before .before .before .before .before .args .a .now) ≡ true
+first c = sym (formed-test _ _ _ (c .before .well-formed .ensures)) ∙ not-false (c .before .well-formed .result) (c .if4 .left)
+
+second : (c : tie.Else5) → formed (c .before .before .before .before .before .before .before .before .before .before .before .args .n) (c .before .before .before .before .before .before .before .before .before .before .before .args .b .now) ≡ true
+second c = sym (formed-test _ _ _ (c .before .well-formed2 .ensures)) ∙ not-false (c .before .well-formed2 .result) (c .if5 .left)
+
 returns : tie.Need-returns
-returns c = found-size (λ s. omega (arith, s .0))
+returns c = let a = c .before .before .before .before .args in sym (lent-size (a .n) _ _ _ (rw (lt-ltb (a .n) 1 (omega arith)) refl))
 
 returns-2 : tie.Need-returns-2
-returns-2 c = found-size (λ s. omega (arith, s .1))
+returns-2 c = let a = c .before .before .before .before .before .args in sym (lent-size (a .n) _ _ _ (rw (le-ltb (a .n) 1 (omega arith), lt-ltb maxRecords (a .n) (omega arith)) refl))
 
 pairs-below-requires : tie.Need-pairs-below-requires
 pairs-below-requires c κs = search needs
 
 returns-3 : tie.Need-returns-3
-returns-3 c = found-pairs (omega arith) (omega arith) (λ b. wrong (not-true (c .before .pairs-below .result) (c .if3 .taken)) (c .before .pairs-below .ensures .1 b))
+returns-3 c =
+    let a = c .before .before .before .before .before .before .before .args in
+    sym (lent-pairs (a .n) _ _ _ (omega arith) (omega arith) (sym (below-test _ _ _ (c .before .pairs-below .ensures)) ∙ not-true (c .before .pairs-below .result) (c .if3 .taken)))
 
 well-formed-requires : tie.Need-well-formed-requires
 well-formed-requires c κs = search needs
 
 returns-4 : tie.Need-returns-4
-returns-4 c = found-trees (omega arith) (omega arith) (c .before .before .before .pairs-below .ensures .0 (not-false (c .before .before .before .pairs-below .result) (c .before .before .if3 .left))) (λ t. wrong (not-true (c .before .well-formed .result) (c .if4 .taken)) (c .before .well-formed .ensures .1 (t .0)))
+returns-4 c =
+    let a = c .before .before .before .before .before .before .before .before .before .args in
+    sym (lent-trees (a .n) _ _ _ (omega arith) (omega arith) (below (c .before .before))
+    (first-bad (a .n) (a .a .now) (a .b .now) (sym (formed-test _ _ _ (c .before .well-formed .ensures)) ∙ not-true (c .before .well-formed .result) (c .if4 .taken))))
 
 well-formed-requires-2 : tie.Need-well-formed-requires-2
 well-formed-requires-2 c κs = search needs
 
 returns-5 : tie.Need-returns-5
-returns-5 c = found-trees (omega arith) (omega arith) (c .before .before .before .before .before .pairs-below .ensures .0 (not-false (c .before .before .before .before .before .pairs-below .result) (c .before .before .before .before .if3 .left))) (λ t. wrong (not-true (c .before .well-formed2 .result) (c .if5 .taken)) (c .before .well-formed2 .ensures .1 (t .1)))
+returns-5 c =
+    let a = c .before .before .before .before .before .before .before .before .before .before .before .args in
+    sym (lent-trees (a .n) _ _ _ (omega arith) (omega arith) (below (c .before .before .before .before))
+    (second-bad (a .n) (a .a .now) (a .b .now) (first (c .before .before))
+    (sym (formed-test _ _ _ (c .before .well-formed2 .ensures)) ∙ not-true (c .before .well-formed2 .result) (c .if5 .taken))))
 
 tree-unit-requires : tie.Need-tree-unit-requires
 tree-unit-requires c κs = search needs
@@ -38,10 +62,16 @@ mul-if6 : tie.Need-mul-if6
 mul-if6 c = omega (arith, c .tree-unit .ensures .2)
 
 returns-6 : tie.Need-returns-6
-returns-6 c = found-work (omega arith) (omega arith) (c .before .before .before .before .before .before .before .pairs-below .ensures .0 (not-false (c .before .before .before .before .before .before .before .pairs-below .result) (c .before .before .before .before .before .before .if3 .left))) (c .before .before .before .before .before .well-formed .ensures .0 (not-false (c .before .before .before .before .before .well-formed .result) (c .before .before .before .before .if4 .left)), c .before .before .before .well-formed2 .ensures .0 (not-false (c .before .before .before .well-formed2 .result) (c .before .before .if5 .left))) (omega (arith, c .before .tree-unit .ensures .0))
+returns-6 c =
+    let a = c .before .before .before .before .before .before .before .before .before .before .before .before .before .args in
+    sym (lent-work (a .n) _ _ _ (omega arith) (omega arith) (below (c .before .before .before .before .before .before)) (both-good (a .n) (a .a .now) (a .b .now) (first (c .before .before .before .before)) (second (c .before .before)))
+    (omega (arith, c .before .tree-unit .ensures .0)))
 
 returns-7 : tie.Need-returns-7
-returns-7 c = found-none (omega arith) (omega arith) (c .before .before .before .before .before .before .before .pairs-below .ensures .0 (not-false (c .before .before .before .before .before .before .before .pairs-below .result) (c .before .before .before .before .before .before .if3 .left))) (c .before .before .before .before .before .well-formed .ensures .0 (not-false (c .before .before .before .before .before .well-formed .result) (c .before .before .before .before .if4 .left)), c .before .before .before .well-formed2 .ensures .0 (not-false (c .before .before .before .well-formed2 .result) (c .before .before .if5 .left))) (omega (arith, c .before .tree-unit .ensures .0))
+returns-7 c =
+    let a = c .before .before .before .before .before .before .before .before .before .before .before .before .before .args in
+    sym (lent-none (a .n) _ _ _ (omega arith) (omega arith) (below (c .before .before .before .before .before .before)) (both-good (a .n) (a .a .now) (a .b .now) (first (c .before .before .before .before)) (second (c .before .before)))
+    (omega (arith, c .before .tree-unit .ensures .0)))
 
 pub refusal-spec : {M : Type 1} → statement M
 refusal-spec =

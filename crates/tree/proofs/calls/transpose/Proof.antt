@@ -1,17 +1,17 @@
 -- `transpose` hands over the first cause, or copies the tree to the front of work and has the operation done there. Assumes nothing.
-use mathlib.Core.Path.{_≡_, refl, _∙_}
+use mathlib.Core.Path.{_≡_, refl, sym, ap, _∙_}
 use mathlib.Core.List.{[], _∷_}
 use Prim.Native.Nat.{_*_, _≤_}
 use native.Mathlib.Omega.{arith}
 use borrow.Author.Needs.{needs}
-use lib.ListN.{length, take}
-use Rattle.k2.specs.PairSets.{transpose}
-use Rattle.k2.specs.PairSetLaws.{PairsBelow}
-use Rattle.k2.specs.Trees.{treeUnit, WellFormed}
-use Rattle.k2.specs.TreeLaws.{tree-none}
+use lib.ListN.{length}
+use Rattle.k2.specs.PairSets.{Cells, transpose, PairsBelow}
+use Rattle.k2.specs.Trees.{treeWords, treeUnit, WellFormed}
+use Rattle.k2.specs.TreeSetLaws.{formed-set}
 use Rattle.tree.specs.Inner.{Room}
-use Rattle.tree.specs.Calls.{TreeOfOne}
-use Rattle.tree.proofs.Answers.{refuse, accept, met, formed-one, one-formed, formed-most, one-only}
+use Rattle.tree.specs.Calls.{treeOfOne}
+use Rattle.tree.specs.CallLaws.{one-more}
+use Rattle.tree.proofs.Answers.{as-good, refuse, accept, met, formed-most}
 use Rattle.tree.proofs.Copies.{copied-one}
 use Rattle.tree.proofs.calls.transpose.Statement.{statement}
 use Rattle.tree.proofs.calls.transpose.Tie as tie
@@ -19,7 +19,7 @@ use Rattle.tree.proofs.calls.transpose.Tie as tie
 -- no cause was found
 none : (c : tie.Else1) → (1 ≤ c .before .before .before .before .before .before .before .args .n) × (c .before .before .before .before .before .before .before .args .n ≤ 1024) × PairsBelow (c .before .before .before .before .before .before .before .args .n) []
     × (WellFormed (c .before .before .before .before .before .before .before .args .n) (c .before .before .before .before .before .before .before .args .a .now) × WellFormed (c .before .before .before .before .before .before .before .args .n) []) × (32 * treeUnit (c .before .before .before .before .before .before .before .args .n) ≤ length (c .before .before .before .before .before .before .before .args .work .now))
-none c = met (c .before .refusal .ensures) (c .if1 .left)
+none c = met _ _ _ _ _ (c .before .refusal .ensures) (c .if1 .left)
 
 array-share-prefix-none : tie.Need-array-share-prefix-none
 array-share-prefix-none c = search needs
@@ -36,8 +36,8 @@ refusal-requires c κs = search needs
 returns : tie.Need-returns
 returns c =
     let a = c .before .before .before .before .before .before .before .args in
-    refuse (a .n) [] (a .a .now ∷ []) (length (a .work .now)) (TreeOfOne (transpose) (a .n) (a .a .now)) (a .out .now) (a .out .now)
-    (λ t. formed-one (t .0)) (λ f. (one-formed f, tree-none (a .n))) (c .before .refusal .ensures) (c .if1 .taken) refl
+    refuse (a .n) [] (a .a .now ∷ []) (length (a .work .now)) (treeOfOne (transpose) (a .n) (a .a .now)) (a .out .now) (a .out .now) _
+    (c .before .refusal .ensures ∙ as-good (a .n) [] _ _ (length (a .work .now)) (one-more (a .n) (a .a .now))) (c .if1 .taken) refl
 
 copy-requires : tie.Need-copy-requires
 copy-requires c κs = let m = none (c .before) in omega (arith, formed-most (m .3 .0), m .4)
@@ -64,9 +64,9 @@ returns-2 c =
     let k : length (c .before .before .before .before .before .before .before .before .before .before .before .copy .last .1 .0) ≡ length (a .work .now) = c .before .before .before .before .before .before .before .before .before .before .before .copy .kept .1 .0 in
     let o : Room (a .n) (length (a .a .now)) 0 (length (c .before .before .before .before .before .before .before .before .before .before .before .copy .last .1 .0)) = record { size = m .1; first = formed-most (m .3 .0); second = omega arith; work = omega (arith, m .4) } in
     let r = c .before .before .before .before .before .before .before .transpose-in .ensures .done o (v .set) (v .is-set) (copied-one (a .a .now) (a .work .now) _ (c .before .before .before .before .before .before .before .before .before .before .before .copy .ensures) ∙ v .tree) in
-    let g : TreeOfOne (transpose) (a .n) (a .a .now) (take (c .before .before .before .before .before .before .before .transpose-in .result) (c .before .before .before .before .before .before .before .transpose-in .last .0)) = record { set = v .set; is-set = v .is-set; tree = v .tree; words = r .words } in
-    accept (a .n) [] (a .a .now ∷ []) (length (a .work .now)) (TreeOfOne (transpose) (a .n) (a .a .now)) (a .out .now) _
-    (λ t. formed-one (t .0)) (c .before .before .before .before .before .before .before .before .before .before .before .before .before .before .refusal .ensures) (c .before .before .before .before .before .before .before .before .before .before .before .before .before .if1 .left) _ g (λ ys q. one-only g q) (c .before .before .settle .ensures)
+    accept (a .n) [] (a .a .now ∷ []) (length (a .work .now)) (treeOfOne (transpose) (a .n) (a .a .now)) (a .out .now) _
+    (c .before .before .before .before .before .before .before .before .before .before .before .before .before .before .refusal .ensures ∙ as-good (a .n) [] _ _ (length (a .work .now)) (one-more (a .n) (a .a .now))) (c .before .before .before .before .before .before .before .before .before .before .before .before .before .if1 .left)
+    _ (r .words ∙ ap (λ (s : Cells). treeWords (a .n) (transpose s)) (sym (formed-set v))) (c .before .before .settle .ensures)
 
 pub transpose-spec : {M : Type 1} → statement M
 transpose-spec =

@@ -1,0 +1,32 @@
+-- `lines::requests::broken` meets its contract: an undo with a body. Assumes nothing.
+use Rattle.book.specs.Causes.{number}
+use Rattle.lines.specs.Encoding.{kindOf, bodyOf, frameFor, sent}
+use borrow.Author.Needs.{needs}
+use Rattle.lines.proofs.requests.broken.Statement.{statement}
+use Rattle.lines.proofs.requests.broken.Tie as tie
+
+slice-aggregate-put-frame : tie.Need-slice-aggregate-put-frame
+slice-aggregate-put-frame c = search needs
+
+slice-aggregate-put-frame-2 : tie.Need-slice-aggregate-put-frame-2
+slice-aggregate-put-frame-2 c = search needs
+
+put-frame-requires : tie.Need-put-frame-requires
+put-frame-requires c κs = search needs
+
+same-length : tie.Need-same-length
+same-length c = search needs
+
+returns : tie.Need-returns
+unfolding sent frameFor kindOf bodyOf number
+returns c = c .before .before .put-frame .ensures
+
+pub broken-spec : {M : Type 1} → statement M
+broken-spec =
+    tie.close
+    (tie.spec
+    slice-aggregate-put-frame
+    slice-aggregate-put-frame-2
+    put-frame-requires
+    same-length
+    returns)

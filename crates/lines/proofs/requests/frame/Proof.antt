@@ -1,0 +1,91 @@
+-- `lines::requests::frame` meets its contract: a line by its length, then by its first byte that is no blank (`typed-long`, `typed-short`, `begun-none`,
+-- `begun-comment`, `begun-request`). Assumes nothing.
+use mathlib.Core.Path.{_≡_, sym, ap, _∙_}
+use native.Mathlib.Omega.{arith}
+use denote.Ref.{now}
+use Rattle.report.specs.WrittenLaws.{wrote-as, wrote-none}
+use Rattle.lines.specs.Typed.{word, rest, requested, begun, typed}
+use Rattle.lines.specs.Encoding.{sent}
+use Rattle.lines.specs.SaidLaws.{typed-long, typed-short, begun-none, begun-comment, begun-request}
+use borrow.Author.Needs.{needs}
+use Rattle.lines.proofs.requests.frame.Statement.{statement}
+use Rattle.lines.proofs.requests.frame.Tie as tie
+
+broken-requires : tie.Need-broken-requires
+broken-requires c κs = search needs
+
+same-length : tie.Need-same-length
+same-length c = search needs
+
+returns : tie.Need-returns
+returns c = wrote-as (ap sent (sym (typed-long (now (c .before .before .before .before .before .before .before .args .line)) (c .before .before .before .before .if1 .taken)))) (c .before .before .broken .ensures)
+
+skip-requires : tie.Need-skip-requires
+skip-requires c κs = search needs
+
+returns-2 : tie.Need-returns-2
+unfolding sent
+returns-2 c =
+    let k = c .before in
+    let e = k .before in
+    let a = e .before .before .before .args in
+    let line = now (a .line) in
+    let t = now (k .skip .result) in
+    let from-word : typed line ≡ begun t = typed-short line (e .if1 .left) ∙ ap begun (sym (k .skip .ensures)) in
+    wrote-as (ap sent (sym (from-word ∙ begun-none t (c .if2 .taken)))) (wrote-none 0 (now (a .out)) (omega arith))
+
+shared-slice-read-if3 : tie.Need-shared-slice-read-if3
+shared-slice-read-if3 c = search needs
+
+returns-3 : tie.Need-returns-3
+unfolding sent
+returns-3 c =
+    let k = c .before .before .before in
+    let e = k .before in
+    let a = e .before .before .before .args in
+    let line = now (a .line) in
+    let t = now (k .skip .result) in
+    let from-word : typed line ≡ begun t = typed-short line (e .if1 .left) ∙ ap begun (sym (k .skip .ensures)) in
+    wrote-as (ap sent (sym (from-word ∙ begun-comment t (c .if3 .taken)))) (wrote-none 0 (now (a .out)) (omega arith))
+
+word-requires : tie.Need-word-requires
+word-requires c κs = search needs
+
+rest-requires : tie.Need-rest-requires
+rest-requires c κs = search needs
+
+request-requires : tie.Need-request-requires
+request-requires c κs = search needs
+
+same-length-2 : tie.Need-same-length-2
+same-length-2 c = search needs
+
+returns-4 : tie.Need-returns-4
+returns-4 c =
+    let k = c .before .before .before .before .before .before .before .before .before in
+    let e = k .before in
+    let a = e .before .before .before .args in
+    let line = now (a .line) in
+    let t = now (k .skip .result) in
+    let from-word : typed line ≡ begun t = typed-short line (e .if1 .left) ∙ ap begun (sym (k .skip .ensures)) in
+    let w = c .before .before .before .before .before .word in
+    let r = c .before .before .before .before .rest in
+    let parts : requested (word t) (rest t) ≡ requested (now (w .result)) (now (r .result)) = rw (w .ensures, r .ensures) in
+    wrote-as (ap sent (sym (from-word ∙ begun-request t (c .before .before .before .before .before .before .before .before .if2 .left) (c .before .before .before .before .before .before .if3 .left) ∙ parts))) (c .before .before .request .ensures)
+
+pub frame-spec : {M : Type 1} → statement M
+frame-spec =
+    tie.close
+    (tie.spec
+    broken-requires
+    same-length
+    returns
+    skip-requires
+    returns-2
+    shared-slice-read-if3
+    returns-3
+    word-requires
+    rest-requires
+    request-requires
+    same-length-2
+    returns-4)

@@ -1,0 +1,75 @@
+-- `lines::requests::numbered` meets its contract, case by case (`numbered-not`, `numbered-more`, `numbered-is`). Assumes nothing.
+use mathlib.Core.Path.{sym, ap, _∙_}
+use denote.Ref.{now}
+use Rattle.report.specs.WrittenLaws.{wrote-as}
+use Rattle.lines.specs.Encoding.{sent}
+use Rattle.lines.specs.SaidLaws.{numbered-not, numbered-more, numbered-is}
+use borrow.Author.Needs.{needs}
+use Rattle.lines.proofs.requests.numbered.Statement.{statement}
+use Rattle.lines.proofs.requests.numbered.Tie as tie
+
+number-requires : tie.Need-number-requires
+number-requires c κs = search needs
+
+rest-requires : tie.Need-rest-requires
+rest-requires c κs = search needs
+
+broken-requires : tie.Need-broken-requires
+broken-requires c κs = search needs
+
+same-length : tie.Need-same-length
+same-length c = search needs
+
+returns : tie.Need-returns
+returns c =
+    let u = c .before .before .before .before .before in
+    let n = u .before in
+    let s = now (n .before .before .before .args .s) in
+    λ f g. wrote-as (ap sent (sym (numbered-not s (n .number .ensures) (u .rest .ensures) f (c .before .before .before .before .if1 .taken)))) (c .before .before .broken .ensures)
+
+broken-requires-2 : tie.Need-broken-requires-2
+broken-requires-2 c κs = search needs
+
+same-length-2 : tie.Need-same-length-2
+same-length-2 c = search needs
+
+returns-2 : tie.Need-returns-2
+returns-2 c =
+    let u = c .before .before .before .before .before .before in
+    let n = u .before in
+    let s = now (n .before .before .before .args .s) in
+    λ f g. wrote-as (ap sent (sym (numbered-more s (n .number .ensures) (u .rest .ensures) f (c .before .before .before .before .if2 .taken)))) (c .before .before .broken2 .ensures)
+
+cast-put-number : tie.Need-cast-put-number
+cast-put-number c = search needs
+
+put-number-requires : tie.Need-put-number-requires
+put-number-requires c κs = search needs
+
+same-length-3 : tie.Need-same-length-3
+same-length-3 c = search needs
+
+returns-3 : tie.Need-returns-3
+unfolding sent
+returns-3 c =
+    let u = c .before .before .before .before .before .before in
+    let n = u .before in
+    let s = now (n .before .before .before .args .s) in
+    λ f g. wrote-as (sym (g (n .number .result)) ∙ ap sent (sym (numbered-is s (n .number .ensures) (u .rest .ensures) f (c .before .before .before .before .before .if1 .left) (c .before .before .before .before .if2 .left)))) (c .before .before .put-number .ensures)
+
+pub numbered-spec : {M : Type 1} → statement M
+numbered-spec =
+    tie.close
+    (tie.spec
+    number-requires
+    rest-requires
+    broken-requires
+    same-length
+    returns
+    broken-requires-2
+    same-length-2
+    returns-2
+    cast-put-number
+    put-number-requires
+    same-length-3
+    returns-3)

@@ -1,0 +1,56 @@
+-- `lines::requests::undo` meets its contract (`alone-more`, `alone-is`). Assumes nothing.
+use mathlib.Core.Path.{sym, ap}
+use native.Mathlib.Omega.{arith}
+use denote.Ref.{now}
+use Rattle.book.specs.Book.{undo}
+use Rattle.session.specs.Program.{call}
+use Rattle.report.specs.WrittenLaws.{wrote-as}
+use Rattle.lines.specs.SaidLaws.{alone-more, alone-is}
+use Rattle.lines.specs.Encoding.{kindOf, bodyOf, frameFor, sent}
+use borrow.Author.Needs.{needs}
+use Rattle.lines.proofs.requests.undo.Statement.{statement}
+use Rattle.lines.proofs.requests.undo.Tie as tie
+
+broken-requires : tie.Need-broken-requires
+broken-requires c κs = search needs
+
+same-length : tie.Need-same-length
+same-length c = search needs
+
+returns : tie.Need-returns
+returns c =
+    let t = c .before .before .before .before in
+    let s = now (t .before .before .before .args .s) in
+    wrote-as (ap sent (sym (alone-more (call undo) s (t .if1 .taken)))) (c .before .before .broken .ensures)
+
+slice-aggregate-put-frame : tie.Need-slice-aggregate-put-frame
+slice-aggregate-put-frame c = search needs
+
+slice-aggregate-put-frame-2 : tie.Need-slice-aggregate-put-frame-2
+slice-aggregate-put-frame-2 c = search needs
+
+put-frame-requires : tie.Need-put-frame-requires
+put-frame-requires c κs = search needs
+
+same-length-2 : tie.Need-same-length-2
+same-length-2 c = search needs
+
+returns-2 : tie.Need-returns-2
+unfolding sent frameFor kindOf bodyOf
+returns-2 c =
+    let t = c .before .before .before .before .before .before in
+    let s = now (t .before .before .before .args .s) in
+    wrote-as (ap sent (sym (alone-is (call undo) s (t .if1 .left)))) (c .before .before .put-frame .ensures)
+
+pub undo-spec : {M : Type 1} → statement M
+undo-spec =
+    tie.close
+    (tie.spec
+    broken-requires
+    same-length
+    returns
+    slice-aggregate-put-frame
+    slice-aggregate-put-frame-2
+    put-frame-requires
+    same-length-2
+    returns-2)

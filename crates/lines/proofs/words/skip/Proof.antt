@@ -1,0 +1,74 @@
+-- `lines::words::skip` meets its contract. The loop's invariant: what is left without its blanks is what the whole is without its. The measure is
+-- the bytes left. Assumes nothing.
+use mathlib.Core.Path.{_≡_, refl, sym, ap, _∙_}
+use mathlib.Core.Bool.{true, false}
+use native.Mathlib.Omega.{arith}
+use lib.ListN.{length, getD, length-drop}
+use denote.Ref.{now}
+use borrow.Author.Tests.{not-true, not-false}
+use Rattle.lines.specs.Typed.{blank, skip}
+use Rattle.lines.specs.TypedLaws.{skip-on, skip-at, skip-none, part-from}
+use borrow.Author.Needs.{needs}
+use Rattle.lines.proofs.words.skip.Statement.{statement}
+use Rattle.lines.proofs.words.skip.Tie as tie
+
+abbrev Inv-loop : tie.InvT-loop
+Inv-loop s t₀ t = skip t ≡ skip s
+
+abbrev μ-loop : tie.MeasureT-loop
+μ-loop s t₀ t = length t
+
+loop-holds : tie.Need-loop-holds Inv-loop μ-loop
+loop-holds c = refl
+
+shared-slice-read-is-blank : tie.Need-shared-slice-read-is-blank Inv-loop μ-loop
+shared-slice-read-is-blank c = omega arith
+
+is-blank-requires : tie.Need-is-blank-requires Inv-loop μ-loop
+is-blank-requires c κs = search needs
+
+returns : tie.Need-returns Inv-loop μ-loop
+returns c =
+    let t = now (c .before .before .before .before .loop .t) in
+    let b : blank (getD t 0 0) ≡ false = sym (c .before .is-blank .ensures) ∙ not-true _ (c .if1 .taken) in
+    sym (skip-at t b) ∙ c .before .before .before .before .loop .inv
+
+sub-t : tie.Need-sub-t Inv-loop μ-loop
+sub-t c = omega arith
+
+part-t-start : tie.Need-part-t-start Inv-loop μ-loop
+part-t-start c = search needs
+
+part-t-end : tie.Need-part-t-end Inv-loop μ-loop
+part-t-end c = search needs
+
+loop-less : tie.Need-loop-less Inv-loop μ-loop
+loop-less c =
+    let t = now (c .before .before .before .before .before .loop .t) in
+    rw (part-from t 1) (omega (arith, length-drop 1 t))
+
+loop-again : tie.Need-loop-again Inv-loop μ-loop
+loop-again c =
+    let t = now (c .before .before .before .before .before .loop .t) in
+    let b : blank (getD t 0 0) ≡ true = sym (c .before .before .is-blank .ensures) ∙ not-false _ (c .before .if1 .left) in
+    ap skip (part-from t 1) ∙ skip-on t (omega arith) b ∙ c .before .before .before .before .before .loop .inv
+
+returns-2 : tie.Need-returns-2 Inv-loop μ-loop
+returns-2 c = sym (skip-none (now (c .before .loop .t)) (omega arith)) ∙ c .before .loop .inv
+
+pub skip-spec : {M : Type 1} → statement M
+skip-spec =
+    tie.close
+    (tie.spec
+    Inv-loop
+    μ-loop
+    loop-holds
+    shared-slice-read-is-blank
+    is-blank-requires
+    returns
+    sub-t
+    part-t-start
+    part-t-end
+    loop-less
+    loop-again
+    returns-2)

@@ -1,0 +1,69 @@
+-- `lines::words::word_len` meets its contract. The loop's invariant: the bytes passed and those of the word that is left are those of the word.
+-- The measure is the bytes left. Assumes nothing.
+use mathlib.Core.Path.{_≡_, sym, _∙_}
+use mathlib.Core.Bool.{true, false}
+use Prim.Native.Nat.{_+_, _-_, _≤_}
+use native.Mathlib.Omega.{arith}
+use lib.ListN.{length, drop, getD}
+use denote.Ref.{now}
+use Rattle.lines.specs.Typed.{blank, word}
+use Rattle.lines.specs.TypedLaws.{word-more, word-end, word-none}
+use borrow.Author.Needs.{needs}
+use Rattle.lines.proofs.words.word_len.Statement.{statement}
+use Rattle.lines.proofs.words.word_len.Tie as tie
+
+abbrev Inv-loop : tie.InvT-loop
+Inv-loop s i₀ i = (i ≤ length s) × (i + length (word (drop i s)) ≡ length (word s))
+
+abbrev μ-loop : tie.MeasureT-loop
+μ-loop s i₀ i = length s - i
+
+loop-holds : tie.Need-loop-holds Inv-loop μ-loop
+loop-holds c = (omega arith, omega arith)
+
+shared-slice-read-is-blank : tie.Need-shared-slice-read-is-blank Inv-loop μ-loop
+shared-slice-read-is-blank c = omega arith
+
+is-blank-requires : tie.Need-is-blank-requires Inv-loop μ-loop
+is-blank-requires c κs = search needs
+
+returns : tie.Need-returns Inv-loop μ-loop
+returns c =
+    let s = now (c .before .before .before .before .before .before .args .s) in
+    let l = c .before .before .before .before .loop in
+    let b : blank (getD s (l .i) 0) ≡ true = sym (c .before .is-blank .ensures) ∙ c .if1 .taken in
+    omega (arith, l .inv .1, word-end s (l .i) (omega arith) b)
+
+add-i : tie.Need-add-i Inv-loop μ-loop
+add-i c = omega arith
+
+loop-less : tie.Need-loop-less Inv-loop μ-loop
+loop-less c = omega arith
+
+loop-again : tie.Need-loop-again Inv-loop μ-loop
+loop-again c =
+    let s = now (c .before .before .before .before .before .before .args .s) in
+    let l = c .before .before .before .before .loop in
+    let b : blank (getD s (l .i) 0) ≡ false = sym (c .before .is-blank .ensures) ∙ c .if1 .left in
+    (omega arith, omega (arith, l .inv .1, word-more s (l .i) (omega arith) b))
+
+returns-2 : tie.Need-returns-2 Inv-loop μ-loop
+returns-2 c =
+    let s = now (c .before .before .before .args .s) in
+    let l = c .before .loop in
+    omega (arith, l .inv .1, word-none s (l .i) (omega arith))
+
+pub word-len-spec : {M : Type 1} → statement M
+word-len-spec =
+    tie.close
+    (tie.spec
+    Inv-loop
+    μ-loop
+    loop-holds
+    shared-slice-read-is-blank
+    is-blank-requires
+    returns
+    add-i
+    loop-less
+    loop-again
+    returns-2)

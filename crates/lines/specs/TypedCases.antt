@@ -1,0 +1,69 @@
+-- Lines and what they say, as a table, and one theorem: each says it, by computation.
+--   Case            a line, and what it says
+--   table           every request; blank lines and comments; a word that is none; arguments that do not fit; blanks; leading zeros
+--   Hold cs         every line of the table cs says what stands beside it
+-- Assumes nothing.
+use mathlib.Core.Path.{_≡_, refl}
+use mathlib.Core.List.{List, [], _∷_}
+use Prim.Native.String.{String}
+use Rattle.book.specs.Book.{edit, undo, add, remove, lock, unlock}
+use Rattle.report.specs.Report.{bytes}
+use Rattle.session.specs.Program.{Request, asks, opening, call, pairs, chain}
+use Rattle.lines.specs.Typed.{blank, skip, trim, word, rest, sameBytes, empty, figure, allFigures, numberAfter, numberOf, isNumber, isLabel, labelOf, text, Typed, nothing, saying, unknown, misfit, numbered, linked, alone, chained, requested, begun, typed}
+
+pub record Case : Type 0 where
+  pub line : String
+  pub what : Typed
+
+abbrev pub request : String → Request → Case
+request t q = record { line = t; what = saying (asks q) }
+
+abbrev pub no-word : String → Case
+no-word t = record { line = t; what = unknown }
+
+abbrev pub no-fit : String → Case
+no-fit t = record { line = t; what = misfit }
+
+abbrev pub silent : String → Case
+silent t = record { line = t; what = nothing }
+
+unfoldable pub table : List Case
+table =
+    request "open 4" (opening 4) ∷
+    request "add 0 a 1" (call (edit (add (record { from = 0; label = 0; to = 1 })))) ∷
+    request "  remove   65535 z 0  " (call (edit (remove (record { from = 65535; label = 25; to = 0 })))) ∷
+    request "lock 1" (call (edit (lock 1))) ∷
+    request "unlock 0258 " (call (edit (unlock 258))) ∷
+    request " undo " (call undo) ∷
+    request "pairs a/^a" (pairs (bytes "a/^a")) ∷
+    request "pairs" (pairs []) ∷
+    request "chain 0 3 a/b " (chain 0 3 (bytes "a/b")) ∷
+    request "chain 7 8" (chain 7 8 []) ∷
+    silent "" ∷
+    silent "  " ∷
+    silent "# open 4" ∷
+    silent " #" ∷
+    no-word "shut" ∷
+    no-word "opening 4" ∷
+    no-word "Open 4" ∷
+    no-fit "open" ∷
+    no-fit "open 65536" ∷
+    no-fit "open -1" ∷
+    no-fit "lock 1 2" ∷
+    no-fit "add 0 A 1" ∷
+    no-fit "add 0 ab 1" ∷
+    no-fit "add 0 a" ∷
+    no-fit "undo x" ∷
+    no-fit "chain 1 x a" ∷
+    []
+
+pub data Hold : List Case → Type 0 where
+  none-left : Hold []
+  also : {c : Case} {cs : List Case} → typed (bytes (c .line)) ≡ c .what → Hold cs → Hold (c ∷ cs)
+
+pub typed-cases : Hold table
+unfolding table bytes blank skip trim word rest sameBytes empty figure allFigures numberAfter numberOf isNumber isLabel labelOf text numbered linked alone chained requested begun typed
+typed-cases =
+    also refl (also refl (also refl (also refl (also refl (also refl (also refl (also refl (also refl (also refl (also refl (also refl (also refl
+    (also refl (also refl (also refl (also refl (also refl (also refl (also refl (also refl (also refl (also refl (also refl (also refl (also refl
+    none-left)))))))))))))))))))))))))
