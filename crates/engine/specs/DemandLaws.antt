@@ -1,6 +1,7 @@
 -- Demand 3: the theorem. It rests on what the calls promise and on nothing else of the engine.
 --   pairs-claim, chain-claim
 --                   what the questions promise gives what is claimed of them
+--   faulty-kept     of a faulty expression: its number, and the list as it was
 --   claims          answers and register of the book are all that is needed
 --   demand-3        for every n from 1 to 1,024, every list of calls, and every question asked of the register at the end
 --   replayed-calls  what `replay` tells the calls among its words is what the book answers
@@ -34,8 +35,10 @@ use Rattle.register.specs.Questions.{Listing, LockList}
 use Rattle.register.specs.declared.Register.{Register}
 use Rattle.register.specs.declared.Links.{Links}
 use Rattle.register.specs.declared.Opened.{Opened}
-use Rattle.pairs.specs.Asking.{Tells, told-number, told-pairs, AsksPairs}
-use Rattle.pairs.specs.AskingLaws.{asks-paired}
+use Rattle.reader.specs.Reads.{readAnswer}
+use Rattle.reader.specs.declared.Answer.the-variants.{Refused as Faulty}
+use Rattle.pairs.specs.Asking.{Tells, told-number, told-pairs, BookPairs, AsksPairs}
+use Rattle.pairs.specs.AskingLaws.{asks-refused, asks-paired}
 use Rattle.pairs.specs.declared.PairsAnswer.{PairsAnswer}
 use Rattle.pairs.specs.declared.PairsAnswer.the-variants.{Pairs, Refused}
 use Rattle.automaton.specs.WalkLaws.{length-stepWords}
@@ -66,6 +69,18 @@ pairs-claim {r} {b} R q Q e A =
           ap (λ (u : Verdict). pairsAnswer b u (q .work) (length (q .before))) (sym v) ∙ asks-paired b (q .work) (length (q .before)) e (A .work) h in
           (told-as l (Q .book b R .tells) o, Q .book b R .list ∙ ap (λ (u : Outcome). listAfter u (q .before)) o),
     )
+
+-- a faulty expression is refused with its number, and the list is as it was
+told-refused : {o : Outcome} {a : PairsAnswer} (k : ℕ) → Tells o a → o ≡ refused k → a ≡ Refused k
+told-refused k (told-number {k = j}) e = let z : j ≡ k = cc in ap Refused z
+told-refused k (told-pairs {ws}) e = absurd (let z : _≡_ {A = ℕ} 0 1 = cc in omega arith)
+
+pub faulty-kept : {b : Book} {v : Verdict} {work : ℕ} {before after′ : List ℕ} {a : PairsAnswer} (k : ℕ) → readAnswer v ≡ Faulty k → BookPairs b v work before after′ a
+    → (a ≡ Refused k) × (after′ ≡ before)
+unfolding listAfter
+faulty-kept {b} {v} {work} {before} k e B =
+    let o = asks-refused b work (length before) v k e in
+    (told-refused k (B .tells) o, B .list ∙ ap (λ (u : Outcome). listAfter u before) o)
 
 -- ---- chain questions
 module _ {e : Register} {b : Book} (R : Represents e b) (x y : ℕ) (text : List ℕ) (work : ℕ) (before after′ : List ℕ) (a : ChainAnswer) (Q : Replies e x y text work before after′ a)
