@@ -1,5 +1,5 @@
 -- The causes of a refusal, their numbers, and the order in which they are looked for.
---   Cause           a row of 01's table of causes; the row of number 10 is two, since its two halves stand at different places in an order
+--   Cause           a row of the table of S6.3; the row of number 10 is two, since its two halves stand at different places in an order
 --   allCauses       every cause, in the order of this file
 --   number c        the number of a cause
 --   Caused k        k is the number of a cause

@@ -1,4 +1,4 @@
--- What the public calls promise, as equations: a call is refused with the number of the first cause, in the order of 01, and the list is as it was; with no
+-- What the public calls promise, as equations: a call is refused with the number of the first cause, in the order of S6.8, and the list is as it was; with no
 -- cause the answer's words stand at the list's front, and behind them it is as it was.
 --   allBelow n ps   whether both ends of each pair of ps are below n, as `PairsBelow` has it (CallLaws `all-below`, `below-all`)
 --   allFormed n ts  whether each of the lent trees ts is well formed
