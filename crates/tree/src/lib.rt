@@ -15,6 +15,7 @@ ghost use mathlib.Core.Bool.{true};
 ghost use mathlib.Core.List.{map};
 ghost use Prim.Native.Nat.{_+_, _≤_};
 ghost use lib.ListN.{length, take, drop};
+ghost use Rattle.book.specs.Causes.{maxRecords};
 ghost use Rattle.k2.specs.Bits.{bitAt};
 ghost use Rattle.k2.specs.PairSets.{Cells, IsSet, setOf, union, intersection, difference, product, transpose, closure};
 ghost use Rattle.k2.specs.Trees.{treeWords, treeUnit};
@@ -23,6 +24,23 @@ ghost use Rattle.packing.specs.Reading.{sensed};
 ghost use Rattle.tree.specs.Inner.{Room, TreeAt, outcome, OneTree, TwoTrees, OneWithLinks, TwoWithLinks, Guarded};
 ghost use Rattle.tree.specs.Calls.{Settled, OutcomeListed};
 
+// The operations, by number; `outcome` of specs/Inner.antt has what they are.
+pub const UNION: u8 = 0;
+
+pub const INTERSECTION: u8 = 1;
+
+pub const DIFFERENCE: u8 = 2;
+
+pub const PRODUCT: u8 = 3;
+
+pub const CLOSURE: u8 = 4;
+
+pub const OPTIONAL: u8 = 5;
+
+pub const STAR: u8 = 6;
+
+pub const TRANSPOSE: u8 = 7;
+
 pub enum Answer {
     Done(usize),
     Refused(u32),
@@ -30,7 +48,7 @@ pub enum Answer {
 
 // The pairs of the tree of `len` words at word `at` put into rows; with sense 1 each pair exchanged.
 fn load_at(work: &[u64], at: usize, len: usize, n: usize, sense: usize, rows: &mut [u64])
-    requires { ⌜ (n ≤ 1024) × (len ≤ treeUnit n) × (sense ≤ 1) × (at + len ≤ length (now work)) × (length (now rows) ≡ 16384) ⌝ }
+    requires { ⌜ (n ≤ maxRecords) × (len ≤ treeUnit n) × (sense ≤ 1) × (at + len ≤ length (now work)) × (length (now rows) ≡ 16384) ⌝ }
     ensures { λ _. ⌜ ((a x : Cells) → IsSet n a → take len (drop at (now (work .entry))) ≡ treeWords n a → bitAt (now (rows .entry)) ≡ flat x
         → bitAt (now (rows .exit)) ≡ flat (union x (sensed sense a))) ⌝ }
 {
@@ -62,7 +80,7 @@ fn load_last(
     sense: usize,
     rows: &mut [u64],
 )
-    requires { ⌜ (n ≤ 1024) × (len ≤ treeUnit n) × (sb ≤ 1) × (at + len ≤ length (now work)) × (length (now rows) ≡ 16384) ⌝ }
+    requires { ⌜ (n ≤ maxRecords) × (len ≤ treeUnit n) × (sb ≤ 1) × (at + len ≤ length (now work)) × (length (now rows) ≡ 16384) ⌝ }
     ensures { λ _. ⌜ ((b x : Cells) → IsSet n b → take len (drop at (now (work .entry))) ≡ treeWords n b → bitAt (now (rows .entry)) ≡ flat x
         → bitAt (now (rows .exit)) ≡ flat (union x (union (sensed sb b) (sensed sense (setOf (map linkPair (now (words .entry)))))))) ⌝ }
 {
@@ -88,13 +106,13 @@ fn with_second(
         → bitAt (now (rows .exit)) ≡ flat (outcome kind n a (union (sensed sb b) (sensed sense (setOf (map linkPair (now (words .entry)))))))) ⌝ }
 {
     let mut other: [u64; 16384] = [0; 16384];
-    if kind == 3 {
+    if kind == PRODUCT {
         load_last(work, la, lb, n, 1 - sb, words, 1 - sense, &mut other);
         rows::compose(rows, &other, n);
         return;
     }
     load_last(work, la, lb, n, sb, words, sense, &mut other);
-    if kind == 1 {
+    if kind == INTERSECTION {
         rows::intersect(rows, &other);
         return;
     }
@@ -118,25 +136,25 @@ fn combine(
         → take lb (drop la (now (work .entry))) ≡ treeWords n b → IsSet n (setOf (map linkPair (now (words .entry))))
         → bitAt (now (rows .exit)) ≡ flat (outcome kind n a (union (sensed sb b) (sensed sense (setOf (map linkPair (now (words .entry)))))))) ⌝ }
 {
-    if kind == 0 {
+    if kind == UNION {
         load_last(work, la, lb, n, sb, words, sense, rows);
         return;
     }
-    if kind < 4 {
+    if kind < CLOSURE {
         with_second(kind, work, n, la, lb, sb, words, sense, rows);
         return;
     }
-    if 6 < kind {
+    if STAR < kind {
         load_last(work, la, lb, n, 1 - sb, words, 1 - sense, rows);
         return;
     }
     load_last(work, la, lb, n, sb, words, sense, rows);
-    if kind == 5 {
+    if kind == OPTIONAL {
         rows::set_diagonal(rows, n);
         return;
     }
     rows::close(rows, n);
-    if kind == 4 {
+    if kind == CLOSURE {
         return;
     }
     rows::set_diagonal(rows, n);
@@ -173,7 +191,7 @@ fn operate(
 fn room(n: usize, la: usize, lb: usize, k: usize) -> bool
     ensures { λ r. ⌜ (r ≡ true → Room n la lb k) × (Room n la lb k → r ≡ true) ⌝ }
 {
-    if 1024 < n {
+    if book::MAX_RECORDS < n {
         return false;
     }
     let unit = packing::tree_unit(n);
@@ -238,7 +256,7 @@ pub fn union_in(work: &mut [u64], n: usize, la: usize, lb: usize) -> usize
     ensures { λ r. ⌜ Guarded (Room n la lb (length (now (work .entry)))) (now (work .entry)) (now (work .exit)) r
         (TwoTrees union n la lb (now (work .entry)) (now (work .exit)) r) ⌝ }
 {
-    operate_on(0, work, n, la, lb, 0, 0)
+    operate_on(UNION, work, n, la, lb, 0, 0)
 }
 
 // Their intersection.
@@ -246,7 +264,7 @@ pub fn intersection_in(work: &mut [u64], n: usize, la: usize, lb: usize) -> usiz
     ensures { λ r. ⌜ Guarded (Room n la lb (length (now (work .entry)))) (now (work .entry)) (now (work .exit)) r
         (TwoTrees intersection n la lb (now (work .entry)) (now (work .exit)) r) ⌝ }
 {
-    operate_on(1, work, n, la, lb, 0, 0)
+    operate_on(INTERSECTION, work, n, la, lb, 0, 0)
 }
 
 // Their difference.
@@ -254,7 +272,7 @@ pub fn difference_in(work: &mut [u64], n: usize, la: usize, lb: usize) -> usize
     ensures { λ r. ⌜ Guarded (Room n la lb (length (now (work .entry)))) (now (work .entry)) (now (work .exit)) r
         (TwoTrees difference n la lb (now (work .entry)) (now (work .exit)) r) ⌝ }
 {
-    operate_on(2, work, n, la, lb, 0, 0)
+    operate_on(DIFFERENCE, work, n, la, lb, 0, 0)
 }
 
 // Their product, each read with a sense, 0 or 1.
@@ -268,7 +286,7 @@ pub fn product_in(work: &mut [u64], n: usize, la: usize, lb: usize, sa: usize, s
     if 1 < sb {
         return 0;
     }
-    operate_on(3, work, n, la, lb, sa, sb)
+    operate_on(PRODUCT, work, n, la, lb, sa, sb)
 }
 
 // The transpose of the tree at the front of work: read with sense 1, and joined with none.
@@ -276,7 +294,7 @@ pub fn transpose_in(work: &mut [u64], n: usize, la: usize) -> usize
     ensures { λ r. ⌜ Guarded (Room n la 0 (length (now (work .entry)))) (now (work .entry)) (now (work .exit)) r
         (OneTree transpose n la (now (work .entry)) (now (work .exit)) r) ⌝ }
 {
-    operate_on(0, work, n, la, 0, 1, 0)
+    operate_on(UNION, work, n, la, 0, 1, 0)
 }
 
 // Its closure: one or more steps.
@@ -284,7 +302,7 @@ pub fn closure_in(work: &mut [u64], n: usize, la: usize) -> usize
     ensures { λ r. ⌜ Guarded (Room n la 0 (length (now (work .entry)))) (now (work .entry)) (now (work .exit)) r
         (OneTree (closure n) n la (now (work .entry)) (now (work .exit)) r) ⌝ }
 {
-    operate_on(4, work, n, la, 0, 0, 0)
+    operate_on(CLOSURE, work, n, la, 0, 0, 0)
 }
 
 // With it each record below n joined to itself.
@@ -292,7 +310,7 @@ pub fn identity_in(work: &mut [u64], n: usize, la: usize) -> usize
     ensures { λ r. ⌜ Guarded (Room n la 0 (length (now (work .entry)))) (now (work .entry)) (now (work .exit)) r
         (OneTree (λ a. union a (identity n)) n la (now (work .entry)) (now (work .exit)) r) ⌝ }
 {
-    operate_on(5, work, n, la, 0, 0, 0)
+    operate_on(OPTIONAL, work, n, la, 0, 0, 0)
 }
 
 // The tree of the pairs of link words, at the front of work. Pair words are their own.
@@ -301,7 +319,7 @@ pub fn letter_in(work: &mut [u64], n: usize, words: &[u32]) -> usize
         (IsSet n (setOf (map linkPair (now (words .entry))))
         → TreeAt n (setOf (map linkPair (now (words .entry)))) (now (work .exit)) r) ⌝ }
 {
-    guarded(0, work, n, 0, 0, 0, 0, words, 0)
+    guarded(UNION, work, n, 0, 0, 0, 0, words, 0)
 }
 
 // The pairs of link words, read with a sense, 0 or 1, put into the tree at the front of work.
@@ -309,7 +327,7 @@ pub fn put_links_in(work: &mut [u64], n: usize, lb: usize, words: &[u32], sense:
     ensures { λ r. ⌜ Guarded (Room n 0 lb (length (now (work .entry))) × (sense ≤ 1)) (now (work .entry)) (now (work .exit)) r
         (OneWithLinks (λ a. a) n lb (now (words .entry)) sense (now (work .entry)) (now (work .exit)) r) ⌝ }
 {
-    guarded(0, work, n, 0, lb, 0, 0, words, sense)
+    guarded(UNION, work, n, 0, lb, 0, 0, words, sense)
 }
 
 // The transpose of both.
@@ -317,7 +335,7 @@ pub fn transpose_with(work: &mut [u64], n: usize, lb: usize, words: &[u32], sens
     ensures { λ r. ⌜ Guarded (Room n 0 lb (length (now (work .entry))) × (sense ≤ 1)) (now (work .entry)) (now (work .exit)) r
         (OneWithLinks transpose n lb (now (words .entry)) sense (now (work .entry)) (now (work .exit)) r) ⌝ }
 {
-    guarded(7, work, n, 0, lb, 0, 0, words, sense)
+    guarded(TRANSPOSE, work, n, 0, lb, 0, 0, words, sense)
 }
 
 // The closure of both together.
@@ -325,7 +343,7 @@ pub fn closure_with(work: &mut [u64], n: usize, lb: usize, words: &[u32], sense:
     ensures { λ r. ⌜ Guarded (Room n 0 lb (length (now (work .entry))) × (sense ≤ 1)) (now (work .entry)) (now (work .exit)) r
         (OneWithLinks (closure n) n lb (now (words .entry)) sense (now (work .entry)) (now (work .exit)) r) ⌝ }
 {
-    guarded(4, work, n, 0, lb, 0, 0, words, sense)
+    guarded(CLOSURE, work, n, 0, lb, 0, 0, words, sense)
 }
 
 // Their closure, with each record below n joined to itself.
@@ -333,7 +351,7 @@ pub fn star_with(work: &mut [u64], n: usize, lb: usize, words: &[u32], sense: us
     ensures { λ r. ⌜ Guarded (Room n 0 lb (length (now (work .entry))) × (sense ≤ 1)) (now (work .entry)) (now (work .exit)) r
         (OneWithLinks (λ a. union (closure n a) (identity n)) n lb (now (words .entry)) sense (now (work .entry)) (now (work .exit)) r) ⌝ }
 {
-    guarded(6, work, n, 0, lb, 0, 0, words, sense)
+    guarded(STAR, work, n, 0, lb, 0, 0, words, sense)
 }
 
 // Both, with each record below n joined to itself.
@@ -341,7 +359,7 @@ pub fn optional_with(work: &mut [u64], n: usize, lb: usize, words: &[u32], sense
     ensures { λ r. ⌜ Guarded (Room n 0 lb (length (now (work .entry))) × (sense ≤ 1)) (now (work .entry)) (now (work .exit)) r
         (OneWithLinks (λ a. union a (identity n)) n lb (now (words .entry)) sense (now (work .entry)) (now (work .exit)) r) ⌝ }
 {
-    guarded(5, work, n, 0, lb, 0, 0, words, sense)
+    guarded(OPTIONAL, work, n, 0, lb, 0, 0, words, sense)
 }
 
 // The union of two trees at the front of work, the second with the pairs of link words beside its own.
@@ -356,7 +374,7 @@ pub fn union_with(
     ensures { λ r. ⌜ Guarded (Room n la lb (length (now (work .entry))) × (sense ≤ 1)) (now (work .entry)) (now (work .exit)) r
         (TwoWithLinks union n la lb (now (words .entry)) sense (now (work .entry)) (now (work .exit)) r) ⌝ }
 {
-    guarded(0, work, n, la, lb, 0, 0, words, sense)
+    guarded(UNION, work, n, la, lb, 0, 0, words, sense)
 }
 
 // Their product: the second operand is the second tree and the links.
@@ -371,24 +389,24 @@ pub fn product_with(
     ensures { λ r. ⌜ Guarded (Room n la lb (length (now (work .entry))) × (sense ≤ 1)) (now (work .entry)) (now (work .exit)) r
         (TwoWithLinks (product n) n la lb (now (words .entry)) sense (now (work .entry)) (now (work .exit)) r) ⌝ }
 {
-    guarded(3, work, n, la, lb, 0, 0, words, sense)
+    guarded(PRODUCT, work, n, la, lb, 0, 0, words, sense)
 }
 
-// 13 if the first n rows hold more pairs than the list takes; otherwise they are written, ascending.
+// Refused if the first n rows hold more pairs than the list takes; otherwise they are written, ascending.
 fn hand_over(rows: &[u64], n: usize, out: &mut [u32]) -> Answer
-    requires { ⌜ (n ≤ 1024) × (length (now rows) ≡ 16384) ⌝ }
+    requires { ⌜ (n ≤ maxRecords) × (length (now rows) ≡ 16384) ⌝ }
     ensures { λ r. ⌜ Settled (pairsIn n (now (rows .entry))) (now (out .entry)) (now (out .exit)) r ⌝ }
 {
     let total = rows::count_pairs(rows, n);
     if out.len() < total {
-        return Answer::Refused(13);
+        return Answer::Refused(book::SHORT_LIST);
     }
     rows::write_pairs(rows, n, out);
     Answer::Done(total)
 }
 
 // The pairs of an operation's outcome, by its number, ascending, as `list` hands them over; no tree is made of it. Without room, or with a sense
-// above 1, it is refused with 12.
+// above 1, it is refused: short work.
 pub fn list_with(
     kind: u8,
     work: &[u64],
@@ -402,10 +420,10 @@ pub fn list_with(
     ensures { λ r. ⌜ OutcomeListed kind n la lb (now (words .entry)) sense (now (work .entry)) (now (out .entry)) (now (out .exit)) r ⌝ }
 {
     if 1 < sense {
-        return Answer::Refused(12);
+        return Answer::Refused(book::SHORT_WORK);
     }
     if !room(n, la, lb, work.len()) {
-        return Answer::Refused(12);
+        return Answer::Refused(book::SHORT_WORK);
     }
     let mut rows: [u64; 16384] = [0; 16384];
     load_at(work, 0, la, n, 0, &mut rows);
