@@ -42,7 +42,7 @@ fn bounded(size: usize, n: usize) -> usize
     requires { ⌜ n ≤ maxRecords ⌝ }
     ensures { λ r. ⌜ (r ≤ treeUnit n) × (size ≤ treeUnit n → r ≡ size) ⌝ }
 {
-    let most = packing::tree_unit(n);
+    let most = tree::tree_unit(n);
     if most < size {
         return most;
     }
@@ -309,7 +309,7 @@ fn of_code(
     ensures { λ a. ⌜ ((s : List ℕ) (e : Expr) → Coded s e (take len code) → AsksFor register (accepted e) (length (now (work .entry))) (now (list .entry)) (now (list .exit)) a) ⌝ }
 {
     let n = register.size();
-    if work.len() < 32 * packing::tree_unit(n) {
+    if work.len() < 32 * tree::tree_unit(n) {
         return PairsAnswer::Refused(book::SHORT_WORK);
     }
     let links = register.links();

@@ -1,15 +1,15 @@
 // The calls on lent trees and lists: each tests what it is lent, names the first cause against it, and hands over a tree or a list.
 // What they promise is stated in specs/Calls.antt.
-use crate::Answer;
-use crate::DIFFERENCE;
-use crate::INTERSECTION;
-use crate::PRODUCT;
-use crate::UNION;
-use crate::closure_in;
-use crate::hand_over;
-use crate::letter_in;
-use crate::operate_on;
-use crate::transpose_in;
+use crate::inner::closure_in;
+use crate::inner::letter_in;
+use crate::inner::transpose_in;
+use crate::listing::Answer;
+use crate::listing::hand_over;
+use crate::operations::DIFFERENCE;
+use crate::operations::INTERSECTION;
+use crate::operations::PRODUCT;
+use crate::operations::UNION;
+use crate::operations::operate_on;
 ghost use mathlib.Core.Path.{_≡_};
 ghost use mathlib.Core.Bool.{true};
 ghost use mathlib.Core.List.{[], _∷_, _++_};
