@@ -11,6 +11,7 @@ ghost use Rattle.paths.specs.Expressions.{Expr};
 ghost use Rattle.paths.specs.Grammar.{accepted};
 ghost use Rattle.paths.specs.Chains.{asked};
 ghost use Rattle.paths.specs.Relations.{cells};
+ghost use Rattle.reader.specs.Code.{op-inverse, op-alternative, op-sequence};
 ghost use Rattle.rows.specs.Rows.{noPairs};
 ghost use Rattle.tree.specs.Inner.{outcome, OneWithLinks, TwoWithLinks};
 ghost use Rattle.pairs.specs.Evaluation.{onOne, onTwo, Placed, Room};
@@ -137,7 +138,7 @@ fn letter(work: &mut [u64], n: usize, words: &[u32], stack: Stack, op: u8) -> St
 
 // An operator on one operand. If the tree on top has no words, `^` is the other sense of the links beside it.
 fn unary(work: &mut [u64], n: usize, words: &[u32], stack: Stack, op: u8) -> Stack
-    requires { ⌜ (n ≤ maxRecords) × (32 * treeUnit n ≤ length (now work)) × (26 ≤ op) × (op < 30) × ((c : List ℕ) × Room (treeUnit n) (op ∷ c) stack) ⌝ }
+    requires { ⌜ (n ≤ maxRecords) × (32 * treeUnit n ≤ length (now work)) × (op-inverse ≤ op) × (op < op-alternative) × ((c : List ℕ) × Room (treeUnit n) (op ∷ c) stack) ⌝ }
     ensures { λ r. ⌜ Goes n (now (words .entry)) op (now (work .entry)) (now (work .exit)) stack r ⌝ }
 {
     let top = stack.count - 1;
@@ -154,7 +155,7 @@ fn unary(work: &mut [u64], n: usize, words: &[u32], stack: Stack, op: u8) -> Sta
 
 // An operator on the two operands on top; the part of work from the lower one on is lent to the operation.
 fn binary(work: &mut [u64], n: usize, words: &[u32], stack: Stack, op: u8) -> Stack
-    requires { ⌜ (n ≤ maxRecords) × (32 * treeUnit n ≤ length (now work)) × (30 ≤ op) × ((c : List ℕ) × Room (treeUnit n) (op ∷ c) stack) ⌝ }
+    requires { ⌜ (n ≤ maxRecords) × (32 * treeUnit n ≤ length (now work)) × (op-alternative ≤ op) × ((c : List ℕ) × Room (treeUnit n) (op ∷ c) stack) ⌝ }
     ensures { λ r. ⌜ Goes n (now (words .entry)) op (now (work .entry)) (now (work .exit)) stack r ⌝ }
 {
     let mut next = stack;
@@ -209,8 +210,8 @@ fn evaluate(work: &mut [u64], n: usize, words: &[u32], code: &[u8]) -> Stack
 
 // The number of an operator's operation on trees. A letter alone is listed as a union.
 fn kind(op: u8) -> u8
-    ensures { λ r. ⌜ ((n : ℕ) (x : Cells) → op < 30 → outcome r n noPairs x ≡ onOne n op x)
-        × ((n : ℕ) (x y : Cells) → 30 ≤ op → op ≤ 31 → outcome r n x y ≡ onTwo n op x y) ⌝ }
+    ensures { λ r. ⌜ ((n : ℕ) (x : Cells) → op < op-alternative → outcome r n noPairs x ≡ onOne n op x)
+        × ((n : ℕ) (x y : Cells) → op-alternative ≤ op → op ≤ op-sequence → outcome r n x y ≡ onTwo n op x y) ⌝ }
 {
     if op == reader::INVERSE {
         return tree::TRANSPOSE;
