@@ -33,8 +33,8 @@ use Rattle.k2.specs.TreeSets.{setIn, formed}
 use Rattle.rows.specs.Rows.{linkPair}
 use Rattle.packing.specs.Reading.{sensed}
 use Rattle.tree.specs.Inner.{Room, outcome}
-use Rattle.tree.specs.declared.Answer.{Answer}
-use Rattle.tree.specs.declared.Answer.the-variants.{Done, Refused}
+use Rattle.tree.specs.declared.listing.Answer.{Answer}
+use Rattle.tree.specs.declared.listing.Answer.the-variants.{Done, Refused}
 
 unfoldable pub allBelow : ℕ → List ℕ → Bool
 allBelow n [] = true
