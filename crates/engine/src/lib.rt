@@ -15,12 +15,11 @@ use chains::ChainAnswer;
 use pairs::PairsAnswer;
 use register::Answer;
 use register::Links;
-use register::Opened;
 use register::Outcome;
 use register::Register;
 
 // A fresh register of n records.
-pub fn open(n: u16) -> Opened
+pub fn open(n: u16) -> Outcome
     ensures { λ r. ⌜ Opens n r ⌝ }
 {
     Register::fresh(n)

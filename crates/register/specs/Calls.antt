@@ -24,7 +24,6 @@ use Rattle.register.specs.Packed.{Packed, Shows, Piled}
 use Rattle.register.specs.declared.Register.{Register}
 use Rattle.register.specs.declared.Answer.{Answer}
 use Rattle.register.specs.declared.Answer.the-variants.{Done, Refused}
-use Rattle.register.specs.declared.Opened.{Opened}
 use Rattle.register.specs.declared.Outcome.{Outcome}
 
 abbrev pub answerOf : ℕ → Answer
@@ -65,7 +64,7 @@ pub record Represents (r : Register) (b : Book) : Type 0 where
   pub sheet : Shows (b .n) (packedOf r) (b .sheet)
   pub pile : Piled (b .n) (packedOf r) (heldWords r) (b .pile)
 
-pub record Opens (n : ℕ) (out : Opened) : Type 0 where
+pub record Opens (n : ℕ) (out : Outcome) : Type 0 where
   pub answers : out .answer ≡ answerOf (freshAnswer n)
   pub made : freshAnswer n ≡ 0 → Represents (out .register) (fresh n)
   pub empty : (freshAnswer n ≡ 0 → ⊥) → Represents (out .register) (fresh 0)

@@ -34,13 +34,7 @@ pub enum Answer {
     Refused(u32),
 }
 
-// What asking for a register, or replaying a history, hands back.
-pub struct Opened {
-    pub register: Register,
-    pub answer: Answer,
-}
-
-// What an edit or an undo hands back.
+// What every call that makes or edits a register hands back.
 pub struct Outcome {
     pub register: Register,
     pub answer: Answer,
@@ -217,22 +211,22 @@ fn empty(n: u16) -> Register
 // Contents that no call of the engine made, whose numbers are out of range, are refused with 16 and handed back as they were.
 impl Register {
     // A fresh register; with n outside 1 to 1,024 the answer is 1, and the register handed back has no records.
-    pub fn fresh(n: u16) -> Opened
+    pub fn fresh(n: u16) -> Outcome
         ensures { λ r. ⌜ Opens n r ⌝ }
     {
         if n < 1 {
-            return Opened {
+            return Outcome {
                 register: empty(0),
                 answer: Answer::Refused(1),
             };
         }
         if 1024 < n {
-            return Opened {
+            return Outcome {
                 register: empty(0),
                 answer: Answer::Refused(1),
             };
         }
-        Opened {
+        Outcome {
             register: empty(n),
             answer: Answer::Done,
         }
@@ -564,20 +558,20 @@ pub fn number_of(a: Answer) -> u32
 }
 
 // A whole history on a fresh register of n records, as words: told takes the number of each answer. A refused one hands back the register of no records.
-pub fn replay(n: u16, words: &[u64], told: &mut [u32]) -> Opened
+pub fn replay(n: u16, words: &[u64], told: &mut [u32]) -> Outcome
     ensures { λ r. ⌜ Replays n (now (words .entry)) (now (told .entry)) (now (told .exit)) r ⌝ }
 {
     let opened = Register::fresh(n);
     let answer = opened.answer;
     let mut register = opened.register;
     if number_of(answer) != 0 {
-        return Opened {
+        return Outcome {
             register,
             answer: Answer::Refused(1),
         };
     }
     if told.len() < words.len() {
-        return Opened {
+        return Outcome {
             register: empty(0),
             answer: Answer::Refused(13),
         };
@@ -590,7 +584,7 @@ pub fn replay(n: u16, words: &[u64], told: &mut [u32]) -> Opened
         register = out.register;
         i += 1;
     }
-    Opened {
+    Outcome {
         register,
         answer: Answer::Done,
     }
