@@ -12,7 +12,7 @@ ghost use Rattle.book.specs.Causes.{firstNumber};
 ghost use Rattle.book.specs.Book.{add, remove, lock, unlock, edit, undo, fresh};
 ghost use Rattle.register.specs.Links.{linkWord};
 ghost use Rattle.register.specs.Packed.{insert};
-ghost use Rattle.register.specs.Calls.{answerNumber, packedOf, Represents, Opens, Steps};
+ghost use Rattle.register.specs.Calls.{answerNumber, callOf, packedOf, Represents, Opens, Steps};
 ghost use Rattle.register.specs.Inner.{putAt, cutAt, Seam, standsAt, linkCauses, hasAt, Guarded, Checks, Holding, Changed, TakenBack};
 ghost use Rattle.register.specs.History.{wordCall, EntrySteps, Replays};
 ghost use Rattle.register.specs.Questions.{Sized, Listing, LockList, Locking, LabelPart, nextPlace, NextLink, start, end};
@@ -32,6 +32,15 @@ pub struct Register {
 pub enum Answer {
     Done,
     Refused(u32),
+}
+
+// An edit or undo. A link's parts are from, label and to.
+pub enum Call {
+    Add(u16, u8, u16),
+    Remove(u16, u8, u16),
+    Lock(u16),
+    Unlock(u16),
+    Undo,
 }
 
 // What every call that makes or edits a register hands back.
@@ -478,6 +487,19 @@ impl Register {
         }
     }
 
+    // Any edit, or an undo.
+    pub fn apply(self, call: Call) -> Outcome
+        ensures { λ r. ⌜ Steps self (callOf call) r ⌝ }
+    {
+        match call {
+            Call::Add(from, label, to) => self.add(from, label, to),
+            Call::Remove(from, label, to) => self.remove(from, label, to),
+            Call::Lock(record) => self.lock(record),
+            Call::Unlock(record) => self.unlock(record),
+            Call::Undo => self.undo(),
+        }
+    }
+
     // Any call, by its word; a kind that does not exist gives 15.
     pub fn step(self, word: u64) -> Outcome
         ensures { λ r. ⌜ EntrySteps self (wordCall «word») r ⌝ }
@@ -487,11 +509,11 @@ impl Register {
         let label = (word / 65536 % 256) as u8;
         let to = (word % 65536) as u16;
         match kind {
-            2 => self.add(from, label, to),
-            3 => self.remove(from, label, to),
-            4 => self.lock(from),
-            5 => self.unlock(from),
-            6 => self.undo(),
+            2 => self.apply(Call::Add(from, label, to)),
+            3 => self.apply(Call::Remove(from, label, to)),
+            4 => self.apply(Call::Lock(from)),
+            5 => self.apply(Call::Unlock(from)),
+            6 => self.apply(Call::Undo),
             _ => Outcome {
                 register: self,
                 answer: Answer::Refused(15),
