@@ -5,9 +5,10 @@ ghost use mathlib.Core.Path.{_≡_};
 ghost use mathlib.Core.List.{[], _∷_};
 ghost use Prim.Native.Nat.{_<_};
 ghost use lib.ListN.{length};
-ghost use Rattle.book.specs.Book.{add, remove, lock, unlock, edit, undo};
+ghost use Rattle.book.specs.Book.{add, remove, lock, unlock, edit as Book·edit, undo};
 ghost use Rattle.k2.specs.PairSets.{union, intersection, difference, product, transpose, closure};
 ghost use Rattle.tree.specs.Calls.{Answered, treeOf, listOf, treeOfOne, treeOfTwo};
+ghost use Rattle.register.specs.Calls.{callOf};
 ghost use Rattle.pairs.specs.Asking.{AsksPairs};
 ghost use Rattle.chains.specs.Replies.{Replies};
 ghost use Rattle.host.specs.Host.{Freshens, Edits, refusal, toldPairs, toldChain, toldTree, Told, Asked, Lists, Sizes, TellsLock};
@@ -15,6 +16,7 @@ ghost use Rattle.host.specs.Inner.{Finishes};
 use chains::ChainAnswer;
 use pairs::PairsAnswer;
 use register::Answer;
+use register::Call;
 use register::Outcome;
 use register::Register;
 
@@ -95,10 +97,9 @@ pub extern "C" fn dating_fresh(n: u16, state: &mut [u32]) -> u32
     0
 }
 
-// A link put in.
-#[no_mangle]
-pub extern "C" fn dating_add(state: &mut [u32], from: u16, label: u8, to: u16) -> u32
-    ensures { λ k. ⌜ Edits (edit (add (record { from = from; label = label; to = to }))) (now (state .entry)) (now (state .exit)) k ⌝ }
+// An edit or undo of the register whose words the state has.
+fn edit(state: &mut [u32], call: Call) -> u32
+    ensures { λ k. ⌜ Edits (callOf call) (now (state .entry)) (now (state .exit)) k ⌝ }
 {
     let loaded = Register::load(state);
     let answer = loaded.answer;
@@ -106,49 +107,39 @@ pub extern "C" fn dating_add(state: &mut [u32], from: u16, label: u8, to: u16) -
         return NOT_OPEN;
     }
     let register = loaded.register;
-    keep(engine::add(register, from, label, to), state)
+    keep(engine::apply(register, call), state)
+}
+
+// A link put in.
+#[no_mangle]
+pub extern "C" fn dating_add(state: &mut [u32], from: u16, label: u8, to: u16) -> u32
+    ensures { λ k. ⌜ Edits (Book·edit (add (record { from = from; label = label; to = to }))) (now (state .entry)) (now (state .exit)) k ⌝ }
+{
+    edit(state, Call::Add(from, label, to))
 }
 
 // A link taken out.
 #[no_mangle]
 pub extern "C" fn dating_remove(state: &mut [u32], from: u16, label: u8, to: u16) -> u32
-    ensures { λ k. ⌜ Edits (edit (remove (record { from = from; label = label; to = to }))) (now (state .entry)) (now (state .exit)) k ⌝ }
+    ensures { λ k. ⌜ Edits (Book·edit (remove (record { from = from; label = label; to = to }))) (now (state .entry)) (now (state .exit)) k ⌝ }
 {
-    let loaded = Register::load(state);
-    let answer = loaded.answer;
-    if register::number_of(answer) != 0 {
-        return NOT_OPEN;
-    }
-    let register = loaded.register;
-    keep(engine::remove(register, from, label, to), state)
+    edit(state, Call::Remove(from, label, to))
 }
 
 // A record locked.
 #[no_mangle]
 pub extern "C" fn dating_lock(state: &mut [u32], record: u16) -> u32
-    ensures { λ k. ⌜ Edits (edit (lock «record»)) (now (state .entry)) (now (state .exit)) k ⌝ }
+    ensures { λ k. ⌜ Edits (Book·edit (lock «record»)) (now (state .entry)) (now (state .exit)) k ⌝ }
 {
-    let loaded = Register::load(state);
-    let answer = loaded.answer;
-    if register::number_of(answer) != 0 {
-        return NOT_OPEN;
-    }
-    let register = loaded.register;
-    keep(engine::lock(register, record), state)
+    edit(state, Call::Lock(record))
 }
 
 // A record unlocked.
 #[no_mangle]
 pub extern "C" fn dating_unlock(state: &mut [u32], record: u16) -> u32
-    ensures { λ k. ⌜ Edits (edit (unlock «record»)) (now (state .entry)) (now (state .exit)) k ⌝ }
+    ensures { λ k. ⌜ Edits (Book·edit (unlock «record»)) (now (state .entry)) (now (state .exit)) k ⌝ }
 {
-    let loaded = Register::load(state);
-    let answer = loaded.answer;
-    if register::number_of(answer) != 0 {
-        return NOT_OPEN;
-    }
-    let register = loaded.register;
-    keep(engine::unlock(register, record), state)
+    edit(state, Call::Unlock(record))
 }
 
 // The latest edit still held taken back.
@@ -156,13 +147,7 @@ pub extern "C" fn dating_unlock(state: &mut [u32], record: u16) -> u32
 pub extern "C" fn dating_undo(state: &mut [u32]) -> u32
     ensures { λ k. ⌜ Edits undo (now (state .entry)) (now (state .exit)) k ⌝ }
 {
-    let loaded = Register::load(state);
-    let answer = loaded.answer;
-    if register::number_of(answer) != 0 {
-        return NOT_OPEN;
-    }
-    let register = loaded.register;
-    keep(engine::undo(register), state)
+    edit(state, Call::Undo)
 }
 
 // The number of records; 0 if the words are no register's.

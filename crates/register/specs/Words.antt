@@ -23,7 +23,7 @@ use Rattle.book.specs.Book.{fresh}
 use Rattle.register.specs.Calls.{answerOf, InRange, Represents}
 use Rattle.register.specs.declared.Register.{Register}
 use Rattle.register.specs.declared.Answer.the-variants.{Done}
-use Rattle.register.specs.declared.Opened.{Opened}
+use Rattle.register.specs.declared.Outcome.{Outcome}
 
 abbrev pub stateWords : ℕ
 stateWords = 5380
@@ -62,7 +62,7 @@ pub record Copies (xs : List ℕ) (at : ℕ) (before after : List ℕ) (ok : Boo
   pub fits : at + length xs ≤ length before → (ok ≡ true) × (after ≡ take at before ++ xs ++ drop (at + length xs) before)
   pub short : length before < at + length xs → (ok ≡ false) × (after ≡ before)
 
-pub record Loads (ws : List ℕ) (out : Opened) : Type 0 where
+pub record Loads (ws : List ℕ) (out : Outcome) : Type 0 where
   pub loaded : out .answer ≡ Done → Keeps ws (out .register)
   pub refused : (out .answer ≡ Done → ⊥) → (out .answer ≡ answerOf (number not-open)) × Foreign ws × Represents (out .register) (fresh 0)
 

@@ -12,7 +12,7 @@ ghost use Rattle.book.specs.Causes.{firstNumber};
 ghost use Rattle.book.specs.Book.{add, remove, lock, unlock, edit, undo, fresh};
 ghost use Rattle.register.specs.Links.{linkWord};
 ghost use Rattle.register.specs.Packed.{insert};
-ghost use Rattle.register.specs.Calls.{answerNumber, packedOf, Represents, Opens, Steps};
+ghost use Rattle.register.specs.Calls.{answerNumber, callOf, packedOf, Represents, Opens, Steps};
 ghost use Rattle.register.specs.Inner.{putAt, cutAt, Seam, standsAt, linkCauses, hasAt, Guarded, Checks, Holding, Changed, TakenBack};
 ghost use Rattle.register.specs.History.{wordCall, EntrySteps, Replays};
 ghost use Rattle.register.specs.Questions.{Sized, Listing, LockList, Locking, LabelPart, nextPlace, NextLink, start, end};
@@ -34,13 +34,16 @@ pub enum Answer {
     Refused(u32),
 }
 
-// What asking for a register, or replaying a history, hands back.
-pub struct Opened {
-    pub register: Register,
-    pub answer: Answer,
+// An edit or undo. A link's parts are from, label and to.
+pub enum Call {
+    Add(u16, u8, u16),
+    Remove(u16, u8, u16),
+    Lock(u16),
+    Unlock(u16),
+    Undo,
 }
 
-// What an edit or an undo hands back.
+// What every call that makes or edits a register hands back.
 pub struct Outcome {
     pub register: Register,
     pub answer: Answer,
@@ -217,22 +220,22 @@ fn empty(n: u16) -> Register
 // Contents that no call of the engine made, whose numbers are out of range, are refused with 16 and handed back as they were.
 impl Register {
     // A fresh register; with n outside 1 to 1,024 the answer is 1, and the register handed back has no records.
-    pub fn fresh(n: u16) -> Opened
+    pub fn fresh(n: u16) -> Outcome
         ensures { λ r. ⌜ Opens n r ⌝ }
     {
         if n < 1 {
-            return Opened {
+            return Outcome {
                 register: empty(0),
                 answer: Answer::Refused(1),
             };
         }
         if 1024 < n {
-            return Opened {
+            return Outcome {
                 register: empty(0),
                 answer: Answer::Refused(1),
             };
         }
-        Opened {
+        Outcome {
             register: empty(n),
             answer: Answer::Done,
         }
@@ -484,6 +487,19 @@ impl Register {
         }
     }
 
+    // Any edit, or an undo.
+    pub fn apply(self, call: Call) -> Outcome
+        ensures { λ r. ⌜ Steps self (callOf call) r ⌝ }
+    {
+        match call {
+            Call::Add(from, label, to) => self.add(from, label, to),
+            Call::Remove(from, label, to) => self.remove(from, label, to),
+            Call::Lock(record) => self.lock(record),
+            Call::Unlock(record) => self.unlock(record),
+            Call::Undo => self.undo(),
+        }
+    }
+
     // Any call, by its word; a kind that does not exist gives 15.
     pub fn step(self, word: u64) -> Outcome
         ensures { λ r. ⌜ EntrySteps self (wordCall «word») r ⌝ }
@@ -493,11 +509,11 @@ impl Register {
         let label = (word / 65536 % 256) as u8;
         let to = (word % 65536) as u16;
         match kind {
-            2 => self.add(from, label, to),
-            3 => self.remove(from, label, to),
-            4 => self.lock(from),
-            5 => self.unlock(from),
-            6 => self.undo(),
+            2 => self.apply(Call::Add(from, label, to)),
+            3 => self.apply(Call::Remove(from, label, to)),
+            4 => self.apply(Call::Lock(from)),
+            5 => self.apply(Call::Unlock(from)),
+            6 => self.apply(Call::Undo),
             _ => Outcome {
                 register: self,
                 answer: Answer::Refused(15),
@@ -564,20 +580,20 @@ pub fn number_of(a: Answer) -> u32
 }
 
 // A whole history on a fresh register of n records, as words: told takes the number of each answer. A refused one hands back the register of no records.
-pub fn replay(n: u16, words: &[u64], told: &mut [u32]) -> Opened
+pub fn replay(n: u16, words: &[u64], told: &mut [u32]) -> Outcome
     ensures { λ r. ⌜ Replays n (now (words .entry)) (now (told .entry)) (now (told .exit)) r ⌝ }
 {
     let opened = Register::fresh(n);
     let answer = opened.answer;
     let mut register = opened.register;
     if number_of(answer) != 0 {
-        return Opened {
+        return Outcome {
             register,
             answer: Answer::Refused(1),
         };
     }
     if told.len() < words.len() {
-        return Opened {
+        return Outcome {
             register: empty(0),
             answer: Answer::Refused(13),
         };
@@ -590,7 +606,7 @@ pub fn replay(n: u16, words: &[u64], told: &mut [u32]) -> Opened
         register = out.register;
         i += 1;
     }
-    Opened {
+    Outcome {
         register,
         answer: Answer::Done,
     }

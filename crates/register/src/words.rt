@@ -1,7 +1,7 @@
 // A register kept as words by its caller: n, count, top, held, 4,096 words of links, 256 of the ring, 1,024 of locks, in the front of a slice of at least
 // so many. What reading and writing them promise is stated in specs/Words.antt.
 use crate::Answer;
-use crate::Opened;
+use crate::Outcome;
 use crate::Register;
 use crate::empty;
 use crate::ranged;
@@ -90,11 +90,11 @@ fn is_register(words: &[u32]) -> bool
 
 impl Register {
     // The register of the words; words that are no register's are refused with 16, and the register handed back has no records.
-    pub fn load(words: &[u32]) -> Opened
+    pub fn load(words: &[u32]) -> Outcome
         ensures { λ r. ⌜ Loads (now (words .entry)) r ⌝ }
     {
         if !is_register(words) {
-            return Opened {
+            return Outcome {
                 register: empty(0),
                 answer: Answer::Refused(16),
             };
@@ -105,7 +105,7 @@ impl Register {
         copy(&words[4100..4356], &mut ring, 0);
         let mut locks: [bool; 1024] = [false; 1024];
         read_locks(&words[4356..5380], &mut locks);
-        Opened {
+        Outcome {
             register: Register {
                 n: words[0] as u16,
                 count: words[1] as usize,

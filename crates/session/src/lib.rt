@@ -5,10 +5,10 @@ ghost use Prim.Native.Nat.{ℕ, _≤_, _<_};
 ghost use lib.ListN.{length, getD};
 ghost use Rattle.session.specs.Program.{decode as Program·decode, number16 as Program·number16};
 ghost use Rattle.session.specs.Program.{opening, call as Program·call, pairs, chain, asks, unopened as Program·unopened};
-ghost use Rattle.session.specs.Says.{says, Long, callOf};
+ghost use Rattle.session.specs.Says.{says, Long};
 ghost use Rattle.session.specs.Turns.{StateOf, room, Turns, Framing};
 ghost use Rattle.session.specs.Runs.{Advances, RunsOn, Front};
-ghost use Rattle.register.specs.Calls.{Steps};
+ghost use Rattle.register.specs.Calls.{callOf};
 ghost use Rattle.report.specs.Report.{refusedText, outcomeText};
 ghost use Rattle.report.specs.Written.{Wrote};
 ghost use Rattle.session.specs.Listing.{listing};
@@ -16,7 +16,7 @@ ghost use Rattle.pairs.specs.Asking.{pairsLength};
 ghost use Rattle.chains.specs.Replies.{outcomeOf, stepsLength};
 use chains::ChainAnswer;
 use pairs::PairsAnswer;
-use register::Outcome;
+use register::Call;
 use register::Register;
 
 // The numbers of the program's own causes: n outside 1 to 64, frame broken, kind unknown, no register opened; and the most records.
@@ -56,15 +56,6 @@ pub struct Ran {
     pub read: usize,
     pub written: usize,
     pub more: bool,
-}
-
-// An edit or undo. A link's parts are from, label and to.
-pub enum Call {
-    Add(u16, u8, u16),
-    Remove(u16, u8, u16),
-    Lock(u16),
-    Unlock(u16),
-    Undo,
 }
 
 // A frame's request, or what is wrong with the frame. The text of a question stays in the body.
@@ -170,18 +161,6 @@ fn refuse(state: State, number: u32, out: &mut [u8]) -> Framed
     Framed { state, written }
 }
 
-fn apply(register: Register, call: Call) -> Outcome
-    ensures { λ r. ⌜ Steps register (callOf call) r ⌝ }
-{
-    match call {
-        Call::Add(x, l, y) => engine::add(register, x, l, y),
-        Call::Remove(x, l, y) => engine::remove(register, x, l, y),
-        Call::Lock(r) => engine::lock(register, r),
-        Call::Unlock(r) => engine::unlock(register, r),
-        Call::Undo => engine::undo(register),
-    }
-}
-
 fn open(state: State, n: u16, out: &mut [u8]) -> Framed
     requires { ⌜ 29 ≤ length (now out) ⌝ }
     ensures { λ r. ⌜ ((work : ℕ) (l : List ℕ) → Turns state (asks (opening n)) work l l (now (out .entry)) (now (out .exit)) r) ⌝ }
@@ -211,7 +190,7 @@ fn edit(state: State, call: Call, out: &mut [u8]) -> Framed
     if !state.opened {
         return refuse(state, NOT_OPEN, out);
     }
-    let outcome = apply(state.register, call);
+    let outcome = engine::apply(state.register, call);
     let answer = outcome.answer;
     let register = outcome.register;
     let written = report::put_answer(register::number_of(answer), out, 0);

@@ -1,8 +1,8 @@
--- `session::apply` meets its contract: each arm is the register's own call. Assumes nothing.
-use Rattle.session.specs.Says.{callOf}
+-- `register::Register::apply` meets its contract: each arm is the method of its name. Assumes nothing.
+use Rattle.register.specs.Calls.{callOf}
 use borrow.Author.Needs.{needs}
-use Rattle.session.proofs.apply.Statement.{statement}
-use Rattle.session.proofs.apply.Tie as tie
+use Rattle.register.proofs.Register.apply.Statement.{statement}
+use Rattle.register.proofs.Register.apply.Tie as tie
 
 enum-known-call : tie.Need-enum-known-call
 enum-known-call c = search needs
