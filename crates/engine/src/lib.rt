@@ -196,7 +196,7 @@ pub fn tree_closure(n: usize, a: &[u64], out: &mut [u64], work: &mut [u64]) -> t
 pub struct Inquiry {
     pub answer: Answer,
     pub links: Links,
-    pub locks: [bool; 1024],
+    pub locks: [bool; book::MAX_RECORDS],
     pub pairs: PairsAnswer,
     pub chain: ChainAnswer,
 }

@@ -20,18 +20,16 @@ use register::Call;
 use register::Outcome;
 use register::Register;
 
-// The numbers of the causes that are looked for here: state shorter than a register's words, answer longer than its list, words that are no register's.
-const SHORT_WORK: u32 = 12;
+// What is told in place of a count: no chain, and, with the number of its cause added, a refusal.
+const NO_CHAIN: u64 = 4294967296;
 
-const SHORT_LIST: u32 = 13;
-
-const NOT_OPEN: u32 = 16;
+const REFUSAL: u64 = 8589934592;
 
 // A refusal told as 64 bits.
 fn told_refusal(number: u32) -> u64
     ensures { λ k. ⌜ k ≡ refusal number ⌝ }
 {
-    8589934592 + number as u64
+    REFUSAL + number as u64
 }
 
 fn told_pairs(answer: PairsAnswer) -> u64
@@ -48,7 +46,7 @@ fn told_chain(answer: ChainAnswer) -> u64
 {
     match answer {
         ChainAnswer::Chain(steps) => steps as u64,
-        ChainAnswer::NoChain => 4294967296,
+        ChainAnswer::NoChain => NO_CHAIN,
         ChainAnswer::Refused(number) => told_refusal(number),
     }
 }
@@ -72,7 +70,7 @@ fn keep(outcome: Outcome, state: &mut [u32]) -> u32
         Answer::Done => {
             let register = outcome.register;
             if !register.store(state) {
-                return NOT_OPEN;
+                return book::NOT_OPEN;
             }
             0
         }
@@ -92,7 +90,7 @@ pub extern "C" fn dating_fresh(n: u16, state: &mut [u32]) -> u32
     }
     let register = opened.register;
     if !register.store(state) {
-        return SHORT_WORK;
+        return book::SHORT_WORK;
     }
     0
 }
@@ -104,7 +102,7 @@ fn edit(state: &mut [u32], call: Call) -> u32
     let loaded = Register::load(state);
     let answer = loaded.answer;
     if register::number_of(answer) != 0 {
-        return NOT_OPEN;
+        return book::NOT_OPEN;
     }
     let register = loaded.register;
     keep(engine::apply(register, call), state)
@@ -162,7 +160,7 @@ pub extern "C" fn dating_size(state: &[u32]) -> u32
     }
     let register = loaded.register;
     let n = engine::size(register);
-    if 1024 < n {
+    if book::MAX_RECORDS < n {
         return 0;
     }
     n as u32
@@ -176,14 +174,14 @@ pub extern "C" fn dating_links(state: &[u32], list: &mut [u32]) -> u64
     let loaded = Register::load(state);
     let answer = loaded.answer;
     if register::number_of(answer) != 0 {
-        return told_refusal(NOT_OPEN);
+        return told_refusal(book::NOT_OPEN);
     }
     let register = loaded.register;
     let links = engine::links(register);
     let count = links.count;
     let words = links.words;
     if !register::copy(&words[..count], list, 0) {
-        return told_refusal(SHORT_LIST);
+        return told_refusal(book::SHORT_LIST);
     }
     count as u64
 }
@@ -215,7 +213,7 @@ pub extern "C" fn dating_pairs(
     let loaded = Register::load(state);
     let answer = loaded.answer;
     if register::number_of(answer) != 0 {
-        return told_refusal(NOT_OPEN);
+        return told_refusal(book::NOT_OPEN);
     }
     told_pairs(engine::pairs(loaded.register, text, work, list))
 }
@@ -235,7 +233,7 @@ pub extern "C" fn dating_chain(
     let loaded = Register::load(state);
     let answer = loaded.answer;
     if register::number_of(answer) != 0 {
-        return told_refusal(NOT_OPEN);
+        return told_refusal(book::NOT_OPEN);
     }
     told_chain(engine::chain(loaded.register, from, to, text, work, list))
 }

@@ -17,7 +17,7 @@
 -- Assumes nothing: these are definitions.
 use mathlib.Core.Path.{_≡_}
 use mathlib.Core.List.{List, [], _∷_}
-use Prim.Native.Nat.{ℕ, zero, suc, _≤_, _<_}
+use Prim.Native.Nat.{ℕ, zero, suc, _-_, _≤_, _<_}
 use lib.ListN.{take, getD}
 use Rattle.book.specs.Causes.{not-open, number, Caused, maxRecords, maxLinks, maxHeld}
 use Rattle.book.specs.Book.{Book, add, remove, lock, unlock, Call as Book·Call, edit, undo, answer, next, freshAnswer, fresh}
@@ -45,7 +45,7 @@ callOf (Unlock r) = edit (unlock r)
 callOf Undo = undo
 
 abbrev pub previous : ℕ → ℕ
-previous zero = 255
+previous zero = maxHeld - 1
 previous (suc t) = t
 
 -- the latest of the ring stands before top

@@ -1,7 +1,7 @@
 -- A register kept by a caller as plain words. A state may be longer than a register's words: its front is the register, and the words past it are left.
---   stateWords      how many words a register has
 --   linksAt, ringAt, locksAt
---                   the places of its first link, of the ring and of its first lock
+--                   the places of a register's first link, of the ring and of its first lock
+--   stateWords      how many words a register has
 --   lockWord l      1 if locked, 0 if not
 --   numbersOf r, stateOf r
 --                   the words of a register: its counters, its links, its ring, its locks
@@ -25,17 +25,17 @@ use Rattle.register.specs.declared.Register.{Register}
 use Rattle.register.specs.declared.Answer.the-variants.{Done}
 use Rattle.register.specs.declared.Outcome.{Outcome}
 
-abbrev pub stateWords : ℕ
-stateWords = 5380
-
 abbrev pub linksAt : ℕ
 linksAt = 4
 
 abbrev pub ringAt : ℕ
-ringAt = 4100
+ringAt = linksAt + maxLinks
 
 abbrev pub locksAt : ℕ
-locksAt = 4356
+locksAt = ringAt + maxHeld
+
+abbrev pub stateWords : ℕ
+stateWords = locksAt + maxRecords
 
 abbrev pub lockWord : Bool → ℕ
 lockWord true = 1

@@ -2,13 +2,14 @@
 // What the calls promise is stated in specs/Calls.antt, specs/History.antt and specs/Questions.antt, about the plain book of the crate book.
 mod words;
 
+pub use words::STATE_WORDS;
 pub use words::copy;
 ghost use mathlib.Core.Path.{_≡_};
 ghost use Prim.Native.Nat.{_+_, _-_, _≤_, _<_};
 ghost use lib.ListN.{length, take, set};
 ghost use lib.Dec.{eqb};
 ghost use Rattle.book.specs.Basics.{Rises, has, without};
-ghost use Rattle.book.specs.Causes.{firstNumber};
+ghost use Rattle.book.specs.Causes.{firstNumber, maxRecords, labels, maxLinks, maxHeld};
 ghost use Rattle.book.specs.Book.{add, remove, lock, unlock, edit, undo, fresh};
 ghost use Rattle.register.specs.Links.{linkWord};
 ghost use Rattle.register.specs.Packed.{insert};
@@ -17,13 +18,37 @@ ghost use Rattle.register.specs.Inner.{putAt, cutAt, Seam, standsAt, lin
 ghost use Rattle.register.specs.History.{wordCall, EntrySteps, Replays};
 ghost use Rattle.register.specs.Questions.{Sized, Listing, LockList, Locking, LabelPart, nextPlace, NextLink, start, end};
 
+// The limits of the crate book, as wide as what is compared with them.
+const MAX_RECORDS: u16 = book::MAX_RECORDS as u16;
+
+const LABELS: u8 = book::LABELS as u8;
+
+// A link's word is its label, from and to, each times its unit.
+const TO_UNIT: u32 = 1;
+
+const FROM_UNIT: u32 = book::MAX_RECORDS as u32;
+
+const LABEL_UNIT: u32 = FROM_UNIT * FROM_UNIT;
+
+// A held word is the word of a link or a record, and one of these for its kind; an add has none.
+const KIND_UNIT: u32 = 33554432;
+
+const REMOVED: u32 = KIND_UNIT;
+
+const LOCKED: u32 = 2 * KIND_UNIT;
+
+const UNLOCKED: u32 = 3 * KIND_UNIT;
+
+// The last place of the ring.
+const LAST_HELD: usize = book::MAX_HELD - 1;
+
 // n records; the first count words of links, ascending, are the links present; of ring, the held words before top are the latest accepted edits.
 pub struct Register {
     n: u16,
     count: usize,
-    links: [u32; 4096],
-    locks: [bool; 1024],
-    ring: [u32; 256],
+    links: [u32; book::MAX_LINKS],
+    locks: [bool; book::MAX_RECORDS],
+    ring: [u32; book::MAX_HELD],
     top: usize,
     held: usize,
 }
@@ -51,7 +76,7 @@ pub struct Outcome {
 
 // The links of a register, as the first count of words.
 pub struct Links {
-    pub words: [u32; 4096],
+    pub words: [u32; book::MAX_LINKS],
     pub count: usize,
 }
 
@@ -100,8 +125,8 @@ fn holds(words: &[u32], count: usize, x: u32) -> bool
 }
 
 // x at the place at, and what stood there and after it one place on.
-fn put(a: &mut [u32; 4096], count: usize, at: usize, x: u32)
-    requires { ⌜ (at ≤ count) × (count < 4096) × (length (now a) ≡ 4096) ⌝ }
+fn put(a: &mut [u32; book::MAX_LINKS], count: usize, at: usize, x: u32)
+    requires { ⌜ (at ≤ count) × (count < maxLinks) × (length (now a) ≡ maxLinks) ⌝ }
     ensures { λ r. ⌜ take (count + 1) (now (a .exit)) ≡ putAt at x (take count (now (a .entry))) ⌝ }
 {
     let mut carried = x;
@@ -116,8 +141,8 @@ fn put(a: &mut [u32; 4096], count: usize, at: usize, x: u32)
 }
 
 // What stands after the place at, one place down.
-fn cut(a: &mut [u32; 4096], count: usize, at: usize)
-    requires { ⌜ (at < count) × (count ≤ 4096) × (length (now a) ≡ 4096) ⌝ }
+fn cut(a: &mut [u32; book::MAX_LINKS], count: usize, at: usize)
+    requires { ⌜ (at < count) × (count ≤ maxLinks) × (length (now a) ≡ maxLinks) ⌝ }
     ensures { λ r. ⌜ take (count - 1) (now (a .exit)) ≡ cutAt at (take count (now (a .entry))) ⌝ }
 {
     let mut j = at;
@@ -131,16 +156,16 @@ fn cut(a: &mut [u32; 4096], count: usize, at: usize)
 fn ranged(n: u16, count: usize, top: usize, held: usize) -> bool
     ensures { λ r. ⌜ Guarded n count top held r ⌝ }
 {
-    if 1024 < n {
+    if MAX_RECORDS < n {
         return false;
     }
-    if 4096 < count {
+    if book::MAX_LINKS < count {
         return false;
     }
-    if 256 <= top {
+    if book::MAX_HELD <= top {
         return false;
     }
-    if 256 < held {
+    if book::MAX_HELD < held {
         return false;
     }
     true
@@ -152,29 +177,29 @@ fn link_cause(n: u16, locks: &[bool], from: u16, label: u8, to: u16) -> u32
     ensures { λ r. ⌜ r ≡ firstNumber (linkCauses n (now (locks .entry)) (record { from = from; label = label; to = to })) ⌝ }
 {
     if n <= from {
-        return 2;
+        return book::NO_RECORD;
     }
     if n <= to {
-        return 2;
+        return book::NO_RECORD;
     }
-    if 26 <= label {
-        return 3;
+    if LABELS <= label {
+        return book::BAD_LABEL;
     }
     if locks[from as usize] {
-        return 4;
+        return book::LOCKED_END;
     }
     if locks[to as usize] {
-        return 4;
+        return book::LOCKED_END;
     }
     0
 }
 
 // A link's word.
 fn link_word(from: u16, label: u8, to: u16) -> u32
-    requires { ⌜ (from < 1024) × (label < 26) × (to < 1024) ⌝ }
+    requires { ⌜ (from < maxRecords) × (label < labels) × (to < maxRecords) ⌝ }
     ensures { λ r. ⌜ r ≡ linkWord (record { from = from; label = label; to = to }) ⌝ }
 {
-    (label as u32 * 1024 + from as u32) * 1024 + to as u32
+    (label as u32 * FROM_UNIT + from as u32) * FROM_UNIT + to as u32
 }
 
 // The register's numbers, then the link's ends and label.
@@ -188,11 +213,11 @@ fn check_link(
     label: u8,
     to: u16,
 ) -> LinkCheck
-    requires { ⌜ length (now locks) ≡ 1024 ⌝ }
+    requires { ⌜ length (now locks) ≡ maxRecords ⌝ }
     ensures { λ r. ⌜ Checks n count top held (now (locks .entry)) (record { from = from; label = label; to = to }) r ⌝ }
 {
     if !ranged(n, count, top, held) {
-        return LinkCheck::Fault(16);
+        return LinkCheck::Fault(book::NOT_OPEN);
     }
     let cause = link_cause(n, locks, from, label, to);
     if cause != 0 {
@@ -203,15 +228,15 @@ fn check_link(
 
 // A register of n records with no link, no lock and nothing held.
 fn empty(n: u16) -> Register
-    requires { ⌜ n ≤ 1024 ⌝ }
+    requires { ⌜ n ≤ maxRecords ⌝ }
     ensures { λ r. ⌜ Represents r (fresh n) ⌝ }
 {
     Register {
         n,
         count: 0,
-        links: [0; 4096],
-        locks: [false; 1024],
-        ring: [0; 256],
+        links: [0; book::MAX_LINKS],
+        locks: [false; book::MAX_RECORDS],
+        ring: [0; book::MAX_HELD],
         top: 0,
         held: 0,
     }
@@ -226,13 +251,13 @@ impl Register {
         if n < 1 {
             return Outcome {
                 register: empty(0),
-                answer: Answer::Refused(1),
+                answer: Answer::Refused(book::BAD_SIZE),
             };
         }
-        if 1024 < n {
+        if MAX_RECORDS < n {
             return Outcome {
                 register: empty(0),
-                answer: Answer::Refused(1),
+                answer: Answer::Refused(book::BAD_SIZE),
             };
         }
         Outcome {
@@ -243,17 +268,17 @@ impl Register {
 
     // The edit of a word is held, in the place of the oldest where 256 are.
     fn hold(mut self, word: u32) -> Register
-        requires { ⌜ (self .top < 256) × (self .held ≤ 256) ⌝ }
+        requires { ⌜ (self .top < maxHeld) × (self .held ≤ maxHeld) ⌝ }
         ensures { λ r. ⌜ Holding self word r ⌝ }
     {
         let top = self.top;
         let mut next = top + 1;
-        if next == 256 {
+        if next == book::MAX_HELD {
             next = 0;
         }
         self.ring[top] = word;
         self.top = next;
-        if self.held < 256 {
+        if self.held < book::MAX_HELD {
             self.held = self.held + 1;
         }
         self
@@ -261,7 +286,7 @@ impl Register {
 
     // The link of a word put in.
     fn put_in(mut self, x: u32) -> Register
-        requires { ⌜ self .count < 4096 ⌝ }
+        requires { ⌜ self .count < maxLinks ⌝ }
         ensures { λ r. ⌜ Changed self (record { links = insert x (packedOf self .links); locks = self .locks }) r ⌝ }
     {
         let count = self.count;
@@ -273,7 +298,7 @@ impl Register {
 
     // The link of a word taken out.
     fn take_out(mut self, x: u32) -> Register
-        requires { ⌜ self .count ≤ 4096 ⌝ }
+        requires { ⌜ self .count ≤ maxLinks ⌝ }
         ensures { λ r. ⌜ Changed self (record { links = without eqb x (packedOf self .links); locks = self .locks }) r ⌝ }
     {
         let count = self.count;
@@ -288,11 +313,11 @@ impl Register {
 
     // A record locked or not.
     fn set_lock(mut self, x: u32, value: bool) -> Register
-        requires { ⌜ self .count ≤ 4096 ⌝ }
+        requires { ⌜ self .count ≤ maxLinks ⌝ }
         ensures { λ r. ⌜ Changed self (record { links = packedOf self .links; locks = set (self .locks) x value }) r ⌝ }
     {
         let i = x as usize;
-        if i < 1024 {
+        if i < book::MAX_RECORDS {
             self.locks[i] = value;
         }
         self
@@ -300,13 +325,13 @@ impl Register {
 
     // An edit taken back, by its kind.
     fn taken_back(self, kind: u32, x: u32) -> Register
-        requires { ⌜ self .count ≤ 4096 ⌝ }
+        requires { ⌜ self .count ≤ maxLinks ⌝ }
         ensures { λ r. ⌜ TakenBack self kind x r ⌝ }
     {
         match kind {
             0 => self.take_out(x),
             1 => {
-                if 4096 <= self.count {
+                if book::MAX_LINKS <= self.count {
                     return self;
                 }
                 self.put_in(x)
@@ -341,13 +366,13 @@ impl Register {
                 if holds(&self.links, count, x) {
                     return Outcome {
                         register: self,
-                        answer: Answer::Refused(5),
+                        answer: Answer::Refused(book::ALREADY),
                     };
                 }
-                if 4096 <= count {
+                if book::MAX_LINKS <= count {
                     return Outcome {
                         register: self,
-                        answer: Answer::Refused(7),
+                        answer: Answer::Refused(book::FULL),
                     };
                 }
                 let changed = self.put_in(x);
@@ -383,12 +408,12 @@ impl Register {
                 if !holds(&self.links, count, x) {
                     return Outcome {
                         register: self,
-                        answer: Answer::Refused(6),
+                        answer: Answer::Refused(book::MISSING),
                     };
                 }
                 let changed = self.take_out(x);
                 Outcome {
-                    register: changed.hold(33554432 + x),
+                    register: changed.hold(REMOVED + x),
                     answer: Answer::Done,
                 }
             }
@@ -402,25 +427,25 @@ impl Register {
         if !ranged(self.n, self.count, self.top, self.held) {
             return Outcome {
                 register: self,
-                answer: Answer::Refused(16),
+                answer: Answer::Refused(book::NOT_OPEN),
             };
         }
         if self.n <= record {
             return Outcome {
                 register: self,
-                answer: Answer::Refused(2),
+                answer: Answer::Refused(book::NO_RECORD),
             };
         }
         let i = record as usize;
         if self.locks[i] {
             return Outcome {
                 register: self,
-                answer: Answer::Refused(5),
+                answer: Answer::Refused(book::ALREADY),
             };
         }
         let changed = self.set_lock(record as u32, true);
         Outcome {
-            register: changed.hold(67108864 + record as u32),
+            register: changed.hold(LOCKED + record as u32),
             answer: Answer::Done,
         }
     }
@@ -432,25 +457,25 @@ impl Register {
         if !ranged(self.n, self.count, self.top, self.held) {
             return Outcome {
                 register: self,
-                answer: Answer::Refused(16),
+                answer: Answer::Refused(book::NOT_OPEN),
             };
         }
         if self.n <= record {
             return Outcome {
                 register: self,
-                answer: Answer::Refused(2),
+                answer: Answer::Refused(book::NO_RECORD),
             };
         }
         let i = record as usize;
         if !self.locks[i] {
             return Outcome {
                 register: self,
-                answer: Answer::Refused(6),
+                answer: Answer::Refused(book::MISSING),
             };
         }
         let changed = self.set_lock(record as u32, false);
         Outcome {
-            register: changed.hold(100663296 + record as u32),
+            register: changed.hold(UNLOCKED + record as u32),
             answer: Answer::Done,
         }
     }
@@ -462,25 +487,25 @@ impl Register {
         if !ranged(self.n, self.count, self.top, self.held) {
             return Outcome {
                 register: self,
-                answer: Answer::Refused(16),
+                answer: Answer::Refused(book::NOT_OPEN),
             };
         }
         let held = self.held;
         if held == 0 {
             return Outcome {
                 register: self,
-                answer: Answer::Refused(8),
+                answer: Answer::Refused(book::NONE_HELD),
             };
         }
         let top = self.top;
-        let mut at = 255;
+        let mut at = LAST_HELD;
         if top != 0 {
             at = top - 1;
         }
         let word = self.ring[at];
         self.top = at;
         self.held = held - 1;
-        let restored = self.taken_back(word / 33554432, word % 33554432);
+        let restored = self.taken_back(word / KIND_UNIT, word % KIND_UNIT);
         Outcome {
             register: restored,
             answer: Answer::Done,
@@ -516,7 +541,7 @@ impl Register {
             6 => self.apply(Call::Undo),
             _ => Outcome {
                 register: self,
-                answer: Answer::Refused(15),
+                answer: Answer::Refused(book::UNKNOWN_KIND),
             },
         }
     }
@@ -546,11 +571,11 @@ impl Register {
     }
 
     // Whether each record is locked; none is of contents out of range.
-    pub fn locks(self) -> [bool; 1024]
+    pub fn locks(self) -> [bool; book::MAX_RECORDS]
         ensures { λ r. ⌜ LockList self r ⌝ }
     {
         if !ranged(self.n, self.count, self.top, self.held) {
-            return [false; 1024];
+            return [false; book::MAX_RECORDS];
         }
         self.locks
     }
@@ -562,7 +587,7 @@ impl Register {
         if !ranged(self.n, self.count, self.top, self.held) {
             return false;
         }
-        if 1024 <= record {
+        if MAX_RECORDS <= record {
             return false;
         }
         self.locks[record as usize]
@@ -589,13 +614,13 @@ pub fn replay(n: u16, words: &[u64], told: &mut [u32]) -> Outcome
     if number_of(answer) != 0 {
         return Outcome {
             register,
-            answer: Answer::Refused(1),
+            answer: Answer::Refused(book::BAD_SIZE),
         };
     }
     if told.len() < words.len() {
         return Outcome {
             register: empty(0),
-            answer: Answer::Refused(13),
+            answer: Answer::Refused(book::SHORT_LIST),
         };
     }
     let mut i = 0;
@@ -616,10 +641,10 @@ pub fn replay(n: u16, words: &[u64], told: &mut [u32]) -> Outcome
 pub fn label_part<'a>(words: &'a [u32], label: u8) -> &'a [u32]
     ensures { λ r. ⌜ LabelPart (now (words .entry)) label (now r) ⌝ }
 {
-    let first = label as u32 * 1048576;
+    let first = label as u32 * LABEL_UNIT;
     let from = place(words, words.len(), first);
     let rest = &words[from..];
-    let count = place(rest, rest.len(), first + 1048576);
+    let count = place(rest, rest.len(), first + LABEL_UNIT);
     &rest[..count]
 }
 
@@ -630,7 +655,7 @@ fn next_side(words: &[u32], unit: u32, record: u16, at: usize) -> usize
 {
     let mut i = at;
     while i < words.len() {
-        if words[i] / unit % 1024 == record as u32 {
+        if words[i] / unit % FROM_UNIT == record as u32 {
             return i;
         }
         i += 1;
@@ -642,12 +667,12 @@ fn next_side(words: &[u32], unit: u32, record: u16, at: usize) -> usize
 pub fn next_out(words: &[u32], record: u16, at: usize) -> usize
     ensures { λ r. ⌜ NextLink start (now (words .entry)) «record» at r ⌝ }
 {
-    next_side(words, 1024, record, at)
+    next_side(words, FROM_UNIT, record, at)
 }
 
 // The first place from at on whose link ends at the record, or the number of words.
 pub fn next_in(words: &[u32], record: u16, at: usize) -> usize
     ensures { λ r. ⌜ NextLink end (now (words .entry)) «record» at r ⌝ }
 {
-    next_side(words, 1, record, at)
+    next_side(words, TO_UNIT, record, at)
 }

@@ -12,6 +12,23 @@ ghost use lib.ListN.{length, take, drop};
 ghost use Rattle.register.specs.Inner.{Flags, Formed, Tested};
 ghost use Rattle.register.specs.Words.{lockWord, Copies, Loads, Stores};
 
+// The places of the counters, and of the first link, the ring and the first lock; and how many words a register has.
+const SIZE_AT: usize = 0;
+
+const COUNT_AT: usize = 1;
+
+const TOP_AT: usize = 2;
+
+const HELD_AT: usize = 3;
+
+const LINKS_AT: usize = 4;
+
+const RING_AT: usize = LINKS_AT + book::MAX_LINKS;
+
+const LOCKS_AT: usize = RING_AT + book::MAX_HELD;
+
+pub const STATE_WORDS: usize = LOCKS_AT + book::MAX_RECORDS;
+
 // A part of words copied to a place from word `at` on; false, and nothing written, if it does not fit there.
 pub fn copy(from: &[u32], to: &mut [u32], at: usize) -> bool
     ensures { λ r. ⌜ Copies (now (from .entry)) at (now (to .entry)) (now (to .exit)) r ⌝ }
@@ -72,20 +89,20 @@ fn write_locks(locks: &[bool], words: &mut [u32], at: usize)
 fn is_register(words: &[u32]) -> bool
     ensures { λ r. ⌜ Tested (Formed (now (words .entry))) r ⌝ }
 {
-    if words.len() < 5380 {
+    if words.len() < STATE_WORDS {
         return false;
     }
-    if 65536 <= words[0] {
+    if 65536 <= words[SIZE_AT] {
         return false;
     }
-    let n = words[0] as u16;
-    let count = words[1] as usize;
-    let top = words[2] as usize;
-    let held = words[3] as usize;
+    let n = words[SIZE_AT] as u16;
+    let count = words[COUNT_AT] as usize;
+    let top = words[TOP_AT] as usize;
+    let held = words[HELD_AT] as usize;
     if !ranged(n, count, top, held) {
         return false;
     }
-    flags(&words[4356..5380])
+    flags(&words[LOCKS_AT..STATE_WORDS])
 }
 
 impl Register {
@@ -96,24 +113,24 @@ impl Register {
         if !is_register(words) {
             return Outcome {
                 register: empty(0),
-                answer: Answer::Refused(16),
+                answer: Answer::Refused(book::NOT_OPEN),
             };
         }
-        let mut links: [u32; 4096] = [0; 4096];
-        copy(&words[4..4100], &mut links, 0);
-        let mut ring: [u32; 256] = [0; 256];
-        copy(&words[4100..4356], &mut ring, 0);
-        let mut locks: [bool; 1024] = [false; 1024];
-        read_locks(&words[4356..5380], &mut locks);
+        let mut links: [u32; book::MAX_LINKS] = [0; book::MAX_LINKS];
+        copy(&words[LINKS_AT..RING_AT], &mut links, 0);
+        let mut ring: [u32; book::MAX_HELD] = [0; book::MAX_HELD];
+        copy(&words[RING_AT..LOCKS_AT], &mut ring, 0);
+        let mut locks: [bool; book::MAX_RECORDS] = [false; book::MAX_RECORDS];
+        read_locks(&words[LOCKS_AT..STATE_WORDS], &mut locks);
         Outcome {
             register: Register {
-                n: words[0] as u16,
-                count: words[1] as usize,
+                n: words[SIZE_AT] as u16,
+                count: words[COUNT_AT] as usize,
                 links,
                 locks,
                 ring,
-                top: words[2] as usize,
-                held: words[3] as usize,
+                top: words[TOP_AT] as usize,
+                held: words[HELD_AT] as usize,
             },
             answer: Answer::Done,
         }
@@ -123,22 +140,22 @@ impl Register {
     pub fn store(self, words: &mut [u32]) -> bool
         ensures { λ r. ⌜ Stores self (now (words .entry)) (now (words .exit)) r ⌝ }
     {
-        if words.len() < 5380 {
+        if words.len() < STATE_WORDS {
             return false;
         }
         if !ranged(self.n, self.count, self.top, self.held) {
             return false;
         }
-        let numbers: [u32; 4] = [
+        let numbers: [u32; LINKS_AT] = [
             self.n as u32,
             self.count as u32,
             self.top as u32,
             self.held as u32,
         ];
-        copy(&numbers, words, 0);
-        copy(&self.links, words, 4);
-        copy(&self.ring, words, 4100);
-        write_locks(&self.locks, words, 4356);
+        copy(&numbers, words, SIZE_AT);
+        copy(&self.links, words, LINKS_AT);
+        copy(&self.ring, words, RING_AT);
+        write_locks(&self.locks, words, LOCKS_AT);
         true
     }
 }

@@ -19,15 +19,7 @@ use pairs::PairsAnswer;
 use register::Call;
 use register::Register;
 
-// The numbers of the program's own causes: n outside 1 to 64, frame broken, kind unknown, no register opened; and the most records.
-const BAD_SIZE: u32 = 1;
-
-const BROKEN_FRAME: u32 = 14;
-
-const UNKNOWN_KIND: u32 = 15;
-
-const NOT_OPEN: u32 = 16;
-
+// The most records of the program.
 const MOST_RECORDS: u16 = 64;
 
 // The least and the most that the length of a frame may be.
@@ -166,10 +158,10 @@ fn open(state: State, n: u16, out: &mut [u8]) -> Framed
     ensures { λ r. ⌜ ((work : ℕ) (l : List ℕ) → Turns state (asks (opening n)) work l l (now (out .entry)) (now (out .exit)) r) ⌝ }
 {
     if n < 1 {
-        return refuse(state, BAD_SIZE, out);
+        return refuse(state, book::BAD_SIZE, out);
     }
     if MOST_RECORDS < n {
-        return refuse(state, BAD_SIZE, out);
+        return refuse(state, book::BAD_SIZE, out);
     }
     let made = engine::open(n);
     let register = made.register;
@@ -188,7 +180,7 @@ fn edit(state: State, call: Call, out: &mut [u8]) -> Framed
     ensures { λ r. ⌜ ((work : ℕ) (l : List ℕ) → Turns state (asks (Program·call (callOf call))) work l l (now (out .entry)) (now (out .exit)) r) ⌝ }
 {
     if !state.opened {
-        return refuse(state, NOT_OPEN, out);
+        return refuse(state, book::NOT_OPEN, out);
     }
     let outcome = engine::apply(state.register, call);
     let answer = outcome.answer;
@@ -228,7 +220,7 @@ fn ask_chain(
         (now (list .entry)) (now (list .exit)) (now (out .entry)) (now (out .exit)) r ⌝ }
 {
     if !state.opened {
-        return refuse(state, NOT_OPEN, out);
+        return refuse(state, book::NOT_OPEN, out);
     }
     let answer = engine::chain(state.register, x, y, text, work, list);
     let written = put_reply(answer, list, out);
@@ -257,7 +249,7 @@ fn ask_pairs(
         (now (list .entry)) (now (list .exit)) (now (out .entry)) (now (out .exit)) r ⌝ }
 {
     if !state.opened {
-        return refuse(state, NOT_OPEN, out);
+        return refuse(state, book::NOT_OPEN, out);
     }
     let answer = engine::pairs(state.register, text, work, list);
     let written = put_listing(answer, list, out);
@@ -285,8 +277,8 @@ pub fn frame(
         Decoded::Edit(call) => edit(state, call, out),
         Decoded::Pairs => ask_pairs(state, body, work, list, out),
         Decoded::Chain(x, y) => ask_chain(state, x, y, &body[4..], work, list, out),
-        Decoded::Broken => refuse(state, BROKEN_FRAME, out),
-        Decoded::Unknown => refuse(state, UNKNOWN_KIND, out),
+        Decoded::Broken => refuse(state, book::BROKEN_FRAME, out),
+        Decoded::Unknown => refuse(state, book::UNKNOWN_KIND, out),
     }
 }
 
@@ -335,7 +327,7 @@ pub fn step(state: State, input: &[u8], work: &mut [u64], list: &mut [u32], out:
     }
     let n = front(input);
     if n == 0 {
-        let written = report::put_refused(BROKEN_FRAME, out, 0);
+        let written = report::put_refused(book::BROKEN_FRAME, out, 0);
         return Ran {
             state,
             read: 0,

@@ -6,6 +6,11 @@ use register::Outcome;
 use register::Register;
 ghost use Prim.Native.Nat.{_+_, _≤_, _<_};
 
+// A word more, and a word less, than a register has.
+const MORE: usize = register::STATE_WORDS + 1;
+
+const LESS: usize = register::STATE_WORDS - 1;
+
 fn line(text: &[u8]) {
     io::write_all(STDOUT_FILENO, text);
     io::write_all(STDOUT_FILENO, b"\n");
@@ -178,7 +183,7 @@ fn wide(x: u32) -> usize {
     x as usize
 }
 
-fn too_many_held(mut state: [u32; 5381]) -> [u32; 5381] {
+fn too_many_held(mut state: [u32; MORE]) -> [u32; MORE] {
     state[3] = 257;
     state
 }
@@ -188,7 +193,7 @@ fn kept() {
     line(b"state");
     let r = open(4);
     let r = after(r.add(0, 0, 1));
-    let mut state = [99u32; 5381];
+    let mut state = [99u32; MORE];
     if r.store(&mut state) {
         line(b"stored");
     }
@@ -196,8 +201,8 @@ fn kept() {
     let answer = out.answer;
     say(answer);
     count(b"links", out.register.links().count);
-    count(b"past", wide(state[5380]));
-    let few = [0u32; 5379];
+    count(b"past", wide(state[register::STATE_WORDS]));
+    let few = [0u32; LESS];
     let out = Register::load(&few);
     let answer = out.answer;
     say(answer);
