@@ -3,8 +3,8 @@
 use crate::Answer;
 use crate::Outcome;
 use crate::Register;
-use crate::empty;
-use crate::ranged;
+use crate::state::empty;
+use crate::state::ranged;
 ghost use mathlib.Core.Path.{_≡_};
 ghost use Prim.Native.Nat.{_+_, _≤_};
 ghost use mathlib.Core.List.{_++_, map};
