@@ -104,7 +104,7 @@ mod tests {
     use super::*;
 
     #[test]
-    fn words_are_read_as_the_scope_paper_writes_them() {
+    fn words_are_read_as_the_scope_writes_them() {
         assert_eq!(Pairs::new(&[3 * 1024 + 1023]).collect::<Vec<_>>(), [(3, 1023)]);
         let steps: Vec<_> = Steps::new(&[1, (25 * 2 + 1) * 1024 + 7]).map(|step| step.to_string()).collect();
         assert_eq!(steps, ["a + 1", "z - 7"]);

@@ -42,7 +42,7 @@ mod tests {
     use super::*;
 
     #[test]
-    fn sizes_of_the_scope_paper() {
+    fn sizes_of_the_scope() {
         assert_eq!((tree_words(1024), tree_words(64), tree_words(1)), (21_846, 86, 1));
         assert_eq!((tree_work(0), tree_work(1025), chain_work(1024)), (0, 0, 65_536));
     }

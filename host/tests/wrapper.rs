@@ -1,8 +1,8 @@
-//! The wrapper over the engine: 01's cases through ordinary types, and what is refused.
+//! The wrapper over the engine: the cases of S8.1 through ordinary types, and what is refused.
 
 use dating::{Link, Refusal, Register, Tree, Trees};
 
-/// The links of 01's cases.
+/// The links of the cases of S8.1.
 fn cases() -> Result<Register, Refusal> {
     let mut register = Register::fresh(4)?;
     for (from, letter, to) in [(0, 'a', 1), (1, 'a', 2), (2, 'b', 0)] {
@@ -16,7 +16,7 @@ fn pairs(register: &mut Register, expression: &str) -> Vec<(u16, u16)> {
 }
 
 #[test]
-fn pairs_of_the_scope_paper() {
+fn pairs_of_the_scope() {
     let register = &mut cases().unwrap();
     assert_eq!(pairs(register, "a"), [(0, 1), (1, 2)]);
     assert_eq!(pairs(register, "a/b"), [(1, 0)]);
@@ -28,7 +28,7 @@ fn pairs_of_the_scope_paper() {
 }
 
 #[test]
-fn chains_of_the_scope_paper() {
+fn chains_of_the_scope() {
     let register = &mut cases().unwrap();
     let mut chain = |from, to, expression| {
         let steps = register.chain(from, to, expression).unwrap();

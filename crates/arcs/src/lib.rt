@@ -2,6 +2,7 @@
 ghost use mathlib.Core.Path.{_≡_};
 ghost use Prim.Native.Nat.{_*_, _<_, _≤_};
 ghost use lib.ListN.{length};
+ghost use Rattle.book.specs.Causes.{maxRecords, maxLinks};
 ghost use Rattle.arcs.specs.Arcs.{arcOf, arcFrom, arcTo, Crossings};
 ghost use Rattle.arcs.specs.Index.{keyAt, firstArc, nextArc, Indexed};
 
@@ -25,7 +26,7 @@ pub struct Arcs {
 
 // The crossings that can be of use: each of the first `count` links, in each sense whose letter enters a state.
 pub fn arcs_of(links: &[u32], count: usize, enter: &[u64]) -> Arcs
-    requires { ⌜ (count ≤ length (now links)) × (count ≤ 4096) × (length (now enter) ≡ 64) ⌝ }
+    requires { ⌜ (count ≤ length (now links)) × (count ≤ maxLinks) × (length (now enter) ≡ 64) ⌝ }
     ensures { λ r. ⌜ (r .count ≤ 8192) × Crossings (now (links .entry)) (now (enter .entry)) (2 * count) (r .words) (r .count) ⌝ }
 {
     let mut words = [0u32; 8192];
@@ -82,7 +83,7 @@ pub fn index_by_left(arcs: &[u32], count: usize) -> [u16; 9216]
 
 // The first arc of the record r: its number and 1, or 0 for none.
 pub fn first_arc(index: &[u16], r: usize) -> usize
-    requires { ⌜ (length (now index) ≡ 9216) × (r < 1024) ⌝ }
+    requires { ⌜ (length (now index) ≡ 9216) × (r < maxRecords) ⌝ }
     ensures { λ p. ⌜ p ≡ firstArc (now (index .entry)) r ⌝ }
 {
     index[r] as usize

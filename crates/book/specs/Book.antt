@@ -53,7 +53,7 @@ present s k = has sameLink k (s .links)
 abbrev pub isLocked : Sheet → ℕ → Bool
 isLocked s r = has eqb r (s .locks)
 
--- the causes against an edit, each with whether it is there, in the order of 01
+-- the causes against an edit, each with whether it is there, in the order of S6.6
 unfoldable pub causes : ℕ → Sheet → Edit → List (Cause × Bool)
 causes n s (add k) =
     (no-record, leb n (k .from) || leb n (k .to)) ∷

@@ -1,4 +1,4 @@
--- Cases of the plain book: 01's sample edits, each number from 2 to 8 with the first cause in order winning, what is not held,
+-- Cases of the plain book: the edits of the sample (S7.8), each number from 2 to 8 with the first cause in order winning, what is not held,
 -- 257 edits and 257 undos, and a full register. Assumes nothing.
 use mathlib.Core.Path.{_≡_, refl, ap}
 use mathlib.Core.List.{List, [], _∷_, _++_}
@@ -32,7 +32,7 @@ fresh-1 : freshAnswer 0 ∷ freshAnswer 1 ∷ freshAnswer 1024 ∷ freshAnswer 1
 unfolding freshAnswer firstNumber number
 fresh-1 = refl
 
--- 01's sample edits
+-- the edits of the sample, S7.8
 sample : answers (fresh 4) (adds 0 0 1 ∷ adds 2 0 1 ∷ locks 1 ∷ adds 1 1 3 ∷ undo ∷ adds 1 1 3 ∷ []) ≡ 0 ∷ 0 ∷ 0 ∷ 4 ∷ 0 ∷ 0 ∷ []
 unfolding answers answer next editAnswer firstNumber number causes edited turned undoAnswer undone fresh has without
 sample = refl

@@ -14,7 +14,7 @@ use Rattle.book.specs.Sheets.{Distinct, Proper, Fit, Sound}
 use Rattle.book.specs.SetLaws.{sameLink-test, eqb-test, and-both, or-neither, has-without, distinct-without, length-without}
 
 -- ---- causes
--- every edit's causes are looked for in the order of 01
+-- every edit's causes are looked for in the order of S6.6
 pub causes-in-order : (n : ℕ) (s : Sheet) (e : Edit) → InOrder (causes n s e) editOrder
 unfolding causes editOrder
 causes-in-order n s (add k) = same-cause (same-cause (same-cause (same-cause (passed-over (same-cause none-left)))))

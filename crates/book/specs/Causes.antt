@@ -1,5 +1,6 @@
 -- The causes of a refusal, their numbers, and the order in which they are looked for.
---   Cause           a row of 01's table of causes; the row of number 10 is two, since its two halves stand at different places in an order
+--   Cause           a row of the table of S6.3; the row of number 10 is two, since its two halves stand at different places in an order
+--   allCauses       every cause, in the order of this file
 --   number c        the number of a cause
 --   Caused k        k is the number of a cause
 --   editOrder, questionOrder, treeOrder
@@ -50,6 +51,11 @@ pub data Cause : Type 0 where
   unknown-kind : Cause
   -- no register opened
   not-open : Cause
+
+unfoldable pub allCauses : List Cause
+allCauses =
+    bad-size ∷ no-record ∷ bad-label ∷ locked-end ∷ already ∷ missing ∷ full ∷ none-held ∷ no-expression ∷ too-many-bytes ∷ too-large ∷ bad-tree ∷ short-work ∷
+    short-list ∷ broken-frame ∷ unknown-kind ∷ not-open ∷ []
 
 unfoldable pub number : Cause → ℕ
 number bad-size = 1

@@ -1,4 +1,4 @@
--- The worked cases of 01 as tables, and what it is for a case to be met.
+-- The worked cases (S8.1, S8.4) as tables, and what it is for a case to be met.
 --   Case            the pairs of an expression; the first chain; no chain of any length; the tree's bits
 --   Met g k         the text is an expression of the grammar, and of the graph g its meaning is as the case k says
 --   made n cs       the graph of the book after the calls cs, from a fresh one of n records
@@ -53,7 +53,7 @@ Met g (tree-of t bits) = (e : Expr) × Judged (bytes t) (accepted e) × TreeIs g
 abbrev pub made : ℕ → List Call → Graph
 made n cs = asked (after (fresh n) cs)
 
--- labels, links and steps as 01 writes them
+-- labels, links and steps as S8.1 writes them
 abbrev pub a : ℕ
 a = 0
 

@@ -1,4 +1,4 @@
--- Texts and the number that their verdict gives, 0 for an expression: the faults and limits that 01 names, each by computation.
+-- Texts and the number that their verdict gives, 0 for an expression: the faults of S3.4 and the limits of S8.2, each by computation.
 --   rated           the number of the verdict on a text
 --   texts           a table of texts with their numbers; texts-rated says that they are those
 --   repeated k u    the bytes u, k times

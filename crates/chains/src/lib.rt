@@ -4,6 +4,7 @@ ghost use mathlib.Core.Bool.{true};
 ghost use mathlib.Core.List.{List};
 ghost use Prim.Native.Nat.{ℕ, _*_, _<_, _≤_};
 ghost use lib.ListN.{length};
+ghost use Rattle.book.specs.Causes.{maxRecords, maxLinks};
 ghost use Rattle.paths.specs.Expressions.{Expr};
 ghost use Rattle.paths.specs.Chains.{Graph};
 ghost use Rattle.paths.specs.ChainLaws.{Inside};
@@ -15,13 +16,6 @@ ghost use Rattle.chains.specs.Replies.{Replies};
 use reader::Answer;
 use register::Register;
 use search::Found;
-
-// The numbers of the causes that are looked for here: record not below n, work shorter than stated, answer longer than its list.
-const NO_RECORD: u32 = 2;
-
-const SHORT_WORK: u32 = 12;
-
-const SHORT_LIST: u32 = 13;
 
 // The number of steps, which the list has; no chain of any length; or the number of a cause.
 pub enum ChainAnswer {
@@ -41,7 +35,7 @@ fn sought(
     work: &mut [u64],
     list: &mut [u32],
 ) -> Found
-    requires { ⌜ (count ≤ length (now links)) × (count ≤ 4096) × (n ≤ 1024) × (x < n) × (y < n) × (n * 64 ≤ length (now work)) × ((text : List ℕ) × (e : Expr) × InLimits text e × (now numbers ≡ code e)) ⌝ }
+    requires { ⌜ (count ≤ length (now links)) × (count ≤ maxLinks) × (n ≤ maxRecords) × (x < n) × (y < n) × (n * 64 ≤ length (now work)) × ((text : List ℕ) × (e : Expr) × InLimits text e × (now numbers ≡ code e)) ⌝ }
     ensures { λ r. ⌜ Untouched (now (list .entry)) (now (list .exit)) r × ((text : List ℕ) (e : Expr) → InLimits text e → now (numbers .entry) ≡ code e → (g : Graph) → g .n ≡ n → Inside g → Spans (now (links .entry)) count g → g .inUse x ≡ true → g .inUse y ≡ true → Answered g e x y (now (list .entry)) (now (list .exit)) r) ⌝ }
 {
     let t = tables::tables_of(numbers);
@@ -78,10 +72,10 @@ pub fn chain(
     let x = from as usize;
     let y = to as usize;
     if n <= x {
-        return ChainAnswer::Refused(NO_RECORD);
+        return ChainAnswer::Refused(book::NO_RECORD);
     }
     if n <= y {
-        return ChainAnswer::Refused(NO_RECORD);
+        return ChainAnswer::Refused(book::NO_RECORD);
     }
     let reading = reader::read(text);
     let code = reading.code;
@@ -90,14 +84,14 @@ pub fn chain(
         Answer::Refused(number) => ChainAnswer::Refused(number as u32),
         Answer::Accepted(k) => {
             if work.len() < n * 64 {
-                return ChainAnswer::Refused(SHORT_WORK);
+                return ChainAnswer::Refused(book::SHORT_WORK);
             }
             let links = register.links();
             let found = sought(&links.words, links.count, n, &code[0..k], x, y, work, list);
             match found {
                 Found::Steps(steps) => ChainAnswer::Chain(steps),
                 Found::Nowhere => ChainAnswer::NoChain,
-                Found::Short => ChainAnswer::Refused(SHORT_LIST),
+                Found::Short => ChainAnswer::Refused(book::SHORT_LIST),
             }
         }
     }

@@ -34,7 +34,7 @@ use Rattle.register.specs.HistoryLaws.{history, word-answers-length, told-calls
 use Rattle.register.specs.Questions.{Listing, LockList}
 use Rattle.register.specs.declared.Register.{Register}
 use Rattle.register.specs.declared.Links.{Links}
-use Rattle.register.specs.declared.Opened.{Opened}
+use Rattle.register.specs.declared.Outcome.{Outcome as Told}
 use Rattle.reader.specs.Reads.{readAnswer}
 use Rattle.reader.specs.declared.Answer.the-variants.{Refused as Faulty}
 use Rattle.pairs.specs.Asking.{Tells, told-number, told-pairs, BookPairs, AsksPairs}
@@ -176,7 +176,7 @@ module _ {r : Register} (i : Transcript) (G : Gave r i) where
         chain = chain-claim R (i .chain) (G .chain);
       }
 
-  pub demand-3 : {out : Opened} → 1 ≤ i .n → i .n ≤ maxRecords → Opens (i .n) out → CallsMade (out .register) (i .calls) (i .told) r → Demand i
+  pub demand-3 : {out : Told} → 1 ≤ i .n → i .n ≤ maxRecords → Opens (i .n) out → CallsMade (out .register) (i .calls) (i .told) r → Demand i
   unfolding freshAnswer firstNumber number
   demand-3 l h O run =
       let z : freshAnswer (i .n) ≡ 0 = rw (le-ltb (i .n) 1 l, le-ltb maxRecords (i .n) h) in

@@ -6,7 +6,7 @@ ghost use lib.ListN.{length};
 ghost use Rattle.book.specs.Book.{add, remove, lock, unlock, edit, undo};
 ghost use Rattle.k2.specs.PairSets.{union, intersection, difference, product, transpose, closure};
 ghost use Rattle.tree.specs.Calls.{Answered, treeOf, listOf, treeOfOne, treeOfTwo};
-ghost use Rattle.register.specs.Calls.{Opens, Steps};
+ghost use Rattle.register.specs.Calls.{callOf, Opens, Steps};
 ghost use Rattle.register.specs.Questions.{Sized, Listing, Locking};
 ghost use Rattle.pairs.specs.Asking.{AsksPairs};
 ghost use Rattle.chains.specs.Replies.{Replies};
@@ -14,13 +14,13 @@ ghost use Rattle.engine.specs.Inquiries.{Inquires};
 use chains::ChainAnswer;
 use pairs::PairsAnswer;
 use register::Answer;
+use register::Call;
 use register::Links;
-use register::Opened;
 use register::Outcome;
 use register::Register;
 
 // A fresh register of n records.
-pub fn open(n: u16) -> Opened
+pub fn open(n: u16) -> Outcome
     ensures { λ r. ⌜ Opens n r ⌝ }
 {
     Register::fresh(n)
@@ -59,6 +59,13 @@ pub fn undo(register: Register) -> Outcome
     ensures { λ r. ⌜ Steps register undo r ⌝ }
 {
     register.undo()
+}
+
+// Any edit, or an undo.
+pub fn apply(register: Register, call: Call) -> Outcome
+    ensures { λ r. ⌜ Steps register (callOf call) r ⌝ }
+{
+    register.apply(call)
 }
 
 // The number of records.
@@ -189,7 +196,7 @@ pub fn tree_closure(n: usize, a: &[u64], out: &mut [u64], work: &mut [u64]) -> t
 pub struct Inquiry {
     pub answer: Answer,
     pub links: Links,
-    pub locks: [bool; 1024],
+    pub locks: [bool; book::MAX_RECORDS],
     pub pairs: PairsAnswer,
     pub chain: ChainAnswer,
 }

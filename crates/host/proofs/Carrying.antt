@@ -20,7 +20,6 @@ use Rattle.register.specs.Words.{stateWords, lockWord, Keeps, Foreign, Copies, 
 use Rattle.register.specs.WordLaws.{keeps-long, keeps-same, load-done}
 use Rattle.register.specs.declared.Register.{Register}
 use Rattle.register.specs.declared.Outcome.{Outcome}
-use Rattle.register.specs.declared.Opened.{Opened}
 use Rattle.register.specs.declared.Links.{Links}
 use Rattle.register.specs.declared.Answer.the-variants.{Done, Refused}
 use Rattle.pairs.specs.Asking.{Handed, too-long, handed}
@@ -33,7 +32,7 @@ pub refused-done : {k : ℕ} → Refused k ≡ Done → ⊥
 refused-done e = let z : _≡_ {A = ℕ} 0 1 = cc in omega arith
 
 -- ---- what was loaded, by the number of the answer
-module _ {ws : List ℕ} {o : Opened} {k : ℕ} (l : Loads ws o) (e : k ≡ answerNumber (o .answer)) where
+module _ {ws : List ℕ} {o : Outcome} {k : ℕ} (l : Loads ws o) (e : k ≡ answerNumber (o .answer)) where
   pub load-none : (k ≡ 0 → ⊥) → Foreign ws
   load-none z = l .refused (λ d. z (e ∙ ap answerNumber d)) .1
 
@@ -96,7 +95,7 @@ module _ (n room : ℕ) where
   pub room-enough : freshAnswer n ≡ 0 → stateWords ≤ room → freshNumber n room ≡ 0
   room-enough z l = by-room z ∙ ap (λ (t : Bool). pick t (number short-work) 0) (le-ltb room stateWords l)
 
-module _ {n : ℕ} {o : Opened} (p : Opens n o) (before : List ℕ) where
+module _ {n : ℕ} {o : Outcome} (p : Opens n o) (before : List ℕ) where
   answered : {k : ℕ} → k ≡ answerNumber (o .answer) → k ≡ freshAnswer n
   answered e = e ∙ ap answerNumber (p .answers) ∙ number-answer (freshAnswer n)
 

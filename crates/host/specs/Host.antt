@@ -41,8 +41,8 @@ use Rattle.pairs.specs.declared.PairsAnswer.{PairsAnswer}
 use Rattle.pairs.specs.declared.PairsAnswer.the-variants.{Pairs, Refused}
 use Rattle.chains.specs.declared.ChainAnswer.{ChainAnswer}
 use Rattle.chains.specs.declared.ChainAnswer.the-variants.{Chain, NoChain, Refused as Unchained}
-use Rattle.tree.specs.declared.Answer.{Answer}
-use Rattle.tree.specs.declared.Answer.the-variants.{Done, Refused as Untreed}
+use Rattle.tree.specs.declared.listing.Answer.{Answer}
+use Rattle.tree.specs.declared.listing.Answer.the-variants.{Done, Refused as Untreed}
 
 abbrev pub KeepsBook : List ℕ → Book → Type 0
 KeepsBook ws b = (r : Register) × Keeps ws r × Represents r b

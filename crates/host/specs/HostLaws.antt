@@ -20,8 +20,8 @@ use Rattle.pairs.specs.declared.PairsAnswer.{PairsAnswer}
 use Rattle.pairs.specs.declared.PairsAnswer.the-variants.{Pairs, Refused}
 use Rattle.chains.specs.declared.ChainAnswer.{ChainAnswer}
 use Rattle.chains.specs.declared.ChainAnswer.the-variants.{Chain, NoChain, Refused as Unchained}
-use Rattle.tree.specs.declared.Answer.{Answer}
-use Rattle.tree.specs.declared.Answer.the-variants.{Done, Refused as Untreed}
+use Rattle.tree.specs.declared.listing.Answer.{Answer}
+use Rattle.tree.specs.declared.listing.Answer.the-variants.{Done, Refused as Untreed}
 use Rattle.host.specs.Host.{KeepsBook, Edits, Calls, none, then, toldPairs, toldChain, toldTree, Told, Asked}
 
 pub edits-book : {c : Call} {ws vs : List ℕ} {k : ℕ} → Edits c ws vs k → (b : Book) → KeepsBook ws b → (k ≡ answer b c) × KeepsBook vs (next b c)

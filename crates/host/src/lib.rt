@@ -5,9 +5,10 @@ ghost use mathlib.Core.Path.{_≡_};
 ghost use mathlib.Core.List.{[], _∷_};
 ghost use Prim.Native.Nat.{_<_};
 ghost use lib.ListN.{length};
-ghost use Rattle.book.specs.Book.{add, remove, lock, unlock, edit, undo};
+ghost use Rattle.book.specs.Book.{add, remove, lock, unlock, edit as Book·edit, undo};
 ghost use Rattle.k2.specs.PairSets.{union, intersection, difference, product, transpose, closure};
 ghost use Rattle.tree.specs.Calls.{Answered, treeOf, listOf, treeOfOne, treeOfTwo};
+ghost use Rattle.register.specs.Calls.{callOf};
 ghost use Rattle.pairs.specs.Asking.{AsksPairs};
 ghost use Rattle.chains.specs.Replies.{Replies};
 ghost use Rattle.host.specs.Host.{Freshens, Edits, refusal, toldPairs, toldChain, toldTree, Told, Asked, Lists, Sizes, TellsLock};
@@ -15,21 +16,20 @@ ghost use Rattle.host.specs.Inner.{Finishes};
 use chains::ChainAnswer;
 use pairs::PairsAnswer;
 use register::Answer;
+use register::Call;
 use register::Outcome;
 use register::Register;
 
-// The numbers of the causes that are looked for here: state shorter than a register's words, answer longer than its list, words that are no register's.
-const SHORT_WORK: u32 = 12;
+// What is told in place of a count: no chain, and, with the number of its cause added, a refusal.
+const NO_CHAIN: u64 = 4294967296;
 
-const SHORT_LIST: u32 = 13;
-
-const NOT_OPEN: u32 = 16;
+const REFUSAL: u64 = 8589934592;
 
 // A refusal told as 64 bits.
 fn told_refusal(number: u32) -> u64
     ensures { λ k. ⌜ k ≡ refusal number ⌝ }
 {
-    8589934592 + number as u64
+    REFUSAL + number as u64
 }
 
 fn told_pairs(answer: PairsAnswer) -> u64
@@ -46,7 +46,7 @@ fn told_chain(answer: ChainAnswer) -> u64
 {
     match answer {
         ChainAnswer::Chain(steps) => steps as u64,
-        ChainAnswer::NoChain => 4294967296,
+        ChainAnswer::NoChain => NO_CHAIN,
         ChainAnswer::Refused(number) => told_refusal(number),
     }
 }
@@ -70,7 +70,7 @@ fn keep(outcome: Outcome, state: &mut [u32]) -> u32
         Answer::Done => {
             let register = outcome.register;
             if !register.store(state) {
-                return NOT_OPEN;
+                return book::NOT_OPEN;
             }
             0
         }
@@ -90,65 +90,54 @@ pub extern "C" fn dating_fresh(n: u16, state: &mut [u32]) -> u32
     }
     let register = opened.register;
     if !register.store(state) {
-        return SHORT_WORK;
+        return book::SHORT_WORK;
     }
     0
+}
+
+// An edit or undo of the register whose words the state has.
+fn edit(state: &mut [u32], call: Call) -> u32
+    ensures { λ k. ⌜ Edits (callOf call) (now (state .entry)) (now (state .exit)) k ⌝ }
+{
+    let loaded = Register::load(state);
+    let answer = loaded.answer;
+    if register::number_of(answer) != 0 {
+        return book::NOT_OPEN;
+    }
+    let register = loaded.register;
+    keep(engine::apply(register, call), state)
 }
 
 // A link put in.
 #[no_mangle]
 pub extern "C" fn dating_add(state: &mut [u32], from: u16, label: u8, to: u16) -> u32
-    ensures { λ k. ⌜ Edits (edit (add (record { from = from; label = label; to = to }))) (now (state .entry)) (now (state .exit)) k ⌝ }
+    ensures { λ k. ⌜ Edits (Book·edit (add (record { from = from; label = label; to = to }))) (now (state .entry)) (now (state .exit)) k ⌝ }
 {
-    let loaded = Register::load(state);
-    let answer = loaded.answer;
-    if register::number_of(answer) != 0 {
-        return NOT_OPEN;
-    }
-    let register = loaded.register;
-    keep(engine::add(register, from, label, to), state)
+    edit(state, Call::Add(from, label, to))
 }
 
 // A link taken out.
 #[no_mangle]
 pub extern "C" fn dating_remove(state: &mut [u32], from: u16, label: u8, to: u16) -> u32
-    ensures { λ k. ⌜ Edits (edit (remove (record { from = from; label = label; to = to }))) (now (state .entry)) (now (state .exit)) k ⌝ }
+    ensures { λ k. ⌜ Edits (Book·edit (remove (record { from = from; label = label; to = to }))) (now (state .entry)) (now (state .exit)) k ⌝ }
 {
-    let loaded = Register::load(state);
-    let answer = loaded.answer;
-    if register::number_of(answer) != 0 {
-        return NOT_OPEN;
-    }
-    let register = loaded.register;
-    keep(engine::remove(register, from, label, to), state)
+    edit(state, Call::Remove(from, label, to))
 }
 
 // A record locked.
 #[no_mangle]
 pub extern "C" fn dating_lock(state: &mut [u32], record: u16) -> u32
-    ensures { λ k. ⌜ Edits (edit (lock «record»)) (now (state .entry)) (now (state .exit)) k ⌝ }
+    ensures { λ k. ⌜ Edits (Book·edit (lock «record»)) (now (state .entry)) (now (state .exit)) k ⌝ }
 {
-    let loaded = Register::load(state);
-    let answer = loaded.answer;
-    if register::number_of(answer) != 0 {
-        return NOT_OPEN;
-    }
-    let register = loaded.register;
-    keep(engine::lock(register, record), state)
+    edit(state, Call::Lock(record))
 }
 
 // A record unlocked.
 #[no_mangle]
 pub extern "C" fn dating_unlock(state: &mut [u32], record: u16) -> u32
-    ensures { λ k. ⌜ Edits (edit (unlock «record»)) (now (state .entry)) (now (state .exit)) k ⌝ }
+    ensures { λ k. ⌜ Edits (Book·edit (unlock «record»)) (now (state .entry)) (now (state .exit)) k ⌝ }
 {
-    let loaded = Register::load(state);
-    let answer = loaded.answer;
-    if register::number_of(answer) != 0 {
-        return NOT_OPEN;
-    }
-    let register = loaded.register;
-    keep(engine::unlock(register, record), state)
+    edit(state, Call::Unlock(record))
 }
 
 // The latest edit still held taken back.
@@ -156,13 +145,7 @@ pub extern "C" fn dating_unlock(state: &mut [u32], record: u16) -> u32
 pub extern "C" fn dating_undo(state: &mut [u32]) -> u32
     ensures { λ k. ⌜ Edits undo (now (state .entry)) (now (state .exit)) k ⌝ }
 {
-    let loaded = Register::load(state);
-    let answer = loaded.answer;
-    if register::number_of(answer) != 0 {
-        return NOT_OPEN;
-    }
-    let register = loaded.register;
-    keep(engine::undo(register), state)
+    edit(state, Call::Undo)
 }
 
 // The number of records; 0 if the words are no register's.
@@ -177,7 +160,7 @@ pub extern "C" fn dating_size(state: &[u32]) -> u32
     }
     let register = loaded.register;
     let n = engine::size(register);
-    if 1024 < n {
+    if book::MAX_RECORDS < n {
         return 0;
     }
     n as u32
@@ -191,14 +174,14 @@ pub extern "C" fn dating_links(state: &[u32], list: &mut [u32]) -> u64
     let loaded = Register::load(state);
     let answer = loaded.answer;
     if register::number_of(answer) != 0 {
-        return told_refusal(NOT_OPEN);
+        return told_refusal(book::NOT_OPEN);
     }
     let register = loaded.register;
     let links = engine::links(register);
     let count = links.count;
     let words = links.words;
     if !register::copy(&words[..count], list, 0) {
-        return told_refusal(SHORT_LIST);
+        return told_refusal(book::SHORT_LIST);
     }
     count as u64
 }
@@ -230,7 +213,7 @@ pub extern "C" fn dating_pairs(
     let loaded = Register::load(state);
     let answer = loaded.answer;
     if register::number_of(answer) != 0 {
-        return told_refusal(NOT_OPEN);
+        return told_refusal(book::NOT_OPEN);
     }
     told_pairs(engine::pairs(loaded.register, text, work, list))
 }
@@ -250,7 +233,7 @@ pub extern "C" fn dating_chain(
     let loaded = Register::load(state);
     let answer = loaded.answer;
     if register::number_of(answer) != 0 {
-        return told_refusal(NOT_OPEN);
+        return told_refusal(book::NOT_OPEN);
     }
     told_chain(engine::chain(loaded.register, from, to, text, work, list))
 }

@@ -62,7 +62,7 @@ height-is n = (rise-above n 1 n, rise-enough n 1 n enough, λ h l m. go h l m (d
 pub height-most : (n : ℕ) → n ≤ 1024 → height n ≤ 10
 height-most n l = height-is n .2 10 (omega arith) l
 
--- the sizes that 01 names
+-- the sizes that S5.9 names
 pub units : (treeUnit 1024 ≡ 21846) × (treeUnit 64 ≡ 86)
 unfolding treeUnit height rise
 units = (refl, refl)

@@ -1,9 +1,10 @@
 // A k2-tree loaded into rows of bits: the ones of its words counted, then its squares read level by level.
 // What reading a square means is stated in specs/Reading.antt.
-use crate::height;
+use crate::measures::height;
 ghost use mathlib.Core.Path.{_≡_};
 ghost use Prim.Native.Nat.{ℕ, _+_, _-_, _/_, _%_, _^_, _<_, _≤_};
 ghost use lib.ListN.{length};
+ghost use Rattle.book.specs.Causes.{maxRecords};
 ghost use Rattle.k2.specs.Bits.{digit, bitAt};
 ghost use Rattle.k2.specs.DigitLaws.{shifted};
 ghost use Rattle.k2.specs.PairSets.{Cells, IsSet, union};
@@ -286,7 +287,7 @@ fn dive(
 
 // The pairs of a tree put into rows; with sense 1 each pair exchanged.
 pub fn load(tree: &[u64], n: usize, sense: usize, rows: &mut [u64])
-    requires { ⌜ (n ≤ 1024) × (length (now tree) ≤ 21846) × (sense ≤ 1) × (length (now rows) ≡ 16384) ⌝ }
+    requires { ⌜ (n ≤ maxRecords) × (length (now tree) ≤ 21846) × (sense ≤ 1) × (length (now rows) ≡ 16384) ⌝ }
     ensures { λ _. ⌜ ((a x : Cells) → IsSet n a → now (tree .entry) ≡ treeWords n a → bitAt (now (rows .entry)) ≡ flat x
         → bitAt (now (rows .exit)) ≡ flat (union x (sensed sense a))) ⌝ }
 {

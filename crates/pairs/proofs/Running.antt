@@ -20,8 +20,8 @@ use Rattle.reader.specs.Code.{run}
 use Rattle.packing.specs.Reading.{sensed}
 use Rattle.tree.specs.Inner.{outcome, Room as Spaces}
 use Rattle.tree.specs.Calls.{Settled as Told, too-long, given, OutcomeListed}
-use Rattle.tree.specs.declared.Answer.{Answer}
-use Rattle.tree.specs.declared.Answer.the-variants.{Done, Refused as Unlisted}
+use Rattle.tree.specs.declared.listing.Answer.{Answer}
+use Rattle.tree.specs.declared.listing.Answer.the-variants.{Done, Refused as Unlisted}
 use Rattle.pairs.specs.declared.Stack.{Stack}
 use Rattle.pairs.specs.declared.PairsAnswer.the-variants.{Pairs, Refused}
 use Rattle.pairs.specs.Evaluation.{relations, onOne, onTwo, most-waiting, held, beside, Waiting, Placed, Room}

@@ -17,6 +17,7 @@ use mathlib.Core.List.{List, [], _∷_}
 use Prim.Native.Nat.{ℕ, _≤_}
 use lib.ListN.{drop}
 use Rattle.book.specs.Book.{Book}
+use Rattle.book.specs.Causes.{maxRecords, labels}
 use Rattle.book.specs.Sheets.{Fit}
 use Rattle.k2.specs.PairSets.{Cells, listed, union}
 use Rattle.k2.specs.Trees.{treeUnit}
@@ -27,20 +28,20 @@ use Rattle.paths.specs.Relations.{cells}
 use Rattle.reader.specs.Code.{code}
 use Rattle.register.specs.Links.{Linked}
 use Rattle.tree.specs.Calls.{Settled as Told}
-use Rattle.tree.specs.declared.Answer.{Answer}
+use Rattle.tree.specs.declared.listing.Answer.{Answer}
 use Rattle.pairs.specs.declared.Stack.{Stack}
 use Rattle.pairs.specs.Evaluation.{onOne, Lying, held, beside, Waiting, Placed, Room}
 
 pub record Lettered (b : Book) (n : ℕ) (ws : List ℕ) : Type 0 where
   pub size : n ≡ b .n
-  pub small : b .n ≤ 1024
+  pub small : b .n ≤ maxRecords
   pub fit : Fit (b .n) (b .sheet)
   pub linked : Linked ws (b .sheet)
 
 pub record Topped (n : ℕ) (ws : List ℕ) (op : ℕ) (work work′ : List ℕ) (S S′ : Stack) : Type 0 where
   pub placed : Placed (treeUnit n) S′
   pub same : S′ .count ≡ S .count
-  pub alone : S′ .label ≡ 26
+  pub alone : S′ .label ≡ labels
   pub lies : (b : Book) → Lettered b n ws → (t : Cells) (st : List Cells) → Lying (b .n) work S (t ∷ st)
       → Lying (b .n) work′ S′ (onOne (b .n) op (union t (held (asked b) S)) ∷ st)
 

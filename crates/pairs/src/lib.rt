@@ -4,12 +4,14 @@ ghost use mathlib.Core.List.{List, [], _∷_};
 ghost use Prim.Native.Nat.{ℕ, _*_, _-_, _<_, _≤_};
 ghost use lib.ListN.{length, take};
 ghost use Rattle.book.specs.Book.{Book};
+ghost use Rattle.book.specs.Causes.{maxRecords, labels};
 ghost use Rattle.k2.specs.PairSets.{Cells, listed};
 ghost use Rattle.k2.specs.Trees.{treeUnit};
 ghost use Rattle.paths.specs.Expressions.{Expr};
 ghost use Rattle.paths.specs.Grammar.{accepted};
 ghost use Rattle.paths.specs.Chains.{asked};
 ghost use Rattle.paths.specs.Relations.{cells};
+ghost use Rattle.reader.specs.Code.{op-inverse, op-alternative, op-sequence};
 ghost use Rattle.rows.specs.Rows.{noPairs};
 ghost use Rattle.tree.specs.Inner.{outcome, OneWithLinks, TwoWithLinks};
 ghost use Rattle.pairs.specs.Evaluation.{onOne, onTwo, Placed, Room};
@@ -22,8 +24,11 @@ pub enum PairsAnswer {
     Refused(u32),
 }
 
+// No letter's label.
+const NO_LABEL: u8 = 26;
+
 // The operands that wait: the words of each one's tree, how many wait, and where their trees end in the work. The one on top may have the links of
-// a letter beside its tree: their label, 26 if there are none, and their sense, 1 if the letter is inverted. So a letter's tree is made only if
+// a letter beside its tree: their label, NO_LABEL if there are none, and their sense, 1 if the letter is inverted. So a letter's tree is made only if
 // the letter has to wait.
 struct Stack {
     sizes: [usize; 19],
@@ -35,10 +40,10 @@ struct Stack {
 
 // A size, cut off at D. Of a register's own links no tree is longer.
 fn bounded(size: usize, n: usize) -> usize
-    requires { ⌜ n ≤ 1024 ⌝ }
+    requires { ⌜ n ≤ maxRecords ⌝ }
     ensures { λ r. ⌜ (r ≤ treeUnit n) × (size ≤ treeUnit n → r ≡ size) ⌝ }
 {
-    let most = packing::tree_unit(n);
+    let most = tree::tree_unit(n);
     if most < size {
         return most;
     }
@@ -48,19 +53,19 @@ fn bounded(size: usize, n: usize) -> usize
 // An operator on the tree at the front of a part of work, with links beside it; its value is left in its place. How many words it has. Any other
 // number than an operator's puts the links in.
 fn on_one(part: &mut [u64], n: usize, op: u8, size: usize, links: &[u32], sense: usize) -> usize
-    requires { ⌜ (n ≤ 1024) × (size ≤ treeUnit n) × (sense ≤ 1) × (2 * treeUnit n ≤ length (now part)) ⌝ }
+    requires { ⌜ (n ≤ maxRecords) × (size ≤ treeUnit n) × (sense ≤ 1) × (2 * treeUnit n ≤ length (now part)) ⌝ }
     ensures { λ r. ⌜ (r ≤ treeUnit n) × OneWithLinks (onOne n op) n size (now (links .entry)) sense (now (part .entry)) (now (part .exit)) r ⌝ }
 {
-    if op == 26 {
+    if op == reader::INVERSE {
         return bounded(tree::transpose_with(part, n, size, links, sense), n);
     }
-    if op == 27 {
+    if op == reader::STAR {
         return bounded(tree::star_with(part, n, size, links, sense), n);
     }
-    if op == 28 {
+    if op == reader::PLUS {
         return bounded(tree::closure_with(part, n, size, links, sense), n);
     }
-    if op == 29 {
+    if op == reader::OPTIONAL {
         return bounded(tree::optional_with(part, n, size, links, sense), n);
     }
     bounded(tree::put_links_in(part, n, size, links, sense), n)
@@ -76,10 +81,10 @@ fn on_two(
     links: &[u32],
     sense: usize,
 ) -> usize
-    requires { ⌜ (n ≤ 1024) × (left ≤ treeUnit n) × (right ≤ treeUnit n) × (sense ≤ 1) × (2 * treeUnit n ≤ length (now part)) ⌝ }
+    requires { ⌜ (n ≤ maxRecords) × (left ≤ treeUnit n) × (right ≤ treeUnit n) × (sense ≤ 1) × (2 * treeUnit n ≤ length (now part)) ⌝ }
     ensures { λ r. ⌜ (r ≤ treeUnit n) × TwoWithLinks (onTwo n op) n left right (now (links .entry)) sense (now (part .entry)) (now (part .exit)) r ⌝ }
 {
-    if op == 30 {
+    if op == reader::ALTERNATIVE {
         return bounded(tree::union_with(part, n, left, right, links, sense), n);
     }
     bounded(tree::product_with(part, n, left, right, links, sense), n)
@@ -87,7 +92,7 @@ fn on_two(
 
 // An operator on the operand on top; the part of work from it on is lent to the operation.
 fn on_top(work: &mut [u64], n: usize, words: &[u32], stack: Stack, op: u8) -> Stack
-    requires { ⌜ (n ≤ 1024) × (32 * treeUnit n ≤ length (now work)) × (1 ≤ stack .count) × (stack .count ≤ 19) × Placed (treeUnit n) stack ⌝ }
+    requires { ⌜ (n ≤ maxRecords) × (32 * treeUnit n ≤ length (now work)) × (1 ≤ stack .count) × (stack .count ≤ 19) × Placed (treeUnit n) stack ⌝ }
     ensures { λ r. ⌜ Topped n (now (words .entry)) op (now (work .entry)) (now (work .exit)) stack r ⌝ }
 {
     let mut next = stack;
@@ -98,20 +103,20 @@ fn on_top(work: &mut [u64], n: usize, words: &[u32], stack: Stack, op: u8) -> St
     let size = on_one(&mut work[start..], n, op, last, links, next.sense);
     next.sizes[top] = size;
     next.end = start + size;
-    next.label = 26;
+    next.label = NO_LABEL;
     next.sense = 0;
     next
 }
 
 // The links beside the operand on top put into its tree, if there are any.
 fn settle(work: &mut [u64], n: usize, words: &[u32], stack: Stack) -> Stack
-    requires { ⌜ (n ≤ 1024) × (32 * treeUnit n ≤ length (now work)) × (stack .count ≤ 19) × Placed (treeUnit n) stack ⌝ }
+    requires { ⌜ (n ≤ maxRecords) × (32 * treeUnit n ≤ length (now work)) × (stack .count ≤ 19) × Placed (treeUnit n) stack ⌝ }
     ensures { λ r. ⌜ Settled n (now (words .entry)) (now (work .entry)) (now (work .exit)) stack r ⌝ }
 {
     if stack.count == 0 {
         return stack;
     }
-    if stack.label == 26 {
+    if stack.label == NO_LABEL {
         return stack;
     }
     on_top(work, n, words, stack, 0)
@@ -119,7 +124,7 @@ fn settle(work: &mut [u64], n: usize, words: &[u32], stack: Stack) -> Stack
 
 // A letter: an operand more, whose links are beside an empty tree.
 fn letter(work: &mut [u64], n: usize, words: &[u32], stack: Stack, op: u8) -> Stack
-    requires { ⌜ (n ≤ 1024) × (32 * treeUnit n ≤ length (now work)) × (op < 26) × ((c : List ℕ) × Room (treeUnit n) (op ∷ c) stack) ⌝ }
+    requires { ⌜ (n ≤ maxRecords) × (32 * treeUnit n ≤ length (now work)) × (op < labels) × ((c : List ℕ) × Room (treeUnit n) (op ∷ c) stack) ⌝ }
     ensures { λ r. ⌜ Goes n (now (words .entry)) op (now (work .entry)) (now (work .exit)) stack r ⌝ }
 {
     let mut next = settle(work, n, words, stack);
@@ -133,12 +138,12 @@ fn letter(work: &mut [u64], n: usize, words: &[u32], stack: Stack, op: u8) -> St
 
 // An operator on one operand. If the tree on top has no words, `^` is the other sense of the links beside it.
 fn unary(work: &mut [u64], n: usize, words: &[u32], stack: Stack, op: u8) -> Stack
-    requires { ⌜ (n ≤ 1024) × (32 * treeUnit n ≤ length (now work)) × (26 ≤ op) × (op < 30) × ((c : List ℕ) × Room (treeUnit n) (op ∷ c) stack) ⌝ }
+    requires { ⌜ (n ≤ maxRecords) × (32 * treeUnit n ≤ length (now work)) × (op-inverse ≤ op) × (op < op-alternative) × ((c : List ℕ) × Room (treeUnit n) (op ∷ c) stack) ⌝ }
     ensures { λ r. ⌜ Goes n (now (words .entry)) op (now (work .entry)) (now (work .exit)) stack r ⌝ }
 {
     let top = stack.count - 1;
     let last = stack.sizes[top];
-    if op == 26 {
+    if op == reader::INVERSE {
         if last == 0 {
             let mut next = stack;
             next.sense = 1 - next.sense;
@@ -150,7 +155,7 @@ fn unary(work: &mut [u64], n: usize, words: &[u32], stack: Stack, op: u8) -> Sta
 
 // An operator on the two operands on top; the part of work from the lower one on is lent to the operation.
 fn binary(work: &mut [u64], n: usize, words: &[u32], stack: Stack, op: u8) -> Stack
-    requires { ⌜ (n ≤ 1024) × (32 * treeUnit n ≤ length (now work)) × (30 ≤ op) × ((c : List ℕ) × Room (treeUnit n) (op ∷ c) stack) ⌝ }
+    requires { ⌜ (n ≤ maxRecords) × (32 * treeUnit n ≤ length (now work)) × (op-alternative ≤ op) × ((c : List ℕ) × Room (treeUnit n) (op ∷ c) stack) ⌝ }
     ensures { λ r. ⌜ Goes n (now (words .entry)) op (now (work .entry)) (now (work .exit)) stack r ⌝ }
 {
     let mut next = stack;
@@ -164,20 +169,20 @@ fn binary(work: &mut [u64], n: usize, words: &[u32], stack: Stack, op: u8) -> St
     next.sizes[below] = size;
     next.count = top;
     next.end = start + size;
-    next.label = 26;
+    next.label = NO_LABEL;
     next.sense = 0;
     next
 }
 
 // One number of the code.
 fn step(work: &mut [u64], n: usize, words: &[u32], stack: Stack, op: u8) -> Stack
-    requires { ⌜ (n ≤ 1024) × (32 * treeUnit n ≤ length (now work)) × ((c : List ℕ) × Room (treeUnit n) (op ∷ c) stack) ⌝ }
+    requires { ⌜ (n ≤ maxRecords) × (32 * treeUnit n ≤ length (now work)) × ((c : List ℕ) × Room (treeUnit n) (op ∷ c) stack) ⌝ }
     ensures { λ r. ⌜ Goes n (now (words .entry)) op (now (work .entry)) (now (work .exit)) stack r ⌝ }
 {
-    if op < 26 {
+    if op < reader::FIRST_OPERATOR {
         return letter(work, n, words, stack, op);
     }
-    if op < 30 {
+    if op < reader::FIRST_BINARY {
         return unary(work, n, words, stack, op);
     }
     binary(work, n, words, stack, op)
@@ -185,14 +190,14 @@ fn step(work: &mut [u64], n: usize, words: &[u32], stack: Stack, op: u8) -> Stac
 
 // All numbers of the code but the last; the operands that wait for that.
 fn evaluate(work: &mut [u64], n: usize, words: &[u32], code: &[u8]) -> Stack
-    requires { ⌜ (n ≤ 1024) × (32 * treeUnit n ≤ length (now work)) × ((s : List ℕ) × (e : Expr) × Coded s e (now code)) ⌝ }
+    requires { ⌜ (n ≤ maxRecords) × (32 * treeUnit n ≤ length (now work)) × ((s : List ℕ) × (e : Expr) × Coded s e (now code)) ⌝ }
     ensures { λ r. ⌜ Going n (now (words .entry)) (now (code .entry)) (now (work .exit)) r (length (now (code .entry)) - 1) ⌝ }
 {
     let mut stack = Stack {
         sizes: [0; 19],
         count: 0,
         end: 0,
-        label: 26,
+        label: NO_LABEL,
         sense: 0,
     };
     let mut i = 0;
@@ -205,25 +210,25 @@ fn evaluate(work: &mut [u64], n: usize, words: &[u32], code: &[u8]) -> Stack
 
 // The number of an operator's operation on trees. A letter alone is listed as a union.
 fn kind(op: u8) -> u8
-    ensures { λ r. ⌜ ((n : ℕ) (x : Cells) → op < 30 → outcome r n noPairs x ≡ onOne n op x)
-        × ((n : ℕ) (x y : Cells) → 30 ≤ op → op ≤ 31 → outcome r n x y ≡ onTwo n op x y) ⌝ }
+    ensures { λ r. ⌜ ((n : ℕ) (x : Cells) → op < op-alternative → outcome r n noPairs x ≡ onOne n op x)
+        × ((n : ℕ) (x y : Cells) → op-alternative ≤ op → op ≤ op-sequence → outcome r n x y ≡ onTwo n op x y) ⌝ }
 {
-    if op == 26 {
-        return 7;
+    if op == reader::INVERSE {
+        return tree::TRANSPOSE;
     }
-    if op == 27 {
-        return 6;
+    if op == reader::STAR {
+        return tree::STAR;
     }
-    if op == 28 {
-        return 4;
+    if op == reader::PLUS {
+        return tree::CLOSURE;
     }
-    if op == 29 {
-        return 5;
+    if op == reader::OPTIONAL {
+        return tree::OPTIONAL;
     }
-    if op == 31 {
-        return 3;
+    if op == reader::SEQUENCE {
+        return tree::PRODUCT;
     }
-    0
+    tree::UNION
 }
 
 // The last number of the code: the pairs of its value are listed, and no tree is made of them.
@@ -235,17 +240,17 @@ fn last(
     op: u8,
     list: &mut [u32],
 ) -> tree::Answer
-    requires { ⌜ (n ≤ 1024) × (32 * treeUnit n ≤ length (now work)) × Room (treeUnit n) (op ∷ []) stack ⌝ }
+    requires { ⌜ (n ≤ maxRecords) × (32 * treeUnit n ≤ length (now work)) × Room (treeUnit n) (op ∷ []) stack ⌝ }
     ensures { λ a. ⌜ Lists n (now (words .entry)) op (now (work .entry)) stack (now (list .entry)) (now (list .exit)) a ⌝ }
 {
-    if op < 26 {
+    if op < reader::FIRST_OPERATOR {
         let links = register::label_part(words, op);
-        return tree::list_with(0, work, n, 0, 0, links, 0, list);
+        return tree::list_with(tree::UNION, work, n, 0, 0, links, 0, list);
     }
     let top = stack.count - 1;
     let right = stack.sizes[top];
     let links = register::label_part(words, stack.label);
-    if op < 30 {
+    if op < reader::FIRST_BINARY {
         let start = stack.end - right;
         return tree::list_with(
             kind(op),
@@ -280,7 +285,7 @@ fn hand_over(
     code: &[u8],
     list: &mut [u32],
 ) -> PairsAnswer
-    requires { ⌜ (n ≤ 1024) × (32 * treeUnit n ≤ length (now work)) × ((s : List ℕ) × (e : Expr) × Coded s e (now code)) ⌝ }
+    requires { ⌜ (n ≤ maxRecords) × (32 * treeUnit n ≤ length (now work)) × ((s : List ℕ) × (e : Expr) × Coded s e (now code)) ⌝ }
     ensures settles { λ a. ⌜ ((l : List ℕ) × Handed l (now (list .entry)) (now (list .exit)) a) ⌝ }
     ensures pairs { λ a. ⌜ ((b : Book) → Lettered b n (now (words .entry)) → (s : List ℕ) (e : Expr) → Coded s e (now (code .entry))
         → Handed (listed (b .n) (cells (asked b) e)) (now (list .entry)) (now (list .exit)) a) ⌝ }
@@ -296,7 +301,7 @@ fn hand_over(
 // The pairs of an expression, by its code: the first len bytes of the array.
 fn of_code(
     register: register::Register,
-    code: [u8; 256],
+    code: [u8; book::MAX_BYTES],
     len: usize,
     work: &mut [u64],
     list: &mut [u32],
@@ -305,8 +310,8 @@ fn of_code(
     ensures { λ a. ⌜ ((s : List ℕ) (e : Expr) → Coded s e (take len code) → AsksFor register (accepted e) (length (now (work .entry))) (now (list .entry)) (now (list .exit)) a) ⌝ }
 {
     let n = register.size();
-    if work.len() < 32 * packing::tree_unit(n) {
-        return PairsAnswer::Refused(12);
+    if work.len() < 32 * tree::tree_unit(n) {
+        return PairsAnswer::Refused(book::SHORT_WORK);
     }
     let links = register.links();
     let count = links.count;

@@ -4,7 +4,7 @@
 --   fit-inside, history-inside, history-small
 --                   after every history the links lie between records in use, and n is at most 1,024
 --   pairs-in-order, chain-in-order
---                   the causes against a question stand in the order of 01
+--                   the causes against a question stand in the order of S6.7
 --   verdict-caused  the number of a faulty text is that of a cause
 -- Assumes nothing.
 use mathlib.Core.Path.{_≡_, sym}

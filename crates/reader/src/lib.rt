@@ -3,37 +3,36 @@
 ghost use mathlib.Core.Path.{_≡_};
 ghost use Prim.Native.Nat.{_+_, _<_, max};
 ghost use lib.ListN.{length, drop, set, replicate};
+ghost use Rattle.book.specs.Causes.{maxBytes};
 ghost use Rattle.paths.specs.Descent.{got, firstByte, readAlternatives, readParts, readPart, readAtom};
 ghost use Rattle.reader.specs.Reads.{Reads};
 ghost use Rattle.reader.specs.declared.Answer.the-variants.{Refused};
 ghost use Rattle.reader.specs.Progress.{Done, Asks, Fits, RoomToJoin, RoomToWrap, Joins, Closes, comesNext, spotOf, markOf, wrap, wrapCode};
 
-// The numbers of the operators; a label is its own number.
-const INVERSE: u8 = 26;
+// The numbers of a code: a label is its own number; then the operators, those on one operand first. `code` of specs/Code.antt has what they mean.
+pub const INVERSE: u8 = 26;
 
-const STAR: u8 = 27;
+pub const STAR: u8 = 27;
 
-const PLUS: u8 = 28;
+pub const PLUS: u8 = 28;
 
-const OPTIONAL: u8 = 29;
+pub const OPTIONAL: u8 = 29;
 
-const ALTERNATIVE: u8 = 30;
+pub const ALTERNATIVE: u8 = 30;
 
-const SEQUENCE: u8 = 31;
+pub const SEQUENCE: u8 = 31;
 
-// The limits.
-const MAX_BYTES: usize = 256;
+// The first number that is no label's, and the first of an operator on two operands.
+pub const FIRST_OPERATOR: u8 = INVERSE;
 
-const MAX_LETTERS: usize = 63;
+pub const FIRST_BINARY: u8 = ALTERNATIVE;
 
-const MAX_DEPTH: usize = 8;
+// The numbers of the causes, in the type of this crate's answers.
+const NO_EXPRESSION: u8 = book::NO_EXPRESSION as u8;
 
-// The numbers of the causes.
-const NO_EXPRESSION: u8 = 9;
+const TOO_MANY_BYTES: u8 = book::TOO_MANY_BYTES as u8;
 
-const TOO_MANY_BYTES: u8 = 10;
-
-const TOO_LARGE: u8 = 10;
+const TOO_LARGE: u8 = book::TOO_LARGE as u8;
 
 // An expression that was read: where it ends in the text and in the code, how many letters it has, and how deep its groups are nested.
 struct Spot {
@@ -255,16 +254,16 @@ pub enum Answer {
 // An answer with the code: zeros follow it, and stand alone with a refusal.
 pub struct Reading {
     pub answer: Answer,
-    pub code: [u8; 256],
+    pub code: [u8; book::MAX_BYTES],
 }
 
 // A refusal, with no code.
 fn refused(number: u8) -> Reading
-    ensures { λ r. ⌜ (r .answer ≡ Refused number) × (r .code ≡ replicate 256 0) ⌝ }
+    ensures { λ r. ⌜ (r .answer ≡ Refused number) × (r .code ≡ replicate maxBytes 0) ⌝ }
 {
     Reading {
         answer: Answer::Refused(number),
-        code: [0u8; 256],
+        code: [0u8; book::MAX_BYTES],
     }
 }
 
@@ -272,10 +271,10 @@ fn refused(number: u8) -> Reading
 fn whole(s: &[u8]) -> Reading
     ensures { λ r. ⌜ Reads (now (s .entry)) r ⌝ }
 {
-    if MAX_BYTES < s.len() {
+    if book::MAX_BYTES < s.len() {
         return refused(TOO_MANY_BYTES);
     }
-    let mut code = [0u8; 256];
+    let mut code = [0u8; book::MAX_BYTES];
     let r = alternatives(s, 0, &mut code, 0);
     let Parsed::Got(q) = r else {
         return refused(NO_EXPRESSION);
@@ -283,10 +282,10 @@ fn whole(s: &[u8]) -> Reading
     if q.at < s.len() {
         return refused(NO_EXPRESSION);
     }
-    if MAX_LETTERS < q.letters {
+    if book::MAX_LETTERS < q.letters {
         return refused(TOO_LARGE);
     }
-    if MAX_DEPTH < q.depth {
+    if book::MAX_DEPTH < q.depth {
         return refused(TOO_LARGE);
     }
     Reading {

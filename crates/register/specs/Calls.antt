@@ -1,6 +1,7 @@
 -- What a register says of a book, and what each call of the engine promises.
 --   answerOf k      the answer of a call whose number is k: accepted if k is 0, else refused with k
 --   answerNumber a  an answer's number: 0 if the call is accepted, else the number of its cause
+--   callOf c        the book's call of a call: an edit, or an undo
 --   previous t      the place before a place of the ring
 --   latest, heldWords
 --                   the words of the held edits, the latest first: of a ring, its top and their number, and of a register
@@ -16,15 +17,16 @@
 -- Assumes nothing: these are definitions.
 use mathlib.Core.Path.{_≡_}
 use mathlib.Core.List.{List, [], _∷_}
-use Prim.Native.Nat.{ℕ, zero, suc, _≤_, _<_}
+use Prim.Native.Nat.{ℕ, zero, suc, _-_, _≤_, _<_}
 use lib.ListN.{take, getD}
 use Rattle.book.specs.Causes.{not-open, number, Caused, maxRecords, maxLinks, maxHeld}
-use Rattle.book.specs.Book.{Book, Call, answer, next, freshAnswer, fresh}
+use Rattle.book.specs.Book.{Book, add, remove, lock, unlock, Call as Book·Call, edit, undo, answer, next, freshAnswer, fresh}
 use Rattle.register.specs.Packed.{Packed, Shows, Piled}
 use Rattle.register.specs.declared.Register.{Register}
 use Rattle.register.specs.declared.Answer.{Answer}
 use Rattle.register.specs.declared.Answer.the-variants.{Done, Refused}
-use Rattle.register.specs.declared.Opened.{Opened}
+use Rattle.register.specs.declared.Call.{Call}
+use Rattle.register.specs.declared.Call.the-variants.{Add, Remove, Lock, Unlock, Undo}
 use Rattle.register.specs.declared.Outcome.{Outcome}
 
 abbrev pub answerOf : ℕ → Answer
@@ -35,8 +37,15 @@ abbrev pub answerNumber : Answer → ℕ
 answerNumber Done = 0
 answerNumber (Refused k) = k
 
+unfoldable pub callOf : Call → Book·Call
+callOf (Add x l y) = edit (add (record { from = x; label = l; to = y }))
+callOf (Remove x l y) = edit (remove (record { from = x; label = l; to = y }))
+callOf (Lock r) = edit (lock r)
+callOf (Unlock r) = edit (unlock r)
+callOf Undo = undo
+
 abbrev pub previous : ℕ → ℕ
-previous zero = 255
+previous zero = maxHeld - 1
 previous (suc t) = t
 
 -- the latest of the ring stands before top
@@ -65,12 +74,12 @@ pub record Represents (r : Register) (b : Book) : Type 0 where
   pub sheet : Shows (b .n) (packedOf r) (b .sheet)
   pub pile : Piled (b .n) (packedOf r) (heldWords r) (b .pile)
 
-pub record Opens (n : ℕ) (out : Opened) : Type 0 where
+pub record Opens (n : ℕ) (out : Outcome) : Type 0 where
   pub answers : out .answer ≡ answerOf (freshAnswer n)
   pub made : freshAnswer n ≡ 0 → Represents (out .register) (fresh n)
   pub empty : (freshAnswer n ≡ 0 → ⊥) → Represents (out .register) (fresh 0)
 
-pub record Steps (self : Register) (c : Call) (out : Outcome) : Type 0 where
+pub record Steps (self : Register) (c : Book·Call) (out : Outcome) : Type 0 where
   -- over any contents: a refusal has the number of a cause
   pub caused : (k : ℕ) → out .answer ≡ Refused k → Caused k
   pub refused : (out .answer ≡ Done → ⊥) → out .register ≡ self

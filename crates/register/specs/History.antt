@@ -28,7 +28,6 @@ use Rattle.book.specs.Causes.{bad-size, short-list, unknown-kind, number, first
 use Rattle.book.specs.Book.{Book, add, remove, lock, unlock, Call, edit, undo, answer, next, fresh, after}
 use Rattle.register.specs.Calls.{answerOf, answerNumber, Represents, Steps}
 use Rattle.register.specs.declared.Register.{Register}
-use Rattle.register.specs.declared.Opened.{Opened}
 use Rattle.register.specs.declared.Outcome.{Outcome}
 
 pub data CallsMade : Register → List Call → List ℕ → Register → Type 0 where
@@ -108,7 +107,7 @@ replayNumber n words told = firstNumber ((bad-size, ltb n 1 || ltb maxRecords n)
 
 -- of the words of a list, on a fresh register of n records: the number told to each in the list, the words of the list past them as they were,
 -- and the register that represents the book after the calls among them; a refused replay leaves the list as it was and hands back no records
-pub record Replays (n : ℕ) (words old new : List ℕ) (out : Opened) : Type 0 where
+pub record Replays (n : ℕ) (words old new : List ℕ) (out : Outcome) : Type 0 where
   pub answer : out .answer ≡ answerOf (replayNumber n words old)
   pub refused : (replayNumber n words old ≡ 0 → ⊥) → (new ≡ old) × Represents (out .register) (fresh 0)
   pub told : replayNumber n words old ≡ 0 → new ≡ wordAnswers (fresh n) words ++ drop (length words) old

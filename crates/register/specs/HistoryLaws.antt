@@ -22,7 +22,6 @@ use Rattle.register.specs.History.{wordAnswers, callsOf, toldCalls, repl
 use Rattle.register.specs.declared.Register.{Register}
 use Rattle.register.specs.declared.Answer.{Answer}
 use Rattle.register.specs.declared.Answer.the-variants.{Done, Refused}
-use Rattle.register.specs.declared.Opened.{Opened}
 use Rattle.register.specs.declared.Outcome.{Outcome}
 
 pub number-answer : (k : ℕ) → answerNumber (answerOf k) ≡ k
@@ -71,7 +70,7 @@ pub history-members : (n : ℕ) {r e : Register} {cs : List Call} {told : List �
 history-members n h run = let o = history n h run in (o .0, members (o .1))
 
 -- the same of the code itself
-pub replay-members : {n : ℕ} {ws old new : List ℕ} {out : Opened} → Replays n ws old new out → replayNumber n ws old ≡ 0
+pub replay-members : {n : ℕ} {ws old new : List ℕ} {out : Outcome} → Replays n ws old new out → replayNumber n ws old ≡ 0
     → Members (out .register) (after (fresh n) (callsOf ws))
 replay-members r z = members (r .book z)
 

@@ -16,7 +16,7 @@ use Rattle.register.specs.Words.{stateWords, linksAt, ringAt, locksAt, l
 use Rattle.register.specs.declared.Register.{Register}
 use Rattle.register.specs.declared.Answer.{Answer}
 use Rattle.register.specs.declared.Answer.the-variants.{Done, Refused}
-use Rattle.register.specs.declared.Opened.{Opened}
+use Rattle.register.specs.declared.Outcome.{Outcome}
 
 -- the halves of two lists that are the same, parted at the same place
 pub parted : (a b a′ b′ : List ℕ) → length a ≡ length a′ → a ++ b ≡ a′ ++ b′ → (a ≡ a′) × (b ≡ b′)
@@ -132,7 +132,7 @@ pub form-foreign : {ws : List ℕ} → (Formed ws → ⊥) → Foreign ws
 form-foreign {ws} g r k = g (keeps-formed ws r k)
 
 -- the number 0 says that they were loaded
-pub load-done : {ws : List ℕ} {o : Opened} → Loads ws o → answerNumber (o .answer) ≡ 0 → o .answer ≡ Done
+pub load-done : {ws : List ℕ} {o : Outcome} → Loads ws o → answerNumber (o .answer) ≡ 0 → o .answer ≡ Done
 load-done {o = o} l z = go (o .answer) refl
   where
     go : (a : Answer) → o .answer ≡ a → o .answer ≡ Done

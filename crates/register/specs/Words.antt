@@ -1,7 +1,7 @@
 -- A register kept by a caller as plain words. A state may be longer than a register's words: its front is the register, and the words past it are left.
---   stateWords      how many words a register has
 --   linksAt, ringAt, locksAt
---                   the places of its first link, of the ring and of its first lock
+--                   the places of a register's first link, of the ring and of its first lock
+--   stateWords      how many words a register has
 --   lockWord l      1 if locked, 0 if not
 --   numbersOf r, stateOf r
 --                   the words of a register: its counters, its links, its ring, its locks
@@ -23,19 +23,19 @@ use Rattle.book.specs.Book.{fresh}
 use Rattle.register.specs.Calls.{answerOf, InRange, Represents}
 use Rattle.register.specs.declared.Register.{Register}
 use Rattle.register.specs.declared.Answer.the-variants.{Done}
-use Rattle.register.specs.declared.Opened.{Opened}
-
-abbrev pub stateWords : ℕ
-stateWords = 5380
+use Rattle.register.specs.declared.Outcome.{Outcome}
 
 abbrev pub linksAt : ℕ
 linksAt = 4
 
 abbrev pub ringAt : ℕ
-ringAt = 4100
+ringAt = linksAt + maxLinks
 
 abbrev pub locksAt : ℕ
-locksAt = 4356
+locksAt = ringAt + maxHeld
+
+abbrev pub stateWords : ℕ
+stateWords = locksAt + maxRecords
 
 abbrev pub lockWord : Bool → ℕ
 lockWord true = 1
@@ -62,7 +62,7 @@ pub record Copies (xs : List ℕ) (at : ℕ) (before after : List ℕ) (ok : Boo
   pub fits : at + length xs ≤ length before → (ok ≡ true) × (after ≡ take at before ++ xs ++ drop (at + length xs) before)
   pub short : length before < at + length xs → (ok ≡ false) × (after ≡ before)
 
-pub record Loads (ws : List ℕ) (out : Opened) : Type 0 where
+pub record Loads (ws : List ℕ) (out : Outcome) : Type 0 where
   pub loaded : out .answer ≡ Done → Keeps ws (out .register)
   pub refused : (out .answer ≡ Done → ⊥) → (out .answer ≡ answerOf (number not-open)) × Foreign ws × Represents (out .register) (fresh 0)
 

@@ -1,16 +1,33 @@
 // A register kept as words by its caller: n, count, top, held, 4,096 words of links, 256 of the ring, 1,024 of locks, in the front of a slice of at least
 // so many. What reading and writing them promise is stated in specs/Words.antt.
 use crate::Answer;
-use crate::Opened;
+use crate::Outcome;
 use crate::Register;
-use crate::empty;
-use crate::ranged;
+use crate::state::empty;
+use crate::state::ranged;
 ghost use mathlib.Core.Path.{_≡_};
 ghost use Prim.Native.Nat.{_+_, _≤_};
 ghost use mathlib.Core.List.{_++_, map};
 ghost use lib.ListN.{length, take, drop};
 ghost use Rattle.register.specs.Inner.{Flags, Formed, Tested};
 ghost use Rattle.register.specs.Words.{lockWord, Copies, Loads, Stores};
+
+// The places of the counters, and of the first link, the ring and the first lock; and how many words a register has.
+const SIZE_AT: usize = 0;
+
+const COUNT_AT: usize = 1;
+
+const TOP_AT: usize = 2;
+
+const HELD_AT: usize = 3;
+
+const LINKS_AT: usize = 4;
+
+const RING_AT: usize = LINKS_AT + book::MAX_LINKS;
+
+const LOCKS_AT: usize = RING_AT + book::MAX_HELD;
+
+pub const STATE_WORDS: usize = LOCKS_AT + book::MAX_RECORDS;
 
 // A part of words copied to a place from word `at` on; false, and nothing written, if it does not fit there.
 pub fn copy(from: &[u32], to: &mut [u32], at: usize) -> bool
@@ -72,48 +89,48 @@ fn write_locks(locks: &[bool], words: &mut [u32], at: usize)
 fn is_register(words: &[u32]) -> bool
     ensures { λ r. ⌜ Tested (Formed (now (words .entry))) r ⌝ }
 {
-    if words.len() < 5380 {
+    if words.len() < STATE_WORDS {
         return false;
     }
-    if 65536 <= words[0] {
+    if 65536 <= words[SIZE_AT] {
         return false;
     }
-    let n = words[0] as u16;
-    let count = words[1] as usize;
-    let top = words[2] as usize;
-    let held = words[3] as usize;
+    let n = words[SIZE_AT] as u16;
+    let count = words[COUNT_AT] as usize;
+    let top = words[TOP_AT] as usize;
+    let held = words[HELD_AT] as usize;
     if !ranged(n, count, top, held) {
         return false;
     }
-    flags(&words[4356..5380])
+    flags(&words[LOCKS_AT..STATE_WORDS])
 }
 
 impl Register {
     // The register of the words; words that are no register's are refused with 16, and the register handed back has no records.
-    pub fn load(words: &[u32]) -> Opened
+    pub fn load(words: &[u32]) -> Outcome
         ensures { λ r. ⌜ Loads (now (words .entry)) r ⌝ }
     {
         if !is_register(words) {
-            return Opened {
+            return Outcome {
                 register: empty(0),
-                answer: Answer::Refused(16),
+                answer: Answer::Refused(book::NOT_OPEN),
             };
         }
-        let mut links: [u32; 4096] = [0; 4096];
-        copy(&words[4..4100], &mut links, 0);
-        let mut ring: [u32; 256] = [0; 256];
-        copy(&words[4100..4356], &mut ring, 0);
-        let mut locks: [bool; 1024] = [false; 1024];
-        read_locks(&words[4356..5380], &mut locks);
-        Opened {
+        let mut links: [u32; book::MAX_LINKS] = [0; book::MAX_LINKS];
+        copy(&words[LINKS_AT..RING_AT], &mut links, 0);
+        let mut ring: [u32; book::MAX_HELD] = [0; book::MAX_HELD];
+        copy(&words[RING_AT..LOCKS_AT], &mut ring, 0);
+        let mut locks: [bool; book::MAX_RECORDS] = [false; book::MAX_RECORDS];
+        read_locks(&words[LOCKS_AT..STATE_WORDS], &mut locks);
+        Outcome {
             register: Register {
-                n: words[0] as u16,
-                count: words[1] as usize,
+                n: words[SIZE_AT] as u16,
+                count: words[COUNT_AT] as usize,
                 links,
                 locks,
                 ring,
-                top: words[2] as usize,
-                held: words[3] as usize,
+                top: words[TOP_AT] as usize,
+                held: words[HELD_AT] as usize,
             },
             answer: Answer::Done,
         }
@@ -123,22 +140,22 @@ impl Register {
     pub fn store(self, words: &mut [u32]) -> bool
         ensures { λ r. ⌜ Stores self (now (words .entry)) (now (words .exit)) r ⌝ }
     {
-        if words.len() < 5380 {
+        if words.len() < STATE_WORDS {
             return false;
         }
         if !ranged(self.n, self.count, self.top, self.held) {
             return false;
         }
-        let numbers: [u32; 4] = [
+        let numbers: [u32; LINKS_AT] = [
             self.n as u32,
             self.count as u32,
             self.top as u32,
             self.held as u32,
         ];
-        copy(&numbers, words, 0);
-        copy(&self.links, words, 4);
-        copy(&self.ring, words, 4100);
-        write_locks(&self.locks, words, 4356);
+        copy(&numbers, words, SIZE_AT);
+        copy(&self.links, words, LINKS_AT);
+        copy(&self.ring, words, RING_AT);
+        write_locks(&self.locks, words, LOCKS_AT);
         true
     }
 }

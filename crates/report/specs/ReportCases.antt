@@ -1,4 +1,4 @@
--- The lines of 01's sample and a few others, each by computation.
+-- The lines of the sample (S7.8) and a few others, each by computation.
 --   lines-printed   a table: a text, and the bytes that it must be
 -- Assumes nothing.
 use mathlib.Core.Path.{_≡_, refl}

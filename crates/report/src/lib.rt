@@ -88,10 +88,13 @@ fn put_pair(w: u32, out: &mut [u8], at: usize) -> usize
     put_counted(b" ", (w % 1024) as u64, out, next)
 }
 
+// How many labels there are, in the type of a word.
+const LABELS: u32 = book::LABELS as u32;
+
 fn label_letter(k: u32) -> u8
     ensures { λ r. ⌜ r ≡ labelLetter k ⌝ }
 {
-    if k < 26 { b'a' + k as u8 } else { b'?' }
+    if k < LABELS { b'a' + k as u8 } else { b'?' }
 }
 
 fn sense_sign(s: u32) -> u8

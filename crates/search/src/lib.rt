@@ -6,6 +6,7 @@ ghost use mathlib.Core.Bool.{true};
 ghost use mathlib.Core.List.{List};
 ghost use Prim.Native.Nat.{ℕ, _+_, _*_, _<_, _≤_};
 ghost use lib.ListN.{length, getD};
+ghost use Rattle.book.specs.Causes.{maxRecords, maxLinks};
 ghost use Rattle.paths.specs.Expressions.{Expr};
 ghost use Rattle.paths.specs.Chains.{Graph};
 ghost use Rattle.paths.specs.ChainLaws.{Inside};
@@ -34,7 +35,7 @@ fn spread(rows: &[u64], x: u64) -> u64
 
 // The states v at the record r, if it is below n, besides those of next, whose records are the first c of the list. How many are they now?
 fn add_states(next: &mut [u64], list: &mut [u16], c: usize, n: usize, r: usize, v: u64) -> usize
-    requires { ⌜ (n ≤ 1024) × (length (now next) ≡ 1024) × (length (now list) ≡ 1024) × (r < 1024) × Listed (now list) c n (now next) ⌝ }
+    requires { ⌜ (n ≤ maxRecords) × (length (now next) ≡ maxRecords) × (length (now list) ≡ maxRecords) × (r < maxRecords) × Listed (now list) c n (now next) ⌝ }
     ensures { λ k. ⌜ Listed (now (list .exit)) k n (now (next .exit)) × Added (now (next .entry)) n r v (now (next .exit)) ⌝ }
 {
     if v == 0 {
@@ -67,7 +68,7 @@ fn into(
     list: &mut [u16],
     c: usize,
 ) -> usize
-    requires { ⌜ (count ≤ length (now arcs)) × (count ≤ 8192) × (length (now index) ≡ 9216) × (length (now pred) ≡ 64) × (length (now enter) ≡ 64) × (r < 1024) × (length (now seen) ≡ 1024) × (n ≤ 1024) × (length (now next) ≡ 1024) × (length (now list) ≡ 1024) × Indexed (arcTo (now arcs)) count (now index) × Listed (now list) c n (now next) ⌝ }
+    requires { ⌜ (count ≤ length (now arcs)) × (count ≤ 8192) × (length (now index) ≡ 9216) × (length (now pred) ≡ 64) × (length (now enter) ≡ 64) × (r < maxRecords) × (length (now seen) ≡ maxRecords) × (n ≤ maxRecords) × (length (now next) ≡ maxRecords) × (length (now list) ≡ maxRecords) × Indexed (arcTo (now arcs)) count (now index) × Listed (now list) c n (now next) ⌝ }
     ensures { λ k. ⌜ Listed (now (list .exit)) k n (now (next .exit)) × ((cur records : List ℕ) (i : ℕ) → r ≡ getD records i 0 → m ≡ getD cur r 0 → Levelling (now (arcs .entry)) (now (pred .entry)) (now (enter .entry)) cur (now (seen .entry)) n count records i count (now (next .entry)) → Levelling (now (arcs .entry)) (now (pred .entry)) (now (enter .entry)) cur (now (seen .entry)) n count records (i + 1) count (now (next .exit))) ⌝ }
 {
     let mut k = c;
@@ -98,7 +99,7 @@ fn level(
     next: &mut [u64],
     list: &mut [u16],
 ) -> usize
-    requires { ⌜ (count ≤ length (now arcs)) × (count ≤ 8192) × (length (now index) ≡ 9216) × (length (now pred) ≡ 64) × (length (now enter) ≡ 64) × (c ≤ length (now records)) × (c ≤ length (now masks)) × (length (now seen) ≡ 1024) × (n ≤ 1024) × (length (now next) ≡ 1024) × (length (now list) ≡ 1024) × ((i : ℕ) → i < c → getD (now records) i 0 < 1024) × Indexed (arcTo (now arcs)) count (now index) × Zero (now next) ⌝ }
+    requires { ⌜ (count ≤ length (now arcs)) × (count ≤ 8192) × (length (now index) ≡ 9216) × (length (now pred) ≡ 64) × (length (now enter) ≡ 64) × (c ≤ length (now records)) × (c ≤ length (now masks)) × (length (now seen) ≡ maxRecords) × (n ≤ maxRecords) × (length (now next) ≡ maxRecords) × (length (now list) ≡ maxRecords) × ((i : ℕ) → i < c → getD (now records) i 0 < maxRecords) × Indexed (arcTo (now arcs)) count (now index) × Zero (now next) ⌝ }
     ensures { λ k. ⌜ Listed (now (list .exit)) k n (now (next .exit)) × ((cur : List ℕ) → Frontier (now (records .entry)) (now (masks .entry)) c cur → Levelled (now (arcs .entry)) (now (pred .entry)) (now (enter .entry)) cur (now (seen .entry)) n count (now (next .exit))) ⌝ }
 {
     let mut k = 0;
@@ -127,7 +128,7 @@ fn level(
 
 // The mark at a record, at the states of m.
 fn stamp(work: &mut [u64], r: usize, m: u64, mark: u64)
-    requires { ⌜ (r * 64 + 64 ≤ length (now work)) × (r < 1024) ⌝ }
+    requires { ⌜ (r * 64 + 64 ≤ length (now work)) × (r < maxRecords) ⌝ }
     ensures { λ _. ⌜ Stamped (now (work .entry)) r m mark 0 (now (work .exit)) ⌝ }
 {
     let mut left = m;
@@ -150,7 +151,7 @@ fn commit(
     records: &mut [u16],
     masks: &mut [u64],
 )
-    requires { ⌜ (n ≤ 1024) × (n * 64 ≤ length (now work)) × (n ≤ length (now seen)) × (length (now next) ≡ 1024) × (length (now list) ≡ 1024) × (length (now records) ≡ 1024) × (length (now masks) ≡ 1024) × (c ≤ 1024) × Listed (now list) c n (now next) ⌝ }
+    requires { ⌜ (n ≤ maxRecords) × (n * 64 ≤ length (now work)) × (n ≤ length (now seen)) × (length (now next) ≡ maxRecords) × (length (now list) ≡ maxRecords) × (length (now records) ≡ maxRecords) × (length (now masks) ≡ maxRecords) × (c ≤ maxRecords) × Listed (now list) c n (now next) ⌝ }
     ensures { λ _. ⌜ Committed (now (work .entry)) (now (seen .entry)) (now (next .entry)) mark n (now (work .exit)) (now (seen .exit)) × Zero (now (next .exit)) × Frontier (now (records .exit)) (now (masks .exit)) c (now (next .entry)) ⌝ }
 {
     let mut i = 0;
@@ -167,7 +168,7 @@ fn commit(
 }
 
 struct Levels {
-    seen: [u64; 1024],
+    seen: [u64; book::MAX_RECORDS],
     number: u64,
 }
 
@@ -183,17 +184,17 @@ fn backward(
     y: usize,
     work: &mut [u64],
 ) -> Levels
-    requires { ⌜ (count ≤ length (now arcs)) × (n ≤ 1024) × (count ≤ 8192) × (length (now pred) ≡ 64) × (length (now enter) ≡ 64) × (x < n) × (y < n) × (n * 64 ≤ length (now work)) ⌝ }
+    requires { ⌜ (count ≤ length (now arcs)) × (n ≤ maxRecords) × (count ≤ 8192) × (length (now pred) ≡ 64) × (length (now enter) ≡ 64) × (x < n) × (y < n) × (n * 64 ≤ length (now work)) ⌝ }
     ensures { λ r. ⌜ ((g : Graph) (M : Automaton) (fs : List ℕ) → Setting g M fs (now (pred .entry)) (now (enter .entry)) fin n (now (arcs .entry)) count → Sought g M x y n (now (work .exit)) (r .seen) (r .number)) ⌝ }
 {
     let index = arcs::index_by_reached(arcs, count);
     stamp(work, y, fin, 1);
-    let mut seen = [0u64; 1024];
+    let mut seen = [0u64; book::MAX_RECORDS];
     seen[y] = fin;
-    let mut next = [0u64; 1024];
-    let mut list = [0u16; 1024];
-    let mut records = [y as u16; 1024];
-    let mut masks = [fin; 1024];
+    let mut next = [0u64; book::MAX_RECORDS];
+    let mut list = [0u16; book::MAX_RECORDS];
+    let mut records = [y as u16; book::MAX_RECORDS];
+    let mut masks = [fin; book::MAX_RECORDS];
     let mut c = 1;
     let mut l: u64 = 0;
     while seen[x] % 2 == 0 {
@@ -235,7 +236,7 @@ fn backward(
 
 // The states of m whose number at a record below n is the wanted one.
 fn kept(work: &[u64], n: usize, a: usize, m: u64, want: u64) -> u64
-    requires { ⌜ (n * 64 ≤ length (now work)) × (n ≤ 1024) ⌝ }
+    requires { ⌜ (n * 64 ≤ length (now work)) × (n ≤ maxRecords) ⌝ }
     ensures { λ r. ⌜ Kept (now (work .entry)) n a m want 0 r ⌝ }
 {
     if n <= a {
@@ -287,7 +288,7 @@ fn choose(
     fo: u64,
     want: u64,
 ) -> Choice
-    requires { ⌜ (count ≤ length (now arcs)) × (count ≤ 8192) × (length (now index) ≡ 9216) × (length (now enter) ≡ 64) × (n * 64 ≤ length (now work)) × (length (now seen) ≡ 1024) × (n ≤ 1024) × (r < 1024) × Indexed (arcFrom (now arcs)) count (now index) ⌝ }
+    requires { ⌜ (count ≤ length (now arcs)) × (count ≤ 8192) × (length (now index) ≡ 9216) × (length (now enter) ≡ 64) × (n * 64 ≤ length (now work)) × (length (now seen) ≡ maxRecords) × (n ≤ maxRecords) × (r < maxRecords) × Indexed (arcFrom (now arcs)) count (now index) ⌝ }
     ensures { λ p. ⌜ Chosen (now (arcs .entry)) (now (enter .entry)) (now (work .entry)) (now (seen .entry)) n r fo want count 0 (p .word) (p .states) ⌝ }
 {
     let mut best = Choice {
@@ -320,7 +321,7 @@ fn forward(
     steps: usize,
     out: &mut [u32],
 )
-    requires { ⌜ (count ≤ length (now arcs)) × (length (now follow) ≡ 64) × (count ≤ 8192) × (length (now enter) ≡ 64) × (n * 64 ≤ length (now work)) × (length (now seen) ≡ 1024) × (n ≤ 1024) × (x < n) × (steps ≤ length (now out)) ⌝ }
+    requires { ⌜ (count ≤ length (now arcs)) × (length (now follow) ≡ 64) × (count ≤ 8192) × (length (now enter) ≡ 64) × (n * 64 ≤ length (now work)) × (length (now seen) ≡ maxRecords) × (n ≤ maxRecords) × (x < n) × (steps ≤ length (now out)) ⌝ }
     ensures { λ _. ⌜ Walked (now (follow .entry)) (now (enter .entry)) (now (work .entry)) (now (seen .entry)) (now (arcs .entry)) count n x steps (now (out .entry)) (now (out .exit)) ⌝ }
 {
     let index = arcs::index_by_left(arcs, count);
@@ -368,7 +369,7 @@ pub fn first_chain(
     work: &mut [u64],
     out: &mut [u32],
 ) -> Found
-    requires { ⌜ (count ≤ length (now links)) × (count ≤ 4096) × (n ≤ 1024) × (length (now follow) ≡ 64) × (length (now pred) ≡ 64) × (length (now enter) ≡ 64) × (x < n) × (y < n) × (n * 64 ≤ length (now work)) ⌝ }
+    requires { ⌜ (count ≤ length (now links)) × (count ≤ maxLinks) × (n ≤ maxRecords) × (length (now follow) ≡ 64) × (length (now pred) ≡ 64) × (length (now enter) ≡ 64) × (x < n) × (y < n) × (n * 64 ≤ length (now work)) ⌝ }
     ensures { λ r. ⌜ Untouched (now (out .entry)) (now (out .exit)) r × ((g : Graph) (e : Expr) → g .n ≡ n → Inside g → Spans (now (links .entry)) count g → Masked (now (follow .entry)) (now (pred .entry)) (now (enter .entry)) fin (automaton e) → g .inUse x ≡ true → g .inUse y ≡ true → Answered g e x y (now (out .entry)) (now (out .exit)) r) ⌝ }
 {
     let arcs = arcs::arcs_of(links, count, enter);

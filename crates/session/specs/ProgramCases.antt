@@ -1,4 +1,4 @@
--- Two runs as theorems, 01's sample and one of refusals: these frames on standard input, these lines on standard output.
+-- Two runs as theorems, the sample of S7.8 and one of refusals: these frames on standard input, these lines on standard output.
 --   input           the frames: open 4; add 0 a 1; add 2 a 1; lock 1; add 1 b 3; pairs a/^a; undo; add 1 b 3; chain 0 to 3 a/b
 --   output          the lines
 --   Prints s i o    from the session s, with 4,096 words of work and any list of 4,096, a run over i prints o

@@ -1,5 +1,4 @@
 -- What a decoded frame says, as the code holds it.
---   callOf c        the call of a decoded edit or undo
 --   says d s        the frame that d says, if the body is s: the text of a question stays in the body
 --   Long d s        the body s of a decoded chain question has room for its two record numbers
 -- Assumes nothing: these are definitions.
@@ -7,19 +6,10 @@ use mathlib.Core.List.{List}
 use Prim.Native.Nat.{ℕ, _≤_}
 use lib.ListN.{length, drop}
 use Rattle.book.specs.Causes.{broken-frame, unknown-kind}
-use Rattle.book.specs.Book.{Call as Book·Call, edit, undo, add, remove, lock, unlock}
+use Rattle.register.specs.Calls.{callOf}
 use Rattle.session.specs.Program.{Frame, asks, faulty, opening, call, pairs, chain}
-use Rattle.session.specs.declared.Call.{Call}
-use Rattle.session.specs.declared.Call.the-variants.{Add, Remove, Lock, Unlock, Undo}
 use Rattle.session.specs.declared.Decoded.{Decoded}
 use Rattle.session.specs.declared.Decoded.the-variants.{Open, Edit, Pairs, Chain, Broken, Unknown}
-
-unfoldable pub callOf : Call → Book·Call
-callOf (Add x l y) = edit (add (record { from = x; label = l; to = y }))
-callOf (Remove x l y) = edit (remove (record { from = x; label = l; to = y }))
-callOf (Lock r) = edit (lock r)
-callOf (Unlock r) = edit (unlock r)
-callOf Undo = undo
 
 unfoldable pub says : Decoded → List ℕ → Frame
 says (Open n) s = asks (opening n)

@@ -5,10 +5,10 @@ ghost use Prim.Native.Nat.{ℕ, _≤_, _<_};
 ghost use lib.ListN.{length, getD};
 ghost use Rattle.session.specs.Program.{decode as Program·decode, number16 as Program·number16};
 ghost use Rattle.session.specs.Program.{opening, call as Program·call, pairs, chain, asks, unopened as Program·unopened};
-ghost use Rattle.session.specs.Says.{says, Long, callOf};
+ghost use Rattle.session.specs.Says.{says, Long};
 ghost use Rattle.session.specs.Turns.{StateOf, room, Turns, Framing};
 ghost use Rattle.session.specs.Runs.{Advances, RunsOn, Front};
-ghost use Rattle.register.specs.Calls.{Steps};
+ghost use Rattle.register.specs.Calls.{callOf};
 ghost use Rattle.report.specs.Report.{refusedText, outcomeText};
 ghost use Rattle.report.specs.Written.{Wrote};
 ghost use Rattle.session.specs.Listing.{listing};
@@ -16,18 +16,10 @@ ghost use Rattle.pairs.specs.Asking.{pairsLength};
 ghost use Rattle.chains.specs.Replies.{outcomeOf, stepsLength};
 use chains::ChainAnswer;
 use pairs::PairsAnswer;
-use register::Outcome;
+use register::Call;
 use register::Register;
 
-// The numbers of the program's own causes: n outside 1 to 64, frame broken, kind unknown, no register opened; and the most records.
-const BAD_SIZE: u32 = 1;
-
-const BROKEN_FRAME: u32 = 14;
-
-const UNKNOWN_KIND: u32 = 15;
-
-const NOT_OPEN: u32 = 16;
-
+// The most records of the program.
 const MOST_RECORDS: u16 = 64;
 
 // The least and the most that the length of a frame may be.
@@ -56,15 +48,6 @@ pub struct Ran {
     pub read: usize,
     pub written: usize,
     pub more: bool,
-}
-
-// An edit or undo. A link's parts are from, label and to.
-pub enum Call {
-    Add(u16, u8, u16),
-    Remove(u16, u8, u16),
-    Lock(u16),
-    Unlock(u16),
-    Undo,
 }
 
 // A frame's request, or what is wrong with the frame. The text of a question stays in the body.
@@ -170,27 +153,15 @@ fn refuse(state: State, number: u32, out: &mut [u8]) -> Framed
     Framed { state, written }
 }
 
-fn apply(register: Register, call: Call) -> Outcome
-    ensures { λ r. ⌜ Steps register (callOf call) r ⌝ }
-{
-    match call {
-        Call::Add(x, l, y) => engine::add(register, x, l, y),
-        Call::Remove(x, l, y) => engine::remove(register, x, l, y),
-        Call::Lock(r) => engine::lock(register, r),
-        Call::Unlock(r) => engine::unlock(register, r),
-        Call::Undo => engine::undo(register),
-    }
-}
-
 fn open(state: State, n: u16, out: &mut [u8]) -> Framed
     requires { ⌜ 29 ≤ length (now out) ⌝ }
     ensures { λ r. ⌜ ((work : ℕ) (l : List ℕ) → Turns state (asks (opening n)) work l l (now (out .entry)) (now (out .exit)) r) ⌝ }
 {
     if n < 1 {
-        return refuse(state, BAD_SIZE, out);
+        return refuse(state, book::BAD_SIZE, out);
     }
     if MOST_RECORDS < n {
-        return refuse(state, BAD_SIZE, out);
+        return refuse(state, book::BAD_SIZE, out);
     }
     let made = engine::open(n);
     let register = made.register;
@@ -209,9 +180,9 @@ fn edit(state: State, call: Call, out: &mut [u8]) -> Framed
     ensures { λ r. ⌜ ((work : ℕ) (l : List ℕ) → Turns state (asks (Program·call (callOf call))) work l l (now (out .entry)) (now (out .exit)) r) ⌝ }
 {
     if !state.opened {
-        return refuse(state, NOT_OPEN, out);
+        return refuse(state, book::NOT_OPEN, out);
     }
-    let outcome = apply(state.register, call);
+    let outcome = engine::apply(state.register, call);
     let answer = outcome.answer;
     let register = outcome.register;
     let written = report::put_answer(register::number_of(answer), out, 0);
@@ -249,7 +220,7 @@ fn ask_chain(
         (now (list .entry)) (now (list .exit)) (now (out .entry)) (now (out .exit)) r ⌝ }
 {
     if !state.opened {
-        return refuse(state, NOT_OPEN, out);
+        return refuse(state, book::NOT_OPEN, out);
     }
     let answer = engine::chain(state.register, x, y, text, work, list);
     let written = put_reply(answer, list, out);
@@ -278,7 +249,7 @@ fn ask_pairs(
         (now (list .entry)) (now (list .exit)) (now (out .entry)) (now (out .exit)) r ⌝ }
 {
     if !state.opened {
-        return refuse(state, NOT_OPEN, out);
+        return refuse(state, book::NOT_OPEN, out);
     }
     let answer = engine::pairs(state.register, text, work, list);
     let written = put_listing(answer, list, out);
@@ -306,8 +277,8 @@ pub fn frame(
         Decoded::Edit(call) => edit(state, call, out),
         Decoded::Pairs => ask_pairs(state, body, work, list, out),
         Decoded::Chain(x, y) => ask_chain(state, x, y, &body[4..], work, list, out),
-        Decoded::Broken => refuse(state, BROKEN_FRAME, out),
-        Decoded::Unknown => refuse(state, UNKNOWN_KIND, out),
+        Decoded::Broken => refuse(state, book::BROKEN_FRAME, out),
+        Decoded::Unknown => refuse(state, book::UNKNOWN_KIND, out),
     }
 }
 
@@ -356,7 +327,7 @@ pub fn step(state: State, input: &[u8], work: &mut [u64], list: &mut [u32], out:
     }
     let n = front(input);
     if n == 0 {
-        let written = report::put_refused(BROKEN_FRAME, out, 0);
+        let written = report::put_refused(book::BROKEN_FRAME, out, 0);
         return Ran {
             state,
             read: 0,

@@ -2,6 +2,7 @@
 ghost use mathlib.Core.Path.{_≡_};
 ghost use mathlib.Core.List.{List, _∷_};
 ghost use Prim.Native.Nat.{ℕ, _+_, _<_, _≤_};
+ghost use Rattle.book.specs.Causes.{labels, maxLetters};
 ghost use Rattle.paths.specs.Expressions.{Expr, symbol, letter, inverse, star, plus, optional, alternative, sequence};
 ghost use Rattle.paths.specs.Verdicts.{InLimits};
 ghost use Rattle.reader.specs.Code.{code};
@@ -80,7 +81,7 @@ fn only(n: u64, x: u64) -> u64
 
 // A letter: one more position, entered by it.
 fn label(b: Build, k: usize) -> Build
-    requires { ⌜ (b .top < 19) × (b .used < 63) × (k < 26) ⌝ }
+    requires { ⌜ (b .top < 19) × (b .used < maxLetters) × (k < labels) ⌝ }
     ensures { λ r. ⌜ ((m : ℕ) (st : List Expr) → Holds b m st → Holds r (m + 1) (symbol (letter k) ∷ st)) ⌝ }
 {
     let mut r = b;
@@ -194,22 +195,22 @@ fn step(b: Build, i: u8) -> Build
     requires { ⌜ ((c : List ℕ) × (e : Expr) × Next b (i ∷ c) e) ⌝ }
     ensures { λ r. ⌜ ((c : List ℕ) (e : Expr) → Next b (i ∷ c) e → Next r c e) ⌝ }
 {
-    if i < 26 {
+    if i < reader::FIRST_OPERATOR {
         return label(b, i as usize);
     }
-    if i == 26 {
+    if i == reader::INVERSE {
         return inverted(b);
     }
-    if i == 27 {
+    if i == reader::STAR {
         return maybe(repeated(b));
     }
-    if i == 28 {
+    if i == reader::PLUS {
         return repeated(b);
     }
-    if i == 29 {
+    if i == reader::OPTIONAL {
         return maybe(b);
     }
-    if i == 30 {
+    if i == reader::ALTERNATIVE {
         return either(b);
     }
     followed(b)

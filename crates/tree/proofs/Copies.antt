@@ -9,7 +9,7 @@ use lib.ListN.{length, take, drop, getD, set, length-take, length-drop, length-a
 use lib.Seq.{ext-getD, getD-append-add, getD-take, getD-drop, getD-set-same, getD-set-other, take-append-le, take-length, take-at, drop-at}
 use Rattle.book.specs.Basics.{In, here, there}
 use Rattle.k2.specs.PairSets.{PairsBelow}
-use Rattle.tree.specs.declared.Answer.the-variants.{Done}
+use Rattle.tree.specs.declared.listing.Answer.the-variants.{Done}
 use Rattle.tree.specs.Calls.{Settled, given}
 
 -- ---- after i words

@@ -16,7 +16,7 @@ use Rattle.rows.specs.RowLaws.{flat-none, none-set, none-tree, union-none, iden
 use Rattle.packing.specs.Reading.{sensed}
 use Rattle.packing.specs.ReadingLaws.{sensed-set, other-sense}
 use Rattle.tree.specs.Inner.{Room, TreeAt, outcome, OneWithLinks, TwoWithLinks, Guarded}
-use Rattle.tree.specs.declared.Answer.{Answer}
+use Rattle.tree.specs.declared.listing.Answer.{Answer}
 use Rattle.tree.specs.Calls.{Settled}
 
 pub rows-none : bitAt (replicate 16384 0) ≡ flat noPairs

@@ -1,4 +1,4 @@
--- Laws of the calls' causes: what each test says, the number of the first cause, and that the causes stand in the order of 01.
+-- Laws of the calls' causes: what each test says, the number of the first cause, and that the causes stand in the order of S6.8.
 --   all-below, below-all
 --                   pairs below n, as a fact and as a test
 --   one-more, none-more

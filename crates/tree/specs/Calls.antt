@@ -1,4 +1,4 @@
--- What the public calls promise, as equations: a call is refused with the number of the first cause, in the order of 01, and the list is as it was; with no
+-- What the public calls promise, as equations: a call is refused with the number of the first cause, in the order of S6.8, and the list is as it was; with no
 -- cause the answer's words stand at the list's front, and behind them it is as it was.
 --   allBelow n ps   whether both ends of each pair of ps are below n, as `PairsBelow` has it (CallLaws `all-below`, `below-all`)
 --   allFormed n ts  whether each of the lent trees ts is well formed
@@ -33,8 +33,8 @@ use Rattle.k2.specs.TreeSets.{setIn, formed}
 use Rattle.rows.specs.Rows.{linkPair}
 use Rattle.packing.specs.Reading.{sensed}
 use Rattle.tree.specs.Inner.{Room, outcome}
-use Rattle.tree.specs.declared.Answer.{Answer}
-use Rattle.tree.specs.declared.Answer.the-variants.{Done, Refused}
+use Rattle.tree.specs.declared.listing.Answer.{Answer}
+use Rattle.tree.specs.declared.listing.Answer.the-variants.{Done, Refused}
 
 unfoldable pub allBelow : ℕ → List ℕ → Bool
 allBelow n [] = true

@@ -20,13 +20,14 @@ use mathlib.Core.Path.{_≡_}
 use mathlib.Core.List.{List, map}
 use Prim.Native.Nat.{ℕ, zero, suc, _*_, _≤_}
 use lib.ListN.{length, take, drop}
+use Rattle.book.specs.Causes.{maxRecords}
 use Rattle.k2.specs.PairSets.{Cells, IsSet, setOf, union, intersection, difference, product, transpose, closure}
 use Rattle.k2.specs.Trees.{treeWords, treeUnit}
 use Rattle.rows.specs.Rows.{identity, linkPair}
 use Rattle.packing.specs.Reading.{sensed}
 
 pub record Room (n la lb k : ℕ) : Type 0 where
-  pub size : n ≤ 1024
+  pub size : n ≤ maxRecords
   pub first : la ≤ treeUnit n
   pub second : lb ≤ treeUnit n
   pub work : 2 * treeUnit n ≤ k

@@ -24,8 +24,8 @@ use Rattle.k2.specs.PairSets.{Cells, IsSet, listed, setOf, pairWord, PairsBelow
 use Rattle.k2.specs.PairSetLaws.{setOf-set, setOf-listed, set-in, in-set, in-listed, listed-in, listed-rises, listed-below}
 use Rattle.k2.specs.Trees.{treeWords, treeUnit, WellFormed}
 use Rattle.k2.specs.TreeSetLaws.{formed-set}
-use Rattle.tree.specs.declared.Answer.{Answer}
-use Rattle.tree.specs.declared.Answer.the-variants.{Done, Refused}
+use Rattle.tree.specs.declared.listing.Answer.{Answer}
+use Rattle.tree.specs.declared.listing.Answer.the-variants.{Done, Refused}
 use Rattle.tree.specs.Calls.{allFormed, treeCauses, treeAnswer, treeList, Answered, treeOf, listOf}
 use Rattle.tree.specs.CallLaws.{below-all, one-formed, lent-none, tree-accepted}
 

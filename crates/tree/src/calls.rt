@@ -1,17 +1,21 @@
 // The calls on lent trees and lists: each tests what it is lent, names the first cause against it, and hands over a tree or a list.
 // What they promise is stated in specs/Calls.antt.
-use crate::Answer;
-use crate::closure_in;
-use crate::hand_over;
-use crate::letter_in;
-use crate::operate_on;
-use crate::transpose_in;
+use crate::inner::closure_in;
+use crate::inner::letter_in;
+use crate::inner::transpose_in;
+use crate::listing::Answer;
+use crate::listing::hand_over;
+use crate::operations::DIFFERENCE;
+use crate::operations::INTERSECTION;
+use crate::operations::PRODUCT;
+use crate::operations::UNION;
+use crate::operations::operate_on;
 ghost use mathlib.Core.Path.{_≡_};
 ghost use mathlib.Core.Bool.{true};
 ghost use mathlib.Core.List.{[], _∷_, _++_};
 ghost use Prim.Native.Nat.{_+_, _≤_};
 ghost use lib.ListN.{length, take, drop};
-ghost use Rattle.book.specs.Causes.{firstNumber};
+ghost use Rattle.book.specs.Causes.{firstNumber, maxRecords};
 ghost use Rattle.k2.specs.PairSets.{Cells, IsSet, listed, union, intersection, difference, product, transpose, closure, PairsBelow};
 ghost use Rattle.k2.specs.Trees.{treeWords};
 ghost use Rattle.tree.specs.Inner.{outcome};
@@ -40,22 +44,22 @@ fn refusal(n: usize, pairs: &[u32], a: &[u64], b: &[u64], room: usize) -> u32
     ensures { λ r. ⌜ r ≡ firstNumber (lentCauses n (now (pairs .entry)) (now (a .entry) ∷ now (b .entry) ∷ []) room) ⌝ }
 {
     if n < 1 {
-        return 1;
+        return book::BAD_SIZE;
     }
-    if 1024 < n {
-        return 1;
+    if book::MAX_RECORDS < n {
+        return book::BAD_SIZE;
     }
     if !pairs_below(pairs, n) {
-        return 2;
+        return book::NO_RECORD;
     }
     if !packing::well_formed(a, n) {
-        return 11;
+        return book::BAD_TREE;
     }
     if !packing::well_formed(b, n) {
-        return 11;
+        return book::BAD_TREE;
     }
     if room < 32 * packing::tree_unit(n) {
-        return 12;
+        return book::SHORT_WORK;
     }
     0
 }
@@ -72,13 +76,13 @@ fn copy(from: &[u64], to: &mut [u64], at: usize)
     }
 }
 
-// 13 if the tree at the front of work is longer than its list; otherwise it is handed over.
+// Refused if the tree at the front of work is longer than its list; otherwise it is handed over.
 fn settle(work: &[u64], len: usize, out: &mut [u64]) -> Answer
     requires { ⌜ len ≤ length (now work) ⌝ }
     ensures { λ r. ⌜ Settled (take len (now (work .entry))) (now (out .entry)) (now (out .exit)) r ⌝ }
 {
     if out.len() < len {
-        return Answer::Refused(13);
+        return Answer::Refused(book::SHORT_LIST);
     }
     copy(&work[..len], out, 0);
     Answer::Done(len)
@@ -105,7 +109,7 @@ pub fn union(n: usize, a: &[u64], b: &[u64], out: &mut [u64], work: &mut [u64]) 
     ensures { λ r. ⌜ Answered n [] (now (a .entry) ∷ now (b .entry) ∷ []) (length (now (work .entry)))
         (treeOfTwo union n (now (a .entry)) (now (b .entry))) (now (out .entry)) (now (out .exit)) r ⌝ }
 {
-    binary(0, n, a, b, out, work)
+    binary(UNION, n, a, b, out, work)
 }
 
 // The tree of the pairs in both.
@@ -113,7 +117,7 @@ pub fn intersection(n: usize, a: &[u64], b: &[u64], out: &mut [u64], work: &mut 
     ensures { λ r. ⌜ Answered n [] (now (a .entry) ∷ now (b .entry) ∷ []) (length (now (work .entry)))
         (treeOfTwo intersection n (now (a .entry)) (now (b .entry))) (now (out .entry)) (now (out .exit)) r ⌝ }
 {
-    binary(1, n, a, b, out, work)
+    binary(INTERSECTION, n, a, b, out, work)
 }
 
 // The tree of the pairs in the first and not in the second.
@@ -121,7 +125,7 @@ pub fn difference(n: usize, a: &[u64], b: &[u64], out: &mut [u64], work: &mut [u
     ensures { λ r. ⌜ Answered n [] (now (a .entry) ∷ now (b .entry) ∷ []) (length (now (work .entry)))
         (treeOfTwo difference n (now (a .entry)) (now (b .entry))) (now (out .entry)) (now (out .exit)) r ⌝ }
 {
-    binary(2, n, a, b, out, work)
+    binary(DIFFERENCE, n, a, b, out, work)
 }
 
 // The tree of the product: the pairs for which some middle record serves.
@@ -129,7 +133,7 @@ pub fn product(n: usize, a: &[u64], b: &[u64], out: &mut [u64], work: &mut [u64]
     ensures { λ r. ⌜ Answered n [] (now (a .entry) ∷ now (b .entry) ∷ []) (length (now (work .entry)))
         (treeOfTwo (product n) n (now (a .entry)) (now (b .entry))) (now (out .entry)) (now (out .exit)) r ⌝ }
 {
-    binary(3, n, a, b, out, work)
+    binary(PRODUCT, n, a, b, out, work)
 }
 
 // The tree of the pairs exchanged.
@@ -179,7 +183,7 @@ pub fn make(n: usize, pairs: &[u32], out: &mut [u64], work: &mut [u64]) -> Answe
 
 // The pairs of a tree handed over.
 fn list_pairs(tree: &[u64], n: usize, out: &mut [u32]) -> Answer
-    requires { ⌜ (n ≤ 1024) × (length (now tree) ≤ 21846) ⌝ }
+    requires { ⌜ (n ≤ maxRecords) × (length (now tree) ≤ 21846) ⌝ }
     ensures { λ r. ⌜ ((a : Cells) → IsSet n a → now (tree .entry) ≡ treeWords n a → Settled (listed n a) (now (out .entry)) (now (out .exit)) r) ⌝ }
 {
     let mut rows: [u64; 16384] = [0; 16384];

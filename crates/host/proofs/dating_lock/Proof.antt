@@ -1,44 +1,23 @@
--- `host::dating_lock` carries the promise of `engine::lock` over to words. Assumes nothing.
-use Rattle.book.specs.Causes.{number}
-use Rattle.host.proofs.Carrying.{load-none, load-some, edit-foreign, edit-kept}
+-- `host::dating_lock` is `edit` with the call Lock. Assumes nothing.
+use Rattle.register.specs.Calls.{callOf}
 use borrow.Author.Needs.{needs}
 use Rattle.host.proofs.dating_lock.Statement.{statement}
 use Rattle.host.proofs.dating_lock.Tie as tie
 
-load-requires : tie.Need-load-requires
-load-requires c κs = search needs
-
-number-of-requires : tie.Need-number-of-requires
-number-of-requires c κs = search needs
+edit-requires : tie.Need-edit-requires
+edit-requires c κs = search needs
 
 same-length : tie.Need-same-length
 same-length c = search needs
 
 returns : tie.Need-returns
-unfolding number
-returns c = edit-foreign _ _ (load-none (c .before .before .load .ensures) (c .before .number-of .ensures) (c .if1 .taken))
-
-lock-requires : tie.Need-lock-requires
-lock-requires c κs = search needs
-
-keep-requires : tie.Need-keep-requires
-keep-requires c κs = search needs
-
-same-length-2 : tie.Need-same-length-2
-same-length-2 c = search needs
-
-returns-2 : tie.Need-returns-2
-returns-2 c = edit-kept (load-some (c .before .before .before .before .before .before .before .before .load .ensures) (c .before .before .before .before .before .before .before .number-of .ensures) (c .before .before .before .before .before .before .if1 .left)) (c .before .before .before .before .lock .ensures) (c .before .before .keep .ensures)
+unfolding callOf
+returns c = c .before .before .edit .ensures
 
 pub dating-lock-spec : {M : Type 1} → statement M
 dating-lock-spec =
     tie.close
     (tie.spec
-    load-requires
-    number-of-requires
+    edit-requires
     same-length
-    returns
-    lock-requires
-    keep-requires
-    same-length-2
-    returns-2)
+    returns)

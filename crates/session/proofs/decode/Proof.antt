@@ -1,8 +1,9 @@
 -- `session::decode` meets its contract: each kind's test is that of the definition, and then its body's size. Assumes nothing.
 use borrow.Author.Needs.{needs}
 use borrow.Author.Tests.{eq-eqb, ne-eqb, le-leb, lt-leb}
+use Rattle.register.specs.Calls.{callOf}
 use Rattle.session.specs.Program.{decode, linkIn}
-use Rattle.session.specs.Says.{says, callOf}
+use Rattle.session.specs.Says.{says}
 use Rattle.session.proofs.decode.Statement.{statement}
 use Rattle.session.proofs.decode.Tie as tie
 

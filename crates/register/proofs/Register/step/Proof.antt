@@ -1,7 +1,8 @@
--- `register::Register::step` meets its contract, kind by kind; no other kind is a call. Assumes nothing.
+-- `register::Register::step` meets its contract, kind by kind, by `apply`; no other kind is a call. Assumes nothing.
 use mathlib.Core.Path.{refl}
 use borrow.Author.Needs.{needs}
 use Rattle.book.specs.Causes.{number}
+use Rattle.register.specs.Calls.{callOf}
 use Rattle.register.specs.History.{kindCall, wordCall}
 use Rattle.register.proofs.Replaying.{kind-none}
 use Rattle.register.proofs.Register.step.Statement.{statement}
@@ -16,40 +17,40 @@ cast-label c = search needs
 cast-to : tie.Need-cast-to
 cast-to c = search needs
 
-add-requires : tie.Need-add-requires
-add-requires c κs = search needs
+apply-requires : tie.Need-apply-requires
+apply-requires c κs = search needs
 
-remove-requires : tie.Need-remove-requires
-remove-requires c κs = search needs
+apply-requires-2 : tie.Need-apply-requires-2
+apply-requires-2 c κs = search needs
 
-lock-requires : tie.Need-lock-requires
-lock-requires c κs = search needs
+apply-requires-3 : tie.Need-apply-requires-3
+apply-requires-3 c κs = search needs
 
-unlock-requires : tie.Need-unlock-requires
-unlock-requires c κs = search needs
+apply-requires-4 : tie.Need-apply-requires-4
+apply-requires-4 c κs = search needs
 
-undo-requires : tie.Need-undo-requires
-undo-requires c κs = search needs
+apply-requires-5 : tie.Need-apply-requires-5
+apply-requires-5 c κs = search needs
 
 returns : tie.Need-returns
-unfolding wordCall kindCall
-returns c = rw (c .before .match .keys1) (c .add .ensures)
+unfolding wordCall kindCall callOf
+returns c = rw (c .before .match .keys1) (c .apply .ensures)
 
 returns-2 : tie.Need-returns-2
-unfolding wordCall kindCall
-returns-2 c = rw (c .before .match .keys2) (c .remove .ensures)
+unfolding wordCall kindCall callOf
+returns-2 c = rw (c .before .match .keys2) (c .apply2 .ensures)
 
 returns-3 : tie.Need-returns-3
-unfolding wordCall kindCall
-returns-3 c = rw (c .before .match .keys3) (c .lock .ensures)
+unfolding wordCall kindCall callOf
+returns-3 c = rw (c .before .match .keys3) (c .apply3 .ensures)
 
 returns-4 : tie.Need-returns-4
-unfolding wordCall kindCall
-returns-4 c = rw (c .before .match .keys4) (c .unlock .ensures)
+unfolding wordCall kindCall callOf
+returns-4 c = rw (c .before .match .keys4) (c .apply4 .ensures)
 
 returns-5 : tie.Need-returns-5
-unfolding wordCall kindCall
-returns-5 c = rw (c .before .match .keys5) (c .undo .ensures)
+unfolding wordCall kindCall callOf
+returns-5 c = rw (c .before .match .keys5) (c .apply5 .ensures)
 
 returns-6 : tie.Need-returns-6
 unfolding wordCall number
@@ -64,11 +65,11 @@ step-spec =
     cast-from
     cast-label
     cast-to
-    add-requires
-    remove-requires
-    lock-requires
-    unlock-requires
-    undo-requires
+    apply-requires
+    apply-requires-2
+    apply-requires-3
+    apply-requires-4
+    apply-requires-5
     returns
     returns-2
     returns-3

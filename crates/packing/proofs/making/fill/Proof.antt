@@ -1,0 +1,124 @@
+-- `fill` goes through the blocks row by row. The loops' invariant: the cells of the blocks passed are there; past the last block of a row there are
+-- no cells (`to-row`). The measures are the rows, and the columns, left. Assumes nothing.
+use mathlib.Core.Path.{_≡_, refl, sym, ap, _∙_}
+use Prim.Native.Nat.{_+_, _-_, _*_, _%_, _^_, _≤_}
+use native.Mathlib.Omega.{arith}
+use borrow.Author.Needs.{needs}
+use lib.ListN.{length}
+use lib.Pow.{pow-mono}
+use Rattle.k2.specs.DigitLaws.{one-shl}
+use Rattle.bits.specs.BitSets.{none}
+use Rattle.k2.specs.Bits.{bitAt}
+use Rattle.k2.specs.PairSets.{Cells, IsSet}
+use Rattle.k2.specs.Heap.{cells}
+use Rattle.rows.specs.Rows.{flat}
+use Rattle.packing.specs.Image.{raised, blocksTo}
+use Rattle.packing.proofs.Blocks.{to-none, to-row, to-all}
+use Rattle.packing.proofs.making.fill.Statement.{statement}
+use Rattle.packing.proofs.making.fill.Tie as tie
+
+abbrev Inv-loop2 : tie.InvT-loop2
+Inv-loop2 rows g base heap₀ side r c₀ heap c = (c ≤ 128) × (c % 8 ≡ 0) × (length heap ≡ length heap₀) × ((a : Cells) → IsSet (2 ^ (g + 3)) a → bitAt rows ≡ flat a → bitAt heap₀ ≡ raised base (cells (g + 3) (blocksTo (r * 128) a)) → bitAt heap ≡ raised base (cells (g + 3) (blocksTo (r * 128 + c) a)))
+
+abbrev μ-loop2 : tie.MeasureT-loop2
+μ-loop2 rows g base heap₀ side r c₀ heap c = 128 - c
+
+abbrev Inv-loop : tie.InvT-loop
+Inv-loop rows g base heap₀ side r₀ heap r = (r ≤ side) × (length heap ≡ length heap₀) × ((a : Cells) → IsSet (2 ^ (g + 3)) a → bitAt rows ≡ flat a → bitAt heap₀ ≡ none → bitAt heap ≡ raised base (cells (g + 3) (blocksTo (r * 128) a)))
+
+abbrev μ-loop : tie.MeasureT-loop
+μ-loop rows g base heap₀ side r₀ heap r = side - r
+
+side : (c : tie.Start Inv-loop2 μ-loop2 Inv-loop μ-loop) → (1 * 2 ^ (c .args .g)) % 2 ^ 64 ≡ 2 ^ (c .args .g)
+side c = one-shl (c .args .g) (omega arith)
+
+few : (c : tie.Start Inv-loop2 μ-loop2 Inv-loop μ-loop) → (1 * 2 ^ (c .args .g)) % 2 ^ 64 ≤ 128
+few c = rw (side c) (pow-mono {j = 7} (c .pre .0))
+
+shl-side : tie.Need-shl-side Inv-loop2 μ-loop2 Inv-loop μ-loop
+shl-side c = omega arith
+
+loop-holds : tie.Need-loop-holds Inv-loop2 μ-loop2 Inv-loop μ-loop
+loop-holds c =
+    let a = c .before .before .args in
+    (omega arith, refl, λ s is e h. h ∙ sym (to-none (a .base) (a .g + 3) s))
+
+loop2-holds : tie.Need-loop2-holds Inv-loop2 μ-loop2 Inv-loop μ-loop
+loop2-holds c =
+    let l = c .before .loop in
+    (omega arith, refl, refl, λ s is e h. let z : l .r * 128 + 0 ≡ l .r * 128 = omega arith in rw z h)
+
+fill-eight-requires : tie.Need-fill-eight-requires Inv-loop2 μ-loop2 Inv-loop μ-loop
+fill-eight-requires c κs =
+    let p = c .before .before .before .before .before .before .before .pre in
+    let e = side (c .before .before .before .before .before .before .before) in
+    (p .0, rw e at (c .before .before .before .loop-test .taken), omega (arith, few (c .before .before .before .before .before .before .before)), c .before .before .loop2 .inv .1, p .1, p .2, omega (arith, c .before .before .loop2 .inv .2, c .before .before .before .before .loop .inv .1))
+
+add-c : tie.Need-add-c Inv-loop2 μ-loop2 Inv-loop μ-loop
+add-c c = omega arith
+
+loop2-less : tie.Need-loop2-less Inv-loop2 μ-loop2 Inv-loop μ-loop
+loop2-less c = omega (arith, few (c .before .before .before .before .before .before .before .before .before .before))
+
+loop2-again : tie.Need-loop2-again Inv-loop2 μ-loop2 Inv-loop μ-loop
+loop2-again c =
+    let l = c .before .before .before .before .before .loop2 in
+    let f = c .before .before .fill-eight in (
+      omega (arith, few (c .before .before .before .before .before .before .before .before .before .before)),
+      omega arith,
+      f .kept .1 .1 .1 .1 .1 .0 ∙ l .inv .2,
+      λ s is e h.
+          let a = c .before .before .before .before .before .before .before .before .before .before .args in
+          let x : c .before .before .before .before .before .before .before .loop .r * 128 + l .c + 8 ≡ c .before .before .before .before .before .before .before .loop .r * 128 + (l .c + 8) = omega arith in
+          rw x at (f .ensures s is e (l .inv .3 s is e h)),
+    )
+
+add-r : tie.Need-add-r Inv-loop2 μ-loop2 Inv-loop μ-loop
+add-r c = omega arith
+
+loop-less : tie.Need-loop-less Inv-loop2 μ-loop2 Inv-loop μ-loop
+loop-less c = omega arith
+
+loop-again : tie.Need-loop-again Inv-loop2 μ-loop2 Inv-loop μ-loop
+loop-again c =
+    let l = c .before .before .before .loop in
+    let k = c .before .loop2 in
+    let a = c .before .before .before .before .before .before .args in
+    let p = c .before .before .before .before .before .before .pre in (
+      omega arith,
+      k .inv .2 ∙ l .inv .1,
+      λ s is e h.
+          k .inv .3 s is e (l .inv .2 s is e h)
+          ∙ ap (λ (t : Cells). raised (a .base) (cells (a .g + 3) t)) (to-row (a .g) (p .0) s is (l .r) (k .c) (rw (side (c .before .before .before .before .before .before)) at (c .loop2-test .left)) (k .inv .0)),
+    )
+
+same-length : tie.Need-same-length Inv-loop2 μ-loop2 Inv-loop μ-loop
+same-length c = search needs
+
+returns : tie.Need-returns Inv-loop2 μ-loop2 Inv-loop μ-loop
+returns c =
+    let l = c .before .loop in
+    let a = c .before .before .before .before .args in
+    let x : l .r ≡ 2 ^ a .g = omega (arith, side (c .before .before .before .before)) in
+    λ s is e h. l .inv .2 s is e h ∙ rw x (ap (λ (t : Cells). raised (a .base) (cells (a .g + 3) t)) (to-all (a .g) (c .before .before .before .before .pre .0) s is))
+
+pub fill-spec : {M : Type 1} → statement M
+fill-spec =
+    tie.close
+    (tie.spec
+    Inv-loop2
+    μ-loop2
+    Inv-loop
+    μ-loop
+    shl-side
+    loop-holds
+    loop2-holds
+    fill-eight-requires
+    add-c
+    loop2-less
+    loop2-again
+    add-r
+    loop-less
+    loop-again
+    same-length
+    returns)

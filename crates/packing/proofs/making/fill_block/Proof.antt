@@ -1,0 +1,97 @@
+-- `fill_block` brings a block's cells into the order of the tree's last level and puts them in (`turn-some`); a block of 0 adds nothing
+-- (`turn-none`), and a block of whose columns no row has a bit is one (`byte-none`). Assumes nothing.
+use mathlib.Core.Path.{refl}
+use Prim.Native.Nat.{_^_, _≤_, _<_}
+use native.Mathlib.Omega.{arith}
+use borrow.Author.Needs.{needs}
+use lib.Pow.{pow-mono}
+use Rattle.k2.specs.Bits.{bitAt}
+use Rattle.k2.specs.SizeLaws.{four-most}
+use Rattle.packing.proofs.Blocks.{byte-none, turn-none, turn-some}
+use Rattle.packing.proofs.making.fill_block.Statement.{statement}
+use Rattle.packing.proofs.making.fill_block.Tie as tie
+
+few : (c : tie.Start) → c .args .r < 128
+few c = omega (arith, pow-mono {j = 7} (c .pre .0))
+
+small : (c : tie.Start) → 4 ^ (c .args .g) ≤ 1048576
+small c = four-most (c .args .g) (omega arith)
+
+mul-if1 : tie.Need-mul-if1
+mul-if1 c = omega arith
+
+shr-if1 : tie.Need-shr-if1
+shr-if1 c = omega arith
+
+returns : tie.Need-returns
+returns c =
+    let a = c .before .before .before .args in
+    let p = c .before .before .before .pre in
+    λ s is e h.
+    turn-none (a .rows .now) s e (a .r) (a .c) (omega arith) (a .g) (p .0) is (p .1) (a .base) 0 (omega arith) (byte-none (a .rows .now) s e (a .r) (a .c) (omega arith) (a .seen) (p .6) (c .if1 .taken)) (bitAt (a .heap .now)) h refl
+
+mul-block : tie.Need-mul-block
+mul-block c = omega (arith, few (c .before .before .before))
+
+add-block : tie.Need-add-block
+add-block c = omega (arith, few (c .before .before .before))
+
+block-requires : tie.Need-block-requires
+block-requires c κs = (omega (arith, few (c .before .before .before)), omega arith)
+
+place-requires : tie.Need-place-requires
+place-requires c κs = omega arith
+
+mul-or-word : tie.Need-mul-or-word
+mul-or-word c = let z = c .before .place .ensures .1 in omega (arith, small (c .before .before .before .before .before .before .before))
+
+add-or-word : tie.Need-add-or-word
+add-or-word c = let z = c .before .place .ensures .1 in omega (arith, small (c .before .before .before .before .before .before .before))
+
+shuffle-requires : tie.Need-shuffle-requires
+shuffle-requires c κs = tt
+
+or-word-requires : tie.Need-or-word-requires
+or-word-requires c κs = let z = c .before .before .place .ensures .1 in omega arith
+
+same-length : tie.Need-same-length
+same-length c = search needs
+
+returns-2 : tie.Need-returns-2
+returns-2 c =
+    let a = c .before .before .before .before .before .before .before .before .before .before .before .args in
+    let p = c .before .before .before .before .before .before .before .before .before .before .before .pre in
+    let v = c .before .before .before .before .before .before .before .block in
+    let w = c .before .before .before .shuffle in
+    let z = c .before .before .before .before .before .place in
+    λ s is e h.
+    turn-some (a .rows .now) s e (a .r) (a .c) (omega arith) (a .g) (p .0) is (p .1) (a .base) (v .result) (omega arith) (v .ensures) (bitAt (a .heap .now)) h
+    (c .before .before .before .before .before .before .if2 .taken) (w .result) (z .result) (omega arith) (w .ensures) (z .ensures .0) _ (c .before .before .or-word .ensures)
+
+returns-3 : tie.Need-returns-3
+returns-3 c =
+    let a = c .before .before .before .before .before .args in
+    let p = c .before .before .before .before .before .pre in
+    let v = c .before .block in
+    λ s is e h.
+    turn-none (a .rows .now) s e (a .r) (a .c) (omega arith) (a .g) (p .0) is (p .1) (a .base) (v .result) (omega arith) (v .ensures) (bitAt (a .heap .now)) h
+    (c .if2 .left)
+
+pub fill-block-spec : {M : Type 1} → statement M
+fill-block-spec =
+    tie.close
+    (tie.spec
+    mul-if1
+    shr-if1
+    returns
+    mul-block
+    add-block
+    block-requires
+    place-requires
+    mul-or-word
+    add-or-word
+    shuffle-requires
+    or-word-requires
+    same-length
+    returns-2
+    returns-3)

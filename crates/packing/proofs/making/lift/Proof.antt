@@ -1,0 +1,101 @@
+-- `lift` goes through the words from the last to the second, and then through the groups of the first. The loop's invariant: the bits that
+-- tell of the groups of the words from word i on are there (`above`). The measure is i. Assumes nothing.
+use mathlib.Core.Path.{_≡_, refl, _∙_}
+use Prim.Native.Nat.{ℕ, _+_, _-_, _*_, _/_, _≤_, min}
+use native.Mathlib.Omega.{arith}
+use borrow.Author.Needs.{needs}
+use lib.ListN.{length}
+use Rattle.k2.specs.Bits.{bitAt}
+use Rattle.k2.specs.BitLaws.{bit-zero}
+use Rattle.packing.specs.Image.{above, Heaped}
+use Rattle.packing.proofs.Lifts.{lift-gap}
+use Rattle.packing.proofs.making.lift.Statement.{statement}
+use Rattle.packing.proofs.making.lift.Tie as tie
+
+abbrev Inv-loop : tie.InvT-loop
+Inv-loop heap₀ i₀ heap i = (1 ≤ i) × (i ≤ length heap₀) × (length heap ≡ length heap₀) × ((b : ℕ) (f : ℕ → ℕ) → Heaped b f → 4 * b + 4 ≤ 64 * length heap₀ → bitAt heap₀ ≡ above b f → bitAt heap ≡ above (min b (16 * i - 1)) f)
+
+abbrev μ-loop : tie.MeasureT-loop
+μ-loop heap₀ i₀ heap i = i
+
+loop-holds : tie.Need-loop-holds Inv-loop μ-loop
+loop-holds c =
+    let h = c .before .args .heap .now in
+    (omega arith, omega arith, refl, λ b f p l e. let z : b ≡ min b (16 * length h - 1) = omega arith in rw z at e)
+
+sub-quiet : tie.Need-sub-quiet Inv-loop μ-loop
+sub-quiet c = omega arith
+
+quiet-requires : tie.Need-quiet-requires Inv-loop μ-loop
+quiet-requires c κs = omega arith
+
+sub-i : tie.Need-sub-i Inv-loop μ-loop
+sub-i c = omega arith
+
+loop-less : tie.Need-loop-less Inv-loop μ-loop
+loop-less c = omega arith
+
+loop-again : tie.Need-loop-again Inv-loop μ-loop
+loop-again c =
+    let l = c .before .before .before .before .before .loop in
+    let q = c .before .quiet .ensures (c .if2 .taken) in (
+      omega arith,
+      omega arith,
+      l .inv .2,
+      λ b f p k e.
+          lift-gap b f p (bitAt (l .heap)) (16 * (l .i - 4) - 1) (16 * l .i - 1) (omega arith) (omega arith)
+          (λ j x y. bit-zero (l .heap) j (q .1 (j / 64) (omega arith) (omega arith))) (l .inv .3 b f p k e),
+    )
+
+sub-i-2 : tie.Need-sub-i-2 Inv-loop μ-loop
+sub-i-2 c = omega arith
+
+lift-word-requires : tie.Need-lift-word-requires Inv-loop μ-loop
+lift-word-requires c κs = (omega arith, omega (arith, c .before .before .before .loop .inv .2))
+
+loop-less-2 : tie.Need-loop-less-2 Inv-loop μ-loop
+loop-less-2 c = omega arith
+
+loop-again-2 : tie.Need-loop-again-2 Inv-loop μ-loop
+loop-again-2 c =
+    let l = c .before .before .before .before .before .before .loop in
+    let w = c .before .before .lift-word in (
+      omega arith,
+      omega arith,
+      w .kept .0 ∙ l .inv .2,
+      λ b f p k e.
+          let z : 16 * (l .i - 1) - 1 + 16 ≡ 16 * l .i - 1 = omega arith in
+          w .ensures b f p (rw z (l .inv .3 b f p k e)),
+    )
+
+lift-first-requires : tie.Need-lift-first-requires Inv-loop μ-loop
+lift-first-requires c κs = omega (arith, c .before .before .loop .inv .2)
+
+same-length : tie.Need-same-length Inv-loop μ-loop
+same-length c = search needs
+
+returns : tie.Need-returns Inv-loop μ-loop
+returns c =
+    let l = c .before .before .before .before .before .loop in
+    let z : 16 * l .i - 1 ≡ 15 = omega arith in
+    λ b f p k e. c .before .before .lift-first .ensures b f p (rw z at (l .inv .3 b f p k e))
+
+pub lift-spec : {M : Type 1} → statement M
+lift-spec =
+    tie.close
+    (tie.spec
+    Inv-loop
+    μ-loop
+    loop-holds
+    sub-quiet
+    quiet-requires
+    sub-i
+    loop-less
+    loop-again
+    sub-i-2
+    lift-word-requires
+    loop-less-2
+    loop-again-2
+    lift-first-requires
+    same-length
+    returns)

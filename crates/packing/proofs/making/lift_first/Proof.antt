@@ -1,0 +1,85 @@
+-- `lift_first` takes the groups of the first word from the last on. The loop's invariant: the bits from place q on are those of f (`above`).
+-- The measure is q. It rests on `lift-some` and `lift-none`. Assumes nothing.
+use mathlib.Core.Path.{_≡_, refl, sym, _∙_}
+use mathlib.Core.Logic.{⊎-elim}
+use Prim.Native.Nat.{ℕ, _≤_, min}
+use native.Mathlib.Omega.{arith}
+use borrow.Author.Needs.{needs}
+use lib.ListN.{length}
+use Rattle.k2.specs.Bits.{bitAt}
+use Rattle.packing.specs.Image.{above, Heaped}
+use Rattle.packing.proofs.Lifts.{lift-some, lift-none, above-all}
+use Rattle.packing.proofs.making.lift_first.Statement.{statement}
+use Rattle.packing.proofs.making.lift_first.Tie as tie
+
+abbrev Inv-loop : tie.InvT-loop
+Inv-loop heap₀ q₀ heap q = (q ≤ 15) × (length heap ≡ length heap₀) × ((b : ℕ) (f : ℕ → ℕ) → Heaped b f → bitAt heap₀ ≡ above (min b 15) f → bitAt heap ≡ above (min b q) f)
+
+abbrev μ-loop : tie.MeasureT-loop
+μ-loop heap₀ q₀ heap q = q
+
+loop-holds : tie.Need-loop-holds Inv-loop μ-loop
+loop-holds c = (omega arith, refl, λ b f h e. e)
+
+mul-four : tie.Need-mul-four Inv-loop μ-loop
+mul-four c = omega arith
+
+four-requires : tie.Need-four-requires Inv-loop μ-loop
+four-requires c κs = omega arith
+
+sub-set-bit : tie.Need-sub-set-bit Inv-loop μ-loop
+sub-set-bit c = omega arith
+
+set-bit-requires : tie.Need-set-bit-requires Inv-loop μ-loop
+set-bit-requires c κs = omega (arith, c .before .before .before .before .before .loop .inv .1)
+
+sub-q : tie.Need-sub-q Inv-loop μ-loop
+sub-q c = omega arith
+
+loop-less : tie.Need-loop-less Inv-loop μ-loop
+loop-less c = omega arith
+
+loop-again : tie.Need-loop-again Inv-loop μ-loop
+loop-again c =
+    let l = c .before .before .before .before .loop in
+    let four = c .before .four .ensures in
+    ⊎-elim
+    (λ w. (
+      omega arith,
+      rw (w .5) (w .2 .kept .0 ∙ l .inv .1),
+      λ b f h e.
+          rw (w .5) (w .2 .ensures) ∙ lift-some b f h (bitAt (l .heap)) (l .q) (omega arith) (l .inv .2 b f h e) (λ z. w .0 .taken (four ∙ z)),
+    ))
+    (λ w. (
+      omega arith,
+      rw (w .1) (l .inv .1),
+      λ b f h e.
+          rw (w .1) (lift-none b f h (bitAt (l .heap)) (l .q) (omega arith) (l .inv .2 b f h e) (sym four ∙ w .0 .left)),
+    ))
+    (c .if1 .came)
+
+same-length : tie.Need-same-length Inv-loop μ-loop
+same-length c = search needs
+
+returns : tie.Need-returns Inv-loop μ-loop
+returns c =
+    let l = c .before .loop in
+    let z : l .q ≡ 0 = omega arith in
+    λ b f h e. l .inv .2 b f h e ∙ rw z (above-all b f)
+
+pub lift-first-spec : {M : Type 1} → statement M
+lift-first-spec =
+    tie.close
+    (tie.spec
+    Inv-loop
+    μ-loop
+    loop-holds
+    mul-four
+    four-requires
+    sub-set-bit
+    set-bit-requires
+    sub-q
+    loop-less
+    loop-again
+    same-length
+    returns)

@@ -1,0 +1,59 @@
+-- `pack` lends the first D + 1 words to `pack_part`; what it leaves there is the tree (`packed-tree`). Assumes nothing.
+use mathlib.Core.Path.{_≡_, sym, ap, _∙_}
+use Prim.Native.Nat.{ℕ, _+_, _/_}
+use native.Mathlib.Omega.{arith}
+use borrow.Author.Needs.{needs}
+use lib.ListN.{length, take, length-take}
+use Rattle.k2.specs.Heap.{fullSize}
+use Rattle.k2.specs.SizeLaws.{treeUnit-size}
+use Rattle.packing.proofs.Packs.{packed-tree}
+use Rattle.packing.proofs.making.pack.Statement.{statement}
+use Rattle.packing.proofs.making.pack.Tie as tie
+
+height-requires : tie.Need-height-requires
+height-requires c κs = search needs
+
+tree-unit-requires : tie.Need-tree-unit-requires
+tree-unit-requires c κs = search needs
+
+add-end : tie.Need-add-end
+add-end c = search needs
+
+slice-relend-prefix-pack-part : tie.Need-slice-relend-prefix-pack-part
+slice-relend-prefix-pack-part c = search needs
+
+slice-aggregate-pack-part : tie.Need-slice-aggregate-pack-part
+slice-aggregate-pack-part c = rw length-take (omega (arith, c .before .tree-unit .ensures .0))
+
+pack-part-requires : tie.Need-pack-part-requires
+pack-part-requires c κs =
+    let h = c .before .before .height in
+    let u = c .before .tree-unit in
+    let s : u .result ≡ (fullSize (h .result) 1 + 63) / 64 = u .ensures .0 ∙ treeUnit-size (c .before .before .before .before .before .args .n) ∙ ap (λ (x : ℕ). (fullSize x 1 + 63) / 64) (sym (h .ensures .0)) in
+    (c .before .before .before .before .before .pre .0, h .ensures .1, h .ensures .2, rw length-take (omega arith))
+
+same-length : tie.Need-same-length
+same-length c = search needs
+
+returns : tie.Need-returns
+returns c =
+    let h = c .before .before .before .before .before .height in
+    let p = c .before .before .pack-part in
+    let k : length (p .last .1 .1 .0) ≡ length (take (c .before .before .before .before .tree-unit .result + 1) (c .before .before .before .before .before .before .before .before .args .out .now)) = p .kept .1 .1 .0 in (
+      omega (arith, p .ensures .0, length-take (c .before .before .before .before .tree-unit .result + 1) (c .before .before .before .before .before .before .before .before .args .out .now)),
+      λ a is e.
+          packed-tree (c .before .before .before .before .before .before .before .before .args .n) (h .result) (p .result) a (p .last .1 .1 .0) _ (h .ensures .0) (h .ensures .3) is (omega (arith, p .ensures .0)) (λ s. p .ensures .1 a s e),
+    )
+
+pub pack-spec : {M : Type 1} → statement M
+pack-spec =
+    tie.close
+    (tie.spec
+    height-requires
+    tree-unit-requires
+    add-end
+    slice-relend-prefix-pack-part
+    slice-aggregate-pack-part
+    pack-part-requires
+    same-length
+    returns)

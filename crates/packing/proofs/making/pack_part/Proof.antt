@@ -1,0 +1,91 @@
+-- `pack_part` makes the full tree of the set and keeps its groups that are not all 0. It rests on `part-cells`, `part-heaped` and `full-groups`.
+-- Assumes nothing.
+use mathlib.Core.Path.{_≡_, ap, _∙_}
+use Prim.Native.Nat.{ℕ, _-_, _*_}
+use native.Mathlib.Omega.{arith}
+use borrow.Author.Needs.{needs}
+use lib.ListN.{length}
+use Rattle.k2.specs.Bits.{bitAt, wordsOf}
+use Rattle.k2.specs.Heap.{fullSize, full, squeezed}
+use Rattle.k2.specs.SizeLaws.{fullSize-most}
+use Rattle.bits.specs.BitSetLaws.{bits-none}
+use Rattle.packing.specs.Image.{above}
+use Rattle.packing.proofs.Packs.{full-groups, block-set, part-cells, part-heaped, part-next, part-room}
+use Rattle.packing.proofs.making.pack_part.Statement.{statement}
+use Rattle.packing.proofs.making.pack_part.Tie as tie
+
+clear-requires : tie.Need-clear-requires
+clear-requires c κs = search needs
+
+block-levels-requires : tie.Need-block-levels-requires
+block-levels-requires c κs = search needs
+
+sub-full-size : tie.Need-sub-full-size
+sub-full-size c = search needs
+
+full-size-requires : tie.Need-full-size-requires
+full-size-requires c κs = search needs
+
+fill-requires : tie.Need-fill-requires
+fill-requires c κs =
+    let p = c .before .before .before .before .before .before .before .before .before .pre in
+    let h = c .before .before .before .before .before .before .before .before .before .args .h in
+    let g = c .before .before .block-levels in
+    let f = c .before .full-size in
+    let e : f .result ≡ fullSize (h - 1) 1 = f .ensures .0 in
+    let k : length (c .before .before .before .before .before .clear .last .0) ≡ length (c .before .before .before .before .before .before .before .before .before .args .heap .now) = c .before .before .before .before .before .clear .kept .0 in
+    (g .ensures .0, p .0, omega arith, rw e (omega (arith, part-room h (g .result) (p .1) (g .ensures .1), p .3)))
+
+lift-requires : tie.Need-lift-requires
+lift-requires c κs =
+    let k : length (c .before .before .before .before .before .before .before .before .before .clear .last .0) ≡ length (c .before .before .before .before .before .before .before .before .before .before .before .before .before .args .heap .now) = c .before .before .before .before .before .before .before .before .before .clear .kept .0 in
+    let l : length (c .before .before .before .fill .last .1 .1 .1 .0) ≡ length (c .before .before .before .before .before .before .before .before .before .clear .last .0) = c .before .before .before .fill .kept .1 .1 .1 .0 in
+    omega (arith, c .before .before .before .before .before .before .before .before .before .before .before .before .before .pre .3)
+
+squeeze-requires : tie.Need-squeeze-requires
+squeeze-requires c κs =
+    let k : length (c .before .before .before .before .before .before .before .before .before .before .before .before .before .clear .last .0) ≡ length (c .before .before .before .before .before .before .before .before .before .before .before .before .before .before .before .before .before .args .heap .now) = c .before .before .before .before .before .before .before .before .before .before .before .before .before .clear .kept .0 in
+    let l : length (c .before .before .before .before .before .before .before .fill .last .1 .1 .1 .0) ≡ length (c .before .before .before .before .before .before .before .before .before .before .before .before .before .clear .last .0) = c .before .before .before .before .before .before .before .fill .kept .1 .1 .1 .0 in
+    let m : length (c .before .before .before .lift .last .0) ≡ length (c .before .before .before .before .before .before .before .fill .last .1 .1 .1 .0) = c .before .before .before .lift .kept .0 in
+    omega (arith, c .before .before .before .before .before .before .before .before .before .before .before .before .before .before .before .before .before .pre .3, fullSize-most (c .before .before .before .before .before .before .before .before .before .before .before .before .before .before .before .before .before .args .h) (c .before .before .before .before .before .before .before .before .before .before .before .before .before .before .before .before .before .pre .2))
+
+same-length : tie.Need-same-length
+same-length c = search needs
+
+returns : tie.Need-returns
+returns c =
+    let p = c .before .before .before .before .before .before .before .before .before .before .before .before .before .before .before .before .before .before .before .before .pre in
+    let h = c .before .before .before .before .before .before .before .before .before .before .before .before .before .before .before .before .before .before .before .before .args .h in
+    let g = c .before .before .before .before .before .before .before .before .before .before .before .before .before .block-levels in
+    let f = c .before .before .before .before .before .before .before .before .before .before .before .before .full-size in
+    let cl = c .before .before .before .before .before .before .before .before .before .before .before .before .before .before .before .before .clear in
+    let fi = c .before .before .before .before .before .before .before .before .before .before .fill in
+    let li = c .before .before .before .before .before .before .lift in
+    let sq = c .before .before .squeeze in
+    let k : length (cl .last .0) ≡ length (c .before .before .before .before .before .before .before .before .before .before .before .before .before .before .before .before .before .before .before .before .args .heap .now) = cl .kept .0 in
+    let l : length (fi .last .1 .1 .1 .0) ≡ length (cl .last .0) = fi .kept .1 .1 .1 .0 in
+    let m : length (li .last .0) ≡ length (fi .last .1 .1 .1 .0) = li .kept .0 in
+    let next = part-next h (g .result) (p .1) (g .ensures .1) in
+    let filled : ℕ = length (li .last .0) in (
+      omega (arith, sq .ensures .0),
+      λ a is e.
+          let w : bitAt (fi .last .1 .1 .1 .0) ≡ above (fullSize (h - 1) 1) (full h a) =
+          fi .ensures a (block-set h (g .result) (p .1) (g .ensures .1) a is) e (ap bitAt (cl .ensures) ∙ bits-none (length (c .before .before .before .before .before .before .before .before .before .before .before .before .before .before .before .before .before .before .before .before .args .heap .now)))
+          ∙ rw (f .ensures .0) (part-cells h (g .result) (p .1) (g .ensures .1) a is) in
+          let t : bitAt (li .last .0) ≡ full h a = li .ensures (fullSize (h - 1) 1) (full h a) (part-heaped h (g .result) (p .1) (g .ensures .1) a) (omega (arith, p .3)) w in
+          sq .ensures .1 ∙ ap wordsOf (ap (λ (x : ℕ → ℕ). squeezed x (16 * filled)) t ∙ full-groups h filled a (omega (arith, p .3))),
+    )
+
+pub pack-part-spec : {M : Type 1} → statement M
+pack-part-spec =
+    tie.close
+    (tie.spec
+    clear-requires
+    block-levels-requires
+    sub-full-size
+    full-size-requires
+    fill-requires
+    lift-requires
+    squeeze-requires
+    same-length
+    returns)

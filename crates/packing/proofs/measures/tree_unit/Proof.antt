@@ -1,0 +1,30 @@
+-- `tree_unit` is the words of a full tree: `treeUnit-size`. Assumes nothing.
+use mathlib.Core.Path.{_≡_, sym, ap, _∙_}
+use Prim.Native.Nat.{ℕ, _+_, _/_}
+use native.Mathlib.Omega.{arith}
+use borrow.Author.Needs.{needs}
+use Rattle.k2.specs.Heap.{fullSize}
+use Rattle.k2.specs.SizeLaws.{treeUnit-size}
+use Rattle.packing.proofs.Sizes.{size-some}
+use Rattle.packing.proofs.measures.tree_unit.Statement.{statement}
+use Rattle.packing.proofs.measures.tree_unit.Tie as tie
+
+height-requires : tie.Need-height-requires
+height-requires c κs = search needs
+
+full-size-requires : tie.Need-full-size-requires
+full-size-requires c κs = search needs
+
+add-result : tie.Need-add-result
+add-result c = search needs
+
+returns : tie.Need-returns
+returns c =
+    let n = c .before .before .args .n in
+    let h = c .before .height in
+    let s = c .full-size in
+    let e : s .result ≡ fullSize (h .result) 1 = s .ensures .0 in
+    (ap (λ (x : ℕ). (x + 63) / 64) (e ∙ ap (λ (x : ℕ). fullSize x 1) (h .ensures .0)) ∙ sym (treeUnit-size n), omega (arith, size-some (h .result) (h .ensures .1)), omega arith)
+
+pub tree-unit-spec : {M : Type 1} → statement M
+tree-unit-spec = tie.close (tie.spec height-requires full-size-requires add-result returns)

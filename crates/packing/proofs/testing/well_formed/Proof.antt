@@ -1,0 +1,93 @@
+-- `well_formed` loads the tree, and asks whether the rows are a set of pairs below n whose tree is the lent one. Assumes nothing.
+use mathlib.Core.Path.{_≡_, refl, sym, ap, subst, _∙_}
+use native.Mathlib.Omega.{arith}
+use borrow.Author.Needs.{needs}
+use borrow.Author.Tests.{not-true, not-false}
+use lib.ListN.{length}
+use Rattle.k2.specs.Bits.{bitAt}
+use Rattle.k2.specs.Trees.{WellFormed}
+use Rattle.k2.specs.TreeLaws.{tree-none}
+use Rattle.k2.specs.SizeLaws.{treeWords-most}
+use Rattle.bits.specs.BitSetLaws.{bits-none}
+use Rattle.rows.specs.Rows.{flat, noPairs}
+use Rattle.rows.specs.RowLaws.{flat-none, union-none}
+use Rattle.packing.proofs.Stores.{off, nil-of}
+use Rattle.packing.proofs.testing.well_formed.Statement.{statement}
+use Rattle.packing.proofs.testing.well_formed.Tie as tie
+
+-- the rows of a tree that is well formed
+loaded : (c : tie.After-load) → (w : WellFormed (c .before .before .before .before .before .before .args .n) (c .before .before .before .before .before .before .args .tree .now)) → bitAt (c .load .last .1 .1 .1 .0) ≡ flat (w .set)
+loaded c w = c .load .ensures (w .set) noPairs (w .is-set) (w .tree) (bits-none 16384 ∙ sym flat-none) ∙ ap flat (union-none (w .set))
+
+returns : tie.Need-returns
+returns c =
+    let a = c .before .before .args in
+    (λ e. subst (WellFormed (a .n)) (sym (nil-of (a .tree .now) (c .if1 .taken))) (tree-none (a .n)), λ w. refl)
+
+tree-unit-requires : tie.Need-tree-unit-requires
+tree-unit-requires c κs = search needs
+
+returns-2 : tie.Need-returns-2
+returns-2 c =
+    let n = c .before .before .before .before .args .n in
+    (λ e. off e, λ w. absurd (let k = ap length (w .tree) in omega (arith, treeWords-most n (w .set))))
+
+slice-aggregate-load : tie.Need-slice-aggregate-load
+slice-aggregate-load c = search needs
+
+load-requires : tie.Need-load-requires
+load-requires c κs = search needs
+
+slice-aggregate-within : tie.Need-slice-aggregate-within
+slice-aggregate-within c = search needs
+
+within-requires : tie.Need-within-requires
+within-requires c κs = search needs
+
+returns-3 : tie.Need-returns-3
+returns-3 c =
+    let x = c .before .within in
+    (λ e. off e, λ w. sym (not-true (x .result) (c .if3 .taken)) ∙ x .ensures .1 (record { set = w .set; is-set = w .is-set; rows = loaded (c .before .before .before .before) w }))
+
+slice-aggregate-pack : tie.Need-slice-aggregate-pack
+slice-aggregate-pack c = search needs
+
+slice-aggregate-pack-2 : tie.Need-slice-aggregate-pack-2
+slice-aggregate-pack-2 c = search needs
+
+pack-requires : tie.Need-pack-requires
+pack-requires c κs = search needs
+
+slice-aggregate-same : tie.Need-slice-aggregate-same
+slice-aggregate-same c = search needs
+
+same-requires : tie.Need-same-requires
+same-requires c κs = search needs
+
+returns-4 : tie.Need-returns-4
+returns-4 c =
+    let x = c .before .before .before .before .before .before .before .within in
+    let r = x .ensures .0 (not-false (x .result) (c .before .before .before .before .before .before .if3 .left)) in
+    let p = c .before .before .before .pack .ensures .1 in (
+      λ e. record { set = r .set; is-set = r .is-set; tree = c .same .ensures .0 e ∙ p (r .set) (r .is-set) (r .rows) .0 },
+      λ w. c .same .ensures .1 (w .tree ∙ sym (p (w .set) (w .is-set) (loaded (c .before .before .before .before .before .before .before .before .before .before) w) .0)),
+    )
+
+pub well-formed-spec : {M : Type 1} → statement M
+well-formed-spec =
+    tie.close
+    (tie.spec
+    returns
+    tree-unit-requires
+    returns-2
+    slice-aggregate-load
+    load-requires
+    slice-aggregate-within
+    within-requires
+    returns-3
+    slice-aggregate-pack
+    slice-aggregate-pack-2
+    pack-requires
+    slice-aggregate-same
+    same-requires
+    returns-4)

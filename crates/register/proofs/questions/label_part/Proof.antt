@@ -1,0 +1,70 @@
+-- `register::questions::label_part` meets its contract: the words of a label stand between the place of its first word and that of the next label's. Assumes nothing.
+use Prim.Native.Nat.{_-_}
+use mathlib.Core.Path.{_≡_, ap, sym}
+use native.Mathlib.Omega.{arith}
+use lib.ListN.{length, take, drop, length-drop}
+use lib.Seq.{take-all, length-take-le}
+use Rattle.register.proofs.Asking.{label-part}
+use borrow.Author.Needs.{needs}
+use Rattle.register.proofs.questions.label_part.Statement.{statement}
+use Rattle.register.proofs.questions.label_part.Tie as tie
+
+mul-first : tie.Need-mul-first
+mul-first c = search needs
+
+place-requires : tie.Need-place-requires
+place-requires c κs = search needs
+
+mul-rest : tie.Need-mul-rest
+mul-rest c = search needs
+
+sub-rest : tie.Need-sub-rest
+sub-rest c = search needs
+
+part-rest-start : tie.Need-part-rest-start
+part-rest-start c = search needs
+
+part-rest-end : tie.Need-part-rest-end
+part-rest-end c = search needs
+
+add-place : tie.Need-add-place
+add-place c = search needs
+
+place-requires-2 : tie.Need-place-requires-2
+place-requires-2 c κs = search needs
+
+-- the rest of the words, from the place of the label's first
+rest : (c : tie.After-place) → take (length (c .before .before .args .words .now) - c .place .result) (drop (c .place .result) (c .before .before .args .words .now)) ≡ drop (c .place .result) (c .before .before .args .words .now)
+rest c =
+    let ws = c .before .before .args .words .now in
+    take-all (length ws - c .place .result) (drop (c .place .result) ws) (omega (arith, length-drop (c .place .result) ws))
+
+slice-aggregate-result : tie.Need-slice-aggregate-result
+slice-aggregate-result c =
+    let ws = c .before .before .before .before .before .args .words .now in
+    let i = c .before .before .before .place .result in
+    let k = c .before .place2 in
+    sym (length-take-le (k .result) (take (length ws - i) (drop i ws)) (omega (arith, k .ensures .within, ap length (rest (c .before .before .before)), length-drop i ws)))
+
+returns : tie.Need-returns
+returns c =
+    let ws = c .before .before .before .before .before .args .words .now in
+    let i = c .before .before .before .place in
+    let k = c .before .place2 in
+    let e = rest (c .before .before .before) in
+    label-part ws _ (c .before .before .before .before .before .args .label) (i .result) (k .result) e (i .ensures) (k .ensures)
+
+pub label-part-spec : {M : Type 1} → statement M
+label-part-spec =
+    tie.close
+    (tie.spec
+    mul-first
+    place-requires
+    mul-rest
+    sub-rest
+    part-rest-start
+    part-rest-end
+    add-place
+    place-requires-2
+    slice-aggregate-result
+    returns)

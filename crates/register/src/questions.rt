@@ -1,0 +1,102 @@
+// What questions read of a register: its size, links and locks, the part of one label, the links of a record. See specs/Questions.antt.
+use crate::FROM_UNIT;
+use crate::LABEL_UNIT;
+use crate::Links;
+use crate::MAX_RECORDS;
+use crate::Register;
+use crate::TO_UNIT;
+use crate::sorted::place;
+use crate::state::ranged;
+ghost use mathlib.Core.Path.{_≡_};
+ghost use Prim.Native.Nat.{_<_};
+ghost use Rattle.register.specs.Inner.{hasAt};
+ghost use Rattle.register.specs.Questions.{Sized, Listing, LockList, Locking, LabelPart, nextPlace, NextLink, start, end};
+
+impl Register {
+    // The number of records; none of contents out of range, which are those of no register.
+    pub fn size(self) -> usize
+        ensures { λ r. ⌜ Sized self r ⌝ }
+    {
+        if !ranged(self.n, self.count, self.top, self.held) {
+            return 0;
+        }
+        self.n as usize
+    }
+
+    // The links; none of contents out of range.
+    pub fn links(self) -> Links
+        ensures { λ r. ⌜ Listing self r ⌝ }
+    {
+        let words = self.links;
+        if !ranged(self.n, self.count, self.top, self.held) {
+            return Links { words, count: 0 };
+        }
+        Links {
+            words,
+            count: self.count,
+        }
+    }
+
+    // Whether each record is locked; none is of contents out of range.
+    pub fn locks(self) -> [bool; book::MAX_RECORDS]
+        ensures { λ r. ⌜ LockList self r ⌝ }
+    {
+        if !ranged(self.n, self.count, self.top, self.held) {
+            return [false; book::MAX_RECORDS];
+        }
+        self.locks
+    }
+
+    // Whether a record is locked; none is of contents out of range.
+    pub fn is_locked(self, record: u16) -> bool
+        ensures { λ r. ⌜ Locking self «record» r ⌝ }
+    {
+        if !ranged(self.n, self.count, self.top, self.held) {
+            return false;
+        }
+        if MAX_RECORDS <= record {
+            return false;
+        }
+        self.locks[record as usize]
+    }
+}
+
+// The part of the words of a register's links that have one label.
+pub fn label_part<'a>(words: &'a [u32], label: u8) -> &'a [u32]
+    ensures { λ r. ⌜ LabelPart (now (words .entry)) label (now r) ⌝ }
+{
+    let first = label as u32 * LABEL_UNIT;
+    let from = place(words, words.len(), first);
+    let rest = &words[from..];
+    let count = place(rest, rest.len(), first + LABEL_UNIT);
+    &rest[..count]
+}
+
+// The first place from at on whose word has the record at one side: to in its last ten bits, unit 1, or from in the ten before them, unit 1,024.
+fn next_side(words: &[u32], unit: u32, record: u16, at: usize) -> usize
+    requires { ⌜ 0 < unit ⌝ }
+    ensures { λ r. ⌜ r ≡ nextPlace (hasAt unit «record») (now (words .entry)) at ⌝ }
+{
+    let mut i = at;
+    while i < words.len() {
+        if words[i] / unit % FROM_UNIT == record as u32 {
+            return i;
+        }
+        i += 1;
+    }
+    words.len()
+}
+
+// The first place from at on whose link begins at the record, or the number of words.
+pub fn next_out(words: &[u32], record: u16, at: usize) -> usize
+    ensures { λ r. ⌜ NextLink start (now (words .entry)) «record» at r ⌝ }
+{
+    next_side(words, FROM_UNIT, record, at)
+}
+
+// The first place from at on whose link ends at the record, or the number of words.
+pub fn next_in(words: &[u32], record: u16, at: usize) -> usize
+    ensures { λ r. ⌜ NextLink end (now (words .entry)) «record» at r ⌝ }
+{
+    next_side(words, TO_UNIT, record, at)
+}
