@@ -23,7 +23,7 @@ use Rattle.paths.specs.Questions.{refused, replied, ReplyTo, chainWork, steps, 
 use Rattle.register.specs.declared.Register.{Register}
 use Rattle.register.specs.Links.{linkWord, linkOf, Linked}
 use Rattle.register.specs.LinkLaws.{linkOf-word}
-use Rattle.register.specs.Calls.{Represents}
+use Rattle.register.specs.Representation.{Represents}
 use Rattle.automaton.specs.WalkLaws.{length-stepWords}
 use Rattle.arcs.specs.Arcs.{Spans}
 use Rattle.search.specs.Steps.{Untouched, written, none as none-found, too-long, Answered, first, none, short}

@@ -17,7 +17,7 @@ use Rattle.paths.specs.Chains.{asked, Reply, none, chain}
 use Rattle.paths.specs.Questions.{Outcome, refused, replied, ReplyTo, chainAnswer, listAfter}
 use Rattle.paths.specs.Verdicts.{verdict}
 use Rattle.register.specs.declared.Register.{Register}
-use Rattle.register.specs.Calls.{Represents}
+use Rattle.register.specs.Representation.{Represents}
 use Rattle.chains.specs.declared.ChainAnswer.{ChainAnswer}
 use Rattle.chains.specs.declared.ChainAnswer.the-variants.{Chain, NoChain, Refused}
 

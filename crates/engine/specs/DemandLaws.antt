@@ -28,7 +28,8 @@ use Rattle.paths.specs.FirstChain.{has-first}
 use Rattle.paths.specs.Verdicts.{verdict, verdict-only}
 use Rattle.paths.specs.Questions.{Outcome, refused, paired, replied, unless, pairsWork, chainWork, ReplyTo, steps, chainCauses, chainAnswer, pairsAnswer, over, listAfter}
 use Rattle.register.specs.Links.{Linked}
-use Rattle.register.specs.Calls.{Represents, Opens}
+use Rattle.register.specs.Representation.{Represents}
+use Rattle.register.specs.Calls.{Opens}
 use Rattle.register.specs.History.{CallsMade, wordCall, wordAnswers, isCall, callsOf, toldCalls}
 use Rattle.register.specs.HistoryLaws.{history, word-answers-length, told-calls}
 use Rattle.register.specs.Questions.{Listing, LockList}

@@ -13,7 +13,8 @@ use borrow.Author.Tests.{lt-ltb, le-ltb}
 use Rattle.book.specs.Basics.{pick}
 use Rattle.book.specs.Causes.{short-work, short-list, not-open, number, Caused, firstNumber, maxRecords}
 use Rattle.book.specs.Book.{Book, Call, freshAnswer, fresh}
-use Rattle.register.specs.Calls.{answerOf, answerNumber, Represents, Opens, Steps}
+use Rattle.register.specs.Representation.{Represents}
+use Rattle.register.specs.Calls.{answerOf, answerNumber, Opens, Steps}
 use Rattle.register.specs.HistoryLaws.{number-answer}
 use Rattle.register.specs.Questions.{Sized, Listing, Locking}
 use Rattle.register.specs.Words.{stateWords, lockWord, Keeps, Foreign, Copies, Loads, Stores}

@@ -30,7 +30,8 @@ use lib.ListN.{length, take, drop}
 use lib.Dec.{ltb}
 use Rattle.book.specs.Causes.{bad-size, short-work, not-open, number, firstNumber, maxRecords}
 use Rattle.book.specs.Book.{Book, Call, isLocked, fresh}
-use Rattle.register.specs.Calls.{answerNumber, Represents, Steps}
+use Rattle.register.specs.Representation.{Represents}
+use Rattle.register.specs.Calls.{answerNumber, Steps}
 use Rattle.register.specs.Questions.{Sized, Listing}
 use Rattle.register.specs.Words.{stateWords, lockWord, Keeps, Foreign}
 use Rattle.register.specs.declared.Register.{Register}

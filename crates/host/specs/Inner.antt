@@ -9,7 +9,8 @@ use mathlib.Core.List.{List}
 use Prim.Native.Nat.{ℕ, _≤_}
 use lib.ListN.{length, drop}
 use Rattle.book.specs.Causes.{not-open, number}
-use Rattle.register.specs.Calls.{answerNumber, InRange}
+use Rattle.register.specs.Counters.{InRange}
+use Rattle.register.specs.Calls.{answerNumber}
 use Rattle.register.specs.Words.{stateWords, Keeps}
 use Rattle.register.specs.declared.Answer.the-variants.{Done}
 use Rattle.register.specs.declared.Outcome.{Outcome}

@@ -13,13 +13,13 @@ use Rattle.k2.specs.Trees.{treeUnit, treeWords}
 use Rattle.paths.specs.Expressions.{Expr, letter}
 use Rattle.paths.specs.Chains.{Graph, asked}
 use Rattle.paths.specs.Relations.{crossed, cells}
-use Rattle.register.specs.Questions.{LabelPart}
+use Rattle.register.specs.Lookups.{LabelPart}
 use Rattle.rows.specs.Rows.{noPairs}
 use Rattle.rows.specs.RowLaws.{none-set, none-tree, union-none}
 use Rattle.reader.specs.Code.{run}
 use Rattle.packing.specs.Reading.{sensed}
 use Rattle.tree.specs.Inner.{outcome, Room as Spaces}
-use Rattle.tree.specs.Calls.{Settled as Told, too-long, given, OutcomeListed}
+use Rattle.tree.specs.Settling.{Settled as Told, too-long, given, OutcomeListed}
 use Rattle.tree.specs.declared.listing.Answer.{Answer}
 use Rattle.tree.specs.declared.listing.Answer.the-variants.{Done, Refused as Unlisted}
 use Rattle.pairs.specs.declared.Stack.{Stack}

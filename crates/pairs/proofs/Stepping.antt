@@ -19,7 +19,7 @@ use Rattle.paths.specs.Chains.{asked}
 use Rattle.paths.specs.Relations.{crossed}
 use Rattle.paths.specs.RelationLaws.{crossed-set}
 use Rattle.paths.specs.PairLaws.{fit-inside}
-use Rattle.register.specs.Questions.{LabelPart}
+use Rattle.register.specs.Lookups.{LabelPart}
 use Rattle.rows.specs.Rows.{noPairs, linkPair}
 use Rattle.rows.specs.RowLaws.{none-set, none-tree, union-none}
 use Rattle.reader.specs.Code.{does}

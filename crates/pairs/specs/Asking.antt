@@ -21,7 +21,7 @@ use Rattle.book.specs.Book.{Book}
 use Rattle.paths.specs.Grammar.{Verdict}
 use Rattle.paths.specs.Verdicts.{verdict}
 use Rattle.paths.specs.Questions.{Outcome, refused, paired, pairsAnswer, over, listAfter}
-use Rattle.register.specs.Calls.{Represents}
+use Rattle.register.specs.Representation.{Represents}
 use Rattle.register.specs.declared.Register.{Register}
 use Rattle.pairs.specs.declared.PairsAnswer.{PairsAnswer}
 use Rattle.pairs.specs.declared.PairsAnswer.the-variants.{Pairs, Refused}

@@ -34,7 +34,7 @@ use Rattle.paths.specs.Chains.{Graph, asked}
 use Rattle.paths.specs.Relations.{crossed, zeroSteps, cells}
 use Rattle.paths.specs.RelationLaws.{crossed-letter}
 use Rattle.paths.specs.PairLaws.{fit-inside}
-use Rattle.register.specs.Questions.{PairsOf}
+use Rattle.register.specs.Lookups.{PairsOf}
 use Rattle.rows.specs.Rows.{identity, noPairs}
 use Rattle.rows.specs.RowLaws.{identity-set, union-right}
 use Rattle.packing.specs.Reading.{sensed}

@@ -27,7 +27,7 @@ use Rattle.paths.specs.Chains.{asked}
 use Rattle.paths.specs.Relations.{cells}
 use Rattle.reader.specs.Code.{code}
 use Rattle.register.specs.Links.{Linked}
-use Rattle.tree.specs.Calls.{Settled as Told}
+use Rattle.tree.specs.Settling.{Settled as Told}
 use Rattle.tree.specs.declared.listing.Answer.{Answer}
 use Rattle.pairs.specs.declared.Stack.{Stack}
 use Rattle.pairs.specs.Evaluation.{onOne, Lying, held, beside, Waiting, Placed, Room}

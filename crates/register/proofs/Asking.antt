@@ -19,7 +19,7 @@ use Rattle.book.specs.Sheets.{Fit}
 use Rattle.register.specs.Links.{linkWord, linkOf, Linked}
 use Rattle.register.specs.LinkLaws.{word-link}
 use Rattle.register.specs.Inner.{Seam}
-use Rattle.register.specs.Questions.{pairOf, PairsOf, LabelPart, firstPlace, nextPlace, touches, NextLink}
+use Rattle.register.specs.Lookups.{pairOf, PairsOf, LabelPart, firstPlace, nextPlace, touches, NextLink}
 use Rattle.register.proofs.Ascending.{below, seam-list}
 
 -- ---- the part between two numbers

@@ -12,7 +12,8 @@ use lib.ListN.{length, take, drop, set, getD, length-append, length-map, drop-of
 use lib.Seq.{ext-getD, getD-set-same, getD-set-other, take-at, drop-at, drop-drop, take-all, take-length, length-take-le, paste, paste-suc}
 use Rattle.book.specs.Causes.{number, maxRecords, maxLinks, maxHeld}
 use Rattle.book.specs.Book.{fresh}
-use Rattle.register.specs.Calls.{Ranged, InRange, Represents}
+use Rattle.register.specs.Counters.{Ranged, InRange}
+use Rattle.register.specs.Representation.{Represents}
 use Rattle.register.specs.Inner.{Flags, Formed, Tested}
 use Rattle.register.specs.Words.{stateWords, linksAt, ringAt, locksAt, lockWord, numbersOf, stateOf, Keeps, Copies, Loads, Stores}
 use Rattle.register.specs.WordLaws.{lock-back, keeps-formed}

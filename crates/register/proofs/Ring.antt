@@ -7,7 +7,7 @@ use native.Mathlib.Numerals.{add-one}
 use native.Mathlib.Nat.{le-of-suc-le-suc}
 use lib.ListN.{length, take, getD, set}
 use lib.Seq.{getD-set-same, getD-set-other, take-all}
-use Rattle.register.specs.Calls.{previous, latest}
+use Rattle.register.specs.Representation.{previous, latest}
 
 module _ (ring : List ℕ) (top e : ℕ) where
   -- from a place above the written one

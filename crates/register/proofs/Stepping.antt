@@ -14,7 +14,9 @@ use Rattle.book.specs.Sheets.{Proper}
 use Rattle.book.specs.BookLaws.{caused-positive, first-proper}
 use Rattle.register.specs.Links.{linkWord}
 use Rattle.register.specs.Packed.{Packed, heldWord, takeBackKind, takeBack, Piled}
-use Rattle.register.specs.Calls.{answerOf, heldWords, packedOf, Ranged, InRange, Represents, Opens, Steps}
+use Rattle.register.specs.Counters.{Ranged, InRange}
+use Rattle.register.specs.Representation.{heldWords, packedOf, Represents}
+use Rattle.register.specs.Calls.{answerOf, Opens, Steps}
 use Rattle.register.specs.Inner.{linkCauses, Guarded, Holding, Changed}
 use Rattle.register.specs.declared.Register.{Register}
 use Rattle.register.specs.declared.Answer.the-variants.{Done, Refused}

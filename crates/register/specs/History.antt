@@ -26,7 +26,8 @@ use lib.Dec.{eqb, ltb}
 use Rattle.book.specs.Basics.{pick}
 use Rattle.book.specs.Causes.{bad-size, short-list, unknown-kind, number, firstNumber, maxRecords}
 use Rattle.book.specs.Book.{Book, add, remove, lock, unlock, Call, edit, undo, answer, next, fresh, after}
-use Rattle.register.specs.Calls.{answerOf, answerNumber, Represents, Steps}
+use Rattle.register.specs.Representation.{Represents}
+use Rattle.register.specs.Calls.{answerOf, answerNumber, Steps}
 use Rattle.register.specs.declared.Register.{Register}
 use Rattle.register.specs.declared.Outcome.{Outcome}
 

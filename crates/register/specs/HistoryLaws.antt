@@ -15,7 +15,8 @@ use Rattle.book.specs.BookLaws.{caused-positive}
 use Rattle.book.specs.Sheets.{Distinct, Fit, Sound}
 use Rattle.register.specs.Links.{Linked}
 use Rattle.register.specs.Packed.{Packed, takeBack, Piled}
-use Rattle.register.specs.Calls.{answerOf, answerNumber, heldWords, packedOf, Represents, Steps}
+use Rattle.register.specs.Representation.{heldWords, packedOf, Represents}
+use Rattle.register.specs.Calls.{answerOf, answerNumber, Steps}
 use Rattle.register.specs.History.{CallsMade, done, more, addKind, removeKind, lockKind, unlockKind, undoKind, kindCall, wordCall}
 use Rattle.register.specs.History.{Entry, is-call, no-call, entryNumber, entryNext, EntrySteps, entryCalls, isCall}
 use Rattle.register.specs.History.{wordAnswers, callsOf, toldCalls, replayNumber, Replays}

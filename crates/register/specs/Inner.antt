@@ -24,7 +24,8 @@ use Rattle.book.specs.Causes.{Cause, no-record, bad-label, locked-end, not-open
 use Rattle.book.specs.Book.{Link}
 use Rattle.register.specs.Links.{linkWord}
 use Rattle.register.specs.Packed.{Packed, takeBackKind}
-use Rattle.register.specs.Calls.{heldWords, packedOf, Ranged}
+use Rattle.register.specs.Counters.{Ranged}
+use Rattle.register.specs.Representation.{heldWords, packedOf}
 use Rattle.register.specs.Words.{stateWords, locksAt}
 use Rattle.register.specs.declared.Register.{Register}
 use Rattle.register.specs.declared.LinkCheck.{LinkCheck}

@@ -1,8 +1,11 @@
 pub mod Links
 pub mod Packed
+pub mod Counters
+pub mod Representation
 pub mod Calls
 pub mod History
 pub mod Questions
+pub mod Lookups
 pub mod Words
 pub mod Inner
 pub mod LinkLaws

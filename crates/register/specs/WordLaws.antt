@@ -9,7 +9,8 @@ use lib.Dec.{eqb}
 use lib.ListN.{length, take, drop, getD, length-append, length-take, length-drop, length-map, List·getD-map}
 use lib.Seq.{take-at, drop-at, getD-take, take-add, length-take-le}
 use Rattle.book.specs.Causes.{not-open, number, maxLinks, maxHeld, maxRecords}
-use Rattle.register.specs.Calls.{answerNumber, Ranged}
+use Rattle.register.specs.Counters.{Ranged}
+use Rattle.register.specs.Calls.{answerNumber}
 use Rattle.register.specs.HistoryLaws.{answer-done}
 use Rattle.register.specs.Inner.{Flags, Formed}
 use Rattle.register.specs.Words.{stateWords, linksAt, ringAt, locksAt, lockWord, numbersOf, stateOf, Keeps, Foreign, Loads}

@@ -20,7 +20,9 @@ use Prim.Native.Nat.{ℕ, _+_, _≤_, _<_}
 use lib.ListN.{length, take, drop}
 use Rattle.book.specs.Causes.{not-open, number, maxLinks, maxHeld, maxRecords}
 use Rattle.book.specs.Book.{fresh}
-use Rattle.register.specs.Calls.{answerOf, InRange, Represents}
+use Rattle.register.specs.Counters.{InRange}
+use Rattle.register.specs.Representation.{Represents}
+use Rattle.register.specs.Calls.{answerOf}
 use Rattle.register.specs.declared.Register.{Register}
 use Rattle.register.specs.declared.Answer.the-variants.{Done}
 use Rattle.register.specs.declared.Outcome.{Outcome}

@@ -26,7 +26,8 @@ ghost use Rattle.book.specs.Causes.{firstNumber, maxRecords, labels, maxLinks, 
 ghost use Rattle.book.specs.Book.{add, remove, lock, unlock, edit, undo};
 ghost use Rattle.register.specs.Links.{linkWord};
 ghost use Rattle.register.specs.Packed.{insert};
-ghost use Rattle.register.specs.Calls.{callOf, packedOf, Steps};
+ghost use Rattle.register.specs.Representation.{packedOf};
+ghost use Rattle.register.specs.Calls.{callOf, Steps};
 ghost use Rattle.register.specs.Inner.{linkCauses, Checks, Holding, Changed, TakenBack};
 
 // The first cause against the ends and the label of a link, or 0.

@@ -10,7 +10,8 @@ use crate::state::ranged;
 ghost use mathlib.Core.Path.{_≡_};
 ghost use Prim.Native.Nat.{_<_};
 ghost use Rattle.register.specs.Inner.{hasAt};
-ghost use Rattle.register.specs.Questions.{Sized, Listing, LockList, Locking, LabelPart, nextPlace, NextLink, start, end};
+ghost use Rattle.register.specs.Lookups.{LabelPart, nextPlace, NextLink, start, end};
+ghost use Rattle.register.specs.Questions.{Sized, Listing, LockList, Locking};
 
 impl Register {
     // The number of records; none of contents out of range, which are those of no register.

@@ -7,7 +7,8 @@ ghost use mathlib.Core.Path.{_≡_};
 ghost use Prim.Native.Nat.{_≤_};
 ghost use Rattle.book.specs.Causes.{maxRecords};
 ghost use Rattle.book.specs.Book.{fresh};
-ghost use Rattle.register.specs.Calls.{answerNumber, Represents, Opens};
+ghost use Rattle.register.specs.Representation.{Represents};
+ghost use Rattle.register.specs.Calls.{answerNumber, Opens};
 ghost use Rattle.register.specs.Inner.{Guarded};
 
 // Whether the numbers are in range, as they are in every register that the engine made.

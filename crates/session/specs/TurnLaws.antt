@@ -16,7 +16,8 @@ use Rattle.paths.specs.Chains.{asked, Reply}
 use Rattle.paths.specs.Questions.{Outcome, pairsAnswer, ReplyTo, chainAnswer, listAfter}
 use Rattle.paths.specs.Verdicts.{verdict, verdict-only}
 use Rattle.register.specs.declared.Outcome.{Outcome as Told}
-use Rattle.register.specs.Calls.{answerNumber, Represents, Steps}
+use Rattle.register.specs.Representation.{Represents}
+use Rattle.register.specs.Calls.{answerNumber, Steps}
 use Rattle.register.specs.HistoryLaws.{number-answer}
 use Rattle.report.specs.Report.{refusedText, answerText, okText, outcomeText}
 use Rattle.report.specs.Written.{Wrote}

@@ -21,7 +21,7 @@ use Rattle.book.specs.Book.{Book}
 use Rattle.paths.specs.Grammar.{Verdict}
 use Rattle.paths.specs.Chains.{Reply}
 use Rattle.paths.specs.Questions.{Outcome, listAfter}
-use Rattle.register.specs.Calls.{Represents}
+use Rattle.register.specs.Representation.{Represents}
 use Rattle.report.specs.Report.{outcomeText}
 use Rattle.report.specs.Written.{Wrote}
 use Rattle.session.specs.Program.{programRecords, Frame, Session, unopened, opened, nextSession, Right, printed, listLeft}

@@ -14,7 +14,8 @@ use Rattle.k2.specs.TreeSetLaws.{formed-tree, tree-formed}
 use Rattle.k2.specs.SizeLaws.{treeWords-most}
 use Rattle.tree.specs.declared.listing.Answer.{Answer}
 use Rattle.tree.specs.declared.listing.Answer.the-variants.{Refused}
-use Rattle.tree.specs.Calls.{allBelow, allFormed, lentCauses, treeCauses, treeAnswer, treeList, Answered, Settled, too-long, given}
+use Rattle.tree.specs.Settling.{Settled, too-long, given}
+use Rattle.tree.specs.Calls.{allBelow, allFormed, lentCauses, treeCauses, treeAnswer, treeList, Answered}
 use Rattle.tree.specs.CallLaws.{all-below, below-all, two-formed, lent-met, tree-refused, tree-accepted}
 
 -- ---- the tests, which are those of the causes

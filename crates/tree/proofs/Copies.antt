@@ -10,7 +10,7 @@ use lib.Seq.{ext-getD, getD-append-add, getD-take, getD-drop, getD-set-same, get
 use Rattle.book.specs.Basics.{In, here, there}
 use Rattle.k2.specs.PairSets.{PairsBelow}
 use Rattle.tree.specs.declared.listing.Answer.the-variants.{Done}
-use Rattle.tree.specs.Calls.{Settled, given}
+use Rattle.tree.specs.Settling.{Settled, given}
 
 -- ---- after i words
 module _ (xs ys : List ℕ) (at : ℕ) (fits : at + length xs ≤ length ys) where

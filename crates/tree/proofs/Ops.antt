@@ -17,7 +17,7 @@ use Rattle.packing.specs.Reading.{sensed}
 use Rattle.packing.specs.ReadingLaws.{sensed-set, other-sense}
 use Rattle.tree.specs.Inner.{Room, TreeAt, outcome, OneWithLinks, TwoWithLinks, Guarded}
 use Rattle.tree.specs.declared.listing.Answer.{Answer}
-use Rattle.tree.specs.Calls.{Settled}
+use Rattle.tree.specs.Settling.{Settled}
 
 pub rows-none : bitAt (replicate 16384 0) ≡ flat noPairs
 rows-none = bits-none 16384 ∙ sym flat-none

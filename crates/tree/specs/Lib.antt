@@ -1,4 +1,5 @@
 pub mod Inner
 pub mod Calls
+pub mod Settling
 pub mod CallLaws
 pub mod RoundTrips

@@ -19,7 +19,8 @@ ghost use Rattle.book.specs.Causes.{firstNumber, maxRecords};
 ghost use Rattle.k2.specs.PairSets.{Cells, IsSet, listed, union, intersection, difference, product, transpose, closure, PairsBelow};
 ghost use Rattle.k2.specs.Trees.{treeWords};
 ghost use Rattle.tree.specs.Inner.{outcome};
-ghost use Rattle.tree.specs.Calls.{lentCauses, Settled, Answered, treeOf, listOf, treeOfOne, treeOfTwo};
+ghost use Rattle.tree.specs.Settling.{Settled};
+ghost use Rattle.tree.specs.Calls.{lentCauses, Answered, treeOf, listOf, treeOfOne, treeOfTwo};
 
 // Are both ends of each pair below n?
 fn pairs_below(pairs: &[u32], n: usize) -> bool

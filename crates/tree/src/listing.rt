@@ -7,7 +7,7 @@ ghost use Prim.Native.Nat.{_≤_};
 ghost use lib.ListN.{length};
 ghost use Rattle.book.specs.Causes.{maxRecords};
 ghost use Rattle.rows.specs.Rows.{pairsIn};
-ghost use Rattle.tree.specs.Calls.{Settled, OutcomeListed};
+ghost use Rattle.tree.specs.Settling.{Settled, OutcomeListed};
 
 // What a call hands over: how much of its list it wrote, or refused with the number of the cause.
 pub enum Answer {

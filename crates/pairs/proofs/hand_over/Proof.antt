@@ -5,7 +5,7 @@ use lib.ListN.{length}
 use Rattle.k2.specs.PairSets.{listed}
 use Rattle.paths.specs.Chains.{asked}
 use Rattle.paths.specs.Relations.{cells}
-use Rattle.tree.specs.Calls.{Settled as Told}
+use Rattle.tree.specs.Settling.{Settled as Told}
 use Rattle.tree.specs.declared.listing.Answer.{Answer}
 use Rattle.pairs.proofs.Running.{coded-some, going-last, going-lists, told-handed, told-refused}
 use borrow.Author.Needs.{needs}

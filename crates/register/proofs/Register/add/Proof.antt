@@ -13,7 +13,7 @@ use Rattle.book.specs.Causes.{already, full, number, firstNumber, maxLinks}
 use Rattle.book.specs.BookLaws.{caused-positive}
 use Rattle.book.specs.Book.{Link, add}
 use Rattle.register.specs.Packed.{heldWord}
-use Rattle.register.specs.Calls.{packedOf}
+use Rattle.register.specs.Representation.{packedOf}
 use Rattle.register.specs.Inner.{Checks}
 use Rattle.register.specs.declared.LinkCheck.the-variants.{Word, Fault}
 use Rattle.register.proofs.Showing.{packedCauses, packedEdit}

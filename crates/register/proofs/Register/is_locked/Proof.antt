@@ -4,7 +4,7 @@ use mathlib.Core.Bool.{false}
 use native.Mathlib.Omega.{arith}
 use lib.ListN.{length, List·getD-eq-default}
 use borrow.Author.Needs.{needs}
-use Rattle.register.specs.Calls.{InRange}
+use Rattle.register.specs.Counters.{InRange}
 use Rattle.register.proofs.Stepping.{outside, inside}
 use Rattle.register.proofs.Register.is_locked.Statement.{statement}
 use Rattle.register.proofs.Register.is_locked.Tie as tie

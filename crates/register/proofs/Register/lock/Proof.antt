@@ -7,7 +7,7 @@ use lib.ListN.{length}
 use Rattle.book.specs.Causes.{no-record, already, number, firstNumber}
 use Rattle.book.specs.Book.{lock}
 use Rattle.register.specs.Packed.{heldWord}
-use Rattle.register.specs.Calls.{InRange}
+use Rattle.register.specs.Counters.{InRange}
 use Rattle.register.proofs.Showing.{packedCauses, packedEdit}
 use Rattle.register.proofs.Stepping.{outside, inside, refuse-foreign, refuse-ranged, accept}
 use Rattle.register.proofs.Register.lock.Statement.{statement}

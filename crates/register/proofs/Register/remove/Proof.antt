@@ -10,7 +10,7 @@ use Rattle.book.specs.Causes.{missing, number, firstNumber}
 use Rattle.book.specs.BookLaws.{caused-positive}
 use Rattle.book.specs.Book.{Link, remove}
 use Rattle.register.specs.Packed.{heldWord}
-use Rattle.register.specs.Calls.{packedOf}
+use Rattle.register.specs.Representation.{packedOf}
 use Rattle.register.specs.Inner.{Checks}
 use Rattle.register.specs.declared.LinkCheck.the-variants.{Word, Fault}
 use Rattle.register.proofs.Showing.{packedCauses, packedEdit}

@@ -3,7 +3,7 @@ use mathlib.Core.Path.{_≡_}
 use Prim.Native.Nat.{_≤_}
 use lib.ListN.{length}
 use native.Mathlib.Omega.{arith}
-use Rattle.register.specs.Calls.{InRange}
+use Rattle.register.specs.Counters.{InRange}
 use Rattle.register.proofs.Stepping.{outside, inside}
 use Rattle.register.proofs.Keeping.{stored, store-refused}
 use borrow.Author.Needs.{needs}

@@ -5,7 +5,7 @@ use borrow.Author.Needs.{needs}
 use lib.ListN.{length, take}
 use lib.Seq.{length-take-le}
 use Rattle.register.specs.Packed.{takeBackKind}
-use Rattle.register.specs.Calls.{packedOf}
+use Rattle.register.specs.Representation.{packedOf}
 use Rattle.register.proofs.Ascending.{length-insert}
 use Rattle.register.proofs.Stepping.{back-rest}
 use Rattle.register.proofs.Register.taken_back.Statement.{statement}

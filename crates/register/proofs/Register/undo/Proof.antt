@@ -5,7 +5,8 @@ use mathlib.Core.Logic.{⊎-elim}
 use native.Mathlib.Omega.{arith}
 use borrow.Author.Needs.{needs}
 use lib.ListN.{getD}
-use Rattle.register.specs.Calls.{previous, InRange}
+use Rattle.register.specs.Counters.{InRange}
+use Rattle.register.specs.Representation.{previous}
 use Rattle.register.proofs.Ring.{latest-step, latest-none, previous-less}
 use Rattle.register.proofs.Stepping.{outside, inside, refuse-foreign, refuse-undo, accept-undo}
 use Rattle.register.proofs.Register.undo.Statement.{statement}

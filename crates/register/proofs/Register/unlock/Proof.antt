@@ -8,7 +8,7 @@ use mathlib.Core.Bool.{false}
 use Rattle.book.specs.Causes.{no-record, missing, number, firstNumber}
 use Rattle.book.specs.Book.{unlock}
 use Rattle.register.specs.Packed.{heldWord}
-use Rattle.register.specs.Calls.{InRange}
+use Rattle.register.specs.Counters.{InRange}
 use Rattle.register.proofs.Showing.{packedCauses, packedEdit}
 use Rattle.register.proofs.Stepping.{outside, inside, refuse-foreign, refuse-ranged, accept}
 use Rattle.register.proofs.Register.unlock.Statement.{statement}

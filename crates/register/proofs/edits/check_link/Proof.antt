@@ -6,7 +6,7 @@ use borrow.Author.Tests.{not-true, not-false}
 use Rattle.book.specs.Causes.{not-open, number, firstNumber}
 use Rattle.book.specs.BookLaws.{first-caused}
 use Rattle.book.specs.Book.{Link}
-use Rattle.register.specs.Calls.{Ranged}
+use Rattle.register.specs.Counters.{Ranged}
 use Rattle.register.specs.Inner.{linkCauses}
 use Rattle.register.proofs.Stepping.{link-proper}
 use Rattle.register.proofs.edits.check_link.Statement.{statement}

@@ -9,7 +9,8 @@ use lib.ListN.{length, take, drop, set, getD, length-set}
 use lib.Seq.{take-all}
 use Rattle.book.specs.Causes.{number}
 use Rattle.book.specs.Book.{freshAnswer, fresh, after}
-use Rattle.register.specs.Calls.{answerOf, answerNumber, Represents}
+use Rattle.register.specs.Representation.{Represents}
+use Rattle.register.specs.Calls.{answerOf, answerNumber}
 use Rattle.register.specs.History.{wordCall, entryNumber, wordAnswers, callsOf}
 use Rattle.register.specs.HistoryLaws.{number-answer, entry-answers, entry-follows}
 use Rattle.register.proofs.Replaying.{replay-size, replay-short, replay-free, after-turn, told-turn}

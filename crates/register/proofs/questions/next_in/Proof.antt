@@ -6,7 +6,7 @@ use mathlib.Core.Path.{_≡_}
 use native.Mathlib.Omega.{arith}
 use lib.Dec.{eqb}
 use Rattle.register.specs.Inner.{hasAt}
-use Rattle.register.specs.Questions.{end, touches, nextPlace}
+use Rattle.register.specs.Lookups.{end, touches, nextPlace}
 use Rattle.register.proofs.Asking.{next-link}
 use Rattle.register.proofs.questions.next_in.Statement.{statement}
 use Rattle.register.proofs.questions.next_in.Tie as tie

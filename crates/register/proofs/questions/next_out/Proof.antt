@@ -1,7 +1,7 @@
 -- `register::questions::next_out` meets its contract: from is the ten bits of a word from 1,024 on. Assumes nothing.
 use native.Mathlib.Omega.{arith}
 use Rattle.register.specs.Inner.{hasAt}
-use Rattle.register.specs.Questions.{start, touches}
+use Rattle.register.specs.Lookups.{start, touches}
 use Rattle.register.proofs.Asking.{next-link}
 use Rattle.register.proofs.questions.next_out.Statement.{statement}
 use Rattle.register.proofs.questions.next_out.Tie as tie

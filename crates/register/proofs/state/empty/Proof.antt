@@ -7,7 +7,7 @@ use Rattle.book.specs.Book.{fresh}
 use Rattle.book.specs.BookLaws.{fresh-sound}
 use Rattle.book.specs.ListLaws.{in-none}
 use Rattle.register.specs.Packed.{Piled}
-use Rattle.register.specs.Calls.{latest}
+use Rattle.register.specs.Representation.{latest}
 use Rattle.register.proofs.Showing.{none-locked}
 use Rattle.register.proofs.state.empty.Statement.{statement}
 use Rattle.register.proofs.state.empty.Tie as tie

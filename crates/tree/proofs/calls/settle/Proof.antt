@@ -3,7 +3,7 @@ use mathlib.Core.Path.{refl}
 use native.Mathlib.Omega.{arith}
 use borrow.Author.Needs.{needs}
 use lib.ListN.{length-take}
-use Rattle.tree.specs.Calls.{too-long}
+use Rattle.tree.specs.Settling.{too-long}
 use Rattle.tree.proofs.Copies.{settled}
 use Rattle.tree.proofs.calls.settle.Statement.{statement}
 use Rattle.tree.proofs.calls.settle.Tie as tie

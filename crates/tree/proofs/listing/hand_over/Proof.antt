@@ -7,7 +7,7 @@ use borrow.Author.Needs.{needs}
 use lib.ListN.{length, drop}
 use lib.Seq.{take-all}
 use Rattle.rows.specs.Rows.{pairsIn}
-use Rattle.tree.specs.Calls.{too-long}
+use Rattle.tree.specs.Settling.{too-long}
 use Rattle.tree.proofs.Copies.{given-at}
 use Rattle.tree.proofs.listing.hand_over.Statement.{statement}
 use Rattle.tree.proofs.listing.hand_over.Tie as tie
