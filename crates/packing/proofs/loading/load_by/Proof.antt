@@ -1,4 +1,4 @@
--- `load` counts the ones before each word and reads the tree from its first square on (`reads-tree`). Assumes nothing.
+-- `load_by` counts the ones before each word and reads the tree from its first square on (`reads-tree`). Assumes nothing.
 use mathlib.Core.Path.{refl, ap, _∙_}
 use Prim.Native.Nat.{_^_, _≤_}
 use native.Mathlib.Omega.{arith}
@@ -6,12 +6,12 @@ use borrow.Author.Needs.{needs}
 use lib.Pow.{pow-mono}
 use Rattle.k2.specs.PairSets.{Cells, union}
 use Rattle.rows.specs.Rows.{flat}
-use Rattle.packing.specs.Reading.{sensed}
-use Rattle.packing.specs.ReadingLaws.{sensed-set}
+use Rattle.packing.specs.Reading.{turnedBy}
+use Rattle.packing.specs.ReadingLaws.{turnedBy-set}
 use Rattle.packing.proofs.Loads.{reads-tree, inside-all}
 use Rattle.packing.proofs.Lists.{root-fits, root-reads, root-squares}
-use Rattle.packing.proofs.loading.load.Statement.{statement}
-use Rattle.packing.proofs.loading.load.Tie as tie
+use Rattle.packing.proofs.loading.load_by.Statement.{statement}
+use Rattle.packing.proofs.loading.load_by.Tie as tie
 
 slice-aggregate-count : tie.Need-slice-aggregate-count
 slice-aggregate-count c = search needs
@@ -42,12 +42,12 @@ returns c =
     let h = c .before .before .before .before .before .height in
     let g = c .before .before .before .before .before .before .before .before .before .before .before .before .args in
     λ a x is e r.
-    let t : Cells = sensed (g .sense) a in
+    let t : Cells = turnedBy (g .sense) a in
     c .before .before .dive .ensures x t r (root-reads (g .sense) (g .tree .now) (h .result) t (reads-tree (g .sense) (g .n) (h .result) (g .tree .now) a (h .ensures .0) is e))
-    ∙ ap (λ (s : Cells). flat (union x s)) (root-squares (h .result) t ∙ inside-all (g .n) (h .result) t (h .ensures .3) (sensed-set (g .sense) (g .n) a is))
+    ∙ ap (λ (s : Cells). flat (union x s)) (root-squares (h .result) t ∙ inside-all (g .n) (h .result) t (h .ensures .3) (turnedBy-set (g .sense) (g .n) a is))
 
-pub load-spec : {M : Type 1} → statement M
-load-spec =
+pub load-by-spec : {M : Type 1} → statement M
+load-by-spec =
     tie.close
     (tie.spec
     slice-aggregate-count
