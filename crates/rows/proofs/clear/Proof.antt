@@ -1,45 +1,55 @@
+-- `clear` writes the words in turn. The loop's invariant: the words before i hold no bit. The measure is the words left. It rests on `upto-more`.
+-- Assumes nothing.
+use mathlib.Core.Path.{_≡_, refl, sym, _∙_}
+use Prim.Native.Nat.{_≤_, _-_}
+use native.Mathlib.Omega.{arith}
+use borrow.Author.Needs.{needs}
+use lib.ListN.{length, length-set}
+use Rattle.k2.specs.Bits.{bitAt}
+use Rattle.k2.specs.DigitLaws.{digit-none}
+use Rattle.k2.specs.BitLaws.{Upto, upto-none, upto-more, upto-all}
+use Rattle.bits.specs.BitSets.{none}
+use Rattle.rows.specs.RowLaws.{flat-none}
 use Rattle.rows.proofs.clear.Statement.{statement}
 use Rattle.rows.proofs.clear.Tie as tie
-use Rattle.rows.proofs.clear.Reads as reads
-use Rattle.rows.proofs.clear.Lts as lts
 
 abbrev Inv-loop : tie.InvT-loop
-Inv-loop rows₀ i₀ rows i = ?
+Inv-loop rows₀ i₀ rows i = (i ≤ 16384) × (length rows ≡ length rows₀) × Upto i (bitAt rows) none
 
 abbrev μ-loop : tie.MeasureT-loop
-μ-loop rows₀ i₀ rows i = ?
+μ-loop rows₀ i₀ rows i = 16384 - i
 
--- src/lib.rt:47:5
 loop-holds : tie.Need-loop-holds Inv-loop μ-loop
-loop-holds c = ?
+loop-holds c = (omega arith, refl, upto-none _ _)
 
--- src/lib.rt:48:9
 mul-rows : tie.Need-mul-rows Inv-loop μ-loop
-mul-rows c = ?
+mul-rows c = omega arith
 
--- src/lib.rt:48:9
 slice-write-rows : tie.Need-slice-write-rows Inv-loop μ-loop
-slice-write-rows c = ?
+slice-write-rows c = omega arith
 
--- src/lib.rt:49:9
 add-i : tie.Need-add-i Inv-loop μ-loop
-add-i c = ?
+add-i c = omega arith
 
--- src/lib.rt:47:5
 loop-less : tie.Need-loop-less Inv-loop μ-loop
-loop-less c = ?
+loop-less c = omega arith
 
--- src/lib.rt:47:5
 loop-again : tie.Need-loop-again Inv-loop μ-loop
-loop-again c = ?
+unfolding none
+loop-again c =
+    let l = c .before .loop in (
+      omega arith,
+      simp length-set (l .inv .1),
+      upto-more (l .rows) (l .i) 0 none (omega arith) (l .inv .2) (λ k h. digit-none k),
+    )
 
--- src/lib.rt:42:1
 same-length : tie.Need-same-length Inv-loop μ-loop
-same-length c = ?
+same-length c = search needs
 
--- src/lib.rt:42:1
 returns : tie.Need-returns Inv-loop μ-loop
-returns c = ?
+returns c =
+    let l = c .before .loop in
+    upto-all (l .rows) (l .i) none (omega arith) (l .inv .2) (λ p h. unfold none in refl) ∙ sym flat-none
 
 pub clear-spec : {M : Type 1} → statement M
 clear-spec =
