@@ -1,5 +1,5 @@
 -- What the functions that load a tree into rows make of it.
---   turnedBy s a      the set a; with sense 1 its pairs exchanged
+--   turnedBy s a    the set a; with sense 1 its pairs exchanged
 --   turned s q      the quarter q of a square; with sense 1 the one that comes to its place when pairs are exchanged
 --   inside h x y a  the pairs of a in the square of side 2 ^ h at row x and column y
 --   quartersTo k h x y a
