@@ -91,7 +91,7 @@ pair-links (w ∷ ps) b =
     rw (e, pair-links ps (λ v h. b v (there h)))
 
 -- no label is in the set 0, and 0 alone in the set 1
-labelled-none : (ws : List ℕ) → labelled 0 ws ≡ []
+pub labelled-none : (ws : List ℕ) → labelled 0 ws ≡ []
 unfolding labelled
 labelled-none [] = refl
 labelled-none (w ∷ ws) = rw (digit-none (w / 1048576)) (labelled-none ws)
@@ -118,7 +118,7 @@ in-labelled {p} m (w ∷ ws) h = go (eqb (digit m (w / 1048576)) 1) (in-labelled
     go true f k = in-more f k
     go false f k = there (f k)
 
-set-none : setOf [] ≡ noPairs
+pub set-none : setOf [] ≡ noPairs
 unfolding setOf has noPairs
 set-none = fun-ext (λ x. fun-ext (λ y. omega arith))
 
