@@ -142,7 +142,14 @@ fn binary(
 }
 
 // An operation on one lent tree, read with a sense.
-fn unary(operation: Operation, n: usize, a: &[u64], sense: Sense, out: &mut [u64], work: &mut [u64]) -> Answer
+fn unary(
+    operation: Operation,
+    n: usize,
+    a: &[u64],
+    sense: Sense,
+    out: &mut [u64],
+    work: &mut [u64],
+) -> Answer
     ensures { λ r. ⌜ Answered n [] (now (a .entry) ∷ []) (length (now (work .entry)))
         (treeOfOne (λ x. outcome operation n none noPairs (sensed sense x)) n (now (a .entry))) (now (out .entry)) (now (out .exit)) r ⌝ }
 {
