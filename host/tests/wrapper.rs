@@ -103,7 +103,7 @@ fn trees() {
     assert_eq!(list(other.product(&a, &b)), [(1, 0)]);
     assert_eq!(list(other.product_sensed(&a, Sense::Plain, &b, Sense::Inverted)), [(0, 0)]);
     assert_eq!(list(other.product_sensed(&a, Sense::Inverted, &b, Sense::Plain)), [(1, 1)]);
-    assert_eq!(list(other.product_sensed(&a, Sense::Inverted, &b, Sense::Inverted)), [(2, 0)]);
+    assert_eq!(list(other.product_sensed(&a, Sense::Inverted, &b, Sense::Inverted)), [(1, 2), (2, 0)]);
     assert_eq!(list(other.transpose(&a)), [(1, 0), (2, 1)]);
     assert_eq!(list(other.closure(&a)), [(0, 1), (0, 2), (1, 2)]);
     assert_eq!(trees.make([(0, 4)]), Err(Refusal::Record));

@@ -120,6 +120,7 @@ fn measure() -> usize {
     inner(&mut table, "inner closure, 130 pairs", ANY, 2000, Inner::Closure, &a, &[]);
     two(&mut table, "union, 130 pairs each", 200.0, 2000, Two::Union, &a, &b);
     two(&mut table, "product, 130 pairs each", 400.0, 2000, PRODUCT, &a, &b);
+    two(&mut table, "product, both inverted, 130 pairs each", 400.0, 2000, Two::Product { sense: 1, other: 1 }, &a, &b);
     one(&mut table, "closure, 130 pairs", ANY, 2000, One::Closure, &a);
     make(&mut table, "make, 130 pairs", ANY, 2000, &few[0].list());
     list(&mut table, "list, 130 pairs", ANY, 2000, &a);
