@@ -355,25 +355,42 @@ pub enum Found {
     Short,
 }
 
-// The first of the shortest chains from x to y over the first `count` links, by the tables of an expression's automaton.
+// How many records there are, and the two that a chain joins.
+pub struct Ends {
+    pub n: usize,
+    pub from: usize,
+    pub to: usize,
+}
+
+// The first of the shortest chains between the two ends over the links, by the tables of an expression's automaton.
 pub fn first_chain(
     links: &[u32],
-    count: usize,
-    n: usize,
     follow: &[u64],
-    pred: &[u64],
+    predecessors: &[u64],
     enter: &[u64],
-    fin: u64,
-    x: usize,
-    y: usize,
+    accepting: u64,
+    ends: Ends,
     work: &mut [u64],
     out: &mut [u32],
 ) -> Found
-    requires { ⌜ (count ≤ length (now links)) × (count ≤ maxLinks) × (n ≤ maxRecords) × (length (now follow) ≡ 64) × (length (now pred) ≡ 64) × (length (now enter) ≡ 64) × (x < n) × (y < n) × (n * 64 ≤ length (now work)) ⌝ }
-    ensures { λ r. ⌜ Untouched (now (out .entry)) (now (out .exit)) r × ((g : Graph) (e : Expr) → g .n ≡ n → Inside g → Spans (now (links .entry)) count g → Masked (now (follow .entry)) (now (pred .entry)) (now (enter .entry)) fin (automaton e) → g .inUse x ≡ true → g .inUse y ≡ true → Answered g e x y (now (out .entry)) (now (out .exit)) r) ⌝ }
+    requires { ⌜ (length (now links) ≤ maxLinks) × (ends .n ≤ maxRecords) × (length (now follow) ≡ 64) × (length (now predecessors) ≡ 64) × (length (now enter) ≡ 64) × (ends .from < ends .n) × (ends .to < ends .n) × (ends .n * 64 ≤ length (now work)) ⌝ }
+    ensures { λ r. ⌜ Untouched (now (out .entry)) (now (out .exit)) r × ((g : Graph) (e : Expr) → g .n ≡ ends .n → Inside g → Spans (now (links .entry)) (length (now (links .entry))) g → Masked (now (follow .entry)) (now (predecessors .entry)) (now (enter .entry)) accepting (automaton e) → g .inUse (ends .from) ≡ true → g .inUse (ends .to) ≡ true → Answered g e (ends .from) (ends .to) (now (out .entry)) (now (out .exit)) r) ⌝ }
 {
-    let arcs = arcs::arcs_of(links, count, enter);
-    let levels = backward(&arcs.words, arcs.count, pred, enter, fin, n, x, y, work);
+    let n = ends.n;
+    let x = ends.from;
+    let y = ends.to;
+    let arcs = arcs::arcs_of(links, links.len(), enter);
+    let levels = backward(
+        &arcs.words,
+        arcs.count,
+        predecessors,
+        enter,
+        accepting,
+        n,
+        x,
+        y,
+        work,
+    );
     if levels.number == 0 {
         return Found::Nowhere;
     }
