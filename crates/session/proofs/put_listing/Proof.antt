@@ -1,0 +1,63 @@
+-- `session::put_listing` meets its contract: each arm prints its own text, and the first words of the list are the pairs. Assumes nothing.
+use mathlib.Core.Path.{sym, ap}
+use native.Mathlib.Omega.{arith}
+use lib.ListN.{length-take}
+use lib.Seq.{length-take-le}
+use Rattle.report.specs.Report.{pairsText, outcomeText}
+use Rattle.report.specs.WrittenLaws.{wrote-as}
+use Rattle.session.specs.Listing.{listing}
+use borrow.Author.Needs.{needs}
+use Rattle.session.proofs.put_listing.Statement.{statement}
+use Rattle.session.proofs.put_listing.Tie as tie
+
+enum-known-answer : tie.Need-enum-known-answer
+enum-known-answer c = search needs
+
+listed-requires : tie.Need-listed-requires
+listed-requires c κs = search needs
+
+slice-aggregate-put-pairs : tie.Need-slice-aggregate-put-pairs
+slice-aggregate-put-pairs c = sym (length-take-le _ _ (c .before .listed .ensures .0))
+
+put-pairs-requires : tie.Need-put-pairs-requires
+put-pairs-requires c κs =
+    let p = c .before .before .before .before .before .before .before .before .pre in
+    let h = c .before .before .listed .ensures .0 in
+    simp length-take (omega (arith, p, h))
+
+enum-known-answer-2 : tie.Need-enum-known-answer-2
+enum-known-answer-2 c = search needs
+
+put-refused-requires : tie.Need-put-refused-requires
+put-refused-requires c κs = search needs
+
+same-length : tie.Need-same-length
+same-length c = search needs
+
+returns : tie.Need-returns
+unfolding outcomeText listing
+returns c =
+    let a = c .before .before .before .before .before .before .before .answer in
+    rw (a .given .1) (wrote-as (ap (pairsText (a .given .0 .0)) (c .before .before .before .before .before .listed .ensures .1)) (c .before .before .put-pairs .ensures))
+
+same-length-2 : tie.Need-same-length-2
+same-length-2 c = search needs
+
+returns-2 : tie.Need-returns-2
+unfolding outcomeText listing
+returns-2 c = rw (c .before .before .before .before .before .answer2 .given .1) (c .before .before .put-refused .ensures)
+
+pub put-listing-spec : {M : Type 1} → statement M
+put-listing-spec =
+    tie.close
+    (tie.spec
+    enum-known-answer
+    listed-requires
+    slice-aggregate-put-pairs
+    put-pairs-requires
+    enum-known-answer-2
+    put-refused-requires
+    same-length
+    returns
+    same-length-2
+    returns-2)
