@@ -3,15 +3,16 @@
  * A slice is lent as a pointer to its first word and its length in words. A call reads and writes nothing but what it is lent, whatever the
  * contents, and ends. What is written (state, list, out, tree, work) must not overlap what else is lent.
  *
- * A uint32_t answer is 0, or the number of a refusal, unless it says otherwise. A uint64_t answer is the number of words written to the list;
- * DATING_NO_CHAIN; or DATING_REFUSED plus the number of a refusal. A refused call leaves state and list as they were; words of a list past the
- * answer, and of a state past DATING_STATE_WORDS, are never touched; work may hold anything after a call. The numbers:
+ * A uint32_t answer is 0, or the number of a refusal, unless it says otherwise. A uint64_t answer is the number of words of the answer;
+ * DATING_NO_CHAIN; or DATING_REFUSED plus the number of a refusal. Of links and pairs (dating_links, dating_pairs, dating_tree_list) it is the total, of
+ * which the first min(total, list_len) are written; a chain or a tree that is longer than its list is refused. A refused call leaves state and list as
+ * they were; words of a list past the answer, and of a state past DATING_STATE_WORDS, are never touched; work may hold anything after a call. The numbers:
  *
  *    1  n outside 1 to 1,024                        9  expression outside the grammar
  *    2  record not below n                         10  expression over 256 bytes, 63 letters or 8 deep
  *    3  label above 25                             11  lent tree not well formed
  *    4  an end of the link is locked               12  work (or state) shorter than stated
- *    5  link present, or record locked, already    13  answer longer than its list
+ *    5  link present, or record locked, already    13  chain or tree longer than its list
  *    6  link absent, or record not locked          14  (programs only: frame broken)
  *    7  4,096 links present                        15  (programs only: kind unknown)
  *    8  no edit held that could be undone          16  the words are not those of a register

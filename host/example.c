@@ -11,6 +11,6 @@ int main(void) {
     dating_add(state, DATING_STATE_WORDS, 2, 0, 1);
     uint64_t count = dating_pairs(state, DATING_STATE_WORDS, (const uint8_t *)"a/^a", 4, work, DATING_WORK_WORDS, list, 16);
     if (count >= DATING_REFUSED) return (int)(count - DATING_REFUSED);
-    for (uint64_t i = 0; i < count; i++) printf("%u %u\n", list[i] / 1024, list[i] % 1024);
+    for (uint64_t i = 0; i < count && i < 16; i++) printf("%u %u\n", list[i] / 1024, list[i] % 1024);
     return 0;
 }

@@ -53,16 +53,25 @@ macro_rules! items {
     ($(#[$about:meta])* $name:ident, $item:ty, $of:ident) => {
         $(#[$about])*
         #[derive(Clone, Debug)]
-        pub struct $name<'a>(&'a [u32]);
+        pub struct $name<'a> {
+            words: &'a [u32],
+            total: usize,
+        }
 
         impl<'a> $name<'a> {
-            pub(crate) fn new(words: &'a [u32]) -> $name<'a> {
-                $name(words)
+            /// Those that a list has of so many in all: the whole list if they are more.
+            pub(crate) fn new(list: &'a [u32], total: usize) -> $name<'a> {
+                $name { words: &list[..total.min(list.len())], total }
+            }
+
+            /// How many there are in all, written or not.
+            pub fn total(&self) -> usize {
+                self.total
             }
 
             /// The words of those that are still to come, as the engine wrote them.
             pub fn words(&self) -> &'a [u32] {
-                self.0
+                self.words
             }
         }
 
@@ -70,13 +79,13 @@ macro_rules! items {
             type Item = $item;
 
             fn next(&mut self) -> Option<$item> {
-                let (&word, rest) = self.0.split_first()?;
-                self.0 = rest;
+                let (&word, rest) = self.words.split_first()?;
+                self.words = rest;
                 Some($of(word))
             }
 
             fn size_hint(&self) -> (usize, Option<usize>) {
-                (self.0.len(), Some(self.0.len()))
+                (self.words.len(), Some(self.words.len()))
             }
         }
 
@@ -85,7 +94,7 @@ macro_rules! items {
 }
 
 items! {
-    /// The pairs that a question or a tree gives, from and to, ascending, each once.
+    /// The pairs that a question or a tree gives, from and to, ascending, each once; of a list that is too short for all, the smallest.
     Pairs, (u16, u16), pair
 }
 
@@ -105,10 +114,18 @@ mod tests {
 
     #[test]
     fn words_are_read_as_the_scope_writes_them() {
-        assert_eq!(Pairs::new(&[3 * 1024 + 1023]).collect::<Vec<_>>(), [(3, 1023)]);
-        let steps: Vec<_> = Steps::new(&[1, (25 * 2 + 1) * 1024 + 7]).map(|step| step.to_string()).collect();
+        assert_eq!(Pairs::new(&[3 * 1024 + 1023], 1).collect::<Vec<_>>(), [(3, 1023)]);
+        let steps: Vec<_> = Steps::new(&[1, (25 * 2 + 1) * 1024 + 7], 2).map(|step| step.to_string()).collect();
         assert_eq!(steps, ["a + 1", "z - 7"]);
-        assert_eq!(Links::new(&[(2 * 1024 + 5) * 1024 + 6]).next(), Some(Link { from: 5, letter: 'c', to: 6 }));
-        assert_eq!(Links::new(&[1, 2, 3]).len(), 3);
+        assert_eq!(Links::new(&[(2 * 1024 + 5) * 1024 + 6], 1).next(), Some(Link { from: 5, letter: 'c', to: 6 }));
+        assert_eq!(Links::new(&[1, 2, 3], 3).len(), 3);
+    }
+
+    #[test]
+    fn no_word_past_those_written_is_read() {
+        let total_and_words = |list: &'static [u32], total| (Pairs::new(list, total).total(), Pairs::new(list, total).words());
+        assert_eq!(total_and_words(&[4, 5, 6], 2), (2, &[4, 5][..]));
+        assert_eq!(total_and_words(&[4, 5, 6], 7), (7, &[4, 5, 6][..]));
+        assert_eq!(total_and_words(&[], 7), (7, &[][..]));
     }
 }

@@ -39,7 +39,7 @@ const CAUSES: [(Refusal, &str); 16] = [
     (Refusal::Limits, "the expression is over 256 bytes, 63 letters or 8 deep"),
     (Refusal::Tree, "the tree is not well formed"),
     (Refusal::Work, "the work is shorter than stated"),
-    (Refusal::List, "the answer is longer than its list"),
+    (Refusal::List, "the chain or the tree is longer than its list"),
     (Refusal::Frame, "the frame is broken"),
     (Refusal::Kind, "the kind is unknown"),
     (Refusal::NotOpened, "no register is opened: the words are not those of a register"),

@@ -74,8 +74,8 @@ impl Register {
     /// The links present.
     pub fn links(&mut self) -> Result<Links<'_>, Refusal> {
         grow(&mut self.list, 4096);
-        let count = counted(calls::links(&self.words, &mut self.list))?;
-        Ok(Links::new(&self.list[..count]))
+        let total = counted(calls::links(&self.words, &mut self.list))?;
+        Ok(Links::new(&self.list, total))
     }
 
     /// The pairs of records that the expression joins.
@@ -91,8 +91,8 @@ impl Register {
         let n = self.size();
         grow(&mut self.work, tree_work(n));
         grow(&mut self.list, most_pairs(n));
-        let count = counted(calls::pairs(&self.words, expression.as_ref(), &mut self.work, &mut self.list))?;
-        Ok(Pairs::new(&self.list[..count]))
+        let total = counted(calls::pairs(&self.words, expression.as_ref(), &mut self.work, &mut self.list))?;
+        Ok(Pairs::new(&self.list, total))
     }
 
     /// The first of the shortest chains from one record to another that spell a word of the expression; none if there is no chain.
@@ -111,13 +111,24 @@ impl Register {
         grow(&mut self.work, chain_work(n));
         grow(&mut self.list, longest_chain(n));
         let length = told(calls::chain(&self.words, from, to, expression.as_ref(), &mut self.work, &mut self.list))?;
-        Ok(length.map(|length| Steps::new(&self.list[..length])))
+        Ok(length.map(|length| Steps::new(&self.list, length)))
     }
 
-    /// The pairs of an expression in lent space: work of [`tree_work`] words, and a list, which is left as it was with a refusal.
+    /// The pairs of an expression in lent space: work of [`tree_work`] words, and a list, which is left as it was with a refusal. A list that is
+    /// too short for all pairs gets the smallest of them; [`Pairs::total`] tells how many there are.
+    ///
+    /// ```
+    /// # let mut register = dating::Register::fresh(3)?;
+    /// register.add(0, 'a', 1)?;
+    /// register.add(1, 'a', 2)?;
+    /// let (mut work, mut list) = (vec![0; dating::tree_work(3)], [0; 2]);
+    /// let pairs = register.pairs_in("a+", &mut work, &mut list)?;
+    /// assert_eq!((pairs.total(), pairs.collect::<Vec<_>>()), (3, vec![(0, 1), (0, 2)]));
+    /// # Ok::<(), dating::Refusal>(())
+    /// ```
     pub fn pairs_in<'a>(&self, expression: impl AsRef<[u8]>, work: &mut [u64], list: &'a mut [u32]) -> Result<Pairs<'a>, Refusal> {
-        let count = counted(calls::pairs(&self.words, expression.as_ref(), work, list))?;
-        Ok(Pairs::new(&list[..count]))
+        let total = counted(calls::pairs(&self.words, expression.as_ref(), work, list))?;
+        Ok(Pairs::new(list, total))
     }
 
     /// The first chain in lent space: work of [`chain_work`] words, and a list, which is left as it was if there is no chain.
@@ -130,7 +141,7 @@ impl Register {
         list: &'a mut [u32],
     ) -> Result<Option<Steps<'a>>, Refusal> {
         let length = told(calls::chain(&self.words, from, to, expression.as_ref(), work, list))?;
-        Ok(length.map(|length| Steps::new(&list[..length])))
+        Ok(length.map(|length| Steps::new(list, length)))
     }
 }
 

@@ -66,8 +66,8 @@ impl Trees {
     /// The pairs of a tree.
     pub fn list(&mut self, tree: &Tree) -> Result<Pairs<'_>, Refusal> {
         self.list.resize(most_pairs(self.n), 0);
-        let count = counted(calls::tree_list(self.n.into(), &tree.0, &mut self.list, &mut self.work))?;
-        Ok(Pairs::new(&self.list[..count]))
+        let total = counted(calls::tree_list(self.n.into(), &tree.0, &mut self.list, &mut self.work))?;
+        Ok(Pairs::new(&self.list, total))
     }
 
     /// The pairs in either.

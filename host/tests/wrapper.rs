@@ -72,11 +72,24 @@ fn refusals_of_questions() {
     assert_eq!(register.chain(0, 4, "").err(), Some(Refusal::Record));
     let (mut work, mut list) = ([0; 256], [7; 3]);
     assert_eq!(register.pairs_in("a", &mut work[..dating::tree_work(4) - 1], &mut list).err(), Some(Refusal::Work));
-    assert_eq!(register.pairs_in("a", &mut work, &mut list[..1]).err(), Some(Refusal::List));
     assert_eq!(register.chain_in(2, 2, "(a|b)+", &mut work, &mut list[..2]).err(), Some(Refusal::List));
     assert_eq!(list, [7; 3]);
     assert_eq!(register.pairs_in("a", &mut work, &mut list).unwrap().words(), [1, 1026]);
     assert_eq!(list, [1, 1026, 7]);
+}
+
+#[test]
+fn short_lists_get_the_first_pairs_and_the_total() {
+    let register = cases().unwrap();
+    let mut work = [0; 256];
+    for room in 0..=4 {
+        let mut list = [7; 5];
+        let pairs = register.pairs_in("a+", &mut work, &mut list[..room]).unwrap();
+        assert_eq!((pairs.total(), pairs.len()), (3, room.min(3)));
+        let mut left = [1, 2, 1026, 7, 7];
+        left[room.min(3)..].fill(7);
+        assert_eq!(list, left);
+    }
 }
 
 #[test]

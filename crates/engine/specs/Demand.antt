@@ -6,7 +6,8 @@
 --   bookAfter i     the plain book after the calls of i, from a fresh one
 --   PairsAccepted b q e
 --                   the pair question q about the book b is accepted: its text is the expression e, and work is enough
---   PairsClaim b q  an accepted pair question is answered by the pairs with a chain, ascending, each once, and by their number, if the list takes them
+--   PairsClaim b q  an accepted pair question is answered by the number of all pairs with a chain, and the list has the smallest of them, ascending, each
+--                   once, as many as it takes: every pair in it is smaller than every other (paths/PairLaws `first-part`)
 --   ChainAccepted b q e
 --                   the chain question q about the book b is accepted: its text is the expression e, its records exist, and work is enough
 --   ChainSays g e q of an accepted chain question: where there is a chain there is a first of all chains, none shorter and none as short before it, and it
@@ -18,7 +19,8 @@ use mathlib.Core.Path.{_≡_}
 use mathlib.Core.List.{List}
 use mathlib.Core.Bool.{Bool, false}
 use Prim.Native.Nat.{ℕ, _≤_, _<_}
-use lib.ListN.{length, getD}
+use lib.ListN.{length, take, getD}
+use Rattle.book.specs.Basics.{In}
 use Rattle.book.specs.Book.{Book, Call, isLocked, fresh, answers, after}
 use Rattle.paths.specs.Expressions.{Expr}
 use Rattle.paths.specs.Grammar.{accepted, Judged}
@@ -67,7 +69,8 @@ pub record PairsAccepted (b : Book) (q : PairsAsked) (e : Expr) : Type 0 where
 
 abbrev pub PairsClaim : Book → PairsAsked → Type 0
 PairsClaim b q = (e : Expr) → PairsAccepted b q e
-    → (l : List ℕ) × PairsAre (asked b) e l × (length l ≤ length (q .before) → (q .answer ≡ Pairs (length l)) × (q .after ≡ over l (q .before)))
+    → (l : List ℕ) × PairsAre (asked b) e l × (q .answer ≡ Pairs (length l)) × (q .after ≡ over (take (length (q .before)) l) (q .before))
+    × ((w v : ℕ) → In w (take (length (q .before)) l) → In v l → (In v (take (length (q .before)) l) → ⊥) → w < v)
 
 -- ---- chain questions
 pub record ChainAccepted (b : Book) (q : ChainAsked) (e : Expr) : Type 0 where

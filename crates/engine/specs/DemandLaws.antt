@@ -23,7 +23,7 @@ use Rattle.paths.specs.Expressions.{Expr}
 use Rattle.paths.specs.Grammar.{Verdict, accepted, Judged, verdictCause}
 use Rattle.paths.specs.Chains.{asked, Step, stepWords, Answers, First, Reply, none, chain, ChainIs, no-chain, first-chain}
 use Rattle.paths.specs.Relations.{PairsAre, pairs}
-use Rattle.paths.specs.PairLaws.{fit-inside, pairs-are}
+use Rattle.paths.specs.PairLaws.{fit-inside, pairs-are, first-part}
 use Rattle.paths.specs.FirstChain.{has-first}
 use Rattle.paths.specs.Verdicts.{verdict, verdict-only}
 use Rattle.paths.specs.Questions.{Outcome, refused, paired, replied, unless, pairsWork, chainWork, ReplyTo, steps, chainCauses, chainAnswer, pairsAnswer, over, listAfter}
@@ -54,27 +54,25 @@ small : {e : Register} {b : Book} → Represents e b → b .n ≤ 1024
 small R = let q = R .size in let l = R .ranged .size in omega arith
 
 -- ---- pair questions
-told-as : {o : Outcome} {a : PairsAnswer} (ws : List ℕ) → Tells o a → o ≡ paired ws → a ≡ Pairs (length ws)
-told-as ws (told-number {k}) e = absurd (let z : _≡_ {A = ℕ} 0 1 = cc in omega arith)
-told-as ws (told-pairs {ws = vs}) e = let z : vs ≡ ws = cc in ap (λ (l : List ℕ). Pairs (length l)) z
+told-as : {o : Outcome} {a : PairsAnswer} (total : ℕ) (ws : List ℕ) → Tells o a → o ≡ paired total ws → a ≡ Pairs total
+told-as total ws (told-number {k}) e = absurd (let z : _≡_ {A = ℕ} 0 1 = cc in omega arith)
+told-as total ws (told-pairs {total = k}) e = let z : k ≡ total = cc in ap Pairs z
 
 pub pairs-claim : {r : Register} {b : Book} → Represents r b → (q : PairsAsked) → AsksPairs r (q .text) (q .work) (q .before) (q .after) (q .answer) → PairsClaim b q
 unfolding listAfter asked
 pairs-claim {r} {b} R q Q e A =
     let v : accepted e ≡ verdict (q .text) = verdict-only (A .expression) in
-    let l = pairs (asked b) e in (
-      l,
-      pairs-are (asked b) (fit-inside b (R .sheet .fit)) (small R) e,
-      λ h.
-          let o : pairsAnswer b (verdict (q .text)) (q .work) (length (q .before)) ≡ paired l =
-          ap (λ (u : Verdict). pairsAnswer b u (q .work) (length (q .before))) (sym v) ∙ asks-paired b (q .work) (length (q .before)) e (A .work) h in
-          (told-as l (Q .book b R .tells) o, Q .book b R .list ∙ ap (λ (u : Outcome). listAfter u (q .before)) o),
-    )
+    let l = pairs (asked b) e in
+    let are = pairs-are (asked b) (fit-inside b (R .sheet .fit)) (small R) e in
+    let room = length (q .before) in
+    let o : pairsAnswer b (verdict (q .text)) (q .work) room ≡ paired (length l) (take room l) =
+    ap (λ (u : Verdict). pairsAnswer b u (q .work) room) (sym v) ∙ asks-paired b (q .work) room e (A .work) in
+    (l, are, told-as (length l) (take room l) (Q .book b R .tells) o, Q .book b R .list ∙ ap (λ (u : Outcome). listAfter u (q .before)) o, λ w v. first-part room w v l (are .ascending))
 
 -- a faulty expression is refused with its number, and the list is as it was
 told-refused : {o : Outcome} {a : PairsAnswer} (k : ℕ) → Tells o a → o ≡ refused k → a ≡ Refused k
 told-refused k (told-number {k = j}) e = let z : j ≡ k = cc in ap Refused z
-told-refused k (told-pairs {ws}) e = absurd (let z : _≡_ {A = ℕ} 0 1 = cc in omega arith)
+told-refused k (told-pairs {total}) e = absurd (let z : _≡_ {A = ℕ} 0 1 = cc in omega arith)
 
 pub faulty-kept : {b : Book} {v : Verdict} {work : ℕ} {before after′ : List ℕ} {a : PairsAnswer} (k : ℕ) → readAnswer v ≡ Faulty k → BookPairs b v work before after′ a
     → (a ≡ Refused k) × (after′ ≡ before)

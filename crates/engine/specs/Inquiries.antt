@@ -8,7 +8,7 @@
 --                   the history was made: each word's number stands in the list `told`, whose words past them are as they were; both questions are
 --                   answered as the plain book answers them, refusals too; and demand 3, of the calls among the words
 --   Inquires n words told told′ p c r
---                   refused if n is outside 1 to 1,024 (1) or `told` is shorter than the answers (13), else made
+--                   refused if n is outside 1 to 1,024 (1) or `told` is shorter than the answers (12), else made
 -- Assumes nothing: these are definitions.
 use mathlib.Core.Path.{_≡_}
 use mathlib.Core.List.{List, [], _++_}

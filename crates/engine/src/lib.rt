@@ -5,7 +5,7 @@ ghost use mathlib.Core.List.{[], _∷_};
 ghost use lib.ListN.{length};
 ghost use Rattle.book.specs.Book.{add, remove, lock, unlock, edit, undo};
 ghost use Rattle.k2.specs.PairSets.{union, intersection, difference, transpose, closure};
-ghost use Rattle.tree.specs.Calls.{productSensed, Answered, treeOf, listOf, treeOfOne, treeOfTwo};
+ghost use Rattle.tree.specs.Calls.{productSensed, Answered, Listed, treeOf, listOf, treeOfOne, treeOfTwo};
 ghost use Rattle.register.specs.Calls.{callOf, Opens, Steps};
 ghost use Rattle.register.specs.Questions.{Sized, Listing, Locking};
 ghost use Rattle.pairs.specs.Asking.{AsksPairs, Relates};
@@ -89,7 +89,7 @@ pub fn is_locked(register: Register, record: u16) -> bool
     register.is_locked(record)
 }
 
-// The pairs of an expression, ascending, each once.
+// The pairs of an expression, ascending, each once, as many as the list takes; how many they are in all.
 pub fn pairs(register: Register, text: &[u8], work: &mut [u64], list: &mut [u32]) -> PairsAnswer
     ensures { λ a. ⌜ AsksPairs register (now (text .entry)) (length (now (work .entry))) (now (list .entry)) (now (list .exit)) a ⌝ }
 {
@@ -125,9 +125,9 @@ pub fn tree_make(n: usize, pairs: &[u32], out: &mut [u64], work: &mut [u64]) -> 
     tree::make(n, pairs, out, work)
 }
 
-// The pairs of a tree, ascending.
+// The pairs of a tree, ascending, as many as the list takes; how many they are in all.
 pub fn tree_list(n: usize, a: &[u64], out: &mut [u32], work: &mut [u64]) -> tree::Answer
-    ensures { λ r. ⌜ Answered n [] (now (a .entry) ∷ []) (length (now (work .entry)))
+    ensures { λ r. ⌜ Listed n (now (a .entry) ∷ []) (length (now (work .entry)))
         (listOf n (now (a .entry))) (now (out .entry)) (now (out .exit)) r ⌝ }
 {
     tree::list(n, a, out, work)

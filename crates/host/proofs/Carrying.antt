@@ -11,7 +11,7 @@ use lib.Dec.{ltb}
 use lib.ListN.{length, take, drop}
 use borrow.Author.Tests.{lt-ltb, le-ltb}
 use Rattle.book.specs.Basics.{pick}
-use Rattle.book.specs.Causes.{short-work, short-list, not-open, number, Caused, firstNumber, maxRecords}
+use Rattle.book.specs.Causes.{short-work, not-open, number, Caused, firstNumber, maxRecords}
 use Rattle.book.specs.Book.{Book, Call, freshAnswer, fresh}
 use Rattle.register.specs.Representation.{Represents}
 use Rattle.register.specs.Calls.{answerOf, answerNumber, Opens, Steps}
@@ -23,8 +23,8 @@ use Rattle.register.specs.declared.Register.{Register}
 use Rattle.register.specs.declared.Outcome.{Outcome}
 use Rattle.register.specs.declared.Links.{Links}
 use Rattle.register.specs.declared.Answer.the-variants.{Done, Refused}
-use Rattle.pairs.specs.Asking.{Handed, too-long, handed}
-use Rattle.pairs.specs.declared.PairsAnswer.the-variants.{Pairs, Refused as Unpaired}
+use Rattle.pairs.specs.Asking.{handed}
+use Rattle.pairs.specs.declared.PairsAnswer.the-variants.{Pairs}
 use Rattle.host.specs.Host.{freshNumber, Freshens, Edits, refusal, toldPairs, Told, Asked, Lists, Sizes, TellsLock}
 use Rattle.host.specs.Inner.{Finishes, refused, kept, lost}
 
@@ -147,20 +147,11 @@ module _ {A : Type 0} {ws : List ℕ} {P : Register → A → Type 0} {f : A →
 abbrev front : Links → List ℕ
 front ls = take (ls .count) (ls .words)
 
-module _ {ws before after : List ℕ} {r : Register} (w : Keeps ws r) (ls : Links) (g : Listing r ls) {ok : Bool} (c : Copies (front ls) 0 before after ok) {k : ℕ} where
-  pub links-short : ok ≡ false → k ≡ refusal (number short-list) → Asked ws (Lists before after) toldPairs before after k
-  links-short f e = asked w (Unpaired (number short-list)) (ls, g, go (decLt (length before) (length (front ls)))) e
-    where
-      go : Dec (length before < length (front ls)) → Handed (front ls) before after (Unpaired (number short-list))
-      go (yes l) = too-long l (c .short (omega (arith, l)) .1)
-      go (no l) = absurd (false≢true (sym f ∙ c .fits (omega (arith, l)) .0))
-
-  pub links-given : ok ≡ true → k ≡ length (front ls) → Asked ws (Lists before after) toldPairs before after k
-  links-given f e = asked w (Pairs (length (front ls))) (ls, g, go (decLt (length before) (length (front ls)))) e
-    where
-      go : Dec (length before < length (front ls)) → Handed (front ls) before after (Pairs (length (front ls)))
-      go (yes l) = absurd (true≢false (sym f ∙ c .short (omega (arith, l)) .0))
-      go (no l) = let z : 0 + length (front ls) ≡ length (front ls) = omega arith in handed (omega (arith, l)) (c .fits (omega (arith, l)) .1 ∙ ap (λ (j : ℕ). front ls ++ drop j before) z)
+pub links-handed : {ws before after : List ℕ} {r : Register} → Keeps ws r → (ls : Links) → Listing r ls → (xs : List ℕ) {ok : Bool} → Copies xs 0 before after ok → length xs ≤ length before
+    → xs ≡ take (length before) (front ls) → {k : ℕ} → k ≡ length (front ls) → Asked ws (Lists before after) toldPairs before after k
+links-handed {before = before} w ls g xs c h q e =
+    let z : 0 + length xs ≡ length xs = omega arith in
+    asked w (Pairs (length (front ls))) (ls, g, handed (c .fits (omega (arith, h)) .1 ∙ ap (λ (j : ℕ). xs ++ drop j before) z ∙ ap (λ (l : List ℕ). l ++ drop (length l) before) q)) e
 
 byte : (l : Bool) → boolByte l ≡ lockWord l
 byte true = refl

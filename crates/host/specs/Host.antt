@@ -17,8 +17,9 @@
 --   Asked ws P f before after k
 --                   what a question promises: of a register's words the answer is one that P promises of that register; words that are no register's
 --                   are refused with 16, and the list is left
---   Lists r before after a
---                   the words of the links of the register r, handed over into a list that held `before`
+--   Lists before after r a
+--                   the words of the links of the register r, handed over into a list that held `before`: the first of them that it takes, and how many
+--                   they are in all
 --   Sizes ws k, TellsLock ws x k
 --                   the number of records; whether a record is locked: 0 if the words are no register's
 -- Assumes nothing: these are definitions.

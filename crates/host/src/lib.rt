@@ -3,11 +3,11 @@
 // A number told as 64 bits is a count; 2^32 for no chain; 2^33 and the number of the cause for a refusal.
 ghost use mathlib.Core.Path.{_≡_};
 ghost use mathlib.Core.List.{[], _∷_};
-ghost use Prim.Native.Nat.{_<_};
-ghost use lib.ListN.{length};
+ghost use Prim.Native.Nat.{_≤_, _<_};
+ghost use lib.ListN.{length, take};
 ghost use Rattle.book.specs.Book.{add, remove, lock, unlock, edit as Book·edit, undo};
 ghost use Rattle.k2.specs.PairSets.{union, intersection, difference, transpose, closure};
-ghost use Rattle.tree.specs.Calls.{senseOf, productSensed, Answered, treeOf, listOf, treeOfOne, treeOfTwo};
+ghost use Rattle.tree.specs.Calls.{senseOf, productSensed, Answered, Listed, treeOf, listOf, treeOfOne, treeOfTwo};
 ghost use Rattle.register.specs.Calls.{callOf};
 ghost use Rattle.pairs.specs.Asking.{AsksPairs};
 ghost use Rattle.chains.specs.Replies.{Replies};
@@ -166,7 +166,17 @@ pub extern "C" fn dating_size(state: &[u32]) -> u32
     n as u32
 }
 
-// The links' words, ascending.
+// How many of some words a list of so many takes.
+fn fitting(words: &[u32], room: usize) -> usize
+    ensures { λ r. ⌜ (r ≤ length (now (words .entry))) × (r ≤ room) × (take r (now (words .entry)) ≡ take room (now (words .entry))) ⌝ }
+{
+    if room < words.len() {
+        return room;
+    }
+    words.len()
+}
+
+// The links' words, ascending, as many as the list takes; how many they are in all.
 #[no_mangle]
 pub extern "C" fn dating_links(state: &[u32], list: &mut [u32]) -> u64
     ensures { λ k. ⌜ Asked (now (state .entry)) (Lists (now (list .entry)) (now (list .exit))) toldPairs (now (list .entry)) (now (list .exit)) k ⌝ }
@@ -180,9 +190,8 @@ pub extern "C" fn dating_links(state: &[u32], list: &mut [u32]) -> u64
     let links = engine::links(register);
     let count = links.count;
     let words = links.words;
-    if !register::copy(&words[..count], list, 0) {
-        return told_refusal(book::SHORT_LIST);
-    }
+    let first = fitting(&words[..count], list.len());
+    register::copy(&words[..first], list, 0);
     count as u64
 }
 
@@ -200,7 +209,7 @@ pub extern "C" fn dating_locked(state: &[u32], record: u16) -> u32
     engine::is_locked(register, record) as u32
 }
 
-// The pairs that have a chain, ascending, each once.
+// The pairs that have a chain, ascending, each once, as many as the list takes; how many they are in all.
 #[no_mangle]
 pub extern "C" fn dating_pairs(
     state: &[u32],
@@ -251,7 +260,7 @@ pub extern "C" fn dating_tree_make(
     told_tree(engine::tree_make(n, pairs, tree, work))
 }
 
-// The pairs of a tree, ascending.
+// The pairs of a tree, ascending, as many as the list takes; how many they are in all.
 #[no_mangle]
 pub extern "C" fn dating_tree_list(
     n: usize,
@@ -259,7 +268,7 @@ pub extern "C" fn dating_tree_list(
     list: &mut [u32],
     work: &mut [u64],
 ) -> u64
-    ensures { λ k. ⌜ Told (Answered n [] (now (tree .entry) ∷ []) (length (now (work .entry))) (listOf n (now (tree .entry))) (now (list .entry)) (now (list .exit))) toldTree k ⌝ }
+    ensures { λ k. ⌜ Told (Listed n (now (tree .entry) ∷ []) (length (now (work .entry))) (listOf n (now (tree .entry))) (now (list .entry)) (now (list .exit))) toldTree k ⌝ }
 {
     told_tree(engine::tree_list(n, tree, list, work))
 }

@@ -28,7 +28,7 @@ use Rattle.pairs.specs.declared.PairsAnswer.the-variants.{Pairs, Refused
 use Rattle.pairs.specs.declared.Related.{Related}
 use Rattle.pairs.specs.declared.Related.the-variants.{Rows, Refused as Declined}
 use Rattle.pairs.specs.Asking.{pairsLength, told-number, told-pairs, Handed, BookPairs, AsksFor, RelatesFor, rowWords, relationAnswer}
-use Rattle.pairs.specs.AskingLaws.{relation-refused, relation-short, relation-few, relation-paired, refused-alike, asks-handed, faulty-caused, handed-fits, handed-past, handed-kept, handed-caused}
+use Rattle.pairs.specs.AskingLaws.{relation-refused, relation-short, relation-few, relation-paired, refused-alike, asks-handed, faulty-caused, handed-past, handed-some}
 use Rattle.pairs.specs.Relating.{Relating, turned-down, in-rows, RelatingFor}
 use Rattle.pairs.specs.Evaluation.{allBelow}
 use Rattle.pairs.specs.Steps.{Lettered, Coded}
@@ -137,7 +137,7 @@ module _ (r : Register) (v : Verdict) (work : ℕ) (before after : List ℕ) whe
     book = λ b R.
         let m = made (A .book b R) d in
         let k : t ≡ length (pairs (asked b) (m .syntax)) = c ∙ ap length (m .counted) in
-        let o : relationAnswer b v work (length before) ≡ paired (pairs (asked b) (m .syntax)) =
+        let o : relationAnswer b v work (length before) ≡ paired (length (pairs (asked b) (m .syntax))) (pairs (asked b) (m .syntax)) =
         ap (λ (w : Verdict). relationAnswer b w work (length before)) (m .is) ∙ relation-paired b work (length before) (m .syntax) (m .enough) (m .long) in
         record {
           tells = rw (o, k) told-pairs;
@@ -150,7 +150,6 @@ module _ (r : Register) (v : Verdict) (work : ℕ) (none rows : List ℕ) (wide 
   pub asks-refused : {k : ℕ} {q : Related} → q ≡ Declined k → RelatingFor r v work none rows q → AsksFor r v work before before (Refused k)
   unfolding pairsLength listAfter
   asks-refused {k} d A = record {
-    fits = omega arith;
     past = refl;
     unchanged = λ j e. refl;
     caused = λ j e. let z : k ≡ j = cc in A .caused j (d ∙ ap Declined z);
@@ -162,10 +161,9 @@ module _ (r : Register) (v : Verdict) (work : ℕ) (none rows : List ℕ) (wide 
   pub asks-rows : {n : ℕ} {q : Related} {a : PairsAnswer} → q ≡ Rows n → RelatingFor r v work none rows q → take rowWords rows ≡ rows
       → Handed (pairsIn n rows) before after a → AsksFor r v work before after a
   asks-rows {n} {a = a} d A whole h = record {
-    fits = handed-fits h;
     past = handed-past h;
-    unchanged = handed-kept h;
-    caused = handed-caused h;
+    unchanged = λ k q. handed-some h k q;
+    caused = λ k q. handed-some h k q;
     book = λ b R.
         let m = made (A .book b R) d in
         subst (λ (w : Verdict). BookPairs b w work before after a) (sym (m .is))

@@ -1,14 +1,14 @@
 -- What the pair question promises, and the relation as rows.
---   pairsLength a  how many words of the list are the answer's
---   Tells o a       the answer a is how the outcome o is told: the number of a refusal, or the number of pairs
+--   pairsLength a   how many pairs there are by the answer
+--   Tells o a       the answer a is how the outcome o is told: the number of a refusal, or how many pairs there are in all
 --   Handed l before after a
---                   the pairs l handed over into a list that held `before`, if it takes them
+--                   the pairs l handed over into a list that held `before`: the first of them that it takes, and how many they are in all
 --   BookPairs b v work before after a
 --                   asked of the book b with a text of the verdict v, so many words of work and a list that held `before`: the answer a tells the outcome
 --                   that the book gives, and the list, which holds `after`, is that outcome's
 --   AsksFor r v work before after a
---                   asked of the register r. Over any contents: the answer fits the list, and the words past it are as they were, all of them with a
---                   refusal, whose number is a cause's. For every book that the register represents: answer and list are the book's
+--                   asked of the register r. Over any contents: the words past the pairs are as they were, all of them with a refusal, whose number is
+--                   a cause's. For every book that the register represents: answer and list are the book's
 --   AsksPairs r text work before after a
 --                   the same of a text
 --   rowWords        the words of a relation's rows: 1,024 rows of 1,024 bits
@@ -26,10 +26,10 @@
 use mathlib.Core.Path.{_≡_}
 use mathlib.Core.List.{List, [], _∷_, _++_}
 use mathlib.Core.Bool.{Bool, _||_}
-use Prim.Native.Nat.{ℕ, _≤_, _<_}
+use Prim.Native.Nat.{ℕ}
 use lib.Dec.{ltb}
 use lib.ListN.{length, take, drop}
-use Rattle.book.specs.Causes.{Cause, short-work, short-list, number, Caused, firstNumber}
+use Rattle.book.specs.Causes.{Cause, short-work, Caused, firstNumber}
 use Rattle.book.specs.Book.{Book}
 use Rattle.k2.specs.Bits.{bitAt}
 use Rattle.paths.specs.Expressions.{Expr}
@@ -50,18 +50,16 @@ pairsLength (Refused k) = 0
 
 pub data Tells : Outcome → PairsAnswer → Type 0 where
   told-number : {k : ℕ} → Tells (refused k) (Refused k)
-  told-pairs : {ws : List ℕ} → Tells (paired ws) (Pairs (length ws))
+  told-pairs : {total : ℕ} {ws : List ℕ} → Tells (paired total ws) (Pairs total)
 
 pub data Handed (l before after : List ℕ) : PairsAnswer → Type 0 where
-  too-long : length before < length l → after ≡ before → Handed l before after (Refused (number short-list))
-  handed : length l ≤ length before → after ≡ over l before → Handed l before after (Pairs (length l))
+  handed : after ≡ over (take (length before) l) before → Handed l before after (Pairs (length l))
 
 pub record BookPairs (b : Book) (v : Verdict) (work : ℕ) (before after : List ℕ) (a : PairsAnswer) : Type 0 where
   pub tells : Tells (pairsAnswer b v work (length before)) a
   pub list : after ≡ listAfter (pairsAnswer b v work (length before)) before
 
 pub record AsksFor (r : Register) (v : Verdict) (work : ℕ) (before after : List ℕ) (a : PairsAnswer) : Type 0 where
-  pub fits : pairsLength a ≤ length before
   pub past : drop (pairsLength a) after ≡ drop (pairsLength a) before
   pub unchanged : (k : ℕ) → a ≡ Refused k → after ≡ before
   pub caused : (k : ℕ) → a ≡ Refused k → Caused k
@@ -77,7 +75,7 @@ unfoldable pub relationCauses : Book → Verdict → ℕ → ℕ → List (Cause
 relationCauses b v work rows = verdictCause v ++ ((short-work, ltb work (pairsWork (b .n)) || ltb rows rowWords) ∷ [])
 
 unfoldable pub relationAnswer : Book → Verdict → ℕ → ℕ → Outcome
-relationAnswer b v work rows = unless (firstNumber (relationCauses b v work rows)) (paired (pairsOf b v))
+relationAnswer b v work rows = unless (firstNumber (relationCauses b v work rows)) (paired (length (pairsOf b v)) (pairsOf b v))
 
 pub record RelationOf (b : Book) (v : Verdict) (work : ℕ) (before after : List ℕ) (a : PairsAnswer) : Type 0 where
   pub tells : Tells (relationAnswer b v work (length before)) a

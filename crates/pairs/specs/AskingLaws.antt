@@ -1,23 +1,24 @@
 -- Laws of the pair question: what the book's answer is, by the verdict, the work and the list.
 --   asks-refused    the verdict's number
 --   asks-short      12
---   asks-handed     the pairs, or 13
+--   asks-paired     how many pairs there are, and the first of them
+--   asks-handed     the pairs handed over are that answer
 --   relation-refused, relation-short, relation-few, relation-paired
 --                   the same of the relation as rows
 --   refused-alike   with rows enough, a pair question is refused as its relation is
 --   faulty-caused   a verdict's number is a cause's
---   handed-fits, handed-past, handed-kept, handed-caused
---                   what is handed over fits the list, and leaves the words past it, all of them with a refusal, whose number is a cause's
+--   handed-past     what is handed over leaves the words past it
+--   handed-some     it is no refusal
 -- Assumes nothing.
 use mathlib.Core.Path.{_≡_, refl, sym, ap, _∙_}
-use mathlib.Core.List.{List}
+use mathlib.Core.List.{List, _++_}
 use Prim.Native.Nat.{ℕ, _*_, _≤_, _<_}
 use native.Mathlib.Decide.{decLt}
 use native.Mathlib.Omega.{arith}
-use lib.ListN.{length, drop}
-use lib.Seq.{drop-at}
+use lib.ListN.{length, take, drop, length-append, length-drop, drop-of-length-le}
+use lib.Seq.{drop-at, take-all, length-take-le}
 use borrow.Author.Tests.{lt-ltb, le-ltb}
-use Rattle.book.specs.Causes.{short-list, number, Caused, firstNumber}
+use Rattle.book.specs.Causes.{number, Caused, firstNumber}
 use Rattle.book.specs.Book.{Book}
 use Rattle.k2.specs.Trees.{treeUnit}
 use Rattle.paths.specs.Expressions.{Expr}
@@ -25,12 +26,12 @@ use Rattle.paths.specs.Grammar.{Verdict, accepted, long, outside, large, verdic
 use Rattle.paths.specs.Chains.{asked}
 use Rattle.paths.specs.Relations.{pairs}
 use Rattle.paths.specs.PairLaws.{verdict-caused}
-use Rattle.paths.specs.Questions.{refused, paired, pairsOf, pairsCauses, pairsAnswer, listAfter}
+use Rattle.paths.specs.Questions.{refused, paired, pairsOf, pairsCauses, pairsAnswer, over, listAfter}
 use Rattle.reader.specs.Reads.{readAnswer}
 use Rattle.reader.specs.declared.Answer.the-variants.{Refused as Faulty}
 use Rattle.pairs.specs.declared.PairsAnswer.{PairsAnswer}
 use Rattle.pairs.specs.declared.PairsAnswer.the-variants.{Refused}
-use Rattle.pairs.specs.Asking.{pairsLength, told-number, told-pairs, Handed, too-long, handed, BookPairs, rowWords, relationCauses, relationAnswer}
+use Rattle.pairs.specs.Asking.{pairsLength, told-pairs, Handed, handed, BookPairs, rowWords, relationCauses, relationAnswer}
 
 module _ (b : Book) (work room : ℕ) where
   pub asks-refused : (v : Verdict) (k : ℕ) → readAnswer v ≡ Faulty k → pairsAnswer b v work room ≡ refused k
@@ -45,13 +46,9 @@ module _ (b : Book) (work room : ℕ) where
   asks-short e h = rw (lt-ltb work (32 * treeUnit (b .n)) h)
 
   module _ (e : Expr) (h : 32 * treeUnit (b .n) ≤ work) where
-    pub asks-long : room < length (pairs (asked b) e) → pairsAnswer b (accepted e) work room ≡ refused 13
+    pub asks-paired : pairsAnswer b (accepted e) work room ≡ paired (length (pairs (asked b) e)) (take room (pairs (asked b) e))
     unfolding pairsAnswer pairsCauses verdictCause firstNumber number pairsOf
-    asks-long l = rw (le-ltb work (32 * treeUnit (b .n)) h, lt-ltb room (length (pairs (asked b) e)) l)
-
-    pub asks-paired : length (pairs (asked b) e) ≤ room → pairsAnswer b (accepted e) work room ≡ paired (pairs (asked b) e)
-    unfolding pairsAnswer pairsCauses verdictCause firstNumber number pairsOf
-    asks-paired l = rw (le-ltb work (32 * treeUnit (b .n)) h, le-ltb room (length (pairs (asked b) e)) l)
+    asks-paired = rw (le-ltb work (32 * treeUnit (b .n)) h)
 
 pub faulty-caused : (v : Verdict) (k : ℕ) → readAnswer v ≡ Faulty k → Caused k
 unfolding readAnswer verdictCause firstNumber number
@@ -63,9 +60,8 @@ faulty-caused large k q = let z : 10 ≡ k = cc in verdict-caused large k z (ome
 -- what is handed over is the outcome, told and listed
 pub asks-handed : (b : Book) (e : Expr) (work : ℕ) {before after : List ℕ} {a : PairsAnswer} → 32 * treeUnit (b .n) ≤ work → Handed (pairs (asked b) e) before after a
     → BookPairs b (accepted e) work before after a
-unfolding listAfter number
-asks-handed b e work {before} h (too-long l q) = let o = asks-long b work (length before) e h l in record { tells = rw o told-number; list = rw o q }
-asks-handed b e work {before} h (handed l q) = let o = asks-paired b work (length before) e h l in record { tells = rw o told-pairs; list = rw o q }
+unfolding listAfter
+asks-handed b e work {before} h (handed q) = let o = asks-paired b work (length before) e h in record { tells = rw o told-pairs; list = rw o q }
 
 -- ---- the relation as rows
 module _ (b : Book) (work rows : ℕ) where
@@ -85,7 +81,7 @@ module _ (b : Book) (work rows : ℕ) where
     unfolding relationAnswer relationCauses verdictCause firstNumber number
     relation-few l = rw (le-ltb work (32 * treeUnit (b .n)) h, lt-ltb rows rowWords l)
 
-    pub relation-paired : rowWords ≤ rows → relationAnswer b (accepted e) work rows ≡ paired (pairs (asked b) e)
+    pub relation-paired : rowWords ≤ rows → relationAnswer b (accepted e) work rows ≡ paired (length (pairs (asked b) e)) (pairs (asked b) e)
     unfolding relationAnswer relationCauses verdictCause firstNumber number pairsOf
     relation-paired l = rw (le-ltb work (32 * treeUnit (b .n)) h, le-ltb rows rowWords l)
 
@@ -99,24 +95,24 @@ refused-alike b work room k (accepted x) e = go (decLt work (32 * treeUnit (b .n
   where
     go : Dec (work < 32 * treeUnit (b .n)) → pairsAnswer b (accepted x) work room ≡ refused k
     go (yes h) = asks-short b work room x h ∙ sym (relation-short b work rowWords x h) ∙ e
-    go (no h) = absurd (let z : paired (pairs (asked b) x) ≡ refused k = sym (relation-paired b work rowWords x (omega arith) (omega arith)) ∙ e in let y : _≡_ {A = ℕ} 0 1 = cc in omega arith)
+    go (no h) = absurd (let z : paired (length (pairs (asked b) x)) (pairs (asked b) x) ≡ refused k = sym (relation-paired b work rowWords x (omega arith) (omega arith)) ∙ e in let y : _≡_ {A = ℕ} 0 1 = cc in omega arith)
 
 -- ---- some pairs handed over
-module _ {l before after : List ℕ} where
-  pub handed-fits : {a : PairsAnswer} → Handed l before after a → pairsLength a ≤ length before
-  unfolding pairsLength
-  handed-fits (too-long h e) = omega arith
-  handed-fits (handed h e) = h
+-- behind the first words of l, a list that takes them all is as it was, and there is nothing of one that does not
+past-over : (l before : List ℕ) → drop (length l) (over (take (length before) l) before) ≡ drop (length l) before
+past-over l before = go (decLt (length before) (length l))
+  where
+    go : Dec (length before < length l) → drop (length l) (over (take (length before) l) before) ≡ drop (length l) before
+    go (yes h) =
+        let n : length (over (take (length before) l) before) ≤ length l =
+        omega (arith, length-append (take (length before) l) (drop (length (take (length before) l)) before), length-drop (length (take (length before) l)) before, length-take-le (length before) l (omega arith)) in
+        drop-of-length-le (over (take (length before) l) before) {i = length l} n ∙ sym (drop-of-length-le before {i = length l} (omega arith))
+    go (no h) = rw (take-all (length before) l (omega arith)) (drop-at l (drop (length l) before) (length l) refl)
 
+module _ {l before after : List ℕ} where
   pub handed-past : {a : PairsAnswer} → Handed l before after a → drop (pairsLength a) after ≡ drop (pairsLength a) before
   unfolding pairsLength
-  handed-past (too-long h e) = e
-  handed-past (handed h e) = ap (drop (length l)) e ∙ drop-at l (drop (length l) before) (length l) refl
+  handed-past (handed e) = ap (drop (length l)) e ∙ past-over l before
 
-  pub handed-kept : {a : PairsAnswer} → Handed l before after a → (k : ℕ) → a ≡ Refused k → after ≡ before
-  handed-kept (too-long h e) k q = e
-  handed-kept (handed h e) k q = absurd (let z : _≡_ {A = ℕ} 0 1 = cc in omega arith)
-
-  pub handed-caused : {a : PairsAnswer} → Handed l before after a → (k : ℕ) → a ≡ Refused k → Caused k
-  handed-caused (too-long h e) k q = let z : number short-list ≡ k = cc in (short-list, sym z)
-  handed-caused (handed h e) k q = absurd (let z : _≡_ {A = ℕ} 0 1 = cc in omega arith)
+  pub handed-some : {A : Type 0} {a : PairsAnswer} → Handed l before after a → (k : ℕ) → a ≡ Refused k → A
+  handed-some (handed e) k q = absurd (let z : _≡_ {A = ℕ} 0 1 = cc in omega arith)

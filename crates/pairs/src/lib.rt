@@ -20,7 +20,7 @@ ghost use Rattle.pairs.specs.Steps.{Lettered, Takes, Goes, Coded, Going,
 ghost use Rattle.pairs.specs.Relating.{RelatingFor};
 ghost use Rattle.pairs.specs.Asking.{Handed, Relates, AsksPairs};
 
-// The answer to a pair question: the number of pairs, or refused with the number of the cause.
+// The answer to a pair question: the number of pairs in all, or refused with the number of the cause.
 pub enum PairsAnswer {
     Pairs(usize),
     Refused(u32),
@@ -361,20 +361,17 @@ pub fn relation(
     }
 }
 
-// The pairs of the first n rows handed over, if the list takes them.
+// The pairs of the first n rows handed over, as many as the list takes; how many they are in all.
 fn hand_over(rows: &[u64], n: usize, list: &mut [u32]) -> PairsAnswer
     requires { ⌜ (n ≤ maxRecords) × (length (now rows) ≡ 16384) ⌝ }
     ensures { λ a. ⌜ Handed (pairsIn n (now (rows .entry))) (now (list .entry)) (now (list .exit)) a ⌝ }
 {
     let total = rows::count_pairs(rows, n);
-    if list.len() < total {
-        return PairsAnswer::Refused(book::SHORT_LIST);
-    }
     rows::write_pairs(rows, n, list);
     PairsAnswer::Pairs(total)
 }
 
-// The pairs that have a chain, ascending, each once.
+// The pairs that have a chain, ascending, each once, as many as the list takes; how many they are in all.
 pub fn pairs(
     register: register::Register,
     text: &[u8],

@@ -1,23 +1,27 @@
 -- The computed list of pairs is the answer of a pair question, and nothing else is; what a book after a history is as a graph.
 --   pairs-are       pairs g e ascends, and its members are exactly the words of the pairs that have a chain
 --   pairs-only      no other list is so
+--   first-part      of an ascending list, every word of the first part is smaller than every other
+--   long-enough     with room for all pairs, the answer of a pair question has them all
 --   fit-inside, history-inside, history-small
 --                   after every history the links lie between records in use, and n is at most 1,024
 --   pairs-in-order, chain-in-order
 --                   the causes against a question stand in the order of S6.7
 --   verdict-caused  the number of a faulty text is that of a cause
 -- Assumes nothing.
-use mathlib.Core.Path.{_≡_, sym}
+use mathlib.Core.Path.{_≡_, refl, sym, ap}
 use mathlib.Core.List.{List, [], _∷_, _++_}
 use mathlib.Core.Bool.{Bool}
-use Prim.Native.Nat.{ℕ, _≤_, _<_}
+use Prim.Native.Nat.{ℕ, zero, suc, _≤_, _<_}
 use native.Mathlib.Omega.{arith}
-use lib.ListN.{length}
+use lib.ListN.{length, take}
+use lib.Seq.{take-all}
 use lib.Dec.{ltb}
 use borrow.Author.Tests.{ltb-true, lt-ltb}
+use Rattle.book.specs.Basics.{In, here, there, Rises, rises}
 use Rattle.book.specs.Causes.{Cause, no-expression, too-many-bytes, too-large, short-work, short-list, number, Caused, firstNumber, questionOrder, InOrder, none-left, same-cause, passed-over}
 use Rattle.book.specs.Book.{Sheet, Book, Call, fresh, after}
-use Rattle.book.specs.ListLaws.{rises-same}
+use Rattle.book.specs.ListLaws.{in-none, rises-least, rises-same}
 use Rattle.book.specs.Sheets.{Fit}
 use Rattle.book.specs.BookLaws.{fresh-sound, after-sound}
 use Rattle.k2.specs.PairSetLaws.{in-listed, listed-in, listed-rises}
@@ -25,7 +29,7 @@ use Rattle.paths.specs.Expressions.{Expr}
 use Rattle.paths.specs.Grammar.{Verdict, accepted, long, outside, large, verdictCause}
 use Rattle.paths.specs.Chains.{Graph, asked, Reply}
 use Rattle.paths.specs.Relations.{cells, PairsAre, pairs}
-use Rattle.paths.specs.Questions.{pairsWork, chainWork, pairsOf, pairsCauses, steps, chainCauses}
+use Rattle.paths.specs.Questions.{paired, unless, chainWork, pairsOf, pairsCauses, pairsAnswer, steps, chainCauses}
 use Rattle.paths.specs.ChainLaws.{Inside}
 use Rattle.paths.specs.RelationLaws.{cells-has}
 
@@ -44,6 +48,21 @@ module _ (g : Graph) (I : Inside g) (s : g .n ≤ 1024) (e : Expr) where
       rises-same l (pairs g e) (p .ascending) (q .ascending)
       (λ w h. let r = p .sound w h in rw (r .2) (q .whole (r .0) (r .1) (r .3)))
       (λ w h. let r = q .sound w h in rw (r .2) (p .whole (r .0) (r .1) (r .3)))
+
+-- ---- the first part of the pairs
+first-from : (m k w v : ℕ) (l : List ℕ) → Rises m l → In w (take k l) → In v l → (In v (take k l) → ⊥) → w < v
+first-from m zero w v l r i j n = absurd (in-none i refl)
+first-from m (suc k) w v (x ∷ l) (rises h r) i here n = absurd (n here)
+first-from m (suc k) w v (x ∷ l) (rises h r) here (there j) n = rises-least r j
+first-from m (suc k) w v (x ∷ l) (rises h r) (there i) (there j) n = first-from (suc x) k w v l r i j (λ q. n (there q))
+
+pub first-part : (k w v : ℕ) (l : List ℕ) → Rises 0 l → In w (take k l) → In v l → (In v (take k l) → ⊥) → w < v
+first-part k w v l = first-from 0 k w v l
+
+pub long-enough : (b : Book) (v : Verdict) (work room : ℕ) → length (pairsOf b v) ≤ room
+    → pairsAnswer b v work room ≡ unless (firstNumber (pairsCauses b v work)) (paired (length (pairsOf b v)) (pairsOf b v))
+unfolding pairsAnswer
+long-enough b v work room h = ap (λ (ws : List ℕ). unless (firstNumber (pairsCauses b v work)) (paired (length (pairsOf b v)) ws)) (take-all room (pairsOf b v) h)
 
 -- ---- the graph of a book
 pub fit-inside : (b : Book) → Fit (b .n) (b .sheet) → Inside (asked b)
@@ -71,9 +90,12 @@ text-in-order long t u = same-cause (passed-over (passed-over (same-cause (same-
 text-in-order outside t u = passed-over (same-cause (passed-over (same-cause (same-cause none-left))))
 text-in-order large t u = passed-over (passed-over (same-cause (same-cause (same-cause none-left))))
 
-pub pairs-in-order : (b : Book) (v : Verdict) (work room : ℕ) → InOrder (pairsCauses b v work room) questionOrder
-unfolding pairsCauses questionOrder
-pairs-in-order b v work room = passed-over (text-in-order v (ltb work (pairsWork (b .n))) (ltb room (length (pairsOf b v))))
+pub pairs-in-order : (b : Book) (v : Verdict) (work : ℕ) → InOrder (pairsCauses b v work) questionOrder
+unfolding pairsCauses verdictCause questionOrder
+pairs-in-order b (accepted e) work = passed-over (passed-over (passed-over (passed-over (same-cause none-left))))
+pairs-in-order b long work = passed-over (same-cause (passed-over (passed-over (same-cause none-left))))
+pairs-in-order b outside work = passed-over (passed-over (same-cause (passed-over (same-cause none-left))))
+pairs-in-order b large work = passed-over (passed-over (passed-over (same-cause (same-cause none-left))))
 
 pub chain-in-order : (b : Book) (x y : ℕ) (v : Verdict) (t : Reply) (work room : ℕ) → InOrder (chainCauses b x y v t work room) questionOrder
 unfolding chainCauses questionOrder

@@ -1,23 +1,24 @@
 -- The answers of the two questions, refusals included, as functions of the book, the text's verdict and the lengths that are lent.
---   Outcome         refused with a number; the pair words of a pair question; or the reply to a chain question
+--   Outcome         refused with a number; of a pair question how many pairs there are, and the pair words written; or the reply to a chain question
 --   pairsWork n, chainWork n
 --                   the words of work that a question needs
 --   pairsOf b v     the pairs of a pair question, if the text is an expression
 --   pairsCauses, chainCauses
 --                   the causes against a question, in their order
 --   pairsAnswer b v work room
---                   the outcome of a pair question with so many words of work and room for so many in the list
+--                   the outcome of a pair question with so many words of work and room for so many in the list: how many pairs there are in all, and the
+--                   first of them, as many as there is room for
 --   ReplyTo g v x y t
 --                   t is the reply to a chain question from x to y, if the text is an expression
 --   chainAnswer b x y v t work room
 --                   the outcome of a chain question to which t is the reply
---   listAfter o l   what a result list that held l holds then: the answer, and the words past it as they were
+--   listAfter o l   what a result list that held l holds then: the words written, and those past them as they were
 -- Assumes nothing: these are definitions.
 use mathlib.Core.Path.{_≡_}
 use mathlib.Core.List.{List, [], _∷_, _++_}
 use mathlib.Core.Bool.{Bool, _||_}
 use Prim.Native.Nat.{ℕ, zero, suc, _*_}
-use lib.ListN.{length, drop}
+use lib.ListN.{length, take, drop}
 use lib.Dec.{leb, ltb}
 use Rattle.book.specs.Causes.{Cause, no-record, short-work, short-list, firstNumber}
 use Rattle.book.specs.Book.{Book}
@@ -29,7 +30,7 @@ use Rattle.paths.specs.Relations.{pairs}
 
 pub data Outcome : Type 0 where
   refused : ℕ → Outcome
-  paired : List ℕ → Outcome
+  paired : ℕ → List ℕ → Outcome
   replied : Reply → Outcome
 
 -- the number of a cause if there is one, else the outcome
@@ -49,14 +50,11 @@ pairsOf b long = []
 pairsOf b outside = []
 pairsOf b large = []
 
-unfoldable pub pairsCauses : Book → Verdict → ℕ → ℕ → List (Cause × Bool)
-pairsCauses b v work room =
-    verdictCause v ++ (
-    (short-work, ltb work (pairsWork (b .n))) ∷
-    (short-list, ltb room (length (pairsOf b v))) ∷ [])
+unfoldable pub pairsCauses : Book → Verdict → ℕ → List (Cause × Bool)
+pairsCauses b v work = verdictCause v ++ ((short-work, ltb work (pairsWork (b .n))) ∷ [])
 
 unfoldable pub pairsAnswer : Book → Verdict → ℕ → ℕ → Outcome
-pairsAnswer b v work room = unless (firstNumber (pairsCauses b v work room)) (paired (pairsOf b v))
+pairsAnswer b v work room = unless (firstNumber (pairsCauses b v work)) (paired (length (pairsOf b v)) (take room (pairsOf b v)))
 
 abbrev pub ReplyTo : Graph → Verdict → ℕ → ℕ → Reply → Type 0
 ReplyTo g v x y t = (e : Expr) → v ≡ accepted e → ChainIs g e x y t
@@ -81,5 +79,5 @@ over ws l = ws ++ drop (length ws) l
 
 unfoldable pub listAfter : Outcome → List ℕ → List ℕ
 listAfter (refused k) l = l
-listAfter (paired ws) l = over ws l
+listAfter (paired total ws) l = over ws l
 listAfter (replied t) l = over (steps t) l

@@ -21,19 +21,19 @@ pub replay-size : (n : ℕ) (ws old : List ℕ) → (freshAnswer n ≡ 0 → ⊥
 unfolding freshAnswer replayNumber firstNumber number
 replay-size n ws old z = go (ltb n 1 || ltb maxRecords n) z
   where
-    go : (t : Bool) → (_≡_ {A = ℕ} (pick t 1 0) 0 → ⊥) → _≡_ {A = ℕ} (pick t 1 (pick (ltb (length old) (length ws)) 13 0)) 1
+    go : (t : Bool) → (_≡_ {A = ℕ} (pick t 1 0) 0 → ⊥) → _≡_ {A = ℕ} (pick t 1 (pick (ltb (length old) (length ws)) 12 0)) 1
     go true z = refl
     go false z = absurd (z refl)
 
-replay-rest : (n : ℕ) (ws old : List ℕ) → freshAnswer n ≡ 0 → replayNumber n ws old ≡ pick (ltb (length old) (length ws)) 13 0
+replay-rest : (n : ℕ) (ws old : List ℕ) → freshAnswer n ≡ 0 → replayNumber n ws old ≡ pick (ltb (length old) (length ws)) 12 0
 unfolding freshAnswer replayNumber firstNumber number
 replay-rest n ws old z = go (ltb n 1 || ltb maxRecords n) z
   where
-    go : (t : Bool) → _≡_ {A = ℕ} (pick t 1 0) 0 → _≡_ {A = ℕ} (pick t 1 (pick (ltb (length old) (length ws)) 13 0)) (pick (ltb (length old) (length ws)) 13 0)
+    go : (t : Bool) → _≡_ {A = ℕ} (pick t 1 0) 0 → _≡_ {A = ℕ} (pick t 1 (pick (ltb (length old) (length ws)) 12 0)) (pick (ltb (length old) (length ws)) 12 0)
     go true z = absurd (omega arith)
     go false z = refl
 
-pub replay-short : (n : ℕ) (ws old : List ℕ) → freshAnswer n ≡ 0 → length old < length ws → replayNumber n ws old ≡ 13
+pub replay-short : (n : ℕ) (ws old : List ℕ) → freshAnswer n ≡ 0 → length old < length ws → replayNumber n ws old ≡ 12
 replay-short n ws old z h = replay-rest n ws old z ∙ rw (lt-ltb (length old) (length ws) h)
 
 pub replay-free : (n : ℕ) (ws old : List ℕ) → freshAnswer n ≡ 0 → length ws ≤ length old → replayNumber n ws old ≡ 0

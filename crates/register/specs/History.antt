@@ -14,7 +14,7 @@
 --                   the calls among entries, and among words, in their order
 --   isCall e        whether an entry is a call
 --   toldCalls       of the numbers told to words, those told to calls
---   replayNumber    the answer to replaying a list of words: 1 for n outside 1 to 1,024, 13 for a list shorter than the answers
+--   replayNumber    the answer to replaying a list of words: 1 for n outside 1 to 1,024, 12 for a list shorter than the answers
 --   Replays         what `replay` promises
 -- Assumes nothing: these are definitions.
 use mathlib.Core.Path.{_≡_}
@@ -24,7 +24,7 @@ use Prim.Native.Nat.{ℕ, _/_, _%_}
 use lib.ListN.{length, drop}
 use lib.Dec.{eqb, ltb}
 use Rattle.book.specs.Basics.{pick}
-use Rattle.book.specs.Causes.{bad-size, short-list, unknown-kind, number, firstNumber, maxRecords}
+use Rattle.book.specs.Causes.{bad-size, short-work, unknown-kind, number, firstNumber, maxRecords}
 use Rattle.book.specs.Book.{Book, add, remove, lock, unlock, Call, edit, undo, answer, next, fresh, after}
 use Rattle.register.specs.Representation.{Represents}
 use Rattle.register.specs.Calls.{answerOf, answerNumber, Steps}
@@ -104,7 +104,7 @@ toldCalls (w ∷ ws) (k ∷ told) = pick (isCall (wordCall w)) (k ∷ toldCalls 
 
 -- ---- replaying words
 unfoldable pub replayNumber : ℕ → List ℕ → List ℕ → ℕ
-replayNumber n words told = firstNumber ((bad-size, ltb n 1 || ltb maxRecords n) ∷ (short-list, ltb (length told) (length words)) ∷ [])
+replayNumber n words told = firstNumber ((bad-size, ltb n 1 || ltb maxRecords n) ∷ (short-work, ltb (length told) (length words)) ∷ [])
 
 -- of the words of a list, on a fresh register of n records: the number told to each in the list, the words of the list past them as they were,
 -- and the register that represents the book after the calls among them; a refused replay leaves the list as it was and hands back no records

@@ -46,7 +46,7 @@ pub fn replay(n: u16, words: &[u64], told: &mut [u32]) -> Outcome
     if told.len() < words.len() {
         return Outcome {
             register: empty(0),
-            answer: Answer::Refused(book::SHORT_LIST),
+            answer: Answer::Refused(book::SHORT_WORK),
         };
     }
     let mut i = 0;

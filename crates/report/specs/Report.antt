@@ -5,8 +5,9 @@
 --   pairLine w      the line of a pair word: from and to
 --   stepLine w      the line of a step word: letter, + forward or - against, record reached
 --   lines f ws      such a line for each word
---   okText, noneText, refusedText k, pairsText ws, chainText ws
---                   what stands for: accepted; no chain; refused with the number k; the pair words ws; a chain of the step words ws
+--   okText, noneText, refusedText k, pairsText total ws, chainText ws
+--                   what stands for: accepted; no chain; refused with the number k; so many pairs, of which ws are the pair words listed; a chain of the
+--                   step words ws
 --   answerText k    the text of an edit's answer, 0 if it is accepted, else the number
 --   outcomeText o   the text of a question's outcome
 -- Assumes nothing: these are definitions.
@@ -89,8 +90,8 @@ noneText = line (bytes "none")
 unfoldable pub refusedText : ℕ → List ℕ
 refusedText k = counted (bytes "refused ") k
 
-unfoldable pub pairsText : List ℕ → List ℕ
-pairsText ws = counted (bytes "pairs ") (length ws) ++ lines pairLine ws
+unfoldable pub pairsText : ℕ → List ℕ → List ℕ
+pairsText total ws = counted (bytes "pairs ") total ++ lines pairLine ws
 
 unfoldable pub chainText : List ℕ → List ℕ
 chainText ws = counted (bytes "chain ") (length ws) ++ lines stepLine ws
@@ -101,6 +102,6 @@ answerText (suc k) = refusedText (suc k)
 
 unfoldable pub outcomeText : Outcome → List ℕ
 outcomeText (refused k) = refusedText k
-outcomeText (paired ws) = pairsText ws
+outcomeText (paired total ws) = pairsText total ws
 outcomeText (replied none) = noneText
 outcomeText (replied (chain ws)) = chainText ws

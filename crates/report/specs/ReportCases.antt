@@ -20,9 +20,10 @@ table =
     (answerText 0, "ok\n") ∷
     (answerText (number locked-end), "refused 4\n") ∷
     (outcomeText (refused (number not-open)), "refused 16\n") ∷
-    (outcomeText (paired (pairWord 0 0 ∷ pairWord 0 2 ∷ pairWord 2 0 ∷ pairWord 2 2 ∷ [])), "pairs 4\n0 0\n0 2\n2 0\n2 2\n") ∷
-    (outcomeText (paired []), "pairs 0\n") ∷
-    (outcomeText (paired (pairWord 9 10 ∷ pairWord 1023 0 ∷ [])), "pairs 2\n9 10\n1023 0\n") ∷
+    (outcomeText (paired 4 (pairWord 0 0 ∷ pairWord 0 2 ∷ pairWord 2 0 ∷ pairWord 2 2 ∷ [])), "pairs 4\n0 0\n0 2\n2 0\n2 2\n") ∷
+    (outcomeText (paired 0 []), "pairs 0\n") ∷
+    (outcomeText (paired 2 (pairWord 9 10 ∷ pairWord 1023 0 ∷ [])), "pairs 2\n9 10\n1023 0\n") ∷
+    (outcomeText (paired 3 (pairWord 0 1 ∷ [])), "pairs 3\n0 1\n") ∷
     (outcomeText (replied (chain (step 0 false 1 ∷ step 1 false 3 ∷ []))), "chain 2\na + 1\nb + 3\n") ∷
     (outcomeText (replied (chain (step 25 true 1000 ∷ []))), "chain 1\nz - 1000\n") ∷
     (outcomeText (replied (chain [])), "chain 0\n") ∷

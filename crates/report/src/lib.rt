@@ -116,11 +116,12 @@ fn put_step(w: u32, out: &mut [u8], at: usize) -> usize
     put_counted(&head, (w % 1024) as u64, out, at)
 }
 
-pub fn put_pairs(words: &[u32], out: &mut [u8], at: usize) -> usize
+// The number of pairs, and a line for each that is listed.
+pub fn put_pairs(total: u64, words: &[u32], out: &mut [u8], at: usize) -> usize
     requires { ⌜ at + 27 + 13 * length (now words) ≤ length (now out) ⌝ }
-    ensures { λ r. ⌜ Wrote at (pairsText (now (words .entry))) (now (out .entry)) (now (out .exit)) r ⌝ }
+    ensures { λ r. ⌜ Wrote at (pairsText total (now (words .entry))) (now (out .entry)) (now (out .exit)) r ⌝ }
 {
-    let mut end = put_counted(b"pairs ", words.len() as u64, out, at);
+    let mut end = put_counted(b"pairs ", total, out, at);
     let mut i = 0;
     while i < words.len() {
         end = put_pair(words[i], out, end);

@@ -2,16 +2,20 @@
 --   listing a l     the outcome that the answer a to a pair question says, with the pairs in the first words of the list l
 --   listing-is      of a question that keeps its promise it is the outcome itself
 --   listing-left, reply-left
---                   an answer that fits the list, and leaves the words past it, leaves the list that its outcome does
+--                   an answer that leaves the words past it leaves the list that its outcome does
 -- Assumes nothing.
 use mathlib.Core.Path.{_≡_, refl, sym, ap, _∙_}
-use mathlib.Core.List.{List, _++_}
-use Prim.Native.Nat.{ℕ, _≤_}
+use mathlib.Core.List.{List, _++_, append-nil}
+use Prim.Native.Nat.{ℕ, zero, suc, _≤_, _<_}
+use native.Mathlib.Decide.{decLt}
 use native.Mathlib.Omega.{arith}
-use lib.ListN.{length, take, drop, take-append-drop}
-use lib.Seq.{take-at, length-take-le}
-use Rattle.paths.specs.Questions.{Outcome, refused, paired, steps, over, listAfter}
-use Rattle.pairs.specs.Asking.{pairsLength, Tells, told-number, told-pairs}
+use lib.ListN.{length, take, drop, take-append-drop, drop-of-length-le}
+use lib.Seq.{take-at, take-all, length-take-le}
+use Rattle.book.specs.Causes.{firstNumber}
+use Rattle.book.specs.Book.{Book}
+use Rattle.paths.specs.Grammar.{Verdict}
+use Rattle.paths.specs.Questions.{Outcome, refused, paired, unless, pairsOf, pairsCauses, pairsAnswer, steps, over, listAfter}
+use Rattle.pairs.specs.Asking.{pairsLength, Tells, told-number, told-pairs, BookPairs}
 use Rattle.pairs.specs.declared.PairsAnswer.{PairsAnswer}
 use Rattle.pairs.specs.declared.PairsAnswer.the-variants.{Pairs, Refused}
 use Rattle.chains.specs.Replies.{outcomeOf, stepsLength}
@@ -19,13 +23,31 @@ use Rattle.chains.specs.declared.ChainAnswer.{ChainAnswer}
 use Rattle.chains.specs.declared.ChainAnswer.the-variants.{Chain, NoChain, Refused as Unanswered}
 
 unfoldable pub listing : PairsAnswer → List ℕ → Outcome
-listing (Pairs k) l = paired (take k l)
+listing (Pairs k) l = paired k (take k l)
 listing (Refused k) l = refused k
 
-pub listing-is : (o : Outcome) (a : PairsAnswer) (before after : List ℕ) → Tells o a → after ≡ listAfter o before → listing a after ≡ o
+-- the words of ps that stand in a list over whose front they were written, as many as it takes
+front-over : (ps l : List ℕ) → take (length ps) (over (take (length l) ps) l) ≡ take (length l) ps
+front-over ps l = go (decLt (length l) (length ps))
+  where
+    go : Dec (length l < length ps) → take (length ps) (over (take (length l) ps) l) ≡ take (length l) ps
+    go (yes h) =
+        let n : length (take (length l) ps) ≡ length l = length-take-le (length l) ps (omega arith) in
+        let e : over (take (length l) ps) l ≡ take (length l) ps =
+        ap (λ (t : List ℕ). take (length l) ps ++ t) (drop-of-length-le l {i = length (take (length l) ps)} (omega arith)) ∙ append-nil (take (length l) ps) in
+        ap (take (length ps)) e ∙ take-all (length ps) (take (length l) ps) (omega arith)
+    go (no h) = rw (take-all (length l) ps (omega arith)) (take-at ps (drop (length ps) l) (length ps) refl)
+
+by-number : (k : ℕ) (ps before after : List ℕ) (a : PairsAnswer) → Tells (unless k (paired (length ps) (take (length before) ps))) a
+    → after ≡ listAfter (unless k (paired (length ps) (take (length before) ps))) before → listing a after ≡ unless k (paired (length ps) (take (length before) ps))
 unfolding listing listAfter
-listing-is o a before after told-number e = refl
-listing-is o a before after (told-pairs {ws = ws}) e = ap paired (ap (λ (l : List ℕ). take (length ws) l) e ∙ take-at ws (drop (length ws) before) (length ws) refl)
+by-number zero ps before after (Pairs j) told-pairs e = ap (paired (length ps)) (ap (take (length ps)) e ∙ front-over ps before)
+by-number (suc k) ps before after (Refused j) told-number e = refl
+
+pub listing-is : (b : Book) (v : Verdict) (work : ℕ) (a : PairsAnswer) (before after : List ℕ) → BookPairs b v work before after a
+    → listing a after ≡ pairsAnswer b v work (length before)
+unfolding pairsAnswer
+listing-is b v work a before after q = by-number (firstNumber (pairsCauses b v work)) (pairsOf b v) before after a (q .tells) (q .list)
 
 -- the first k words are the answer's
 over-front : (k : ℕ) (before after : List ℕ) → k ≤ length before → length after ≡ length before → drop k after ≡ drop k before → after ≡ over (take k after) before
@@ -34,10 +56,14 @@ over-front k before after h same past =
     sym (take-append-drop k after) ∙ ap (λ (l : List ℕ). take k after ++ l) (past ∙ ap (λ (n : ℕ). drop n before) (sym size))
 
 module _ (before after : List ℕ) (same : length after ≡ length before) where
-  pub listing-left : (a : PairsAnswer) → pairsLength a ≤ length before → drop (pairsLength a) after ≡ drop (pairsLength a) before → after ≡ listAfter (listing a after) before
+  pub listing-left : (a : PairsAnswer) → drop (pairsLength a) after ≡ drop (pairsLength a) before → after ≡ listAfter (listing a after) before
   unfolding pairsLength listing listAfter
-  listing-left (Pairs k) h past = over-front k before after h same past
-  listing-left (Refused k) h past = past
+  listing-left (Refused k) past = past
+  listing-left (Pairs k) past = go (decLt (length before) k)
+    where
+      go : Dec (length before < k) → after ≡ over (take k after) before
+      go (yes h) = sym (rw (take-all k after (omega arith)) (ap (λ (t : List ℕ). after ++ t) (drop-of-length-le before {i = length after} (omega arith)) ∙ append-nil after))
+      go (no h) = over-front k before after (omega arith) same past
 
   pub reply-left : (a : ChainAnswer) → stepsLength a ≤ length before → drop (stepsLength a) after ≡ drop (stepsLength a) before → after ≡ listAfter (outcomeOf a after) before
   unfolding stepsLength outcomeOf listAfter steps

@@ -3,9 +3,10 @@
 --   length-left     a frame leaves the list as long as it was
 --   right-exists    every frame has a verdict and a reply, so that what it prints is always said
 --   pairs-answered, chain-answered
---                   with 4,096 words of work and list, a question whose expression and records are accepted is not refused: 12 and 13 never come
+--                   with 4,096 words of work and list, a question whose expression and records are accepted is not refused, and every pair is listed:
+--                   12 and 13 never come
 -- Assumes nothing.
-use mathlib.Core.Path.{_≡_, refl, ap, subst}
+use mathlib.Core.Path.{_≡_, refl, ap, subst, _∙_}
 use mathlib.Core.List.{List, [], _∷_, _++_}
 use mathlib.Core.Bool.{Bool, false, _||_}
 use Prim.Native.Nat.{ℕ, zero, suc, _+_, _-_, _*_, _^_, _≤_, _<_}
@@ -13,7 +14,7 @@ use native.Mathlib.Nat.{suc-mul, mul-le-mul}
 use native.Mathlib.Decide.{decLt}
 use native.Mathlib.Omega.{arith}
 use lib.Pow.{pow-mono}
-use lib.ListN.{length, drop, length-append, length-drop}
+use lib.ListN.{length, take, drop, length-append, length-take, length-drop}
 use lib.Dec.{ltb, leb, eqb}
 use borrow.Author.Tests.{le-ltb, lt-leb, ltb-false}
 use Rattle.book.specs.Basics.{pick}
@@ -28,9 +29,9 @@ use Rattle.paths.specs.Expressions.{Expr, letters}
 use Rattle.paths.specs.Grammar.{Verdict, accepted, long, outside, large, verdictCause}
 use Rattle.paths.specs.Chains.{asked, Reply, none, chain, ChainIs, first-chain, stepWords}
 use Rattle.paths.specs.Relations.{pairs, cells}
-use Rattle.paths.specs.Questions.{paired, replied, unless, pairsWork, chainWork, pairsOf, pairsCauses, pairsAnswer, steps, ReplyTo, chainCauses, chainAnswer, over, listAfter}
+use Rattle.paths.specs.Questions.{paired, replied, unless, chainWork, pairsOf, pairsCauses, pairsAnswer, steps, ReplyTo, chainCauses, chainAnswer, over, listAfter}
 use Rattle.paths.specs.Verdicts.{verdict, verdict-right}
-use Rattle.paths.specs.PairLaws.{fit-inside}
+use Rattle.paths.specs.PairLaws.{fit-inside, long-enough}
 use Rattle.paths.specs.FirstChain.{reply}
 use Rattle.automaton.specs.WalkLaws.{length-stepWords}
 use Rattle.automaton.specs.ShortChains.{chains-63}
@@ -92,10 +93,10 @@ next-steady s (asks (chain-asked x y u)) h = h
 length-over : (ws l : List ℕ) → length ws ≤ length l → length (over ws l) ≡ length l
 length-over ws l h = omega (arith, length-append ws (drop (length ws) l), length-drop (length ws) l)
 
-length-pairs : (k : ℕ) (ws l : List ℕ) → (k ≡ 0 → length ws ≤ length l) → length (listAfter (unless k (paired ws)) l) ≡ length l
+length-pairs : (k total : ℕ) (ws l : List ℕ) → length (listAfter (unless k (paired total (take (length l) ws))) l) ≡ length l
 unfolding listAfter
-length-pairs zero ws l h = length-over ws l (h refl)
-length-pairs (suc k) ws l h = refl
+length-pairs zero total ws l = length-over (take (length l) ws) l (rw length-take (omega arith))
+length-pairs (suc k) total ws l = refl
 
 length-reply : (k : ℕ) (t : Reply) (l : List ℕ) → (k ≡ 0 → length (steps t) ≤ length l) → length (listAfter (unless k (replied t)) l) ≡ length l
 unfolding listAfter
@@ -121,8 +122,7 @@ length-left work l (opened b) (faulty c) v t = refl
 length-left work l (opened b) (asks (opening n)) v t = refl
 length-left work l (opened b) (asks (call c)) v t = refl
 length-left work l (opened b) (asks (pairs-asked u)) v t =
-    length-pairs (firstNumber (pairsCauses b v work (length l))) (pairsOf b v) l
-    (room-enough v short-work short-list (ltb work (pairsWork (b .n))) (length (pairsOf b v)) (length l))
+    length-pairs (firstNumber (pairsCauses b v work)) (length (pairsOf b v)) (pairsOf b v) l
 length-left work l (opened b) (asks (chain-asked x y u)) v t =
     length-reply (firstNumber (chainCauses b x y v t work (length l))) t l
     (λ h. room-enough v short-work short-list (ltb work (chainWork (b .n))) (length (steps t)) (length l) (first-none no-record (leb (b .n) x || leb (b .n) y) _ h .1))
@@ -150,13 +150,13 @@ right-exists (opened b) (asks (chain-asked x y u)) h =
     (verdict u, r .0, (verdict-right u, r .1))
 
 -- ---- with 4,096 words each, no question is refused for room
-pub pairs-answered : (b : Book) (e : Expr) → b .n ≤ programRecords → pairsAnswer b (accepted e) programWords programWords ≡ paired (pairs (asked b) e)
-unfolding pairsAnswer pairsCauses pairsOf pairs asked verdictCause firstNumber
+pub pairs-answered : (b : Book) (e : Expr) → b .n ≤ programRecords → pairsAnswer b (accepted e) programWords programWords ≡ paired (length (pairs (asked b) e)) (pairs (asked b) e)
+unfolding pairsCauses pairsOf pairs asked verdictCause firstNumber
 pairs-answered b e h =
     let square : b .n * b .n ≤ 64 * 64 = mul-le-mul h h in
     let few : length (listed (b .n) (cells (asked b) e)) ≤ programWords = omega (arith, listed-length (b .n) (cells (asked b) e)) in
     let work : 32 * treeUnit (b .n) ≤ programWords = omega (arith, small-tree (b .n) h) in
-    rw (le-ltb programWords (32 * treeUnit (b .n)) work, le-ltb programWords (length (listed (b .n) (cells (asked b) e))) few)
+    long-enough b (accepted e) programWords programWords few ∙ rw (le-ltb programWords (32 * treeUnit (b .n)) work) refl
 
 steps-few : (b : Book) → Sound b → b .n ≤ programRecords → (e : Expr) → letters e ≤ 63 → (x y : ℕ) (t : Reply) → ChainIs (asked b) e x y t → length (steps t) ≤ programWords
 unfolding steps asked

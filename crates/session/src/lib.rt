@@ -2,7 +2,7 @@
 ghost use mathlib.Core.Path.{_≡_};
 ghost use mathlib.Core.List.{List};
 ghost use Prim.Native.Nat.{ℕ, _≤_, _<_};
-ghost use lib.ListN.{length, getD};
+ghost use lib.ListN.{length, take, getD};
 ghost use Rattle.session.specs.Program.{decode as Program·decode, number16 as Program·number16};
 ghost use Rattle.session.specs.Program.{opening, call as Program·call, pairs, chain, asks, unopened as Program·unopened};
 ghost use Rattle.session.specs.Says.{says, Long};
@@ -12,7 +12,6 @@ ghost use Rattle.register.specs.Calls.{callOf};
 ghost use Rattle.report.specs.Report.{refusedText, outcomeText};
 ghost use Rattle.report.specs.Written.{Wrote};
 ghost use Rattle.session.specs.Listing.{listing};
-ghost use Rattle.pairs.specs.Asking.{pairsLength};
 ghost use Rattle.chains.specs.Replies.{outcomeOf, stepsLength};
 use chains::ChainAnswer;
 use pairs::PairsAnswer;
@@ -227,12 +226,26 @@ fn ask_chain(
     Framed { state, written }
 }
 
+// How many words of a list are pairs, if there are so many pairs in all.
+fn listed(total: usize, list: &[u32]) -> usize
+    ensures { λ r. ⌜ (r ≤ length (now (list .entry))) × (take r (now (list .entry)) ≡ take total (now (list .entry))) ⌝ }
+{
+    if list.len() < total {
+        return list.len();
+    }
+    total
+}
+
+// The number of all pairs, and those in the list.
 fn put_listing(answer: PairsAnswer, list: &[u32], out: &mut [u8]) -> usize
-    requires { ⌜ (pairsLength answer ≤ length (now list)) × (room (length (now list)) ≤ length (now out)) ⌝ }
+    requires { ⌜ room (length (now list)) ≤ length (now out) ⌝ }
     ensures { λ r. ⌜ Wrote 0 (outcomeText (listing answer (now (list .entry)))) (now (out .entry)) (now (out .exit)) r ⌝ }
 {
     match answer {
-        PairsAnswer::Pairs(k) => report::put_pairs(&list[..k], out, 0),
+        PairsAnswer::Pairs(total) => {
+            let count = listed(total, list);
+            report::put_pairs(total as u64, &list[..count], out, 0)
+        }
         PairsAnswer::Refused(k) => report::put_refused(k, out, 0),
     }
 }

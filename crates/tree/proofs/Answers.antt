@@ -14,9 +14,9 @@ use Rattle.k2.specs.TreeSetLaws.{formed-tree, tree-formed}
 use Rattle.k2.specs.SizeLaws.{treeWords-most}
 use Rattle.tree.specs.declared.listing.Answer.{Answer}
 use Rattle.tree.specs.declared.listing.Answer.the-variants.{Refused}
-use Rattle.tree.specs.Settling.{Settled, too-long, given}
-use Rattle.tree.specs.Calls.{allBelow, allFormed, lentCauses, treeCauses, treeAnswer, treeList, Answered}
-use Rattle.tree.specs.CallLaws.{all-below, below-all, two-formed, lent-met, tree-refused, tree-accepted}
+use Rattle.tree.specs.Settling.{Settled, too-long, given, Shown, shown}
+use Rattle.tree.specs.Calls.{allBelow, allFormed, lentCauses, treeCauses, treeAnswer, treeList, Answered, Listed}
+use Rattle.tree.specs.CallLaws.{all-below, below-all, two-formed, lent-met, tree-refused, tree-accepted, first-over}
 
 -- ---- the tests, which are those of the causes
 same-test : {P : Type 0} (s t : Bool) → (s ≡ true → P) → (P → s ≡ true) → (t ≡ true → P) → (P → t ≡ true) → s ≡ t
@@ -68,6 +68,20 @@ module _ (n : ℕ) (ps : List ℕ) (ts : List (List ℕ)) (k : ℕ) (xs before a
   -- none: the answer decides
   pub accept : {r : ℕ} {v : Answer} → r ≡ firstNumber (lentCauses n ps ts k) → r ≡ 0 → (ys : List ℕ) → ys ≡ xs → Settled ys before after v → Answered n ps ts k xs before after v
   accept {v = v} e z ys q s = settle (sym e ∙ z) (subst (λ (l : List ℕ). Settled l before after v) q s)
+
+-- a list of pairs: a cause before the answer, or none
+module _ (n : ℕ) (ts : List (List ℕ)) (k : ℕ) (xs before after : List ℕ) where
+  pub refuse-list : (r : ℕ) → r ≡ firstNumber (lentCauses n [] ts k) → (r ≡ 0 → ⊥) → after ≡ before → Listed n ts k xs before after (Refused r)
+  unfolding treeAnswer treeList
+  refuse-list zero e z q = absurd (z refl)
+  refuse-list (suc c) e z q = record { answer = rw (← e) refl; list = rw (← e) q }
+
+  show : {v : Answer} → firstNumber (lentCauses n [] ts k) ≡ 0 → Shown xs before after v → Listed n ts k xs before after v
+  unfolding treeAnswer treeList
+  show e (shown p) = record { answer = rw e refl; list = rw e (p ∙ first-over xs before) }
+
+  pub accept-list : {r : ℕ} {v : Answer} → r ≡ firstNumber (lentCauses n [] ts k) → r ≡ 0 → (ys : List ℕ) → ys ≡ xs → Shown ys before after v → Listed n ts k xs before after v
+  accept-list {v = v} e z ys q s = show (sym e ∙ z) (subst (λ (l : List ℕ). Shown l before after v) q s)
 
 -- an equal answer
 pub answer-as : {n k : ℕ} {ps xs ys before after : List ℕ} {ts : List (List ℕ)} {r : Answer} → xs ≡ ys → Answered n ps ts k xs before after r

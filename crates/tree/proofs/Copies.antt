@@ -90,7 +90,7 @@ pub wrong : {b : Bool} → b ≡ false → b ≡ true → ⊥
 wrong e f = off (sym e ∙ f)
 
 -- an answer of r words
-pub given-at : (xs before after : List ℕ) (r : ℕ) → r ≡ length xs → r ≤ length before → after ≡ xs ++ drop (length xs) before → Settled xs before after (Done r)
+given-at : (xs before after : List ℕ) (r : ℕ) → r ≡ length xs → r ≤ length before → after ≡ xs ++ drop (length xs) before → Settled xs before after (Done r)
 given-at xs before after r k l e = subst (λ (t : ℕ). Settled xs before after (Done t)) (sym k) (given (omega arith) e)
 
 pub settled : (ws : List ℕ) (len : ℕ) (out out′ : List ℕ) → len ≤ length ws → len ≤ length out → out′ ≡ [] ++ (take len ws ++ drop (0 + length (take len ws)) out)

@@ -28,7 +28,7 @@ use Rattle.tree.specs.declared.operations.Operation.the-variants.{Union,
 use Rattle.tree.specs.Inner.{nothing, treeAlone, valued, LinksBelow, outcome, Apart, intersects, differs, multiplies, Roomy, Room, Lent, termSet, TreeAt, InRows}
 use Rattle.tree.specs.InnerLaws.{valued-alone, valued-nothing}
 use Rattle.tree.specs.Calls.{treeOfTwo}
-use Rattle.tree.specs.Settling.{Settled}
+use Rattle.tree.specs.Settling.{Shown}
 use Rattle.tree.proofs.Copies.{wrong}
 
 -- ---- rows
@@ -39,10 +39,10 @@ rows-none = bits-none 16384 ∙ sym flat-none
 pub from-none : (a : Cells) (f : ℕ → ℕ) → f ≡ flat (union noPairs a) → f ≡ flat a
 from-none a f e = e ∙ ap flat (union-none a)
 
--- rows of a set settle its pairs
-pub set-settled : (n : ℕ) (a : Cells) (rows before after : List ℕ) {r : Answer} → n ≤ 1024 → IsSet n a → bitAt rows ≡ flat a
-    → Settled (pairsIn n rows) before after r → Settled (listed n a) before after r
-set-settled n a rows before after {r} nl A e s = subst (λ (xs : List ℕ). Settled xs before after r) (pairs-in n a nl A rows e) s
+-- rows of a set show its pairs
+pub set-shown : (n : ℕ) (a : Cells) (rows before after : List ℕ) {r : Answer} → n ≤ 1024 → IsSet n a → bitAt rows ≡ flat a
+    → Shown (pairsIn n rows) before after r → Shown (listed n a) before after r
+set-shown n a rows before after {r} nl A e s = subst (λ (xs : List ℕ). Shown xs before after r) (pairs-in n a nl A rows e) s
 
 -- ---- operands
 union-nothing : (x a : Cells) → a ≡ noPairs → x ≡ union x a

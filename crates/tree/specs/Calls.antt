@@ -1,5 +1,6 @@
 -- What the public calls promise, as equations: a call is refused with the number of the first cause, in the order of S6.8, and the list is as it was; with no
--- cause the answer's words stand at the list's front, and behind them it is as it was.
+-- cause the answer's words stand at the list's front, and behind them it is as it was. A list of pairs may be shorter than the answer: it gets the first of
+-- them, and the answer tells how many there are in all.
 --   senseOf w       the sense that the number w stands for: 0 is plain, any other inverted
 --   productSensed n s t a b
 --                   the product of the set a read with the sense s, and of b read with t
@@ -13,6 +14,8 @@
 --   treeList c xs l what it makes of a list that held l: nothing; if c is 0, the words xs over its front
 --   Answered n ps ts k xs before after r
 --                   the answer r of a call that was lent these and whose answer is xs, and its list, which held `before` and holds `after`
+--   Listed n ts k xs before after r
+--                   the same of a call whose answer is the pairs xs: those that the list takes, and their number
 --   treeOf n ps     the tree of the pairs ps
 --   listOf n t      the pairs of the tree t, ascending
 --   treeOfOne op n t, treeOfTwo op n t u
@@ -23,7 +26,7 @@ use mathlib.Core.List.{List, [], _∷_, _++_}
 use mathlib.Core.Bool.{Bool, true, _&&_, _||_, not}
 use Prim.Native.Nat.{ℕ, zero, suc, _*_, _/_, _%_}
 use lib.Dec.{ltb}
-use lib.ListN.{length, drop}
+use lib.ListN.{length, take, drop}
 use Rattle.book.specs.Causes.{Cause, bad-size, no-record, bad-tree, short-work, short-list, firstNumber, maxRecords}
 use Rattle.k2.specs.PairSets.{Cells, setOf, listed, product}
 use Rattle.k2.specs.Trees.{treeWords, treeUnit}
@@ -70,6 +73,10 @@ treeList (suc c) xs l = l
 pub record Answered (n : ℕ) (ps : List ℕ) (ts : List (List ℕ)) (k : ℕ) (xs before after : List ℕ) (r : Answer) : Type 0 where
   pub answer : r ≡ treeAnswer (firstNumber (treeCauses n ps ts k xs (length before))) (length xs)
   pub list : after ≡ treeList (firstNumber (treeCauses n ps ts k xs (length before))) xs before
+
+pub record Listed (n : ℕ) (ts : List (List ℕ)) (k : ℕ) (xs before after : List ℕ) (r : Answer) : Type 0 where
+  pub answer : r ≡ treeAnswer (firstNumber (lentCauses n [] ts k)) (length xs)
+  pub list : after ≡ treeList (firstNumber (lentCauses n [] ts k)) (take (length before) xs) before
 
 abbrev pub treeOf : ℕ → List ℕ → List ℕ
 treeOf n ps = treeWords n (setOf ps)

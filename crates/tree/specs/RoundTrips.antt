@@ -15,7 +15,7 @@ use mathlib.Core.List.{List, [], _∷_, _++_}
 use Prim.Native.Nat.{ℕ, _*_, _/_, _%_, _≤_}
 use native.Mathlib.Omega.{arith}
 use lib.ListN.{length, take, drop}
-use lib.Seq.{take-at}
+use lib.Seq.{take-all, take-at}
 use borrow.Author.Tests.{le-ltb}
 use Rattle.book.specs.Basics.{In, Rises}
 use Rattle.book.specs.Causes.{firstNumber, maxRecords}
@@ -26,7 +26,7 @@ use Rattle.k2.specs.Trees.{treeWords, treeUnit, WellFormed}
 use Rattle.k2.specs.TreeSetLaws.{formed-set}
 use Rattle.tree.specs.declared.listing.Answer.{Answer}
 use Rattle.tree.specs.declared.listing.Answer.the-variants.{Done, Refused}
-use Rattle.tree.specs.Calls.{allFormed, treeCauses, treeAnswer, treeList, Answered, treeOf, listOf}
+use Rattle.tree.specs.Calls.{allFormed, lentCauses, treeCauses, treeAnswer, treeList, Answered, Listed, treeOf, listOf}
 use Rattle.tree.specs.CallLaws.{below-all, one-formed, lent-none, tree-accepted}
 
 unfoldable pub answerWords : Answer → List ℕ → List ℕ
@@ -56,6 +56,9 @@ pub record ListedMade (n : ℕ) (t : List ℕ) (a : Cells) (list′ out′ : Lis
   pub tree : answerWords v out′ ≡ t
 
 -- ---- a call with space enough is not refused
+no-pair : {n : ℕ} → PairsBelow n []
+no-pair w i = absurd (in-none i refl)
+
 enough : {n : ℕ} {ps : List ℕ} {ts : List (List ℕ)} {k : ℕ} {xs before after : List ℕ} {v : Answer} → 1 ≤ n → n ≤ maxRecords → PairsBelow n ps → allFormed n ts ≡ true
     → 32 * treeUnit n ≤ k → length xs ≤ length before → Answered n ps ts k xs before after v → (v ≡ Done (length xs)) × (answerWords v after ≡ xs)
 unfolding treeAnswer treeList answerWords
@@ -66,23 +69,30 @@ enough {n} {ps} {ts} {k} {xs} {before} {after} some few below trees wide fits A 
     let l : after ≡ xs ++ drop (length xs) before = A .list ∙ ap (λ (c : ℕ). treeList c xs before) z in
     (r, rw (r, l) (take-at xs (drop (length xs) before) (length xs) refl))
 
+enough-list : {n : ℕ} {ts : List (List ℕ)} {k : ℕ} {xs before after : List ℕ} {v : Answer} → 1 ≤ n → n ≤ maxRecords → allFormed n ts ≡ true
+    → 32 * treeUnit n ≤ k → length xs ≤ length before → Listed n ts k xs before after v → (v ≡ Done (length xs)) × (answerWords v after ≡ xs)
+unfolding treeAnswer treeList answerWords
+enough-list {n} {ts} {k} {xs} {before} {after} some few trees wide fits A =
+    let z : firstNumber (lentCauses n [] ts k) ≡ 0 = lent-none n [] ts k some few (below-all n [] no-pair) trees wide in
+    let r = A .answer ∙ ap (λ (c : ℕ). treeAnswer c (length xs)) z in
+    let l : after ≡ xs ++ drop (length xs) before = A .list ∙ ap (λ (c : ℕ). treeList c (take (length before) xs) before) z
+    ∙ ap (λ (w : List ℕ). w ++ drop (length w) before) (take-all (length before) xs fits) in
+    (r, rw (r, l) (take-at xs (drop (length xs) before) (length xs) refl))
+
 no-tree : (n : ℕ) → allFormed n [] ≡ true
 unfolding allFormed
 no-tree n = refl
 
-no-pair : {n : ℕ} → PairsBelow n []
-no-pair w i = absurd (in-none i refl)
-
 -- ---- made, and listed
 pub make-list : {n work work′ : ℕ} {ps out out′ list list′ : List ℕ} {v u : Answer} → PairsBelow n ps → Enough n (setOf ps) work work′ out list
-    → Answered n ps [] work (treeOf n ps) out out′ v → Answered n [] (answerWords v out′ ∷ []) work′ (listOf n (answerWords v out′)) list list′ u
+    → Answered n ps [] work (treeOf n ps) out out′ v → Listed n (answerWords v out′ ∷ []) work′ (listOf n (answerWords v out′)) list list′ u
     → MadeListed n ps out′ list′ v u
 make-list {n} {ps = ps} {out′ = out′} {list = list} {list′ = list′} {v = v} {u = u} b E A B =
     let is : IsSet n (setOf ps) = setOf-set n ps (E .few) b in
     let x = enough (E .some) (E .few) b (no-tree n) (E .first) (E .words) A in
     let F : WellFormed n (answerWords v out′) = record { set = setOf ps; is-set = is; tree = x .1 } in
     let s : listOf n (answerWords v out′) ≡ listed n (setOf ps) = ap (listed n) (formed-set F) in
-    let z = enough (E .some) (E .few) no-pair (one-formed n (answerWords v out′) F) (E .second) (subst (λ (l : List ℕ). length l ≤ length list) (sym s) (E .pairs)) B in
+    let z = enough-list (E .some) (E .few) (one-formed n (answerWords v out′) F) (E .second) (subst (λ (l : List ℕ). length l ≤ length list) (sym s) (E .pairs)) B in
     let y : (u ≡ Done (length (listed n (setOf ps)))) × (answerWords u list′ ≡ listed n (setOf ps)) = (z .0 ∙ ap (λ (l : List ℕ). Done (length l)) s, z .1 ∙ s) in
     record {
       made = x .0;
@@ -102,12 +112,12 @@ make-list {n} {ps = ps} {out′ = out′} {list = list} {list′ = list′} {v =
 
 -- ---- listed, and made
 pub list-make : {n work work′ : ℕ} {t out out′ list list′ : List ℕ} {u v : Answer} (F : WellFormed n t) → Enough n (F .set) work work′ out list
-    → Answered n [] (t ∷ []) work (listOf n t) list list′ u → Answered n (answerWords u list′) [] work′ (treeOf n (answerWords u list′)) out out′ v
+    → Listed n (t ∷ []) work (listOf n t) list list′ u → Answered n (answerWords u list′) [] work′ (treeOf n (answerWords u list′)) out out′ v
     → ListedMade n t (F .set) list′ out′ u v
 list-make {n} {t = t} {out = out} {list = list} {list′ = list′} {u = u} F E A B =
     let a : Cells = F .set in
     let q : listOf n t ≡ listed n a = ap (listed n) (formed-set F) in
-    let x = enough (E .some) (E .few) no-pair (one-formed n t F) (E .first) (subst (λ (l : List ℕ). length l ≤ length list) (sym q) (E .pairs)) A in
+    let x = enough-list (E .some) (E .few) (one-formed n t F) (E .first) (subst (λ (l : List ℕ). length l ≤ length list) (sym q) (E .pairs)) A in
     let p : answerWords u list′ ≡ listed n a = x .1 ∙ q in
     let s : treeOf n (answerWords u list′) ≡ t = ap (treeOf n) p ∙ ap (treeWords n) (setOf-listed n a (E .few) (F .is-set)) ∙ sym (F .tree) in
     let b : PairsBelow n (answerWords u list′) = subst (PairsBelow n) (sym p) (listed-below n a (E .few)) in

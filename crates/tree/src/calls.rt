@@ -20,8 +20,8 @@ ghost use Rattle.bits.specs.BitSets.{none};
 ghost use Rattle.rows.specs.Rows.{noPairs};
 ghost use Rattle.packing.specs.Senses.{sensed};
 ghost use Rattle.tree.specs.Inner.{treeAlone, outcome, Roomy, Lent, termSet, TreeAt};
-ghost use Rattle.tree.specs.Settling.{Settled};
-ghost use Rattle.tree.specs.Calls.{senseOf, productSensed, lentCauses, Answered, treeOf, listOf, treeOfOne, treeOfTwo};
+ghost use Rattle.tree.specs.Settling.{Settled, Shown};
+ghost use Rattle.tree.specs.Calls.{senseOf, productSensed, lentCauses, Answered, Listed, treeOf, listOf, treeOfOne, treeOfTwo};
 
 // Are both ends of each pair below n?
 fn pairs_below(pairs: &[u32], n: usize) -> bool
@@ -292,16 +292,16 @@ pub fn make(n: usize, pairs: &[u32], out: &mut [u64], work: &mut [u64]) -> Answe
 // The pairs of a tree handed over.
 fn list_pairs(tree: &[u64], n: usize, out: &mut [u32]) -> Answer
     requires { ⌜ (n ≤ maxRecords) × (length (now tree) ≤ 21846) ⌝ }
-    ensures { λ r. ⌜ ((a : Cells) → IsSet n a → now (tree .entry) ≡ treeWords n a → Settled (listed n a) (now (out .entry)) (now (out .exit)) r) ⌝ }
+    ensures { λ r. ⌜ ((a : Cells) → IsSet n a → now (tree .entry) ≡ treeWords n a → Shown (listed n a) (now (out .entry)) (now (out .exit)) r) ⌝ }
 {
     let mut rows: [u64; 16384] = [0; 16384];
     packing::load(tree, n, Sense::Plain, &mut rows);
     hand_over(&rows, n, out)
 }
 
-// The pairs of a tree, ascending.
+// The pairs of a tree, ascending, as many as the list takes; how many they are in all.
 pub fn list(n: usize, a: &[u64], out: &mut [u32], work: &mut [u64]) -> Answer
-    ensures { λ r. ⌜ Answered n [] (now (a .entry) ∷ []) (length (now (work .entry)))
+    ensures { λ r. ⌜ Listed n (now (a .entry) ∷ []) (length (now (work .entry)))
         (listOf n (now (a .entry))) (now (out .entry)) (now (out .exit)) r ⌝ }
 {
     let none: [u32; 1] = [0; 1];

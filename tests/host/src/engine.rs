@@ -5,7 +5,7 @@ use crate::lent::{Lender, Word};
 use dating::calls;
 use oracle::book::Call;
 use oracle::tree::{Binary, Unary};
-use oracle::Space;
+use oracle::{Listed, Space};
 
 /// A number of words, no chain, or the number of a refusal.
 #[derive(Clone, Copy, Debug, PartialEq, Eq)]
@@ -25,8 +25,8 @@ impl Told {
     }
 }
 
-/// What a call answered: the words, none, or the number of a refusal.
-pub type Answer<T> = Result<Option<Vec<T>>, u32>;
+/// What a call answered: the words with their number, none, or the number of a refusal.
+pub type Answer<T> = Result<Option<Listed<T>>, u32>;
 
 /// The longest list lent.
 pub const LONGEST: usize = 1024 * 1024 + 64;
@@ -127,7 +127,7 @@ impl Engine {
         answer
     }
 
-    /// Asks for a list of so many words at most, and looks at what was made of it.
+    /// Asks for a list of so many words at most, and looks at what was made of it. Whether a total may be above it, the caller knows.
     fn listed<T: Word>(
         &mut self,
         list: fn(&mut Engine) -> &mut Lender<T>,
@@ -142,14 +142,13 @@ impl Engine {
         lent.fill(filling);
         let told = Told::of(call(self, lent));
         let count = if let Told::Count(count) = told { count } else { 0 };
-        let answer = lent.get(..count).map(<[T]>::to_vec);
+        let words = lent[..count.min(length)].to_vec();
         let past = lent.iter().skip(count).all(|&word| word == filling);
         *list(self) = lender;
         self.intact();
         self.fault(past, "touches words past its answer");
-        self.fault(answer.is_some(), &format!("tells {count} words for a list of {length}"));
         match told {
-            Told::Count(_) => Ok(Some(answer.unwrap_or_default())),
+            Told::Count(total) => Ok(Some(Listed { total, words })),
             Told::NoChain => Ok(None),
             Told::Refused(number) => {
                 self.fault((1..=16).contains(&number), &format!("refuses with {number}"));

@@ -1,10 +1,11 @@
 //! Random histories: each edit's answer, then what the register holds, then questions.
 
+use crate::engine::Answer;
 use crate::run::{Run, Size};
 use oracle::book::{Book, Call, Link, LABELS, MAX_LINKS};
 use oracle::random::{expression, in_grammar, Random};
 use oracle::relation::Relation;
-use oracle::{chain, expression as expressions, tree, Refusal, Space};
+use oracle::{chain, expression as expressions, tree, Listed, Refusal, Space};
 
 /// A book of the oracle beside the words of the engine.
 pub struct History<'a> {
@@ -20,22 +21,27 @@ fn number(answer: Result<(), Refusal>) -> u32 {
     answer.err().map_or(0, |refusal| refusal.number().into())
 }
 
-/// What an answer of these words becomes in such space.
-fn within<T: Clone>(
-    answer: &Result<Option<Vec<T>>, Refusal>,
-    work: usize,
-    space: Space,
-) -> Result<Option<Vec<T>>, u32> {
+/// What a chain, or none, becomes in such space.
+fn within(answer: &Result<Option<Vec<u32>>, Refusal>, work: usize, space: Space) -> Answer<u32> {
     let answer = answer.clone().and_then(|words| {
         space.work_at_least(work)?;
-        words.map(|words| space.listed(words)).transpose()
+        words.map(|words| space.listed(words).map(Listed::from)).transpose()
     });
     answer.map_err(|refusal| refusal.number().into())
 }
 
-/// The spaces in which a question is asked: exact, with room, a word too short, none.
+/// What links or pairs become in such space: the first of them.
+fn first_within(answer: &Result<Vec<u32>, Refusal>, work: usize, space: Space) -> Answer<u32> {
+    let answer = answer.clone().and_then(|words| {
+        space.work_at_least(work)?;
+        Ok(Some(space.first(words)))
+    });
+    answer.map_err(|refusal| refusal.number().into())
+}
+
+/// The spaces in which a question is asked: exact, with room, a word too short, no list, none.
 pub fn spaces(work: usize, list: usize) -> Vec<Space> {
-    let mut spaces = vec![(work, list), (work + 3, list + 5), (work - 1, list), (0, 0)];
+    let mut spaces = vec![(work, list), (work, list + 1), (work + 3, list + 5), (work - 1, list), (work, 0), (0, 0)];
     if list > 0 {
         spaces.extend([(work, list - 1), (work - 1, list - 1)]);
     }
@@ -134,7 +140,7 @@ impl<'a> History<'a> {
         links.sort();
         for space in spaces(1, links.len()) {
             let answer = self.run.engine.links(&self.words, space.list);
-            let expected = within(&Ok(Some(links.clone())), 0, space);
+            let expected = first_within(&Ok(links.clone()), 0, space);
             self.run.same("links", &answer, &expected);
         }
         let size = self.run.engine.size(&self.words);
@@ -163,14 +169,13 @@ impl<'a> History<'a> {
         let read = expressions::read(&text);
         let (n, sheet) = (self.book.n(), self.book.sheet());
         let related = read.as_ref().map_err(|&refusal| refusal).map(|e| Relation::meant(n, sheet, e).pair_words());
-        let pairs = related.clone().map(Some);
         let list = related.as_ref().map_or(0, Vec::len);
         for space in spaces(tree::work(n), list) {
             let answer = self.run.engine.pairs(&self.words, &text, space);
             self.run.same_of(
                 || format!("pairs {} in {space:?}", shown()),
                 &answer,
-                &within(&pairs, tree::work(n), space),
+                &first_within(&related, tree::work(n), space),
             );
             self.run.counts.pairs += 1;
         }

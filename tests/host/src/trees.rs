@@ -6,7 +6,7 @@ use crate::run::{Run, Size};
 use oracle::random::Random;
 use oracle::relation::Relation;
 use oracle::tree::{self, Binary, Unary};
-use oracle::{Refusal, Space};
+use oracle::{Listed, Refusal, Space};
 
 /// A random set of pairs below n: scattered, in a block, along a diagonal, full or empty.
 fn set(random: &mut Random, n: u32) -> Relation {
@@ -45,22 +45,22 @@ fn damaged(random: &mut Random, mut words: Vec<u64>, n: u32) -> Vec<u64> {
     words
 }
 
-fn told<T>(answer: Result<Vec<T>, Refusal>) -> Answer<T> {
+fn told<T>(answer: Result<Listed<T>, Refusal>) -> Answer<T> {
     answer.map(Some).map_err(|refusal| refusal.number().into())
 }
 
 /// The call in every space that may make a difference; `ask` asks the engine, `expect` the oracle.
-fn in_spaces<T: PartialEq + std::fmt::Debug>(
+fn in_spaces<T: PartialEq + std::fmt::Debug, L: Into<Listed<T>>>(
     run: &mut Run,
     n: u32,
     what: &str,
     mut ask: impl FnMut(&mut Run, Space) -> Answer<T>,
-    expect: impl Fn(Space) -> Result<Vec<T>, Refusal>,
+    expect: impl Fn(Space) -> Result<L, Refusal>,
 ) {
-    let list = expect(Space::AMPLE).map_or(0, |words| words.len());
+    let list = expect(Space::AMPLE).map_or(0, |answer| answer.into().total);
     for space in spaces(tree::work(n), list) {
         let answer = ask(run, space);
-        run.same_of(|| format!("{what}, n {n}, in {space:?}"), &answer, &told(expect(space)));
+        run.same_of(|| format!("{what}, n {n}, in {space:?}"), &answer, &told(expect(space).map(L::into)));
         run.counts.trees += 1;
     }
 }

@@ -66,7 +66,7 @@ pub enum Refusal {
     Tree = 11,
     /// the lent work is shorter than stated
     Work = 12,
-    /// the answer is longer than its list
+    /// the chain or the tree is longer than its list
     List = 13,
     /// the frame is broken
     Frame = 14,
@@ -90,6 +90,20 @@ pub struct Space {
     pub list: usize,
 }
 
+/// Words that a list gets: the first of an answer, as many as it takes, and how many the answer has in all.
+#[derive(Clone, Debug, PartialEq, Eq)]
+pub struct Listed<T> {
+    pub total: usize,
+    pub words: Vec<T>,
+}
+
+impl<T> From<Vec<T>> for Listed<T> {
+    /// The whole answer.
+    fn from(words: Vec<T>) -> Listed<T> {
+        Listed { total: words.len(), words }
+    }
+}
+
 impl Space {
     /// Space that is enough for every answer.
     pub const AMPLE: Space = Space { work: usize::MAX, list: usize::MAX };
@@ -101,6 +115,13 @@ impl Space {
         } else {
             Ok(())
         }
+    }
+
+    /// Gives the first words of an answer that need not fit.
+    pub fn first<T>(self, mut answer: Vec<T>) -> Listed<T> {
+        let total = answer.len();
+        answer.truncate(self.list);
+        Listed { total, words: answer }
     }
 
     /// Gives the answer, or refuses one that is longer than the list.

@@ -70,7 +70,7 @@ fn answer(book: &mut Option<Book>, kind: u16, body: &[u8]) -> Result<String, Ref
         }
         Request::Pairs(text) => {
             let book = book.as_ref().ok_or(Refusal::NotOpened)?;
-            Ok(pair_lines(&question::pairs(book, &text, Space::AMPLE)?))
+            Ok(pair_lines(&question::pairs(book, &text, Space::AMPLE)?.words))
         }
         Request::Chain(from, to, text) => {
             let book = book.as_ref().ok_or(Refusal::NotOpened)?;

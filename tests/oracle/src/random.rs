@@ -413,7 +413,7 @@ impl Session {
         let mut ends = (self.any_record(), self.any_record());
         if self.random.chance(50) {
             let with_chain = self.book.as_ref().and_then(|book| question::pairs(book, &text, Space::AMPLE).ok());
-            if let Some(words) = with_chain.filter(|words| !words.is_empty()) {
+            if let Some(words) = with_chain.map(|pairs| pairs.words).filter(|words| !words.is_empty()) {
                 let word = self.random.pick(&words);
                 ends = (word / 1024, word % 1024);
             }

@@ -1,7 +1,7 @@
 //! k2-trees with k = 2, level by level, and the operations on trees with all their refusals.
 
 use crate::relation::Relation;
-use crate::{check_size, Refusal, Space};
+use crate::{check_size, Listed, Refusal, Space};
 
 /// The side s: the smallest power of two that is at least n, and at least 2.
 pub fn side(n: u32) -> u32 {
@@ -108,11 +108,11 @@ pub fn make(n: u32, pairs: &[u32], space: Space) -> Result<Vec<u64>, Refusal> {
     space.listed(words(&Relation::of(n, pairs)))
 }
 
-/// The pair words of a tree, ascending.
-pub fn list(n: u32, tree: &[u64], space: Space) -> Result<Vec<u32>, Refusal> {
+/// The pair words of a tree, ascending, as many as the list takes.
+pub fn list(n: u32, tree: &[u64], space: Space) -> Result<Listed<u32>, Refusal> {
     let set = lent(n, tree)?;
     space.work_at_least(work(n))?;
-    space.listed(set.pair_words())
+    Ok(space.first(set.pair_words()))
 }
 
 pub fn binary(operation: Binary, n: u32, left: &[u64], right: &[u64], space: Space) -> Result<Vec<u64>, Refusal> {

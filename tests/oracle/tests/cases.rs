@@ -6,7 +6,7 @@ use oracle::expression::{self, Expression};
 use oracle::frame::{frame, Request};
 use oracle::relation::Relation;
 use oracle::tree::{self, Binary, Unary};
-use oracle::{lines, program, question, random, Refusal, Space};
+use oracle::{lines, program, question, random, Listed, Refusal, Space};
 use std::collections::BTreeSet;
 
 /// What the program prints for these bytes.
@@ -50,8 +50,8 @@ fn book(n: u32, links: &[(u32, u32, u32)]) -> Book {
 }
 
 fn pairs(book: &Book, text: &str) -> Vec<(u32, u32)> {
-    let words = question::pairs(book, text.as_bytes(), Space::AMPLE).unwrap();
-    words.iter().map(|word| (word / 1024, word % 1024)).collect()
+    let listed = question::pairs(book, text.as_bytes(), Space::AMPLE).unwrap();
+    listed.words.iter().map(|word| (word / 1024, word % 1024)).collect()
 }
 
 /// The chain as the program writes it, its steps joined by a comma.
@@ -110,7 +110,7 @@ fn transposing_swaps_at_every_level() {
     let transposed = |pairs: &[u32]| {
         let made = tree::make(4, pairs, Space::AMPLE).unwrap();
         let turned = tree::unary(Unary::Transpose, 4, &made, Space::AMPLE).unwrap();
-        tree::list(4, &turned, Space::AMPLE).unwrap()
+        tree::list(4, &turned, Space::AMPLE).unwrap().words
     };
     assert_eq!(transposed(&[1]), [1024]);
     assert_eq!(transposed(&[3, 1026]), [2 * 1024 + 1, 3 * 1024]);
@@ -183,8 +183,9 @@ fn the_order_of_refusals_of_questions() {
     assert_eq!(asked(0, "b", 256, 0), Ok(None));
     let asked = |work, list| question::pairs(&book, b"a", Space { work, list }).map_err(Refusal::number);
     assert_eq!(tree::work(4), 32);
-    assert_eq!((asked(31, 0), asked(32, 1)), (Err(12), Err(13)));
-    assert_eq!(asked(32, 2), Ok(vec![1, 1026]));
+    assert_eq!(asked(31, 0), Err(12));
+    let first = |words: &[u32]| Ok(Listed { total: 2, words: words.to_vec() });
+    assert_eq!([0, 1, 2, 3].map(|list| asked(32, list)), [first(&[]), first(&[1]), first(&[1, 1026]), first(&[1, 1026])]);
 }
 
 #[test]
@@ -315,7 +316,7 @@ fn what_ends_a_run() {
 fn tree_operations_and_their_refusals() {
     let n = 5;
     let made = |pairs: &[u32]| tree::make(n, pairs, Space::AMPLE).unwrap();
-    let listed = |tree: Result<Vec<u64>, Refusal>| tree::list(n, &tree.unwrap(), Space::AMPLE).unwrap();
+    let listed = |tree: Result<Vec<u64>, Refusal>| tree::list(n, &tree.unwrap(), Space::AMPLE).unwrap().words;
     let (left, right) = (made(&[1025, 1, 1025]), made(&[1, 2052]));
     assert_eq!(listed(tree::binary(Binary::Union, n, &left, &right, Space::AMPLE)), [1, 1025, 2052]);
     assert_eq!(listed(tree::binary(Binary::Intersection, n, &left, &right, Space::AMPLE)), [1]);

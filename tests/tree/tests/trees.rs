@@ -34,11 +34,11 @@ enum Call {
     Two(Two, Vec<u64>, Vec<u64>),
 }
 
-/// What a call wrote: words of a tree, or pairs.
+/// What a call wrote: words of a tree; or the number of pairs in all, and those written.
 #[derive(Debug, PartialEq)]
 enum Got {
     Tree(Vec<u64>),
-    Pairs(Vec<u32>),
+    Pairs(usize, Vec<u32>),
 }
 
 /// Makes a call with so many words of work and of list. A refusal has written nothing but work, an answer nothing past itself.
@@ -48,7 +48,8 @@ fn run(n: usize, call: &Call, work: usize, list: usize) -> Result<Got, u64> {
     let got = if let Call::List(a) = call {
         let mut out = Lent::new(list, MARK as u32);
         let answer = engine::list(n, a, out.get(), lent_work.get());
-        watched(&out, answer).map(|pairs| Got::Pairs(pairs.to_vec()))
+        let written = watched(&out, answer.map(|total| total.min(list)));
+        written.map(|pairs| Got::Pairs(answer.unwrap_or(0), pairs.to_vec()))
     } else {
         let mut out = Lent::new(list, MARK);
         let answer = match call {
@@ -108,7 +109,10 @@ fn expected(n: usize, call: &Call) -> Result<Got, u64> {
             }
             Ok(Got::Tree(made.tree()))
         }
-        Call::List(a) => Ok(Got::Pairs(set(a)?.list())),
+        Call::List(a) => {
+            let pairs = set(a)?.list();
+            Ok(Got::Pairs(pairs.len(), pairs))
+        }
         Call::One(op, a) => Ok(Got::Tree(on_one(*op, &set(a)?).tree())),
         Call::Two(op, a, b) => Ok(Got::Tree(on_two(*op, &set(a)?, &set(b)?).tree())),
     }
@@ -317,22 +321,28 @@ fn short_spaces() {
                 let answer = expected(n, &call);
                 let long = match &answer {
                     Ok(Got::Tree(words)) => words.len(),
-                    Ok(Got::Pairs(pairs)) => pairs.len(),
+                    Ok(Got::Pairs(total, _)) => *total,
                     Err(cause) => panic!("{cause}"),
                 };
+                // a list of pairs may be short: it gets the first of them, and their number
+                let short = Some(13).filter(|_| long > 0 && !matches!(call, Call::List(_)));
                 for (work, list, cause) in [
                     (work - 1, long, Some(12)),
                     (0, long, Some(12)),
                     (work - 1, 0, Some(12)),
-                    (work, long.saturating_sub(1), Some(13).filter(|_| long > 0)),
-                    (work, 0, Some(13).filter(|_| long > 0)),
+                    (work, long.saturating_sub(1), short),
+                    (work, 0, short),
                     (work, long, None),
                     (work + 1, long + 1, None),
                 ] {
                     let got = run(n, &call, work, list);
+                    let due = match &answer {
+                        Ok(Got::Pairs(total, pairs)) => Ok(Got::Pairs(*total, pairs[..list.min(*total)].to_vec())),
+                        _ => expected(n, &call),
+                    };
                     match cause {
                         Some(number) => assert!(got == Err(number), "n = {n}, {work} words, {list} for {call:?}: {got:?}"),
-                        None => assert!(got == answer, "n = {n}, {call:?}: {got:?}"),
+                        None => assert!(got == due, "n = {n}, {list} for {call:?}: {got:?}"),
                     }
                 }
             }
@@ -363,8 +373,9 @@ fn order_of_refusals() {
                 }
                 let work = 32 * unit(n) - usize::from(there(2));
                 for (lent, call) in asked {
-                    let empty = matches!(call, Call::Two(Two::Difference, ..));
-                    let first = [1, lent, 12, 13].into_iter().zip(0..).find(|&(number, k)| there(k) && !(number == 13 && empty));
+                    // an empty answer fits every list, and pairs need not fit
+                    let fits = matches!(call, Call::Two(Two::Difference, ..) | Call::List(_));
+                    let first = [1, lent, 12, 13].into_iter().zip(0..).find(|&(number, k)| there(k) && !(number == 13 && fits));
                     let list = if there(3) { 0 } else { enough(n, &call) };
                     let got = run(lent_n, &call, work, list);
                     match first {

@@ -1,11 +1,12 @@
--- `host::dating_links` copies the words of the links to the front of the list. Assumes nothing.
-use mathlib.Core.Path.{_≡_, refl, sym}
+-- `host::dating_links` copies the first words of the links, as many as the list takes, to its front. Assumes nothing.
+use mathlib.Core.Path.{_≡_, refl, sym, _∙_}
+use mathlib.Core.List.{List}
+use Prim.Native.Nat.{ℕ, _≤_}
 use native.Mathlib.Omega.{arith}
-use borrow.Author.Tests.{not-true, not-false}
 use lib.ListN.{length, take}
-use lib.Seq.{length-take-le}
+use lib.Seq.{length-take-le, take-take}
 use Rattle.book.specs.Causes.{number}
-use Rattle.host.proofs.Carrying.{load-none, load-some, asked-foreign, links-short, links-given}
+use Rattle.host.proofs.Carrying.{load-none, load-some, asked-foreign, links-handed}
 use borrow.Author.Needs.{needs}
 use Rattle.host.proofs.dating_links.Statement.{statement}
 use Rattle.host.proofs.dating_links.Tie as tie
@@ -32,27 +33,40 @@ links-requires c κs = search needs
 array-share-prefix-words : tie.Need-array-share-prefix-words
 array-share-prefix-words c = search needs
 
+slice-aggregate-fitting : tie.Need-slice-aggregate-fitting
+slice-aggregate-fitting c = sym (counted (c .before .before))
+
+fitting-requires : tie.Need-fitting-requires
+fitting-requires c κs = search needs
+
+-- the words taken are among the links'
+few : (c : tie.After-fitting) → c .fitting .result ≤ c .before .before .before .links .result .count
+few c = omega (arith, c .fitting .ensures .0, counted (c .before .before .before))
+
+array-share-prefix-words-2 : tie.Need-array-share-prefix-words-2
+array-share-prefix-words-2 c = let l = c .before .before .before .links .ensures in omega (arith, few c, l .few, l .long)
+
+long : (c : tie.After-fitting) → length (take (c .fitting .result) (c .before .before .before .links .result .words)) ≡ c .fitting .result
+long c = let l = c .before .before .before .links .ensures in length-take-le _ _ (omega (arith, few c, l .few, l .long))
+
 slice-aggregate-copy : tie.Need-slice-aggregate-copy
-slice-aggregate-copy c = sym (counted (c .before .before))
+slice-aggregate-copy c = sym (long (c .before))
 
 copy-requires : tie.Need-copy-requires
 copy-requires c κs = search needs
-
-told-refusal-requires-2 : tie.Need-told-refusal-requires-2
-told-refusal-requires-2 c κs = search needs
 
 same-length : tie.Need-same-length
 same-length c = search needs
 
 returns-2 : tie.Need-returns-2
-unfolding number
-returns-2 c = links-short (load-some (c .before .before .before .before .before .before .before .before .before .before .before .before .load .ensures) (c .before .before .before .before .before .before .before .before .before .before .before .number-of .ensures) (c .before .before .before .before .before .before .before .before .before .before .if1 .left)) (c .before .before .before .before .before .before .before .before .links .result) (c .before .before .before .before .before .before .before .before .links .ensures) (c .before .before .before .before .copy .ensures) (not-true _ (c .before .if2 .taken)) (c .told-refusal2 .ensures)
-
-same-length-2 : tie.Need-same-length-2
-same-length-2 c = search needs
-
-returns-3 : tie.Need-returns-3
-returns-3 c = links-given (load-some (c .before .before .before .before .before .before .before .before .before .before .before .load .ensures) (c .before .before .before .before .before .before .before .before .before .before .number-of .ensures) (c .before .before .before .before .before .before .before .before .before .if1 .left)) (c .before .before .before .before .before .before .before .links .result) (c .before .before .before .before .before .before .before .links .ensures) (c .before .before .before .copy .ensures) (not-false _ (c .if2 .left)) (sym (counted (c .before .before .before .before .before .before .before)))
+returns-2 c =
+    let ls = c .before .before .before .before .before .before .before .before .links in
+    let f = c .before .before .before .before .before .fitting in
+    let xs : List ℕ = take (f .result) (ls .result .words) in
+    let room : ℕ = length (c .before .before .before .before .before .before .before .before .before .before .before .before .before .before .before .args .list .now) in
+    let q : xs ≡ take room (take (ls .result .count) (ls .result .words)) = sym (take-take (f .result) (ls .result .count) (ls .result .words) (few (c .before .before .before .before .before))) ∙ f .ensures .2 in
+    let h : length xs ≤ room = omega (arith, long (c .before .before .before .before .before), f .ensures .1) in
+    links-handed (load-some (c .before .before .before .before .before .before .before .before .before .before .before .before .load .ensures) (c .before .before .before .before .before .before .before .before .before .before .before .number-of .ensures) (c .before .before .before .before .before .before .before .before .before .before .if1 .left)) (ls .result) (ls .ensures) xs (c .before .before .copy .ensures) h q (sym (counted (c .before .before .before .before .before .before .before .before)))
 
 pub dating-links-spec : {M : Type 1} → statement M
 dating-links-spec =
@@ -64,10 +78,10 @@ dating-links-spec =
     returns
     links-requires
     array-share-prefix-words
+    slice-aggregate-fitting
+    fitting-requires
+    array-share-prefix-words-2
     slice-aggregate-copy
     copy-requires
-    told-refusal-requires-2
     same-length
-    returns-2
-    same-length-2
-    returns-3)
+    returns-2)

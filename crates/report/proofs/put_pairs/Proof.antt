@@ -14,25 +14,25 @@ use Rattle.report.proofs.put_pairs.Statement.{statement}
 use Rattle.report.proofs.put_pairs.Tie as tie
 
 abbrev Inv-loop : tie.InvT-loop
-Inv-loop words out₀ at end₀ i₀ out end i =
+Inv-loop total words out₀ at end₀ i₀ out end i =
     (i ≤ length words) × (length out ≡ length out₀) × (end + 13 * (length words - i) ≤ length out) × Wrote end₀ (lines pairLine (take i words)) out₀ out end
 
 abbrev μ-loop : tie.MeasureT-loop
-μ-loop words out₀ at end₀ i₀ out end i = length words - i
+μ-loop total words out₀ at end₀ i₀ out end i = length words - i
 
 slice-aggregate-put-counted : tie.Need-slice-aggregate-put-counted Inv-loop μ-loop
 slice-aggregate-put-counted c = refl
 
 put-counted-requires : tie.Need-put-counted-requires Inv-loop μ-loop
 unfolding bytes
-put-counted-requires c κs = omega (arith, length-counted-most (bytes "pairs ") (length (now (c .before .before .before .before .args .words))) (omega arith))
+put-counted-requires c κs = omega (arith, length-counted-most (bytes "pairs ") (c .before .before .before .before .args .total) (omega arith))
 
 loop-holds : tie.Need-loop-holds Inv-loop μ-loop
 unfolding bytes lines
 loop-holds c =
     let p = c .before .before .put-counted in
     let k : length (p .last .1 .1 .0) ≡ length (now (c .before .before .before .before .before .before .before .args .out)) = p .kept .1 .1 .0 in
-    let m = length-counted-most (bytes "pairs ") (length (now (c .before .before .before .before .before .before .before .args .words))) (omega arith) in
+    let m = length-counted-most (bytes "pairs ") (c .before .before .before .before .before .before .before .args .total) (omega arith) in
     (omega arith, refl, omega (arith, p .ensures .place), wrote-none (p .result) (p .last .1 .1 .0) (omega (arith, p .ensures .fits)))
 
 mul-put-pair : tie.Need-mul-put-pair Inv-loop μ-loop

@@ -46,8 +46,8 @@ returns-2 c =
     let a = c .before .before .before .before .before .before .before .before .before .pairs in
     let w = c .before .before .put-listing in
     pairs-turns (s .state) (length (now (s .work))) (now (s .list)) _ (now (s .out)) (w .last .1 .1 .0) _ (now (s .text)) _ (not-false _ (c .before .before .before .before .before .before .before .before .before .before .before .before .if1 .left)) refl
-    (listing-left (now (s .list)) _ (a .kept .1 .1 .1 .0) (a .result) (a .ensures .fits) (a .ensures .past))
-    (λ b h. let q = a .ensures .book b h in (listing-is _ (a .result) (now (s .list)) _ (q .tells) (q .list), q .list)) (w .ensures)
+    (listing-left (now (s .list)) _ (a .kept .1 .1 .1 .0) (a .result) (a .ensures .past))
+    (λ b h. let q = a .ensures .book b h in (listing-is b _ _ (a .result) (now (s .list)) _ q, q .list)) (w .ensures)
 
 pub ask-pairs-spec : {M : Type 1} → statement M
 ask-pairs-spec =

@@ -1,12 +1,10 @@
--- `session::put_listing` meets its contract: each arm prints its own text, and the list holds the pairs. Assumes nothing.
-use mathlib.Core.Path.{sym}
-use Prim.Native.Nat.{_≤_}
+-- `session::put_listing` meets its contract: each arm prints its own text, and the first words of the list are the pairs. Assumes nothing.
+use mathlib.Core.Path.{sym, ap}
 use native.Mathlib.Omega.{arith}
-use denote.Ref.{now}
-use lib.ListN.{length, length-take}
+use lib.ListN.{length-take}
 use lib.Seq.{length-take-le}
-use Rattle.report.specs.Report.{outcomeText}
-use Rattle.pairs.specs.Asking.{pairsLength}
+use Rattle.report.specs.Report.{pairsText, outcomeText}
+use Rattle.report.specs.WrittenLaws.{wrote-as}
 use Rattle.session.specs.Listing.{listing}
 use borrow.Author.Needs.{needs}
 use Rattle.session.proofs.put_listing.Statement.{statement}
@@ -15,16 +13,17 @@ use Rattle.session.proofs.put_listing.Tie as tie
 enum-known-answer : tie.Need-enum-known-answer
 enum-known-answer c = search needs
 
--- the pairs are within the list
-fits : (c : tie.After-answer) → c .answer .given .0 .0 ≤ length (now (c .before .before .before .before .args .list))
-unfolding pairsLength
-fits c = rw (c .answer .given .1) at (c .before .before .before .before .pre .0)
+listed-requires : tie.Need-listed-requires
+listed-requires c κs = search needs
 
 slice-aggregate-put-pairs : tie.Need-slice-aggregate-put-pairs
-slice-aggregate-put-pairs c = sym (length-take-le _ _ (fits (c .before .before)))
+slice-aggregate-put-pairs c = sym (length-take-le _ _ (c .before .listed .ensures .0))
 
 put-pairs-requires : tie.Need-put-pairs-requires
-put-pairs-requires c κs = let p = c .before .before .before .before .before .before .before .pre .1 in simp length-take (omega arith)
+put-pairs-requires c κs =
+    let p = c .before .before .before .before .before .before .before .before .pre in
+    let h = c .before .before .listed .ensures .0 in
+    simp length-take (omega (arith, p, h))
 
 enum-known-answer-2 : tie.Need-enum-known-answer-2
 enum-known-answer-2 c = search needs
@@ -37,7 +36,9 @@ same-length c = search needs
 
 returns : tie.Need-returns
 unfolding outcomeText listing
-returns c = rw (c .before .before .before .before .before .before .answer .given .1) (c .before .before .put-pairs .ensures)
+returns c =
+    let a = c .before .before .before .before .before .before .before .answer in
+    rw (a .given .1) (wrote-as (ap (pairsText (a .given .0 .0)) (c .before .before .before .before .before .listed .ensures .1)) (c .before .before .put-pairs .ensures))
 
 same-length-2 : tie.Need-same-length-2
 same-length-2 c = search needs
@@ -51,6 +52,7 @@ put-listing-spec =
     tie.close
     (tie.spec
     enum-known-answer
+    listed-requires
     slice-aggregate-put-pairs
     put-pairs-requires
     enum-known-answer-2

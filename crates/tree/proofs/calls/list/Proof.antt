@@ -11,7 +11,7 @@ use Rattle.k2.specs.TreeSetLaws.{formed-set}
 use Rattle.k2.specs.SizeLaws.{treeUnit-most}
 use Rattle.tree.specs.Calls.{listOf}
 use Rattle.tree.specs.CallLaws.{one-more}
-use Rattle.tree.proofs.Answers.{as-good, refuse, accept, met, formed-most}
+use Rattle.tree.proofs.Answers.{as-good, refuse-list, accept-list, met, formed-most}
 use Rattle.tree.proofs.calls.list.Statement.{statement}
 use Rattle.tree.proofs.calls.list.Tie as tie
 
@@ -35,7 +35,7 @@ refusal-requires c κs = search needs
 returns : tie.Need-returns
 returns c =
     let a = c .before .before .before .before .before .before .before .args in
-    refuse (a .n) [] (a .a .now ∷ []) (length (a .work .now)) (listOf (a .n) (a .a .now)) (a .out .now) (a .out .now) _
+    refuse-list (a .n) (a .a .now ∷ []) (length (a .work .now)) (listOf (a .n) (a .a .now)) (a .out .now) (a .out .now) _
     (c .before .refusal .ensures ∙ as-good (a .n) [] _ _ (length (a .work .now)) (one-more (a .n) (a .a .now))) (c .if1 .taken) refl
 
 list-pairs-requires : tie.Need-list-pairs-requires
@@ -48,7 +48,7 @@ returns-2 : tie.Need-returns-2
 returns-2 c =
     let a = c .before .before .before .before .before .before .before .before .before .before .before .args in
     let v = none (c .before .before .before .before) .3 .0 in
-    accept (a .n) [] (a .a .now ∷ []) (length (a .work .now)) (listOf (a .n) (a .a .now)) (a .out .now) _
+    accept-list (a .n) (a .a .now ∷ []) (length (a .work .now)) (listOf (a .n) (a .a .now)) (a .out .now) _
     (c .before .before .before .before .before .refusal .ensures ∙ as-good (a .n) [] _ _ (length (a .work .now)) (one-more (a .n) (a .a .now))) (c .before .before .before .before .if1 .left)
     _ (ap (listed (a .n)) (sym (formed-set v))) (c .before .before .list-pairs .ensures (v .set) (v .is-set) (v .tree))
 

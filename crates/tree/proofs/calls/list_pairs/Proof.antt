@@ -2,7 +2,7 @@
 use native.Mathlib.Omega.{arith}
 use borrow.Author.Needs.{needs}
 use Rattle.rows.specs.Rows.{noPairs}
-use Rattle.tree.proofs.Ops.{rows-none, from-none, set-settled}
+use Rattle.tree.proofs.Ops.{rows-none, from-none, set-shown}
 use Rattle.tree.proofs.calls.list_pairs.Statement.{statement}
 use Rattle.tree.proofs.calls.list_pairs.Tie as tie
 
@@ -25,7 +25,7 @@ returns : tie.Need-returns
 returns c =
     let a = c .before .before .before .before .before .before .before .before .before .before .args in
     λ s is e.
-    set-settled (a .n) s _ (a .out .now) _ (omega arith) is (from-none s _ (c .before .before .before .before .before .before .load .ensures s noPairs is e rows-none))
+    set-shown (a .n) s _ (a .out .now) _ (omega arith) is (from-none s _ (c .before .before .before .before .before .before .load .ensures s noPairs is e rows-none))
     (c .before .before .hand-over .ensures)
 
 pub list-pairs-spec : {M : Type 1} → statement M
