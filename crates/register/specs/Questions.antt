@@ -5,6 +5,8 @@
 --   LockList self r what `locks` promises: for every book that the register represents, whether each record is locked
 --   Locking self k r
 --                   what `is_locked` promises: the same of the record k
+--   TotalList self r
+--                   what `totals` promises: for every book that the register represents, the total of each label
 --   totalOf k t     the answer whose number is k: the total t if k is 0, else refused with k
 --   totalAnswer s l the answer to asking for the total of the label l of the sheet s: the number of its links, or refused with 3
 --   Totals self l a what `total` promises: for every book that the register represents, that answer; of other contents too, 16, then 3
@@ -12,7 +14,7 @@
 use mathlib.Core.Path.{_≡_}
 use mathlib.Core.List.{List}
 use mathlib.Core.Bool.{Bool, false}
-use Prim.Native.Nat.{ℕ, zero, suc, _≤_}
+use Prim.Native.Nat.{ℕ, zero, suc, _≤_, _<_}
 use lib.ListN.{length, take, getD, replicate}
 use Rattle.book.specs.Causes.{bad-label, not-open, number, labels, maxRecords, maxLinks}
 use Rattle.book.specs.Book.{Sheet, Book, isLocked, total, totalNumber}
@@ -43,6 +45,11 @@ pub record LockList (self : Register) (r : List Bool) : Type 0 where
 pub record Locking (self : Register) (k : ℕ) (r : Bool) : Type 0 where
   pub foreign : (InRange self → ⊥) → r ≡ false
   pub locked : (b : Book) → Represents self b → r ≡ isLocked (b .sheet) k
+
+pub record TotalList (self : Register) (r : List ℕ) : Type 0 where
+  pub long : length r ≡ labels
+  pub foreign : (InRange self → ⊥) → r ≡ replicate labels 0
+  pub totals : (b : Book) → Represents self b → (l : ℕ) → l < labels → getD r l 0 ≡ total (b .sheet) l
 
 abbrev pub totalOf : ℕ → ℕ → TotalAnswer
 totalOf zero t = Total t
