@@ -2,6 +2,7 @@
 -- (`requested-none`). Assumes nothing.
 use mathlib.Core.Path.{_≡_, refl, sym, ap, _∙_}
 use mathlib.Core.Bool.{true, false}
+use native.Mathlib.Omega.{arith}
 use denote.Ref.{now}
 use Rattle.book.specs.Causes.{number}
 use Rattle.book.specs.Book.{edit, add, remove, lock, unlock}
@@ -229,8 +230,9 @@ slice-aggregate-put-frame c = search needs
 slice-aggregate-put-frame-2 : tie.Need-slice-aggregate-put-frame-2
 slice-aggregate-put-frame-2 c = search needs
 
+-- past the places that `search` enters
 put-frame-requires : tie.Need-put-frame-requires
-put-frame-requires c κs = search needs
+put-frame-requires c κs = (omega arith, start9 (c .before .before .before) .pre)
 
 same-length-10 : tie.Need-same-length-10
 same-length-10 c = search needs
