@@ -5,6 +5,8 @@
 --   Edit, Call      add, remove, lock and unlock with any arguments; and undo
 --   present, isLocked
 --                   whether a link is in the sheet, and whether a record is locked
+--   total s l       how many links of the sheet have the label l
+--   totalNumber l   the answer to asking for the total of a label: 0, or 3 above 25
 --   causes n s e    the causes against the edit e of the sheet s, in their order
 --   edited e s      the sheet s with the link or lock put in or taken out
 --   answer b c      the book's answer to a call: 0 if it is accepted, else the number of the first cause
@@ -19,7 +21,7 @@ use mathlib.Core.Bool.{Bool, not, _||_, _&&_}
 use Prim.Native.Nat.{ℕ, zero, suc}
 use lib.ListN.{length, take}
 use lib.Dec.{leb, ltb, eqb}
-use Rattle.book.specs.Basics.{has, without}
+use Rattle.book.specs.Basics.{has, without, tally}
 use Rattle.book.specs.Causes.{Cause, bad-size, no-record, bad-label, locked-end, already, missing, full, none-held, number, firstNumber, maxRecords, labels, maxLinks, maxHeld}
 
 pub record Link : Type 0 where
@@ -52,6 +54,12 @@ present s k = has sameLink k (s .links)
 
 abbrev pub isLocked : Sheet → ℕ → Bool
 isLocked s r = has eqb r (s .locks)
+
+unfoldable pub total : Sheet → ℕ → ℕ
+total s l = tally (λ k. eqb (k .label) l) (s .links)
+
+unfoldable pub totalNumber : ℕ → ℕ
+totalNumber l = firstNumber ((bad-label, leb labels l) ∷ [])
 
 -- the causes against an edit, each with whether it is there, in the order of S6.6
 unfoldable pub causes : ℕ → Sheet → Edit → List (Cause × Bool)

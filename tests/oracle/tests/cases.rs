@@ -258,11 +258,22 @@ fn the_order_of_refusals_of_edits() {
     }
 }
 
+/// After each edit, refusal and undo a total is the number of links with the label; a label above 25 has none.
+#[test]
+fn totals() {
+    assert_eq!(answers("total 200\nopen 3\ntotal a\nadd 0 a 1\nadd 1 a 1\nadd 0 b 1\nadd 0 a 1\ntotal a\ntotal b"), {
+        "refused 16, ok, total 0, ok, ok, ok, refused 5, total 2, total 1"
+    });
+    assert_eq!(answers("open 3\nadd 0 a 1\nadd 1 a 1\nremove 0 a 1\ntotal a\nundo\ntotal a\nundo\nundo\ntotal a\ntotal 26\nopen 2\ntotal 25"), {
+        "ok, ok, ok, ok, total 1, ok, total 2, ok, ok, total 0, refused 3, ok, total 0"
+    });
+}
+
 #[test]
 fn the_order_of_refusals_of_frames() {
     // Before any open: 15, then 14 for a wrong size, then 16; a refused open opens nothing.
     assert_eq!(
-        printed(&[frame(9, &[]), frame(1, &[4]), frame(8, &[0; 3])].concat()),
+        printed(&[frame(12, &[]), frame(1, &[4]), frame(8, &[0; 3])].concat()),
         "refused 15\nrefused 14\nrefused 14\n"
     );
     assert_eq!(answers("undo\npairs\nchain 9 9\nadd 70 a 0\nopen 0\nopen 65\nlock 0"), {
@@ -273,7 +284,7 @@ fn the_order_of_refusals_of_frames() {
         "ok, ok, refused 1, pairs 1, 63 63, ok, refused 8"
     });
     // Every kind at each size.
-    for kind in 0..=9 {
+    for kind in (0..=9).chain([12]) {
         for size in [0, 1, 2, 3, 4, 5, 6, 1022] {
             let right = match kind {
                 1 | 4 | 5 => size == 2,
@@ -281,10 +292,11 @@ fn the_order_of_refusals_of_frames() {
                 6 => size == 0,
                 7 => true,
                 8 => size >= 4,
+                9 => size == 1,
                 _ => false,
             };
             let number = match (kind, right) {
-                (0 | 9, _) => 15,
+                (0 | 12, _) => 15,
                 (_, false) => 14,
                 (1, true) => 1,
                 _ => 16,
