@@ -5,11 +5,12 @@
 --   All P l         P holds of every member of the list l
 --   has same x l    whether a member of l is the same as x, computed
 --   without x l     the members of l that are not the same as x
+--   tally t l       how many members of l pass the test t
 --   Rises m l       the numbers of l ascend, each once, the first at least m
 -- Assumes nothing: these are definitions.
 use mathlib.Core.List.{List, [], _∷_}
 use mathlib.Core.Bool.{Bool, true, false, _||_}
-use Prim.Native.Nat.{ℕ, suc, _≤_}
+use Prim.Native.Nat.{ℕ, suc, _+_, _≤_}
 
 abbrev pub pick {ℓ} : {A : Type ℓ} → Bool → A → A → A
 pick true x y = x
@@ -34,6 +35,10 @@ module _ {A : Type 0} (same : A → A → Bool) where
   unfoldable pub without : A → List A → List A
   without x [] = []
   without x (y ∷ ys) = pick (same y x) (without x ys) (y ∷ without x ys)
+
+unfoldable pub tally : {A : Type 0} → (A → Bool) → List A → ℕ
+tally t [] = 0
+tally t (x ∷ xs) = bit (t x) + tally t xs
 
 pub data Rises : ℕ → List ℕ → Type 0 where
   ended : {m : ℕ} → Rises m []

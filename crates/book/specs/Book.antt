@@ -6,6 +6,8 @@
 --   present, isLocked, isWithdrawn
 --                   whether a link is in the sheet, and whether a record is locked, or withdrawn
 --   touched r ks    whether a link of ks has the record r as an end
+--   total s l       how many links of the sheet have the label l
+--   totalNumber l   the answer to asking for the total of a label: 0, or 3 above 25
 --   causes n s e    the causes against the edit e of the sheet s, in their order
 --   edited e s      the sheet s with the link, lock or withdrawn record put in or taken out
 --   answer b c      the book's answer to a call: 0 if it is accepted, else the number of the first cause
@@ -20,7 +22,7 @@ use mathlib.Core.Bool.{Bool, false, not, _||_, _&&_}
 use Prim.Native.Nat.{ℕ, zero, suc}
 use lib.ListN.{length, take}
 use lib.Dec.{leb, ltb, eqb}
-use Rattle.book.specs.Basics.{has, without}
+use Rattle.book.specs.Basics.{has, without, tally}
 use Rattle.book.specs.Causes.{Cause, bad-size, no-record, bad-label, locked-end, already, missing, full, none-held, touched-record, withdrawn-record, number, firstNumber, maxRecords, labels, maxLinks, maxHeld}
 
 pub record Link : Type 0 where
@@ -62,6 +64,12 @@ isWithdrawn s r = has eqb r (s .withdrawn)
 unfoldable pub touched : ℕ → List Link → Bool
 touched r [] = false
 touched r (k ∷ ks) = (eqb (k .from) r || eqb (k .to) r) || touched r ks
+
+unfoldable pub total : Sheet → ℕ → ℕ
+total s l = tally (λ k. eqb (k .label) l) (s .links)
+
+unfoldable pub totalNumber : ℕ → ℕ
+totalNumber l = firstNumber ((bad-label, leb labels l) ∷ [])
 
 -- the causes against an edit, each with whether it is there, in the order of S6.6
 unfoldable pub causes : ℕ → Sheet → Edit → List (Cause × Bool)

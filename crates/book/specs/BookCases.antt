@@ -1,15 +1,15 @@
 -- Cases of the plain book: the edits of the sample (S7.8), each number from 2 to 8, 17 and 18 with the first cause in order winning, what is not held,
 -- 257 edits and 257 undos, and a full register. Assumes nothing.
 use mathlib.Core.Path.{_≡_, refl, ap}
-use mathlib.Core.List.{List, [], _∷_, _++_}
+use mathlib.Core.List.{List, [], _∷_, _++_, map}
 use mathlib.Core.Bool.{Bool, true, false}
 use Prim.Native.Nat.{ℕ, zero, suc, _+_, _/_, _%_, _<_}
 use native.Mathlib.Omega.{arith}
 use lib.ListN.{length, replicate}
 use borrow.Author.Tests.{lt-leb, le-leb}
-use Rattle.book.specs.Basics.{has, without}
+use Rattle.book.specs.Basics.{has, without, tally}
 use Rattle.book.specs.Causes.{number, firstNumber, maxLinks}
-use Rattle.book.specs.Book.{Link, sameLink, Sheet, add, remove, lock, unlock, withdraw, reinstate, Call, edit, undo, touched, causes, editAnswer, edited, turned, undoAnswer, undone, freshAnswer, answer, next, fresh, answers, after}
+use Rattle.book.specs.Book.{Link, sameLink, Sheet, add, remove, lock, unlock, withdraw, reinstate, Call, edit, undo, touched, causes, editAnswer, edited, turned, undoAnswer, undone, freshAnswer, total, totalNumber, answer, next, fresh, answers, after}
 use Rattle.book.specs.SetLaws.{sameLink-test}
 
 abbrev link : ℕ → ℕ → ℕ → Link
@@ -130,6 +130,19 @@ undo-withdrawn : after (fresh 4) (withdraws 3 ∷ withdraws 3 ∷ undo ∷ []) �
     ≡ fresh 4 ∷ after (fresh 4) (withdraws 3 ∷ []) ∷ []
 unfolding after answer next editAnswer firstNumber number causes edited turned undoAnswer undone fresh has without touched
 undo-withdrawn = refl
+
+-- the totals of the labels 0 and 1 follow two adds, a refused add, a remove, and an undo of it; a label above 25 has none
+total-each : map (λ l. total (after (fresh 4) (adds 0 0 1 ∷ adds 2 0 1 ∷ adds 2 0 1 ∷ removes 0 0 1 ∷ []) .sheet) l) (0 ∷ 1 ∷ []) ≡ 1 ∷ 0 ∷ []
+unfolding after answer next editAnswer firstNumber number causes edited turned fresh has without total tally
+total-each = refl
+
+total-undo : total (after (fresh 4) (adds 0 0 1 ∷ adds 2 0 1 ∷ removes 0 0 1 ∷ undo ∷ []) .sheet) 0 ≡ 2
+unfolding after answer next editAnswer firstNumber number causes edited turned undone fresh has without total tally
+total-undo = refl
+
+total-3 : totalNumber 0 ∷ totalNumber 25 ∷ totalNumber 26 ∷ totalNumber 255 ∷ [] ≡ 0 ∷ 0 ∷ 3 ∷ 3 ∷ []
+unfolding totalNumber firstNumber number
+total-3 = refl
 
 -- after 257 edits, 256 undos pass and the next gives 8
 unfoldable toggles : ℕ → List Call

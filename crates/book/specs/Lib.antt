@@ -5,4 +5,5 @@ pub mod Sheets
 pub mod ListLaws
 pub mod SetLaws
 pub mod BookLaws
+pub mod TotalLaws
 pub mod BookCases

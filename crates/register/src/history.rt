@@ -7,21 +7,43 @@ use crate::state::empty;
 use crate::state::number_of;
 ghost use Rattle.register.specs.History.{wordCall, EntrySteps, Replays};
 
+// The kinds of calls, numbered as the program's frames are.
+pub const ADD_KIND: u64 = 2;
+
+pub const REMOVE_KIND: u64 = 3;
+
+pub const LOCK_KIND: u64 = 4;
+
+pub const UNLOCK_KIND: u64 = 5;
+
+pub const UNDO_KIND: u64 = 6;
+
+// A call's word is its kind, from or the record, label and to, each times its unit. Records have 16 bits, labels 8.
+const WORD_RECORDS: u64 = 65536;
+
+const WORD_LABELS: u64 = 256;
+
+const WORD_LABEL: u64 = WORD_RECORDS;
+
+const WORD_FROM: u64 = WORD_LABEL * WORD_LABELS;
+
+const WORD_KIND: u64 = WORD_FROM * WORD_RECORDS;
+
 impl Register {
     // Any call, by its word; a kind that does not exist gives 15.
     pub fn step(self, word: u64) -> Outcome
         ensures { λ r. ⌜ EntrySteps self (wordCall «word») r ⌝ }
     {
-        let kind = word / 1099511627776;
-        let from = (word / 16777216 % 65536) as u16;
-        let label = (word / 65536 % 256) as u8;
-        let to = (word % 65536) as u16;
+        let kind = word / WORD_KIND;
+        let from = (word / WORD_FROM % WORD_RECORDS) as u16;
+        let label = (word / WORD_LABEL % WORD_LABELS) as u8;
+        let to = (word % WORD_RECORDS) as u16;
         match kind {
-            2 => self.apply(Call::Add(from, label, to)),
-            3 => self.apply(Call::Remove(from, label, to)),
-            4 => self.apply(Call::Lock(from)),
-            5 => self.apply(Call::Unlock(from)),
-            6 => self.apply(Call::Undo),
+            ADD_KIND => self.apply(Call::Add(from, label, to)),
+            REMOVE_KIND => self.apply(Call::Remove(from, label, to)),
+            LOCK_KIND => self.apply(Call::Lock(from)),
+            UNLOCK_KIND => self.apply(Call::Unlock(from)),
+            UNDO_KIND => self.apply(Call::Undo),
             _ => Outcome {
                 register: self,
                 answer: Answer::Refused(book::UNKNOWN_KIND),

@@ -8,6 +8,11 @@ mod sorted;
 mod state;
 mod words;
 
+pub use history::ADD_KIND;
+pub use history::LOCK_KIND;
+pub use history::REMOVE_KIND;
+pub use history::UNDO_KIND;
+pub use history::UNLOCK_KIND;
 pub use history::replay;
 pub use questions::label_part;
 pub use questions::next_in;
