@@ -3,7 +3,7 @@ use mathlib.Core.Path.{_≡_, refl, ap, sym, subst, _∙_}
 use mathlib.Core.Logic.{_⊎_, inl, inr, ⊎-elim}
 use mathlib.Core.List.{List, [], _∷_}
 use mathlib.Core.Bool.{Bool, true, false, _||_, _&&_, false≢true, true≢false}
-use Prim.Native.Nat.{ℕ, zero, suc, _≤_, _<_}
+use Prim.Native.Nat.{ℕ, zero, suc, _+_, _-_, _≤_, _<_}
 use native.Mathlib.Omega.{arith}
 use lib.Dec.{ltb, eqb, leb·suc-suc}
 use lib.ListN.{length, take, getD}
@@ -51,7 +51,7 @@ seam-list x (y ∷ ys) (suc i) (rises h r) s = go (ltb y x) refl (seam-list x ys
     go true e ih = ap suc (ih (record { within = omega (arith, s .within); low = λ j q. s .low (suc j) (ap suc q); high = λ q. s .high (omega arith) }))
     go false e ih = absurd (omega (arith, ltb-false y x e, rises-at (rises {m = y} {w = y} (omega arith) r) i (s .within), s .low i refl))
 
-pub seam-below : (x : ℕ) (ws : List ℕ) (c i : ℕ) → c ≤ length ws → Rises 0 (take c ws) → Seam x ws c i → i ≡ below x (take c ws)
+seam-below : (x : ℕ) (ws : List ℕ) (c i : ℕ) → c ≤ length ws → Rises 0 (take c ws) → Seam x ws c i → i ≡ below x (take c ws)
 seam-below x ws c i h r s =
     let e : length (take c ws) ≡ c = length-take-le c ws h in
     seam-list x (take c ws) i r (record {
@@ -93,12 +93,17 @@ unfolding standsAt
 stands-below ws c i x e = ltb-true i c (and-both (ltb i c) (eqb (getD ws i 0) x) e .0)
 
 -- ---- one put in
-pub insert-put : (x : ℕ) (l : List ℕ) → putAt (below x l) x l ≡ insert x l
+insert-put : (x : ℕ) (l : List ℕ) → putAt (below x l) x l ≡ insert x l
 unfolding putAt below insert
 insert-put x [] = refl
 insert-put x (y ∷ ys) =
     elim (ltb y x) as (λ (t : Bool). putAt (pick t (suc (below x ys)) 0) x (y ∷ ys) ≡ pick t (y ∷ insert x ys) (x ∷ y ∷ ys))
     [ true ↦ ap (λ (l : List ℕ). y ∷ l) (insert-put x ys) | false ↦ refl ]
+
+-- x put at the place found for it is x put in
+pub seam-insert : (x : ℕ) (ws vs : List ℕ) (c i : ℕ) → c ≤ length ws → Seam x ws c i → take (c + 1) vs ≡ putAt i x (take c ws) → Rises 0 (take c ws)
+    → take (c + 1) vs ≡ insert x (take c ws)
+seam-insert x ws vs c i h s e r = e ∙ ap (λ (j : ℕ). putAt j x (take c ws)) (seam-below x ws c i h r s) ∙ insert-put x (take c ws)
 
 pub length-insert : (x : ℕ) (l : List ℕ) → length (insert x l) ≡ suc (length l)
 unfolding insert
@@ -144,7 +149,7 @@ rises-without {m} x (rises {w = y} {l = ys} g r) =
     elim (eqb y x) as (λ (t : Bool). Rises m (pick t (without eqb x ys) (y ∷ without eqb x ys)))
     [ true ↦ rises-from (omega arith) (rises-without x r) | false ↦ rises g (rises-without x r) ]
 
-pub cut-without : {m : ℕ} (x : ℕ) (l : List ℕ) → Rises m l → has eqb x l ≡ true → cutAt (below x l) l ≡ without eqb x l
+cut-without : {m : ℕ} (x : ℕ) (l : List ℕ) → Rises m l → has eqb x l ≡ true → cutAt (below x l) l ≡ without eqb x l
 unfolding cutAt below has without
 cut-without x [] r e = absurd (false≢true e)
 cut-without x (y ∷ ys) (rises h r) e = go (ltb y x) refl (eqb y x) refl e (cut-without x ys r)
@@ -155,6 +160,11 @@ cut-without x (y ∷ ys) (rises h r) e = go (ltb y x) refl (eqb y x) refl e (cut
     go true q false f e ih = ap (λ (l : List ℕ). y ∷ l) (ih e)
     go false q true f e ih = sym (without-absent eqb-test x ys (rises-absent x r (omega (arith, eqb-true y x f))))
     go false q false f e ih = absurd (omega (arith, ltb-false y x q, rises-least r (has-in eqb-test x ys e)))
+
+-- x cut at the place where it stands is x taken out
+pub seam-without : (x : ℕ) (ws vs : List ℕ) (c i : ℕ) → c ≤ length ws → Seam x ws c i → take (c - 1) vs ≡ cutAt i (take c ws) → Rises 0 (take c ws)
+    → has eqb x (take c ws) ≡ true → take (c - 1) vs ≡ without eqb x (take c ws)
+seam-without x ws vs c i h s e r q = e ∙ ap (λ (j : ℕ). cutAt j (take c ws)) (seam-below x ws c i h r s) ∙ cut-without x (take c ws) r q
 
 pub length-out : {m : ℕ} (x : ℕ) (l : List ℕ) → Rises m l → has eqb x l ≡ true → suc (length (without eqb x l)) ≡ length l
 unfolding has without

@@ -10,12 +10,12 @@ use mir.Val.{boolByte}
 use lib.Dec.{eqb}
 use lib.ListN.{length, take, drop, set, getD, length-append, length-map, drop-of-length-le, List·getD-eq-default, List·getD-map}
 use lib.Seq.{ext-getD, getD-set-same, getD-set-other, take-at, drop-at, drop-drop, take-all, take-length, length-take-le, paste, paste-suc}
-use Rattle.book.specs.Causes.{number, maxRecords, maxLinks, maxHeld}
+use Rattle.book.specs.Causes.{number, labels, maxRecords, maxLinks, maxHeld}
 use Rattle.book.specs.Book.{fresh}
 use Rattle.register.specs.Counters.{Ranged, InRange}
 use Rattle.register.specs.Representation.{Represents}
 use Rattle.register.specs.Inner.{Flags, Formed, Tested}
-use Rattle.register.specs.Words.{stateWords, linksAt, ringAt, locksAt, lockWord, numbersOf, stateOf, Keeps, Copies, Loads, Stores}
+use Rattle.register.specs.Words.{stateWords, linksAt, ringAt, locksAt, totalsAt, lockWord, numbersOf, stateOf, Keeps, Copies, Loads, Stores}
 use Rattle.register.specs.WordLaws.{lock-back, keeps-formed}
 use Rattle.register.specs.declared.Register.{Register}
 use Rattle.register.specs.declared.Answer.the-variants.{Done, Refused}
@@ -119,15 +119,16 @@ past xs before after at k h l c =
     ∙ drop-drop (k - m) m before
     ∙ ap (λ (i : ℕ). drop i before) e
 
-pub stored : (r : Register) (w₀ w₁ w₂ w₃ w₄ : List ℕ) → InRange r
-    → length (r .links) ≡ maxLinks → length (r .ring) ≡ maxHeld → length (r .locks) ≡ maxRecords
-    → stateWords ≤ length w₀ → stateWords ≤ length w₁ → stateWords ≤ length w₂ → stateWords ≤ length w₃
+pub stored : (r : Register) (w₀ w₁ w₂ w₃ w₄ w₅ : List ℕ) → InRange r
+    → length (r .links) ≡ maxLinks → length (r .ring) ≡ maxHeld → length (r .locks) ≡ maxRecords → length (r .totals) ≡ labels
+    → stateWords ≤ length w₀ → stateWords ≤ length w₁ → stateWords ≤ length w₂ → stateWords ≤ length w₃ → stateWords ≤ length w₄
     → w₁ ≡ take 0 w₀ ++ numbersOf r ++ drop (0 + length (numbersOf r)) w₀
     → w₂ ≡ take linksAt w₁ ++ r .links ++ drop (linksAt + length (r .links)) w₁
     → w₃ ≡ take ringAt w₂ ++ r .ring ++ drop (ringAt + length (r .ring)) w₂
     → w₄ ≡ take locksAt w₃ ++ map lockWord (r .locks) ++ drop (locksAt + length (r .locks)) w₃
-    → Stores r w₀ w₄ true
-stored r w₀ w₁ w₂ w₃ w₄ g ls rs ks l₀ l₁ l₂ l₃ a b c d =
+    → w₅ ≡ take totalsAt w₄ ++ r .totals ++ drop (totalsAt + length (r .totals)) w₄
+    → Stores r w₀ w₅ true
+stored r w₀ w₁ w₂ w₃ w₄ w₅ g ls rs ks ts l₀ l₁ l₂ l₃ l₄ a b c d e =
     let m : length (map lockWord (r .locks)) ≡ length (r .locks) = length-map (r .locks) lockWord in
     let d′ : w₄ ≡ take locksAt w₃ ++ map lockWord (r .locks) ++ drop (locksAt + length (map lockWord (r .locks))) w₃ = rw m d in
     let e₁ : take linksAt w₁ ≡ numbersOf r = behind [] (numbersOf r) w₀ w₁ 0 linksAt refl refl refl a in
@@ -135,14 +136,18 @@ stored r w₀ w₁ w₂ w₃ w₄ g ls rs ks l₀ l₁ l₂ l₃ a b c d =
     let e₂ : take ringAt w₂ ≡ numbersOf r ++ r .links = behind (numbersOf r) (r .links) w₁ w₂ linksAt ringAt e₁ refl (omega (arith, ls)) b in
     let f₃ : length (numbersOf r ++ r .links ++ r .ring) ≡ locksAt = length-append (numbersOf r ++ r .links) (r .ring) ∙ omega (arith, f₂, rs) in
     let e₃ : take locksAt w₃ ≡ numbersOf r ++ r .links ++ r .ring = behind (numbersOf r ++ r .links) (r .ring) w₂ w₃ ringAt locksAt e₂ f₂ (omega (arith, rs)) c in
-    let e₄ : take stateWords w₄ ≡ stateOf r =
-    behind (numbersOf r ++ r .links ++ r .ring) (map lockWord (r .locks)) w₃ w₄ locksAt stateWords e₃ f₃ (omega (arith, m, ks)) d′ in
-    let rest : drop stateWords w₄ ≡ drop stateWords w₀ =
-    past (map lockWord (r .locks)) w₃ w₄ locksAt stateWords (omega (arith, m, ks)) l₃ d′
+    let f₄ : length (numbersOf r ++ r .links ++ r .ring ++ map lockWord (r .locks)) ≡ totalsAt = length-append (numbersOf r ++ r .links ++ r .ring) (map lockWord (r .locks)) ∙ omega (arith, f₃, m, ks) in
+    let e₄ : take totalsAt w₄ ≡ numbersOf r ++ r .links ++ r .ring ++ map lockWord (r .locks) =
+    behind (numbersOf r ++ r .links ++ r .ring) (map lockWord (r .locks)) w₃ w₄ locksAt totalsAt e₃ f₃ (omega (arith, m, ks)) d′ in
+    let e₅ : take stateWords w₅ ≡ stateOf r =
+    behind (numbersOf r ++ r .links ++ r .ring ++ map lockWord (r .locks)) (r .totals) w₄ w₅ totalsAt stateWords e₄ f₄ (omega (arith, ts)) e in
+    let rest : drop stateWords w₅ ≡ drop stateWords w₀ =
+    past (r .totals) w₄ w₅ totalsAt stateWords (omega (arith, ts)) l₄ e
+    ∙ past (map lockWord (r .locks)) w₃ w₄ locksAt stateWords (omega (arith, m, ks)) l₃ d′
     ∙ past (r .ring) w₂ w₃ ringAt stateWords (omega (arith, rs)) l₂ c
     ∙ past (r .links) w₁ w₂ linksAt stateWords (omega (arith, ls)) l₁ b
     ∙ past (numbersOf r) w₀ w₁ 0 stateWords (omega arith) l₀ a in
-    record { done = λ _. (record { ranged = g; links = ls; ring = rs; locks = ks; words = e₄ }, rest); refused = λ e. absurd (true≢false e) }
+    record { done = λ _. (record { ranged = g; links = ls; ring = rs; locks = ks; totals = ts; words = e₅ }, rest); refused = λ e. absurd (true≢false e) }
 
 pub store-refused : (r : Register) (ws : List ℕ) → (stateWords ≤ length ws → InRange r → ⊥) → Stores r ws ws false
 store-refused r ws f = record { done = λ e. absurd (false≢true e); refused = λ _. (refl, f) }

@@ -1,4 +1,5 @@
 pub mod Ascending
+pub mod Counting
 pub mod Shift
 pub mod Ring
 pub mod Showing

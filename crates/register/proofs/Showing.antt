@@ -13,17 +13,19 @@ use lib.Dec.{leb, eqb}
 use lib.ListN.{length, getD, set, replicate}
 use lib.Seq.{getD-set-same, getD-set-other, set-set, set-getD}
 use borrow.Author.Tests.{leb-false, eqb-true, eqb-false, not-false}
-use Rattle.book.specs.Basics.{pick, In, has, without}
+use Rattle.book.specs.Basics.{pick, bit, In, has, without}
 use Rattle.book.specs.Causes.{Cause, no-record, locked-end, already, missing, full, number, firstNumber, maxRecords, labels, maxLinks}
 use Rattle.book.specs.Book.{Link, sameLink, Sheet, Edit, add, remove, lock, unlock, present, isLocked, causes, editAnswer, edited}
 use Rattle.book.specs.SetLaws.{eqb-test, sameLink-test, and-both, or-neither, has-in, in-has, has-without, length-without, without-absent}
 use Rattle.book.specs.Sheets.{Proper, Fit}
 use Rattle.book.specs.BookLaws.{first-none, first-proper, edited-fit}
-use Rattle.register.specs.Links.{linkWord, Linked}
+use Rattle.book.specs.TotalLaws.{total-add, total-remove, total-lock, total-unlock}
+use Rattle.register.specs.Links.{linkWord, labelUnit, Linked}
 use Rattle.register.specs.Packed.{Packed, insert, kindUnit, heldWord, takeBackKind, takeBack, Shows}
 use Rattle.register.specs.Inner.{linkCauses}
 use Rattle.register.specs.LinkLaws.{word-test, linked-has}
 use Rattle.register.proofs.Ascending.{insert-in, insert-keeps, in-insert, length-insert, rises-insert, rises-without, length-out, without-insert, insert-without}
+use Rattle.register.proofs.Counting.{word-total-insert, word-total-without}
 
 -- ---- the same cause
 unfoldable pub packedCauses : ℕ → Packed → Edit → List (Cause × Bool)
@@ -126,6 +128,9 @@ module _ {n : ℕ} (small : n ≤ maxRecords) where
         has-in eqb-test (linkWord j) _ (has-without eqb-test (linkWord k) (linkWord j) ws ∙ rw (d, in-has eqb-test (linkWord j) ws (l .whole j (h .1))));
   }
 
+  word-label : {k : Link} → Proper n k → linkWord k / labelUnit ≡ k .label
+  word-label p = omega (arith, p .from, p .to)
+
   pub shows-edited : {p : Packed} {s : Sheet} → length (p .locks) ≡ maxRecords → Shows n p s → (e : Edit) → editAnswer n s e ≡ 0 → Shows n (packedEdit e p) (edited e s)
   unfolding packedEdit edited editAnswer causes has
   shows-edited {p} {s} m h (add k) z =
@@ -135,6 +140,7 @@ module _ {n : ℕ} (small : n ≤ maxRecords) where
       record {
         links = add-linked k (h .fit) (h .links) (u .0) (a .0);
         count = length-insert (linkWord k) (p .links) ∙ ap suc (h .count);
+        totals = λ l. word-total-insert l (linkWord k) (p .links) ∙ rw (word-label (u .0)) (ap (λ (t : ℕ). bit (eqb (k .label) l) + t) (h .totals l) ∙ sym (total-add k s l));
         locks = h .locks;
         fit = edited-fit n s (add k) (h .fit) z;
       }
@@ -148,6 +154,11 @@ module _ {n : ℕ} (small : n ≤ maxRecords) where
             let x = length-out (linkWord k) (p .links) (h .links .ascending) (linked-has small (h .fit) (h .links) (u .0) ∙ a) in
             let y = length-without sameLink-test k (s .links) (h .fit .once) a in
             omega (arith, h .count);
+        totals = λ l.
+            let x = word-total-without l (linkWord k) (p .links) (h .links .ascending) (linked-has small (h .fit) (h .links) (u .0) ∙ a) in
+            let y = total-remove k s l (h .fit .once) a in
+            let z : bit (eqb (linkWord k / labelUnit) l) ≡ bit (eqb (k .label) l) = ap (λ (i : ℕ). bit (eqb i l)) (word-label (u .0)) in
+            omega (arith, x, y, z, h .totals l);
         locks = h .locks;
         fit = edited-fit n s (remove k) (h .fit) z;
       }
@@ -156,6 +167,7 @@ module _ {n : ℕ} (small : n ≤ maxRecords) where
       record {
         links = relinked (h .links);
         count = h .count;
+        totals = λ l. h .totals l ∙ sym (total-lock r s l);
         locks = λ j. set-lock (p .locks) r j true (omega arith) ∙ pick-or (eqb r j) (getD (p .locks) j false) ∙ ap (λ (t : Bool). eqb r j || t) (h .locks j);
         fit = edited-fit n s (lock r) (h .fit) z;
       }
@@ -167,6 +179,7 @@ module _ {n : ℕ} (small : n ≤ maxRecords) where
       record {
         links = relinked (h .links);
         count = h .count;
+        totals = λ l. h .totals l ∙ sym (total-unlock r s l);
         locks = λ j. set-lock (p .locks) r j false (omega arith) ∙ pick-and (eqb r j) (getD (p .locks) j false) ∙ ap (λ (t : Bool). not (eqb r j) && t) (h .locks j) ∙ sym (has-without eqb-test r j (s .locks));
         fit = edited-fit n s (unlock r) (h .fit) z;
       }
@@ -208,8 +221,14 @@ module _ {n : ℕ} (small : n ≤ maxRecords) where
       let y : (100663296 + r) % kindUnit ≡ r = omega arith in
       rw (x, y) (ap (λ (l : List Bool). record { links = p .links; locks = l }) (set-set (p .locks) r false true ∙ ap (set (p .locks) r) (sym a) ∙ set-getD (p .locks) r false))
 
--- of no locks each is false, past their end too
+-- of no locks each is false, past their end too, and of no totals each is 0
+replicate-at : {A : Type 0} (x : A) (n i : ℕ) → getD (replicate n x) i x ≡ x
+replicate-at x zero i = refl
+replicate-at x (suc n) zero = refl
+replicate-at x (suc n) (suc i) = replicate-at x n i
+
 pub none-locked : (n r : ℕ) → getD (replicate n false) r false ≡ false
-none-locked zero r = refl
-none-locked (suc n) zero = refl
-none-locked (suc n) (suc r) = none-locked n r
+none-locked = replicate-at false
+
+pub none-counted : (n l : ℕ) → _≡_ {A = ℕ} (getD (replicate n 0) l 0) 0
+none-counted = replicate-at 0

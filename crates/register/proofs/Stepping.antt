@@ -9,17 +9,18 @@ use lib.ListN.{length, take, set}
 use borrow.Author.Tests.{not-true, not-false}
 use Rattle.book.specs.Basics.{Rises, has}
 use Rattle.book.specs.Causes.{already, missing, full, none-held, not-open, firstNumber, number, Caused, maxRecords, maxLinks, maxHeld}
-use Rattle.book.specs.Book.{Link, Sheet, Book, Edit, add, remove, Call, edit, undo, editAnswer, turned, undoAnswer, undone, freshAnswer, fresh, answer, next}
+use Rattle.book.specs.Book.{Link, Sheet, Book, Edit, add, remove, Call, edit, undo, editAnswer, edited, turned, undoAnswer, undone, freshAnswer, fresh, answer, next}
 use Rattle.book.specs.Sheets.{Proper}
 use Rattle.book.specs.BookLaws.{caused-positive, first-proper}
 use Rattle.register.specs.Links.{linkWord}
-use Rattle.register.specs.Packed.{Packed, heldWord, takeBackKind, takeBack, Piled}
+use Rattle.register.specs.Packed.{Packed, heldWord, takeBackKind, takeBack, Shows, Piled}
 use Rattle.register.specs.Counters.{Ranged, InRange}
 use Rattle.register.specs.Representation.{heldWords, packedOf, Represents}
 use Rattle.register.specs.Calls.{answerOf, Opens, Steps}
-use Rattle.register.specs.Inner.{linkCauses, Guarded, Holding, Changed}
+use Rattle.register.specs.Inner.{linkCauses, Guarded, Counted, Holding, Changed}
 use Rattle.register.specs.declared.Register.{Register}
 use Rattle.register.specs.declared.Answer.the-variants.{Done, Refused}
+use Rattle.register.proofs.Counting.{held-counted, represents-counted, counted-totals}
 use Rattle.register.proofs.Showing.{packedCauses, first-append, first-stop, shows-cause, packedEdit, shows-edited, taken-back}
 
 -- ---- answers
@@ -106,10 +107,12 @@ module _ (self : Register) (e : Edit) (m r : Register) (inside : InRange self) (
     follows = λ b h.
         let small = subst (λ (n : ℕ). n ≤ maxRecords) (h .size) (h .ranged .size) in
         let s = o .sheet ∙ c .sheet (h .sheet .links .ascending) in
+        let shown : Shows (b .n) (packedOf r) (edited e (b .sheet)) = rw s (shows-edited small long (h .sheet) e (none b h)) in
         rw (none b h) (record {
           size = o .n ∙ c .kept .n ∙ h .size;
           ranged = record { size = omega (arith, o .n, c .kept .n, inside .size); count = omega (arith, o .count, c .kept .count); top = o .top; held = o .few };
-          sheet = rw s (shows-edited small long (h .sheet) e (none b h));
+          sheet = shown;
+          totals = counted-totals r (held-counted o (c .counted (h .sheet .links .ascending) (represents-counted h))) shown;
           pile = rw (s, words) (piled-take maxHeld (b .n) (packedEdit e (packedOf self)) (heldWord e ∷ heldWords self) (b .sheet ∷ b .pile) (rw (taken-back small (h .sheet) e (none b h)) (h .sheet, h .pile)));
         });
   }
@@ -175,6 +178,7 @@ pub record Restored (self : Register) (w : ℕ) (r : Register) : Type 0 where
   pub ranged : InRange r
   pub words : heldWords self ≡ w ∷ heldWords r
   pub sheet : Rises 0 (packedOf self .links) → length (takeBack w (packedOf self) .links) ≤ maxLinks → packedOf r ≡ takeBack w (packedOf self)
+  pub counted : Rises 0 (packedOf self .links) → Counted self → Counted r
 
 module _ (self : Register) (inside : InRange self) (w : ℕ) (r : Register) (u : Restored self w r) where
   -- the pile has a top, and the register goes back to it
@@ -187,7 +191,16 @@ module _ (self : Register) (inside : InRange self) (w : ℕ) (r : Register) (u :
       go (s ∷ ss) q =
           let few : length (takeBack w (packedOf self) .links) ≤ maxLinks = omega (arith, q .0 .count, q .0 .fit .room) in
           let e = u .sheet (h .sheet .links .ascending) few in
-          (refl, record { size = u .n ∙ h .size; ranged = u .ranged; sheet = rw e (q .0); pile = rw e (q .1) })
+          let shown : Shows (b .n) (packedOf r) s = rw e (q .0) in (
+            refl,
+            record {
+              size = u .n ∙ h .size;
+              ranged = u .ranged;
+              sheet = shown;
+              pile = rw e (q .1);
+              totals = counted-totals r (u .counted (h .sheet .links .ascending) (represents-counted h)) shown;
+            },
+          )
 
   pub accept-undo : Steps self undo (record { register = r; answer = Done })
   unfolding answer next

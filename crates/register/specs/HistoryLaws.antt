@@ -1,7 +1,7 @@
 -- The history theorem: whatever calls are made, refused ones included, the answers are the book's, and the register at the end represents the book at the end.
 -- And laws of a history as words: the numbers told to words, the calls among them, and that every call has a word. Assumes nothing.
 --   Small c         the arguments of the call are as wide as the frames': records of 16 bits, a label of 8
---   Members e b     what the register e and the book b have in common, as sets: the links, each once, and the locks
+--   Members e b     what the register e and the book b have in common, as sets: the links, each once, the totals, and the locks
 use mathlib.Core.Path.{_≡_, refl, ap, ap₂, sym, _∙_}
 use mathlib.Core.List.{List, [], _∷_, _++_, append-assoc}
 use mathlib.Core.Bool.{false}
@@ -10,7 +10,8 @@ use native.Mathlib.Omega.{arith}
 use lib.Dec.{eqb}
 use lib.ListN.{length, take, getD}
 use Rattle.book.specs.Basics.{pick, All, all-none, all-more}
-use Rattle.book.specs.Book.{sameLink, Sheet, Book, add, remove, lock, unlock, Call, edit, undo, isLocked, answer, next, fresh, answers, after}
+use Rattle.book.specs.Causes.{labels}
+use Rattle.book.specs.Book.{sameLink, Sheet, Book, add, remove, lock, unlock, Call, edit, undo, isLocked, total, answer, next, fresh, answers, after}
 use Rattle.book.specs.BookLaws.{caused-positive}
 use Rattle.book.specs.Sheets.{Distinct, Fit, Sound}
 use Rattle.register.specs.Links.{Linked}
@@ -59,12 +60,14 @@ pub record Members (e : Register) (b : Book) : Type 0 where
   pub links : Linked (take (e .count) (e .links)) (b .sheet)
   pub once : Distinct sameLink (b .sheet .links)
   pub count : length (take (e .count) (e .links)) ≡ length (b .sheet .links)
+  -- the register's total of each label is the number of the book's links of that label
+  pub totals : (l : ℕ) → l < labels → getD (e .totals) l 0 ≡ total (b .sheet) l
   -- a record is locked in the register exactly if it is in the book; and no lock of the book is there twice
   pub locks : (r : ℕ) → getD (e .locks) r false ≡ isLocked (b .sheet) r
   pub single : Distinct eqb (b .sheet .locks)
 
 pub members : {e : Register} {b : Book} → Represents e b → Members e b
-members h = let s = h .sheet in record { links = s .links; once = s .fit .once; count = s .count; locks = s .locks; single = s .fit .single }
+members h = let s = h .sheet in record { links = s .links; once = s .fit .once; count = s .count; totals = h .totals; locks = s .locks; single = s .fit .single }
 
 pub history-members : (n : ℕ) {r e : Register} {cs : List Call} {told : List ℕ} → Represents r (fresh n) → CallsMade r cs told e
     → (told ≡ answers (fresh n) cs) × Members e (after (fresh n) cs)

@@ -10,19 +10,22 @@
 --   Flags ws        every word is 0 or 1
 --   Formed ws       the words of a register, as they are told: enough of them, the counters in range, each lock 0 or 1
 --   Tested P ok     ok is whether P
+--   Raised l ts us, Lowered l ts us
+--                   what `raise` and `lower` promise: one more and one less of the label l, where the total has room for it
+--   Counted r       the totals of the register are those of its links' words
 --   Guarded, Checks, Holding, Changed, TakenBack
 --                   what `ranged`, `check_link`, `hold`, the inner edits and `taken_back` promise
 -- Assumes nothing: these are definitions.
 use mathlib.Core.Path.{_≡_}
 use mathlib.Core.List.{List, _∷_, [], _++_}
 use mathlib.Core.Bool.{Bool, true, false, _||_, _&&_}
-use Prim.Native.Nat.{ℕ, suc, _/_, _%_, _≤_, _<_}
+use Prim.Native.Nat.{ℕ, suc, _+_, _/_, _%_, _≤_, _<_}
 use lib.ListN.{length, take, drop, getD}
 use lib.Dec.{leb, ltb, eqb}
-use Rattle.book.specs.Basics.{Rises}
+use Rattle.book.specs.Basics.{bit, Rises}
 use Rattle.book.specs.Causes.{Cause, no-record, bad-label, locked-end, not-open, number, Caused, firstNumber, labels, maxRecords, maxLinks, maxHeld}
 use Rattle.book.specs.Book.{Link}
-use Rattle.register.specs.Links.{linkWord}
+use Rattle.register.specs.Links.{linkWord, wordTotal}
 use Rattle.register.specs.Packed.{Packed, takeBackKind}
 use Rattle.register.specs.Counters.{Ranged}
 use Rattle.register.specs.Representation.{heldWords, packedOf}
@@ -72,6 +75,7 @@ pub record Holding (self : Register) (w : ℕ) (r : Register) : Type 0 where
   pub top : r .top < maxHeld
   pub few : r .held ≤ maxHeld
   pub words : heldWords r ≡ take maxHeld (w ∷ heldWords self)
+  pub totals : r .totals ≡ self .totals
 
 -- all but the sheet is as it was
 pub record Kept (self r : Register) : Type 0 where
@@ -81,15 +85,26 @@ pub record Kept (self r : Register) : Type 0 where
   pub held : r .held ≡ self .held
   pub count : r .count ≤ maxLinks
 
--- where the words ascend, the sheet is changed to p
+pub record Raised (l : ℕ) (ts us : List ℕ) : Type 0 where
+  pub more : (j : ℕ) → j < labels → getD ts j 0 < maxLinks → getD us j 0 ≡ bit (eqb l j) + getD ts j 0
+
+pub record Lowered (l : ℕ) (ts us : List ℕ) : Type 0 where
+  pub less : (j : ℕ) → j < labels → bit (eqb l j) ≤ getD ts j 0 → getD ts j 0 ≡ bit (eqb l j) + getD us j 0
+
+abbrev pub Counted : Register → Type 0
+Counted r = (l : ℕ) → l < labels → getD (r .totals) l 0 ≡ wordTotal l (packedOf r .links)
+
+-- where the words ascend, the sheet is changed to p, and the totals follow
 pub record Changed (self : Register) (p : Packed) (r : Register) : Type 0 where
   pub kept : Kept self r
   pub sheet : Rises 0 (packedOf self .links) → packedOf r ≡ p
+  pub counted : Rises 0 (packedOf self .links) → Counted self → Counted r
 
--- where the words ascend and there is room, an edit is taken back
+-- where the words ascend and there is room, an edit is taken back, and the totals follow
 pub record TakenBack (self : Register) (kind x : ℕ) (r : Register) : Type 0 where
   pub kept : Kept self r
   pub sheet : Rises 0 (packedOf self .links) → length (takeBackKind kind x (packedOf self) .links) ≤ maxLinks → packedOf r ≡ takeBackKind kind x (packedOf self)
+  pub counted : Rises 0 (packedOf self .links) → Counted self → Counted r
 
 abbrev pub Flags : List ℕ → Type 0
 Flags ws = (i : ℕ) → getD ws i 0 ≤ 1

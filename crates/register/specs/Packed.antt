@@ -5,7 +5,7 @@
 --   heldWord e      the word that is held for an edit
 --   takeBackKind, takeBack
 --                   p with an edit taken back: by its kind and number, or by its held word
---   Shows n p s     p shows the sheet s of a register of n records: the same links, each once, and the same locks
+--   Shows n p s     p shows the sheet s of a register of n records: the same links, each once, as many of each label, and the same locks
 --   Piled n p ws ss taking back the edits of the held words ws, one after the other from p on, shows the sheets ss one after the other
 -- Assumes nothing: these are definitions.
 use mathlib.Core.Path.{_≡_}
@@ -15,9 +15,9 @@ use Prim.Native.Nat.{ℕ, zero, suc, _+_, _*_, _/_, _%_}
 use lib.ListN.{length, getD, set}
 use lib.Dec.{eqb, ltb}
 use Rattle.book.specs.Basics.{pick, without}
-use Rattle.book.specs.Book.{Sheet, Edit, add, remove, lock, unlock, isLocked}
+use Rattle.book.specs.Book.{Sheet, Edit, add, remove, lock, unlock, isLocked, total}
 use Rattle.book.specs.Sheets.{Fit}
-use Rattle.register.specs.Links.{linkWord, Linked}
+use Rattle.register.specs.Links.{linkWord, wordTotal, Linked}
 
 pub record Packed : Type 0 where
   pub links : List ℕ
@@ -49,6 +49,7 @@ takeBack w p = takeBackKind (w / kindUnit) (w % kindUnit) p
 pub record Shows (n : ℕ) (p : Packed) (s : Sheet) : Type 0 where
   pub links : Linked (p .links) s
   pub count : length (p .links) ≡ length (s .links)
+  pub totals : (l : ℕ) → wordTotal l (p .links) ≡ total s l
   pub locks : (r : ℕ) → getD (p .locks) r false ≡ isLocked s r
   pub fit : Fit n s
 

@@ -1,23 +1,28 @@
--- What is read of a register: its size, its locks, and its links as a slice of words.
+-- What is read of a register: its size, its locks, its totals, and its links as a slice of words.
 -- Contents out of range are those of no register: nothing is read of them.
 --   Sized self n    what `size` promises: at most 1,024, and the number of records of every book that the register represents
 --   Listing self r  what `links` promises: at most 4,096 words, and for every book that the register represents, the words of its links
 --   LockList self r what `locks` promises: for every book that the register represents, whether each record is locked
 --   Locking self k r
 --                   what `is_locked` promises: the same of the record k
+--   totalOf k t     the answer whose number is k: the total t if k is 0, else refused with k
+--   totalAnswer s l the answer to asking for the total of the label l of the sheet s: the number of its links, or refused with 3
+--   Totals self l a what `total` promises: for every book that the register represents, that answer; of other contents too, 16, then 3
 -- Assumes nothing: these are definitions.
 use mathlib.Core.Path.{_≡_}
 use mathlib.Core.List.{List}
 use mathlib.Core.Bool.{Bool, false}
-use Prim.Native.Nat.{ℕ, _≤_}
+use Prim.Native.Nat.{ℕ, zero, suc, _≤_}
 use lib.ListN.{length, take, getD, replicate}
-use Rattle.book.specs.Causes.{maxRecords, maxLinks}
-use Rattle.book.specs.Book.{Book, isLocked}
+use Rattle.book.specs.Causes.{bad-label, not-open, number, labels, maxRecords, maxLinks}
+use Rattle.book.specs.Book.{Sheet, Book, isLocked, total, totalNumber}
 use Rattle.register.specs.Links.{Linked}
 use Rattle.register.specs.Counters.{InRange}
 use Rattle.register.specs.Representation.{Represents}
 use Rattle.register.specs.declared.Register.{Register}
 use Rattle.register.specs.declared.Links.{Links}
+use Rattle.register.specs.declared.TotalAnswer.{TotalAnswer}
+use Rattle.register.specs.declared.TotalAnswer.the-variants.{Total, Refused}
 
 pub record Sized (self : Register) (n : ℕ) : Type 0 where
   pub small : n ≤ maxRecords
@@ -38,3 +43,17 @@ pub record LockList (self : Register) (r : List Bool) : Type 0 where
 pub record Locking (self : Register) (k : ℕ) (r : Bool) : Type 0 where
   pub foreign : (InRange self → ⊥) → r ≡ false
   pub locked : (b : Book) → Represents self b → r ≡ isLocked (b .sheet) k
+
+abbrev pub totalOf : ℕ → ℕ → TotalAnswer
+totalOf zero t = Total t
+totalOf (suc k) t = Refused (suc k)
+
+abbrev pub totalAnswer : Sheet → ℕ → TotalAnswer
+totalAnswer s l = totalOf (totalNumber l) (total s l)
+
+pub record Totals (self : Register) (l : ℕ) (a : TotalAnswer) : Type 0 where
+  -- over any contents
+  pub foreign : (InRange self → ⊥) → a ≡ Refused (number not-open)
+  pub refused : InRange self → labels ≤ l → a ≡ Refused (number bad-label)
+  -- of a register that represents a book
+  pub told : (b : Book) → Represents self b → a ≡ totalAnswer (b .sheet) l

@@ -3,14 +3,14 @@
 --   latest, heldWords
 --                   the words of the held edits, the latest first: of a ring, its top and their number, and of a register
 --   packedOf r      the sheet that a register keeps
---   Represents r b  the register r stands for the book b: n, links, locks, and every sheet that an undo could restore
+--   Represents r b  the register r stands for the book b: n, links, locks, totals, and every sheet that an undo could restore
 -- Assumes nothing: these are definitions.
 use mathlib.Core.Path.{_≡_}
 use mathlib.Core.List.{List, [], _∷_}
-use Prim.Native.Nat.{ℕ, zero, suc, _-_}
+use Prim.Native.Nat.{ℕ, zero, suc, _-_, _<_}
 use lib.ListN.{take, getD}
-use Rattle.book.specs.Causes.{maxHeld}
-use Rattle.book.specs.Book.{Book}
+use Rattle.book.specs.Causes.{labels, maxHeld}
+use Rattle.book.specs.Book.{Book, total}
 use Rattle.register.specs.Packed.{Packed, Shows, Piled}
 use Rattle.register.specs.Counters.{InRange}
 use Rattle.register.specs.declared.Register.{Register}
@@ -35,3 +35,4 @@ pub record Represents (r : Register) (b : Book) : Type 0 where
   pub ranged : InRange r
   pub sheet : Shows (b .n) (packedOf r) (b .sheet)
   pub pile : Piled (b .n) (packedOf r) (heldWords r) (b .pile)
+  pub totals : (l : ℕ) → l < labels → getD (r .totals) l 0 ≡ total (b .sheet) l

@@ -8,12 +8,12 @@ use native.Mathlib.Omega.{arith}
 use lib.Dec.{eqb}
 use lib.ListN.{length, take, drop, getD, length-append, length-take, length-drop, length-map, List·getD-map}
 use lib.Seq.{take-at, drop-at, getD-take, take-add, length-take-le}
-use Rattle.book.specs.Causes.{not-open, number, maxLinks, maxHeld, maxRecords}
+use Rattle.book.specs.Causes.{not-open, number, labels, maxLinks, maxHeld, maxRecords}
 use Rattle.register.specs.Counters.{Ranged}
 use Rattle.register.specs.Calls.{answerNumber}
 use Rattle.register.specs.HistoryLaws.{answer-done}
 use Rattle.register.specs.Inner.{Flags, Formed}
-use Rattle.register.specs.Words.{stateWords, linksAt, ringAt, locksAt, lockWord, numbersOf, stateOf, Keeps, Foreign, Loads}
+use Rattle.register.specs.Words.{stateWords, linksAt, ringAt, locksAt, totalsAt, lockWord, numbersOf, stateOf, Keeps, Foreign, Loads}
 use Rattle.register.specs.declared.Register.{Register}
 use Rattle.register.specs.declared.Answer.{Answer}
 use Rattle.register.specs.declared.Answer.the-variants.{Done, Refused}
@@ -34,23 +34,37 @@ unlock (false ∷ ls) = ap (λ (t : List Bool). false ∷ t) (unlock ls)
 pub locks-same : (ls ks : List Bool) → map lockWord ls ≡ map lockWord ks → ls ≡ ks
 locks-same ls ks e = sym (unlock ls) ∙ ap (map (λ w. eqb w 1)) e ∙ unlock ks
 
-pub words-long : (r : Register) → length (stateOf r) ≡ 4 + length (r .links) + length (r .ring) + length (r .locks)
-words-long r =
+-- the lengths of the front before each part
+ring-front : (r : Register) → length (numbersOf r ++ r .links) ≡ 4 + length (r .links)
+ring-front r = length-append (numbersOf r) (r .links)
+
+locks-front : (r : Register) → length (numbersOf r ++ r .links ++ r .ring) ≡ 4 + length (r .links) + length (r .ring)
+locks-front r = length-append (numbersOf r ++ r .links) (r .ring) ∙ ap (λ (k : ℕ). k + length (r .ring)) (ring-front r)
+
+totals-front : (r : Register) → length (numbersOf r ++ r .links ++ r .ring ++ map lockWord (r .locks)) ≡ 4 + length (r .links) + length (r .ring) + length (r .locks)
+totals-front r =
     length-append (numbersOf r ++ r .links ++ r .ring) (map lockWord (r .locks))
-    ∙ ap (λ (k : ℕ). k + length (map lockWord (r .locks))) (length-append (numbersOf r ++ r .links) (r .ring) ∙ ap (λ (k : ℕ). k + length (r .ring)) (length-append (numbersOf r) (r .links)))
+    ∙ ap (λ (k : ℕ). k + length (map lockWord (r .locks))) (locks-front r)
     ∙ ap (λ (k : ℕ). 4 + length (r .links) + length (r .ring) + k) (length-map (r .locks) lockWord)
+
+pub words-long : (r : Register) → length (stateOf r) ≡ 4 + length (r .links) + length (r .ring) + length (r .locks) + length (r .totals)
+words-long r =
+    length-append (numbersOf r ++ r .links ++ r .ring ++ map lockWord (r .locks)) (r .totals)
+    ∙ ap (λ (k : ℕ). k + length (r .totals)) (totals-front r)
 
 module _ {ws : List ℕ} where
   pub keeps-long : {r : Register} → Keeps ws r → stateWords ≤ length ws
-  keeps-long {r} k = omega (arith, length-take stateWords ws, ap length (k .words), words-long r, k .links, k .ring, k .locks)
+  keeps-long {r} k = omega (arith, length-take stateWords ws, ap length (k .words), words-long r, k .links, k .ring, k .locks, k .totals)
 
   pub keeps-same : {r s : Register} → Keeps ws r → Keeps ws s → r ≡ s
   keeps-same {r} {s} k l =
-      let front : length (numbersOf r ++ r .links) ≡ length (numbersOf s ++ s .links)
-      = length-append (numbersOf r) (r .links) ∙ ap (λ (t : ℕ). 4 + t) (k .links ∙ sym (l .links)) ∙ sym (length-append (numbersOf s) (s .links)) in
+      let front : length (numbersOf r ++ r .links) ≡ length (numbersOf s ++ s .links) = omega (arith, ring-front r, ring-front s, k .links, l .links) in
       let ringed : length (numbersOf r ++ r .links ++ r .ring) ≡ length (numbersOf s ++ s .links ++ s .ring)
-      = length-append (numbersOf r ++ r .links) (r .ring) ∙ omega (arith, front, k .ring, l .ring) ∙ sym (length-append (numbersOf s ++ s .links) (s .ring)) in
-      let a = parted (numbersOf r ++ r .links ++ r .ring) (map lockWord (r .locks)) (numbersOf s ++ s .links ++ s .ring) (map lockWord (s .locks)) ringed (sym (k .words) ∙ l .words) in
+      = omega (arith, locks-front r, locks-front s, k .links, l .links, k .ring, l .ring) in
+      let locked : length (numbersOf r ++ r .links ++ r .ring ++ map lockWord (r .locks)) ≡ length (numbersOf s ++ s .links ++ s .ring ++ map lockWord (s .locks))
+      = omega (arith, totals-front r, totals-front s, k .links, l .links, k .ring, l .ring, k .locks, l .locks) in
+      let d = parted (numbersOf r ++ r .links ++ r .ring ++ map lockWord (r .locks)) (r .totals) (numbersOf s ++ s .links ++ s .ring ++ map lockWord (s .locks)) (s .totals) locked (sym (k .words) ∙ l .words) in
+      let a = parted (numbersOf r ++ r .links ++ r .ring) (map lockWord (r .locks)) (numbersOf s ++ s .links ++ s .ring) (map lockWord (s .locks)) ringed (d .0) in
       let b = parted (numbersOf r ++ r .links) (r .ring) (numbersOf s ++ s .links) (s .ring) front (a .0) in
       let c = parted (numbersOf r) (r .links) (numbersOf s) (s .links) refl (b .0) in
       let n : r .n ≡ s .n = ap (λ (t : List ℕ). getD t 0 0) (c .0) in
@@ -58,7 +72,7 @@ module _ {ws : List ℕ} where
       let top : r .top ≡ s .top = ap (λ (t : List ℕ). getD t 2 0) (c .0) in
       let held : r .held ≡ s .held = ap (λ (t : List ℕ). getD t 3 0) (c .0) in
       let locks : r .locks ≡ s .locks = locks-same (r .locks) (s .locks) (a .1) in
-      λ i. record { n = n i; count = count i; links = c .1 i; locks = locks i; ring = b .1 i; top = top i; held = held i }
+      λ i. record { n = n i; count = count i; links = c .1 i; locks = locks i; ring = b .1 i; top = top i; held = held i; totals = d .1 i }
 
 -- ---- which words are a register's: those of the form, no others
 lock-small : (l : Bool) → lockWord l ≤ 1
@@ -83,15 +97,17 @@ four (a ∷ b ∷ c ∷ d ∷ ws) h = refl
 pub part-long : (ws : List ℕ) (i k : ℕ) → i + k ≤ length ws → length (take k (drop i ws)) ≡ k
 part-long ws i k h = length-take-le k (drop i ws) (omega (arith, length-drop i ws))
 
-pub loaded : (ws ls rs : List ℕ) (ks : List Bool) → Formed ws
+pub loaded : (ws ls rs ts : List ℕ) (ks : List Bool) → Formed ws
     → ls ≡ take maxLinks (drop linksAt ws) → rs ≡ take maxHeld (drop ringAt ws) → map lockWord ks ≡ take maxRecords (drop locksAt ws)
-    → Keeps ws (record { n = getD ws 0 0; count = getD ws 1 0; links = ls; locks = ks; ring = rs; top = getD ws 2 0; held = getD ws 3 0 })
-loaded ws ls rs ks f e g h = record {
+    → ts ≡ take labels (drop totalsAt ws)
+    → Keeps ws (record { n = getD ws 0 0; count = getD ws 1 0; links = ls; locks = ks; ring = rs; top = getD ws 2 0; held = getD ws 3 0; totals = ts })
+loaded ws ls rs ts ks f e g h t = record {
   ranged = f .ranged;
   links = ap length e ∙ part-long ws linksAt maxLinks (omega (arith, f .long));
   ring = ap length g ∙ part-long ws ringAt maxHeld (omega (arith, f .long));
   locks = sym (length-map ks lockWord) ∙ ap length h ∙ part-long ws locksAt maxRecords (omega (arith, f .long));
-  words = take-add locksAt maxRecords ws ∙ ap (λ (t : List ℕ). take locksAt ws ++ t) (sym h) ∙ ap (λ (t : List ℕ). t ++ map lockWord ks) front;
+  totals = ap length t ∙ part-long ws totalsAt labels (omega (arith, f .long));
+  words = take-add totalsAt labels ws ∙ ap (λ (u : List ℕ). take totalsAt ws ++ u) (sym t) ∙ ap (λ (u : List ℕ). u ++ ts) locked;
 }
   where
     front : take locksAt ws ≡ (getD ws 0 0 ∷ getD ws 1 0 ∷ getD ws 2 0 ∷ getD ws 3 0 ∷ []) ++ ls ++ rs
@@ -99,28 +115,36 @@ loaded ws ls rs ks f e g h = record {
         take-add ringAt maxHeld ws ∙ ap (λ (t : List ℕ). take ringAt ws ++ t) (sym g)
         ∙ ap (λ (t : List ℕ). t ++ rs) (take-add linksAt maxLinks ws ∙ ap (λ (t : List ℕ). take linksAt ws ++ t) (sym e) ∙ ap (λ (t : List ℕ). t ++ ls) (four ws (omega (arith, f .long))))
 
+    locked : take totalsAt ws ≡ (getD ws 0 0 ∷ getD ws 1 0 ∷ getD ws 2 0 ∷ getD ws 3 0 ∷ []) ++ ls ++ rs ++ map lockWord ks
+    locked = take-add locksAt maxRecords ws ∙ ap (λ (u : List ℕ). take locksAt ws ++ u) (sym h) ∙ ap (λ (u : List ℕ). u ++ map lockWord ks) front
+
 pub keeps-formed : (ws : List ℕ) (r : Register) → Keeps ws r → Formed ws
 keeps-formed ws r k = record {
   long = keeps-long k;
   ranged = rw (front 0 (omega arith), front 1 (omega arith), front 2 (omega arith), front 3 (omega arith)) (k .ranged);
-  flags = rw (sym back ∙ ap (drop locksAt) (k .words) ∙ drop-at (numbersOf r ++ r .links ++ r .ring) (map lockWord (r .locks)) locksAt long) (lock-flags (r .locks));
+  flags = rw locked (lock-flags (r .locks));
 }
   where
     front : (i : ℕ) → i < stateWords → getD ws i 0 ≡ getD (stateOf r) i 0
     front i h = sym (getD-take stateWords ws i 0 h) ∙ ap (λ (t : List ℕ). getD t i 0) (k .words)
 
-    back : drop locksAt (take stateWords ws) ≡ take maxRecords (drop locksAt ws)
-    back =
-        ap (drop locksAt) (take-add locksAt maxRecords ws)
-        ∙ drop-at (take locksAt ws) (take maxRecords (drop locksAt ws)) locksAt (length-take-le locksAt ws (omega (arith, keeps-long k)))
+    -- the front with the locks, and the locks of it
+    whole : take totalsAt ws ≡ numbersOf r ++ r .links ++ r .ring ++ map lockWord (r .locks)
+    whole =
+        sym (take-at (take totalsAt ws) (take labels (drop totalsAt ws)) totalsAt (length-take-le totalsAt ws (omega (arith, keeps-long k))))
+        ∙ ap (take totalsAt) (sym (take-add totalsAt labels ws) ∙ k .words)
+        ∙ take-at (numbersOf r ++ r .links ++ r .ring ++ map lockWord (r .locks)) (r .totals) totalsAt (omega (arith, totals-front r, k .links, k .ring, k .locks))
 
-    long : length (numbersOf r ++ r .links ++ r .ring) ≡ locksAt
-    long = length-append (numbersOf r ++ r .links) (r .ring) ∙ omega (arith, length-append (numbersOf r) (r .links), k .links, k .ring)
+    locked : take maxRecords (drop locksAt ws) ≡ map lockWord (r .locks)
+    locked =
+        sym (drop-at (take locksAt ws) (take maxRecords (drop locksAt ws)) locksAt (length-take-le locksAt ws (omega (arith, keeps-long k))))
+        ∙ ap (drop locksAt) (sym (take-add locksAt maxRecords ws) ∙ whole)
+        ∙ drop-at (numbersOf r ++ r .links ++ r .ring) (map lockWord (r .locks)) locksAt (omega (arith, locks-front r, k .links, k .ring))
 
 pub formed-keeps : (ws : List ℕ) → Formed ws → (r : Register) × Keeps ws r
 formed-keeps ws f =
     let ks = take maxRecords (drop locksAt ws) in
-    (_, loaded ws (take maxLinks (drop linksAt ws)) (take maxHeld (drop ringAt ws)) (map (λ w. eqb w 1) ks) f refl refl (locks ks (f .flags)))
+    (_, loaded ws (take maxLinks (drop linksAt ws)) (take maxHeld (drop ringAt ws)) (take labels (drop totalsAt ws)) (map (λ w. eqb w 1) ks) f refl refl (locks ks (f .flags)) refl)
   where
     locks : (vs : List ℕ) → Flags vs → map lockWord (map (λ w. eqb w 1) vs) ≡ vs
     locks [] g = refl

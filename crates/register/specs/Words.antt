@@ -1,10 +1,10 @@
 -- A register kept by a caller as plain words. A state may be longer than a register's words: its front is the register, and the words past it are left.
---   linksAt, ringAt, locksAt
---                   the places of a register's first link, of the ring and of its first lock
+--   linksAt, ringAt, locksAt, totalsAt
+--                   the places of a register's first link, of the ring, of its first lock and of its first total
 --   stateWords      how many words a register has
 --   lockWord l      1 if locked, 0 if not
 --   numbersOf r, stateOf r
---                   the words of a register: its counters, its links, its ring, its locks
+--                   the words of a register: its counters, its links, its ring, its locks, its totals
 --   Keeps ws r      the front of ws is the words of the register r, whose counters are in range
 --   Foreign ws      the front of ws is the words of no register
 --   Copies xs at before after ok
@@ -18,7 +18,7 @@ use mathlib.Core.List.{List, [], _∷_, _++_, map}
 use mathlib.Core.Bool.{Bool, true, false}
 use Prim.Native.Nat.{ℕ, _+_, _≤_, _<_}
 use lib.ListN.{length, take, drop}
-use Rattle.book.specs.Causes.{not-open, number, maxLinks, maxHeld, maxRecords}
+use Rattle.book.specs.Causes.{not-open, number, labels, maxLinks, maxHeld, maxRecords}
 use Rattle.book.specs.Book.{fresh}
 use Rattle.register.specs.Counters.{InRange}
 use Rattle.register.specs.Representation.{Represents}
@@ -36,8 +36,11 @@ ringAt = linksAt + maxLinks
 abbrev pub locksAt : ℕ
 locksAt = ringAt + maxHeld
 
+abbrev pub totalsAt : ℕ
+totalsAt = locksAt + maxRecords
+
 abbrev pub stateWords : ℕ
-stateWords = locksAt + maxRecords
+stateWords = totalsAt + labels
 
 abbrev pub lockWord : Bool → ℕ
 lockWord true = 1
@@ -47,7 +50,7 @@ abbrev pub numbersOf : Register → List ℕ
 numbersOf r = r .n ∷ r .count ∷ r .top ∷ r .held ∷ []
 
 abbrev pub stateOf : Register → List ℕ
-stateOf r = numbersOf r ++ r .links ++ r .ring ++ map lockWord (r .locks)
+stateOf r = numbersOf r ++ r .links ++ r .ring ++ map lockWord (r .locks) ++ r .totals
 
 -- the lengths are those of the arrays
 pub record Keeps (ws : List ℕ) (r : Register) : Type 0 where
@@ -55,6 +58,7 @@ pub record Keeps (ws : List ℕ) (r : Register) : Type 0 where
   pub links : length (r .links) ≡ maxLinks
   pub ring : length (r .ring) ≡ maxHeld
   pub locks : length (r .locks) ≡ maxRecords
+  pub totals : length (r .totals) ≡ labels
   pub words : take stateWords ws ≡ stateOf r
 
 abbrev pub Foreign : List ℕ → Type 0

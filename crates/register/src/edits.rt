@@ -17,6 +17,8 @@ use crate::sorted::place;
 use crate::sorted::put;
 use crate::sorted::stands;
 use crate::state::ranged;
+use crate::totals::lower;
+use crate::totals::raise;
 ghost use mathlib.Core.Path.{_≡_};
 ghost use Prim.Native.Nat.{_≤_, _<_};
 ghost use lib.ListN.{length, set};
@@ -105,7 +107,7 @@ impl Register {
         self
     }
 
-    // The link of a word put in.
+    // The link of a word put in, and its label's total with it.
     fn put_in(mut self, x: u32) -> Register
         requires { ⌜ self .count < maxLinks ⌝ }
         ensures { λ r. ⌜ Changed self (record { links = insert x (packedOf self .links); locks = self .locks }) r ⌝ }
@@ -113,11 +115,12 @@ impl Register {
         let count = self.count;
         let at = place(&self.links, count, x);
         put(&mut self.links, count, at, x);
+        raise(&mut self.totals, x);
         self.count = count + 1;
         self
     }
 
-    // The link of a word taken out.
+    // The link of a word taken out, and of its label's total.
     fn take_out(mut self, x: u32) -> Register
         requires { ⌜ self .count ≤ maxLinks ⌝ }
         ensures { λ r. ⌜ Changed self (record { links = without eqb x (packedOf self .links); locks = self .locks }) r ⌝ }
@@ -128,6 +131,7 @@ impl Register {
             return self;
         }
         cut(&mut self.links, count, at);
+        lower(&mut self.totals, x);
         self.count = count - 1;
         self
     }

@@ -1,11 +1,12 @@
 // The register: links, locks and held edits by value. This file has its types and its numbers, and passes the rest on: sorted.rt ascending words,
-// state.rt a fresh register, edits.rt the calls that edit it, history.rt a history as words, questions.rt what questions read, words.rt its words.
+// state.rt a fresh register, totals.rt the totals, edits.rt the calls that edit it, history.rt a history as words, questions.rt what questions read, words.rt its words.
 // What the calls promise is stated in specs/Calls.antt, specs/History.antt and specs/Questions.antt, about the plain book of the crate book.
 mod edits;
 mod history;
 mod questions;
 mod sorted;
 mod state;
+mod totals;
 mod words;
 
 pub use history::ADD_KIND;
@@ -45,7 +46,8 @@ const UNLOCKED: u32 = 3 * KIND_UNIT;
 // The last place of the ring.
 const LAST_HELD: usize = book::MAX_HELD - 1;
 
-// n records; the first count words of links, ascending, are the links present; of ring, the held words before top are the latest accepted edits.
+// n records; the first count words of links, ascending, are the links present; of ring, the held words before top are the latest accepted edits;
+// totals has the number of links of each label.
 pub struct Register {
     n: u16,
     count: usize,
@@ -54,6 +56,7 @@ pub struct Register {
     ring: [u32; book::MAX_HELD],
     top: usize,
     held: usize,
+    totals: [u32; book::LABELS],
 }
 
 // The answer to a call: accepted, or refused with the number of its cause.
@@ -81,6 +84,12 @@ pub struct Outcome {
 pub struct Links {
     pub words: [u32; book::MAX_LINKS],
     pub count: usize,
+}
+
+// The answer to asking for a total: the number of links, or refused with the number of its cause.
+pub enum TotalAnswer {
+    Total(u32),
+    Refused(u32),
 }
 
 // What is found of a link before its presence is: its word, or the number of a refusal.

@@ -1,17 +1,19 @@
-// What questions read of a register: its size, links and locks, the part of one label, the links of a record. See specs/Questions.antt.
+// What questions read of a register: its size, links, locks and totals, the part of one label, the links of a record. See specs/Questions.antt.
 use crate::FROM_UNIT;
 use crate::LABEL_UNIT;
+use crate::LABELS;
 use crate::Links;
 use crate::MAX_RECORDS;
 use crate::Register;
 use crate::TO_UNIT;
+use crate::TotalAnswer;
 use crate::sorted::place;
 use crate::state::ranged;
 ghost use mathlib.Core.Path.{_≡_};
 ghost use Prim.Native.Nat.{_<_};
 ghost use Rattle.register.specs.Inner.{hasAt};
 ghost use Rattle.register.specs.Lookups.{LabelPart, nextPlace, NextLink, start, end};
-ghost use Rattle.register.specs.Questions.{Sized, Listing, LockList, Locking};
+ghost use Rattle.register.specs.Questions.{Sized, Listing, LockList, Locking, Totals};
 
 impl Register {
     // The number of records; none of contents out of range, which are those of no register.
@@ -59,6 +61,19 @@ impl Register {
             return false;
         }
         self.locks[record as usize]
+    }
+
+    // The number of links of a label, as it is kept: 16 of contents out of range, then 3 for a label above 25.
+    pub fn total(self, label: u8) -> TotalAnswer
+        ensures { λ a. ⌜ Totals self label a ⌝ }
+    {
+        if !ranged(self.n, self.count, self.top, self.held) {
+            return TotalAnswer::Refused(book::NOT_OPEN);
+        }
+        if LABELS <= label {
+            return TotalAnswer::Refused(book::BAD_LABEL);
+        }
+        TotalAnswer::Total(self.totals[label as usize])
     }
 }
 

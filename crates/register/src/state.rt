@@ -43,6 +43,7 @@ pub fn empty(n: u16) -> Register
         ring: [0; book::MAX_HELD],
         top: 0,
         held: 0,
+        totals: [0; book::LABELS],
     }
 }
 

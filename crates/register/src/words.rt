@@ -1,5 +1,5 @@
-// A register kept as words by its caller: n, count, top, held, 4,096 words of links, 256 of the ring, 1,024 of locks, in the front of a slice of at least
-// so many. What reading and writing them promise is stated in specs/Words.antt.
+// A register kept as words by its caller: n, count, top, held, 4,096 words of links, 256 of the ring, 1,024 of locks, 26 of totals, in the front of a slice
+// of at least so many. What reading and writing them promise is stated in specs/Words.antt.
 use crate::Answer;
 use crate::Outcome;
 use crate::Register;
@@ -12,7 +12,7 @@ ghost use lib.ListN.{length, take, drop};
 ghost use Rattle.register.specs.Inner.{Flags, Formed, Tested};
 ghost use Rattle.register.specs.Words.{lockWord, Copies, Loads, Stores};
 
-// The places of the counters, and of the first link, the ring and the first lock; and how many words a register has.
+// The places of the counters, and of the first link, the ring, the first lock and the first total; and how many words a register has.
 const SIZE_AT: usize = 0;
 
 const COUNT_AT: usize = 1;
@@ -27,7 +27,9 @@ const RING_AT: usize = LINKS_AT + book::MAX_LINKS;
 
 const LOCKS_AT: usize = RING_AT + book::MAX_HELD;
 
-pub const STATE_WORDS: usize = LOCKS_AT + book::MAX_RECORDS;
+const TOTALS_AT: usize = LOCKS_AT + book::MAX_RECORDS;
+
+pub const STATE_WORDS: usize = TOTALS_AT + book::LABELS;
 
 // A part of words copied to a place from word `at` on; false, and nothing written, if it does not fit there.
 pub fn copy(from: &[u32], to: &mut [u32], at: usize) -> bool
@@ -102,7 +104,7 @@ fn is_register(words: &[u32]) -> bool
     if !ranged(n, count, top, held) {
         return false;
     }
-    flags(&words[LOCKS_AT..STATE_WORDS])
+    flags(&words[LOCKS_AT..TOTALS_AT])
 }
 
 impl Register {
@@ -121,7 +123,9 @@ impl Register {
         let mut ring: [u32; book::MAX_HELD] = [0; book::MAX_HELD];
         copy(&words[RING_AT..LOCKS_AT], &mut ring, 0);
         let mut locks: [bool; book::MAX_RECORDS] = [false; book::MAX_RECORDS];
-        read_locks(&words[LOCKS_AT..STATE_WORDS], &mut locks);
+        read_locks(&words[LOCKS_AT..TOTALS_AT], &mut locks);
+        let mut totals: [u32; book::LABELS] = [0; book::LABELS];
+        copy(&words[TOTALS_AT..STATE_WORDS], &mut totals, 0);
         Outcome {
             register: Register {
                 n: words[SIZE_AT] as u16,
@@ -131,6 +135,7 @@ impl Register {
                 ring,
                 top: words[TOP_AT] as usize,
                 held: words[HELD_AT] as usize,
+                totals,
             },
             answer: Answer::Done,
         }
@@ -156,6 +161,7 @@ impl Register {
         copy(&self.links, words, LINKS_AT);
         copy(&self.ring, words, RING_AT);
         write_locks(&self.locks, words, LOCKS_AT);
+        copy(&self.totals, words, TOTALS_AT);
         true
     }
 }

@@ -41,6 +41,7 @@ returns c =
       top = stepped (c .before) .1;
       few = omega arith;
       words = hold-more (s .t1 .ring) (s .t1 .top) (s .word) (c .before .if1 .next) (s .t1 .held) (stepped (c .before) .0) (omega arith) (omega arith);
+      totals = refl;
     }
 
 returns-2 : tie.Need-returns-2
@@ -54,6 +55,7 @@ returns-2 c =
       top = stepped (c .before) .1;
       few = omega arith;
       words = hold-full (s .t1 .ring) (s .t1 .top) (s .word) (c .before .if1 .next) (s .t1 .held) (stepped (c .before) .0) (omega arith) (omega arith);
+      totals = refl;
     }
 
 pub hold-spec : {M : Type 1} → statement M

@@ -1,4 +1,4 @@
--- `register::Register::load` copies the three arrays out of words that have the form of a register's. Assumes nothing.
+-- `register::Register::load` copies the four arrays out of words that have the form of a register's. Assumes nothing.
 use mathlib.Core.Path.{_≡_, sym, _∙_}
 use Prim.Native.Nat.{ℕ}
 use native.Mathlib.Omega.{arith}
@@ -68,29 +68,44 @@ slice-aggregate-read-locks c = search needs
 read-locks-requires : tie.Need-read-locks-requires
 read-locks-requires c κs = rw (length-take, length-drop) (omega (arith, made (c .before .before .before .before .before .before .before .before .before .before) .long))
 
-shared-slice-read-t27 : tie.Need-shared-slice-read-t27
-shared-slice-read-t27 c = omega (arith, made (c .before .before .before .before .before .before .before .before .before .before .before .before .before) .long)
+sub-copy-3 : tie.Need-sub-copy-3
+sub-copy-3 c = search needs
 
-cast-t28 : tie.Need-cast-t28
-cast-t28 c = omega (arith, made (c .before .before .before .before .before .before .before .before .before .before .before .before .before) .ranged .size)
+part-copy-start-3 : tie.Need-part-copy-start-3
+part-copy-start-3 c = search needs
 
-shared-slice-read-t30 : tie.Need-shared-slice-read-t30
-shared-slice-read-t30 c = omega (arith, made (c .before .before .before .before .before .before .before .before .before .before .before .before .before .before) .long)
+part-copy-end-3 : tie.Need-part-copy-end-3
+part-copy-end-3 c = omega (arith, made (c .before .before .before .before .before .before .before .before .before .before .before .before) .long)
 
-cast-t10 : tie.Need-cast-t10
-cast-t10 c = omega (arith, c .shared-slice-known3 .given 1)
+slice-aggregate-copy-3 : tie.Need-slice-aggregate-copy-3
+slice-aggregate-copy-3 c = search needs
 
-shared-slice-read-t35 : tie.Need-shared-slice-read-t35
-shared-slice-read-t35 c = omega (arith, made (c .before .before .before .before .before .before .before .before .before .before .before .before .before .before .before) .long)
+copy-requires-3 : tie.Need-copy-requires-3
+copy-requires-3 c κs = search needs
 
-cast-t36 : tie.Need-cast-t36
-cast-t36 c = omega (arith, c .shared-slice-known4 .given 2)
+shared-slice-read-t33 : tie.Need-shared-slice-read-t33
+shared-slice-read-t33 c = omega (arith, made (c .before .before .before .before .before .before .before .before .before .before .before .before .before .before .before .before .before) .long)
 
-shared-slice-read-t38 : tie.Need-shared-slice-read-t38
-shared-slice-read-t38 c = omega (arith, made (c .before .before .before .before .before .before .before .before .before .before .before .before .before .before .before .before) .long)
+cast-t34 : tie.Need-cast-t34
+cast-t34 c = omega (arith, made (c .before .before .before .before .before .before .before .before .before .before .before .before .before .before .before .before .before) .ranged .size)
 
-cast-t39 : tie.Need-cast-t39
-cast-t39 c = omega (arith, c .shared-slice-known5 .given 3)
+shared-slice-read-t36 : tie.Need-shared-slice-read-t36
+shared-slice-read-t36 c = omega (arith, made (c .before .before .before .before .before .before .before .before .before .before .before .before .before .before .before .before .before .before) .long)
+
+cast-t11 : tie.Need-cast-t11
+cast-t11 c = omega (arith, c .shared-slice-known3 .given 1)
+
+shared-slice-read-t41 : tie.Need-shared-slice-read-t41
+shared-slice-read-t41 c = omega (arith, made (c .before .before .before .before .before .before .before .before .before .before .before .before .before .before .before .before .before .before .before) .long)
+
+cast-t42 : tie.Need-cast-t42
+cast-t42 c = omega (arith, c .shared-slice-known4 .given 2)
+
+shared-slice-read-t44 : tie.Need-shared-slice-read-t44
+shared-slice-read-t44 c = omega (arith, made (c .before .before .before .before .before .before .before .before .before .before .before .before .before .before .before .before .before .before .before .before) .long)
+
+cast-t45 : tie.Need-cast-t45
+cast-t45 c = omega (arith, c .shared-slice-known5 .given 3)
 
 links-read : (c : tie.After-copy) → c .copy .last .1 .0 ≡ take 4096 (drop 4 (c .before .before .before .before .before .before .args .words .now))
 links-read c =
@@ -104,13 +119,19 @@ ring-read c =
     copied-over (take 256 (drop 4100 ws)) (replicate 256 0) (c .copy2 .last .1 .0) (c .copy2 .result)
     (part-long ws 4100 256 (omega (arith, made (c .before .before .before .before .before .before .before) .long)) ∙ sym (length-replicate {A = ℕ} 256 0)) (c .copy2 .ensures)
 
+totals-read : (c : tie.After-copy3) → c .copy3 .last .1 .0 ≡ take 26 (drop 5380 (c .before .before .before .before .before .before .before .before .before .before .before .before .before .before .before .before .before .before .args .words .now))
+totals-read c =
+    let ws = c .before .before .before .before .before .before .before .before .before .before .before .before .before .before .before .before .before .before .args .words .now in
+    copied-over (take 26 (drop 5380 ws)) (replicate 26 0) (c .copy3 .last .1 .0) (c .copy3 .result)
+    (part-long ws 5380 26 (omega (arith, made (c .before .before .before .before .before .before .before .before .before .before .before .before .before .before .before) .long)) ∙ sym (length-replicate {A = ℕ} 26 0)) (c .copy3 .ensures)
+
 returns-2 : tie.Need-returns-2
 returns-2 c =
-    let ws = c .before .before .before .before .before .before .before .before .before .before .before .before .before .before .before .before .before .before .before .args .words .now in
-    let f = made (c .before .before .before .before .before .before .before .before .before .before .before .before .before .before .before .before) in
+    let ws = c .before .before .before .before .before .before .before .before .before .before .before .before .before .before .before .before .before .before .before .before .before .before .before .args .words .now in
+    let f = made (c .before .before .before .before .before .before .before .before .before .before .before .before .before .before .before .before .before .before .before .before) in
     load-made (
-    loaded ws (c .before .before .before .before .before .before .before .before .before .before .before .before .before .copy .last .1 .0) (c .before .before .before .before .before .before .before .before .before .copy2 .last .1 .0) (c .before .before .before .before .before .read-locks .last .1 .0) f (links-read (c .before .before .before .before .before .before .before .before .before .before .before .before .before)) (ring-read (c .before .before .before .before .before .before .before .before .before))
-    (c .before .before .before .before .before .read-locks .ensures (f .flags)))
+    loaded ws (c .before .before .before .before .before .before .before .before .before .before .before .before .before .before .before .before .before .copy .last .1 .0) (c .before .before .before .before .before .before .before .before .before .before .before .before .before .copy2 .last .1 .0) (c .before .before .before .before .before .copy3 .last .1 .0) (c .before .before .before .before .before .before .before .before .before .read-locks .last .1 .0) f
+    (links-read (c .before .before .before .before .before .before .before .before .before .before .before .before .before .before .before .before .before)) (ring-read (c .before .before .before .before .before .before .before .before .before .before .before .before .before)) (c .before .before .before .before .before .before .before .before .before .read-locks .ensures (f .flags)) (totals-read (c .before .before .before .before .before)))
 
 pub load-spec : {M : Type 1} → statement M
 load-spec =
@@ -134,12 +155,17 @@ load-spec =
     part-read-locks-end
     slice-aggregate-read-locks
     read-locks-requires
-    shared-slice-read-t27
-    cast-t28
-    shared-slice-read-t30
-    cast-t10
-    shared-slice-read-t35
-    cast-t36
-    shared-slice-read-t38
-    cast-t39
+    sub-copy-3
+    part-copy-start-3
+    part-copy-end-3
+    slice-aggregate-copy-3
+    copy-requires-3
+    shared-slice-read-t33
+    cast-t34
+    shared-slice-read-t36
+    cast-t11
+    shared-slice-read-t41
+    cast-t42
+    shared-slice-read-t44
+    cast-t45
     returns-2)

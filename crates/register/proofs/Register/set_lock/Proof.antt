@@ -22,6 +22,7 @@ returns-2 c =
     record {
       kept = record { n = refl; ring = refl; top = refl; held = refl; count = c .before .pre };
       sheet = λ _. ap (λ (m : List Bool). record { links = take (s .t1 .count) (s .t1 .links); locks = m }) (sym (set-out (s .t1 .locks) (s .x) (s .value) (omega arith)));
+      counted = λ _ t. t;
     }
 
 pub set-lock-spec : {M : Type 1} → statement M

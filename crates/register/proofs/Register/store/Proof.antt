@@ -1,4 +1,4 @@
--- `register::Register::store` copies the numbers and the three arrays one behind another, after the tests. Assumes nothing.
+-- `register::Register::store` copies the numbers and the four arrays one behind another, after the tests. Assumes nothing.
 use mathlib.Core.Path.{_≡_}
 use Prim.Native.Nat.{_≤_}
 use lib.ListN.{length}
@@ -21,6 +21,9 @@ ring-long c = search needs
 
 locks-long : (c : tie.Start) → length (c .args .t1 .locks) ≡ 1024
 locks-long c = search needs
+
+totals-long : (c : tie.Start) → length (c .args .t1 .totals) ≡ 26
+totals-long c = search needs
 
 returns : tie.Need-returns
 returns c = store-refused _ _ (λ l g. omega (arith, c .if1 .taken))
@@ -58,29 +61,37 @@ copy-requires-3 c κs = search needs
 write-locks-requires : tie.Need-write-locks-requires
 write-locks-requires c κs = search needs
 
+copy-requires-4 : tie.Need-copy-requires-4
+copy-requires-4 c κs = search needs
+
 same-length : tie.Need-same-length
 same-length c = search needs
 
 returns-3 : tie.Need-returns-3
 returns-3 c =
-    let r = c .before .before .before .before .before .before .before .before .before .before .before .before .before .before .before .before .before .before .before .before .before .before .before .before .before .before .before .before .before .before .args .t1 in
-    let w₀ = c .before .before .before .before .before .before .before .before .before .before .before .before .before .before .before .before .before .before .before .before .before .before .before .before .before .before .before .before .before .before .args .words .now in
-    let w₁ = c .before .before .before .before .before .before .before .before .before .before .before .before .before .before .before .before .before .before .before .before .before .before .before .copy .last .1 .0 in
-    let w₂ = c .before .before .before .before .before .before .before .before .before .before .before .before .before .before .before .before .copy2 .last .1 .0 in
-    let w₃ = c .before .before .before .before .before .before .before .before .before .copy3 .last .1 .0 in
-    let w₄ = c .before .before .write-locks .last .1 .0 in
-    let k₀ : 5380 ≤ length w₀ = omega (arith, c .before .before .before .before .before .before .before .before .before .before .before .before .before .before .before .before .before .before .before .before .before .before .before .before .before .before .before .before .if1 .left) in
-    let k₁ : length w₁ ≡ length w₀ = c .before .before .before .before .before .before .before .before .before .before .before .before .before .before .before .before .before .before .before .before .before .before .before .copy .kept .1 .0 in
-    let k₂ : length w₂ ≡ length w₁ = c .before .before .before .before .before .before .before .before .before .before .before .before .before .before .before .before .copy2 .kept .1 .0 in
-    let k₃ : length w₃ ≡ length w₂ = c .before .before .before .before .before .before .before .before .before .copy3 .kept .1 .0 in
-    let ls = links-long (c .before .before .before .before .before .before .before .before .before .before .before .before .before .before .before .before .before .before .before .before .before .before .before .before .before .before .before .before .before .before) in
-    let rs = ring-long (c .before .before .before .before .before .before .before .before .before .before .before .before .before .before .before .before .before .before .before .before .before .before .before .before .before .before .before .before .before .before) in
-    let ks = locks-long (c .before .before .before .before .before .before .before .before .before .before .before .before .before .before .before .before .before .before .before .before .before .before .before .before .before .before .before .before .before .before) in
-    stored r w₀ w₁ w₂ w₃ w₄ (in-range (c .before .before .before .before .before .before .before .before .before .before .before .before .before .before .before .before .before .before .before .before .before .before .before .before .before .before)) ls rs ks k₀ (omega (arith, k₀, k₁)) (omega (arith, k₀, k₁, k₂)) (omega (arith, k₀, k₁, k₂, k₃))
-    (c .before .before .before .before .before .before .before .before .before .before .before .before .before .before .before .before .before .before .before .before .before .before .before .copy .ensures .fits (omega (arith, k₀)) .1)
-    (c .before .before .before .before .before .before .before .before .before .before .before .before .before .before .before .before .copy2 .ensures .fits (omega (arith, k₀, k₁, ls)) .1)
-    (c .before .before .before .before .before .before .before .before .before .copy3 .ensures .fits (omega (arith, k₀, k₁, k₂, rs)) .1)
-    (c .before .before .write-locks .ensures)
+    let r = c .before .before .before .before .before .before .before .before .before .before .before .before .before .before .before .before .before .before .before .before .before .before .before .before .before .before .before .before .before .before .before .before .before .before .before .before .before .args .t1 in
+    let w₀ = c .before .before .before .before .before .before .before .before .before .before .before .before .before .before .before .before .before .before .before .before .before .before .before .before .before .before .before .before .before .before .before .before .before .before .before .before .before .args .words .now in
+    let w₁ = c .before .before .before .before .before .before .before .before .before .before .before .before .before .before .before .before .before .before .before .before .before .before .before .before .before .before .before .before .before .before .copy .last .1 .0 in
+    let w₂ = c .before .before .before .before .before .before .before .before .before .before .before .before .before .before .before .before .before .before .before .before .before .before .before .copy2 .last .1 .0 in
+    let w₃ = c .before .before .before .before .before .before .before .before .before .before .before .before .before .before .before .before .copy3 .last .1 .0 in
+    let w₄ = c .before .before .before .before .before .before .before .before .before .write-locks .last .1 .0 in
+    let w₅ = c .before .before .copy4 .last .1 .0 in
+    let k₀ : 5406 ≤ length w₀ = omega (arith, c .before .before .before .before .before .before .before .before .before .before .before .before .before .before .before .before .before .before .before .before .before .before .before .before .before .before .before .before .before .before .before .before .before .before .before .if1 .left) in
+    let k₁ : length w₁ ≡ length w₀ = c .before .before .before .before .before .before .before .before .before .before .before .before .before .before .before .before .before .before .before .before .before .before .before .before .before .before .before .before .before .before .copy .kept .1 .0 in
+    let k₂ : length w₂ ≡ length w₁ = c .before .before .before .before .before .before .before .before .before .before .before .before .before .before .before .before .before .before .before .before .before .before .before .copy2 .kept .1 .0 in
+    let k₃ : length w₃ ≡ length w₂ = c .before .before .before .before .before .before .before .before .before .before .before .before .before .before .before .before .copy3 .kept .1 .0 in
+    let k₄ : length w₄ ≡ length w₃ = c .before .before .before .before .before .before .before .before .before .write-locks .kept .1 .0 in
+    let ls = links-long (c .before .before .before .before .before .before .before .before .before .before .before .before .before .before .before .before .before .before .before .before .before .before .before .before .before .before .before .before .before .before .before .before .before .before .before .before .before) in
+    let rs = ring-long (c .before .before .before .before .before .before .before .before .before .before .before .before .before .before .before .before .before .before .before .before .before .before .before .before .before .before .before .before .before .before .before .before .before .before .before .before .before) in
+    let ks = locks-long (c .before .before .before .before .before .before .before .before .before .before .before .before .before .before .before .before .before .before .before .before .before .before .before .before .before .before .before .before .before .before .before .before .before .before .before .before .before) in
+    let ts = totals-long (c .before .before .before .before .before .before .before .before .before .before .before .before .before .before .before .before .before .before .before .before .before .before .before .before .before .before .before .before .before .before .before .before .before .before .before .before .before) in
+    stored r w₀ w₁ w₂ w₃ w₄ w₅ (in-range (c .before .before .before .before .before .before .before .before .before .before .before .before .before .before .before .before .before .before .before .before .before .before .before .before .before .before .before .before .before .before .before .before .before)) ls rs ks ts
+    k₀ (omega (arith, k₀, k₁)) (omega (arith, k₀, k₁, k₂)) (omega (arith, k₀, k₁, k₂, k₃)) (omega (arith, k₀, k₁, k₂, k₃, k₄))
+    (c .before .before .before .before .before .before .before .before .before .before .before .before .before .before .before .before .before .before .before .before .before .before .before .before .before .before .before .before .before .before .copy .ensures .fits (omega (arith, k₀)) .1)
+    (c .before .before .before .before .before .before .before .before .before .before .before .before .before .before .before .before .before .before .before .before .before .before .before .copy2 .ensures .fits (omega (arith, k₀, k₁, ls)) .1)
+    (c .before .before .before .before .before .before .before .before .before .before .before .before .before .before .before .before .copy3 .ensures .fits (omega (arith, k₀, k₁, k₂, rs)) .1)
+    (c .before .before .before .before .before .before .before .before .before .write-locks .ensures)
+    (c .before .before .copy4 .ensures .fits (omega (arith, k₀, k₁, k₂, k₃, k₄, ts)) .1)
 
 pub store-spec : {M : Type 1} → statement M
 store-spec =
@@ -98,5 +109,6 @@ store-spec =
     copy-requires-2
     copy-requires-3
     write-locks-requires
+    copy-requires-4
     same-length
     returns-3)

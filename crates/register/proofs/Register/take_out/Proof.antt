@@ -1,14 +1,18 @@
--- `register::Register::take_out` meets its contract: among ascending words x is there exactly if it stands at its place, and cutting it there takes it out. Assumes nothing.
-use Prim.Native.Nat.{ℕ, _≤_, _<_}
+-- `register::Register::take_out` meets its contract: among ascending words x is there exactly if it stands at its place, and cutting it there takes it out;
+-- one word less of its label, and its total is one less. Assumes nothing.
+use Prim.Native.Nat.{ℕ, _-_, _≤_, _<_}
 use mathlib.Core.Path.{_≡_, refl, ap, sym, _∙_}
 use mathlib.Core.List.{List}
+use mathlib.Core.Bool.{true}
 use native.Mathlib.Omega.{arith}
 use borrow.Author.Needs.{needs}
 use borrow.Author.Tests.{not-true, not-false}
+use lib.Dec.{eqb}
 use lib.ListN.{length, take}
+use Rattle.book.specs.Basics.{has, Rises}
 use Rattle.book.specs.SetLaws.{eqb-test, without-absent}
-use Rattle.register.specs.Inner.{cutAt}
-use Rattle.register.proofs.Ascending.{seam-below, seam-has, stands-below, cut-without}
+use Rattle.register.proofs.Ascending.{seam-has, seam-without, stands-below}
+use Rattle.register.proofs.Counting.{lowered-counted}
 use Rattle.register.proofs.Register.take_out.Statement.{statement}
 use Rattle.register.proofs.Register.take_out.Tie as tie
 
@@ -29,6 +33,7 @@ returns c =
       kept = record { n = refl; ring = refl; top = refl; held = refl; count = c .before .before .before .before .before .before .before .before .before .pre };
       sheet = λ r. ap (λ (m : List ℕ). record { links = m; locks = s .t1 .locks })
           (sym (without-absent eqb-test (s .x) l (sym (seam-has (s .x) (s .t1 .links) (s .t1 .count) (at .result) (omega arith) r (at .ensures)) ∙ sym (st .ensures) ∙ not-true (st .result) (c .if1 .taken))));
+      counted = λ _ t. t;
     }
 
 below-count : (c : tie.Else1) → c .before .before .before .before .before .place .result < c .before .before .before .before .before .before .before .before .before .args .t1 .count
@@ -39,24 +44,30 @@ below-count c =
 cut-requires : tie.Need-cut-requires
 cut-requires c κs = (below-count (c .before), c .before .before .before .before .before .before .before .before .before .before .pre, search needs)
 
+lower-requires : tie.Need-lower-requires
+lower-requires c κs = search needs
+
 sub-self : tie.Need-sub-self
-sub-self c = omega (arith, below-count (c .before .before))
+sub-self c = omega (arith, below-count (c .before .before .before .before))
 
 returns-2 : tie.Need-returns-2
 returns-2 c =
-    let s = c .before .before .before .before .before .before .before .before .before .before .before .args in
+    let s = c .before .before .before .before .before .before .before .before .before .before .before .before .before .args in
     let k : length (s .t1 .links) ≡ 4096 = search needs in
     let l = take (s .t1 .count) (s .t1 .links) in
-    let at = c .before .before .before .before .before .before .before .place in
-    let st = c .before .before .before .stands in
+    let at = c .before .before .before .before .before .before .before .before .before .place in
+    let st = c .before .before .before .before .before .stands in
     let h : s .t1 .count ≤ length (s .t1 .links) = omega arith in
+    let links = c .before .before .cut .last .0 in
+    let there : Rises 0 l → has eqb (s .x) l ≡ true
+    = λ r. sym (seam-has (s .x) (s .t1 .links) (s .t1 .count) (at .result) h r (at .ensures)) ∙ sym (st .ensures) ∙ not-false (st .result) (c .before .before .before .before .if1 .left) in
+    let taken-out = seam-without (s .x) (s .t1 .links) links (s .t1 .count) (at .result) h (at .ensures) (c .before .before .cut .ensures) in
     record {
       kept = record { n = refl; ring = refl; top = refl; held = refl; count = omega arith };
-      sheet = λ r. ap (λ (m : List ℕ). record { links = m; locks = s .t1 .locks })
-          (c .cut .ensures ∙ ap (λ (j : ℕ). cutAt j l) (seam-below (s .x) (s .t1 .links) (s .t1 .count) (at .result) h r (at .ensures)) ∙
-          cut-without (s .x) l r (sym (seam-has (s .x) (s .t1 .links) (s .t1 .count) (at .result) h r (at .ensures)) ∙ sym (st .ensures) ∙ not-false (st .result) (c .before .before .if1 .left)));
+      sheet = λ r. ap (λ (m : List ℕ). record { links = m; locks = s .t1 .locks }) (taken-out r (there r));
+      counted = λ r t. lowered-counted (s .x) (s .t1 .totals) (c .lower .last .0) l (take (s .t1 .count - 1) links) r (there r) (taken-out r (there r)) (c .lower .ensures) t;
     }
 
 pub take-out-spec : {M : Type 1} → statement M
 take-out-spec =
-    tie.close (tie.spec place-requires stands-requires returns cut-requires sub-self returns-2)
+    tie.close (tie.spec place-requires stands-requires returns cut-requires lower-requires sub-self returns-2)

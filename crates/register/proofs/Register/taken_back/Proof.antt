@@ -24,6 +24,7 @@ returns c =
     record {
       kept = record { n = refl; ring = refl; top = refl; held = refl; count = c .before .before .before .pre };
       sheet = rw (c .before .before .match .keys2) (λ _ f. absurd (omega (arith, length-insert (s .x) (take (s .self .count) (s .self .links)))));
+      counted = λ _ t. t;
     }
 
 put-in-requires : tie.Need-put-in-requires
@@ -37,21 +38,21 @@ set-lock-requires-2 c κs = search needs
 
 returns-2 : tie.Need-returns-2
 unfolding takeBackKind
-returns-2 c = let o = c .take-out .ensures in record { kept = o .kept; sheet = rw (c .before .match .keys1) (λ r _. o .sheet r) }
+returns-2 c = let o = c .take-out .ensures in record { kept = o .kept; sheet = rw (c .before .match .keys1) (λ r _. o .sheet r); counted = o .counted }
 
 returns-3 : tie.Need-returns-3
 unfolding takeBackKind
-returns-3 c = let o = c .put-in .ensures in record { kept = o .kept; sheet = rw (c .before .before .before .match .keys2) (λ r _. o .sheet r) }
+returns-3 c = let o = c .put-in .ensures in record { kept = o .kept; sheet = rw (c .before .before .before .match .keys2) (λ r _. o .sheet r); counted = o .counted }
 
 returns-4 : tie.Need-returns-4
 unfolding takeBackKind
-returns-4 c = let o = c .set-lock .ensures in record { kept = o .kept; sheet = rw (c .before .match .keys3) (λ r _. o .sheet r) }
+returns-4 c = let o = c .set-lock .ensures in record { kept = o .kept; sheet = rw (c .before .match .keys3) (λ r _. o .sheet r); counted = o .counted }
 
 returns-5 : tie.Need-returns-5
 returns-5 c =
     let o = c .set-lock2 .ensures in
     let m = c .before .match .rest in
-    record { kept = o .kept; sheet = λ r _. o .sheet r ∙ sym (back-rest (c .before .before .args .kind) (c .before .before .args .x) (packedOf (c .before .before .args .self)) (m .0 .0 .1) (m .0 .1) (m .1)) }
+    record { kept = o .kept; sheet = λ r _. o .sheet r ∙ sym (back-rest (c .before .before .args .kind) (c .before .before .args .x) (packedOf (c .before .before .args .self)) (m .0 .0 .1) (m .0 .1) (m .1)); counted = o .counted }
 
 pub taken-back-spec : {M : Type 1} → statement M
 taken-back-spec =

@@ -60,6 +60,7 @@ returns-3 c =
       ranged = record { size = omega (arith, k .n, h .size); count = k .count; top = omega (arith, k .top, p .1); held = omega (arith, k .held, h .held) };
       words = latest-step (s .ring) (s .top) (s .held) (c .before .before .before .before .if2 .left) ∙ rw (← p .0, k .ring, k .top, k .held);
       sheet = o .sheet;
+      counted = o .counted;
     })
 
 pub undo-spec : {M : Type 1} → statement M

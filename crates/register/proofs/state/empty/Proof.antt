@@ -2,28 +2,31 @@
 use mathlib.Core.Path.{refl}
 use mathlib.Core.Bool.{false≢true}
 use native.Mathlib.Omega.{arith}
-use Rattle.book.specs.Basics.{has, ended}
-use Rattle.book.specs.Book.{fresh}
+use Rattle.book.specs.Basics.{has, tally, ended}
+use Rattle.book.specs.Book.{fresh, total}
 use Rattle.book.specs.BookLaws.{fresh-sound}
 use Rattle.book.specs.ListLaws.{in-none}
+use Rattle.register.specs.Links.{wordTotal}
 use Rattle.register.specs.Packed.{Piled}
 use Rattle.register.specs.Representation.{latest}
-use Rattle.register.proofs.Showing.{none-locked}
+use Rattle.register.proofs.Showing.{none-locked, none-counted}
 use Rattle.register.proofs.state.empty.Statement.{statement}
 use Rattle.register.proofs.state.empty.Tie as tie
 
 returns : tie.Need-returns
-unfolding fresh has Piled latest
+unfolding fresh has Piled latest total wordTotal tally
 returns c = record {
   size = refl;
   ranged = record { size = c .pre; count = omega arith; top = omega arith; held = omega arith };
   sheet = record {
     links = record { ascending = ended; sound = λ w i. absurd (in-none i refl); whole = λ k e. absurd (false≢true e) };
     count = refl;
+    totals = λ l. refl;
     locks = none-locked 1024;
     fit = fresh-sound _ (c .pre) .sheet;
   };
   pile = tt;
+  totals = λ l h. none-counted 26 l;
 }
 
 pub empty-spec : {M : Type 1} → statement M

@@ -1,0 +1,56 @@
+-- `register::totals::raise` meets its contract: past the labels, or with no room, nothing is written, and no total has to move; else one does. Assumes nothing.
+use mathlib.Core.Path.{_≡_, refl}
+use native.Mathlib.Omega.{arith}
+use borrow.Author.Needs.{needs}
+use Rattle.register.proofs.Counting.{raised, raised-set}
+use Rattle.register.proofs.totals.raise.Statement.{statement}
+use Rattle.register.proofs.totals.raise.Tie as tie
+
+cast-label : tie.Need-cast-label
+cast-label c = search needs
+
+returns : tie.Need-returns
+returns c = raised (λ h _. absurd (omega (arith, c .if1 .taken))) (λ j _. refl)
+
+mul-if2 : tie.Need-mul-if2
+mul-if2 c = search needs
+
+element-copy-out-if2 : tie.Need-element-copy-out-if2
+element-copy-out-if2 c = search needs
+
+returns-2 : tie.Need-returns-2
+returns-2 c = raised (λ _ h. absurd (omega (arith, c .if2 .taken))) (λ j _. refl)
+
+mul-totals : tie.Need-mul-totals
+mul-totals c = search needs
+
+element-copy-out-totals : tie.Need-element-copy-out-totals
+element-copy-out-totals c = search needs
+
+add-totals : tie.Need-add-totals
+add-totals c = search needs
+
+mul-totals-2 : tie.Need-mul-totals-2
+mul-totals-2 c = search needs
+
+element-write-totals : tie.Need-element-write-totals
+element-write-totals c = search needs
+
+returns-3 : tie.Need-returns-3
+returns-3 c = raised-set _ _ (omega (arith, c .before .before .before .before .pre))
+
+pub raise-spec : {M : Type 1} → statement M
+raise-spec =
+    tie.close
+    (tie.spec
+    cast-label
+    returns
+    mul-if2
+    element-copy-out-if2
+    returns-2
+    mul-totals
+    element-copy-out-totals
+    add-totals
+    mul-totals-2
+    element-write-totals
+    returns-3)
