@@ -7,12 +7,12 @@ use Prim.Native.Nat.{ℕ, zero, suc, _≤_, _<_}
 use native.Mathlib.Omega.{arith}
 use lib.ListN.{length, take}
 use lib.Dec.{leb, eqb}
-use borrow.Author.Tests.{leb-false, not-false, eqb-false, ne-eqb}
-use Rattle.book.specs.Basics.{pick, has, without, All, all-none, all-more}
+use borrow.Author.Tests.{leb-false, not-false, eq-eqb, eqb-true, ne-eqb}
+use Rattle.book.specs.Basics.{pick, In, here, there, has, without, All, all-none, all-more}
 use Rattle.book.specs.Causes.{Cause, bad-size, no-record, bad-label, locked-end, already, missing, full, none-held, no-expression, too-many-bytes, too-large, bad-tree, short-work, short-list, broken-frame, unknown-kind, not-open, touched-record, withdrawn-record, number, Caused, editOrder, firstNumber, InOrder, none-left, same-cause, passed-over, maxRecords, labels, maxLinks, maxHeld}
 use Rattle.book.specs.Book.{Link, sameLink, Sheet, Book, Edit, add, remove, lock, unlock, withdraw, reinstate, Call, edit, undo, present, isLocked, isWithdrawn, touched, causes, editAnswer, edited, turned, undoAnswer, undone, answer, next, fresh, answers, after}
 use Rattle.book.specs.Sheets.{Distinct, Proper, Fit, Sound}
-use Rattle.book.specs.SetLaws.{sameLink-test, eqb-test, and-both, or-neither, or-true, has-without, absent-without, distinct-without, length-without}
+use Rattle.book.specs.SetLaws.{sameLink-test, eqb-test, and-both, or-neither, or-true, has-in, in-has, has-without, absent-without, distinct-without, length-without}
 
 -- ---- causes
 -- every edit's causes are looked for in the order of S6.6
@@ -119,19 +119,24 @@ or-else : (b c : Bool) → (b || c) ≡ true → (P : Type 0) → (b ≡ true �
 or-else true c e P f g = f refl
 or-else false c e P f g = g e
 
--- a record that no link touches is no link's end
-untouched-apart : (r : ℕ) (l : List Link) (k : Link) → touched r l ≡ false → has sameLink k l ≡ true → (eqb r (k .from) ≡ false) × (eqb r (k .to) ≡ false)
-unfolding touched has
-untouched-apart r [] k t h = absurd (false≢true h)
-untouched-apart r (j ∷ l) k t h =
-    let u = or-neither (eqb (j .from) r || eqb (j .to) r) (touched r l) t in
-    let v = or-neither (eqb (j .from) r) (eqb (j .to) r) (u .0) in
-    or-else (sameLink j k) (has sameLink k l) h ((eqb r (k .from) ≡ false) × (eqb r (k .to) ≡ false))
-    (λ c. let e = sameLink-test .sound j k c in (exchanged (k .from) r (ap (λ (i : Link). eqb (i .from) r) (sym e) ∙ v .0), exchanged (k .to) r (ap (λ (i : Link). eqb (i .to) r) (sym e) ∙ v .1)))
-    (untouched-apart r l k (u .1))
+-- a record that a link touches is an end of a link, and the other way round
+pub touched-end : (r : ℕ) (l : List Link) → touched r l ≡ true → (k : Link) × In k l × ((k .from ≡ r) ⊎ (k .to ≡ r))
+unfolding touched
+touched-end r [] t = absurd (false≢true t)
+touched-end r (j ∷ l) t = go (eqb (j .from) r) refl (eqb (j .to) r) refl t (touched-end r l)
   where
-    exchanged : (x y : ℕ) → eqb x y ≡ false → eqb y x ≡ false
-    exchanged x y e = ne-eqb y x (λ p. eqb-false x y e (sym p))
+    go : (a : Bool) → eqb (j .from) r ≡ a → (b : Bool) → eqb (j .to) r ≡ b → ((a || b) || touched r l) ≡ true
+        → (touched r l ≡ true → (k : Link) × In k l × ((k .from ≡ r) ⊎ (k .to ≡ r)))
+        → (k : Link) × In k (j ∷ l) × ((k .from ≡ r) ⊎ (k .to ≡ r))
+    go true p b q t ih = (j, here, inl (eqb-true (j .from) r p))
+    go false p true q t ih = (j, here, inr (eqb-true (j .to) r q))
+    go false p false q t ih = let h = ih t in (h .0, there (h .1), h .2)
+
+pub end-touched : (r : ℕ) {k : Link} (l : List Link) → In k l → (k .from ≡ r) ⊎ (k .to ≡ r) → touched r l ≡ true
+unfolding touched
+end-touched r {k} (j ∷ l) here (inl e) = rw (eq-eqb (k .from) r e)
+end-touched r {k} (j ∷ l) here (inr e) = rw (eq-eqb (k .to) r e, or-true (eqb (k .from) r))
+end-touched r {k} (j ∷ l) (there h) e = rw (end-touched r l h e) (or-true (eqb (j .from) r || eqb (j .to) r))
 
 pub edited-fit : (n : ℕ) (s : Sheet) (e : Edit) → Fit n s → editAnswer n s e ≡ 0 → Fit n (edited e s)
 unfolding editAnswer causes edited has without Distinct
@@ -216,7 +221,11 @@ edited-fit n s (withdraw r) f e =
       links = f .links;
       locks = f .locks;
       ends = λ k i.
-          let h = untouched-apart r (s .links) k (t .0) i in
+          let at = has-in sameLink-test k (s .links) i in
+          let h : (eqb r (k .from) ≡ false) × (eqb r (k .to) ≡ false) = (
+            ne-eqb r (k .from) (λ c. true≢false (sym (end-touched r (s .links) at (inl (sym c))) ∙ t .0)),
+            ne-eqb r (k .to) (λ c. true≢false (sym (end-touched r (s .links) at (inr (sym c))) ∙ t .0)),
+          ) in
           (or-none (eqb r (k .from)) (isWithdrawn s (k .from)) (h .0) (f .ends k i .0), or-none (eqb r (k .to)) (isWithdrawn s (k .to)) (h .1) (f .ends k i .1));
       free = λ j i. or-none (eqb r j) (isWithdrawn s j) (unlike j i) (f .free j i);
       withdrawn = λ j i. or-else (eqb r j) (isWithdrawn s j) i (j < n) (below j) (f .withdrawn j);
@@ -288,28 +297,12 @@ after-sound b [] o = o
 after-sound b (c ∷ cs) o = after-sound (next b c) cs (next-sound b c o)
 
 -- ---- withdrawn records
--- a record that a link touches is an end of a present link
-touched-end : (r : ℕ) (l : List Link) → touched r l ≡ true → (k : Link) × (has sameLink k l ≡ true) × ((k .from ≡ r) ⊎ (k .to ≡ r))
-unfolding touched has
-touched-end r [] t = absurd (false≢true t)
-touched-end r (j ∷ l) t = go (eqb (j .from) r) refl (eqb (j .to) r) refl t (touched-end r l)
-  where
-    mine : has sameLink j (j ∷ l) ≡ true
-    mine = rw (sameLink-test .reflexive j)
-
-    go : (a : Bool) → eqb (j .from) r ≡ a → (b : Bool) → eqb (j .to) r ≡ b → ((a || b) || touched r l) ≡ true
-        → (touched r l ≡ true → (k : Link) × (has sameLink k l ≡ true) × ((k .from ≡ r) ⊎ (k .to ≡ r)))
-        → (k : Link) × (has sameLink k (j ∷ l) ≡ true) × ((k .from ≡ r) ⊎ (k .to ≡ r))
-    go true p b q t ih = (j, mine, inl (eqb-test .sound (j .from) r p))
-    go false p true q t ih = (j, mine, inr (eqb-test .sound (j .to) r q))
-    go false p false q t ih = let h = ih t in (h .0, rw (h .1) (or-true (sameLink j (h .0))), h .2)
-
 -- a withdrawn record of a sheet that fits has no links and no lock
 pub fit-bare : (n : ℕ) (s : Sheet) → Fit n s → (r : ℕ) → isWithdrawn s r ≡ true → (touched r (s .links) ≡ false) × (isLocked s r ≡ false)
 fit-bare n s f r w = (
   untrue (touched r (s .links)) (λ t.
       let h = touched-end r (s .links) t in
-      let g = f .ends (h .0) (h .1) in
+      let g = f .ends (h .0) (in-has sameLink-test (h .0) (s .links) (h .1)) in
       ⊎-elim (λ p. true≢false (sym w ∙ ap (isWithdrawn s) (sym p) ∙ g .0)) (λ p. true≢false (sym w ∙ ap (isWithdrawn s) (sym p) ∙ g .1)) (h .2)),
   untrue (isLocked s r) (λ l. true≢false (sym w ∙ f .free r l)),
 )

@@ -81,6 +81,12 @@ module _ {A : Type 0} {same : A → A → Bool} (T : EqualityTest same) where
   without-absent x [] e = refl
   without-absent x (y ∷ ys) e = let h = or-neither (same y x) (has same x ys) e in rw (h .0) (ap (λ (l : List A). y ∷ l) (without-absent x ys (h .1)))
 
+  pub without-self : (x : A) (l : List A) → has same x (without same x l) ≡ false
+  without-self x l = has-without T x x l ∙ rw (T .reflexive x)
+
+  pub without-other : (x y : A) (l : List A) → same x y ≡ false → has same y (without same x l) ≡ has same y l
+  without-other x y l e = has-without T x y l ∙ rw e
+
   -- what is absent stays so
   pub absent-without : (x y : A) (l : List A) → has same y l ≡ false → has same y (without same x l) ≡ false
   absent-without x y l e = has-without T x y l ∙ rw e (nothing (not (same x y)))

@@ -1,10 +1,12 @@
--- What is read of a register: its size, its locks, its totals, and its links as a slice of words.
+-- What is read of a register: its size, its marks, its totals, and its links as a slice of words.
 -- Contents out of range are those of no register: nothing is read of them.
 --   Sized self n    what `size` promises: at most 1,024, and the number of records of every book that the register represents
 --   Listing self r  what `links` promises: at most 4,096 words, and for every book that the register represents, the words of its links
---   LockList self r what `locks` promises: for every book that the register represents, whether each record is locked
+--   MarkList self r what `marks` promises: for every book that the register represents, whether each record is locked, and whether it is withdrawn
 --   Locking self k r
---                   what `is_locked` promises: the same of the record k
+--                   what `is_locked` promises: whether the record k is locked
+--   Withdrawal self k r
+--                   what `is_withdrawn` promises: whether it is withdrawn
 --   totalOf k t     the answer whose number is k: the total t if k is 0, else refused with k
 --   totalAnswer s l the answer to asking for the total of the label l of the sheet s: the number of its links, or refused with 3
 --   Totals self l a what `total` promises: for every book that the register represents, that answer; of other contents too, 16, then 3
@@ -13,10 +15,11 @@ use mathlib.Core.Path.{_≡_}
 use mathlib.Core.List.{List}
 use mathlib.Core.Bool.{Bool, false}
 use Prim.Native.Nat.{ℕ, zero, suc, _≤_}
-use lib.ListN.{length, take, getD, replicate}
+use lib.ListN.{length, take, replicate}
 use Rattle.book.specs.Causes.{bad-label, not-open, number, labels, maxRecords, maxLinks}
-use Rattle.book.specs.Book.{Sheet, Book, isLocked, total, totalNumber}
+use Rattle.book.specs.Book.{Sheet, Book, isLocked, isWithdrawn, total, totalNumber}
 use Rattle.register.specs.Links.{Linked}
+use Rattle.register.specs.Marks.{freeMark, lockMark, withdrawnMark, hasMark}
 use Rattle.register.specs.Counters.{InRange}
 use Rattle.register.specs.Representation.{Represents}
 use Rattle.register.specs.declared.Register.{Register}
@@ -35,14 +38,19 @@ pub record Listing (self : Register) (r : Links) : Type 0 where
   pub foreign : (InRange self → ⊥) → r .count ≡ 0
   pub linked : (b : Book) → Represents self b → Linked (take (r .count) (r .words)) (b .sheet)
 
-pub record LockList (self : Register) (r : List Bool) : Type 0 where
+pub record MarkList (self : Register) (r : List ℕ) : Type 0 where
   pub long : length r ≡ maxRecords
-  pub foreign : (InRange self → ⊥) → r ≡ replicate maxRecords false
-  pub locked : (b : Book) → Represents self b → (k : ℕ) → getD r k false ≡ isLocked (b .sheet) k
+  pub foreign : (InRange self → ⊥) → r ≡ replicate maxRecords freeMark
+  pub locked : (b : Book) → Represents self b → (k : ℕ) → hasMark lockMark r k ≡ isLocked (b .sheet) k
+  pub withdrawn : (b : Book) → Represents self b → (k : ℕ) → hasMark withdrawnMark r k ≡ isWithdrawn (b .sheet) k
 
 pub record Locking (self : Register) (k : ℕ) (r : Bool) : Type 0 where
   pub foreign : (InRange self → ⊥) → r ≡ false
   pub locked : (b : Book) → Represents self b → r ≡ isLocked (b .sheet) k
+
+pub record Withdrawal (self : Register) (k : ℕ) (r : Bool) : Type 0 where
+  pub foreign : (InRange self → ⊥) → r ≡ false
+  pub withdrawn : (b : Book) → Represents self b → r ≡ isWithdrawn (b .sheet) k
 
 abbrev pub totalOf : ℕ → ℕ → TotalAnswer
 totalOf zero t = Total t
