@@ -1,15 +1,15 @@
 // Chain questions.
 ghost use mathlib.Core.Path.{_≡_};
-ghost use mathlib.Core.Bool.{true};
 ghost use mathlib.Core.List.{List};
 ghost use Prim.Native.Nat.{ℕ, _*_, _<_, _≤_};
 ghost use lib.ListN.{length};
 ghost use Rattle.book.specs.Causes.{maxRecords, maxLinks};
+ghost use Rattle.book.specs.Book.{Book};
 ghost use Rattle.paths.specs.Expressions.{Expr};
-ghost use Rattle.paths.specs.Chains.{Graph};
-ghost use Rattle.paths.specs.ChainLaws.{Inside};
+ghost use Rattle.paths.specs.Chains.{asked};
 ghost use Rattle.paths.specs.Verdicts.{InLimits};
 ghost use Rattle.reader.specs.Code.{code};
+ghost use Rattle.register.specs.Representation.{Represents};
 ghost use Rattle.arcs.specs.Arcs.{Spans};
 ghost use Rattle.search.specs.Steps.{Untouched, Answered};
 ghost use Rattle.chains.specs.Replies.{Replies};
@@ -24,20 +24,27 @@ pub enum ChainAnswer {
     Refused(u32),
 }
 
-// The search, over the first `count` links, for the expression whose code is given.
+// The search, over the first `count` links, for the expression whose code is given; from or to a withdrawn record there is nothing to be found.
 fn sought(
+    register: Register,
     links: &[u32],
     count: usize,
     n: usize,
     numbers: &[u8],
-    x: usize,
-    y: usize,
+    from: u16,
+    to: u16,
     work: &mut [u64],
     list: &mut [u32],
 ) -> Found
-    requires { ⌜ (count ≤ length (now links)) × (count ≤ maxLinks) × (n ≤ maxRecords) × (x < n) × (y < n) × (n * 64 ≤ length (now work)) × ((text : List ℕ) × (e : Expr) × InLimits text e × (now numbers ≡ code e)) ⌝ }
-    ensures { λ r. ⌜ Untouched (now (list .entry)) (now (list .exit)) r × ((text : List ℕ) (e : Expr) → InLimits text e → now (numbers .entry) ≡ code e → (g : Graph) → g .n ≡ n → Inside g → Spans (now (links .entry)) count g → g .inUse x ≡ true → g .inUse y ≡ true → Answered g e x y (now (list .entry)) (now (list .exit)) r) ⌝ }
+    requires { ⌜ (count ≤ length (now links)) × (count ≤ maxLinks) × (n ≤ maxRecords) × (from < n) × (to < n) × (n * 64 ≤ length (now work)) × ((text : List ℕ) × (e : Expr) × InLimits text e × (now numbers ≡ code e)) ⌝ }
+    ensures { λ r. ⌜ Untouched (now (list .entry)) (now (list .exit)) r × ((text : List ℕ) (e : Expr) → InLimits text e → now (numbers .entry) ≡ code e → (b : Book) → Represents register b → n ≡ b .n → Spans (now (links .entry)) count (asked b) → Answered (asked b) e from to (now (list .entry)) (now (list .exit)) r) ⌝ }
 {
+    if register.is_withdrawn(from) {
+        return Found::Nowhere;
+    }
+    if register.is_withdrawn(to) {
+        return Found::Nowhere;
+    }
     let t = tables::tables_of(numbers);
     let follow = t.follow;
     let pred = t.pred;
@@ -50,8 +57,8 @@ fn sought(
         &pred,
         &enter,
         t.fin,
-        x,
-        y,
+        from as usize,
+        to as usize,
         work,
         list,
     )
@@ -87,7 +94,17 @@ pub fn chain(
                 return ChainAnswer::Refused(book::SHORT_WORK);
             }
             let links = register.links();
-            let found = sought(&links.words, links.count, n, &code[0..k], x, y, work, list);
+            let found = sought(
+                register,
+                &links.words,
+                links.count,
+                n,
+                &code[0..k],
+                from,
+                to,
+                work,
+                list,
+            );
             match found {
                 Found::Steps(steps) => ChainAnswer::Chain(steps),
                 Found::Nowhere => ChainAnswer::NoChain,
