@@ -173,6 +173,7 @@ module _ {r : Register} (i : Transcript) (G : Gave r i) where
         answers = a;
         links = subst (λ (ws : List ℕ). Linked ws (bookAfter i .sheet)) (sym (l .2)) (l .1 .linked (bookAfter i) R);
         locks = G .locks .locked (bookAfter i) R;
+        totals = G .totals .totals (bookAfter i) R;
         pairs = pairs-claim R (i .pairs) (G .pairs);
         chain = chain-claim R (i .chain) (G .chain);
       }

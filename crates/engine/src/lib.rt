@@ -7,7 +7,7 @@ ghost use Rattle.book.specs.Book.{add, remove, lock, unlock, edit, undo};
 ghost use Rattle.k2.specs.PairSets.{union, intersection, difference, product, transpose, closure};
 ghost use Rattle.tree.specs.Calls.{Answered, treeOf, listOf, treeOfOne, treeOfTwo};
 ghost use Rattle.register.specs.Calls.{callOf, Opens, Steps};
-ghost use Rattle.register.specs.Questions.{Sized, Listing, Locking};
+ghost use Rattle.register.specs.Questions.{Sized, Listing, Locking, Totals};
 ghost use Rattle.pairs.specs.Asking.{AsksPairs};
 ghost use Rattle.chains.specs.Replies.{Replies};
 ghost use Rattle.engine.specs.Inquiries.{Inquires};
@@ -18,6 +18,7 @@ use register::Call;
 use register::Links;
 use register::Outcome;
 use register::Register;
+use register::TotalAnswer;
 
 // A fresh register of n records.
 pub fn open(n: u16) -> Outcome
@@ -87,6 +88,13 @@ pub fn is_locked(register: Register, record: u16) -> bool
     ensures { λ r. ⌜ Locking register «record» r ⌝ }
 {
     register.is_locked(record)
+}
+
+// The number of links of a label, as the register keeps it.
+pub fn total(register: Register, label: u8) -> TotalAnswer
+    ensures { λ a. ⌜ Totals register label a ⌝ }
+{
+    register.total(label)
 }
 
 // The pairs of an expression, ascending, each once.
@@ -197,6 +205,7 @@ pub struct Inquiry {
     pub answer: Answer,
     pub links: Links,
     pub locks: [bool; book::MAX_RECORDS],
+    pub totals: [u32; book::LABELS],
     pub pairs: PairsAnswer,
     pub chain: ChainAnswer,
 }
@@ -232,11 +241,13 @@ pub fn inquire(
     let number = register::number_of(answer);
     let links = register.links();
     let locks = register.locks();
+    let totals = register.totals();
     if number != 0 {
         return Inquiry {
             answer,
             links,
             locks,
+            totals,
             pairs: PairsAnswer::Refused(number),
             chain: ChainAnswer::Refused(number),
         };
@@ -247,6 +258,7 @@ pub fn inquire(
         answer,
         links,
         locks,
+        totals,
         pairs,
         chain,
     }

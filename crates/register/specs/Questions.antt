@@ -7,6 +7,8 @@
 --                   what `is_locked` promises: whether the record k is locked
 --   Withdrawal self k r
 --                   what `is_withdrawn` promises: whether it is withdrawn
+--   TotalList self r
+--                   what `totals` promises: for every book that the register represents, the total of each label
 --   totalOf k t     the answer whose number is k: the total t if k is 0, else refused with k
 --   totalAnswer s l the answer to asking for the total of the label l of the sheet s: the number of its links, or refused with 3
 --   Totals self l a what `total` promises: for every book that the register represents, that answer; of other contents too, 16, then 3
@@ -14,8 +16,8 @@
 use mathlib.Core.Path.{_≡_}
 use mathlib.Core.List.{List}
 use mathlib.Core.Bool.{Bool, false}
-use Prim.Native.Nat.{ℕ, zero, suc, _≤_}
-use lib.ListN.{length, take, replicate}
+use Prim.Native.Nat.{ℕ, zero, suc, _≤_, _<_}
+use lib.ListN.{length, take, getD, replicate}
 use Rattle.book.specs.Causes.{bad-label, not-open, number, labels, maxRecords, maxLinks}
 use Rattle.book.specs.Book.{Sheet, Book, isLocked, isWithdrawn, total, totalNumber}
 use Rattle.register.specs.Links.{Linked}
@@ -51,6 +53,11 @@ pub record Locking (self : Register) (k : ℕ) (r : Bool) : Type 0 where
 pub record Withdrawal (self : Register) (k : ℕ) (r : Bool) : Type 0 where
   pub foreign : (InRange self → ⊥) → r ≡ false
   pub withdrawn : (b : Book) → Represents self b → r ≡ isWithdrawn (b .sheet) k
+
+pub record TotalList (self : Register) (r : List ℕ) : Type 0 where
+  pub long : length r ≡ labels
+  pub foreign : (InRange self → ⊥) → r ≡ replicate labels 0
+  pub totals : (b : Book) → Represents self b → (l : ℕ) → l < labels → getD r l 0 ≡ total (b .sheet) l
 
 abbrev pub totalOf : ℕ → ℕ → TotalAnswer
 totalOf zero t = Total t

@@ -20,7 +20,7 @@ ghost use Rattle.book.specs.Book.{touched as Book·touched};
 ghost use Rattle.register.specs.Links.{linkOf};
 ghost use Rattle.register.specs.Inner.{hasAt};
 ghost use Rattle.register.specs.Lookups.{LabelPart, nextPlace, NextLink, start, end};
-ghost use Rattle.register.specs.Questions.{Sized, Listing, MarkList, Locking, Withdrawal, Totals};
+ghost use Rattle.register.specs.Questions.{Sized, Listing, MarkList, Locking, Withdrawal, TotalList, Totals};
 
 impl Register {
     // The number of records; none of contents out of range, which are those of no register.
@@ -81,6 +81,16 @@ impl Register {
             return false;
         }
         self.marks[record as usize] == WITHDRAWN_MARK
+    }
+
+    // The total of each label; none of contents out of range.
+    pub fn totals(self) -> [u32; book::LABELS]
+        ensures { λ r. ⌜ TotalList self r ⌝ }
+    {
+        if !ranged(self.n, self.count, self.top, self.held) {
+            return [0; book::LABELS];
+        }
+        self.totals
     }
 
     // The number of links of a label, as it is kept: 16 of contents out of range, then 3 for a label above 25.

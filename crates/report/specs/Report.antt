@@ -8,6 +8,7 @@
 --   okText, noneText, refusedText k, pairsText ws, chainText ws
 --                   what stands for: accepted; no chain; refused with the number k; the pair words ws; a chain of the step words ws
 --   answerText k    the text of an edit's answer, 0 if it is accepted, else the number
+--   totalText k t   the text of the answer to asking for a total: the total t if the number k is 0, else refused with k
 --   outcomeText o   the text of a question's outcome
 -- Assumes nothing: these are definitions.
 use mathlib.Core.List.{List, [], _∷_, _++_}
@@ -98,6 +99,10 @@ chainText ws = counted (bytes "chain ") (length ws) ++ lines stepLine ws
 unfoldable pub answerText : ℕ → List ℕ
 answerText zero = okText
 answerText (suc k) = refusedText (suc k)
+
+unfoldable pub totalText : ℕ → ℕ → List ℕ
+totalText zero t = counted (bytes "total ") t
+totalText (suc k) t = refusedText (suc k)
 
 unfoldable pub outcomeText : Outcome → List ℕ
 outcomeText (refused k) = refusedText k

@@ -6,11 +6,11 @@ use mathlib.Core.List.{List, [], _∷_, map}
 use mathlib.Core.Bool.{Bool, true, false}
 use Prim.Native.Nat.{ℕ}
 use Prim.Native.String.{String}
-use Rattle.book.specs.Causes.{Cause, locked-end, not-open, number}
+use Rattle.book.specs.Causes.{Cause, bad-label, locked-end, not-open, number}
 use Rattle.k2.specs.PairSets.{pairWord}
 use Rattle.paths.specs.Chains.{Step, stepWord, none, chain}
 use Rattle.paths.specs.Questions.{refused, paired, replied}
-use Rattle.report.specs.Report.{bytes, figures, decimal, labelLetter, senseSign, pairLine, stepLine, lines, counted, okText, noneText, refusedText, pairsText, chainText, answerText, outcomeText}
+use Rattle.report.specs.Report.{bytes, figures, decimal, labelLetter, senseSign, pairLine, stepLine, lines, counted, okText, noneText, refusedText, pairsText, chainText, answerText, totalText, outcomeText}
 
 abbrev step : ℕ → Bool → ℕ → ℕ
 step l i r = stepWord (record { spelt = record { label = l; inverted = i }; reached = r })
@@ -19,6 +19,8 @@ unfoldable pub table : List (List ℕ × String)
 table =
     (answerText 0, "ok\n") ∷
     (answerText (number locked-end), "refused 4\n") ∷
+    (totalText 0 4096, "total 4096\n") ∷
+    (totalText (number bad-label) 0, "refused 3\n") ∷
     (outcomeText (refused (number not-open)), "refused 16\n") ∷
     (outcomeText (paired (pairWord 0 0 ∷ pairWord 0 2 ∷ pairWord 2 0 ∷ pairWord 2 2 ∷ [])), "pairs 4\n0 0\n0 2\n2 0\n2 2\n") ∷
     (outcomeText (paired []), "pairs 0\n") ∷
@@ -29,5 +31,5 @@ table =
     (outcomeText (replied none), "none\n") ∷ []
 
 pub lines-printed : map (λ t. t .0) table ≡ map (λ t. bytes (t .1)) table
-unfolding table bytes number figures decimal labelLetter senseSign pairLine stepLine lines counted okText noneText refusedText pairsText chainText answerText outcomeText
+unfolding table bytes number figures decimal labelLetter senseSign pairLine stepLine lines counted okText noneText refusedText pairsText chainText answerText totalText outcomeText
 lines-printed = refl

@@ -3,7 +3,7 @@
 ghost use mathlib.Core.List.{[], _∷_};
 ghost use Prim.Native.Nat.{_+_, _*_, _≤_, _<_};
 ghost use lib.ListN.{length};
-ghost use Rattle.report.specs.Report.{decimal, counted, pairLine, stepLine, labelLetter, senseSign, okText, noneText, refusedText, pairsText, chainText, answerText};
+ghost use Rattle.report.specs.Report.{decimal, counted, pairLine, stepLine, labelLetter, senseSign, okText, noneText, refusedText, pairsText, chainText, answerText, totalText};
 ghost use Rattle.report.specs.Written.{Wrote};
 ghost use mathlib.Core.Path.{_≡_};
 
@@ -78,6 +78,13 @@ pub fn put_answer(k: u32, out: &mut [u8], at: usize) -> usize
         return put_ok(out, at);
     }
     put_refused(k, out, at)
+}
+
+pub fn put_total(t: u32, out: &mut [u8], at: usize) -> usize
+    requires { ⌜ at + 27 ≤ length (now out) ⌝ }
+    ensures { λ r. ⌜ Wrote at (totalText 0 t) (now (out .entry)) (now (out .exit)) r ⌝ }
+{
+    put_counted(b"total ", t as u64, out, at)
 }
 
 fn put_pair(w: u32, out: &mut [u8], at: usize) -> usize

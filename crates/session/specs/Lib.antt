@@ -1,10 +1,10 @@
 pub mod Program
 pub mod ProgramCases
 pub mod Says
+pub mod Listing
 pub mod Turns
 pub mod TurnLaws
 pub mod ProgramLaws
 pub mod RunLaws
-pub mod Listing
 pub mod Runs
 pub mod RunsLaws

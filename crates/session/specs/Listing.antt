@@ -3,20 +3,35 @@
 --   listing-is      of a question that keeps its promise it is the outcome itself
 --   listing-left, reply-left
 --                   an answer that fits the list, and leaves the words past it, leaves the list that its outcome does
+--   totalSaid a     what the answer a to asking for a total prints
+--   total-said      of the answer that a register gives, it is the text of its number and total
 -- Assumes nothing.
 use mathlib.Core.Path.{_≡_, refl, sym, ap, _∙_}
 use mathlib.Core.List.{List, _++_}
-use Prim.Native.Nat.{ℕ, _≤_}
+use Prim.Native.Nat.{ℕ, zero, suc, _≤_}
 use native.Mathlib.Omega.{arith}
 use lib.ListN.{length, take, drop, take-append-drop}
 use lib.Seq.{take-at, length-take-le}
 use Rattle.paths.specs.Questions.{Outcome, refused, paired, steps, over, listAfter}
+use Rattle.register.specs.Questions.{totalOf}
+use Rattle.register.specs.declared.TotalAnswer.{TotalAnswer}
+use Rattle.register.specs.declared.TotalAnswer.the-variants.{Total, Refused as Untotalled}
+use Rattle.report.specs.Report.{refusedText, totalText}
 use Rattle.pairs.specs.Asking.{pairsLength, Tells, told-number, told-pairs}
 use Rattle.pairs.specs.declared.PairsAnswer.{PairsAnswer}
 use Rattle.pairs.specs.declared.PairsAnswer.the-variants.{Pairs, Refused}
 use Rattle.chains.specs.Replies.{outcomeOf, stepsLength}
 use Rattle.chains.specs.declared.ChainAnswer.{ChainAnswer}
 use Rattle.chains.specs.declared.ChainAnswer.the-variants.{Chain, NoChain, Refused as Unanswered}
+
+unfoldable pub totalSaid : TotalAnswer → List ℕ
+totalSaid (Total t) = totalText 0 t
+totalSaid (Untotalled k) = refusedText k
+
+pub total-said : (k t : ℕ) → totalSaid (totalOf k t) ≡ totalText k t
+unfolding totalSaid totalText
+total-said zero t = refl
+total-said (suc k) t = refl
 
 unfoldable pub listing : PairsAnswer → List ℕ → Outcome
 listing (Pairs k) l = paired (take k l)

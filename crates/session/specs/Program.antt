@@ -4,7 +4,10 @@
 --   number16 s p    the two-byte number at place p of the bytes s, little-endian
 --   twoBytes n, frameOf k s
 --                   a number below 65,536 as two bytes, little-endian; the bytes of a frame of kind k with the body s
---   Request         opening with n; a call of the book; a pair question with its text; a chain question with from, to and its text
+--   openKind, pairsKind, chainKind, totalKind
+--                   the kinds of frames that are no call; those of calls are a history's (register `addKind` .. `undoKind`)
+--   Request         opening with n; a call of the book; a pair question with its text; a chain question with from, to and its text; asking for the
+--                   total of a label
 --   Frame           what a frame says: a request, or the cause why it says none
 --   decode k s      what a frame of kind k with the body s says: an unknown kind comes before a wrong body size
 --   Session         no register opened yet, or the book of the one that is
@@ -27,11 +30,12 @@ use lib.ListN.{length, getD, take, drop}
 use lib.Dec.{leb, ltb, eqb}
 use Rattle.book.specs.Basics.{pick}
 use Rattle.book.specs.Causes.{Cause, bad-size, broken-frame, unknown-kind, not-open, number, firstNumber}
-use Rattle.book.specs.Book.{Link, Book, Call, edit, undo, add, remove, lock, unlock, answer, next, fresh}
+use Rattle.book.specs.Book.{Link, Book, Call, edit, undo, add, remove, lock, unlock, answer, next, fresh, total, totalNumber}
 use Rattle.paths.specs.Grammar.{Verdict, Judged}
 use Rattle.paths.specs.Chains.{asked, Reply}
 use Rattle.paths.specs.Questions.{pairsAnswer, chainAnswer, ReplyTo, listAfter}
-use Rattle.report.specs.Report.{refusedText, answerText, outcomeText}
+use Rattle.register.specs.History.{addKind, removeKind, lockKind, unlockKind, undoKind}
+use Rattle.report.specs.Report.{refusedText, answerText, totalText, outcomeText}
 
 abbrev pub programRecords : ℕ
 programRecords = 64
@@ -54,11 +58,24 @@ twoBytes n = n % 256 ∷ n / 256 ∷ []
 unfoldable pub frameOf : ℕ → List ℕ → List ℕ
 frameOf k s = twoBytes (length s + 2) ++ (twoBytes k ++ s)
 
+abbrev pub openKind : ℕ
+openKind = 1
+
+abbrev pub pairsKind : ℕ
+pairsKind = 7
+
+abbrev pub chainKind : ℕ
+chainKind = 8
+
+abbrev pub totalKind : ℕ
+totalKind = 9
+
 pub data Request : Type 0 where
   opening : ℕ → Request
   call : Call → Request
   pairs : List ℕ → Request
   chain : ℕ → ℕ → List ℕ → Request
+  totalling : ℕ → Request
 
 pub data Frame : Type 0 where
   asks : Request → Frame
@@ -74,15 +91,16 @@ sized fits r = pick fits (asks r) (faulty broken-frame)
 
 unfoldable pub decode : ℕ → List ℕ → Frame
 decode k s =
-    pick (eqb k 1) (sized (eqb (length s) 2) (opening (number16 s 0)))
-    (pick (eqb k 2) (sized (eqb (length s) 5) (call (edit (add (linkIn s)))))
-    (pick (eqb k 3) (sized (eqb (length s) 5) (call (edit (remove (linkIn s)))))
-    (pick (eqb k 4) (sized (eqb (length s) 2) (call (edit (lock (number16 s 0)))))
-    (pick (eqb k 5) (sized (eqb (length s) 2) (call (edit (unlock (number16 s 0)))))
-    (pick (eqb k 6) (sized (eqb (length s) 0) (call undo))
-    (pick (eqb k 7) (asks (pairs s))
-    (pick (eqb k 8) (sized (leb 4 (length s)) (chain (number16 s 0) (number16 s 2) (drop 4 s)))
-    (faulty unknown-kind))))))))
+    pick (eqb k openKind) (sized (eqb (length s) 2) (opening (number16 s 0)))
+    (pick (eqb k addKind) (sized (eqb (length s) 5) (call (edit (add (linkIn s)))))
+    (pick (eqb k removeKind) (sized (eqb (length s) 5) (call (edit (remove (linkIn s)))))
+    (pick (eqb k lockKind) (sized (eqb (length s) 2) (call (edit (lock (number16 s 0)))))
+    (pick (eqb k unlockKind) (sized (eqb (length s) 2) (call (edit (unlock (number16 s 0)))))
+    (pick (eqb k undoKind) (sized (eqb (length s) 0) (call undo))
+    (pick (eqb k pairsKind) (asks (pairs s))
+    (pick (eqb k chainKind) (sized (leb 4 (length s)) (chain (number16 s 0) (number16 s 2) (drop 4 s)))
+    (pick (eqb k totalKind) (sized (eqb (length s) 1) (totalling (getD s 0 0)))
+    (faulty unknown-kind)))))))))
 
 pub data Session : Type 0 where
   unopened : Session
@@ -99,10 +117,12 @@ nextSession unopened (asks (call c)) = unopened
 nextSession (opened b) (asks (call c)) = opened (next b c)
 nextSession s (asks (pairs u)) = s
 nextSession s (asks (chain x y u)) = s
+nextSession s (asks (totalling l)) = s
 
 abbrev pub Right : Session → Frame → Verdict → Reply → Type 0
 Right (opened b) (asks (pairs u)) v t = Judged u v
 Right (opened b) (asks (chain x y u)) v t = Judged u v × ReplyTo (asked b) v x y t
+Right (opened b) (asks (totalling l)) v t = Unit
 Right (opened b) (asks (opening n)) v t = Unit
 Right (opened b) (asks (call c)) v t = Unit
 Right (opened b) (faulty c) v t = Unit
@@ -115,14 +135,17 @@ printed work room s (asks (opening n)) v t = answerText (openAnswer n)
 printed work room unopened (asks (call c)) v t = refusedText (number not-open)
 printed work room unopened (asks (pairs u)) v t = refusedText (number not-open)
 printed work room unopened (asks (chain x y u)) v t = refusedText (number not-open)
+printed work room unopened (asks (totalling l)) v t = refusedText (number not-open)
 printed work room (opened b) (asks (call c)) v t = answerText (answer b c)
 printed work room (opened b) (asks (pairs u)) v t = outcomeText (pairsAnswer b v work room)
 printed work room (opened b) (asks (chain x y u)) v t = outcomeText (chainAnswer b x y v t work room)
+printed work room (opened b) (asks (totalling l)) v t = totalText (totalNumber l) (total (b .sheet) l)
 
 unfoldable pub listLeft : ℕ → List ℕ → Session → Frame → Verdict → Reply → List ℕ
 listLeft work l s (faulty c) v t = l
 listLeft work l s (asks (opening n)) v t = l
 listLeft work l s (asks (call c)) v t = l
+listLeft work l s (asks (totalling k)) v t = l
 listLeft work l unopened (asks (pairs u)) v t = l
 listLeft work l unopened (asks (chain x y u)) v t = l
 listLeft work l (opened b) (asks (pairs u)) v t = listAfter (pairsAnswer b v work (length l)) l

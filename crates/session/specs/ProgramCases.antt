@@ -1,10 +1,12 @@
--- Two runs as theorems, the sample of S7.8 and one of refusals: these frames on standard input, these lines on standard output.
+-- Three runs as theorems, the sample of S7.8, one of refusals and one of totals: these frames on standard input, these lines on standard output.
 --   input           the frames: open 4; add 0 a 1; add 2 a 1; lock 1; add 1 b 3; pairs a/^a; undo; add 1 b 3; chain 0 to 3 a/b
 --   output          the lines
 --   Prints s i o    from the session s, with 4,096 words of work and any list of 4,096, a run over i prints o
 --   sample          the run prints them
 --   faults, refusals, refused-run
 --                   a run of refused frames: the order of 15, 14 and 16; a refused open keeps the register; a cut frame ends it
+--   totalled, totals, totalled-run
+--                   a run that asks for totals: 16 before an open even of a label that there is not; after adds, a remove and an undo; then 3 and 14
 -- Assumes nothing.
 use mathlib.Core.Path.{_≡_, refl, subst, _∙_}
 use mathlib.Core.List.{List, [], _∷_, _++_}
@@ -14,9 +16,9 @@ use native.Mathlib.Omega.{arith}
 use lib.ListN.{length, drop}
 use lib.Dec.{leb}
 use borrow.Author.Tests.{leb-true}
-use Rattle.book.specs.Basics.{has, without}
+use Rattle.book.specs.Basics.{has, without, tally}
 use Rattle.book.specs.Causes.{number, firstNumber}
-use Rattle.book.specs.Book.{Call, edit, undo, add, lock, causes, editAnswer, edited, turned, undoAnswer, undone, answer, next, fresh, after}
+use Rattle.book.specs.Book.{Call, edit, undo, add, lock, causes, editAnswer, edited, turned, undoAnswer, undone, answer, next, fresh, after, total, totalNumber}
 use Rattle.k2.specs.PairSets.{rowPairs, rowsPairs, listed, union, transpose, most, serves, product, via, closure, diagonal}
 use Rattle.k2.specs.Trees.{rise, height, treeUnit}
 use Rattle.paths.specs.Expressions.{Expr, symbol, letter, sequence, standsFor, letters, depth}
@@ -30,7 +32,7 @@ use Rattle.paths.specs.PairLaws.{history-inside}
 use Rattle.paths.specs.ChainOrder.{before}
 use Rattle.paths.specs.Acceptance.{parted, many, accepts}
 use Rattle.paths.specs.FirstChain.{reach, stepsBelow, before-each, after-each, walks, walksTo, end, best, firstTo, chainTo, chain-first}
-use Rattle.report.specs.Report.{bytes, figures, decimal, pairLine, labelLetter, senseSign, stepLine, lines, counted, okText, refusedText, pairsText, chainText, answerText, outcomeText}
+use Rattle.report.specs.Report.{bytes, figures, decimal, pairLine, labelLetter, senseSign, stepLine, lines, counted, okText, refusedText, pairsText, chainText, answerText, totalText, outcomeText}
 use Rattle.session.specs.Program.{programWords, minFrame, maxFrame, number16, twoBytes, frameOf, linkIn, decode, Session, unopened, openAnswer, nextSession, Right, printed, listLeft, frameIn, Run, framed, ended, lone-byte}
 use Rattle.session.specs.ProgramLaws.{length-left}
 
@@ -112,7 +114,7 @@ sample =
 
 unfoldable pub faults : List ℕ
 faults =
-    frameOf 9 [] ++ (
+    frameOf 12 [] ++ (
     frameOf 6 (7 ∷ []) ++ (
     frameOf 6 [] ++ (
     frameOf 7 [] ++ (
@@ -167,3 +169,43 @@ refused-run =
     (by (drop 164 refusals) (verdict []) none refl refl refl none-asked
     (by (drop 175 refusals) long none refl refl refl tt
     (λ l e. (_, l, lone-byte))))))))))))))))))))
+
+unfoldable pub totalled : List ℕ
+totalled =
+    frameOf 9 (200 ∷ []) ++ (
+    frameOf 1 (4 ∷ 0 ∷ []) ++ (
+    frameOf 9 (0 ∷ []) ++ (
+    frameOf 2 (0 ∷ 0 ∷ 0 ∷ 1 ∷ 0 ∷ []) ++ (
+    frameOf 2 (2 ∷ 0 ∷ 0 ∷ 1 ∷ 0 ∷ []) ++ (
+    frameOf 2 (2 ∷ 0 ∷ 0 ∷ 1 ∷ 0 ∷ []) ++ (
+    frameOf 9 (0 ∷ []) ++ (
+    frameOf 3 (0 ∷ 0 ∷ 0 ∷ 1 ∷ 0 ∷ []) ++ (
+    frameOf 9 (0 ∷ []) ++ (
+    frameOf 6 [] ++ (
+    frameOf 9 (0 ∷ []) ++ (
+    frameOf 9 (25 ∷ []) ++ (
+    frameOf 9 (26 ∷ []) ++ (
+    frameOf 9 [])))))))))))))
+
+unfoldable pub totals : List ℕ
+totals =
+    bytes "refused 16\nok\ntotal 0\nok\nok\nrefused 5\ntotal 2\nok\ntotal 1\nok\ntotal 2\ntotal 0\nrefused 3\nrefused 14\n"
+
+pub totalled-run : Prints unopened totalled totals
+unfolding totalled totals twoBytes frameOf bytes number16 linkIn decode openAnswer nextSession printed answerText totalText okText refusedText counted decimal figures number firstNumber causes editAnswer edited turned undoAnswer undone answer next fresh has without total tally totalNumber
+totalled-run =
+    by (drop 11 totals) long none refl refl refl tt
+    (by (drop 14 totals) long none refl refl refl tt
+    (by (drop 22 totals) long none refl refl refl tt
+    (by (drop 25 totals) long none refl refl refl tt
+    (by (drop 28 totals) long none refl refl refl tt
+    (by (drop 38 totals) long none refl refl refl tt
+    (by (drop 46 totals) long none refl refl refl tt
+    (by (drop 49 totals) long none refl refl refl tt
+    (by (drop 57 totals) long none refl refl refl tt
+    (by (drop 60 totals) long none refl refl refl tt
+    (by (drop 68 totals) long none refl refl refl tt
+    (by (drop 76 totals) long none refl refl refl tt
+    (by (drop 86 totals) long none refl refl refl tt
+    (by [] long none refl refl refl tt
+    (λ l e. (_, l, ended)))))))))))))))

@@ -34,7 +34,7 @@ use Rattle.paths.specs.PairLaws.{fit-inside}
 use Rattle.paths.specs.FirstChain.{reply}
 use Rattle.automaton.specs.WalkLaws.{length-stepWords}
 use Rattle.automaton.specs.ShortChains.{chains-63}
-use Rattle.session.specs.Program.{programRecords, programWords, Frame, asks, faulty, opening, call, pairs as pairs-asked, chain as chain-asked, Session, unopened, opened, openAnswer, nextSession, Right, listLeft}
+use Rattle.session.specs.Program.{programRecords, programWords, Frame, asks, faulty, opening, call, pairs as pairs-asked, chain as chain-asked, totalling, Session, unopened, opened, openAnswer, nextSession, Right, listLeft}
 use Rattle.session.specs.TurnLaws.{open-none, open-many, open-fine, next-size}
 
 -- ---- at most n × n pairs
@@ -87,6 +87,7 @@ next-steady unopened (asks (call c)) h = tt
 next-steady (opened b) (asks (call c)) h = (next-sound b c (h .0), rw (next-size b c) (h .1))
 next-steady s (asks (pairs-asked u)) h = h
 next-steady s (asks (chain-asked x y u)) h = h
+next-steady s (asks (totalling k)) h = h
 
 -- ---- a frame leaves the list as long as it was
 length-over : (ws l : List ℕ) → length ws ≤ length l → length (over ws l) ≡ length l
@@ -117,9 +118,11 @@ length-left work l unopened (asks (opening n)) v t = refl
 length-left work l unopened (asks (call c)) v t = refl
 length-left work l unopened (asks (pairs-asked u)) v t = refl
 length-left work l unopened (asks (chain-asked x y u)) v t = refl
+length-left work l unopened (asks (totalling k)) v t = refl
 length-left work l (opened b) (faulty c) v t = refl
 length-left work l (opened b) (asks (opening n)) v t = refl
 length-left work l (opened b) (asks (call c)) v t = refl
+length-left work l (opened b) (asks (totalling k)) v t = refl
 length-left work l (opened b) (asks (pairs-asked u)) v t =
     length-pairs (firstNumber (pairsCauses b v work (length l))) (pairsOf b v) l
     (room-enough v short-work short-list (ltb work (pairsWork (b .n))) (length (pairsOf b v)) (length l))
@@ -144,6 +147,7 @@ right-exists unopened f h = (long, none, tt)
 right-exists (opened b) (faulty c) h = (long, none, tt)
 right-exists (opened b) (asks (opening n)) h = (long, none, tt)
 right-exists (opened b) (asks (call c)) h = (long, none, tt)
+right-exists (opened b) (asks (totalling k)) h = (long, none, tt)
 right-exists (opened b) (asks (pairs-asked u)) h = (verdict u, none, verdict-right u)
 right-exists (opened b) (asks (chain-asked x y u)) h =
     let r = reply-exists b (h .0) (verdict u) x y in

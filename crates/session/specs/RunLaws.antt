@@ -21,7 +21,7 @@ use Rattle.paths.specs.Questions.{Outcome, unless, replied, pairsAnswer, ReplyT
 use Rattle.paths.specs.Verdicts.{verdict-only}
 use Rattle.paths.specs.FirstChain.{reply-only}
 use Rattle.report.specs.Report.{outcomeText}
-use Rattle.session.specs.Program.{minFrame, maxFrame, Frame, asks, faulty, opening, call, pairs, chain, Session, unopened, opened, nextSession, Right, printed, listLeft, frameIn, Run, ended, lone-byte, bad-length, cut, framed}
+use Rattle.session.specs.Program.{minFrame, maxFrame, Frame, asks, faulty, opening, call, pairs, chain, totalling, Session, unopened, opened, nextSession, Right, printed, listLeft, frameIn, Run, ended, lone-byte, bad-length, cut, framed}
 use Rattle.session.specs.ProgramLaws.{Steady, next-steady, right-exists}
 
 module _ (work : ℕ) where
@@ -90,9 +90,11 @@ module _ (work : ℕ) where
   frame-only l unopened (asks (call c)) v w t u h k = (refl, refl)
   frame-only l unopened (asks (pairs e)) v w t u h k = (refl, refl)
   frame-only l unopened (asks (chain x y e)) v w t u h k = (refl, refl)
+  frame-only l unopened (asks (totalling x)) v w t u h k = (refl, refl)
   frame-only l (opened b) (faulty c) v w t u h k = (refl, refl)
   frame-only l (opened b) (asks (opening n)) v w t u h k = (refl, refl)
   frame-only l (opened b) (asks (call c)) v w t u h k = (refl, refl)
+  frame-only l (opened b) (asks (totalling x)) v w t u h k = (refl, refl)
   frame-only l (opened b) (asks (pairs e)) v w t u h k =
       let same = pairs-only (length l) b e v w h k in
       (ap outcomeText same, ap (λ (o : Outcome). listAfter o l) same)

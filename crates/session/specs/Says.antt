@@ -7,15 +7,16 @@ use Prim.Native.Nat.{ℕ, _≤_}
 use lib.ListN.{length, drop}
 use Rattle.book.specs.Causes.{broken-frame, unknown-kind}
 use Rattle.register.specs.Calls.{callOf}
-use Rattle.session.specs.Program.{Frame, asks, faulty, opening, call, pairs, chain}
+use Rattle.session.specs.Program.{Frame, asks, faulty, opening, call, pairs, chain, totalling}
 use Rattle.session.specs.declared.Decoded.{Decoded}
-use Rattle.session.specs.declared.Decoded.the-variants.{Open, Edit, Pairs, Chain, Broken, Unknown}
+use Rattle.session.specs.declared.Decoded.the-variants.{Open, Edit, Pairs, Chain, Total, Broken, Unknown}
 
 unfoldable pub says : Decoded → List ℕ → Frame
 says (Open n) s = asks (opening n)
 says (Edit c) s = asks (call (callOf c))
 says Pairs s = asks (pairs s)
 says (Chain x y) s = asks (chain x y (drop 4 s))
+says (Total l) s = asks (totalling l)
 says Broken s = faulty broken-frame
 says Unknown s = faulty unknown-kind
 
@@ -25,5 +26,6 @@ Long (Open n) s = Unit
 Long (Edit c) s = Unit
 Long Pairs s = Unit
 Long (Chain x y) s = 4 ≤ length s
+Long (Total l) s = Unit
 Long Broken s = Unit
 Long Unknown s = Unit

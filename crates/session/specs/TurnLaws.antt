@@ -10,7 +10,7 @@ use lib.Seq.{take-all}
 use lib.Dec.{ltb}
 use borrow.Author.Tests.{lt-ltb, le-ltb}
 use Rattle.book.specs.Causes.{Cause, bad-size, not-open, number, firstNumber, maxRecords}
-use Rattle.book.specs.Book.{Book, Sheet, Call, edit, undo, turned, undone, editAnswer, edited, answer, next, freshAnswer, fresh}
+use Rattle.book.specs.Book.{Book, Sheet, Call, edit, undo, turned, undone, editAnswer, edited, answer, next, freshAnswer, fresh, total, totalNumber}
 use Rattle.paths.specs.Grammar.{Verdict}
 use Rattle.paths.specs.Chains.{asked, Reply}
 use Rattle.paths.specs.Questions.{Outcome, pairsAnswer, ReplyTo, chainAnswer, listAfter}
@@ -19,11 +19,14 @@ use Rattle.register.specs.declared.Outcome.{Outcome as Told}
 use Rattle.register.specs.Representation.{Represents}
 use Rattle.register.specs.Calls.{answerNumber, Steps}
 use Rattle.register.specs.HistoryLaws.{number-answer}
+use Rattle.register.specs.Questions.{Totals}
+use Rattle.register.specs.declared.TotalAnswer.{TotalAnswer}
 use Rattle.report.specs.Report.{refusedText, answerText, okText, outcomeText}
 use Rattle.report.specs.Written.{Wrote}
 use Rattle.report.specs.WrittenLaws.{wrote-as}
-use Rattle.session.specs.Program.{programRecords, Frame, asks, faulty, opening, call, pairs, chain, Session, unopened, opened, openAnswer, nextSession, Right, printed, listLeft}
+use Rattle.session.specs.Program.{programRecords, Frame, asks, faulty, opening, call, pairs, chain, totalling, Session, unopened, opened, openAnswer, nextSession, Right, printed, listLeft}
 use Rattle.session.specs.Turns.{StateOf, is-closed, is-open, room, Spares, as-it-was, answered, Turns, Framing}
+use Rattle.session.specs.Listing.{totalSaid, total-said}
 use Rattle.session.specs.declared.State.{State}
 use Rattle.session.specs.declared.Framed.{Framed}
 
@@ -150,6 +153,15 @@ module _ (st : State) (work : ℕ) (l l′ out out′ : List ℕ) (r : Framed) w
       let told = says b h t (subst (λ (d : Verdict). ReplyTo (asked b) d x y t) e (q .1)) in
       let same = ap (λ (d : Verdict). chainAnswer b x y d t work (length l)) (sym e) in
       (wrote-as (ap outcomeText (told .0 ∙ same)) w, told .1 ∙ ap (λ (a : Outcome). listAfter a l) same))
+
+  -- asking for a total
+  pub total-turns : (x : ℕ) (a : TotalAnswer) → Totals (st .register) x a → st .opened ≡ true → r .state ≡ st → l′ ≡ l
+      → Wrote 0 (totalSaid a) out out′ (r .written) → Turns st (asks (totalling x)) work l l′ out out′ r
+  unfolding nextSession printed listLeft
+  total-turns x a told up kept same w =
+      open-turns (asks (totalling x)) up (w .fits) (as-it-was same)
+      (λ b h m. rw kept (is-open up h m))
+      (λ b h v t q. (wrote-as (ap totalSaid (told .told b h) ∙ total-said (totalNumber x) (total (b .sheet) x)) w, same))
 
   -- a chain question's text is the part of its body from byte 4 on
   pub part-turns : (x y : ℕ) (s : List ℕ) → Turns st (asks (chain x y (take (length s - 4) (drop 4 s)))) work l l′ out out′ r

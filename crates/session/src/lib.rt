@@ -4,23 +4,50 @@ ghost use mathlib.Core.List.{List};
 ghost use Prim.Native.Nat.{ℕ, _≤_, _<_};
 ghost use lib.ListN.{length, getD};
 ghost use Rattle.session.specs.Program.{decode as Program·decode, number16 as Program·number16};
-ghost use Rattle.session.specs.Program.{opening, call as Program·call, pairs, chain, asks, unopened as Program·unopened};
+ghost use Rattle.session.specs.Program.{opening, call as Program·call, pairs, chain, totalling, asks, unopened as Program·unopened};
 ghost use Rattle.session.specs.Says.{says, Long};
 ghost use Rattle.session.specs.Turns.{StateOf, room, Turns, Framing};
 ghost use Rattle.session.specs.Runs.{Advances, RunsOn, Front};
 ghost use Rattle.register.specs.Calls.{callOf};
 ghost use Rattle.report.specs.Report.{refusedText, outcomeText};
 ghost use Rattle.report.specs.Written.{Wrote};
-ghost use Rattle.session.specs.Listing.{listing};
+ghost use Rattle.session.specs.Listing.{listing, totalSaid};
 ghost use Rattle.pairs.specs.Asking.{pairsLength};
 ghost use Rattle.chains.specs.Replies.{outcomeOf, stepsLength};
 use chains::ChainAnswer;
 use pairs::PairsAnswer;
 use register::Call;
 use register::Register;
+use register::TotalAnswer;
 
 // The most records of the program.
 const MOST_RECORDS: u16 = 64;
+
+// The kinds of frames; those of calls are a history's.
+pub const OPEN: u16 = 1;
+
+pub const ADD: u16 = register::ADD_KIND as u16;
+
+pub const REMOVE: u16 = register::REMOVE_KIND as u16;
+
+pub const LOCK: u16 = register::LOCK_KIND as u16;
+
+pub const UNLOCK: u16 = register::UNLOCK_KIND as u16;
+
+pub const UNDO: u16 = register::UNDO_KIND as u16;
+
+pub const PAIRS: u16 = 7;
+
+pub const CHAIN: u16 = 8;
+
+pub const TOTAL: u16 = 9;
+
+// The bytes of a number, of a link, and of the two ends of a chain question.
+const NUMBER_BYTES: usize = 2;
+
+const LINK_BYTES: usize = 2 * NUMBER_BYTES + 1;
+
+const ENDS_BYTES: usize = 2 * NUMBER_BYTES;
 
 // The least and the most that the length of a frame may be.
 const MIN_FRAME: usize = 2;
@@ -56,6 +83,7 @@ pub enum Decoded {
     Edit(Call),
     Pairs,
     Chain(u16, u16),
+    Total(u8),
     // A body of the wrong size.
     Broken,
     Unknown,
@@ -83,50 +111,57 @@ pub fn decode(kind: u16, body: &[u8]) -> Decoded
 {
     let n = body.len();
     match kind {
-        1 => {
-            if n != 2 {
+        OPEN => {
+            if n != NUMBER_BYTES {
                 return Decoded::Broken;
             }
             Decoded::Open(number16(body, 0))
         }
-        2 => {
-            if n != 5 {
+        ADD => {
+            if n != LINK_BYTES {
                 return Decoded::Broken;
             }
             let label = body[2];
             Decoded::Edit(Call::Add(number16(body, 0), label, number16(body, 3)))
         }
-        3 => {
-            if n != 5 {
+        REMOVE => {
+            if n != LINK_BYTES {
                 return Decoded::Broken;
             }
             let label = body[2];
             Decoded::Edit(Call::Remove(number16(body, 0), label, number16(body, 3)))
         }
-        4 => {
-            if n != 2 {
+        LOCK => {
+            if n != NUMBER_BYTES {
                 return Decoded::Broken;
             }
             Decoded::Edit(Call::Lock(number16(body, 0)))
         }
-        5 => {
-            if n != 2 {
+        UNLOCK => {
+            if n != NUMBER_BYTES {
                 return Decoded::Broken;
             }
             Decoded::Edit(Call::Unlock(number16(body, 0)))
         }
-        6 => {
+        UNDO => {
             if n != 0 {
                 return Decoded::Broken;
             }
             Decoded::Edit(Call::Undo)
         }
-        7 => Decoded::Pairs,
-        8 => {
-            if n < 4 {
+        PAIRS => Decoded::Pairs,
+        CHAIN => {
+            if n < ENDS_BYTES {
                 return Decoded::Broken;
             }
             Decoded::Chain(number16(body, 0), number16(body, 2))
+        }
+        TOTAL => {
+            if n != 1 {
+                return Decoded::Broken;
+            }
+            let label = body[0];
+            Decoded::Total(label)
         }
         _ => Decoded::Unknown,
     }
@@ -256,6 +291,28 @@ fn ask_pairs(
     Framed { state, written }
 }
 
+fn put_total(answer: TotalAnswer, out: &mut [u8]) -> usize
+    requires { ⌜ 29 ≤ length (now out) ⌝ }
+    ensures { λ r. ⌜ Wrote 0 (totalSaid answer) (now (out .entry)) (now (out .exit)) r ⌝ }
+{
+    match answer {
+        TotalAnswer::Total(t) => report::put_total(t, out, 0),
+        TotalAnswer::Refused(k) => report::put_refused(k, out, 0),
+    }
+}
+
+fn ask_total(state: State, label: u8, out: &mut [u8]) -> Framed
+    requires { ⌜ 29 ≤ length (now out) ⌝ }
+    ensures { λ r. ⌜ ((work : ℕ) (l : List ℕ) → Turns state (asks (totalling label)) work l l (now (out .entry)) (now (out .exit)) r) ⌝ }
+{
+    if !state.opened {
+        return refuse(state, book::NOT_OPEN, out);
+    }
+    let answer = engine::total(state.register, label);
+    let written = put_total(answer, out);
+    Framed { state, written }
+}
+
 // What one frame does to the state, and the bytes that it prints into out.
 pub fn frame(
     state: State,
@@ -276,7 +333,8 @@ pub fn frame(
         Decoded::Open(n) => open(state, n, out),
         Decoded::Edit(call) => edit(state, call, out),
         Decoded::Pairs => ask_pairs(state, body, work, list, out),
-        Decoded::Chain(x, y) => ask_chain(state, x, y, &body[4..], work, list, out),
+        Decoded::Chain(x, y) => ask_chain(state, x, y, &body[ENDS_BYTES..], work, list, out),
+        Decoded::Total(label) => ask_total(state, label, out),
         Decoded::Broken => refuse(state, book::BROKEN_FRAME, out),
         Decoded::Unknown => refuse(state, book::UNKNOWN_KIND, out),
     }

@@ -3,8 +3,8 @@ use mathlib.Core.Path.{_≡_, sym, refl, ap, _∙_, subst}
 use mathlib.Core.List.{List}
 use Prim.Native.Nat.{ℕ}
 use borrow.Author.Needs.{needs}
-use Rattle.book.specs.Basics.{has}
-use Rattle.book.specs.Book.{fresh}
+use Rattle.book.specs.Basics.{has, tally}
+use Rattle.book.specs.Book.{fresh, total}
 use Rattle.register.specs.Calls.{answerNumber}
 use Rattle.register.specs.History.{replayNumber}
 use Rattle.register.specs.HistoryLaws.{number-answer}
@@ -29,15 +29,18 @@ links-requires c κs = search needs
 locks-requires : tie.Need-locks-requires
 locks-requires c κs = search needs
 
+totals-requires : tie.Need-totals-requires
+totals-requires c κs = search needs
+
 same-length : tie.Need-same-length
 same-length c = search needs
 
 returns : tie.Need-returns
-unfolding has fresh
+unfolding has fresh total tally
 returns c =
-    let told = c .before .before .before .number-of .ensures in
-    let p = c .before .before .before .before .before .before .before .replay .ensures in
-    let k : c .before .before .before .number-of .result ≡ replayNumber _ _ _ = told ∙ ap answerNumber (p .answer) ∙ number-answer _ in
+    let told = c .before .before .before .before .number-of .ensures in
+    let p = c .before .before .before .before .before .before .before .before .replay .ensures in
+    let k : c .before .before .before .before .number-of .result ≡ replayNumber _ _ _ = told ∙ ap answerNumber (p .answer) ∙ number-answer _ in
     record {
       answer = p .answer;
       refused = λ n.
@@ -48,8 +51,9 @@ returns c =
             numbers = p .refused n .0;
             list = refl;
             steps = refl;
-            links = none-linked 0 _ (c .before .before .links .ensures .linked (fresh 0) e);
-            locks = c .before .locks .ensures .locked (fresh 0) e;
+            links = none-linked 0 _ (c .before .before .before .links .ensures .linked (fresh 0) e);
+            locks = c .before .before .locks .ensures .locked (fresh 0) e;
+            totals = c .before .totals .ensures .totals (fresh 0) e;
           };
       made = λ z. absurd (c .if1 .taken (k ∙ z));
     }
@@ -81,9 +85,8 @@ returns-2 c =
     let replied = c .before .before .before .before .chain .ensures in
     let long = c .before .before .before .before .before .before .before .before .before .before .before .pairs .kept .1 .1 .0 in
     let asked = c .before .before .before .before .before .before .before .before .before .before .before .pairs .ensures in
-    let s = c .before .before .before .before .before .before .before .before .before .before .before .before .before .before in
-    let p = s .before .before .before .before .before .before .before .replay .ensures in
-    let zero : replayNumber _ _ _ ≡ 0 = sym (number-answer _) ∙ sym (ap answerNumber (p .answer)) ∙ sym (s .before .before .before .number-of .ensures) ∙ s .if1 .left in
+    let p = c .before .before .before .before .before .before .before .before .before .before .before .before .before .before .before .before .before .before .before .before .before .before .replay .ensures in
+    let zero : replayNumber _ _ _ ≡ 0 = sym (number-answer _) ∙ sym (ap answerNumber (p .answer)) ∙ sym (c .before .before .before .before .before .before .before .before .before .before .before .before .before .before .before .before .before .before .number-of .ensures) ∙ c .before .before .before .before .before .before .before .before .before .before .before .before .before .before .if1 .left in
     record {
       answer = p .answer;
       refused = λ n. absurd (n zero);
@@ -91,7 +94,7 @@ returns-2 c =
         numbers = p .told z;
         pairs = asked .book _ (p .book z);
         chain = lent long replied .answers _ (p .book z);
-        demand = claims _ (record { links = (_, s .before .before .links .ensures, refl); locks = s .before .locks .ensures; pairs = asked; chain = lent long replied })
+        demand = claims _ (record { links = (_, c .before .before .before .before .before .before .before .before .before .before .before .before .before .before .before .before .before .links .ensures, refl); locks = c .before .before .before .before .before .before .before .before .before .before .before .before .before .before .before .before .locks .ensures; totals = c .before .before .before .before .before .before .before .before .before .before .before .before .before .before .before .totals .ensures; pairs = asked; chain = lent long replied })
             (replayed-calls _ _ _ _ (p .told z)) (p .book z);
       };
     }
@@ -104,6 +107,7 @@ inquire-spec =
     number-of-requires
     links-requires
     locks-requires
+    totals-requires
     same-length
     returns
     pairs-requires

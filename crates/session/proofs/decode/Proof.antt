@@ -62,49 +62,60 @@ returns-7 : tie.Need-returns-7
 unfolding says callOf decode linkIn
 returns-7 c = (rw (c .before .match .keys8, lt-leb _ _ (c .if7 .taken)), tt)
 
+returns-8 : tie.Need-returns-8
+unfolding says callOf decode linkIn
+returns-8 c = (rw (c .before .match .keys9, ne-eqb _ _ (c .if8 .taken)), tt)
+
+shared-slice-read-label-3 : tie.Need-shared-slice-read-label-3
+shared-slice-read-label-3 c = search needs
+
 number16-requires-8 : tie.Need-number16-requires-8
 number16-requires-8 c κs = search needs
 
 number16-requires-9 : tie.Need-number16-requires-9
 number16-requires-9 c κs = search needs
 
-returns-8 : tie.Need-returns-8
-unfolding says callOf decode linkIn
-returns-8 c = (rw (c .before .before .match .keys1, eq-eqb _ _ (c .before .if1 .left), c .number16 .ensures), tt)
-
 returns-9 : tie.Need-returns-9
 unfolding says callOf decode linkIn
-returns-9 c = (rw (c .before .before .before .before .match .keys2, eq-eqb _ _ (c .before .before .before .if2 .left), c .before .number162 .ensures, c .number163 .ensures), tt)
+returns-9 c = (rw (c .before .before .match .keys1, eq-eqb _ _ (c .before .if1 .left), c .number16 .ensures), tt)
 
 returns-10 : tie.Need-returns-10
 unfolding says callOf decode linkIn
-returns-10 c = (rw (c .before .before .before .before .match .keys3, eq-eqb _ _ (c .before .before .before .if3 .left), c .before .number164 .ensures, c .number165 .ensures), tt)
+returns-10 c = (rw (c .before .before .before .before .match .keys2, eq-eqb _ _ (c .before .before .before .if2 .left), c .before .number162 .ensures, c .number163 .ensures), tt)
 
 returns-11 : tie.Need-returns-11
 unfolding says callOf decode linkIn
-returns-11 c = (rw (c .before .before .match .keys4, eq-eqb _ _ (c .before .if4 .left), c .number166 .ensures), tt)
+returns-11 c = (rw (c .before .before .before .before .match .keys3, eq-eqb _ _ (c .before .before .before .if3 .left), c .before .number164 .ensures, c .number165 .ensures), tt)
 
 returns-12 : tie.Need-returns-12
 unfolding says callOf decode linkIn
-returns-12 c = (rw (c .before .before .match .keys5, eq-eqb _ _ (c .before .if5 .left), c .number167 .ensures), tt)
+returns-12 c = (rw (c .before .before .match .keys4, eq-eqb _ _ (c .before .if4 .left), c .number166 .ensures), tt)
 
 returns-13 : tie.Need-returns-13
 unfolding says callOf decode linkIn
-returns-13 c = (rw (c .before .match .keys6, eq-eqb _ _ (c .if6 .left)), tt)
+returns-13 c = (rw (c .before .before .match .keys5, eq-eqb _ _ (c .before .if5 .left), c .number167 .ensures), tt)
 
 returns-14 : tie.Need-returns-14
 unfolding says callOf decode linkIn
-returns-14 c = (rw (c .match .keys7), tt)
+returns-14 c = (rw (c .before .match .keys6, eq-eqb _ _ (c .if6 .left)), tt)
 
 returns-15 : tie.Need-returns-15
 unfolding says callOf decode linkIn
-returns-15 c = (rw (c .before .before .before .match .keys8, le-leb _ _ (c .before .before .if7 .left), c .before .number168 .ensures, c .number169 .ensures), c .before .before .if7 .left)
+returns-15 c = (rw (c .match .keys7), tt)
 
 returns-16 : tie.Need-returns-16
 unfolding says callOf decode linkIn
-returns-16 c =
+returns-16 c = (rw (c .before .before .before .match .keys8, le-leb _ _ (c .before .before .if7 .left), c .before .number168 .ensures, c .number169 .ensures), c .before .before .if7 .left)
+
+returns-17 : tie.Need-returns-17
+unfolding says callOf decode linkIn
+returns-17 c = (rw (c .before .before .match .keys9, eq-eqb _ _ (c .before .if8 .left)), tt)
+
+returns-18 : tie.Need-returns-18
+unfolding says callOf decode linkIn
+returns-18 c =
     let no = c .match .rest in
-    (rw (ne-eqb _ _ (no .0 .0 .0 .0 .0 .0 .0 .1), ne-eqb _ _ (no .0 .0 .0 .0 .0 .0 .1), ne-eqb _ _ (no .0 .0 .0 .0 .0 .1), ne-eqb _ _ (no .0 .0 .0 .0 .1), ne-eqb _ _ (no .0 .0 .0 .1), ne-eqb _ _ (no .0 .0 .1), ne-eqb _ _ (no .0 .1), ne-eqb _ _ (no .1)), tt)
+    (rw (ne-eqb _ _ (no .0 .0 .0 .0 .0 .0 .0 .0 .1), ne-eqb _ _ (no .0 .0 .0 .0 .0 .0 .0 .1), ne-eqb _ _ (no .0 .0 .0 .0 .0 .0 .1), ne-eqb _ _ (no .0 .0 .0 .0 .0 .1), ne-eqb _ _ (no .0 .0 .0 .0 .1), ne-eqb _ _ (no .0 .0 .0 .1), ne-eqb _ _ (no .0 .0 .1), ne-eqb _ _ (no .0 .1), ne-eqb _ _ (no .1)), tt)
 
 pub decode-spec : {M : Type 1} → statement M
 decode-spec =
@@ -129,6 +140,7 @@ decode-spec =
     number16-requires-8
     number16-requires-9
     returns-8
+    shared-slice-read-label-3
     returns-9
     returns-10
     returns-11
@@ -136,4 +148,6 @@ decode-spec =
     returns-13
     returns-14
     returns-15
-    returns-16)
+    returns-16
+    returns-17
+    returns-18)

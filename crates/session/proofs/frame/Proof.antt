@@ -60,6 +60,12 @@ part-ask-chain-end c = search needs
 ask-chain-requires : tie.Need-ask-chain-requires
 ask-chain-requires c κs = search needs
 
+enum-known-decoded-4 : tie.Need-enum-known-decoded-4
+enum-known-decoded-4 c = search needs
+
+ask-total-requires : tie.Need-ask-total-requires
+ask-total-requires c κs = search needs
+
 enum-told-2 : tie.Need-enum-told-2
 enum-told-2 c = search needs
 
@@ -132,12 +138,12 @@ same-length-9 : tie.Need-same-length-9
 same-length-9 c = search needs
 
 returns-6 : tie.Need-returns-6
-unfolding says number
+unfolding says
 returns-6 c =
-    let s = c .before .before .before .before .before .before .before .before .before .before .before .before .args in
-    let w = c .before .before .refuse in
-    turned-framed (s .state) (length (now (s .work))) (now (s .list)) _ (now (s .out)) _ _ (says (c .before .before .before .before .before .before .decode .result) (now (s .body))) _ (c .before .before .before .before .before .before .decode .ensures .0) (omega arith)
-    (rw (c .before .before .before .before .enum-told2 .given .1) (faulty-turns (s .state) _ _ _ _ _ (w .result) broken-frame (w .ensures .0) refl (w .ensures .1)))
+    let s = c .before .before .before .before .before .before .before .before .before .before .before .before .before .args in
+    let w = c .before .before .ask-total in
+    turned-framed (s .state) (length (now (s .work))) (now (s .list)) _ (now (s .out)) _ _ (says (c .before .before .before .before .before .before .before .decode .result) (now (s .body))) _ (c .before .before .before .before .before .before .before .decode .ensures .0) (omega arith)
+    (rw (c .before .before .before .before .before .decoded4 .given .1) (w .ensures _ _))
 
 same-length-10 : tie.Need-same-length-10
 same-length-10 c = search needs
@@ -145,6 +151,17 @@ same-length-10 c = search needs
 returns-7 : tie.Need-returns-7
 unfolding says number
 returns-7 c =
+    let s = c .before .before .before .before .before .before .before .before .before .before .before .before .args in
+    let w = c .before .before .refuse in
+    turned-framed (s .state) (length (now (s .work))) (now (s .list)) _ (now (s .out)) _ _ (says (c .before .before .before .before .before .before .decode .result) (now (s .body))) _ (c .before .before .before .before .before .before .decode .ensures .0) (omega arith)
+    (rw (c .before .before .before .before .enum-told2 .given .1) (faulty-turns (s .state) _ _ _ _ _ (w .result) broken-frame (w .ensures .0) refl (w .ensures .1)))
+
+same-length-11 : tie.Need-same-length-11
+same-length-11 c = search needs
+
+returns-8 : tie.Need-returns-8
+unfolding says number
+returns-8 c =
     let s = c .before .before .before .before .before .before .before .before .before .before .before .before .args in
     let w = c .before .before .refuse2 in
     turned-framed (s .state) (length (now (s .work))) (now (s .list)) _ (now (s .out)) _ _ (says (c .before .before .before .before .before .before .decode .result) (now (s .body))) _ (c .before .before .before .before .before .before .decode .ensures .0) (omega arith)
@@ -168,6 +185,8 @@ frame-spec =
     part-ask-chain-start
     part-ask-chain-end
     ask-chain-requires
+    enum-known-decoded-4
+    ask-total-requires
     enum-told-2
     refuse-requires
     enum-told-3
@@ -187,4 +206,6 @@ frame-spec =
     same-length-9
     returns-6
     same-length-10
-    returns-7)
+    returns-7
+    same-length-11
+    returns-8)

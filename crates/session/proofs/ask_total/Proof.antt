@@ -1,0 +1,52 @@
+-- `session::ask_total` meets its contract: before an open it is refused (`closed-turns`), else the engine's answer is printed (`total-turns`).
+-- Assumes nothing.
+use mathlib.Core.Path.{refl}
+use borrow.Author.Tests.{not-true, not-false}
+use denote.Ref.{now}
+use Rattle.book.specs.Causes.{number}
+use Rattle.session.specs.Program.{asks, totalling, nextSession, printed, listLeft}
+use Rattle.session.specs.TurnLaws.{closed-turns, total-turns}
+use borrow.Author.Needs.{needs}
+use Rattle.session.proofs.ask_total.Statement.{statement}
+use Rattle.session.proofs.ask_total.Tie as tie
+
+refuse-requires : tie.Need-refuse-requires
+refuse-requires c κs = search needs
+
+same-length : tie.Need-same-length
+same-length c = search needs
+
+returns : tie.Need-returns
+unfolding nextSession printed listLeft number
+returns c =
+    let s = c .before .before .before .before .before .before .before .args in
+    let w = c .before .before .refuse in
+    λ work l. closed-turns (s .state) work l l (now (s .out)) (w .last .1 .1 .0) (w .result) (asks (totalling (s .label))) refl (λ v t. refl) (λ v t. refl) (not-true _ (c .before .before .before .before .if1 .taken)) (w .ensures .0) refl (w .ensures .1)
+
+total-requires : tie.Need-total-requires
+total-requires c κs = search needs
+
+put-total-requires : tie.Need-put-total-requires
+put-total-requires c κs = search needs
+
+same-length-2 : tie.Need-same-length-2
+same-length-2 c = search needs
+
+returns-2 : tie.Need-returns-2
+returns-2 c =
+    let s = c .before .before .before .before .before .before .before .before .args in
+    let a = c .before .before .before .before .total in
+    let w = c .before .before .put-total in
+    λ work l. total-turns (s .state) work l l (now (s .out)) (w .last .1 .0) _ (s .label) (a .result) (a .ensures) (not-false _ (c .before .before .before .before .before .if1 .left)) refl refl (w .ensures)
+
+pub ask-total-spec : {M : Type 1} → statement M
+ask-total-spec =
+    tie.close
+    (tie.spec
+    refuse-requires
+    same-length
+    returns
+    total-requires
+    put-total-requires
+    same-length-2
+    returns-2)
