@@ -54,7 +54,7 @@ const FREE_MARK: u32 = 0;
 
 const LOCK_MARK: u32 = 1;
 
-const WITHDRAWN_MARK: u32 = 2;
+pub const WITHDRAWN_MARK: u32 = 2;
 
 // The last place of the ring.
 const LAST_HELD: usize = book::MAX_HELD - 1;
