@@ -3,8 +3,8 @@
  * A slice is lent as a pointer to its first word and its length in words. A call reads and writes nothing but what it is lent, whatever the
  * contents, and ends. What is written (state, list, out, tree, work) must not overlap what else is lent.
  *
- * A uint32_t answer is 0, or the number of a refusal, unless it says otherwise. A uint64_t answer is the number of words written to the list;
- * DATING_NO_CHAIN; or DATING_REFUSED plus the number of a refusal. A refused call leaves state and list as they were; words of a list past the
+ * A uint32_t answer is 0, or the number of a refusal, unless it says otherwise. A uint64_t answer is a total, or the number of words written to the
+ * list; DATING_NO_CHAIN; or DATING_REFUSED plus the number of a refusal. A refused call leaves state and list as they were; words of a list past the
  * answer, and of a state past DATING_STATE_WORDS, are never touched; work may hold anything after a call. The numbers:
  *
  *    1  n outside 1 to 1,024                        9  expression outside the grammar
@@ -28,8 +28,8 @@
 extern "C" {
 #endif
 
-/* The words of a register. */
-#define DATING_STATE_WORDS 5380
+/* The words of a register. Words saved before the totals were kept, 5,380 of them, are refused with 16: a register is built again by its edits. */
+#define DATING_STATE_WORDS 5406
 /* The words of work that are enough for every call with n records up to 1,024. */
 #define DATING_WORK_WORDS 699072
 /* No chain of any length. */
@@ -53,6 +53,8 @@ uint32_t dating_size(const uint32_t *state, size_t state_len);
 uint64_t dating_links(const uint32_t *state, size_t state_len, uint32_t *list, size_t list_len);
 /* 1 if the record is locked, else 0. */
 uint32_t dating_locked(const uint32_t *state, size_t state_len, uint16_t record);
+/* The number of links with the label, which the register keeps: none is counted. A label above 25 is refused with 3. */
+uint64_t dating_total(const uint32_t *state, size_t state_len, uint8_t label);
 
 /* The pairs that the expression joins, ascending: from * 1024 + to. Work of 32 * D words, where D is 4 * (s * s - 1) / 3 / 64, rounded up, and s the
  * smallest power of two that is at least n, and at least 2. */

@@ -1,7 +1,7 @@
 //! The engine's functions as they are exported from `crates/host`: numbers and slices.
 //!
-//! A `u32` answer is 0 or the number of a refusal. A `u64` answer is the number of words written to the list; [`NO_CHAIN`] if there is no
-//! chain; [`REFUSED`] + the number of a refusal. A refused call leaves the state and the list as they were, and words of a list past
+//! A `u32` answer is 0 or the number of a refusal. A `u64` answer is a total, or the number of words written to the list; [`NO_CHAIN`] if
+//! there is no chain; [`REFUSED`] + the number of a refusal. A refused call leaves the state and the list as they were, and words of a list past
 //! the answer are never touched; work may hold anything after a call. A state may be longer than a register's words: its front is the
 //! register, and no call touches the words past it. Words that are no register's (too few, a counter out of range, a lock above 1) are
 //! refused with 16.
@@ -9,8 +9,8 @@
 use crate::Refusal;
 
 /// The words of a register: n, the number of links, the place of the next held edit, the number of held edits, then 4,096 words of links,
-/// 256 of held edits, 1,024 of locks.
-pub const STATE_WORDS: usize = 5380;
+/// 256 of held edits, 1,024 of locks, 26 of totals. Words saved before the totals, 5,380 of them, are refused with 16.
+pub const STATE_WORDS: usize = 5406;
 
 /// The answer to a chain question if there is no chain.
 pub const NO_CHAIN: u64 = 1 << 32;
@@ -56,6 +56,7 @@ extern "C" {
     fn dating_size(state: *const u32, state_len: usize) -> u32;
     fn dating_links(state: *const u32, state_len: usize, list: *mut u32, list_len: usize) -> u64;
     fn dating_locked(state: *const u32, state_len: usize, record: u16) -> u32;
+    fn dating_total(state: *const u32, state_len: usize, label: u8) -> u64;
     fn dating_pairs(
         state: *const u32,
         state_len: usize,
@@ -202,6 +203,11 @@ pub fn links(state: &[u32], list: &mut [u32]) -> u64 {
 /// 1 if the record is locked, else 0.
 pub fn locked(state: &[u32], record: u16) -> u32 {
     unsafe { dating_locked(state.as_ptr(), state.len(), record) }
+}
+
+/// The number of links with a label, or 3; nothing is counted.
+pub fn total(state: &[u32], label: u8) -> u64 {
+    unsafe { dating_total(state.as_ptr(), state.len(), label) }
 }
 
 /// The pair words, from × 1,024 + to, ascending. Work: [`tree_work`](crate::tree_work).

@@ -7,7 +7,7 @@ use std::fmt::{self, Debug, Formatter};
 
 /// A register of n records, with its links, its locks and the latest 256 edits.
 ///
-/// It takes 21,520 bytes, and with the first question of each kind the space for it: for 1,024 records 5.6 MB and 4.2 MB (pairs), or
+/// It takes 21,624 bytes, and with the first question of each kind the space for it: for 1,024 records 5.6 MB and 4.2 MB (pairs), or
 /// 0.5 MB and 0.3 MB (chains), of which the system gives what is written to. [`pairs_in`](Register::pairs_in) and
 /// [`chain_in`](Register::chain_in) take the caller's space instead.
 pub struct Register {
@@ -69,6 +69,22 @@ impl Register {
 
     pub fn is_locked(&self, record: u16) -> bool {
         calls::locked(&self.words, record) == 1
+    }
+
+    /// The number of links with this letter, which the register keeps: none is counted.
+    ///
+    /// ```
+    /// # let mut register = dating::Register::fresh(3)?;
+    /// register.add(0, 'a', 1)?;
+    /// register.add(1, 'a', 2)?;
+    /// assert_eq!((register.total('a')?, register.total('b')?), (2, 0));
+    /// register.undo()?;
+    /// assert_eq!(register.total('a')?, 1);
+    /// assert_eq!(register.total('A'), Err(dating::Refusal::Label));
+    /// # Ok::<(), dating::Refusal>(())
+    /// ```
+    pub fn total(&self, letter: char) -> Result<usize, Refusal> {
+        counted(calls::total(&self.words, label(letter)))
     }
 
     /// The links present.

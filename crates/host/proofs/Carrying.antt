@@ -16,7 +16,8 @@ use Rattle.book.specs.Book.{Book, Call, freshAnswer, fresh}
 use Rattle.register.specs.Representation.{Represents}
 use Rattle.register.specs.Calls.{answerOf, answerNumber, Opens, Steps}
 use Rattle.register.specs.HistoryLaws.{number-answer}
-use Rattle.register.specs.Questions.{Sized, Listing, Locking}
+use Rattle.register.specs.Questions.{Sized, Listing, Locking, Totals}
+use Rattle.register.specs.declared.TotalAnswer.{TotalAnswer}
 use Rattle.register.specs.Words.{stateWords, lockWord, Keeps, Foreign, Copies, Loads, Stores}
 use Rattle.register.specs.WordLaws.{keeps-long, keeps-same, load-done}
 use Rattle.register.specs.declared.Register.{Register}
@@ -25,7 +26,7 @@ use Rattle.register.specs.declared.Links.{Links}
 use Rattle.register.specs.declared.Answer.the-variants.{Done, Refused}
 use Rattle.pairs.specs.Asking.{Handed, too-long, handed}
 use Rattle.pairs.specs.declared.PairsAnswer.the-variants.{Pairs, Refused as Unpaired}
-use Rattle.host.specs.Host.{freshNumber, Freshens, Edits, refusal, toldPairs, Told, Asked, Lists, Sizes, TellsLock}
+use Rattle.host.specs.Host.{freshNumber, Freshens, Edits, refusal, toldPairs, toldTotal, Told, Asked, Lists, Sizes, TellsLock, TellsTotal}
 use Rattle.host.specs.Inner.{Finishes, refused, kept, lost}
 
 -- a refused call is not accepted
@@ -172,6 +173,12 @@ module _ {ws : List ℕ} where
 
   pub sized : {r : Register} {k : ℕ} → Keeps ws r → Sized r k → Sizes ws k
   sized {r} {k} w z = record { size = λ s v. subst (λ (t : Register). Sized t k) (keeps-same w v) z; foreign = λ g. absurd (g r w) }
+
+  pub total-foreign : {l k : ℕ} → Foreign ws → k ≡ refusal (number not-open) → TellsTotal ws l k
+  total-foreign g e = record { total = λ r w. absurd (g r w); foreign = λ _. e }
+
+  pub totalled : {r : Register} {l k : ℕ} → Keeps ws r → (a : TotalAnswer) → Totals r l a → k ≡ toldTotal a → TellsTotal ws l k
+  totalled {r} {l} {k} w a p e = record { total = λ s v. subst (λ (t : Register). Told (Totals t l) toldTotal k) (keeps-same w v) (a, p, e); foreign = λ g. absurd (g r w) }
 
   pub lock-foreign : (x : ℕ) → Foreign ws → TellsLock ws x 0
   lock-foreign x g = record { locked = λ b h. absurd (g (h .0) (h .1)); foreign = λ _. refl }

@@ -11,7 +11,7 @@
 --   Calls cs ws vs ks
 --                   the calls cs, each given the words that the one before left, from the words ws on: the words vs at the end, and the numbers ks
 --   refusal k       a refusal told as a number of 64 bits
---   toldPairs, toldChain, toldTree
+--   toldPairs, toldChain, toldTotal, toldTree
 --                   an answer told as a number of 64 bits: a count, 2^32 for no chain, or a refusal
 --   Told P f k      k tells an answer, by f, that P promises
 --   Asked ws P f before after k
@@ -21,6 +21,8 @@
 --                   the words of the links of the register r, handed over into a list that held `before`
 --   Sizes ws k, TellsLock ws x k
 --                   the number of records; whether a record is locked: 0 if the words are no register's
+--   TellsTotal ws l k
+--                   the number of links of a label, as `total` promises; words that are no register's are refused with 16
 -- Assumes nothing: these are definitions.
 use mathlib.Core.Path.{_≡_}
 use mathlib.Core.List.{List, [], _∷_}
@@ -32,11 +34,13 @@ use Rattle.book.specs.Causes.{bad-size, short-work, not-open, number, firstNumb
 use Rattle.book.specs.Book.{Book, Call, isLocked, fresh}
 use Rattle.register.specs.Representation.{Represents}
 use Rattle.register.specs.Calls.{answerNumber, Steps}
-use Rattle.register.specs.Questions.{Sized, Listing}
+use Rattle.register.specs.Questions.{Sized, Listing, Totals}
 use Rattle.register.specs.Words.{stateWords, lockWord, Keeps, Foreign}
 use Rattle.register.specs.declared.Register.{Register}
 use Rattle.register.specs.declared.Outcome.{Outcome}
 use Rattle.register.specs.declared.Links.{Links}
+use Rattle.register.specs.declared.TotalAnswer.{TotalAnswer}
+use Rattle.register.specs.declared.TotalAnswer.the-variants.{Total, Refused as Untotalled}
 use Rattle.pairs.specs.Asking.{Handed}
 use Rattle.pairs.specs.declared.PairsAnswer.{PairsAnswer}
 use Rattle.pairs.specs.declared.PairsAnswer.the-variants.{Pairs, Refused}
@@ -79,6 +83,10 @@ toldChain (Chain k) = k
 toldChain NoChain = 4294967296
 toldChain (Unchained k) = refusal k
 
+abbrev pub toldTotal : TotalAnswer → ℕ
+toldTotal (Total t) = t
+toldTotal (Untotalled k) = refusal k
+
 abbrev pub toldTree : Answer → ℕ
 toldTree (Done k) = k
 toldTree (Untreed k) = refusal k
@@ -100,3 +108,7 @@ pub record Sizes (ws : List ℕ) (k : ℕ) : Type 0 where
 pub record TellsLock (ws : List ℕ) (x k : ℕ) : Type 0 where
   pub locked : (b : Book) → KeepsBook ws b → k ≡ lockWord (isLocked (b .sheet) x)
   pub foreign : Foreign ws → k ≡ 0
+
+pub record TellsTotal (ws : List ℕ) (l k : ℕ) : Type 0 where
+  pub total : (r : Register) → Keeps ws r → Told (Totals r l) toldTotal k
+  pub foreign : Foreign ws → k ≡ refusal (number not-open)

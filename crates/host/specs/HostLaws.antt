@@ -3,7 +3,8 @@
 --   calls-book      so for a whole history of calls, each given the words that the call before left
 --   pairs-book, chain-book
 --                   a question asked of words that keep a book: the number tells the book's answer, and the list is as that answer leaves it
---   pairs-told, chain-told, none-told, tree-told
+--   total-book      the total asked of words that keep a book
+--   pairs-told, chain-told, none-told, total-told, tree-told
 --                   which answer a number tells
 use mathlib.Core.Path.{_≡_, refl, ap, _∙_}
 use mathlib.Core.List.{List, [], _∷_}
@@ -14,6 +15,9 @@ use Rattle.book.specs.Book.{Book, Call, answer, next, answers, after}
 use Rattle.paths.specs.Verdicts.{verdict}
 use Rattle.register.specs.Calls.{answerNumber}
 use Rattle.register.specs.HistoryLaws.{number-answer}
+use Rattle.register.specs.Questions.{totalAnswer}
+use Rattle.register.specs.declared.TotalAnswer.{TotalAnswer}
+use Rattle.register.specs.declared.TotalAnswer.the-variants.{Total, Refused as Untotalled}
 use Rattle.pairs.specs.Asking.{BookPairs, AsksPairs}
 use Rattle.chains.specs.Replies.{BookReplies, Replies, stepsLength}
 use Rattle.pairs.specs.declared.PairsAnswer.{PairsAnswer}
@@ -22,7 +26,7 @@ use Rattle.chains.specs.declared.ChainAnswer.{ChainAnswer}
 use Rattle.chains.specs.declared.ChainAnswer.the-variants.{Chain, NoChain, Refused as Unchained}
 use Rattle.tree.specs.declared.listing.Answer.{Answer}
 use Rattle.tree.specs.declared.listing.Answer.the-variants.{Done, Refused as Untreed}
-use Rattle.host.specs.Host.{KeepsBook, Edits, Calls, none, then, toldPairs, toldChain, toldTree, Told, Asked}
+use Rattle.host.specs.Host.{KeepsBook, Edits, Calls, none, then, toldPairs, toldChain, toldTotal, toldTree, Told, Asked, TellsTotal}
 
 pub edits-book : {c : Call} {ws vs : List ℕ} {k : ℕ} → Edits c ws vs k → (b : Book) → KeepsBook ws b → (k ≡ answer b c) × KeepsBook vs (next b c)
 edits-book e b h =
@@ -44,6 +48,13 @@ module _ {ws before after′ : List ℕ} {k : ℕ} (text : List ℕ) (work : ℕ
   pub chain-book : (x y : ℕ) → Asked ws (λ r. Replies r x y text work before after′) toldChain before after′ k
       → Told (BookReplies b x y text work before after′) toldChain k
   chain-book x y q = let t = q .answers (h .0) (h .1) in (t .0, t .1 .answers b (h .2), t .2)
+
+pub total-book : {ws : List ℕ} {l k : ℕ} → TellsTotal ws l k → (b : Book) → KeepsBook ws b → k ≡ toldTotal (totalAnswer (b .sheet) l)
+total-book q b h = let t = q .total (h .0) (h .1) in t .2 ∙ ap toldTotal (t .1 .told b (h .2))
+
+pub total-told : (a : TotalAnswer) (k : ℕ) → toldTotal a ≡ k → k < 8589934592 → a ≡ Total k
+total-told (Total j) k e l = ap Total e
+total-told (Untotalled j) k e l = absurd (omega arith)
 
 pub pairs-told : (a : PairsAnswer) (k : ℕ) → toldPairs a ≡ k → k < 8589934592 → a ≡ Pairs k
 pairs-told (Pairs j) k e l = ap Pairs e

@@ -1,4 +1,4 @@
-// The engine for Rust and C: the caller keeps a register as 5,380 words, at the front of a state that may be longer, and every call takes numbers and
+// The engine for Rust and C: the caller keeps a register as 5,406 words, at the front of a state that may be longer, and every call takes numbers and
 // slices.
 // A number told as 64 bits is a count; 2^32 for no chain; 2^33 and the number of the cause for a refusal.
 ghost use mathlib.Core.Path.{_≡_};
@@ -11,7 +11,7 @@ ghost use Rattle.tree.specs.Calls.{Answered, treeOf, listOf, treeOfOne, treeOfT
 ghost use Rattle.register.specs.Calls.{callOf};
 ghost use Rattle.pairs.specs.Asking.{AsksPairs};
 ghost use Rattle.chains.specs.Replies.{Replies};
-ghost use Rattle.host.specs.Host.{Freshens, Edits, refusal, toldPairs, toldChain, toldTree, Told, Asked, Lists, Sizes, TellsLock};
+ghost use Rattle.host.specs.Host.{Freshens, Edits, refusal, toldPairs, toldChain, toldTree, Told, Asked, Lists, Sizes, TellsLock, toldTotal, TellsTotal};
 ghost use Rattle.host.specs.Inner.{Finishes};
 use chains::ChainAnswer;
 use pairs::PairsAnswer;
@@ -19,6 +19,7 @@ use register::Answer;
 use register::Call;
 use register::Outcome;
 use register::Register;
+use register::TotalAnswer;
 
 // What is told in place of a count: no chain, and, with the number of its cause added, a refusal.
 const NO_CHAIN: u64 = 4294967296;
@@ -48,6 +49,15 @@ fn told_chain(answer: ChainAnswer) -> u64
         ChainAnswer::Chain(steps) => steps as u64,
         ChainAnswer::NoChain => NO_CHAIN,
         ChainAnswer::Refused(number) => told_refusal(number),
+    }
+}
+
+fn told_total(answer: TotalAnswer) -> u64
+    ensures { λ k. ⌜ k ≡ toldTotal answer ⌝ }
+{
+    match answer {
+        TotalAnswer::Total(count) => count as u64,
+        TotalAnswer::Refused(number) => told_refusal(number),
     }
 }
 
@@ -198,6 +208,20 @@ pub extern "C" fn dating_locked(state: &[u32], record: u16) -> u32
     }
     let register = loaded.register;
     engine::is_locked(register, record) as u32
+}
+
+// The number of links of a label.
+#[no_mangle]
+pub extern "C" fn dating_total(state: &[u32], label: u8) -> u64
+    ensures { λ k. ⌜ TellsTotal (now (state .entry)) label k ⌝ }
+{
+    let loaded = Register::load(state);
+    let answer = loaded.answer;
+    if register::number_of(answer) != 0 {
+        return told_refusal(book::NOT_OPEN);
+    }
+    let register = loaded.register;
+    told_total(engine::total(register, label))
 }
 
 // The pairs that have a chain, ascending, each once.

@@ -25,7 +25,8 @@ use Rattle.book.specs.Causes.{number, unknown-kind}
 use Rattle.book.specs.Book.{Link, Edit, edit, undo, add, remove, lock, unlock}
 use Rattle.paths.specs.Grammar.{Verdict}
 use Rattle.paths.specs.Chains.{Reply}
-use Rattle.session.specs.Program.{twoBytes, frameOf, Request, Frame, asks, faulty, opening, call, pairs, chain, Session, nextSession, Right, printed, listLeft, minFrame, maxFrame}
+use Rattle.register.specs.History.{addKind, removeKind, lockKind, unlockKind, undoKind}
+use Rattle.session.specs.Program.{twoBytes, frameOf, openKind, pairsKind, chainKind, totalKind, Request, Frame, asks, faulty, opening, call, pairs, chain, totalling, Session, nextSession, Right, printed, listLeft, minFrame, maxFrame}
 use Rattle.lines.specs.Typed.{Typed, nothing, saying, typed}
 
 unfoldable pub linkBytes : Link → List ℕ
@@ -33,15 +34,16 @@ linkBytes k = twoBytes (k .from) ++ (k .label ∷ twoBytes (k .to))
 
 -- a word that is not known gives the kind 0, and arguments that do not fit an undo with a body
 unfoldable pub kindOf : Frame → ℕ
-kindOf (asks (opening n)) = 1
-kindOf (asks (call (edit (add k)))) = 2
-kindOf (asks (call (edit (remove k)))) = 3
-kindOf (asks (call (edit (lock r)))) = 4
-kindOf (asks (call (edit (unlock r)))) = 5
-kindOf (asks (call undo)) = 6
-kindOf (asks (pairs t)) = 7
-kindOf (asks (chain x y t)) = 8
-kindOf (faulty c) = pick (eqb (number c) (number unknown-kind)) 0 6
+kindOf (asks (opening n)) = openKind
+kindOf (asks (call (edit (add k)))) = addKind
+kindOf (asks (call (edit (remove k)))) = removeKind
+kindOf (asks (call (edit (lock r)))) = lockKind
+kindOf (asks (call (edit (unlock r)))) = unlockKind
+kindOf (asks (call undo)) = undoKind
+kindOf (asks (pairs t)) = pairsKind
+kindOf (asks (chain x y t)) = chainKind
+kindOf (asks (totalling l)) = totalKind
+kindOf (faulty c) = pick (eqb (number c) (number unknown-kind)) 0 undoKind
 
 unfoldable pub bodyOf : Frame → List ℕ
 bodyOf (asks (opening n)) = twoBytes n
@@ -52,6 +54,7 @@ bodyOf (asks (call (edit (unlock r)))) = twoBytes r
 bodyOf (asks (call undo)) = []
 bodyOf (asks (pairs t)) = t
 bodyOf (asks (chain x y t)) = twoBytes x ++ (twoBytes y ++ t)
+bodyOf (asks (totalling l)) = l ∷ []
 bodyOf (faulty c) = pick (eqb (number c) (number unknown-kind)) [] (0 ∷ [])
 
 unfoldable pub frameFor : Frame → List ℕ

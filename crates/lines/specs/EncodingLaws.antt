@@ -20,9 +20,9 @@ use Rattle.book.specs.Book.{Link, Edit, edit, undo, add, remove, lock, unlock}
 use Rattle.paths.specs.Grammar.{Verdict}
 use Rattle.paths.specs.Chains.{Reply}
 use Rattle.report.specs.Report.{bytes}
-use Rattle.session.specs.Program.{number16, twoBytes, frameOf, linkIn, Request, Frame, asks, faulty, opening, call, pairs, chain, decode, Session, nextSession, Right, printed, listLeft, frameIn, Run, ended}
+use Rattle.session.specs.Program.{number16, twoBytes, frameOf, linkIn, Request, Frame, asks, faulty, opening, call, pairs, chain, totalling, decode, Session, nextSession, Right, printed, listLeft, frameIn, Run, ended}
 use Rattle.session.specs.RunLaws.{framed-as}
-use Rattle.lines.specs.Typed.{Typed, nothing, saying, fitting, word, rest, skip, sameBytes, empty, isNumber, numberOf, isLabel, labelOf, text, maxText, maxLine, hash, numbered, linked, alone, chained, requested, begun, typed}
+use Rattle.lines.specs.Typed.{Typed, nothing, saying, fitting, word, rest, skip, sameBytes, empty, isNumber, numberOf, isLabel, labelOf, text, maxText, maxLine, hash, numbered, linked, alone, chained, lettered, requested, begun, typed}
 use Rattle.lines.specs.TypedLaws.{length-text}
 use Rattle.lines.specs.Encoding.{linkBytes, kindOf, bodyOf, frameFor, sent, maxBody, afterTyped, printedTyped, leftTyped, RightTyped, sentAll, TypedRun, no-lines, next-line}
 
@@ -42,6 +42,7 @@ decode-request (pairs t) = refl
 decode-request (chain x y t) =
     let enough : leb 4 (suc (suc (suc (suc (length t))))) ≡ true = le-leb 4 (suc (suc (suc (suc (length t))))) (omega arith) in
     rw (both x, both y, enough)
+decode-request (totalling l) = refl
 
 -- ---- what lines say
 -- a request whose text is within its limit, or one of the two faults
@@ -85,6 +86,10 @@ chained-sends r =
     let t = text (rest (rest r)) in
     fits (isNumber (word r) && isNumber (word (rest r))) (chain (numberOf (word r)) (numberOf (word (rest r))) t) (omega (arith, length-text (rest (rest r))))
 
+lettered-sends : (r : List ℕ) → Sends (lettered r)
+unfolding lettered bodyOf
+lettered-sends r = fits (isLabel (word r) && empty (rest r)) (totalling (labelOf (word r))) (omega arith)
+
 requested-sends : (w r : List ℕ) → Sends (requested w r)
 unfolding requested alone bodyOf twoBytes
 requested-sends w r =
@@ -96,7 +101,8 @@ requested-sends w r =
     (choose (sameBytes w (bytes "undo")) _ _ (fits (empty r) (call undo) (omega arith))
     (choose (sameBytes w (bytes "pairs")) _ _ (one (request {q = pairs (text r)} (omega (arith, length-text r))))
     (choose (sameBytes w (bytes "chain")) _ _ (chained-sends r)
-    (one unknowns))))))))
+    (choose (sameBytes w (bytes "total")) _ _ (lettered-sends r)
+    (one unknowns)))))))))
 
 begun-sends : (s : List ℕ) → Sends (begun s)
 unfolding begun

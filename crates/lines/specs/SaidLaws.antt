@@ -11,6 +11,8 @@
 --                   no argument
 --   chained-not-from, chained-not-to, chained-is
 --                   FROM TO EXPRESSION, in this order
+--   lettered-not, lettered-more, lettered-is
+--                   one letter and no more
 -- Assumes nothing.
 use mathlib.Core.Path.{_≡_, refl, ap, _∙_}
 use mathlib.Core.List.{List, [], _∷_}
@@ -22,8 +24,8 @@ use borrow.Author.Tests.{lt-ltb, le-ltb, eq-eqb, ne-eqb}
 use Rattle.book.specs.Causes.{labels}
 use Rattle.book.specs.Book.{Link, Edit, edit}
 use Rattle.report.specs.Report.{bytes}
-use Rattle.session.specs.Program.{Request, asks, call, chain}
-use Rattle.lines.specs.Typed.{word, rest, skip, sameBytes, empty, isNumber, numberOf, isLabel, labelOf, text, hash, maxLine, nothing, saying, unknown, misfit, numbered, linked, alone, chained, requested, begun, typed}
+use Rattle.session.specs.Program.{Request, asks, call, chain, totalling}
+use Rattle.lines.specs.Typed.{word, rest, skip, sameBytes, empty, isNumber, numberOf, isLabel, labelOf, text, hash, maxLine, nothing, saying, unknown, misfit, numbered, linked, alone, chained, lettered, requested, begun, typed}
 use Rattle.lines.specs.TypedLaws.{and-false, same-equal}
 use Rattle.lines.specs.Read.{unfit, read}
 use Rattle.lines.specs.ReadLaws.{read-fits, read-not, number-small, label-small}
@@ -58,9 +60,9 @@ requested-as v w r h = ap (λ (u : List ℕ). requested u r) (same-equal w v h)
 pub requested-none : (w r : List ℕ)
     → sameBytes w (bytes "open") ≡ false → sameBytes w (bytes "add") ≡ false → sameBytes w (bytes "remove") ≡ false
     → sameBytes w (bytes "lock") ≡ false → sameBytes w (bytes "unlock") ≡ false → sameBytes w (bytes "undo") ≡ false
-    → sameBytes w (bytes "pairs") ≡ false → sameBytes w (bytes "chain") ≡ false → requested w r ≡ unknown
+    → sameBytes w (bytes "pairs") ≡ false → sameBytes w (bytes "chain") ≡ false → sameBytes w (bytes "total") ≡ false → requested w r ≡ unknown
 unfolding requested
-requested-none w r a b d e f g h i = rw (a, b, d, e, f, g, h, i)
+requested-none w r a b d e f g h i j = rw (a, b, d, e, f, g, h, i, j)
 
 -- ---- words as read
 number-fits : (w : List ℕ) (n : ℕ) → n ≡ read (isNumber w) (numberOf w) → n < unfit → (isNumber w ≡ true) × (n ≡ numberOf w)
@@ -108,6 +110,22 @@ module _ (s : List ℕ) {n : ℕ} {u : List ℕ} (is-n : n ≡ read (isNumber (w
   unfolding numbered
   numbered-is h k =
       let v = number-fits (word s) n is-n h in
+      rw (← is-u, empty-none u k, v .0, v .1)
+
+-- ---- one letter
+module _ (s : List ℕ) {n : ℕ} {u : List ℕ} (is-n : n ≡ read (isLabel (word s)) (labelOf (word s))) (is-u : u ≡ rest s) where
+  pub lettered-not : unfit ≤ n → lettered s ≡ misfit
+  unfolding lettered
+  lettered-not h = rw (label-not (word s) n is-n h)
+
+  pub lettered-more : 0 < length u → lettered s ≡ misfit
+  unfolding lettered
+  lettered-more h = rw (← is-u, empty-some u h, and-false (isLabel (word s)))
+
+  pub lettered-is : n < unfit → length u ≤ 0 → lettered s ≡ saying (asks (totalling n))
+  unfolding lettered
+  lettered-is h k =
+      let v = label-fits (word s) n is-n h in
       rw (← is-u, empty-none u k, v .0, v .1)
 
 -- ---- no argument

@@ -15,8 +15,9 @@
 --   Typed           what a line says: nothing, or what a frame says, a request or the cause why it is none
 --   unknown, misfit what a first word says that is none of the requests, and arguments that do not fit
 --   fitting b q     the request q, if its arguments fit
---   numbered f r, linked f r, alone q r, chained r
---                   a request, if the bytes r after its word are: a number and no more; FROM LETTER TO and no more; none; FROM TO EXPRESSION
+--   numbered f r, linked f r, alone q r, chained r, lettered r
+--                   a request, if the bytes r after its word are: a number and no more; FROM LETTER TO and no more; none; FROM TO EXPRESSION; LETTER
+--                   and no more
 --   requested w r   what the word w says with the bytes r after it
 --   begun s         what the bytes s say from the first word on: nothing, a comment, or a request
 --   typed s         what the line s says
@@ -32,7 +33,7 @@ use Rattle.book.specs.Basics.{pick}
 use Rattle.book.specs.Causes.{broken-frame, unknown-kind, labels}
 use Rattle.book.specs.Book.{Link, Edit, edit, undo, add, remove, lock, unlock}
 use Rattle.report.specs.Report.{bytes, figure-0, letter-a, space}
-use Rattle.session.specs.Program.{Request, Frame, asks, faulty, opening, call, pairs, chain}
+use Rattle.session.specs.Program.{Request, Frame, asks, faulty, opening, call, pairs, chain, totalling}
 
 -- the bytes tab, carriage return and #
 abbrev pub tab : ℕ
@@ -144,6 +145,9 @@ alone q r = fitting (empty r) q
 unfoldable pub chained : List ℕ → Typed
 chained r = fitting (isNumber (word r) && isNumber (word (rest r))) (chain (numberOf (word r)) (numberOf (word (rest r))) (text (rest (rest r))))
 
+unfoldable pub lettered : List ℕ → Typed
+lettered r = fitting (isLabel (word r) && empty (rest r)) (totalling (labelOf (word r)))
+
 unfoldable pub requested : List ℕ → List ℕ → Typed
 requested w r =
     pick (sameBytes w (bytes "open")) (numbered opening r)
@@ -154,7 +158,8 @@ requested w r =
     (pick (sameBytes w (bytes "undo")) (alone (call undo) r)
     (pick (sameBytes w (bytes "pairs")) (saying (asks (pairs (text r))))
     (pick (sameBytes w (bytes "chain")) (chained r)
-    unknown)))))))
+    (pick (sameBytes w (bytes "total")) (lettered r)
+    unknown))))))))
 
 unfoldable pub begun : List ℕ → Typed
 begun [] = nothing

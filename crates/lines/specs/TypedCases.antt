@@ -8,8 +8,8 @@ use mathlib.Core.List.{List, [], _∷_}
 use Prim.Native.String.{String}
 use Rattle.book.specs.Book.{edit, undo, add, remove, lock, unlock}
 use Rattle.report.specs.Report.{bytes}
-use Rattle.session.specs.Program.{Request, asks, opening, call, pairs, chain}
-use Rattle.lines.specs.Typed.{blank, skip, trim, word, rest, sameBytes, empty, figure, allFigures, numberAfter, numberOf, isNumber, isLabel, labelOf, text, Typed, nothing, saying, unknown, misfit, numbered, linked, alone, chained, requested, begun, typed}
+use Rattle.session.specs.Program.{Request, asks, opening, call, pairs, chain, totalling}
+use Rattle.lines.specs.Typed.{blank, skip, trim, word, rest, sameBytes, empty, figure, allFigures, numberAfter, numberOf, isNumber, isLabel, labelOf, text, Typed, nothing, saying, unknown, misfit, numbered, linked, alone, chained, lettered, requested, begun, typed}
 
 pub record Case : Type 0 where
   pub line : String
@@ -39,6 +39,7 @@ table =
     request "pairs" (pairs []) ∷
     request "chain 0 3 a/b " (chain 0 3 (bytes "a/b")) ∷
     request "chain 7 8" (chain 7 8 []) ∷
+    request " total z " (totalling 25) ∷
     silent "" ∷
     silent "  " ∷
     silent "# open 4" ∷
@@ -55,6 +56,9 @@ table =
     no-fit "add 0 a" ∷
     no-fit "undo x" ∷
     no-fit "chain 1 x a" ∷
+    no-fit "total" ∷
+    no-fit "total A" ∷
+    no-fit "total a b" ∷
     []
 
 pub data Hold : List Case → Type 0 where
@@ -62,8 +66,9 @@ pub data Hold : List Case → Type 0 where
   also : {c : Case} {cs : List Case} → typed (bytes (c .line)) ≡ c .what → Hold cs → Hold (c ∷ cs)
 
 pub typed-cases : Hold table
-unfolding table bytes blank skip trim word rest sameBytes empty figure allFigures numberAfter numberOf isNumber isLabel labelOf text numbered linked alone chained requested begun typed
+unfolding table bytes blank skip trim word rest sameBytes empty figure allFigures numberAfter numberOf isNumber isLabel labelOf text numbered linked alone chained lettered requested begun typed
 typed-cases =
     also refl (also refl (also refl (also refl (also refl (also refl (also refl (also refl (also refl (also refl (also refl (also refl (also refl
     (also refl (also refl (also refl (also refl (also refl (also refl (also refl (also refl (also refl (also refl (also refl (also refl (also refl
-    none-left)))))))))))))))))))))))))
+    (also refl (also refl (also refl (also refl
+    none-left)))))))))))))))))))))))))))))

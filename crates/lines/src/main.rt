@@ -5,6 +5,7 @@
 //     lock 1           unlock 1
 //     undo
 //     pairs a/^a       chain 0 3 a/b
+//     total a
 //
 // Words are parted by blanks. A blank line and a line that begins with # give no frame, every other line gives one. Where the first word
 // is not known it is a frame of the kind 0, to which the program answers `refused 15`; where the words after it do not fit, one with a

@@ -10,8 +10,27 @@ ghost use lib.ListN.{length};
 ghost use Rattle.book.specs.Book.{Link, Edit, undo};
 ghost use Rattle.report.specs.Written.{Wrote};
 ghost use Rattle.session.specs.Program.{Request, asks, call, pairs};
-ghost use Rattle.lines.specs.Typed.{saying, misfit, numbered, linked, alone, chained, text, requested, typed};
+ghost use Rattle.lines.specs.Typed.{saying, misfit, numbered, linked, alone, chained, lettered, text, requested, typed};
 ghost use Rattle.lines.specs.Encoding.{sent, OfNumber, OfLink, frameRoom};
+
+// The kinds of frames, in one byte; and one that there is not.
+const OPEN: u8 = session::OPEN as u8;
+
+const ADD: u8 = session::ADD as u8;
+
+const REMOVE: u8 = session::REMOVE as u8;
+
+const LOCK: u8 = session::LOCK as u8;
+
+const UNLOCK: u8 = session::UNLOCK as u8;
+
+const UNDO: u8 = session::UNDO as u8;
+
+const PAIRS: u8 = session::PAIRS as u8;
+
+const TOTAL: u8 = session::TOTAL as u8;
+
+const NO_KIND: u8 = 0;
 
 // The most bytes of a line.
 const MOST_LINE: usize = 2047;
@@ -21,7 +40,7 @@ fn broken(out: &mut [u8]) -> usize
     requires { ⌜ frameRoom ≤ length (now out) ⌝ }
     ensures { λ r. ⌜ Wrote 0 (sent misfit) (now (out .entry)) (now (out .exit)) r ⌝ }
 {
-    put_frame(6, &[0], b"", out)
+    put_frame(UNDO, &[0], b"", out)
 }
 
 // A request of one number.
@@ -73,14 +92,14 @@ fn undo(s: &[u8], out: &mut [u8]) -> usize
     if s.len() > 0 {
         return broken(out);
     }
-    put_frame(6, b"", b"", out)
+    put_frame(UNDO, b"", b"", out)
 }
 
 fn pairs(s: &[u8], out: &mut [u8]) -> usize
     requires { ⌜ frameRoom ≤ length (now out) ⌝ }
     ensures { λ r. ⌜ Wrote 0 (sent (saying (asks (pairs (text (now (s .entry))))))) (now (out .entry)) (now (out .exit)) r ⌝ }
 {
-    put_frame(7, b"", words::text(s), out)
+    put_frame(PAIRS, b"", words::text(s), out)
 }
 
 fn chain(s: &[u8], out: &mut [u8]) -> usize
@@ -100,25 +119,40 @@ fn chain(s: &[u8], out: &mut [u8]) -> usize
     put_chain(from as u16, to as u16, text, out)
 }
 
+fn total(s: &[u8], out: &mut [u8]) -> usize
+    requires { ⌜ frameRoom ≤ length (now out) ⌝ }
+    ensures { λ r. ⌜ Wrote 0 (sent (lettered (now (s .entry)))) (now (out .entry)) (now (out .exit)) r ⌝ }
+{
+    let label = words::label(s);
+    let left = words::rest(s);
+    if label >= NONE {
+        return broken(out);
+    }
+    if left.len() > 0 {
+        return broken(out);
+    }
+    put_frame(TOTAL, &[label as u8], b"", out)
+}
+
 // What a word says with the bytes after it.
 fn request(word: &[u8], s: &[u8], out: &mut [u8]) -> usize
     requires { ⌜ frameRoom ≤ length (now out) ⌝ }
     ensures { λ r. ⌜ Wrote 0 (sent (requested (now (word .entry)) (now (s .entry)))) (now (out .entry)) (now (out .exit)) r ⌝ }
 {
     if words::same(word, b"open") {
-        return numbered(1, s, out);
+        return numbered(OPEN, s, out);
     }
     if words::same(word, b"add") {
-        return linked(2, s, out);
+        return linked(ADD, s, out);
     }
     if words::same(word, b"remove") {
-        return linked(3, s, out);
+        return linked(REMOVE, s, out);
     }
     if words::same(word, b"lock") {
-        return numbered(4, s, out);
+        return numbered(LOCK, s, out);
     }
     if words::same(word, b"unlock") {
-        return numbered(5, s, out);
+        return numbered(UNLOCK, s, out);
     }
     if words::same(word, b"undo") {
         return undo(s, out);
@@ -129,7 +163,10 @@ fn request(word: &[u8], s: &[u8], out: &mut [u8]) -> usize
     if words::same(word, b"chain") {
         return chain(s, out);
     }
-    put_frame(0, b"", b"", out)
+    if words::same(word, b"total") {
+        return total(s, out);
+    }
+    put_frame(NO_KIND, b"", b"", out)
 }
 
 // Writes the frame of a line.

@@ -10,6 +10,8 @@ const N: usize = 0;
 const LINKS: usize = 4;
 const RING: usize = LINKS + 4096;
 const LOCKS: usize = RING + 256;
+const TOTALS: usize = LOCKS + 1024;
+const WORDS: usize = TOTALS + 26;
 
 fn any(random: &mut Random) -> u32 {
     let word = random.word() as u32;
@@ -26,32 +28,36 @@ fn any(random: &mut Random) -> u32 {
 
 fn damage(random: &mut Random, words: &mut Vec<u32>) {
     for _ in 0..random.between(1, 4) {
-        let at = match random.below(5) {
+        let at = match random.below(6) {
             0 => random.below(LINKS),
             1 => random.between(LINKS, LINKS + 40),
             2 => random.between(LINKS, RING - 1),
             3 => random.between(RING, LOCKS - 1),
+            4 => random.between(TOTALS, words.len() - 1),
             _ => random.between(LOCKS, words.len() - 1),
         };
-        words[at] = if at < LOCKS || random.chance(20) { any(random) } else { random.below(2) as u32 };
+        words[at] = if at < LOCKS || at >= TOTALS || random.chance(20) { any(random) } else { random.below(2) as u32 };
     }
-    match random.below(12) {
+    match random.below(14) {
         0 => words[LINKS..RING].iter_mut().for_each(|word| *word = any(random)),
         1 => words[RING..LOCKS].iter_mut().for_each(|word| *word = any(random)),
         2 => words.iter_mut().for_each(|word| *word = any(random)),
-        3 => words.truncate(random.below(5380)),
-        4 => words.resize(random.between(5381, 6000), 0),
+        3 => words.truncate(random.below(WORDS)),
+        4 => words.resize(random.between(WORDS + 1, 6000), 0),
         5 => words[1] = 4096,
         6 => words[3] = 256,
+        7 => words[TOTALS..WORDS].fill(u32::MAX),
+        8 => words[TOTALS..WORDS].fill(0),
+        9 => words.truncate(TOTALS),
         _ => {}
     }
 }
 
 /// Whether the front of these could be the words of a register: enough of them, counters in range, locks 0 or 1. If not, the answer is 16.
 fn possible(words: &[u32]) -> bool {
-    words.len() >= 5380
+    words.len() >= WORDS
         && (words[N] <= 1024 && words[1] <= 4096 && words[2] < 256 && words[3] <= 256)
-        && words[LOCKS..5380].iter().all(|&word| word <= 1)
+        && words[LOCKS..TOTALS].iter().all(|&word| word <= 1)
 }
 
 pub fn damaged(run: &mut Run, seed: u64, size: Size) {
@@ -106,6 +112,16 @@ pub fn damaged(run: &mut Run, seed: u64, size: Size) {
     let locked = run.engine.locked(&words, random.record(n) as u16);
     if !possible {
         run.same("whether a record of no register is locked", &locked, &0);
+    }
+    for label in [0, random.label() as u8, 25, 26, 255] {
+        let total = run.engine.total(&words, label);
+        if !possible {
+            run.same("a total of words of no register", &total, &Err(16));
+        } else if label > 25 {
+            run.same("a total of no label", &total, &Err(3));
+        } else {
+            run.same("whether a total of other words is told", &total.is_ok(), &true);
+        }
     }
     run.counts.damaged += 1;
 }

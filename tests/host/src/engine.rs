@@ -127,6 +127,23 @@ impl Engine {
         answer
     }
 
+    /// The total of a label, or the number of the refusal.
+    pub fn total(&mut self, words: &[u32], label: u8) -> Result<u32, u32> {
+        let state = self.state.lend_words(words);
+        let answer = calls::total(state, label);
+        let kept = state == words;
+        self.intact();
+        self.fault(kept, "changes a register of which a total is asked");
+        match Told::of(answer) {
+            Told::Count(count) => Ok(count as u32),
+            Told::NoChain => {
+                self.fault(false, "tells no chain for a total");
+                Err(0)
+            }
+            Told::Refused(number) => Err(number),
+        }
+    }
+
     /// Asks for a list of so many words at most, and looks at what was made of it.
     fn listed<T: Word>(
         &mut self,

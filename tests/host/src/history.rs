@@ -65,7 +65,19 @@ impl<'a> History<'a> {
         let expected = number(self.book.call(call));
         let answer = self.run.engine.edit(&mut self.words, call);
         self.run.same_of(|| format!("{call:?}"), &answer, &expected);
+        let label = match call {
+            Call::Add(link) | Call::Remove(link) => link.label,
+            _ => self.random.pick(&self.labels),
+        };
+        self.compare_total(label);
         self.run.counts.edits += 1;
+    }
+
+    /// The total of a label is the number of the book's links that have it.
+    fn compare_total(&mut self, label: u32) {
+        let answer = self.run.engine.total(&self.words, label as u8);
+        let expected = self.book.total(label).map(|links| links as u32).map_err(|refusal| refusal.number().into());
+        self.run.same_of(|| format!("total {label}"), &answer, &expected);
     }
 
     fn record(&mut self) -> u32 {
@@ -127,7 +139,7 @@ impl<'a> History<'a> {
         }
     }
 
-    /// Links, locks and size are those of the book.
+    /// Links, locks, totals and size are those of the book.
     fn compare_contents(&mut self) {
         let word = |link: &Link| (link.label * 1024 + link.from) * 1024 + link.to;
         let mut links: Vec<u32> = self.book.sheet().links.iter().map(word).collect();
@@ -143,6 +155,9 @@ impl<'a> History<'a> {
             let answer = self.run.engine.locked(&self.words, record as u16);
             let expected = u32::from(self.book.sheet().locked.contains(&record));
             self.run.same_of(|| format!("locked {record}"), &answer, &expected);
+        }
+        for label in (0..=LABELS).chain([31, 97, 255]) {
+            self.compare_total(label);
         }
         self.run.counts.contents += 1;
     }

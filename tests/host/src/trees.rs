@@ -118,16 +118,16 @@ pub fn sizes(run: &mut Run) {
         }
     }
     for n in [0, 1025, 2048, 65535] {
-        for length in [0, 5379, 5380, 5381] {
+        for length in [0, 5380, 5405, 5406, 5407] {
             let answer = run.engine.fresh(n, &mut vec![9; length]);
             run.same_of(|| format!("fresh with n {n} in {length} words"), &answer, &1);
         }
     }
-    for length in [0, 1, 4, 5379, 5380, 5381, 8000] {
+    for length in [0, 1, 4, 5380, 5405, 5406, 5407, 8000] {
         let mut words = vec![9; length];
         let answer = run.engine.fresh(7, &mut words);
-        run.same_of(|| format!("fresh in {length} words"), &answer, &if length < 5380 { 12 } else { 0 });
+        run.same_of(|| format!("fresh in {length} words"), &answer, &if length < 5406 { 12 } else { 0 });
         let size = run.engine.size(&words);
-        run.same_of(|| format!("size of {length} words"), &size, &if length < 5380 { 0 } else { 7 });
+        run.same_of(|| format!("size of {length} words"), &size, &if length < 5406 { 0 } else { 7 });
     }
 }

@@ -59,6 +59,14 @@ impl Book {
         &self.sheet
     }
 
+    /// How many of the links present have this label; counted each time.
+    pub fn total(&self, label: u32) -> Result<usize, Refusal> {
+        if label >= LABELS {
+            return Err(Refusal::Label);
+        }
+        Ok(self.sheet.links.iter().filter(|link| link.label == label).count())
+    }
+
     /// The number of edits that undo can take back.
     pub fn held(&self) -> usize {
         self.pile.len()

@@ -12,6 +12,7 @@ pub enum Request {
     Edit(Call),
     Pairs(Vec<u8>),
     Chain(u32, u32, Vec<u8>),
+    Total(u32),
 }
 
 impl Request {
@@ -50,6 +51,10 @@ impl Request {
                 [a, b, c, d, ref text @ ..] => Ok(Request::Chain(number(a, b), number(c, d), text.to_vec())),
                 _ => Err(Refusal::Frame),
             },
+            9 => match *body {
+                [label] => Ok(Request::Total(u32::from(label))),
+                _ => Err(Refusal::Frame),
+            },
             _ => Err(Refusal::Kind),
         }
     }
@@ -67,6 +72,7 @@ impl Request {
             Request::Edit(Call::Reinstate(record)) => frame(11, &two(*record)),
             Request::Pairs(text) => frame(7, text),
             Request::Chain(from, to, text) => frame(8, &[&two(*from)[..], &two(*to), text].concat()),
+            Request::Total(label) => frame(9, &[one(*label)]),
         }
     }
 }
@@ -86,7 +92,10 @@ fn two(value: u32) -> [u8; 2] {
     u16::try_from(value).expect("a number of two bytes").to_le_bytes()
 }
 
+fn one(label: u32) -> u8 {
+    u8::try_from(label).expect("a label of one byte")
+}
+
 fn link_body(link: &Link) -> Vec<u8> {
-    let label = u8::try_from(link.label).expect("a label of one byte");
-    [&two(link.from)[..], &[label], &two(link.to)].concat()
+    [&two(link.from)[..], &[one(link.label)], &two(link.to)].concat()
 }

@@ -2,8 +2,8 @@
 //!
 //! ```text
 //! open 4            add 0 a 1         lock 1            undo              chain 0 3 a/b
-//! bytes 01 00 ff    remove 0 a 1      unlock 1          pairs a/^a        # a remark
-//! withdraw 1        reinstate 1
+//! bytes 01 00 ff    remove 0 a 1      unlock 1          pairs a/^a        total a
+//! withdraw 1        reinstate 1       # a remark
 //! ```
 //!
 //! A label is a letter from a to z or a number. An expression is all that follows its space, and may be empty. `bytes`
@@ -38,6 +38,7 @@ fn request(word: &str, rest: &str) -> Result<Request, String> {
         ("undo", [""]) => Request::Edit(Call::Undo),
         ("pairs", _) => Request::Pairs(rest.into()),
         ("chain", [from, to, text @ ..]) => Request::Chain(number(from)?, number(to)?, text.join(" ").into()),
+        ("total", [letter]) => Request::Total(label(letter)?),
         _ => return Err(format!("{word} {rest} is no request")),
     })
 }
@@ -46,10 +47,14 @@ fn number(text: &str) -> Result<u32, String> {
     text.parse::<u16>().map(u32::from).map_err(|_| format!("{text} is no number of two bytes"))
 }
 
-fn link(from: &str, label: &str, to: &str) -> Result<Link, String> {
-    let label = match *label.as_bytes() {
+fn label(text: &str) -> Result<u32, String> {
+    let label = match *text.as_bytes() {
         [letter @ b'a'..=b'z'] => letter - b'a',
-        _ => label.parse::<u8>().map_err(|_| format!("{label} is no label of one byte"))?,
+        _ => text.parse::<u8>().map_err(|_| format!("{text} is no label of one byte"))?,
     };
-    Ok(Link { from: number(from)?, label: u32::from(label), to: number(to)? })
+    Ok(u32::from(label))
+}
+
+fn link(from: &str, letter: &str, to: &str) -> Result<Link, String> {
+    Ok(Link { from: number(from)?, label: label(letter)?, to: number(to)? })
 }

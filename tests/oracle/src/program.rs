@@ -77,6 +77,10 @@ fn answer(book: &mut Option<Book>, kind: u16, body: &[u8]) -> Result<String, Ref
             let chain = question::chain(book, from, to, &text, Space::AMPLE)?;
             Ok(chain.map_or("none\n".to_string(), |words| chain_lines(&words)))
         }
+        Request::Total(label) => {
+            let book = book.as_ref().ok_or(Refusal::NotOpened)?;
+            Ok(format!("total {}\n", book.total(label)?))
+        }
     }
 }
 

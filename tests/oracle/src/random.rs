@@ -318,7 +318,8 @@ impl Session {
                 42..=45 => self.withdraw(),
                 46..=49 => self.reinstate(),
                 50..=57 => self.edit(Call::Undo),
-                58..=76 => self.pairs(),
+                58..=73 => self.pairs(),
+                74..=76 => self.total(),
                 77..=94 => self.chain(),
                 95..=96 => self.unknown_kind(),
                 97 => self.wrong_size(),
@@ -453,14 +454,24 @@ impl Session {
         self.ask(Request::Chain(ends.0, ends.1, text));
     }
 
+    /// Mostly of a label that is used, now and then of one that there is not.
+    fn total(&mut self) {
+        let label = match self.random.below(10) {
+            0 => self.random.pick(&[0, 25, 26, 27, 97, 255]),
+            1..=2 => self.random.label(),
+            _ => self.random.pick(&self.labels),
+        };
+        self.ask(Request::Total(label));
+    }
+
     fn unknown_kind(&mut self) {
-        let kind = self.random.pick(&[0, 9, 12, 255, 256, 257, 258, 263, 264, 0x0700, 0x0800, 65535]);
+        let kind = self.random.pick(&[0, 12, 13, 255, 256, 257, 258, 263, 264, 0x0700, 0x0800, 65535]);
         let size = self.random.pick(&[0, 2, 4, 5, 6, 1022]);
         self.put(frame(kind, &vec![0; size]));
     }
 
     fn wrong_size(&mut self) {
-        let kind = self.random.pick(&[1, 2, 3, 4, 5, 6, 8, 10, 11]);
+        let kind = self.random.pick(&[1, 2, 3, 4, 5, 6, 8, 9, 10, 11]);
         let sizes: Vec<usize> =
             (0..=8).chain([1022]).filter(|&size| Request::read(kind, &vec![1; size]).is_err()).collect();
         let size = self.random.pick(&sizes);
@@ -489,6 +500,9 @@ impl Session {
             self.edit(Call::Undo);
             if self.random.chance(5) {
                 self.pairs();
+            }
+            if self.random.chance(20) {
+                self.total();
             }
         }
     }
@@ -530,6 +544,7 @@ impl Session {
                 1 => self.edit(Call::Undo),
                 2 => self.pairs(),
                 3 => self.chain(),
+                5..=6 => self.total(),
                 4 => {
                     let link = self.link();
                     self.edit(Call::Add(link));

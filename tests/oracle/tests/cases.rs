@@ -303,7 +303,7 @@ fn the_order_of_refusals_of_edits() {
 fn the_order_of_refusals_of_frames() {
     // Before any open: 15, then 14 for a wrong size, then 16; a refused open opens nothing.
     assert_eq!(
-        printed(&[frame(9, &[]), frame(1, &[4]), frame(8, &[0; 3])].concat()),
+        printed(&[frame(12, &[]), frame(1, &[4]), frame(8, &[0; 3])].concat()),
         "refused 15\nrefused 14\nrefused 14\n"
     );
     assert_eq!(answers("undo\npairs\nchain 9 9\nadd 70 a 0\nopen 0\nopen 65\nlock 0"), {
@@ -322,10 +322,11 @@ fn the_order_of_refusals_of_frames() {
                 6 => size == 0,
                 7 => true,
                 8 => size >= 4,
+                9 => size == 1,
                 _ => false,
             };
             let number = match (kind, right) {
-                (0 | 9 | 12, _) => 15,
+                (0 | 12, _) => 15,
                 (_, false) => 14,
                 (1, true) => 1,
                 _ => 16,

@@ -2,6 +2,7 @@
 -- (`requested-none`). Assumes nothing.
 use mathlib.Core.Path.{_≡_, refl, sym, ap, _∙_}
 use mathlib.Core.Bool.{true, false}
+use native.Mathlib.Omega.{arith}
 use denote.Ref.{now}
 use Rattle.book.specs.Causes.{number}
 use Rattle.book.specs.Book.{edit, add, remove, lock, unlock}
@@ -39,6 +40,9 @@ start7 c = start6 (c .before .before .before)
 
 abbrev start8 : tie.Else8 → tie.Start
 start8 c = start7 (c .before .before .before)
+
+abbrev start9 : tie.Else9 → tie.Start
+start9 c = start8 (c .before .before .before)
 
 slice-aggregate-same : tie.Need-slice-aggregate-same
 slice-aggregate-same c = search needs
@@ -200,22 +204,44 @@ returns-8 c =
     let yes = sym (t .before .same8 .ensures) ∙ t .if8 .taken in
     wrote-as (ap sent (sym (requested-as (bytes "chain") (now (a .word)) (now (a .s)) yes))) (c .before .before .chain .ensures)
 
+slice-aggregate-same-9 : tie.Need-slice-aggregate-same-9
+slice-aggregate-same-9 c = search needs
+
+same-requires-9 : tie.Need-same-requires-9
+same-requires-9 c κs = search needs
+
+total-requires : tie.Need-total-requires
+total-requires c κs = search needs
+
+same-length-9 : tie.Need-same-length-9
+same-length-9 c = search needs
+
+returns-9 : tie.Need-returns-9
+unfolding requested sameBytes bytes sent frameFor kindOf bodyOf
+returns-9 c =
+    let t = c .before .before .before .before in
+    let a = (start8 (t .before .before .before)) .args in
+    let yes = sym (t .before .same9 .ensures) ∙ t .if9 .taken in
+    wrote-as (ap sent (sym (requested-as (bytes "total") (now (a .word)) (now (a .s)) yes))) (c .before .before .total .ensures)
+
 slice-aggregate-put-frame : tie.Need-slice-aggregate-put-frame
 slice-aggregate-put-frame c = search needs
 
 slice-aggregate-put-frame-2 : tie.Need-slice-aggregate-put-frame-2
 slice-aggregate-put-frame-2 c = search needs
 
+-- past the places that `search` enters
 put-frame-requires : tie.Need-put-frame-requires
-put-frame-requires c κs = search needs
+put-frame-requires c κs = (omega arith, start9 (c .before .before .before) .pre)
 
-same-length-9 : tie.Need-same-length-9
-same-length-9 c = search needs
+same-length-10 : tie.Need-same-length-10
+same-length-10 c = search needs
 
-returns-9 : tie.Need-returns-9
+returns-10 : tie.Need-returns-10
 unfolding bytes sent frameFor kindOf bodyOf number
-returns-9 c =
-    let e8 = c .before .before .before .before .before .before in
+returns-10 c =
+    let e9 = c .before .before .before .before .before .before in
+    let e8 = e9 .before .before .before in
     let e7 = e8 .before .before .before in
     let e6 = e7 .before .before .before in
     let e5 = e6 .before .before .before in
@@ -223,7 +249,7 @@ returns-9 c =
     let e3 = e4 .before .before .before in
     let e2 = e3 .before .before .before in
     let e1 = e2 .before .before .before in
-    let a = (start8 e8) .args in
+    let a = (start9 e9) .args in
     wrote-as (ap sent (sym (requested-none (now (a .word)) (now (a .s))
     (sym (e1 .before .same .ensures) ∙ e1 .if1 .left)
     (sym (e2 .before .same2 .ensures) ∙ e2 .if2 .left)
@@ -232,7 +258,8 @@ returns-9 c =
     (sym (e5 .before .same5 .ensures) ∙ e5 .if5 .left)
     (sym (e6 .before .same6 .ensures) ∙ e6 .if6 .left)
     (sym (e7 .before .same7 .ensures) ∙ e7 .if7 .left)
-    (sym (e8 .before .same8 .ensures) ∙ e8 .if8 .left))))
+    (sym (e8 .before .same8 .ensures) ∙ e8 .if8 .left)
+    (sym (e9 .before .same9 .ensures) ∙ e9 .if9 .left))))
     (c .before .before .put-frame .ensures)
 
 pub request-spec : {M : Type 1} → statement M
@@ -279,8 +306,13 @@ request-spec =
     chain-requires
     same-length-8
     returns-8
+    slice-aggregate-same-9
+    same-requires-9
+    total-requires
+    same-length-9
+    returns-9
     slice-aggregate-put-frame
     slice-aggregate-put-frame-2
     put-frame-requires
-    same-length-9
-    returns-9)
+    same-length-10
+    returns-10)

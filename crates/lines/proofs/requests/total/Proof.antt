@@ -1,0 +1,78 @@
+-- `lines::requests::total` meets its contract, case by case (`lettered-not`, `lettered-more`, `lettered-is`). Assumes nothing.
+use mathlib.Core.Path.{sym, ap, _∙_}
+use native.Mathlib.Omega.{arith}
+use denote.Ref.{now}
+use Rattle.report.specs.WrittenLaws.{wrote-as}
+use Rattle.lines.specs.Encoding.{kindOf, bodyOf, frameFor, sent}
+use Rattle.lines.specs.SaidLaws.{lettered-not, lettered-more, lettered-is, label-under}
+use borrow.Author.Needs.{needs}
+use Rattle.lines.proofs.requests.total.Statement.{statement}
+use Rattle.lines.proofs.requests.total.Tie as tie
+
+label-requires : tie.Need-label-requires
+label-requires c κs = search needs
+
+rest-requires : tie.Need-rest-requires
+rest-requires c κs = search needs
+
+broken-requires : tie.Need-broken-requires
+broken-requires c κs = search needs
+
+same-length : tie.Need-same-length
+same-length c = search needs
+
+returns : tie.Need-returns
+returns c =
+    let s = now (c .before .before .before .before .before .before .before .before .before .args .s) in
+    wrote-as (ap sent (sym (lettered-not s (c .before .before .before .before .before .before .label .ensures) (c .before .before .before .before .before .rest .ensures) (c .before .before .before .before .if1 .taken)))) (c .before .before .broken .ensures)
+
+broken-requires-2 : tie.Need-broken-requires-2
+broken-requires-2 c κs = search needs
+
+same-length-2 : tie.Need-same-length-2
+same-length-2 c = search needs
+
+returns-2 : tie.Need-returns-2
+returns-2 c =
+    let s = now (c .before .before .before .before .before .before .before .before .before .before .args .s) in
+    wrote-as (ap sent (sym (lettered-more s (c .before .before .before .before .before .before .before .label .ensures) (c .before .before .before .before .before .before .rest .ensures) (c .before .before .before .before .if2 .taken)))) (c .before .before .broken2 .ensures)
+
+cast-t13 : tie.Need-cast-t13
+cast-t13 c = omega (arith, label-under _ _ (c .before .before .before .label .ensures) (c .before .if1 .left))
+
+slice-aggregate-put-frame : tie.Need-slice-aggregate-put-frame
+slice-aggregate-put-frame c = search needs
+
+slice-aggregate-put-frame-2 : tie.Need-slice-aggregate-put-frame-2
+slice-aggregate-put-frame-2 c = search needs
+
+put-frame-requires : tie.Need-put-frame-requires
+put-frame-requires c κs = search needs
+
+same-length-3 : tie.Need-same-length-3
+same-length-3 c = search needs
+
+returns-3 : tie.Need-returns-3
+unfolding sent frameFor kindOf bodyOf
+returns-3 c =
+    let s = now (c .before .before .before .before .before .before .before .before .before .before .before .before .args .s) in
+    wrote-as (ap sent (sym (lettered-is s (c .before .before .before .before .before .before .before .before .before .label .ensures) (c .before .before .before .before .before .before .before .before .rest .ensures) (c .before .before .before .before .before .before .before .if1 .left) (c .before .before .before .before .before .before .if2 .left)))) (c .before .before .put-frame .ensures)
+
+pub total-spec : {M : Type 1} → statement M
+total-spec =
+    tie.close
+    (tie.spec
+    label-requires
+    rest-requires
+    broken-requires
+    same-length
+    returns
+    broken-requires-2
+    same-length-2
+    returns-2
+    cast-t13
+    slice-aggregate-put-frame
+    slice-aggregate-put-frame-2
+    put-frame-requires
+    same-length-3
+    returns-3)
