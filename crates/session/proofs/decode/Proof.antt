@@ -136,20 +136,22 @@ returns-21 c = (rw (c .before .before .match .keys11, eq-eqb _ _ (c .before .if1
 returns-22 : tie.Need-returns-22
 unfolding says callOf decode linkIn
 returns-22 c =
-    let no = c .match .rest in
-    (rw (
-      ne-eqb _ _ (no .0 .0 .0 .0 .0 .0 .0 .0 .0 .0 .1),
-      ne-eqb _ _ (no .0 .0 .0 .0 .0 .0 .0 .0 .0 .1),
-      ne-eqb _ _ (no .0 .0 .0 .0 .0 .0 .0 .0 .1),
-      ne-eqb _ _ (no .0 .0 .0 .0 .0 .0 .0 .1),
-      ne-eqb _ _ (no .0 .0 .0 .0 .0 .0 .1),
-      ne-eqb _ _ (no .0 .0 .0 .0 .0 .1),
-      ne-eqb _ _ (no .0 .0 .0 .0 .1),
-      ne-eqb _ _ (no .0 .0 .0 .1),
-      ne-eqb _ _ (no .0 .0 .1),
-      ne-eqb _ _ (no .0 .1),
-      ne-eqb _ _ (no .1),
-    ), tt)
+    let no = c .match .rest in (
+      rw (
+        ne-eqb _ _ (no .0 .0 .0 .0 .0 .0 .0 .0 .0 .0 .1),
+        ne-eqb _ _ (no .0 .0 .0 .0 .0 .0 .0 .0 .0 .1),
+        ne-eqb _ _ (no .0 .0 .0 .0 .0 .0 .0 .0 .1),
+        ne-eqb _ _ (no .0 .0 .0 .0 .0 .0 .0 .1),
+        ne-eqb _ _ (no .0 .0 .0 .0 .0 .0 .1),
+        ne-eqb _ _ (no .0 .0 .0 .0 .0 .1),
+        ne-eqb _ _ (no .0 .0 .0 .0 .1),
+        ne-eqb _ _ (no .0 .0 .0 .1),
+        ne-eqb _ _ (no .0 .0 .1),
+        ne-eqb _ _ (no .0 .1),
+        ne-eqb _ _ (no .1),
+      ),
+      tt,
+    )
 
 pub decode-spec : {M : Type 1} → statement M
 decode-spec =
