@@ -40,7 +40,7 @@ pub fn told(answer: u64) -> Result<Option<usize>, Refusal> {
     }
 }
 
-/// Every refusal has the number of a cause: so it is proved of every call (`caused` of `register/Calls`, `pairs/Asking`, `chains/Replies`).
+/// Every refusal has the number of a cause: so it is proved of every call (`caused` of `register/Calls`, `pairs/Asking`, `chains/Replies`; `Totals` of `register/Questions`).
 fn refusal(number: u32) -> Refusal {
     Refusal::of(number).expect("a refusal has the number of a cause")
 }

@@ -11,7 +11,8 @@
 --                   what `totals` promises: for every book that the register represents, the total of each label
 --   totalOf k t     the answer whose number is k: the total t if k is 0, else refused with k
 --   totalAnswer s l the answer to asking for the total of the label l of the sheet s: the number of its links, or refused with 3
---   Totals self l a what `total` promises: for every book that the register represents, that answer; of other contents too, 16, then 3
+--   Totals self l a what `total` promises: for every book that the register represents, that answer; of other contents 16 or 3 on their
+--                   causes, else some number
 -- Assumes nothing: these are definitions.
 use mathlib.Core.Path.{_≡_}
 use mathlib.Core.List.{List}
@@ -70,5 +71,6 @@ pub record Totals (self : Register) (l : ℕ) (a : TotalAnswer) : Type 0 where
   -- over any contents
   pub foreign : (InRange self → ⊥) → a ≡ Refused (number not-open)
   pub refused : InRange self → labels ≤ l → a ≡ Refused (number bad-label)
+  pub given : InRange self → l < labels → (t : ℕ) × (a ≡ Total t)
   -- of a register that represents a book
   pub told : (b : Book) → Represents self b → a ≡ totalAnswer (b .sheet) l

@@ -299,6 +299,17 @@ fn the_order_of_refusals_of_edits() {
     }
 }
 
+/// After each edit, refusal and undo a total is the number of links with the label; a label above 25 has none.
+#[test]
+fn totals() {
+    assert_eq!(answers("total 200\nopen 3\ntotal a\nadd 0 a 1\nadd 1 a 1\nadd 0 b 1\nadd 0 a 1\ntotal a\ntotal b"), {
+        "refused 16, ok, total 0, ok, ok, ok, refused 5, total 2, total 1"
+    });
+    assert_eq!(answers("open 3\nadd 0 a 1\nadd 1 a 1\nremove 0 a 1\ntotal a\nundo\ntotal a\nundo\nundo\ntotal a\ntotal 26\nopen 2\ntotal 25"), {
+        "ok, ok, ok, ok, total 1, ok, total 2, ok, ok, total 0, refused 3, ok, total 0"
+    });
+}
+
 #[test]
 fn the_order_of_refusals_of_frames() {
     // Before any open: 15, then 14 for a wrong size, then 16; a refused open opens nothing.

@@ -21,7 +21,7 @@ returns : tie.Need-returns
 unfolding number
 returns c =
     let none = outside (c .before .before .args .t1) _ (c .before .ranged .ensures) (c .if1 .taken) in
-    record { foreign = λ _. refl; refused = λ i _. absurd (none i); told = λ b h. absurd (none (h .ranged)) }
+    record { foreign = λ _. refl; refused = λ i _. absurd (none i); given = λ i _. absurd (none i); told = λ b h. absurd (none (h .ranged)) }
 
 in-range : (c : tie.Else1) → InRange (c .before .before .args .t1)
 in-range c = inside (c .before .before .args .t1) (c .before .ranged .result) (c .before .ranged .ensures) (c .if1 .left)
@@ -31,6 +31,7 @@ unfolding number
 returns-2 c = record {
   foreign = λ o. absurd (o (in-range (c .before)));
   refused = λ _ _. refl;
+  given = λ _ h. absurd (omega (arith, c .if2 .taken));
   told = λ b h. sym (ap (λ (k : ℕ). totalOf k (total (b .sheet) (c .before .before .before .args .label))) (total-refused _ (c .if2 .taken)));
 }
 
@@ -44,6 +45,7 @@ returns-3 : tie.Need-returns-3
 returns-3 c = record {
   foreign = λ o. absurd (o (in-range (c .before .before)));
   refused = λ _ h. absurd (omega (arith, c .before .if2 .left));
+  given = λ _ _. (_, refl);
   told = λ b h.
       ap (λ (t : ℕ). Total t) (h .totals _ (c .before .if2 .left))
       ∙ sym (ap (λ (k : ℕ). totalOf k (total (b .sheet) (c .before .before .before .before .args .label))) (total-told _ (c .before .if2 .left)));
