@@ -15,6 +15,7 @@ ghost use Rattle.search.specs.Steps.{Untouched, Answered};
 ghost use Rattle.chains.specs.Replies.{Replies};
 use reader::Answer;
 use register::Register;
+use search::Ends;
 use search::Found;
 
 // The number of steps, which the list has; no chain of any length; or the number of a cause.
@@ -29,36 +30,32 @@ fn sought(
     register: Register,
     links: &[u32],
     count: usize,
-    n: usize,
     numbers: &[u8],
-    from: u16,
-    to: u16,
+    ends: Ends,
     work: &mut [u64],
     list: &mut [u32],
 ) -> Found
-    requires { ⌜ (count ≤ length (now links)) × (count ≤ maxLinks) × (n ≤ maxRecords) × (from < n) × (to < n) × (n * 64 ≤ length (now work)) × ((text : List ℕ) × (e : Expr) × InLimits text e × (now numbers ≡ code e)) ⌝ }
-    ensures { λ r. ⌜ Untouched (now (list .entry)) (now (list .exit)) r × ((text : List ℕ) (e : Expr) → InLimits text e → now (numbers .entry) ≡ code e → (b : Book) → Represents register b → n ≡ b .n → Spans (now (links .entry)) count (asked b) → Answered (asked b) e from to (now (list .entry)) (now (list .exit)) r) ⌝ }
+    requires { ⌜ (count ≤ length (now links)) × (count ≤ maxLinks) × (ends .n ≤ maxRecords) × (ends .from < ends .n) × (ends .to < ends .n) × (ends .n * 64 ≤ length (now work)) × ((text : List ℕ) × (e : Expr) × InLimits text e × (now numbers ≡ code e)) ⌝ }
+    ensures { λ r. ⌜ Untouched (now (list .entry)) (now (list .exit)) r × ((text : List ℕ) (e : Expr) → InLimits text e → now (numbers .entry) ≡ code e → (b : Book) → Represents register b → ends .n ≡ b .n → Spans (now (links .entry)) count (asked b) → Answered (asked b) e (ends .from) (ends .to) (now (list .entry)) (now (list .exit)) r) ⌝ }
 {
-    if register.is_withdrawn(from) {
+    if register.is_withdrawn(ends.from as u16) {
         return Found::Nowhere;
     }
-    if register.is_withdrawn(to) {
+    if register.is_withdrawn(ends.to as u16) {
         return Found::Nowhere;
     }
-    let t = tables::tables_of(numbers);
-    let follow = t.follow;
-    let pred = t.pred;
-    let enter = t.enter;
+    let tables = tables::tables_of(numbers);
+    let follow = tables.follow;
+    let predecessors = tables.pred;
+    let enter = tables.enter;
+    let accepting = tables.fin;
     search::first_chain(
-        links,
-        count,
-        n,
+        &links[0..count],
         &follow,
-        &pred,
+        &predecessors,
         &enter,
-        t.fin,
-        from as usize,
-        to as usize,
+        accepting,
+        ends,
         work,
         list,
     )
@@ -94,14 +91,13 @@ pub fn chain(
                 return ChainAnswer::Refused(book::SHORT_WORK);
             }
             let links = register.links();
+            let ends = Ends { n, from: x, to: y };
             let found = sought(
                 register,
                 &links.words,
                 links.count,
-                n,
                 &code[0..k],
-                from,
-                to,
+                ends,
                 work,
                 list,
             );

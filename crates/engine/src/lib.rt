@@ -8,7 +8,7 @@ ghost use Rattle.k2.specs.PairSets.{union, intersection, difference, product, t
 ghost use Rattle.tree.specs.Calls.{Answered, treeOf, listOf, treeOfOne, treeOfTwo};
 ghost use Rattle.register.specs.Calls.{callOf, Opens, Steps};
 ghost use Rattle.register.specs.Questions.{Sized, Listing, Locking, Withdrawal, Totals};
-ghost use Rattle.pairs.specs.Asking.{AsksPairs};
+ghost use Rattle.pairs.specs.Asking.{AsksPairs, Relates};
 ghost use Rattle.chains.specs.Replies.{Replies};
 ghost use Rattle.engine.specs.Inquiries.{Inquires};
 use chains::ChainAnswer;
@@ -123,6 +123,13 @@ pub fn pairs(register: Register, text: &[u8], work: &mut [u64], list: &mut [u32]
     ensures { λ a. ⌜ AsksPairs register (now (text .entry)) (length (now (work .entry))) (now (list .entry)) (now (list .exit)) a ⌝ }
 {
     pairs::pairs(register, text, work, list)
+}
+
+// The relation of an expression as rows of bits: bit from * 1024 + to of the first 16,384 words is 1 if the pair has a chain. The number of pairs is told.
+pub fn relation(register: Register, text: &[u8], work: &mut [u64], rows: &mut [u64]) -> PairsAnswer
+    ensures { λ a. ⌜ Relates register (now (text .entry)) (length (now (work .entry))) (now (rows .entry)) (now (rows .exit)) a ⌝ }
+{
+    pairs::relation(register, text, work, rows)
 }
 
 // The first chain of an expression between two records.

@@ -5,37 +5,37 @@ use Prim.Native.Nat.{_-_, _≤_, _<_}
 use native.Mathlib.Omega.{arith}
 use lib.ListN.{length, getD, length-set}
 use Rattle.search.proofs.CommitLaws.{Committing, committing-none, committing-more, committed, cleared, held}
-use Rattle.search.proofs.commit.Statement.{statement}
-use Rattle.search.proofs.commit.Tie as tie
+use Rattle.search.proofs.levels.commit.Statement.{statement}
+use Rattle.search.proofs.levels.commit.Tie as tie
 
 abbrev Inv-loop : tie.InvT-loop
-Inv-loop work₀ seen₀ next₀ list c n mark records₀ masks₀ i₀ work seen next records masks i =
-    (i ≤ c) × (length work ≡ length work₀) × (length seen ≡ length seen₀) × (length next ≡ length next₀) × (length records ≡ length records₀) × (length masks ≡ length masks₀) × Committing work₀ seen₀ next₀ mark list i work seen next records masks
+Inv-loop work₀ seen₀ next₀ list mark records₀ masks₀ i₀ work seen next records masks i =
+    (i ≤ length list) × (length work ≡ length work₀) × (length seen ≡ length seen₀) × (length next ≡ length next₀) × (length records ≡ length records₀) × (length masks ≡ length masks₀) × Committing work₀ seen₀ next₀ mark list i work seen next records masks
 
 abbrev μ-loop : tie.MeasureT-loop
-μ-loop work₀ seen₀ next₀ list c n mark records₀ masks₀ i₀ work seen next records masks i = c - i
+μ-loop work₀ seen₀ next₀ list mark records₀ masks₀ i₀ work seen next records masks i = length list - i
 
 loop-holds : tie.Need-loop-holds Inv-loop μ-loop
 loop-holds c = (omega arith, refl, refl, refl, refl, refl, committing-none _ _ _ _ _ _ _)
 
 -- the record at i
-inside : (c : tie.In-loop Inv-loop μ-loop) → getD (c .before .before .before .before .before .before .before .before .args .list .now) (c .before .loop .i) 0 < c .before .before .before .before .before .before .before .before .args .n
-inside c = c .before .before .before .before .before .before .before .before .pre .8 .small (c .before .loop .i) (omega arith)
+inside : (c : tie.In-loop Inv-loop μ-loop) → getD (c .before .before .before .before .before .before .before .before .args .list .now) (c .before .loop .i) 0 < c .before .before .before .before .before .before .before .before .pre .4 .0
+inside c = c .before .before .before .before .before .before .before .before .pre .4 .4 .small (c .before .loop .i) (omega arith)
 
-mul-r : tie.Need-mul-r Inv-loop μ-loop
-mul-r c = omega arith
+mul-at : tie.Need-mul-at Inv-loop μ-loop
+mul-at c = omega arith
 
-shared-slice-read-r : tie.Need-shared-slice-read-r Inv-loop μ-loop
-shared-slice-read-r c = omega arith
+shared-slice-read-at : tie.Need-shared-slice-read-at Inv-loop μ-loop
+shared-slice-read-at c = omega arith
 
-cast-r : tie.Need-cast-r Inv-loop μ-loop
-cast-r c = omega (arith, inside (c .before))
+cast-at : tie.Need-cast-at Inv-loop μ-loop
+cast-at c = omega (arith, inside (c .before))
 
-mul-m : tie.Need-mul-m Inv-loop μ-loop
-mul-m c = omega (arith, inside (c .before))
+mul-states : tie.Need-mul-states Inv-loop μ-loop
+mul-states c = omega (arith, inside (c .before))
 
-slice-read-m : tie.Need-slice-read-m Inv-loop μ-loop
-slice-read-m c = omega (arith, inside (c .before .before))
+slice-read-states : tie.Need-slice-read-states Inv-loop μ-loop
+slice-read-states c = omega (arith, inside (c .before .before))
 
 stamp-requires : tie.Need-stamp-requires Inv-loop μ-loop
 stamp-requires c κs = let z = inside (c .before .before .before) in (omega arith, omega arith)
@@ -87,7 +87,7 @@ loop-again c =
     let l = c .before .before .before .before .before .before .before .before .before .loop in
     let T = c .before .before .before .before .stamp in
     let z = inside (c .before .before .before .before .before .before .before .before) in
-    (omega arith, T .kept .0 ∙ l .inv .1, simp length-set (l .inv .2), simp length-set (l .inv .3), simp length-set (l .inv .4), simp length-set (l .inv .5), committing-more (l .inv .6) (c .before .before .before .before .before .before .before .before .before .before .before .before .before .before .before .before .pre .8) (omega arith) (T .ensures) (omega arith) (omega arith) (omega arith) (omega arith))
+    (omega arith, T .kept .0 ∙ l .inv .1, simp length-set (l .inv .2), simp length-set (l .inv .3), simp length-set (l .inv .4), simp length-set (l .inv .5), committing-more (l .inv .6) (c .before .before .before .before .before .before .before .before .before .before .before .before .before .before .before .before .pre .4 .4) (omega arith) (T .ensures) (omega arith) (omega arith) (omega arith) (omega arith))
 
 same-length : tie.Need-same-length Inv-loop μ-loop
 same-length c = c .before .loop .inv .1
@@ -108,9 +108,9 @@ returns : tie.Need-returns Inv-loop μ-loop
 returns c =
     let l = c .before .loop in
     let p = c .before .before .before .before .before .before .before .before .pre in
-    let e : l .i ≡ c .before .before .before .before .before .before .before .before .args .c = omega arith in
+    let e : l .i ≡ length (c .before .before .before .before .before .before .before .before .args .list .now) = omega arith in
     let I = rw e at (l .inv .6) in
-    (committed I (p .8), cleared I (p .8), held I (p .8) (p .0))
+    (cleared I (p .4 .4), held I (p .4 .4) (p .4 .1), λ n L. committed I L)
 
 pub commit-spec : {M : Type 1} → statement M
 commit-spec =
@@ -119,11 +119,11 @@ commit-spec =
     Inv-loop
     μ-loop
     loop-holds
-    mul-r
-    shared-slice-read-r
-    cast-r
-    mul-m
-    slice-read-m
+    mul-at
+    shared-slice-read-at
+    cast-at
+    mul-states
+    slice-read-states
     stamp-requires
     mul-seen
     slice-read-seen

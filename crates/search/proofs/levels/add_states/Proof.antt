@@ -7,24 +7,24 @@ use Rattle.k2.specs.Bits.{digit}
 use Rattle.automaton.specs.Automata.{On}
 use Rattle.search.proofs.LowestLaws.{some-digit}
 use Rattle.search.proofs.FrontierLaws.{added-zero, added-past, added-more, listed-old, list-room, listed-new}
-use Rattle.search.proofs.add_states.Statement.{statement}
-use Rattle.search.proofs.add_states.Tie as tie
+use Rattle.search.proofs.levels.add_states.Statement.{statement}
+use Rattle.search.proofs.levels.add_states.Tie as tie
 
 -- there is a state to add
-state : (c : tie.Else1) → (q : ℕ) × (q < 64) × On (digit (c .before .args .v) q)
-state c = some-digit 64 (c .before .args .v) (omega arith) (omega arith)
+state : (c : tie.Else1) → (q : ℕ) × (q < 64) × On (digit (c .before .before .args .entry .states) q)
+state c = some-digit 64 (c .before .before .args .entry .states) (omega arith) (omega arith)
 
-room : (c : tie.Else3) → c .before .before .before .before .args .c < 1024
+room : (c : tie.Else3) → c .before .before .before .before .before .before .before .args .entry .listed < 1024
 room c =
-    let s = c .before .before .before .before .args in
-    let p = c .before .before .before .before .pre in
-    list-room (p .4) (s .r) (s .v) (p .3) (omega arith) (state (c .before .before .before)) (p .1) (c .if3 .left)
+    let s = c .before .before .before .before .before .before .before .args in
+    let p = c .before .before .before .before .before .before .before .pre in
+    list-room (p .4) (s .entry .at) (s .entry .states) (p .3) (omega arith) (state (c .before .before .before .before .before)) (p .1) (c .if3 .left)
 
 returns : tie.Need-returns
-returns c = (c .before .pre .4, added-zero _ _ _ _ (c .if1 .taken))
+returns c = (c .before .before .pre .4, added-zero _ _ _ _ (c .if1 .taken))
 
 returns-2 : tie.Need-returns-2
-returns-2 c = (c .before .before .pre .4, added-past _ _ _ _ (c .if2 .taken))
+returns-2 c = (c .before .before .before .before .pre .4, added-past _ _ _ _ (c .if2 .taken))
 
 mul-old : tie.Need-mul-old
 mul-old c = search needs
@@ -43,9 +43,9 @@ same-length c = search needs
 
 returns-3 : tie.Need-returns-3
 returns-3 c =
-    let s = c .before .before .before .before .args in
-    let p = c .before .before .before .before .pre in
-    (listed-old (p .4) (s .r) (s .v) (p .3) (omega arith) (state (c .before .before .before)) (p .1) (omega arith), added-more _ _ _ _ (omega arith) (omega arith))
+    let s = c .before .before .before .before .before .before .before .args in
+    let p = c .before .before .before .before .before .before .before .pre in
+    (listed-old (p .4) (s .entry .at) (s .entry .states) (p .3) (omega arith) (state (c .before .before .before .before .before)) (p .1) (omega arith), added-more _ _ _ _ (omega arith) (omega arith))
 
 cast-list : tie.Need-cast-list
 cast-list c = search needs
@@ -67,9 +67,9 @@ same-length-3 c = search needs
 
 returns-4 : tie.Need-returns-4
 returns-4 c =
-    let s = c .before .before .before .before .args in
-    let p = c .before .before .before .before .pre in
-    (listed-new (p .4) (s .r) (s .v) (p .3) (omega arith) (state (c .before .before .before)) (p .1) (c .if3 .left) (p .2), added-more _ _ _ _ (omega arith) (omega arith))
+    let s = c .before .before .before .before .before .before .before .args in
+    let p = c .before .before .before .before .before .before .before .pre in
+    (listed-new (p .4) (s .entry .at) (s .entry .states) (p .3) (omega arith) (state (c .before .before .before .before .before)) (p .1) (c .if3 .left) (p .2), added-more _ _ _ _ (omega arith) (omega arith))
 
 pub add-states-spec : {M : Type 1} → statement M
 add-states-spec =
