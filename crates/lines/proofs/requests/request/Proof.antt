@@ -237,7 +237,7 @@ same-requires-10 : tie.Need-same-requires-10
 same-requires-10 c κs = search needs
 
 numbered-requires-4 : tie.Need-numbered-requires-4
-numbered-requires-4 c κs = start9 (c .before .before .before) .pre
+numbered-requires-4 c κs = start9 (c .before .before .before .before) .pre
 
 same-length-10 : tie.Need-same-length-10
 same-length-10 c = search needs
@@ -257,7 +257,7 @@ same-requires-11 : tie.Need-same-requires-11
 same-requires-11 c κs = search needs
 
 numbered-requires-5 : tie.Need-numbered-requires-5
-numbered-requires-5 c κs = start10 (c .before .before .before) .pre
+numbered-requires-5 c κs = start10 (c .before .before .before .before) .pre
 
 same-length-11 : tie.Need-same-length-11
 same-length-11 c = search needs
