@@ -4,8 +4,8 @@ ghost use mathlib.Core.Path.{_≡_};
 ghost use mathlib.Core.List.{[], _∷_};
 ghost use lib.ListN.{length};
 ghost use Rattle.book.specs.Book.{add, remove, lock, unlock, withdraw, reinstate, edit, undo};
-ghost use Rattle.k2.specs.PairSets.{union, intersection, difference, product, transpose, closure};
-ghost use Rattle.tree.specs.Calls.{Answered, treeOf, listOf, treeOfOne, treeOfTwo};
+ghost use Rattle.k2.specs.PairSets.{union, intersection, difference, transpose, closure};
+ghost use Rattle.tree.specs.Calls.{productSensed, Answered, treeOf, listOf, treeOfOne, treeOfTwo};
 ghost use Rattle.register.specs.Calls.{callOf, Opens, Steps};
 ghost use Rattle.register.specs.Questions.{Sized, Listing, Locking, Withdrawal, Totals};
 ghost use Rattle.pairs.specs.Asking.{AsksPairs, Relates};
@@ -198,18 +198,20 @@ pub fn tree_difference(
     tree::difference(n, a, b, out, work)
 }
 
-// The tree of the product: the pairs for which some middle record serves.
+// The tree of the product, each operand read with its sense: the pairs for which some middle record serves.
 pub fn tree_product(
     n: usize,
     a: &[u64],
+    a_sense: tree::Sense,
     b: &[u64],
+    b_sense: tree::Sense,
     out: &mut [u64],
     work: &mut [u64],
 ) -> tree::Answer
     ensures { λ r. ⌜ Answered n [] (now (a .entry) ∷ now (b .entry) ∷ []) (length (now (work .entry)))
-        (treeOfTwo (product n) n (now (a .entry)) (now (b .entry))) (now (out .entry)) (now (out .exit)) r ⌝ }
+        (treeOfTwo (productSensed n «a_sense» «b_sense») n (now (a .entry)) (now (b .entry))) (now (out .entry)) (now (out .exit)) r ⌝ }
 {
-    tree::product(n, a, b, out, work)
+    tree::product(n, a, a_sense, b, b_sense, out, work)
 }
 
 // The tree of the pairs exchanged.
