@@ -8,14 +8,18 @@
  * which the first min(total, list_len) are written; a chain or a tree that is longer than its list is refused. A refused call leaves state and list as
  * they were; words of a list past the answer, and of a state past DATING_STATE_WORDS, are never touched; work may hold anything after a call. The numbers:
  *
- *    1  n outside 1 to 1,024                        9  expression outside the grammar
- *    2  record not below n                         10  expression over 256 bytes, 63 letters or 8 deep
- *    3  label above 25                             11  lent tree not well formed
- *    4  an end of the link is locked               12  work (or state) shorter than stated
- *    5  link present, or record locked, already    13  chain or tree longer than its list
- *    6  link absent, or record not locked          14  (programs only: frame broken)
- *    7  4,096 links present                        15  (programs only: kind unknown)
- *    8  no edit held that could be undone          16  the words are not those of a register
+ *    1  n outside 1 to 1,024                       10  expression over 256 bytes, 63 letters or 8 deep
+ *    2  record not below n                         11  lent tree not well formed
+ *    3  label above 25                             12  work (or state) shorter than stated
+ *    4  an end of the link, or the record to       13  chain or tree longer than its list
+ *       withdraw, is locked                        14  (programs only: frame broken)
+ *    5  link present, or record locked or          15  (programs only: kind unknown)
+ *       withdrawn, already                         16  the words are not those of a register
+ *    6  link absent, record not locked, or         17  a link touches the record to withdraw
+ *       record to reinstate in use                 18  a withdrawn record named in add, remove, lock or
+ *    7  4,096 links present                            unlock
+ *    8  no edit held that could be undone
+ *    9  expression outside the grammar
  *
  * tests/declarations.rs holds this file to the Rattle source.
  */
@@ -46,6 +50,9 @@ uint32_t dating_add(uint32_t *state, size_t state_len, uint16_t from, uint8_t la
 uint32_t dating_remove(uint32_t *state, size_t state_len, uint16_t from, uint8_t label, uint16_t to);
 uint32_t dating_lock(uint32_t *state, size_t state_len, uint16_t record);
 uint32_t dating_unlock(uint32_t *state, size_t state_len, uint16_t record);
+/* A withdrawn record has no links and no lock, and supports nothing, not even itself: no pair and no chain has it. */
+uint32_t dating_withdraw(uint32_t *state, size_t state_len, uint16_t record);
+uint32_t dating_reinstate(uint32_t *state, size_t state_len, uint16_t record);
 uint32_t dating_undo(uint32_t *state, size_t state_len);
 
 /* n; 0 if the words are no register's. */
@@ -54,6 +61,8 @@ uint32_t dating_size(const uint32_t *state, size_t state_len);
 uint64_t dating_links(const uint32_t *state, size_t state_len, uint32_t *list, size_t list_len);
 /* 1 if the record is locked, else 0. */
 uint32_t dating_locked(const uint32_t *state, size_t state_len, uint16_t record);
+/* 1 if the record is withdrawn, else 0. */
+uint32_t dating_withdrawn(const uint32_t *state, size_t state_len, uint16_t record);
 /* The number of links with the label, which the register keeps: none is counted. A label above 25 is refused with 3. */
 uint64_t dating_total(const uint32_t *state, size_t state_len, uint8_t label);
 

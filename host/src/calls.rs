@@ -4,13 +4,13 @@
 //! chain; [`REFUSED`] + the number of a refusal. Links and pairs may be more than the list takes: the number is the total, of which the
 //! first min(total, list.len()) are written. A refused call leaves the state and the list as they were, and words of a list past
 //! the answer are never touched; work may hold anything after a call. A state may be longer than a register's words: its front is the
-//! register, and no call touches the words past it. Words that are no register's (too few, a counter out of range, a lock above 1) are
+//! register, and no call touches the words past it. Words that are no register's (too few, a counter out of range, a mark above 2) are
 //! refused with 16.
 
 use crate::Refusal;
 
 /// The words of a register: n, the number of links, the place of the next held edit, the number of held edits, then 4,096 words of links,
-/// 256 of held edits, 1,024 of locks, 26 of totals. Words saved before the totals, 5,380 of them, are refused with 16.
+/// 256 of held edits, 1,024 of marks (1 locked, 2 withdrawn), 26 of totals. Words saved before the totals, 5,380 of them, are refused with 16.
 pub const STATE_WORDS: usize = 5406;
 
 /// The answer to a chain question if there is no chain.
@@ -53,10 +53,13 @@ extern "C" {
     fn dating_remove(state: *mut u32, state_len: usize, from: u16, label: u8, to: u16) -> u32;
     fn dating_lock(state: *mut u32, state_len: usize, record: u16) -> u32;
     fn dating_unlock(state: *mut u32, state_len: usize, record: u16) -> u32;
+    fn dating_withdraw(state: *mut u32, state_len: usize, record: u16) -> u32;
+    fn dating_reinstate(state: *mut u32, state_len: usize, record: u16) -> u32;
     fn dating_undo(state: *mut u32, state_len: usize) -> u32;
     fn dating_size(state: *const u32, state_len: usize) -> u32;
     fn dating_links(state: *const u32, state_len: usize, list: *mut u32, list_len: usize) -> u64;
     fn dating_locked(state: *const u32, state_len: usize, record: u16) -> u32;
+    fn dating_withdrawn(state: *const u32, state_len: usize, record: u16) -> u32;
     fn dating_total(state: *const u32, state_len: usize, label: u8) -> u64;
     fn dating_pairs(
         state: *const u32,
@@ -189,6 +192,14 @@ pub fn unlock(state: &mut [u32], record: u16) -> u32 {
     unsafe { dating_unlock(state.as_mut_ptr(), state.len(), record) }
 }
 
+pub fn withdraw(state: &mut [u32], record: u16) -> u32 {
+    unsafe { dating_withdraw(state.as_mut_ptr(), state.len(), record) }
+}
+
+pub fn reinstate(state: &mut [u32], record: u16) -> u32 {
+    unsafe { dating_reinstate(state.as_mut_ptr(), state.len(), record) }
+}
+
 pub fn undo(state: &mut [u32]) -> u32 {
     unsafe { dating_undo(state.as_mut_ptr(), state.len()) }
 }
@@ -206,6 +217,11 @@ pub fn links(state: &[u32], list: &mut [u32]) -> u64 {
 /// 1 if the record is locked, else 0.
 pub fn locked(state: &[u32], record: u16) -> u32 {
     unsafe { dating_locked(state.as_ptr(), state.len(), record) }
+}
+
+/// 1 if the record is withdrawn, else 0.
+pub fn withdrawn(state: &[u32], record: u16) -> u32 {
+    unsafe { dating_withdrawn(state.as_ptr(), state.len(), record) }
 }
 
 /// The number of links with a label, or 3; nothing is counted.

@@ -23,16 +23,18 @@ pub enum Refusal {
     Frame = 14,
     Kind = 15,
     NotOpened = 16,
+    Touched = 17,
+    Withdrawn = 18,
 }
 
 /// Every cause, by ascending number, with its meaning.
-const CAUSES: [(Refusal, &str); 16] = [
+const CAUSES: [(Refusal, &str); 18] = [
     (Refusal::Size, "the number of records is outside 1 to 1,024"),
     (Refusal::Record, "a record is not below the number of records"),
     (Refusal::Label, "the label is above 25: it is no letter from a to z"),
-    (Refusal::Locked, "an end of the link is locked"),
-    (Refusal::Already, "the link is present, or the record is locked, already"),
-    (Refusal::Absent, "the link is absent, or the record is not locked"),
+    (Refusal::Locked, "an end of the link, or the record to withdraw, is locked"),
+    (Refusal::Already, "the link is present, or the record is locked or withdrawn, already"),
+    (Refusal::Absent, "the link is absent, the record is not locked, or the record to reinstate is in use"),
     (Refusal::Full, "4,096 links are present"),
     (Refusal::NoneHeld, "no edit is held that could be undone"),
     (Refusal::Grammar, "the expression is outside the grammar"),
@@ -43,16 +45,18 @@ const CAUSES: [(Refusal, &str); 16] = [
     (Refusal::Frame, "the frame is broken"),
     (Refusal::Kind, "the kind is unknown"),
     (Refusal::NotOpened, "no register is opened: the words are not those of a register"),
+    (Refusal::Touched, "a link touches the record to withdraw"),
+    (Refusal::Withdrawn, "the record is withdrawn"),
 ];
 
 impl Refusal {
-    /// The cause with this number, from 1 to 16.
+    /// The cause with this number, from 1 to 18.
     pub fn of(number: u32) -> Option<Refusal> {
         let (cause, _) = CAUSES.get((number as usize).checked_sub(1)?)?;
         Some(*cause)
     }
 
-    /// From 1 to 16.
+    /// From 1 to 18.
     pub fn number(self) -> u32 {
         self as u32
     }
@@ -77,11 +81,11 @@ mod tests {
 
     #[test]
     fn numbers_and_causes_belong_together() {
-        for number in 1..=16 {
+        for number in 1..=18 {
             let cause = Refusal::of(number).unwrap();
             assert_eq!((cause.number(), CAUSES[number as usize - 1].0), (number, cause));
         }
-        assert_eq!((Refusal::of(0), Refusal::of(17), Refusal::of(u32::MAX)), (None, None, None));
-        assert_eq!(Refusal::Locked.to_string(), "refused 4: an end of the link is locked");
+        assert_eq!((Refusal::of(0), Refusal::of(19), Refusal::of(u32::MAX)), (None, None, None));
+        assert_eq!(Refusal::Withdrawn.to_string(), "refused 18: the record is withdrawn");
     }
 }

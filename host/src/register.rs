@@ -5,7 +5,7 @@ use crate::space::{chain_work, longest_chain, most_pairs, tree_work};
 use crate::{Links, Pairs, Refusal, Steps};
 use std::fmt::{self, Debug, Formatter};
 
-/// A register of n records, with its links, its locks and the latest 256 edits.
+/// A register of n records, with its links, its locked and withdrawn records and the latest 256 edits.
 ///
 /// It takes 21,624 bytes, and with the first question of each kind the space for it: for 1,024 records 5.6 MB and 4.2 MB (pairs), or
 /// 0.5 MB and 0.3 MB (chains), of which the system gives what is written to. [`pairs_in`](Register::pairs_in) and
@@ -17,7 +17,7 @@ pub struct Register {
 }
 
 impl Register {
-    /// A register of n records, n from 1 to 1,024, with no links and no locks.
+    /// A register of n records, n from 1 to 1,024, with no links and no locks, and every record in use.
     pub fn fresh(n: u16) -> Result<Register, Refusal> {
         let mut words = vec![0; STATE_WORDS].into_boxed_slice();
         done(calls::fresh(n, &mut words))?;
@@ -62,13 +62,38 @@ impl Register {
         done(calls::unlock(&mut self.words, record))
     }
 
-    /// Takes back the latest edit that is still held: a link or a lock. At most 256 are held.
+    /// Withdraws a record that no link touches and that is not locked. It takes no link and no lock then, and supports nothing, not even itself:
+    /// zero steps do not join it, and no chain begins or ends there.
+    ///
+    /// ```
+    /// # let mut register = dating::Register::fresh(2)?;
+    /// register.withdraw(1)?;
+    /// assert_eq!(register.pairs("a*")?.collect::<Vec<_>>(), [(0, 0)]);
+    /// assert_eq!(register.add(0, 'a', 1), Err(dating::Refusal::Withdrawn));
+    /// register.reinstate(1)?;
+    /// assert_eq!(register.pairs("a*")?.collect::<Vec<_>>(), [(0, 0), (1, 1)]);
+    /// # Ok::<(), dating::Refusal>(())
+    /// ```
+    pub fn withdraw(&mut self, record: u16) -> Result<(), Refusal> {
+        done(calls::withdraw(&mut self.words, record))
+    }
+
+    /// Takes a withdrawn record into use again.
+    pub fn reinstate(&mut self, record: u16) -> Result<(), Refusal> {
+        done(calls::reinstate(&mut self.words, record))
+    }
+
+    /// Takes back the latest edit that is still held: of a link, a lock or a withdrawn record. At most 256 are held.
     pub fn undo(&mut self) -> Result<(), Refusal> {
         done(calls::undo(&mut self.words))
     }
 
     pub fn is_locked(&self, record: u16) -> bool {
         calls::locked(&self.words, record) == 1
+    }
+
+    pub fn is_withdrawn(&self, record: u16) -> bool {
+        calls::withdrawn(&self.words, record) == 1
     }
 
     /// The number of links with this letter, which the register keeps: none is counted.

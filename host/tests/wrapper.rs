@@ -55,6 +55,20 @@ fn edits_locks_and_undo() {
     assert_eq!(register.lock(1), Err(Refusal::Already));
     assert_eq!(register.unlock(0), Err(Refusal::Absent));
     assert_eq!(register.words(), before.words());
+    register.withdraw(3).unwrap();
+    assert!(register.is_withdrawn(3) && !register.is_withdrawn(0) && !register.is_withdrawn(4));
+    let before = register.clone();
+    assert_eq!(register.lock(3), Err(Refusal::Withdrawn));
+    assert_eq!(register.withdraw(0), Err(Refusal::Touched));
+    assert_eq!((register.withdraw(1), register.withdraw(3)), (Err(Refusal::Locked), Err(Refusal::Already)));
+    assert_eq!(register.reinstate(0), Err(Refusal::Absent));
+    assert_eq!(register.words(), before.words());
+    assert!(register.chain(3, 3, "a*").unwrap().is_none());
+    register.reinstate(3).unwrap();
+    for _ in 0..2 {
+        register.undo().unwrap();
+    }
+    assert!(!register.is_withdrawn(3) && register.chain(3, 3, "a*").unwrap().is_some());
     for _ in 0..4 {
         register.undo().unwrap();
     }

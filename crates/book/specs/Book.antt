@@ -1,14 +1,15 @@
 -- The plain book: n, a sheet, and the pile of earlier sheets; what each call answers, and the book after it.
 --   Link            from, label, to
---   Sheet           the set of links and the set of locked records, each a list in which every member stands once
+--   Sheet           the set of links, the set of locked records and the set of withdrawn ones, each a list in which every member stands once
 --   Book            n, the sheet as it stands, and the pile of earlier sheets, the latest on top
---   Edit, Call      add, remove, lock and unlock with any arguments; and undo
---   present, isLocked
---                   whether a link is in the sheet, and whether a record is locked
+--   Edit, Call      add, remove, lock, unlock, withdraw and reinstate with any arguments; and undo
+--   present, isLocked, isWithdrawn
+--                   whether a link is in the sheet, and whether a record is locked, or withdrawn
+--   touched r ks    whether a link of ks has the record r as an end
 --   total s l       how many links of the sheet have the label l
 --   totalNumber l   the answer to asking for the total of a label: 0, or 3 above 25
 --   causes n s e    the causes against the edit e of the sheet s, in their order
---   edited e s      the sheet s with the link or lock put in or taken out
+--   edited e s      the sheet s with the link, lock or withdrawn record put in or taken out
 --   answer b c      the book's answer to a call: 0 if it is accepted, else the number of the first cause
 --   next b c        the book after a call
 --   freshAnswer n   the answer to asking for a register of n records
@@ -17,12 +18,12 @@
 --                   a whole history: the answer to each call, and the book at the end
 -- Assumes nothing: these are definitions.
 use mathlib.Core.List.{List, [], _∷_}
-use mathlib.Core.Bool.{Bool, not, _||_, _&&_}
+use mathlib.Core.Bool.{Bool, false, not, _||_, _&&_}
 use Prim.Native.Nat.{ℕ, zero, suc}
 use lib.ListN.{length, take}
 use lib.Dec.{leb, ltb, eqb}
 use Rattle.book.specs.Basics.{has, without, tally}
-use Rattle.book.specs.Causes.{Cause, bad-size, no-record, bad-label, locked-end, already, missing, full, none-held, number, firstNumber, maxRecords, labels, maxLinks, maxHeld}
+use Rattle.book.specs.Causes.{Cause, bad-size, no-record, bad-label, locked-end, already, missing, full, none-held, touched-record, withdrawn-record, number, firstNumber, maxRecords, labels, maxLinks, maxHeld}
 
 pub record Link : Type 0 where
   pub from : ℕ
@@ -32,6 +33,7 @@ pub record Link : Type 0 where
 pub record Sheet : Type 0 where
   pub links : List Link
   pub locks : List ℕ
+  pub withdrawn : List ℕ
 
 pub record Book : Type 0 where
   pub n : ℕ
@@ -41,6 +43,7 @@ pub record Book : Type 0 where
 pub data Edit : Type 0 where
   add remove : Link → Edit
   lock unlock : ℕ → Edit
+  withdraw reinstate : ℕ → Edit
 
 pub data Call : Type 0 where
   edit : Edit → Call
@@ -55,6 +58,13 @@ present s k = has sameLink k (s .links)
 abbrev pub isLocked : Sheet → ℕ → Bool
 isLocked s r = has eqb r (s .locks)
 
+abbrev pub isWithdrawn : Sheet → ℕ → Bool
+isWithdrawn s r = has eqb r (s .withdrawn)
+
+unfoldable pub touched : ℕ → List Link → Bool
+touched r [] = false
+touched r (k ∷ ks) = (eqb (k .from) r || eqb (k .to) r) || touched r ks
+
 unfoldable pub total : Sheet → ℕ → ℕ
 total s l = tally (λ k. eqb (k .label) l) (s .links)
 
@@ -65,26 +75,33 @@ totalNumber l = firstNumber ((bad-label, leb labels l) ∷ [])
 unfoldable pub causes : ℕ → Sheet → Edit → List (Cause × Bool)
 causes n s (add k) =
     (no-record, leb n (k .from) || leb n (k .to)) ∷
+    (withdrawn-record, isWithdrawn s (k .from) || isWithdrawn s (k .to)) ∷
     (bad-label, leb labels (k .label)) ∷
     (locked-end, isLocked s (k .from) || isLocked s (k .to)) ∷
     (already, present s k) ∷
     (full, leb maxLinks (length (s .links))) ∷ []
 causes n s (remove k) =
     (no-record, leb n (k .from) || leb n (k .to)) ∷
+    (withdrawn-record, isWithdrawn s (k .from) || isWithdrawn s (k .to)) ∷
     (bad-label, leb labels (k .label)) ∷
     (locked-end, isLocked s (k .from) || isLocked s (k .to)) ∷
     (missing, not (present s k)) ∷ []
-causes n s (lock r) = (no-record, leb n r) ∷ (already, isLocked s r) ∷ []
-causes n s (unlock r) = (no-record, leb n r) ∷ (missing, not (isLocked s r)) ∷ []
+causes n s (lock r) = (no-record, leb n r) ∷ (withdrawn-record, isWithdrawn s r) ∷ (already, isLocked s r) ∷ []
+causes n s (unlock r) = (no-record, leb n r) ∷ (withdrawn-record, isWithdrawn s r) ∷ (missing, not (isLocked s r)) ∷ []
+causes n s (withdraw r) =
+    (no-record, leb n r) ∷ (locked-end, isLocked s r) ∷ (already, isWithdrawn s r) ∷ (touched-record, touched r (s .links)) ∷ []
+causes n s (reinstate r) = (no-record, leb n r) ∷ (missing, not (isWithdrawn s r)) ∷ []
 
 unfoldable pub editAnswer : ℕ → Sheet → Edit → ℕ
 editAnswer n s e = firstNumber (causes n s e)
 
 unfoldable pub edited : Edit → Sheet → Sheet
-edited (add k) s = record { links = k ∷ s .links; locks = s .locks }
-edited (remove k) s = record { links = without sameLink k (s .links); locks = s .locks }
-edited (lock r) s = record { links = s .links; locks = r ∷ s .locks }
-edited (unlock r) s = record { links = s .links; locks = without eqb r (s .locks) }
+edited (add k) s = record { links = k ∷ s .links; locks = s .locks; withdrawn = s .withdrawn }
+edited (remove k) s = record { links = without sameLink k (s .links); locks = s .locks; withdrawn = s .withdrawn }
+edited (lock r) s = record { links = s .links; locks = r ∷ s .locks; withdrawn = s .withdrawn }
+edited (unlock r) s = record { links = s .links; locks = without eqb r (s .locks); withdrawn = s .withdrawn }
+edited (withdraw r) s = record { links = s .links; locks = s .locks; withdrawn = r ∷ s .withdrawn }
+edited (reinstate r) s = record { links = s .links; locks = s .locks; withdrawn = without eqb r (s .withdrawn) }
 
 -- with the answer 0 the sheet goes on top of the pile, of which the latest 256 are kept, and the edited one takes its place; else nothing changes
 unfoldable pub turned : ℕ → Book → Sheet → Book
@@ -113,7 +130,7 @@ unfoldable pub freshAnswer : ℕ → ℕ
 freshAnswer n = firstNumber ((bad-size, ltb n 1 || ltb maxRecords n) ∷ [])
 
 unfoldable pub fresh : ℕ → Book
-fresh n = record { n = n; sheet = record { links = []; locks = [] }; pile = [] }
+fresh n = record { n = n; sheet = record { links = []; locks = []; withdrawn = [] }; pile = [] }
 
 unfoldable pub answers : Book → List Call → List ℕ
 answers b [] = []

@@ -1,4 +1,4 @@
--- Cases of the plain book: the edits of the sample (S7.8), each number from 2 to 8 with the first cause in order winning, what is not held,
+-- Cases of the plain book: the edits of the sample (S7.8), each number from 2 to 8, 17 and 18 with the first cause in order winning, what is not held,
 -- 257 edits and 257 undos, and a full register. Assumes nothing.
 use mathlib.Core.Path.{_≡_, refl, ap}
 use mathlib.Core.List.{List, [], _∷_, _++_, map}
@@ -9,7 +9,7 @@ use lib.ListN.{length, replicate}
 use borrow.Author.Tests.{lt-leb, le-leb}
 use Rattle.book.specs.Basics.{has, without, tally}
 use Rattle.book.specs.Causes.{number, firstNumber, maxLinks}
-use Rattle.book.specs.Book.{Link, sameLink, Sheet, add, remove, lock, unlock, Call, edit, undo, causes, editAnswer, edited, turned, undoAnswer, undone, freshAnswer, total, totalNumber, answer, next, fresh, answers, after}
+use Rattle.book.specs.Book.{Link, sameLink, Sheet, add, remove, lock, unlock, withdraw, reinstate, Call, edit, undo, touched, causes, editAnswer, edited, turned, undoAnswer, undone, freshAnswer, total, totalNumber, answer, next, fresh, answers, after}
 use Rattle.book.specs.SetLaws.{sameLink-test}
 
 abbrev link : ℕ → ℕ → ℕ → Link
@@ -27,6 +27,12 @@ locks r = edit (lock r)
 abbrev unlocks : ℕ → Call
 unlocks r = edit (unlock r)
 
+abbrev withdraws : ℕ → Call
+withdraws r = edit (withdraw r)
+
+abbrev reinstates : ℕ → Call
+reinstates r = edit (reinstate r)
+
 -- a register has 1 to 1,024 records
 fresh-1 : freshAnswer 0 ∷ freshAnswer 1 ∷ freshAnswer 1024 ∷ freshAnswer 1025 ∷ [] ≡ 1 ∷ 0 ∷ 0 ∷ 1 ∷ []
 unfolding freshAnswer firstNumber number
@@ -34,45 +40,96 @@ fresh-1 = refl
 
 -- the edits of the sample, S7.8
 sample : answers (fresh 4) (adds 0 0 1 ∷ adds 2 0 1 ∷ locks 1 ∷ adds 1 1 3 ∷ undo ∷ adds 1 1 3 ∷ []) ≡ 0 ∷ 0 ∷ 0 ∷ 4 ∷ 0 ∷ 0 ∷ []
-unfolding answers answer next editAnswer firstNumber number causes edited turned undoAnswer undone fresh has without
+unfolding answers answer next editAnswer firstNumber number causes edited turned undoAnswer undone fresh has without touched
 sample = refl
 
 -- 2, also with a label above 25 and with a locked end
 refused-2 : answers (fresh 4) (adds 4 0 0 ∷ adds 0 0 4 ∷ removes 4 0 0 ∷ removes 0 0 4 ∷ locks 4 ∷ unlocks 4 ∷ adds 4 26 0 ∷ locks 0 ∷ adds 0 26 4 ∷ removes 4 0 0 ∷ [])
     ≡ 2 ∷ 2 ∷ 2 ∷ 2 ∷ 2 ∷ 2 ∷ 2 ∷ 0 ∷ 2 ∷ 2 ∷ []
-unfolding answers answer next editAnswer firstNumber number causes edited turned undoAnswer undone fresh has without
+unfolding answers answer next editAnswer firstNumber number causes edited turned undoAnswer undone fresh has without touched
 refused-2 = refl
 
 -- 3, also with a locked end
 refused-3 : answers (fresh 4) (adds 0 26 0 ∷ removes 0 26 0 ∷ locks 0 ∷ adds 0 26 1 ∷ removes 1 26 0 ∷ []) ≡ 3 ∷ 3 ∷ 0 ∷ 3 ∷ 3 ∷ []
-unfolding answers answer next editAnswer firstNumber number causes edited turned undoAnswer undone fresh has without
+unfolding answers answer next editAnswer firstNumber number causes edited turned undoAnswer undone fresh has without touched
 refused-3 = refl
 
 -- 4 with either end or both locked, also where the link is present or absent
 refused-4 : answers (fresh 4) (adds 0 0 1 ∷ locks 1 ∷ adds 0 0 1 ∷ adds 1 0 2 ∷ adds 2 0 1 ∷ adds 1 0 1 ∷ removes 0 0 1 ∷ removes 1 0 2 ∷ removes 2 0 1 ∷ removes 1 0 1 ∷ [])
     ≡ 0 ∷ 0 ∷ 4 ∷ 4 ∷ 4 ∷ 4 ∷ 4 ∷ 4 ∷ 4 ∷ 4 ∷ []
-unfolding answers answer next editAnswer firstNumber number causes edited turned undoAnswer undone fresh has without
+unfolding answers answer next editAnswer firstNumber number causes edited turned undoAnswer undone fresh has without touched
 refused-4 = refl
 
 -- 5 and 6
 refused-5-6 : answers (fresh 4) (adds 0 0 1 ∷ adds 0 0 1 ∷ removes 1 0 0 ∷ removes 0 0 1 ∷ removes 0 0 1 ∷ locks 2 ∷ locks 2 ∷ unlocks 3 ∷ unlocks 2 ∷ unlocks 2 ∷ [])
     ≡ 0 ∷ 5 ∷ 6 ∷ 0 ∷ 6 ∷ 0 ∷ 5 ∷ 6 ∷ 0 ∷ 6 ∷ []
-unfolding answers answer next editAnswer firstNumber number causes edited turned undoAnswer undone fresh has without
+unfolding answers answer next editAnswer firstNumber number causes edited turned undoAnswer undone fresh has without touched
 refused-5-6 = refl
 
 -- 8; and a refused edit is not held: the undo after it takes back the lock, and the next gives 8
 refused-8 : answers (fresh 4) (undo ∷ locks 1 ∷ adds 1 1 3 ∷ undo ∷ undo ∷ adds 1 1 3 ∷ []) ≡ 8 ∷ 0 ∷ 4 ∷ 0 ∷ 8 ∷ 0 ∷ []
-unfolding answers answer next editAnswer firstNumber number causes edited turned undoAnswer undone fresh has without
+unfolding answers answer next editAnswer firstNumber number causes edited turned undoAnswer undone fresh has without touched
 refused-8 = refl
 
 -- an undo takes back an add, a remove, a lock and an unlock
 undo-each : after (fresh 4) (adds 0 0 1 ∷ undo ∷ []) ∷ after (fresh 4) (locks 1 ∷ undo ∷ []) ∷ [] ≡ fresh 4 ∷ fresh 4 ∷ []
-unfolding after answer next editAnswer firstNumber number causes edited turned undoAnswer undone fresh has without
+unfolding after answer next editAnswer firstNumber number causes edited turned undoAnswer undone fresh has without touched
 undo-each = refl
 
 undo-taken : after (fresh 4) (adds 0 0 1 ∷ locks 1 ∷ unlocks 1 ∷ removes 0 0 1 ∷ undo ∷ undo ∷ []) ≡ after (fresh 4) (adds 0 0 1 ∷ locks 1 ∷ [])
-unfolding after answer next editAnswer firstNumber number causes edited turned undoAnswer undone fresh has without
+unfolding after answer next editAnswer firstNumber number causes edited turned undoAnswer undone fresh has without touched
 undo-taken = refl
+
+-- ---- withdrawn records, S6.6: each pair of causes that could be exchanged
+-- 2 before 18, also where the other end is withdrawn: at an add, a remove, a lock and an unlock; and at a withdraw and a reinstate
+order-2-18 : answers (fresh 4) (withdraws 3 ∷ adds 3 0 4 ∷ adds 4 0 3 ∷ removes 3 0 4 ∷ removes 4 0 3 ∷ locks 4 ∷ unlocks 4 ∷ withdraws 4 ∷ reinstates 4 ∷ [])
+    ≡ 0 ∷ 2 ∷ 2 ∷ 2 ∷ 2 ∷ 2 ∷ 2 ∷ 2 ∷ 2 ∷ []
+unfolding answers answer next editAnswer firstNumber number causes edited turned undoAnswer undone fresh has without touched
+order-2-18 = refl
+
+-- 18 before 3, with either end or both withdrawn
+order-18-3 : answers (fresh 4) (withdraws 3 ∷ adds 3 26 0 ∷ adds 0 26 3 ∷ adds 3 26 3 ∷ removes 3 26 0 ∷ removes 0 26 3 ∷ removes 3 26 3 ∷ [])
+    ≡ 0 ∷ 18 ∷ 18 ∷ 18 ∷ 18 ∷ 18 ∷ 18 ∷ []
+unfolding answers answer next editAnswer firstNumber number causes edited turned undoAnswer undone fresh has without touched
+order-18-3 = refl
+
+-- 18 before 4, where one end is withdrawn and the other locked; before 6, where the link is absent; and before the 5 and 6 of a lock and an unlock
+order-18-4 : answers (fresh 4) (withdraws 3 ∷ locks 0 ∷ adds 3 0 0 ∷ adds 0 0 3 ∷ removes 3 0 0 ∷ removes 0 0 3 ∷ adds 3 0 1 ∷ removes 1 0 3 ∷ locks 3 ∷ unlocks 3 ∷ [])
+    ≡ 0 ∷ 0 ∷ 18 ∷ 18 ∷ 18 ∷ 18 ∷ 18 ∷ 18 ∷ 18 ∷ 18 ∷ []
+unfolding answers answer next editAnswer firstNumber number causes edited turned undoAnswer undone fresh has without touched
+order-18-4 = refl
+
+-- a withdraw: 4 of a locked record, also if a link touches it; 17 of one that a link touches, from or to; 0 once the link is gone; 5 the second time
+order-4-17 : answers (fresh 4) (
+    adds 0 0 1 ∷ withdraws 0 ∷ withdraws 1 ∷ locks 0 ∷ locks 2 ∷ withdraws 0 ∷ withdraws 2 ∷ unlocks 0 ∷ removes 0 0 1 ∷ withdraws 0 ∷ withdraws 0 ∷
+    adds 2 0 2 ∷ unlocks 2 ∷ adds 2 0 2 ∷ withdraws 2 ∷ [])
+    ≡ 0 ∷ 17 ∷ 17 ∷ 0 ∷ 0 ∷ 4 ∷ 4 ∷ 0 ∷ 0 ∷ 0 ∷ 5 ∷ 4 ∷ 0 ∷ 0 ∷ 17 ∷ []
+unfolding answers answer next editAnswer firstNumber number causes edited turned undoAnswer undone fresh has without touched
+order-4-17 = refl
+
+-- no history makes a record withdrawn and locked, or withdrawn and touched (BookLaws `withdrawn-bare`), so 4 with 5 and 5 with 17 are told on sheets that none makes
+abbrev odd-sheet : List Link → List ℕ → Sheet
+odd-sheet ks rs = record { links = ks; locks = rs; withdrawn = 0 ∷ [] }
+
+order-4-5 : editAnswer 4 (odd-sheet [] (0 ∷ [])) (withdraw 0) ∷ editAnswer 4 (odd-sheet (link 0 0 1 ∷ []) (0 ∷ [])) (withdraw 0) ∷ [] ≡ 4 ∷ 4 ∷ []
+unfolding editAnswer firstNumber number causes has touched
+order-4-5 = refl
+
+order-5-17 : editAnswer 4 (odd-sheet (link 0 0 1 ∷ []) []) (withdraw 0) ∷ editAnswer 4 (odd-sheet (link 1 0 0 ∷ []) []) (withdraw 0) ∷ [] ≡ 5 ∷ 5 ∷ []
+unfolding editAnswer firstNumber number causes has touched
+order-5-17 = refl
+
+-- reinstating a record in use gives 6, also if it is locked or a link touches it; reinstated, it takes links and locks again
+reinstated : answers (fresh 4) (reinstates 0 ∷ locks 0 ∷ reinstates 0 ∷ adds 1 0 2 ∷ reinstates 2 ∷ withdraws 3 ∷ reinstates 3 ∷ reinstates 3 ∷ adds 3 0 3 ∷ locks 3 ∷ [])
+    ≡ 6 ∷ 0 ∷ 6 ∷ 0 ∷ 6 ∷ 0 ∷ 0 ∷ 6 ∷ 0 ∷ 0 ∷ []
+unfolding answers answer next editAnswer firstNumber number causes edited turned undoAnswer undone fresh has without touched
+reinstated = refl
+
+-- an undo takes back a withdraw and a reinstate, and a refused one is not held
+undo-withdrawn : after (fresh 4) (withdraws 3 ∷ withdraws 3 ∷ undo ∷ []) ∷ after (fresh 4) (withdraws 3 ∷ reinstates 3 ∷ reinstates 3 ∷ undo ∷ []) ∷ []
+    ≡ fresh 4 ∷ after (fresh 4) (withdraws 3 ∷ []) ∷ []
+unfolding after answer next editAnswer firstNumber number causes edited turned undoAnswer undone fresh has without touched
+undo-withdrawn = refl
 
 -- the totals of the labels 0 and 1 follow two adds, a refused add, a remove, and an undo of it; a label above 25 has none
 total-each : map (λ l. total (after (fresh 4) (adds 0 0 1 ∷ adds 2 0 1 ∷ adds 2 0 1 ∷ removes 0 0 1 ∷ []) .sheet) l) (0 ∷ 1 ∷ []) ≡ 1 ∷ 0 ∷ []
@@ -94,7 +151,7 @@ toggles (suc zero) = locks 0 ∷ []
 toggles (suc (suc k)) = locks 0 ∷ unlocks 0 ∷ toggles k
 
 held-256 : answers (fresh 1) (toggles 257 ++ replicate 257 undo) ≡ replicate 513 0 ++ (8 ∷ [])
-unfolding toggles answers answer next editAnswer firstNumber number causes edited turned undoAnswer undone fresh has without
+unfolding toggles answers answer next editAnswer firstNumber number causes edited turned undoAnswer undone fresh has without touched
 held-256 = refl
 
 -- ---- a full register: 4,096 adds, and one more gives 7
@@ -135,7 +192,7 @@ nth-apart i j h e =
     omega arith
 
 abbrev filled : ℕ → Sheet
-filled j = record { links = firstLinks j; locks = [] }
+filled j = record { links = firstLinks j; locks = []; withdrawn = [] }
 
 fill-accepted : (j : ℕ) → j < 4096 → editAnswer 1024 (filled j) (add (nth j)) ≡ 0
 unfolding editAnswer firstNumber number causes has

@@ -23,11 +23,11 @@ pub data Cause : Type 0 where
   no-record : Cause
   -- label above 25
   bad-label : Cause
-  -- add or remove where either end, or both, is locked
+  -- add or remove where either end, or both, is locked; withdrawing a locked record
   locked-end : Cause
-  -- link present already; record locked already
+  -- link present already; record locked already; record withdrawn already
   already : Cause
-  -- link absent; record not locked
+  -- link absent; record not locked; reinstating a record in use
   missing : Cause
   -- 4,096 links present at an add
   full : Cause
@@ -51,11 +51,15 @@ pub data Cause : Type 0 where
   unknown-kind : Cause
   -- no register opened
   not-open : Cause
+  -- withdrawing a record that a link touches
+  touched-record : Cause
+  -- a withdrawn record named in add, remove, lock or unlock
+  withdrawn-record : Cause
 
 unfoldable pub allCauses : List Cause
 allCauses =
     bad-size ∷ no-record ∷ bad-label ∷ locked-end ∷ already ∷ missing ∷ full ∷ none-held ∷ no-expression ∷ too-many-bytes ∷ too-large ∷ bad-tree ∷ short-work ∷
-    short-list ∷ broken-frame ∷ unknown-kind ∷ not-open ∷ []
+    short-list ∷ broken-frame ∷ unknown-kind ∷ not-open ∷ touched-record ∷ withdrawn-record ∷ []
 
 unfoldable pub number : Cause → ℕ
 number bad-size = 1
@@ -75,13 +79,15 @@ number short-list = 13
 number broken-frame = 14
 number unknown-kind = 15
 number not-open = 16
+number touched-record = 17
+number withdrawn-record = 18
 
 abbrev pub Caused : ℕ → Type 0
 Caused k = (c : Cause) × (k ≡ number c)
 
--- the orders: edits 2, 3, 4, 5, 6, 7; questions 2, 10 for bytes, 9, 10 for letters and depth, 12, 13; trees 1, 2, 11, 12, 13
+-- the orders: edits 2, 18, 3, 4, 5, 6, 7, 17; questions 2, 10 for bytes, 9, 10 for letters and depth, 12, 13; trees 1, 2, 11, 12, 13
 unfoldable pub editOrder : List Cause
-editOrder = no-record ∷ bad-label ∷ locked-end ∷ already ∷ missing ∷ full ∷ []
+editOrder = no-record ∷ withdrawn-record ∷ bad-label ∷ locked-end ∷ already ∷ missing ∷ full ∷ touched-record ∷ []
 
 unfoldable pub questionOrder : List Cause
 questionOrder = no-record ∷ too-many-bytes ∷ no-expression ∷ too-large ∷ short-work ∷ short-list ∷ []

@@ -81,6 +81,20 @@ module _ {A : Type 0} {same : A → A → Bool} (T : EqualityTest same) where
   without-absent x [] e = refl
   without-absent x (y ∷ ys) e = let h = or-neither (same y x) (has same x ys) e in rw (h .0) (ap (λ (l : List A). y ∷ l) (without-absent x ys (h .1)))
 
+  pub without-self : (x : A) (l : List A) → has same x (without same x l) ≡ false
+  without-self x l = has-without T x x l ∙ rw (T .reflexive x)
+
+  pub without-other : (x y : A) (l : List A) → same x y ≡ false → has same y (without same x l) ≡ has same y l
+  without-other x y l e = has-without T x y l ∙ rw e
+
+  -- what is absent stays so
+  pub absent-without : (x y : A) (l : List A) → has same y l ≡ false → has same y (without same x l) ≡ false
+  absent-without x y l e = has-without T x y l ∙ rw e (nothing (not (same x y)))
+    where
+      nothing : (b : Bool) → (b && false) ≡ false
+      nothing true = refl
+      nothing false = refl
+
   pub distinct-without : (x : A) (l : List A) → Distinct same l → Distinct same (without same x l)
   unfolding Distinct without
   distinct-without x [] d = tt
@@ -88,11 +102,7 @@ module _ {A : Type 0} {same : A → A → Bool} (T : EqualityTest same) where
     where
       go : (t : Bool) → Distinct same (without same x ys) → Distinct same (pick t (without same x ys) (y ∷ without same x ys))
       go true ih = ih
-      go false ih = (has-without T x y ys ∙ rw (d .0) (nothing (not (same x y))), ih)
-        where
-          nothing : (b : Bool) → (b && false) ≡ false
-          nothing true = refl
-          nothing false = refl
+      go false ih = (absent-without x y ys (d .0), ih)
 
   pub length-without : (x : A) (l : List A) → Distinct same l → has same x l ≡ true → suc (length (without same x l)) ≡ length l
   unfolding Distinct without has

@@ -9,7 +9,7 @@ use lib.Dec.{leb, eqb}
 use borrow.Author.Tests.{lt-leb, le-leb}
 use Rattle.book.specs.Basics.{pick, bit, has, without, tally}
 use Rattle.book.specs.Causes.{bad-label, number, firstNumber, labels}
-use Rattle.book.specs.Book.{Link, sameLink, Sheet, add, remove, lock, unlock, present, edited, total, totalNumber}
+use Rattle.book.specs.Book.{Link, sameLink, Sheet, add, remove, lock, unlock, withdraw, reinstate, present, edited, total, totalNumber}
 use Rattle.book.specs.Sheets.{Distinct}
 use Rattle.book.specs.SetLaws.{EqualityTest, sameLink-test, without-absent}
 
@@ -52,7 +52,7 @@ pub total-remove : (k : Link) (s : Sheet) (l : ℕ) → Distinct sameLink (s .li
 unfolding total edited
 total-remove k s l d e = tally-without (λ j. eqb (j .label) l) sameLink-test k (s .links) d e
 
--- a lock moves no total
+-- a lock moves no total, and neither does a withdrawn record
 pub total-lock : (r : ℕ) (s : Sheet) (l : ℕ) → total (edited (lock r) s) l ≡ total s l
 unfolding total edited
 total-lock r s l = refl
@@ -60,6 +60,14 @@ total-lock r s l = refl
 pub total-unlock : (r : ℕ) (s : Sheet) (l : ℕ) → total (edited (unlock r) s) l ≡ total s l
 unfolding total edited
 total-unlock r s l = refl
+
+pub total-withdraw : (r : ℕ) (s : Sheet) (l : ℕ) → total (edited (withdraw r) s) l ≡ total s l
+unfolding total edited
+total-withdraw r s l = refl
+
+pub total-reinstate : (r : ℕ) (s : Sheet) (l : ℕ) → total (edited (reinstate r) s) l ≡ total s l
+unfolding total edited
+total-reinstate r s l = refl
 
 -- ---- the answer
 pub total-told : (l : ℕ) → l < labels → totalNumber l ≡ 0

@@ -38,6 +38,10 @@ pub const UNKNOWN_KIND: u32 = 15;
 
 pub const NOT_OPEN: u32 = 16;
 
+pub const TOUCHED_RECORD: u32 = 17;
+
+pub const WITHDRAWN_RECORD: u32 = 18;
+
 pub const MAX_RECORDS: usize = 1024;
 
 pub const LABELS: usize = 26;
@@ -53,7 +57,7 @@ pub const MAX_LETTERS: usize = 63;
 pub const MAX_DEPTH: usize = 8;
 
 // The numbers of all causes, in the order of their definition.
-pub fn numbers() -> [u32; 17]
+pub fn numbers() -> [u32; 19]
     ensures { λ r. ⌜ r ≡ map number allCauses ⌝ }
 {
     [
@@ -74,6 +78,8 @@ pub fn numbers() -> [u32; 17]
         BROKEN_FRAME,
         UNKNOWN_KIND,
         NOT_OPEN,
+        TOUCHED_RECORD,
+        WITHDRAWN_RECORD,
     ]
 }
 

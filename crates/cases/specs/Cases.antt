@@ -9,7 +9,7 @@ use native.Mathlib.Omega.{arith}
 use lib.ListN.{length}
 use Rattle.book.specs.Basics.{has, without, All, all-none, all-more}
 use Rattle.book.specs.Causes.{number, firstNumber}
-use Rattle.book.specs.Book.{Call, causes, editAnswer, edited, turned, next, fresh, after}
+use Rattle.book.specs.Book.{Call, touched, causes, editAnswer, edited, turned, next, fresh, after}
 use Rattle.k2.specs.PairSets.{rowPairs, rowsPairs, listed, union, transpose, most, serves, product, via, closure, diagonal}
 use Rattle.k2.specs.Trees.{rise, height, quadrant, filled, quarters, keep, levels, treeBits}
 use Rattle.paths.specs.Expressions.{standsFor, Expr, letters, depth}
@@ -25,7 +25,7 @@ use Rattle.paths.specs.PairLaws.{pairs-are, history-inside, history-small}
 use Rattle.paths.specs.ChainOrder.{before}
 use Rattle.paths.specs.Acceptance.{parted, many, accepts}
 use Rattle.paths.specs.FirstChain.{reach, stepsBelow, before-each, after-each, walks, walksTo, end, best, just, firstTo, chainTo, chain-first}
-use Rattle.cases.specs.Tables.{bytes, Case, pairs-of, chain-of, none-of, tree-of, wordOf, Met, made, links, table, ring, ring-table, swapped-table, ties, ties-table}
+use Rattle.cases.specs.Tables.{bytes, Case, pairs-of, chain-of, none-of, tree-of, wordOf, Met, made, links, table, struck, struck-table, returned, returned-table, ring, ring-table, swapped-table, ties, ties-table}
 
 -- ---- a case from what is computed
 read : (t : String) (e : Expr) → verdict (bytes t) ≡ accepted e → Judged (bytes t) (accepted e)
@@ -78,6 +78,22 @@ k1-to-k12 =
     (by 4 links h _ refl
     (by 4 links h _ refl
     all-none)))))))))))
+
+-- with 3 withdrawn, and reinstated
+pub withdrawn-3 : All (Met (made 4 struck)) struck-table × All (Met (made 4 returned)) returned-table
+unfolding struck-table struck returned-table returned links bytes verdict readAlternatives alternativesIn letters depth standsFor after next turned editAnswer firstNumber number causes edited fresh has without touched asked most crossed zeroSteps diagonal transpose union serves product via closure cells rowPairs rowsPairs listed pairs parted many accepts before reach stepsBelow before-each after-each walks walksTo end best firstTo chainTo spell stepWords
+withdrawn-3 =
+    let h : 4 ≤ 1024 = omega arith in (
+      by 4 struck h _ refl
+          (by 4 struck h _ refl
+          (by 4 struck h _ refl
+          (by 4 struck h _ refl
+          (by 4 struck h _ refl
+          (by 4 struck h _ refl
+          (by 4 struck h _ refl
+          all-none)))))),
+      by 4 returned h _ refl (by 4 returned h _ refl all-none),
+    )
 
 -- what looks right and is wrong, and chains as short as one another
 pub others : All (Met (made 3 ring)) ring-table × All (Met (made 4 links)) swapped-table × All (Met (made 4 ties)) ties-table

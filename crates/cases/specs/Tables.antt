@@ -3,6 +3,8 @@
 --   Met g k         the text is an expression of the grammar, and of the graph g its meaning is as the case k says
 --   made n cs       the graph of the book after the calls cs, from a fresh one of n records
 --   links, table    K1 to K12: the links 0 a 1, 1 a 2, 2 b 0, with n = 4
+--   struck, struck-table, returned, returned-table
+--                   the same links with 3 withdrawn: zero steps elsewhere alone, also within `b?/c*` and `(c*)?`; and with 3 reinstated
 --   ring, ring-table, swapped-table
 --                   what looks right and is wrong: four steps on a ring of three; the tree of exchanged pairs
 --   ties, ties-table
@@ -10,12 +12,12 @@
 -- Assumes nothing: these are definitions.
 use mathlib.Core.Path.{_≡_}
 use mathlib.Core.Logic.{_↔_}
-use mathlib.Core.List.{List, [], _∷_, map}
+use mathlib.Core.List.{List, [], _∷_, _++_, map}
 use mathlib.Core.Bool.{true, false}
 use Prim.Native.Nat.{ℕ}
 use Prim.Native.Char.{code}
 use Prim.Native.String.{String, [] as end, _∷_ as then}
-use Rattle.book.specs.Book.{Call, edit, add, fresh, after}
+use Rattle.book.specs.Book.{Call, edit, add, withdraw, reinstate, fresh, after}
 use Rattle.k2.specs.PairSets.{Cells, IsSet, pairWord}
 use Rattle.k2.specs.Trees.{height, treeBits}
 use Rattle.paths.specs.Expressions.{Expr}
@@ -92,6 +94,27 @@ table =
     chain-of 0 2 "a/a|^b" (against b 2 ∷ []) ∷
     none-of 0 3 "(a|b|^a|^b)*" ∷
     tree-of "a" (1 ∷ 1 ∷ 0 ∷ 0 ∷ 0 ∷ 1 ∷ 0 ∷ 0 ∷ 0 ∷ 0 ∷ 1 ∷ 0 ∷ []) ∷ []
+
+unfoldable pub struck : List Call
+struck = links ++ (edit (withdraw 3) ∷ [])
+
+unfoldable pub struck-table : List Case
+struck-table =
+    pairs-of "b?" ((0, 0) ∷ (1, 1) ∷ (2, 0) ∷ (2, 2) ∷ []) ∷
+    pairs-of "b?/c*" ((0, 0) ∷ (1, 1) ∷ (2, 0) ∷ (2, 2) ∷ []) ∷
+    pairs-of "(c*)?" ((0, 0) ∷ (1, 1) ∷ (2, 2) ∷ []) ∷
+    none-of 3 3 "a*" ∷
+    none-of 3 0 "a*" ∷
+    none-of 0 3 "a*" ∷
+    chain-of 0 0 "a*" [] ∷ []
+
+unfoldable pub returned : List Call
+returned = struck ++ (edit (reinstate 3) ∷ [])
+
+unfoldable pub returned-table : List Case
+returned-table =
+    pairs-of "b?" ((0, 0) ∷ (1, 1) ∷ (2, 0) ∷ (2, 2) ∷ (3, 3) ∷ []) ∷
+    chain-of 3 3 "a*" [] ∷ []
 
 unfoldable pub ring : List Call
 ring = link 0 a 1 ∷ link 1 a 2 ∷ link 2 a 0 ∷ []

@@ -2,7 +2,7 @@
 use mathlib.Core.Path.{_≡_, refl, sym, ap, _∙_, subst}
 use mathlib.Core.Logic.{_⊎_, inl, inr}
 use mathlib.Core.List.{List, _++_}
-use mathlib.Core.Bool.{true}
+use mathlib.Core.Bool.{Bool, true, false}
 use Prim.Native.Nat.{ℕ, _*_, _≤_, _<_}
 use native.Mathlib.Omega.{arith}
 use lib.ListN.{length, getD, take, drop, take-append-drop}
@@ -17,13 +17,14 @@ use Rattle.paths.specs.Grammar.{Verdict, accepted, long, outside, large, verdic
 use Rattle.paths.specs.Verdicts.{verdict}
 use Rattle.paths.specs.Chains.{Graph, asked, Step, Answers, Reply, none as no-reply, chain as chain-reply, ChainIs, no-chain, first-chain}
 use Rattle.paths.specs.ChainLaws.{Inside}
-use Rattle.paths.specs.PairLaws.{fit-inside, verdict-caused}
+use Rattle.paths.specs.PairLaws.{in-use, fit-inside, withdrawn-none, none-withdrawn, verdict-caused}
 use Rattle.paths.specs.FirstChain.{reply-only}
 use Rattle.paths.specs.Questions.{refused, replied, ReplyTo, chainWork, steps, chainCauses, chainAnswer, listAfter}
 use Rattle.register.specs.declared.Register.{Register}
 use Rattle.register.specs.Links.{linkWord, linkOf, Linked}
 use Rattle.register.specs.LinkLaws.{linkOf-word}
 use Rattle.register.specs.Representation.{Represents}
+use Rattle.register.specs.Questions.{Withdrawal}
 use Rattle.automaton.specs.WalkLaws.{length-stepWords}
 use Rattle.arcs.specs.Arcs.{Spans}
 use Rattle.search.specs.Steps.{Untouched, written, none as none-found, too-long, Answered, first, none, short}
@@ -32,6 +33,14 @@ use Rattle.search.specs.declared.Found.the-variants.{Steps, Nowhere, Short}
 use Rattle.chains.specs.declared.ChainAnswer.{ChainAnswer}
 use Rattle.chains.specs.declared.ChainAnswer.the-variants.{Chain, NoChain, Refused}
 use Rattle.chains.specs.Replies.{outcomeOf, stepsLength, Replies}
+
+-- what is no chain's is nowhere found
+nowhere : {g : Graph} {e : Expr} {x y : ℕ} {list : List ℕ} → ChainIs g e x y no-reply → Answered g e x y list list Nowhere
+nowhere c = go c refl
+  where
+    go : {g : Graph} {e : Expr} {x y : ℕ} {list : List ℕ} {t : Reply} → ChainIs g e x y t → t ≡ no-reply → Answered g e x y list list Nowhere
+    go (no-chain h) q = none h
+    go (first-chain ss F) q = absurd (let z : _≡_ {A = ℕ} 0 1 = cc in omega arith)
 
 -- ---- the register's words span the book's graph
 module _ {self : Register} {b : Book} (R : Represents self b) where
@@ -61,10 +70,17 @@ module _ {self : Register} {b : Book} (R : Represents self b) where
             let h : z .0 < m = omega (arith, z .1) in
             (z .0, h, word-link (getD ws (z .0) 0) k (sym (getD-take m ws (z .0) 0 h) ∙ z .2) p)
 
-  -- a record below n is in use
-  pub in-use : {n : ℕ} → n ≡ b .n → (x : ℕ) → x < n → asked b .inUse x ≡ true
-  unfolding asked
-  in-use e x h = lt-ltb x (b .n) (omega arith)
+  -- a record below n is in use, unless it is said to be withdrawn
+  pub used : {n : ℕ} → n ≡ b .n → (x : ℕ) → x < n → {t : Bool} → Withdrawal self x t → t ≡ false → asked b .inUse x ≡ true
+  used e x h w f = in-use b x (omega arith) (sym (w .withdrawn b R) ∙ f)
+
+  -- from or to a withdrawn record there is no chain
+  module _ (e : Expr) (x y : ℕ) (list : List ℕ) where
+    pub withdrawn-from : {t : Bool} → Withdrawal self x t → t ≡ true → Answered (asked b) e x y list list Nowhere
+    withdrawn-from w f = nowhere (withdrawn-none b e x y (sym (w .withdrawn b R) ∙ f))
+
+    pub withdrawn-to : {t : Bool} → Withdrawal self y t → t ≡ true → Answered (asked b) e x y list list Nowhere
+    withdrawn-to w f = nowhere (none-withdrawn b e x y (sym (w .withdrawn b R) ∙ f))
 
   pub asked-size : {n : ℕ} → n ≡ b .n → asked b .n ≡ n
   unfolding asked

@@ -1,15 +1,15 @@
 // Chain questions.
 ghost use mathlib.Core.Path.{_≡_};
-ghost use mathlib.Core.Bool.{true};
 ghost use mathlib.Core.List.{List};
 ghost use Prim.Native.Nat.{ℕ, _*_, _<_, _≤_};
 ghost use lib.ListN.{length};
 ghost use Rattle.book.specs.Causes.{maxRecords, maxLinks};
+ghost use Rattle.book.specs.Book.{Book};
 ghost use Rattle.paths.specs.Expressions.{Expr};
-ghost use Rattle.paths.specs.Chains.{Graph};
-ghost use Rattle.paths.specs.ChainLaws.{Inside};
+ghost use Rattle.paths.specs.Chains.{asked};
 ghost use Rattle.paths.specs.Verdicts.{InLimits};
 ghost use Rattle.reader.specs.Code.{code};
+ghost use Rattle.register.specs.Representation.{Represents};
 ghost use Rattle.arcs.specs.Arcs.{Spans};
 ghost use Rattle.search.specs.Steps.{Untouched, Answered};
 ghost use Rattle.chains.specs.Replies.{Replies};
@@ -25,8 +25,9 @@ pub enum ChainAnswer {
     Refused(u32),
 }
 
-// The search, over the first `count` links, for the expression whose code is given.
+// The search, over the first `count` links, for the expression whose code is given; from or to a withdrawn record there is nothing to be found.
 fn sought(
+    register: Register,
     links: &[u32],
     count: usize,
     numbers: &[u8],
@@ -35,8 +36,14 @@ fn sought(
     list: &mut [u32],
 ) -> Found
     requires { ⌜ (count ≤ length (now links)) × (count ≤ maxLinks) × (ends .n ≤ maxRecords) × (ends .from < ends .n) × (ends .to < ends .n) × (ends .n * 64 ≤ length (now work)) × ((text : List ℕ) × (e : Expr) × InLimits text e × (now numbers ≡ code e)) ⌝ }
-    ensures { λ r. ⌜ Untouched (now (list .entry)) (now (list .exit)) r × ((text : List ℕ) (e : Expr) → InLimits text e → now (numbers .entry) ≡ code e → (g : Graph) → g .n ≡ ends .n → Inside g → Spans (now (links .entry)) count g → g .inUse (ends .from) ≡ true → g .inUse (ends .to) ≡ true → Answered g e (ends .from) (ends .to) (now (list .entry)) (now (list .exit)) r) ⌝ }
+    ensures { λ r. ⌜ Untouched (now (list .entry)) (now (list .exit)) r × ((text : List ℕ) (e : Expr) → InLimits text e → now (numbers .entry) ≡ code e → (b : Book) → Represents register b → ends .n ≡ b .n → Spans (now (links .entry)) count (asked b) → Answered (asked b) e (ends .from) (ends .to) (now (list .entry)) (now (list .exit)) r) ⌝ }
 {
+    if register.is_withdrawn(ends.from as u16) {
+        return Found::Nowhere;
+    }
+    if register.is_withdrawn(ends.to as u16) {
+        return Found::Nowhere;
+    }
     let tables = tables::tables_of(numbers);
     let follow = tables.follow;
     let predecessors = tables.pred;
@@ -85,7 +92,15 @@ pub fn chain(
             }
             let links = register.links();
             let ends = Ends { n, from: x, to: y };
-            let found = sought(&links.words, links.count, &code[0..k], ends, work, list);
+            let found = sought(
+                register,
+                &links.words,
+                links.count,
+                &code[0..k],
+                ends,
+                work,
+                list,
+            );
             match found {
                 Found::Steps(steps) => ChainAnswer::Chain(steps),
                 Found::Nowhere => ChainAnswer::NoChain,

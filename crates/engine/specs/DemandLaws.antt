@@ -32,7 +32,7 @@ use Rattle.register.specs.Representation.{Represents}
 use Rattle.register.specs.Calls.{Opens}
 use Rattle.register.specs.History.{CallsMade, wordCall, wordAnswers, isCall, callsOf, toldCalls}
 use Rattle.register.specs.HistoryLaws.{history, word-answers-length, told-calls}
-use Rattle.register.specs.Questions.{Listing, LockList}
+use Rattle.register.specs.Questions.{Listing, MarkList}
 use Rattle.register.specs.declared.Register.{Register}
 use Rattle.register.specs.declared.Links.{Links}
 use Rattle.register.specs.declared.Outcome.{Outcome as Told}
@@ -170,7 +170,8 @@ module _ {r : Register} (i : Transcript) (G : Gave r i) where
       record {
         answers = a;
         links = subst (λ (ws : List ℕ). Linked ws (bookAfter i .sheet)) (sym (l .2)) (l .1 .linked (bookAfter i) R);
-        locks = G .locks .locked (bookAfter i) R;
+        locks = G .marks .locked (bookAfter i) R;
+        withdrawn = G .marks .withdrawn (bookAfter i) R;
         totals = G .totals .totals (bookAfter i) R;
         pairs = pairs-claim R (i .pairs) (G .pairs);
         chain = chain-claim R (i .chain) (G .chain);

@@ -3,7 +3,7 @@
 --   linksShown r    the words of the links that an inquiry shows
 --   Unasked k told told′ p c r
 --                   the history was refused with the number k, and no question asked: both are told that number, every list is as it was, and no link, no
---                   lock and no total but 0 is shown
+--                   lock, no withdrawn record and no total but 0 is shown
 --   Inquired n words told told′ p c r
 --                   the history was made: each word's number stands in the list `told`, whose words past them are as they were; both questions are
 --                   answered as the plain book answers them, refusals too; and demand 3, of the calls among the words
@@ -20,7 +20,8 @@ use Rattle.book.specs.Book.{Book, fresh, after}
 use Rattle.paths.specs.Verdicts.{verdict}
 use Rattle.register.specs.Calls.{answerOf}
 use Rattle.register.specs.History.{wordAnswers, callsOf, toldCalls, replayNumber}
-use Rattle.register.specs.Questions.{Listing, LockList, TotalList}
+use Rattle.register.specs.Marks.{lockMark, withdrawnMark, hasMark}
+use Rattle.register.specs.Questions.{Listing, MarkList, TotalList}
 use Rattle.register.specs.declared.Register.{Register}
 use Rattle.register.specs.declared.Links.{Links}
 use Rattle.pairs.specs.Asking.{BookPairs, AsksPairs}
@@ -32,7 +33,7 @@ use Rattle.engine.specs.declared.Inquiry.{Inquiry}
 
 pub record Gave (r : Register) (t : Transcript) : Type 0 where
   pub links : (ls : Links) × Listing r ls × (t .links ≡ take (ls .count) (ls .words))
-  pub locks : LockList r (t .locks)
+  pub marks : MarkList r (t .marks)
   pub totals : TotalList r (t .totals)
   pub pairs : AsksPairs r (t .pairs .text) (t .pairs .work) (t .pairs .before) (t .pairs .after) (t .pairs .answer)
   pub chain : Replies r (t .chain .from) (t .chain .to) (t .chain .text) (t .chain .work) (t .chain .before) (t .chain .after) (t .chain .answer)
@@ -47,14 +48,15 @@ pub record Unasked (k : ℕ) (told told′ : List ℕ) (p : PairsAsked) (c : Cha
   pub list : p .after ≡ p .before
   pub steps : c .after ≡ c .before
   pub links : linksShown r ≡ []
-  pub locks : (x : ℕ) → getD (r .locks) x false ≡ false
+  pub locks : (x : ℕ) → hasMark lockMark (r .marks) x ≡ false
+  pub withdrawn : (x : ℕ) → hasMark withdrawnMark (r .marks) x ≡ false
   pub totals : (l : ℕ) → l < labels → getD (r .totals) l 0 ≡ 0
 
 pub record Inquired (n : ℕ) (words told told′ : List ℕ) (p : PairsAsked) (c : ChainAsked) (r : Inquiry) : Type 0 where
   pub numbers : told′ ≡ wordAnswers (fresh n) words ++ drop (length words) told
   pub pairs : BookPairs (after (fresh n) (callsOf words)) (verdict (p .text)) (p .work) (p .before) (p .after) (p .answer)
   pub chain : BookReplies (after (fresh n) (callsOf words)) (c .from) (c .to) (c .text) (c .work) (c .before) (c .after) (c .answer)
-  pub demand : Demand (record { n = n; calls = callsOf words; told = toldCalls words told′; links = linksShown r; locks = r .locks; totals = r .totals; pairs = p; chain = c })
+  pub demand : Demand (record { n = n; calls = callsOf words; told = toldCalls words told′; links = linksShown r; marks = r .marks; totals = r .totals; pairs = p; chain = c })
 
 pub record Inquires (n : ℕ) (words told told′ : List ℕ) (p : PairsAsked) (c : ChainAsked) (r : Inquiry) : Type 0 where
   pub answer : r .answer ≡ answerOf (replayNumber n words told)

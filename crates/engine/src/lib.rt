@@ -3,11 +3,11 @@
 ghost use mathlib.Core.Path.{_≡_};
 ghost use mathlib.Core.List.{[], _∷_};
 ghost use lib.ListN.{length};
-ghost use Rattle.book.specs.Book.{add, remove, lock, unlock, edit, undo};
+ghost use Rattle.book.specs.Book.{add, remove, lock, unlock, withdraw, reinstate, edit, undo};
 ghost use Rattle.k2.specs.PairSets.{union, intersection, difference, transpose, closure};
 ghost use Rattle.tree.specs.Calls.{productSensed, Answered, Listed, treeOf, listOf, treeOfOne, treeOfTwo};
 ghost use Rattle.register.specs.Calls.{callOf, Opens, Steps};
-ghost use Rattle.register.specs.Questions.{Sized, Listing, Locking, Totals};
+ghost use Rattle.register.specs.Questions.{Sized, Listing, Locking, Withdrawal, Totals};
 ghost use Rattle.pairs.specs.Asking.{AsksPairs, Relates};
 ghost use Rattle.chains.specs.Replies.{Replies};
 ghost use Rattle.engine.specs.Inquiries.{Inquires};
@@ -55,6 +55,20 @@ pub fn unlock(register: Register, record: u16) -> Outcome
     register.unlock(record)
 }
 
+// Withdraws a record.
+pub fn withdraw(register: Register, record: u16) -> Outcome
+    ensures { λ r. ⌜ Steps register (edit (withdraw «record»)) r ⌝ }
+{
+    register.withdraw(record)
+}
+
+// Reinstates a withdrawn record.
+pub fn reinstate(register: Register, record: u16) -> Outcome
+    ensures { λ r. ⌜ Steps register (edit (reinstate «record»)) r ⌝ }
+{
+    register.reinstate(record)
+}
+
 // Takes the latest accepted edit back.
 pub fn undo(register: Register) -> Outcome
     ensures { λ r. ⌜ Steps register undo r ⌝ }
@@ -88,6 +102,13 @@ pub fn is_locked(register: Register, record: u16) -> bool
     ensures { λ r. ⌜ Locking register «record» r ⌝ }
 {
     register.is_locked(record)
+}
+
+// Whether a record is withdrawn.
+pub fn is_withdrawn(register: Register, record: u16) -> bool
+    ensures { λ r. ⌜ Withdrawal register «record» r ⌝ }
+{
+    register.is_withdrawn(record)
 }
 
 // The number of links of a label, as the register keeps it.
@@ -213,7 +234,7 @@ pub fn tree_closure(n: usize, a: &[u64], out: &mut [u64], work: &mut [u64]) -> t
 pub struct Inquiry {
     pub answer: Answer,
     pub links: Links,
-    pub locks: [bool; book::MAX_RECORDS],
+    pub marks: [u32; book::MAX_RECORDS],
     pub totals: [u32; book::LABELS],
     pub pairs: PairsAnswer,
     pub chain: ChainAnswer,
@@ -249,13 +270,13 @@ pub fn inquire(
     let register = opened.register;
     let number = register::number_of(answer);
     let links = register.links();
-    let locks = register.locks();
+    let marks = register.marks();
     let totals = register.totals();
     if number != 0 {
         return Inquiry {
             answer,
             links,
-            locks,
+            marks,
             totals,
             pairs: PairsAnswer::Refused(number),
             chain: ChainAnswer::Refused(number),
@@ -266,7 +287,7 @@ pub fn inquire(
     Inquiry {
         answer,
         links,
-        locks,
+        marks,
         totals,
         pairs,
         chain,

@@ -10,15 +10,16 @@ use mir.Val.{boolByte}
 use lib.Dec.{ltb}
 use lib.ListN.{length, take, drop}
 use borrow.Author.Tests.{lt-ltb, le-ltb}
-use Rattle.book.specs.Basics.{pick}
+use Rattle.book.specs.Basics.{pick, bit}
 use Rattle.book.specs.Causes.{short-work, not-open, number, Caused, firstNumber, maxRecords}
 use Rattle.book.specs.Book.{Book, Call, freshAnswer, fresh}
 use Rattle.register.specs.Representation.{Represents}
 use Rattle.register.specs.Calls.{answerOf, answerNumber, Opens, Steps}
 use Rattle.register.specs.HistoryLaws.{number-answer}
-use Rattle.register.specs.Questions.{Sized, Listing, Locking, Totals}
+use Rattle.register.specs.Questions.{Sized, Listing, Locking, Withdrawal, Totals}
 use Rattle.register.specs.declared.TotalAnswer.{TotalAnswer}
-use Rattle.register.specs.Words.{stateWords, lockWord, Keeps, Foreign, Copies, Loads, Stores}
+use Rattle.register.specs.Words.{stateWords, Keeps, Foreign, Copies, Loads, Stores}
+use Rattle.register.specs.MarkLaws.{represents-marked}
 use Rattle.register.specs.WordLaws.{keeps-long, keeps-same, load-done}
 use Rattle.register.specs.declared.Register.{Register}
 use Rattle.register.specs.declared.Outcome.{Outcome}
@@ -26,7 +27,7 @@ use Rattle.register.specs.declared.Links.{Links}
 use Rattle.register.specs.declared.Answer.the-variants.{Done, Refused}
 use Rattle.pairs.specs.Asking.{handed}
 use Rattle.pairs.specs.declared.PairsAnswer.the-variants.{Pairs}
-use Rattle.host.specs.Host.{freshNumber, Freshens, Edits, refusal, toldPairs, toldTotal, Told, Asked, Lists, Sizes, TellsLock, TellsTotal}
+use Rattle.host.specs.Host.{freshNumber, Freshens, Edits, refusal, toldPairs, toldTotal, Told, Asked, Lists, Sizes, TellsLock, TellsWithdrawn, TellsTotal}
 use Rattle.host.specs.Inner.{Finishes, refused, kept, lost}
 
 -- a refused call is not accepted
@@ -61,7 +62,7 @@ module _ {c : Call} {before after : List ℕ} {k : ℕ} {r : Register} (w : Keep
       stepped (λ _. a) (ap (drop stateWords) a) (record { register = r; answer = answerOf (number not-open) }, unmet, told e, subst (λ (ws : List ℕ). Keeps ws r) (sym a) w)
     where
       none : (b : Book) → Represents r b → ⊥
-      none b h = g (keeps-long w) (t .follows b h .ranged)
+      none b h = g (keeps-long w) (t .follows b h .ranged) (represents-marked (t .follows b h))
 
       told : {j : ℕ} → j ≡ number not-open → j ≡ answerNumber (answerOf (number not-open))
       told q = q ∙ sym (number-answer (number not-open))
@@ -123,7 +124,7 @@ module _ {n : ℕ} {o : Outcome} (p : Opens n o) (before : List ℕ) where
         made = λ y. absurd (let w : _≡_ {A = ℕ} 12 0 = y in omega arith);
         past = ap (drop stateWords) (s .refused f .0);
       }
-      go (no l) = absurd (s .refused f .1 (omega (arith, l)) (p .made z .ranged))
+      go (no l) = absurd (s .refused f .1 (omega (arith, l)) (p .made z .ranged) (represents-marked (p .made z)))
 
   pub fresh-made : answerNumber (o .answer) ≡ 0 → (after : List ℕ) (ok : Bool) → length after ≡ length before → Stores (o .register) before after ok → ok ≡ true → Freshens n before after 0
   fresh-made e after ok l s f =
@@ -154,7 +155,7 @@ links-handed {before = before} w ls g xs c h q e =
     let z : 0 + length xs ≡ length xs = omega arith in
     asked w (Pairs (length (front ls))) (ls, g, handed (c .fits (omega (arith, h)) .1 ∙ ap (λ (j : ℕ). xs ++ drop j before) z ∙ ap (λ (l : List ℕ). l ++ drop (length l) before) q)) e
 
-byte : (l : Bool) → boolByte l ≡ lockWord l
+byte : (l : Bool) → boolByte l ≡ bit l
 byte true = refl
 byte false = refl
 
@@ -176,6 +177,15 @@ module _ {ws : List ℕ} where
 
   pub locked-word : {r : Register} {x : ℕ} (l : Bool) → Keeps ws r → Locking r x l → TellsLock ws x (boolByte l)
   locked-word {r} {x} l w z = record {
-    locked = λ b h. byte l ∙ ap lockWord (subst (λ (t : Register). Locking t x l) (keeps-same w (h .1)) z .locked b (h .2));
+    locked = λ b h. byte l ∙ ap bit (subst (λ (t : Register). Locking t x l) (keeps-same w (h .1)) z .locked b (h .2));
+    foreign = λ g. absurd (g r w);
+  }
+
+  pub withdrawn-foreign : (x : ℕ) → Foreign ws → TellsWithdrawn ws x 0
+  withdrawn-foreign x g = record { withdrawn = λ b h. absurd (g (h .0) (h .1)); foreign = λ _. refl }
+
+  pub withdrawn-word : {r : Register} {x : ℕ} (l : Bool) → Keeps ws r → Withdrawal r x l → TellsWithdrawn ws x (boolByte l)
+  withdrawn-word {r} {x} l w z = record {
+    withdrawn = λ b h. byte l ∙ ap bit (subst (λ (t : Register). Withdrawal t x l) (keeps-same w (h .1)) z .withdrawn b (h .2));
     foreign = λ g. absurd (g r w);
   }

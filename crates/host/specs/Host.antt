@@ -20,8 +20,8 @@
 --   Lists before after r a
 --                   the words of the links of the register r, handed over into a list that held `before`: the first of them that it takes, and how many
 --                   they are in all
---   Sizes ws k, TellsLock ws x k
---                   the number of records; whether a record is locked: 0 if the words are no register's
+--   Sizes ws k, TellsLock ws x k, TellsWithdrawn ws x k
+--                   the number of records; whether a record is locked, and whether it is withdrawn: 0 if the words are no register's
 --   TellsTotal ws l k
 --                   the number of links of a label, as `total` promises; words that are no register's are refused with 16
 -- Assumes nothing: these are definitions.
@@ -31,12 +31,13 @@ use mathlib.Core.Bool.{_||_}
 use Prim.Native.Nat.{ℕ, _+_}
 use lib.ListN.{length, take, drop}
 use lib.Dec.{ltb}
+use Rattle.book.specs.Basics.{bit}
 use Rattle.book.specs.Causes.{bad-size, short-work, not-open, number, firstNumber, maxRecords}
-use Rattle.book.specs.Book.{Book, Call, isLocked, fresh}
+use Rattle.book.specs.Book.{Book, Call, isLocked, isWithdrawn, fresh}
 use Rattle.register.specs.Representation.{Represents}
 use Rattle.register.specs.Calls.{answerNumber, Steps}
 use Rattle.register.specs.Questions.{Sized, Listing, Totals}
-use Rattle.register.specs.Words.{stateWords, lockWord, Keeps, Foreign}
+use Rattle.register.specs.Words.{stateWords, Keeps, Foreign}
 use Rattle.register.specs.declared.Register.{Register}
 use Rattle.register.specs.declared.Outcome.{Outcome}
 use Rattle.register.specs.declared.Links.{Links}
@@ -107,7 +108,11 @@ pub record Sizes (ws : List ℕ) (k : ℕ) : Type 0 where
   pub foreign : Foreign ws → k ≡ 0
 
 pub record TellsLock (ws : List ℕ) (x k : ℕ) : Type 0 where
-  pub locked : (b : Book) → KeepsBook ws b → k ≡ lockWord (isLocked (b .sheet) x)
+  pub locked : (b : Book) → KeepsBook ws b → k ≡ bit (isLocked (b .sheet) x)
+  pub foreign : Foreign ws → k ≡ 0
+
+pub record TellsWithdrawn (ws : List ℕ) (x k : ℕ) : Type 0 where
+  pub withdrawn : (b : Book) → KeepsBook ws b → k ≡ bit (isWithdrawn (b .sheet) x)
   pub foreign : Foreign ws → k ≡ 0
 
 pub record TellsTotal (ws : List ℕ) (l k : ℕ) : Type 0 where

@@ -5,13 +5,13 @@ ghost use mathlib.Core.Path.{_≡_};
 ghost use mathlib.Core.List.{[], _∷_};
 ghost use Prim.Native.Nat.{_≤_, _<_};
 ghost use lib.ListN.{length, take};
-ghost use Rattle.book.specs.Book.{add, remove, lock, unlock, edit as Book·edit, undo};
+ghost use Rattle.book.specs.Book.{add, remove, lock, unlock, withdraw, reinstate, edit as Book·edit, undo};
 ghost use Rattle.k2.specs.PairSets.{union, intersection, difference, transpose, closure};
 ghost use Rattle.tree.specs.Calls.{senseOf, productSensed, Answered, Listed, treeOf, listOf, treeOfOne, treeOfTwo};
 ghost use Rattle.register.specs.Calls.{callOf};
 ghost use Rattle.pairs.specs.Asking.{AsksPairs};
 ghost use Rattle.chains.specs.Replies.{Replies};
-ghost use Rattle.host.specs.Host.{Freshens, Edits, refusal, toldPairs, toldChain, toldTree, Told, Asked, Lists, Sizes, TellsLock, toldTotal, TellsTotal};
+ghost use Rattle.host.specs.Host.{Freshens, Edits, refusal, toldPairs, toldChain, toldTree, Told, Asked, Lists, Sizes, TellsLock, TellsWithdrawn, toldTotal, TellsTotal};
 ghost use Rattle.host.specs.Inner.{Finishes};
 use chains::ChainAnswer;
 use pairs::PairsAnswer;
@@ -150,6 +150,22 @@ pub extern "C" fn dating_unlock(state: &mut [u32], record: u16) -> u32
     edit(state, Call::Unlock(record))
 }
 
+// A record withdrawn.
+#[no_mangle]
+pub extern "C" fn dating_withdraw(state: &mut [u32], record: u16) -> u32
+    ensures { λ k. ⌜ Edits (Book·edit (withdraw «record»)) (now (state .entry)) (now (state .exit)) k ⌝ }
+{
+    edit(state, Call::Withdraw(record))
+}
+
+// A withdrawn record reinstated.
+#[no_mangle]
+pub extern "C" fn dating_reinstate(state: &mut [u32], record: u16) -> u32
+    ensures { λ k. ⌜ Edits (Book·edit (reinstate «record»)) (now (state .entry)) (now (state .exit)) k ⌝ }
+{
+    edit(state, Call::Reinstate(record))
+}
+
 // The latest edit still held taken back.
 #[no_mangle]
 pub extern "C" fn dating_undo(state: &mut [u32]) -> u32
@@ -217,6 +233,20 @@ pub extern "C" fn dating_locked(state: &[u32], record: u16) -> u32
     }
     let register = loaded.register;
     engine::is_locked(register, record) as u32
+}
+
+// Whether a record is withdrawn: 1 or 0; 0 if the words are no register's.
+#[no_mangle]
+pub extern "C" fn dating_withdrawn(state: &[u32], record: u16) -> u32
+    ensures { λ k. ⌜ TellsWithdrawn (now (state .entry)) «record» k ⌝ }
+{
+    let loaded = Register::load(state);
+    let answer = loaded.answer;
+    if register::number_of(answer) != 0 {
+        return 0;
+    }
+    let register = loaded.register;
+    engine::is_withdrawn(register, record) as u32
 }
 
 // The number of links of a label.

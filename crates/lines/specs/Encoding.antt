@@ -22,10 +22,10 @@ use lib.Dec.{eqb}
 use lib.ListN.{length}
 use Rattle.book.specs.Basics.{pick}
 use Rattle.book.specs.Causes.{number, unknown-kind}
-use Rattle.book.specs.Book.{Link, Edit, edit, undo, add, remove, lock, unlock}
+use Rattle.book.specs.Book.{Link, Edit, edit, undo, add, remove, lock, unlock, withdraw, reinstate}
 use Rattle.paths.specs.Grammar.{Verdict}
 use Rattle.paths.specs.Chains.{Reply}
-use Rattle.register.specs.History.{addKind, removeKind, lockKind, unlockKind, undoKind}
+use Rattle.register.specs.History.{addKind, removeKind, lockKind, unlockKind, undoKind, withdrawKind, reinstateKind}
 use Rattle.session.specs.Program.{twoBytes, frameOf, openKind, pairsKind, chainKind, totalKind, Request, Frame, asks, faulty, opening, call, pairs, chain, totalling, Session, nextSession, Right, printed, listLeft, minFrame, maxFrame}
 use Rattle.lines.specs.Typed.{Typed, nothing, saying, typed}
 
@@ -39,6 +39,8 @@ kindOf (asks (call (edit (add k)))) = addKind
 kindOf (asks (call (edit (remove k)))) = removeKind
 kindOf (asks (call (edit (lock r)))) = lockKind
 kindOf (asks (call (edit (unlock r)))) = unlockKind
+kindOf (asks (call (edit (withdraw r)))) = withdrawKind
+kindOf (asks (call (edit (reinstate r)))) = reinstateKind
 kindOf (asks (call undo)) = undoKind
 kindOf (asks (pairs t)) = pairsKind
 kindOf (asks (chain x y t)) = chainKind
@@ -51,6 +53,8 @@ bodyOf (asks (call (edit (add k)))) = linkBytes k
 bodyOf (asks (call (edit (remove k)))) = linkBytes k
 bodyOf (asks (call (edit (lock r)))) = twoBytes r
 bodyOf (asks (call (edit (unlock r)))) = twoBytes r
+bodyOf (asks (call (edit (withdraw r)))) = twoBytes r
+bodyOf (asks (call (edit (reinstate r)))) = twoBytes r
 bodyOf (asks (call undo)) = []
 bodyOf (asks (pairs t)) = t
 bodyOf (asks (chain x y t)) = twoBytes x ++ (twoBytes y ++ t)

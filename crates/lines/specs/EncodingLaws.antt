@@ -16,7 +16,7 @@ use lib.Dec.{leb, ltb, eqb}
 use borrow.Author.Tests.{le-leb}
 use Rattle.book.specs.Basics.{pick}
 use Rattle.book.specs.Causes.{number, broken-frame, unknown-kind}
-use Rattle.book.specs.Book.{Link, Edit, edit, undo, add, remove, lock, unlock}
+use Rattle.book.specs.Book.{Link, Edit, edit, undo, add, remove, lock, unlock, withdraw, reinstate}
 use Rattle.paths.specs.Grammar.{Verdict}
 use Rattle.paths.specs.Chains.{Reply}
 use Rattle.report.specs.Report.{bytes}
@@ -37,6 +37,8 @@ decode-request (call (edit (add k))) = rw (both (k .from), both (k .to))
 decode-request (call (edit (remove k))) = rw (both (k .from), both (k .to))
 decode-request (call (edit (lock r))) = rw (both r)
 decode-request (call (edit (unlock r))) = rw (both r)
+decode-request (call (edit (withdraw r))) = rw (both r)
+decode-request (call (edit (reinstate r))) = rw (both r)
 decode-request (call undo) = refl
 decode-request (pairs t) = refl
 decode-request (chain x y t) =
@@ -102,7 +104,9 @@ requested-sends w r =
     (choose (sameBytes w (bytes "pairs")) _ _ (one (request {q = pairs (text r)} (omega (arith, length-text r))))
     (choose (sameBytes w (bytes "chain")) _ _ (chained-sends r)
     (choose (sameBytes w (bytes "total")) _ _ (lettered-sends r)
-    (one unknowns)))))))))
+    (choose (sameBytes w (bytes "withdraw")) _ _ (numbered-sends (λ x. call (edit (withdraw x))) r (λ n. refl))
+    (choose (sameBytes w (bytes "reinstate")) _ _ (numbered-sends (λ x. call (edit (reinstate x))) r (λ n. refl))
+    (one unknowns)))))))))))
 
 begun-sends : (s : List ℕ) → Sends (begun s)
 unfolding begun

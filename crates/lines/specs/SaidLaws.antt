@@ -60,9 +60,10 @@ requested-as v w r h = ap (λ (u : List ℕ). requested u r) (same-equal w v h)
 pub requested-none : (w r : List ℕ)
     → sameBytes w (bytes "open") ≡ false → sameBytes w (bytes "add") ≡ false → sameBytes w (bytes "remove") ≡ false
     → sameBytes w (bytes "lock") ≡ false → sameBytes w (bytes "unlock") ≡ false → sameBytes w (bytes "undo") ≡ false
-    → sameBytes w (bytes "pairs") ≡ false → sameBytes w (bytes "chain") ≡ false → sameBytes w (bytes "total") ≡ false → requested w r ≡ unknown
+    → sameBytes w (bytes "pairs") ≡ false → sameBytes w (bytes "chain") ≡ false → sameBytes w (bytes "total") ≡ false
+    → sameBytes w (bytes "withdraw") ≡ false → sameBytes w (bytes "reinstate") ≡ false → requested w r ≡ unknown
 unfolding requested
-requested-none w r a b d e f g h i j = rw (a, b, d, e, f, g, h, i, j)
+requested-none w r a b d e f g h i j k l = rw (a, b, d, e, f, g, h, i, j, k, l)
 
 -- ---- words as read
 number-fits : (w : List ℕ) (n : ℕ) → n ≡ read (isNumber w) (numberOf w) → n < unfit → (isNumber w ≡ true) × (n ≡ numberOf w)

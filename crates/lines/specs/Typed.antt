@@ -31,7 +31,7 @@ use lib.ListN.{length, take, drop}
 use lib.Dec.{leb, ltb, eqb}
 use Rattle.book.specs.Basics.{pick}
 use Rattle.book.specs.Causes.{broken-frame, unknown-kind, labels}
-use Rattle.book.specs.Book.{Link, Edit, edit, undo, add, remove, lock, unlock}
+use Rattle.book.specs.Book.{Link, Edit, edit, undo, add, remove, lock, unlock, withdraw, reinstate}
 use Rattle.report.specs.Report.{bytes, figure-0, letter-a, space}
 use Rattle.session.specs.Program.{Request, Frame, asks, faulty, opening, call, pairs, chain, totalling}
 
@@ -159,7 +159,9 @@ requested w r =
     (pick (sameBytes w (bytes "pairs")) (saying (asks (pairs (text r))))
     (pick (sameBytes w (bytes "chain")) (chained r)
     (pick (sameBytes w (bytes "total")) (lettered r)
-    unknown))))))))
+    (pick (sameBytes w (bytes "withdraw")) (numbered (λ x. call (edit (withdraw x))) r)
+    (pick (sameBytes w (bytes "reinstate")) (numbered (λ x. call (edit (reinstate x))) r)
+    unknown))))))))))
 
 unfoldable pub begun : List ℕ → Typed
 begun [] = nothing

@@ -6,7 +6,7 @@
 use mathlib.Core.Path.{_≡_, refl}
 use mathlib.Core.List.{List, [], _∷_}
 use Prim.Native.String.{String}
-use Rattle.book.specs.Book.{edit, undo, add, remove, lock, unlock}
+use Rattle.book.specs.Book.{edit, undo, add, remove, lock, unlock, withdraw, reinstate}
 use Rattle.report.specs.Report.{bytes}
 use Rattle.session.specs.Program.{Request, asks, opening, call, pairs, chain, totalling}
 use Rattle.lines.specs.Typed.{blank, skip, trim, word, rest, sameBytes, empty, figure, allFigures, numberAfter, numberOf, isNumber, isLabel, labelOf, text, Typed, nothing, saying, unknown, misfit, numbered, linked, alone, chained, lettered, requested, begun, typed}
@@ -40,6 +40,8 @@ table =
     request "chain 0 3 a/b " (chain 0 3 (bytes "a/b")) ∷
     request "chain 7 8" (chain 7 8 []) ∷
     request " total z " (totalling 25) ∷
+    request "withdraw 3" (call (edit (withdraw 3))) ∷
+    request " reinstate 065535" (call (edit (reinstate 65535))) ∷
     silent "" ∷
     silent "  " ∷
     silent "# open 4" ∷
@@ -59,6 +61,8 @@ table =
     no-fit "total" ∷
     no-fit "total A" ∷
     no-fit "total a b" ∷
+    no-fit "withdraw" ∷
+    no-fit "reinstate a" ∷
     []
 
 pub data Hold : List Case → Type 0 where
@@ -70,5 +74,5 @@ unfolding table bytes blank skip trim word rest sameBytes empty figure allFigure
 typed-cases =
     also refl (also refl (also refl (also refl (also refl (also refl (also refl (also refl (also refl (also refl (also refl (also refl (also refl
     (also refl (also refl (also refl (also refl (also refl (also refl (also refl (also refl (also refl (also refl (also refl (also refl (also refl
-    (also refl (also refl (also refl (also refl
-    none-left)))))))))))))))))))))))))))))
+    (also refl (also refl (also refl (also refl (also refl (also refl (also refl (also refl
+    none-left)))))))))))))))))))))))))))))))))

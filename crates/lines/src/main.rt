@@ -3,6 +3,7 @@
 //     open 4
 //     add 0 a 1        remove 0 a 1
 //     lock 1           unlock 1
+//     withdraw 1       reinstate 1
 //     undo
 //     pairs a/^a       chain 0 3 a/b
 //     total a

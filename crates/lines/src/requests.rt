@@ -30,6 +30,10 @@ const PAIRS: u8 = session::PAIRS as u8;
 
 const TOTAL: u8 = session::TOTAL as u8;
 
+const WITHDRAW: u8 = session::WITHDRAW as u8;
+
+const REINSTATE: u8 = session::REINSTATE as u8;
+
 const NO_KIND: u8 = 0;
 
 // The most bytes of a line.
@@ -165,6 +169,12 @@ fn request(word: &[u8], s: &[u8], out: &mut [u8]) -> usize
     }
     if words::same(word, b"total") {
         return total(s, out);
+    }
+    if words::same(word, b"withdraw") {
+        return numbered(WITHDRAW, s, out);
+    }
+    if words::same(word, b"reinstate") {
+        return numbered(REINSTATE, s, out);
     }
     put_frame(NO_KIND, b"", b"", out)
 }

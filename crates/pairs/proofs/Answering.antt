@@ -5,6 +5,7 @@ use Prim.Native.Nat.{ℕ, _*_, _≤_, _<_}
 use native.Mathlib.Omega.{arith}
 use lib.ListN.{length, take, drop}
 use lib.Seq.{take-at, drop-at}
+use Rattle.book.specs.Basics.{bit}
 use Rattle.book.specs.Causes.{short-work, number, Caused, maxRecords}
 use Rattle.book.specs.Book.{Book}
 use Rattle.k2.specs.Bits.{bitAt}
@@ -30,7 +31,6 @@ use Rattle.pairs.specs.declared.Related.the-variants.{Rows, Refused as D
 use Rattle.pairs.specs.Asking.{pairsLength, told-number, told-pairs, Handed, BookPairs, AsksFor, RelatesFor, rowWords, relationAnswer}
 use Rattle.pairs.specs.AskingLaws.{relation-refused, relation-short, relation-few, relation-paired, refused-alike, asks-handed, faulty-caused, handed-past, handed-some}
 use Rattle.pairs.specs.Relating.{Relating, turned-down, in-rows, RelatingFor}
-use Rattle.pairs.specs.Evaluation.{allBelow}
 use Rattle.pairs.specs.Steps.{Lettered, Coded}
 
 -- ---- the rows made
@@ -63,7 +63,7 @@ module _ (r : Register) (e : Expr) (n u work : ℕ) (before : List ℕ) (size : 
   few-rows h l = declines r (accepted e) work 12 before (short-work, refl) (λ b R. relation-few b work (length before) e (enough h b R) l)
 
   pub made-rows : (s ws used code part : List ℕ) → length part ≡ rowWords → n ≤ maxRecords → 32 * u ≤ work → rowWords ≤ length before
-      → ((b : Book) → Represents r b → Linked ws (b .sheet)) → bitAt used ≡ allBelow n → Coded s e code
+      → ((b : Book) → Represents r b → Linked ws (b .sheet)) → ((b : Book) → Represents r b → n ≡ b .n → bitAt used ≡ (λ x. bit (asked b .inUse x))) → Coded s e code
       → ((b : Book) → Lettered b n ws used → (s : List ℕ) (e : Expr) → Coded s e code → bitAt part ≡ flat (cells (asked b) e))
       → RelatingFor r (accepted e) work before (part ++ drop rowWords before) (Rows n)
   unfolding asked
@@ -76,7 +76,7 @@ module _ (r : Register) (e : Expr) (n u work : ℕ) (before : List ℕ) (size : 
     book = λ b R.
         let z : n ≡ b .n = size b R in
         let few : b .n ≤ maxRecords = subst (λ (j : ℕ). j ≤ maxRecords) z small in
-        let L : Lettered b n ws used = record { size = z; small = few; fit = R .sheet .fit; linked = linked b R; in-use = bits ∙ ap allBelow z } in
+        let L : Lettered b n ws used = record { size = z; small = few; fit = R .sheet .fit; linked = linked b R; in-use = bits b R z } in
         subst (λ (i : ℕ). Relating b (accepted e) work (length before) (part ++ drop rowWords before) (Rows i)) (sym z)
         (in-rows e refl (enough h b R) l few (cells-set (asked b) (fit-inside b (R .sheet .fit)) e) (ap bitAt (take-at part (drop rowWords before) rowWords wide) ∙ made b L s e C));
   }

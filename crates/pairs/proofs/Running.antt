@@ -1,16 +1,16 @@
 -- The whole code, in plain variables: how it begins, goes on and ends with its last number, whose value is left in rows. Assumes nothing.
 use mathlib.Core.Path.{_≡_, refl, sym, ap, ap₂, _∙_, subst, fun-ext}
-use mathlib.Core.Bool.{Bool}
+use mathlib.Core.Bool.{Bool, true, false, not, _&&_}
 use mathlib.Core.List.{List, [], _∷_}
 use Prim.Native.Nat.{ℕ, suc, _+_, _-_, _*_, _^_, _<_, _≤_}
 use native.Mathlib.Numerals.{add-one}
 use native.Mathlib.Decide.{decLt, ℕ-discrete}
 use native.Mathlib.Omega.{arith}
-use lib.Dec.{eqb}
+use lib.Dec.{ltb}
 use lib.ListN.{length, take, drop, getD, replicate, length-drop, drop-of-length-le}
 use lib.Seq.{drop-cons}
-use borrow.Author.Tests.{eq-eqb, ne-eqb, lt-ltb, le-ltb}
-use Rattle.book.specs.Basics.{pick}
+use borrow.Author.Tests.{lt-ltb, le-ltb}
+use Rattle.book.specs.Basics.{bit}
 use Rattle.book.specs.Book.{Book}
 use Rattle.k2.specs.Bits.{bitAt}
 use Rattle.k2.specs.PairSets.{Cells, union}
@@ -19,9 +19,14 @@ use Rattle.paths.specs.Expressions.{Expr, letter}
 use Rattle.paths.specs.Chains.{Graph, asked}
 use Rattle.paths.specs.Relations.{crossed, cells}
 use Rattle.bits.specs.BitSets.{none, put}
+use Rattle.bits.specs.BitSetLaws.{put-at, put-off}
 use Rattle.rows.specs.Rows.{flat, noPairs, crossedWords}
 use Rattle.rows.specs.RowLaws.{none-set, none-tree, union-none}
 use Rattle.reader.specs.Code.{op-inverse, run}
+use Rattle.register.specs.Marks.{withdrawnMark, hasMark}
+use Rattle.register.specs.Questions.{MarkList}
+use Rattle.register.specs.Representation.{Represents}
+use Rattle.register.specs.declared.Register.{Register}
 use Rattle.tree.specs.declared.operations.Operation.the-variants.{Union}
 use Rattle.tree.specs.declared.operations.Operand.{Operand}
 use Rattle.tree.specs.declared.operations.Term.{Term}
@@ -29,7 +34,7 @@ use Rattle.tree.specs.Inner.{nothing, Room as Spaces, termSet, InRows}
 use Rattle.tree.specs.InnerLaws.{valued-nothing}
 use Rattle.pairs.specs.declared.Stack.{Stack}
 use Rattle.pairs.specs.declared.Taken.{Taken}
-use Rattle.pairs.specs.Evaluation.{letterOperand, allBelow, most-waiting, Waiting, Room}
+use Rattle.pairs.specs.Evaluation.{letterOperand, usedBelow, most-waiting, Waiting, Room}
 use Rattle.pairs.specs.EvaluationLaws.{begins, does-label}
 use Rattle.pairs.specs.RoomLaws.{room-begins, room-ends}
 use Rattle.pairs.specs.LetterLaws.{links-below, letter-crossed, used-below}
@@ -133,16 +138,45 @@ module _ (n op : ℕ) (ws used work before after : List ℕ) (r : Bool) (S : Sta
           let c : termSet (q .term) (b .n) ws (bitAt used) (t .a) (t .b) ≡ cells (asked b) e = head-same (sym (t .does) ∙ w .rest) in
           I .rows room (t .a) (t .b) (m .1) ∙ ap flat (ap (λ (i : ℕ). termSet (q .term) i ws (bitAt used) (t .a) (t .b)) (L .size) ∙ c)
 
--- ---- the records below n
-pub below-none : allBelow 0 ≡ none
-unfolding none
-below-none = fun-ext (λ x. rw (le-ltb x 0 (omega arith)))
+-- ---- the records in use, one after the other
+pub used-none : (ms : List ℕ) → usedBelow 0 ms ≡ none
+unfolding usedBelow none
+used-none ms = fun-ext (λ x. rw (le-ltb x 0 (omega arith)))
 
-pub below-more : (i : ℕ) → put i 1 (allBelow i) ≡ allBelow (i + 1)
-unfolding put
-below-more i = fun-ext (λ x. go x (ℕ-discrete x i) (decLt x i))
-  where
-    go : (x : ℕ) → Dec (x ≡ i) → Dec (x < i) → pick (eqb x i) 1 (allBelow i x) ≡ allBelow (i + 1) x
-    go x (yes e) l = rw (eq-eqb x i e, lt-ltb x (i + 1) (omega arith)) refl
-    go x (no e) (yes l) = rw (ne-eqb x i e, lt-ltb x i l, lt-ltb x (i + 1) (omega arith)) refl
-    go x (no e) (no l) = rw (ne-eqb x i e, le-ltb x i (omega arith), le-ltb x (i + 1) (omega (arith, e))) refl
+module _ (ms : List ℕ) (i : ℕ) where
+  -- at every other record
+  used-off : (x : ℕ) → (x ≡ i → ⊥) → usedBelow i ms x ≡ usedBelow (i + 1) ms x
+  unfolding usedBelow
+  used-off x d = ap (λ (t : Bool). bit (t && not (hasMark withdrawnMark ms x))) (go (decLt x i))
+    where
+      go : Dec (x < i) → ltb x i ≡ ltb x (i + 1)
+      go (yes h) = lt-ltb x i h ∙ sym (lt-ltb x (i + 1) (omega arith))
+      go (no h) = le-ltb x i (omega (arith, h)) ∙ sym (le-ltb x (i + 1) (omega (arith, h, d)))
+
+  used-at : (t : Bool) → hasMark withdrawnMark ms i ≡ t → usedBelow (i + 1) ms i ≡ bit (not t)
+  unfolding usedBelow
+  used-at t e = rw (lt-ltb i (i + 1) (omega arith), e)
+
+  used-past : usedBelow i ms i ≡ 0
+  unfolding usedBelow
+  used-past = rw (le-ltb i i (omega arith))
+
+  pub used-more : hasMark withdrawnMark ms i ≡ false → put i 1 (usedBelow i ms) ≡ usedBelow (i + 1) ms
+  used-more e = fun-ext (λ x. go x (ℕ-discrete x i))
+    where
+      go : (x : ℕ) → Dec (x ≡ i) → put i 1 (usedBelow i ms) x ≡ usedBelow (i + 1) ms x
+      go x (yes q) = rw q (put-at i 1 (usedBelow i ms) ∙ sym (used-at false e))
+      go x (no d) = put-off i 1 (usedBelow i ms) x d ∙ used-off x d
+
+  -- a withdrawn one
+  pub used-same : hasMark withdrawnMark ms i ≡ true → usedBelow i ms ≡ usedBelow (i + 1) ms
+  used-same e = fun-ext (λ x. go x (ℕ-discrete x i))
+    where
+      go : (x : ℕ) → Dec (x ≡ i) → usedBelow i ms x ≡ usedBelow (i + 1) ms x
+      go x (yes q) = rw q (used-past ∙ sym (used-at true e))
+      go x (no d) = used-off x d
+
+-- of a register's marks they are those of its book
+pub used-asked : {r : Register} (ms : List ℕ) → MarkList r ms → (n : ℕ) (b : Book) → Represents r b → n ≡ b .n → usedBelow n ms ≡ (λ x. bit (asked b .inUse x))
+unfolding usedBelow asked
+used-asked ms M n b R e = fun-ext (λ x. rw (e, M .withdrawn b R x))

@@ -5,7 +5,7 @@
 --   operandAt os k  the operand at place k of the list os, nothing past its end
 --   pushed o k at S the stack S with the operand o as its last of k and one, whose trees end at `at`
 --   turned S        S with the operand on top read with the other sense
---   allBelow n      the bits of the records below n
+--   usedBelow n ms  the bits of the records below n whose mark, of the marks ms, is not that of a withdrawn one
 --   Standing n ws work os k at st
 --                   the first k operands of os, whose trees lie one after another at the front of work and end at `at`, stand for the sets st of pairs below n,
 --                   the last one first; ws are the words of the links
@@ -19,6 +19,7 @@
 -- Assumes nothing: these are definitions.
 use mathlib.Core.Path.{_≡_}
 use mathlib.Core.List.{List, [], _∷_}
+use mathlib.Core.Bool.{not, _&&_}
 use Prim.Native.Nat.{ℕ, suc, _+_, _-_, _^_, _≤_}
 use lib.Dec.{eqb, ltb}
 use lib.ListN.{length, take, drop, getD, set}
@@ -28,6 +29,7 @@ use Rattle.k2.specs.Trees.{treeWords}
 use Rattle.paths.specs.Expressions.{Expr, letter}
 use Rattle.paths.specs.Chains.{Graph}
 use Rattle.paths.specs.Relations.{crossed, zeroSteps, cells}
+use Rattle.register.specs.Marks.{withdrawnMark, hasMark}
 use Rattle.packing.specs.declared.loading.Sense.the-variants.{Plain}
 use Rattle.reader.specs.Code.{op-star, op-plus, op-optional, op-sequence, Algebra, run}
 use Rattle.reader.specs.Running.{Runs}
@@ -67,8 +69,8 @@ pushed o k at S = record { operands = set (S .operands) k o; count = k + 1; end 
 abbrev pub turned : Stack → Stack
 turned S = record { operands = set (S .operands) (S .count - 1) (flipped (operandAt (S .operands) (S .count - 1))); count = S .count; end = S .end }
 
-abbrev pub allBelow : ℕ → ℕ → ℕ
-allBelow n x = bit (ltb x n)
+unfoldable pub usedBelow : ℕ → List ℕ → ℕ → ℕ
+usedBelow n ms x = bit (ltb x n && not (hasMark withdrawnMark ms x))
 
 pub data Standing (n : ℕ) (ws work : List ℕ) (os : List Operand) : ℕ → ℕ → List Cells → Type 0 where
   none-waits : Standing n ws work os 0 0 []

@@ -4,6 +4,7 @@ ghost use mathlib.Core.Path.{_≡_};
 ghost use mathlib.Core.List.{List, [], _∷_};
 ghost use Prim.Native.Nat.{ℕ, _*_, _-_, _^_, _<_, _≤_};
 ghost use lib.ListN.{length, take};
+ghost use Rattle.book.specs.Basics.{bit};
 ghost use Rattle.book.specs.Book.{Book};
 ghost use Rattle.book.specs.Causes.{maxRecords, labels};
 ghost use Rattle.k2.specs.Bits.{bitAt};
@@ -14,8 +15,9 @@ ghost use Rattle.paths.specs.Verdicts.{verdict};
 ghost use Rattle.paths.specs.Chains.{asked};
 ghost use Rattle.paths.specs.Relations.{cells};
 ghost use Rattle.reader.specs.Code.{op-inverse};
+ghost use Rattle.register.specs.Representation.{Represents};
 ghost use Rattle.rows.specs.Rows.{flat, pairsIn};
-ghost use Rattle.pairs.specs.Evaluation.{letterOperand, operationOf, pushed, turned, Room, allBelow};
+ghost use Rattle.pairs.specs.Evaluation.{letterOperand, operationOf, pushed, turned, Room};
 ghost use Rattle.pairs.specs.Steps.{Lettered, Takes, Goes, Coded, Going, Ends};
 ghost use Rattle.pairs.specs.Relating.{RelatingFor};
 ghost use Rattle.pairs.specs.Asking.{Handed, Relates, AsksPairs};
@@ -282,15 +284,18 @@ fn run(work: &mut [u64], n: usize, links: &[u32], used: &[u64], rows: &mut [u64]
     last(work, n, links, used, rows, stack, code[code.len() - 1]);
 }
 
-// The records in use, as 1,024 bits: those below n.
-fn in_use(n: usize) -> [u64; 16]
+// The records in use, as 1,024 bits: those below n that are not withdrawn.
+fn in_use(register: register::Register, n: usize) -> [u64; 16]
     requires { ⌜ n ≤ maxRecords ⌝ }
-    ensures { λ r. ⌜ bitAt r ≡ allBelow n ⌝ }
+    ensures { λ r. ⌜ ((b : Book) → Represents register b → n ≡ b .n → bitAt r ≡ (λ x. bit (asked b .inUse x))) ⌝ }
 {
+    let marks = register.marks();
     let mut records: [u64; 16] = [0; 16];
     let mut i = 0;
     while i < n {
-        bits::set_bit(&mut records, i);
+        if marks[i] != register::WITHDRAWN_MARK {
+            bits::set_bit(&mut records, i);
+        }
         i += 1;
     }
     records
@@ -317,7 +322,7 @@ fn of_code(
     let links = register.links();
     let count = links.count;
     let array = links.words;
-    let used = in_use(n);
+    let used = in_use(register, n);
     run(
         work,
         n,

@@ -1,6 +1,6 @@
 -- Steps, chains, what they spell, and which chain is the first.
 --   Graph           what a question looks at: n, which records are in use, and which links are present
---   asked b         the graph of a book: the records 0 to n - 1 are in use, and the sheet's links are present
+--   asked b         the graph of a book: the records 0 to n - 1 that are not withdrawn are in use, and the sheet's links are present
 --   Step            the letter that the step spells, and the record reached
 --   crossing a x y  the link that is crossed from x to y in spelling the letter a
 --   stepWord s      (label × 2 + sense) × 1,024 + record reached, sense 0 forward and 1 against
@@ -17,12 +17,12 @@
 -- Assumes nothing: these are definitions.
 use mathlib.Core.Path.{_≡_}
 use mathlib.Core.List.{List, [], _∷_, map}
-use mathlib.Core.Bool.{Bool, true}
+use mathlib.Core.Bool.{Bool, true, not, _&&_}
 use Prim.Native.Nat.{ℕ, _+_, _*_, _<_}
 use lib.ListN.{length}
 use lib.Dec.{ltb}
 use Rattle.book.specs.Basics.{pick, bit}
-use Rattle.book.specs.Book.{Link, Book, present}
+use Rattle.book.specs.Book.{Link, Book, present, isWithdrawn}
 use Rattle.paths.specs.Expressions.{Letter, Expr}
 use Rattle.paths.specs.Words.{Words}
 
@@ -32,7 +32,7 @@ pub record Graph : Type 0 where
   pub present : Link → Bool
 
 unfoldable pub asked : Book → Graph
-asked b = record { n = b .n; inUse = λ x. ltb x (b .n); present = present (b .sheet) }
+asked b = record { n = b .n; inUse = λ x. ltb x (b .n) && not (isWithdrawn (b .sheet) x); present = present (b .sheet) }
 
 pub record Step : Type 0 where
   pub spelt : Letter

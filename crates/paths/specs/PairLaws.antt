@@ -3,15 +3,19 @@
 --   pairs-only      no other list is so
 --   first-part      of an ascending list, every word of the first part is smaller than every other
 --   long-enough     with room for all pairs, the answer of a pair question has them all
+--   withdrawn-out, in-use
+--                   a withdrawn record is not in use, and one below n that is not withdrawn is
 --   fit-inside, history-inside, history-small
 --                   after every history the links lie between records in use, and n is at most 1,024
+--   withdrawn-none, none-withdrawn
+--                   a chain question from a withdrawn record gives none, also to itself; and one to it
 --   pairs-in-order, chain-in-order
 --                   the causes against a question stand in the order of S6.7
 --   verdict-caused  the number of a faulty text is that of a cause
 -- Assumes nothing.
-use mathlib.Core.Path.{_≡_, refl, sym, ap}
+use mathlib.Core.Path.{_≡_, refl, sym, ap, _∙_}
 use mathlib.Core.List.{List, [], _∷_, _++_}
-use mathlib.Core.Bool.{Bool}
+use mathlib.Core.Bool.{Bool, true, false, not, _&&_, false≢true}
 use Prim.Native.Nat.{ℕ, zero, suc, _≤_, _<_}
 use native.Mathlib.Omega.{arith}
 use lib.ListN.{length, take}
@@ -20,14 +24,15 @@ use lib.Dec.{ltb}
 use borrow.Author.Tests.{ltb-true, lt-ltb}
 use Rattle.book.specs.Basics.{In, here, there, Rises, rises}
 use Rattle.book.specs.Causes.{Cause, no-expression, too-many-bytes, too-large, short-work, short-list, number, Caused, firstNumber, questionOrder, InOrder, none-left, same-cause, passed-over}
-use Rattle.book.specs.Book.{Sheet, Book, Call, fresh, after}
+use Rattle.book.specs.Book.{Sheet, Book, isWithdrawn, Call, fresh, after}
 use Rattle.book.specs.ListLaws.{in-none, rises-least, rises-same}
+use Rattle.book.specs.SetLaws.{and-both}
 use Rattle.book.specs.Sheets.{Fit}
 use Rattle.book.specs.BookLaws.{fresh-sound, after-sound}
 use Rattle.k2.specs.PairSetLaws.{in-listed, listed-in, listed-rises}
 use Rattle.paths.specs.Expressions.{Expr}
 use Rattle.paths.specs.Grammar.{Verdict, accepted, long, outside, large, verdictCause}
-use Rattle.paths.specs.Chains.{Graph, asked, Reply}
+use Rattle.paths.specs.Chains.{Graph, asked, Reply, none, ChainIs, no-chain}
 use Rattle.paths.specs.Relations.{cells, PairsAre, pairs}
 use Rattle.paths.specs.Questions.{paired, unless, chainWork, pairsOf, pairsCauses, pairsAnswer, steps, chainCauses}
 use Rattle.paths.specs.ChainLaws.{Inside}
@@ -65,12 +70,24 @@ unfolding pairsAnswer
 long-enough b v work room h = ap (λ (ws : List ℕ). unless (firstNumber (pairsCauses b v work)) (paired (length (pairsOf b v)) ws)) (take-all room (pairsOf b v) h)
 
 -- ---- the graph of a book
+pub withdrawn-out : (b : Book) (x : ℕ) → isWithdrawn (b .sheet) x ≡ true → asked b .inUse x ≡ false
+unfolding asked
+withdrawn-out b x w = ap (λ (t : Bool). ltb x (b .n) && not t) w ∙ and-false (ltb x (b .n))
+  where
+    and-false : (t : Bool) → (t && false) ≡ false
+    and-false true = refl
+    and-false false = refl
+
+pub in-use : (b : Book) (x : ℕ) → x < b .n → isWithdrawn (b .sheet) x ≡ false → asked b .inUse x ≡ true
+unfolding asked
+in-use b x h w = rw (lt-ltb x (b .n) h, w)
+
 pub fit-inside : (b : Book) → Fit (b .n) (b .sheet) → Inside (asked b)
 unfolding asked
 fit-inside b f = record {
-  below = λ x u. ltb-true x (b .n) u;
-  from = λ k p. lt-ltb (k .from) (b .n) (f .links k p .from);
-  to = λ k p. lt-ltb (k .to) (b .n) (f .links k p .to);
+  below = λ x u. ltb-true x (b .n) (and-both (ltb x (b .n)) (not (isWithdrawn (b .sheet) x)) u .0);
+  from = λ k p. in-use b (k .from) (f .links k p .from) (f .ends k p .0);
+  to = λ k p. in-use b (k .to) (f .links k p .to) (f .ends k p .1);
   label = λ k p. f .links k p .label;
 }
 
@@ -80,6 +97,12 @@ history-inside n h cs = fit-inside (after (fresh n) cs) (after-sound (fresh n) c
 pub history-small : (n : ℕ) → n ≤ 1024 → (cs : List Call) → asked (after (fresh n) cs) .n ≤ 1024
 unfolding asked
 history-small n h cs = after-sound (fresh n) cs (fresh-sound n h) .small
+
+pub withdrawn-none : (b : Book) (e : Expr) (x y : ℕ) → isWithdrawn (b .sheet) x ≡ true → ChainIs (asked b) e x y none
+withdrawn-none b e x y w = no-chain (λ ss a. false≢true (sym (withdrawn-out b x w) ∙ a .begins))
+
+pub none-withdrawn : (b : Book) (e : Expr) (x y : ℕ) → isWithdrawn (b .sheet) y ≡ true → ChainIs (asked b) e x y none
+none-withdrawn b e x y w = no-chain (λ ss a. false≢true (sym (withdrawn-out b y w) ∙ a .ends))
 
 -- ---- the order of causes
 -- the verdict's cause, and then the two of lent space

@@ -1,24 +1,26 @@
--- Laws of what the questions are given: the part of an ascending list between two numbers, and the next place whose word passes a test. Assumes nothing.
+-- Laws of what the questions are given: the part of an ascending list between two numbers, the next place whose word passes a test, and whether a link
+-- touches a record. Assumes nothing.
 use mathlib.Core.Path.{_≡_, refl, ap, sym, subst, _∙_}
 use mathlib.Core.Logic.{_⊎_, inl, inr, ⊎-elim}
 use mathlib.Core.List.{List, [], _∷_, map}
 use mathlib.Core.Bool.{Bool, true, false, true≢false}
-use Prim.Native.Nat.{ℕ, zero, suc, _+_, _*_, _-_, _%_, _≤_, _<_, min}
+use Prim.Native.Nat.{ℕ, zero, suc, _+_, _*_, _-_, _/_, _%_, _≤_, _<_, min}
 use native.Mathlib.Numerals.{add-one}
 use native.Mathlib.Omega.{arith}
 use native.Mathlib.Decide.{decLt}
 use lib.Dec.{ltb}
 use lib.ListN.{length, take, drop, getD, length-drop, drop-of-length-le}
 use lib.Seq.{drop-cons, getD-drop}
-use borrow.Author.Tests.{ltb-true, ltb-false, eqb-true, eq-eqb}
+use borrow.Author.Tests.{ltb-true, ltb-false, lt-ltb, le-ltb, eqb-true, eq-eqb}
 use Rattle.book.specs.Basics.{pick, In, here, there, Rises, ended, rises}
 use Rattle.book.specs.Causes.{maxRecords}
-use Rattle.book.specs.Book.{Link, Sheet, present}
+use Rattle.book.specs.Book.{Link, Sheet, present, touched}
 use Rattle.book.specs.ListLaws.{in-front, in-none, in-at, at-in, map-in, in-map, rises-least}
 use Rattle.book.specs.Sheets.{Fit}
+use Rattle.book.specs.BookLaws.{touched-end, end-touched}
 use Rattle.register.specs.Links.{linkWord, linkOf, Linked}
 use Rattle.register.specs.LinkLaws.{word-link}
-use Rattle.register.specs.Inner.{Seam}
+use Rattle.register.specs.Inner.{Seam, hasAt}
 use Rattle.register.specs.Lookups.{pairOf, PairsOf, LabelPart, firstPlace, nextPlace, touches, NextLink}
 use Rattle.register.proofs.Ascending.{below, seam-list}
 
@@ -216,3 +218,46 @@ next-link side ws r at i e = record {
     go j t (yes a) d = inl a
     go j t (no a) (yes b) = absurd (true≢false (sym t ∙ next-passed (touches side r) ws at j (omega arith) (rw e at b)))
     go j t (no a) (no b) = inr (omega arith)
+
+-- ---- whether a link touches a record
+module _ (ws : List ℕ) (r : ℕ) where
+  pub touched-from : nextPlace (hasAt 1024 r) ws 0 < length ws → touched r (map linkOf ws) ≡ true
+  unfolding hasAt
+  touched-from h = end-touched r (map linkOf ws) (map-in linkOf (at-in ws _ 0 h)) (inl (eqb-true _ r (next-is (hasAt 1024 r) ws 0 h .1)))
+
+  touched-to : nextPlace (hasAt 1 r) ws 0 < length ws → touched r (map linkOf ws) ≡ true
+  unfolding hasAt
+  touched-to h =
+      let w = getD ws (nextPlace (hasAt 1 r) ws 0) 0 in
+      let e : w / 1 % 1024 ≡ r = eqb-true _ r (next-is (hasAt 1 r) ws 0 h .1) in
+      let z : w % 1024 ≡ r = omega (arith, e) in
+      end-touched r (map linkOf ws) (map-in linkOf (at-in ws _ 0 h)) (inr z)
+
+  -- found at neither side
+  untouched : length ws ≤ nextPlace (hasAt 1024 r) ws 0 → length ws ≤ nextPlace (hasAt 1 r) ws 0 → touched r (map linkOf ws) ≡ false
+  unfolding hasAt
+  untouched f t = go (touched r (map linkOf ws)) refl
+    where
+      go : (b : Bool) → touched r (map linkOf ws) ≡ b → b ≡ false
+      go false e = refl
+      go true e =
+          let o = touched-end r (map linkOf ws) e in
+          let q = in-map linkOf ws (o .1) in
+          let a = in-at 0 (q .1) in
+          let w = getD ws (a .0) 0 in
+          let k : o .0 ≡ linkOf w = q .2 ∙ ap linkOf (sym (a .2)) in
+          ⊎-elim
+          (λ p. absurd (true≢false (sym (eq-eqb (w / 1024 % 1024) r (sym (ap (λ (l : Link). l .from) k) ∙ p)) ∙ next-passed (hasAt 1024 r) ws 0 (a .0) (omega arith) (omega (arith, a .1)))))
+          (λ p.
+          let y : w % 1024 ≡ r = sym (ap (λ (l : Link). l .to) k) ∙ p in
+          let z : w / 1 % 1024 ≡ r = omega (arith, y) in
+          absurd (true≢false (sym (eq-eqb (w / 1 % 1024) r z) ∙ next-passed (hasAt 1 r) ws 0 (a .0) (omega arith) (omega (arith, a .1)))))
+          (o .2)
+
+  -- not found at the first side: by the second
+  pub touched-second : length ws ≤ nextPlace (hasAt 1024 r) ws 0 → (i : ℕ) → i ≡ nextPlace (hasAt 1 r) ws 0 → ltb i (length ws) ≡ touched r (map linkOf ws)
+  touched-second f i e = go (decLt i (length ws))
+    where
+      go : Dec (i < length ws) → ltb i (length ws) ≡ touched r (map linkOf ws)
+      go (yes h) = lt-ltb i (length ws) h ∙ sym (touched-to (rw e at h))
+      go (no h) = le-ltb i (length ws) (omega (arith, h)) ∙ sym (untouched f (omega (arith, h, e)))

@@ -1,22 +1,21 @@
--- Laws of a register kept as words: `copy`, the words of locks, what `load` reads and what `store` writes. Assumes nothing.
+-- Laws of a register kept as words: `copy`, the words of marks, what `load` reads and what `store` writes. Assumes nothing.
 use mathlib.Core.Path.{_≡_, refl, sym, ap, _∙_}
-use mathlib.Core.List.{List, [], _∷_, _++_, map, append-nil}
+use mathlib.Core.List.{List, [], _∷_, _++_, append-nil}
 use mathlib.Core.Bool.{Bool, true, false, false≢true, true≢false}
 use Prim.Native.Nat.{ℕ, zero, suc, _+_, _-_, _≤_, _<_}
-use native.Mathlib.Decide.{decLt, ℕ-discrete}
+use native.Mathlib.Decide.{decLt}
 use native.Mathlib.Omega.{arith}
 use native.Mathlib.Numerals.{add-one}
-use mir.Val.{boolByte}
-use lib.Dec.{eqb}
-use lib.ListN.{length, take, drop, set, getD, length-append, length-map, drop-of-length-le, List·getD-eq-default, List·getD-map}
-use lib.Seq.{ext-getD, getD-set-same, getD-set-other, take-at, drop-at, drop-drop, take-all, take-length, length-take-le, paste, paste-suc}
+use lib.ListN.{length, take, drop, set, getD, length-append, drop-of-length-le, List·getD-eq-default}
+use lib.Seq.{take-at, drop-at, drop-drop, take-length, length-take-le, paste, paste-suc}
 use Rattle.book.specs.Causes.{number, labels, maxRecords, maxLinks, maxHeld}
 use Rattle.book.specs.Book.{fresh}
 use Rattle.register.specs.Counters.{Ranged, InRange}
 use Rattle.register.specs.Representation.{Represents}
-use Rattle.register.specs.Inner.{Flags, Formed, Tested}
-use Rattle.register.specs.Words.{stateWords, linksAt, ringAt, locksAt, totalsAt, lockWord, numbersOf, stateOf, Keeps, Copies, Loads, Stores}
-use Rattle.register.specs.WordLaws.{lock-back, keeps-formed}
+use Rattle.register.specs.Marks.{freeMark, withdrawnMark, Marked}
+use Rattle.register.specs.Inner.{Formed, Tested}
+use Rattle.register.specs.Words.{stateWords, linksAt, ringAt, marksAt, totalsAt, numbersOf, stateOf, Keeps, Copies, Loads, Stores}
+use Rattle.register.specs.WordLaws.{keeps-formed}
 use Rattle.register.specs.declared.Register.{Register}
 use Rattle.register.specs.declared.Answer.the-variants.{Done, Refused}
 
@@ -47,45 +46,18 @@ copied-over xs before after ok l c =
     let e = c .fits (omega arith) .1 in
     e ∙ ap (λ (t : List ℕ). xs ++ t) (drop-of-length-le before {i = 0 + length xs} (omega arith)) ∙ append-nil xs
 
--- ---- locks
-pub flags-all : (ws : List ℕ) → ((j : ℕ) → j < length ws → getD ws j 0 ≤ 1) → Flags ws
-flags-all ws f i = go (decLt i (length ws))
+-- ---- marks
+pub marked-all : (ms : List ℕ) → ((j : ℕ) → j < length ms → getD ms j freeMark ≤ withdrawnMark) → Marked ms
+marked-all ms f i = go (decLt i (length ms))
   where
-    go : Dec (i < length ws) → getD ws i 0 ≤ 1
+    go : Dec (i < length ms) → getD ms i freeMark ≤ withdrawnMark
     go (yes h) = f i h
-    go (no h) = let e : getD ws i 0 ≡ 0 = List·getD-eq-default ws 0 (omega arith) in omega arith
-
-pub lock-more : (ws : List ℕ) (ls : List Bool) (i : ℕ) → i < length ls → ((j : ℕ) → j < i → getD ls j false ≡ eqb (getD ws j 0) 1)
-    → (j : ℕ) → j < i + 1 → getD (set ls i (eqb (getD ws i 0) 1)) j false ≡ eqb (getD ws j 0) 1
-lock-more ws ls i l f j h = go (ℕ-discrete j i)
-  where
-    go : Dec (j ≡ i) → getD (set ls i (eqb (getD ws i 0) 1)) j false ≡ eqb (getD ws j 0) 1
-    go (yes e) = rw e (getD-set-same ls i (eqb (getD ws i 0) 1) false l)
-    go (no n) = getD-set-other ls i j (eqb (getD ws i 0) 1) false n ∙ f j (omega (arith, n))
-
-pub locks-read : (ws : List ℕ) (ls : List Bool) → length ws ≡ length ls → ((j : ℕ) → j < length ws → getD ls j false ≡ eqb (getD ws j 0) 1) → Flags ws → map lockWord ls ≡ ws
-locks-read ws ls l f g = ext-getD 0 (map lockWord ls) ws (length-map ls lockWord ∙ sym l)
-    (λ j h. List·getD-map lockWord ls j false ∙ ap lockWord (f j (omega (arith, length-map ls lockWord))) ∙ lock-back (getD ws j 0) (g j))
-
-pub lock-written : (ls : List Bool) (at : ℕ) (before now : List ℕ) (i : ℕ) → now ≡ paste before at (map lockWord ls) i → i < length ls → at + i < length before
-    → set now (at + i) (boolByte (getD ls i false)) ≡ paste before at (map lockWord ls) (i + 1)
-lock-written ls at before now i e l h =
-    ap (λ (w : ℕ). set now (at + i) w) (sym (List·getD-map lockWord ls i false ∙ byte (getD ls i false)))
-    ∙ copied-more (map lockWord ls) at before now i e (omega (arith, length-map ls lockWord)) h
-  where
-    byte : (l : Bool) → lockWord l ≡ boolByte l
-    byte true = refl
-    byte false = refl
-
-pub locks-written : (ls : List Bool) (at : ℕ) (before after : List ℕ) → after ≡ paste before at (map lockWord ls) (length ls)
-    → after ≡ take at before ++ map lockWord ls ++ drop (at + length ls) before
-locks-written ls at before after e =
-    e ∙ ap (λ (t : List ℕ). take at before ++ t ++ drop (at + length ls) before) (take-all (length ls) (map lockWord ls) (omega (arith, length-map ls lockWord)))
+    go (no h) = let e : getD ms i 0 ≡ 0 = List·getD-eq-default ms 0 (omega arith) in omega arith
 
 -- ---- load
 pub formed-by : (ws : List ℕ) (ok : Bool) → stateWords ≤ length ws → Ranged (getD ws 0 0) (getD ws 1 0) (getD ws 2 0) (getD ws 3 0)
-    → Tested (Flags (take maxRecords (drop locksAt ws))) ok → Tested (Formed ws) ok
-formed-by ws ok l r t = record { sure = λ e. record { long = l; ranged = r; flags = t .sure e }; none = λ e f. t .none e (f .flags) }
+    → Tested (Marked (take maxRecords (drop marksAt ws))) ok → Tested (Formed ws) ok
+formed-by ws ok l r t = record { sure = λ e. record { long = l; ranged = r; marked = t .sure e }; none = λ e f. t .none e (f .marked) }
 
 pub load-refused : (ws : List ℕ) (ok : Bool) {r : Register} → Tested (Formed ws) ok → ok ≡ false → Represents r (fresh 0)
     → Loads ws (record { register = r; answer = Refused 16 })
@@ -119,35 +91,33 @@ past xs before after at k h l c =
     ∙ drop-drop (k - m) m before
     ∙ ap (λ (i : ℕ). drop i before) e
 
-pub stored : (r : Register) (w₀ w₁ w₂ w₃ w₄ w₅ : List ℕ) → InRange r
-    → length (r .links) ≡ maxLinks → length (r .ring) ≡ maxHeld → length (r .locks) ≡ maxRecords → length (r .totals) ≡ labels
+pub stored : (r : Register) (w₀ w₁ w₂ w₃ w₄ w₅ : List ℕ) → InRange r → Marked (r .marks)
+    → length (r .links) ≡ maxLinks → length (r .ring) ≡ maxHeld → length (r .marks) ≡ maxRecords → length (r .totals) ≡ labels
     → stateWords ≤ length w₀ → stateWords ≤ length w₁ → stateWords ≤ length w₂ → stateWords ≤ length w₃ → stateWords ≤ length w₄
     → w₁ ≡ take 0 w₀ ++ numbersOf r ++ drop (0 + length (numbersOf r)) w₀
     → w₂ ≡ take linksAt w₁ ++ r .links ++ drop (linksAt + length (r .links)) w₁
     → w₃ ≡ take ringAt w₂ ++ r .ring ++ drop (ringAt + length (r .ring)) w₂
-    → w₄ ≡ take locksAt w₃ ++ map lockWord (r .locks) ++ drop (locksAt + length (r .locks)) w₃
+    → w₄ ≡ take marksAt w₃ ++ r .marks ++ drop (marksAt + length (r .marks)) w₃
     → w₅ ≡ take totalsAt w₄ ++ r .totals ++ drop (totalsAt + length (r .totals)) w₄
     → Stores r w₀ w₅ true
-stored r w₀ w₁ w₂ w₃ w₄ w₅ g ls rs ks ts l₀ l₁ l₂ l₃ l₄ a b c d e =
-    let m : length (map lockWord (r .locks)) ≡ length (r .locks) = length-map (r .locks) lockWord in
-    let d′ : w₄ ≡ take locksAt w₃ ++ map lockWord (r .locks) ++ drop (locksAt + length (map lockWord (r .locks))) w₃ = rw m d in
+stored r w₀ w₁ w₂ w₃ w₄ w₅ g v ls rs ks ts l₀ l₁ l₂ l₃ l₄ a b c d e =
     let e₁ : take linksAt w₁ ≡ numbersOf r = behind [] (numbersOf r) w₀ w₁ 0 linksAt refl refl refl a in
     let f₂ : length (numbersOf r ++ r .links) ≡ ringAt = length-append (numbersOf r) (r .links) ∙ omega (arith, ls) in
     let e₂ : take ringAt w₂ ≡ numbersOf r ++ r .links = behind (numbersOf r) (r .links) w₁ w₂ linksAt ringAt e₁ refl (omega (arith, ls)) b in
-    let f₃ : length (numbersOf r ++ r .links ++ r .ring) ≡ locksAt = length-append (numbersOf r ++ r .links) (r .ring) ∙ omega (arith, f₂, rs) in
-    let e₃ : take locksAt w₃ ≡ numbersOf r ++ r .links ++ r .ring = behind (numbersOf r ++ r .links) (r .ring) w₂ w₃ ringAt locksAt e₂ f₂ (omega (arith, rs)) c in
-    let f₄ : length (numbersOf r ++ r .links ++ r .ring ++ map lockWord (r .locks)) ≡ totalsAt = length-append (numbersOf r ++ r .links ++ r .ring) (map lockWord (r .locks)) ∙ omega (arith, f₃, m, ks) in
-    let e₄ : take totalsAt w₄ ≡ numbersOf r ++ r .links ++ r .ring ++ map lockWord (r .locks) =
-    behind (numbersOf r ++ r .links ++ r .ring) (map lockWord (r .locks)) w₃ w₄ locksAt totalsAt e₃ f₃ (omega (arith, m, ks)) d′ in
+    let f₃ : length (numbersOf r ++ r .links ++ r .ring) ≡ marksAt = length-append (numbersOf r ++ r .links) (r .ring) ∙ omega (arith, f₂, rs) in
+    let e₃ : take marksAt w₃ ≡ numbersOf r ++ r .links ++ r .ring = behind (numbersOf r ++ r .links) (r .ring) w₂ w₃ ringAt marksAt e₂ f₂ (omega (arith, rs)) c in
+    let f₄ : length (numbersOf r ++ r .links ++ r .ring ++ r .marks) ≡ totalsAt = length-append (numbersOf r ++ r .links ++ r .ring) (r .marks) ∙ omega (arith, f₃, ks) in
+    let e₄ : take totalsAt w₄ ≡ numbersOf r ++ r .links ++ r .ring ++ r .marks =
+    behind (numbersOf r ++ r .links ++ r .ring) (r .marks) w₃ w₄ marksAt totalsAt e₃ f₃ (omega (arith, ks)) d in
     let e₅ : take stateWords w₅ ≡ stateOf r =
-    behind (numbersOf r ++ r .links ++ r .ring ++ map lockWord (r .locks)) (r .totals) w₄ w₅ totalsAt stateWords e₄ f₄ (omega (arith, ts)) e in
+    behind (numbersOf r ++ r .links ++ r .ring ++ r .marks) (r .totals) w₄ w₅ totalsAt stateWords e₄ f₄ (omega (arith, ts)) e in
     let rest : drop stateWords w₅ ≡ drop stateWords w₀ =
     past (r .totals) w₄ w₅ totalsAt stateWords (omega (arith, ts)) l₄ e
-    ∙ past (map lockWord (r .locks)) w₃ w₄ locksAt stateWords (omega (arith, m, ks)) l₃ d′
+    ∙ past (r .marks) w₃ w₄ marksAt stateWords (omega (arith, ks)) l₃ d
     ∙ past (r .ring) w₂ w₃ ringAt stateWords (omega (arith, rs)) l₂ c
     ∙ past (r .links) w₁ w₂ linksAt stateWords (omega (arith, ls)) l₁ b
     ∙ past (numbersOf r) w₀ w₁ 0 stateWords (omega arith) l₀ a in
-    record { done = λ _. (record { ranged = g; links = ls; ring = rs; locks = ks; totals = ts; words = e₅ }, rest); refused = λ e. absurd (true≢false e) }
+    record { done = λ _. (record { ranged = g; links = ls; ring = rs; marks = ks; marked = v; totals = ts; words = e₅ }, rest); refused = λ e. absurd (true≢false e) }
 
-pub store-refused : (r : Register) (ws : List ℕ) → (stateWords ≤ length ws → InRange r → ⊥) → Stores r ws ws false
+pub store-refused : (r : Register) (ws : List ℕ) → (stateWords ≤ length ws → InRange r → Marked (r .marks) → ⊥) → Stores r ws ws false
 store-refused r ws f = record { done = λ e. absurd (false≢true e); refused = λ _. (refl, f) }

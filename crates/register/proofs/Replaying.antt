@@ -12,7 +12,7 @@ use borrow.Author.Tests.{lt-ltb, le-ltb, ne-eqb}
 use Rattle.book.specs.Basics.{pick}
 use Rattle.book.specs.Causes.{number, firstNumber, maxRecords}
 use Rattle.book.specs.Book.{Book, freshAnswer, after}
-use Rattle.register.specs.History.{addKind, removeKind, lockKind, unlockKind, undoKind, no-call, kindCall, wordCall}
+use Rattle.register.specs.History.{addKind, removeKind, lockKind, unlockKind, undoKind, withdrawKind, reinstateKind, no-call, kindCall, wordCall}
 use Rattle.register.specs.History.{entryNumber, entryNext, wordAnswers, callsOf, replayNumber}
 use Rattle.register.specs.HistoryLaws.{after-append, after-entry, calls-append, word-answers-length, word-answers-append}
 
@@ -41,9 +41,11 @@ replay-free n ws old z h = replay-rest n ws old z ∙ rw (le-ltb (length old) (l
 
 -- ---- kinds
 pub kind-none : (k f l t : ℕ) → (k ≡ addKind → ⊥) → (k ≡ removeKind → ⊥) → (k ≡ lockKind → ⊥) → (k ≡ unlockKind → ⊥) → (k ≡ undoKind → ⊥)
+    → (k ≡ withdrawKind → ⊥) → (k ≡ reinstateKind → ⊥)
     → kindCall k f l t ≡ no-call
 unfolding kindCall
-kind-none k f l t a b c d e = rw (ne-eqb k addKind a, ne-eqb k removeKind b, ne-eqb k lockKind c, ne-eqb k unlockKind d, ne-eqb k undoKind e)
+kind-none k f l t a b c d e g h =
+    rw (ne-eqb k addKind a, ne-eqb k removeKind b, ne-eqb k lockKind c, ne-eqb k unlockKind d, ne-eqb k undoKind e, ne-eqb k withdrawKind g, ne-eqb k reinstateKind h)
 
 -- ---- one word more
 set-next : (told old : List ℕ) (i a : ℕ) → length told ≡ i → i < length old → set (told ++ drop i old) i a ≡ (told ++ (a ∷ [])) ++ drop (suc i) old

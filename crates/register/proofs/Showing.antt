@@ -5,40 +5,46 @@
 --   packedEdit e p  what the register keeps after an accepted edit
 use mathlib.Core.Path.{_≡_, refl, sym, ap, subst, _∙_}
 use mathlib.Core.Logic.{⊎-elim}
-use mathlib.Core.List.{List, [], _∷_, _++_}
+use mathlib.Core.List.{List, [], _∷_, _++_, map}
 use mathlib.Core.Bool.{Bool, true, false, not, _||_, _&&_}
 use Prim.Native.Nat.{ℕ, zero, suc, _+_, _/_, _%_, _≤_, _<_}
 use native.Mathlib.Omega.{arith}
 use lib.Dec.{leb, eqb}
 use lib.ListN.{length, getD, set, replicate}
-use lib.Seq.{getD-set-same, getD-set-other, set-set, set-getD}
-use borrow.Author.Tests.{leb-false, eqb-true, eqb-false, not-false}
+use borrow.Author.Tests.{leb-false, eq-eqb, not-false}
 use Rattle.book.specs.Basics.{pick, bit, In, has, without}
-use Rattle.book.specs.Causes.{Cause, no-record, locked-end, already, missing, full, number, firstNumber, maxRecords, labels, maxLinks}
-use Rattle.book.specs.Book.{Link, sameLink, Sheet, Edit, add, remove, lock, unlock, present, isLocked, causes, editAnswer, edited}
-use Rattle.book.specs.SetLaws.{eqb-test, sameLink-test, and-both, or-neither, has-in, in-has, has-without, length-without, without-absent}
+use Rattle.book.specs.Causes.{Cause, no-record, locked-end, already, missing, full, touched-record, withdrawn-record, number, firstNumber, maxRecords, labels, maxLinks}
+use Rattle.book.specs.Book.{Link, sameLink, Sheet, Edit, add, remove, lock, unlock, withdraw, reinstate, present, isLocked, isWithdrawn, touched, total, causes, editAnswer, edited}
+use Rattle.book.specs.SetLaws.{eqb-test, sameLink-test, and-both, or-neither, has-in, in-has, has-without, without-self, without-other, length-without, without-absent}
 use Rattle.book.specs.Sheets.{Proper, Fit}
-use Rattle.book.specs.BookLaws.{first-none, first-proper, edited-fit}
-use Rattle.book.specs.TotalLaws.{total-add, total-remove, total-lock, total-unlock}
-use Rattle.register.specs.Links.{linkWord, labelUnit, Linked}
-use Rattle.register.specs.Packed.{Packed, insert, kindUnit, heldWord, takeBackKind, takeBack, Shows}
+use Rattle.book.specs.BookLaws.{first-none, first-proper, edited-fit, fit-bare}
+use Rattle.book.specs.TotalLaws.{total-add, total-remove}
+use Rattle.register.specs.Links.{linkWord, linkOf, labelUnit, Linked}
+use Rattle.register.specs.Marks.{freeMark, lockMark, withdrawnMark, hasMark}
+use Rattle.register.specs.Packed.{Packed, markOf, insert, kindUnit, heldWord, takeBackKind, takeBack, Shows}
 use Rattle.register.specs.Inner.{linkCauses}
-use Rattle.register.specs.LinkLaws.{word-test, linked-has}
+use Rattle.register.specs.LinkLaws.{word-test, linked-has, linked-touched}
+use Rattle.register.specs.MarkLaws.{mark-by, shows-locked, shows-withdrawn, marks-set, mark-back}
 use Rattle.register.proofs.Ascending.{insert-in, insert-keeps, in-insert, length-insert, rises-insert, rises-without, length-out, without-insert, insert-without}
 use Rattle.register.proofs.Counting.{word-total-insert, word-total-without}
 
 -- ---- the same cause
 unfoldable pub packedCauses : ℕ → Packed → Edit → List (Cause × Bool)
-packedCauses n p (add k) = linkCauses n (p .locks) k ++ ((already, has eqb (linkWord k) (p .links)) ∷ (full, leb maxLinks (length (p .links))) ∷ [])
-packedCauses n p (remove k) = linkCauses n (p .locks) k ++ ((missing, not (has eqb (linkWord k) (p .links))) ∷ [])
-packedCauses n p (lock r) = (no-record, leb n r) ∷ (already, getD (p .locks) r false) ∷ []
-packedCauses n p (unlock r) = (no-record, leb n r) ∷ (missing, not (getD (p .locks) r false)) ∷ []
+packedCauses n p (add k) = linkCauses n (p .marks) k ++ ((already, has eqb (linkWord k) (p .links)) ∷ (full, leb maxLinks (length (p .links))) ∷ [])
+packedCauses n p (remove k) = linkCauses n (p .marks) k ++ ((missing, not (has eqb (linkWord k) (p .links))) ∷ [])
+packedCauses n p (lock r) = (no-record, leb n r) ∷ (withdrawn-record, hasMark withdrawnMark (p .marks) r) ∷ (already, hasMark lockMark (p .marks) r) ∷ []
+packedCauses n p (unlock r) = (no-record, leb n r) ∷ (withdrawn-record, hasMark withdrawnMark (p .marks) r) ∷ (missing, not (hasMark lockMark (p .marks) r)) ∷ []
+packedCauses n p (withdraw r) =
+    (no-record, leb n r) ∷ (locked-end, hasMark lockMark (p .marks) r) ∷ (already, hasMark withdrawnMark (p .marks) r) ∷
+    (touched-record, touched r (map linkOf (p .links))) ∷ []
+packedCauses n p (reinstate r) = (no-record, leb n r) ∷ (missing, not (hasMark withdrawnMark (p .marks) r)) ∷ []
 
 -- later causes matter where the earlier ones are not there
-inner : (a c : Bool) (x y r q : ℕ) → (a ≡ false → c ≡ false → r ≡ q) → pick a x (pick c y r) ≡ pick a x (pick c y q)
-inner true c x y r q f = refl
-inner false true x y r q f = refl
-inner false false x y r q f = f refl refl
+inner : (a b c : Bool) (x y z r q : ℕ) → (a ≡ false → c ≡ false → r ≡ q) → pick a x (pick b y (pick c z r)) ≡ pick a x (pick b y (pick c z q))
+inner true b c x y z r q f = refl
+inner false true c x y z r q f = refl
+inner false false true x y z r q f = refl
+inner false false false x y z r q f = f refl refl
 
 pub first-append : (cs ds : List (Cause × Bool)) → firstNumber cs ≡ 0 → firstNumber (cs ++ ds) ≡ firstNumber ds
 unfolding firstNumber
@@ -60,40 +66,29 @@ module _ {n : ℕ} (small : n ≤ maxRecords) where
 
   pub shows-cause : {p : Packed} {s : Sheet} → Shows n p s → (e : Edit) → firstNumber (packedCauses n p e) ≡ editAnswer n s e
   unfolding packedCauses linkCauses editAnswer causes firstNumber
-  shows-cause h (add k) =
-      inner (leb n (k .from) || leb n (k .to)) (leb labels (k .label)) _ _ _ _
-      (λ u v. rw (h .locks (k .from), h .locks (k .to), linked-has small (h .fit) (h .links) (is-proper k u v), h .count))
-  shows-cause h (remove k) =
-      inner (leb n (k .from) || leb n (k .to)) (leb labels (k .label)) _ _ _ _
-      (λ u v. rw (h .locks (k .from), h .locks (k .to), linked-has small (h .fit) (h .links) (is-proper k u v)))
-  shows-cause h (lock r) = rw (h .locks r)
-  shows-cause h (unlock r) = rw (h .locks r)
+  shows-cause {p} {s} h (add k) = rw (shows-withdrawn h (k .from), shows-withdrawn h (k .to))
+      (inner (leb n (k .from) || leb n (k .to)) (isWithdrawn s (k .from) || isWithdrawn s (k .to)) (leb labels (k .label)) _ _ _ _ _
+      (λ u v. rw (shows-locked h (k .from), shows-locked h (k .to), linked-has small (h .fit) (h .links) (is-proper k u v), h .count)))
+  shows-cause {p} {s} h (remove k) = rw (shows-withdrawn h (k .from), shows-withdrawn h (k .to))
+      (inner (leb n (k .from) || leb n (k .to)) (isWithdrawn s (k .from) || isWithdrawn s (k .to)) (leb labels (k .label)) _ _ _ _ _
+      (λ u v. rw (shows-locked h (k .from), shows-locked h (k .to), linked-has small (h .fit) (h .links) (is-proper k u v))))
+  shows-cause h (lock r) = rw (shows-withdrawn h r, shows-locked h r)
+  shows-cause h (unlock r) = rw (shows-withdrawn h r, shows-locked h r)
+  shows-cause h (withdraw r) = rw (shows-withdrawn h r, shows-locked h r, linked-touched small (h .fit) (h .links) r)
+  shows-cause h (reinstate r) = rw (shows-withdrawn h r)
 
 -- ---- the same members after an accepted edit
 unfoldable pub packedEdit : Edit → Packed → Packed
-packedEdit (add k) p = record { links = insert (linkWord k) (p .links); locks = p .locks }
-packedEdit (remove k) p = record { links = without eqb (linkWord k) (p .links); locks = p .locks }
-packedEdit (lock r) p = record { links = p .links; locks = set (p .locks) r true }
-packedEdit (unlock r) p = record { links = p .links; locks = set (p .locks) r false }
+packedEdit (add k) p = record { links = insert (linkWord k) (p .links); marks = p .marks }
+packedEdit (remove k) p = record { links = without eqb (linkWord k) (p .links); marks = p .marks }
+packedEdit (lock r) p = record { links = p .links; marks = set (p .marks) r lockMark }
+packedEdit (unlock r) p = record { links = p .links; marks = set (p .marks) r freeMark }
+packedEdit (withdraw r) p = record { links = p .links; marks = set (p .marks) r withdrawnMark }
+packedEdit (reinstate r) p = record { links = p .links; marks = set (p .marks) r freeMark }
 
 or-either : (b c : Bool) → (b || c) ≡ true → (P : Type 0) → (b ≡ true → P) → (c ≡ true → P) → P
 or-either true c e P f g = f refl
 or-either false c e P f g = g e
-
-set-lock : (locks : List Bool) (r j : ℕ) (v : Bool) → r < length locks → getD (set locks r v) j false ≡ pick (eqb r j) v (getD locks j false)
-set-lock locks r j v h = go (eqb r j) refl
-  where
-    go : (t : Bool) → eqb r j ≡ t → getD (set locks r v) j false ≡ pick t v (getD locks j false)
-    go true q = subst (λ (i : ℕ). getD (set locks r v) i false ≡ v) (eqb-true r j q) (getD-set-same locks r v false h)
-    go false q = getD-set-other locks r j v false (λ z. eqb-false r j q (sym z))
-
-pick-or : (t u : Bool) → pick t true u ≡ (t || u)
-pick-or true u = refl
-pick-or false u = refl
-
-pick-and : (t u : Bool) → pick t false u ≡ (not t && u)
-pick-and true u = refl
-pick-and false u = refl
 
 module _ {n : ℕ} (small : n ≤ maxRecords) where
   add-linked : {ws : List ℕ} {s : Sheet} (k : Link) → Fit n s → Linked ws s → Proper n k → present s k ≡ false → Linked (insert (linkWord k) ws) (edited (add k) s)
@@ -128,25 +123,41 @@ module _ {n : ℕ} (small : n ≤ maxRecords) where
         has-in eqb-test (linkWord j) _ (has-without eqb-test (linkWord k) (linkWord j) ws ∙ rw (d, in-has eqb-test (linkWord j) ws (l .whole j (h .1))));
   }
 
+  -- another sheet with the same links, whose marks differ at the record r alone
+  marked-anew : {p : Packed} {s : Sheet} → Shows n p s → (t : Sheet) → t .links ≡ s .links → (r m : ℕ) → r < length (p .marks) → Fit n t
+      → markOf t r ≡ m → ((j : ℕ) → eqb r j ≡ false → markOf t j ≡ markOf s j) → Shows n (record { links = p .links; marks = set (p .marks) r m }) t
+  unfolding total
+  marked-anew {p} {s} h t e r m l f at other = record {
+    links = record {
+      ascending = h .links .ascending;
+      sound = λ w i. let o = h .links .sound w i in (o .0, o .1, rw e (o .2));
+      whole = λ k q. h .links .whole k (rw e at q);
+    };
+    count = h .count ∙ ap length (sym e);
+    totals = λ j. rw e (h .totals j);
+    marks = marks-set (p .marks) s t r m l (h .marks) at other;
+    fit = f;
+  }
+
   word-label : {k : Link} → Proper n k → linkWord k / labelUnit ≡ k .label
   word-label p = omega (arith, p .from, p .to)
 
-  pub shows-edited : {p : Packed} {s : Sheet} → length (p .locks) ≡ maxRecords → Shows n p s → (e : Edit) → editAnswer n s e ≡ 0 → Shows n (packedEdit e p) (edited e s)
+  pub shows-edited : {p : Packed} {s : Sheet} → length (p .marks) ≡ maxRecords → Shows n p s → (e : Edit) → editAnswer n s e ≡ 0 → Shows n (packedEdit e p) (edited e s)
   unfolding packedEdit edited editAnswer causes has
   shows-edited {p} {s} m h (add k) z =
-      let u = first-proper n k _ z in
-      let v = first-none locked-end _ _ (u .1) in
+      let u = first-proper n k _ _ z in
+      let v = first-none locked-end _ _ (u .2) in
       let a = first-none already _ _ (v .1) in
       record {
         links = add-linked k (h .fit) (h .links) (u .0) (a .0);
         count = length-insert (linkWord k) (p .links) ∙ ap suc (h .count);
         totals = λ l. word-total-insert l (linkWord k) (p .links) ∙ rw (word-label (u .0)) (ap (λ (t : ℕ). bit (eqb (k .label) l) + t) (h .totals l) ∙ sym (total-add k s l));
-        locks = h .locks;
+        marks = h .marks;
         fit = edited-fit n s (add k) (h .fit) z;
       }
   shows-edited {p} {s} m h (remove k) z =
-      let u = first-proper n k _ z in
-      let v = first-none locked-end _ _ (u .1) in
+      let u = first-proper n k _ _ z in
+      let v = first-none locked-end _ _ (u .2) in
       let a = not-false (present s k) (first-none missing _ _ (v .1) .0) in
       record {
         links = remove-linked k (h .fit) (h .links) (u .0);
@@ -159,76 +170,93 @@ module _ {n : ℕ} (small : n ≤ maxRecords) where
             let y = total-remove k s l (h .fit .once) a in
             let z : bit (eqb (linkWord k / labelUnit) l) ≡ bit (eqb (k .label) l) = ap (λ (i : ℕ). bit (eqb i l)) (word-label (u .0)) in
             omega (arith, x, y, z, h .totals l);
-        locks = h .locks;
+        marks = h .marks;
         fit = edited-fit n s (remove k) (h .fit) z;
       }
   shows-edited {p} {s} m h (lock r) z =
-      let u = leb-false n r (first-none no-record _ _ z .0) in
-      record {
-        links = relinked (h .links);
-        count = h .count;
-        totals = λ l. h .totals l ∙ sym (total-lock r s l);
-        locks = λ j. set-lock (p .locks) r j true (omega arith) ∙ pick-or (eqb r j) (getD (p .locks) j false) ∙ ap (λ (t : Bool). eqb r j || t) (h .locks j);
-        fit = edited-fit n s (lock r) (h .fit) z;
-      }
-    where
-      relinked : Linked (p .links) s → Linked (p .links) (record { links = s .links; locks = r ∷ s .locks })
-      relinked l = record { ascending = l .ascending; sound = l .sound; whole = l .whole }
+      let u = first-none no-record _ _ z in
+      let w = first-none withdrawn-record _ _ (u .1) in
+      let t : Sheet = record { links = s .links; locks = r ∷ s .locks; withdrawn = s .withdrawn } in
+      marked-anew h t refl r lockMark (omega (arith, leb-false n r (u .0), m)) (edited-fit n s (lock r) (h .fit) z)
+      (mark-by t r false true (w .0) (rw (eq-eqb r r refl)))
+      (λ j q. rw q)
   shows-edited {p} {s} m h (unlock r) z =
-      let u = leb-false n r (first-none no-record _ _ z .0) in
-      record {
-        links = relinked (h .links);
-        count = h .count;
-        totals = λ l. h .totals l ∙ sym (total-unlock r s l);
-        locks = λ j. set-lock (p .locks) r j false (omega arith) ∙ pick-and (eqb r j) (getD (p .locks) j false) ∙ ap (λ (t : Bool). not (eqb r j) && t) (h .locks j) ∙ sym (has-without eqb-test r j (s .locks));
-        fit = edited-fit n s (unlock r) (h .fit) z;
-      }
-    where
-      relinked : Linked (p .links) s → Linked (p .links) (record { links = s .links; locks = without eqb r (s .locks) })
-      relinked l = record { ascending = l .ascending; sound = l .sound; whole = l .whole }
+      let u = first-none no-record _ _ z in
+      let w = first-none withdrawn-record _ _ (u .1) in
+      let t : Sheet = record { links = s .links; locks = without eqb r (s .locks); withdrawn = s .withdrawn } in
+      marked-anew h t refl r freeMark (omega (arith, leb-false n r (u .0), m)) (edited-fit n s (unlock r) (h .fit) z)
+      (mark-by t r false false (w .0) (without-self eqb-test r (s .locks)))
+      (λ j q. rw (without-other eqb-test r j (s .locks) q))
+  shows-edited {p} {s} m h (withdraw r) z =
+      let u = first-none no-record _ _ z in
+      let t : Sheet = record { links = s .links; locks = s .locks; withdrawn = r ∷ s .withdrawn } in
+      marked-anew h t refl r withdrawnMark (omega (arith, leb-false n r (u .0), m)) (edited-fit n s (withdraw r) (h .fit) z)
+      (mark-by t r true (isLocked s r) (rw (eq-eqb r r refl)) refl)
+      (λ j q. rw q)
+  shows-edited {p} {s} m h (reinstate r) z =
+      let u = first-none no-record _ _ z in
+      let w = not-false (isWithdrawn s r) (first-none missing _ _ (u .1) .0) in
+      let t : Sheet = record { links = s .links; locks = s .locks; withdrawn = without eqb r (s .withdrawn) } in
+      marked-anew h t refl r freeMark (omega (arith, leb-false n r (u .0), m)) (edited-fit n s (reinstate r) (h .fit) z)
+      (mark-by t r false false (without-self eqb-test r (s .withdrawn)) (fit-bare n s (h .fit) r w .1))
+      (λ j q. rw (without-other eqb-test r j (s .withdrawn) q))
 
   -- ---- taking back an accepted edit
+  marked-back : (p : Packed) (r m k : ℕ) → getD (p .marks) r freeMark ≡ k → record { links = p .links; marks = set (set (p .marks) r m) r k } ≡ p
+  marked-back p r m k e = ap (λ (l : List ℕ). record { links = p .links; marks = l }) (mark-back (p .marks) r m k e)
+
   pub taken-back : {p : Packed} {s : Sheet} → Shows n p s → (e : Edit) → editAnswer n s e ≡ 0 → takeBack (heldWord e) (packedEdit e p) ≡ p
   unfolding takeBackKind heldWord packedEdit editAnswer causes
   taken-back {p} {s} h (add k) z =
-      let u = first-proper n k _ z in
-      let v = first-none locked-end _ _ (u .1) in
+      let u = first-proper n k _ _ z in
+      let v = first-none locked-end _ _ (u .2) in
       let a = first-none already _ _ (v .1) in
       let q = u .0 in
       let x : linkWord k / kindUnit ≡ 0 = omega (arith, q .from, q .label, q .to) in
       let y : linkWord k % kindUnit ≡ linkWord k = omega (arith, q .from, q .label, q .to) in
-      rw (x, y) (ap (λ (l : List ℕ). record { links = l; locks = p .locks }) (without-insert (linkWord k) (p .links) ∙ without-absent eqb-test (linkWord k) (p .links) (linked-has small (h .fit) (h .links) q ∙ a .0)))
+      rw (x, y) (ap (λ (l : List ℕ). record { links = l; marks = p .marks }) (without-insert (linkWord k) (p .links) ∙ without-absent eqb-test (linkWord k) (p .links) (linked-has small (h .fit) (h .links) q ∙ a .0)))
   taken-back {p} {s} h (remove k) z =
-      let u = first-proper n k _ z in
-      let v = first-none locked-end _ _ (u .1) in
+      let u = first-proper n k _ _ z in
+      let v = first-none locked-end _ _ (u .2) in
       let a = not-false (present s k) (first-none missing _ _ (v .1) .0) in
       let q = u .0 in
       let x : (kindUnit + linkWord k) / kindUnit ≡ 1 = omega (arith, q .from, q .label, q .to) in
       let y : (kindUnit + linkWord k) % kindUnit ≡ linkWord k = omega (arith, q .from, q .label, q .to) in
-      rw (x, y) (ap (λ (l : List ℕ). record { links = l; locks = p .locks }) (insert-without (linkWord k) (p .links) (h .links .ascending) (linked-has small (h .fit) (h .links) q ∙ a)))
+      rw (x, y) (ap (λ (l : List ℕ). record { links = l; marks = p .marks }) (insert-without (linkWord k) (p .links) (h .links .ascending) (linked-has small (h .fit) (h .links) q ∙ a)))
   taken-back {p} {s} h (lock r) z =
       let u = first-none no-record _ _ z in
+      let w = first-none withdrawn-record _ _ (u .1) in
+      let a = first-none already _ _ (w .1) in
       let l = leb-false n r (u .0) in
-      let a = h .locks r ∙ first-none already _ _ (u .1) .0 in
       let x : (67108864 + r) / kindUnit ≡ 2 = omega arith in
       let y : (67108864 + r) % kindUnit ≡ r = omega arith in
-      rw (x, y) (ap (λ (l : List Bool). record { links = p .links; locks = l }) (set-set (p .locks) r true false ∙ ap (set (p .locks) r) (sym a) ∙ set-getD (p .locks) r false))
+      rw (x, y) (marked-back p r lockMark freeMark (h .marks r ∙ mark-by s r false false (w .0) (a .0)))
   taken-back {p} {s} h (unlock r) z =
       let u = first-none no-record _ _ z in
+      let w = first-none withdrawn-record _ _ (u .1) in
+      let a = not-false (isLocked s r) (first-none missing _ _ (w .1) .0) in
       let l = leb-false n r (u .0) in
-      let a = h .locks r ∙ not-false (isLocked s r) (first-none missing _ _ (u .1) .0) in
       let x : (100663296 + r) / kindUnit ≡ 3 = omega arith in
       let y : (100663296 + r) % kindUnit ≡ r = omega arith in
-      rw (x, y) (ap (λ (l : List Bool). record { links = p .links; locks = l }) (set-set (p .locks) r false true ∙ ap (set (p .locks) r) (sym a) ∙ set-getD (p .locks) r false))
+      rw (x, y) (marked-back p r freeMark lockMark (h .marks r ∙ mark-by s r false true (w .0) a))
+  taken-back {p} {s} h (withdraw r) z =
+      let u = first-none no-record _ _ z in
+      let a = first-none locked-end _ _ (u .1) in
+      let w = first-none already _ _ (a .1) in
+      let l = leb-false n r (u .0) in
+      let x : (134217728 + r) / kindUnit ≡ 4 = omega arith in
+      let y : (134217728 + r) % kindUnit ≡ r = omega arith in
+      rw (x, y) (marked-back p r withdrawnMark freeMark (h .marks r ∙ mark-by s r false false (w .0) (a .0)))
+  taken-back {p} {s} h (reinstate r) z =
+      let u = first-none no-record _ _ z in
+      let w = not-false (isWithdrawn s r) (first-none missing _ _ (u .1) .0) in
+      let l = leb-false n r (u .0) in
+      let x : (167772160 + r) / kindUnit ≡ 5 = omega arith in
+      let y : (167772160 + r) % kindUnit ≡ r = omega arith in
+      rw (x, y) (marked-back p r freeMark withdrawnMark (h .marks r ∙ mark-by s r true (isLocked s r) w refl))
 
--- of no locks each is false, past their end too, and of no totals each is 0
-replicate-at : {A : Type 0} (x : A) (n i : ℕ) → getD (replicate n x) i x ≡ x
+-- of no marks and no totals each is 0, past their end too
+pub replicate-at : (x n i : ℕ) → getD (replicate n x) i x ≡ x
 replicate-at x zero i = refl
 replicate-at x (suc n) zero = refl
 replicate-at x (suc n) (suc i) = replicate-at x n i
-
-pub none-locked : (n r : ℕ) → getD (replicate n false) r false ≡ false
-none-locked = replicate-at false
-
-pub none-counted : (n l : ℕ) → _≡_ {A = ℕ} (getD (replicate n 0) l 0) 0
-none-counted = replicate-at 0

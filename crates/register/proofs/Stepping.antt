@@ -13,6 +13,7 @@ use Rattle.book.specs.Book.{Link, Sheet, Book, Edit, add, remove, Call, edit, u
 use Rattle.book.specs.Sheets.{Proper}
 use Rattle.book.specs.BookLaws.{caused-positive, first-proper}
 use Rattle.register.specs.Links.{linkWord}
+use Rattle.register.specs.Marks.{withdrawnMark}
 use Rattle.register.specs.Packed.{Packed, heldWord, takeBackKind, takeBack, Shows, Piled}
 use Rattle.register.specs.Counters.{Ranged, InRange}
 use Rattle.register.specs.Representation.{heldWords, packedOf, Represents}
@@ -88,7 +89,7 @@ piled-take (suc k) n p (w ∷ ws) [] h = h
 piled-take (suc k) n p (w ∷ ws) (s ∷ ss) h = (h .0, piled-take k n (takeBack w p) ws ss (h .1))
 
 -- an accepted edit: the sheet is changed, then the edit is held
-module _ (self : Register) (e : Edit) (m r : Register) (inside : InRange self) (long : length (self .locks) ≡ maxRecords)
+module _ (self : Register) (e : Edit) (m r : Register) (inside : InRange self) (long : length (self .marks) ≡ maxRecords)
     (free : Rises 0 (packedOf self .links) → firstNumber (packedCauses (self .n) (packedOf self) e) ≡ 0)
     (c : Changed self (packedEdit e (packedOf self)) m) (o : Holding m (heldWord e) r) where
   none : (b : Book) → Represents self b → editAnswer (b .n) (b .sheet) e ≡ 0
@@ -118,30 +119,30 @@ module _ (self : Register) (e : Edit) (m r : Register) (inside : InRange self) (
   }
 
 -- the causes of an add and of a remove, once those of the ends and the label are not there
-module _ (self : Register) (k : Link) (x : ℕ) (word : x ≡ linkWord k) (free : firstNumber (linkCauses (self .n) (self .locks) k) ≡ 0) (held : Bool)
+module _ (self : Register) (k : Link) (x : ℕ) (word : x ≡ linkWord k) (free : firstNumber (linkCauses (self .n) (self .marks) k) ≡ 0) (held : Bool)
     (found : Rises 0 (packedOf self .links) → held ≡ has eqb x (packedOf self .links)) (ascends : Rises 0 (packedOf self .links)) where
   has-link : has eqb (linkWord k) (packedOf self .links) ≡ held
   has-link = ap (λ (w : ℕ). has eqb w (packedOf self .links)) (sym word) ∙ sym (found ascends)
 
   pub add-cause : firstNumber (packedCauses (self .n) (packedOf self) (add k)) ≡ firstNumber ((already, held) ∷ (full, leb maxLinks (length (packedOf self .links))) ∷ [])
   unfolding packedCauses firstNumber
-  add-cause = first-append (linkCauses (self .n) (self .locks) k) _ free ∙ rw has-link
+  add-cause = first-append (linkCauses (self .n) (self .marks) k) _ free ∙ rw has-link
 
   pub remove-cause : firstNumber (packedCauses (self .n) (packedOf self) (remove k)) ≡ firstNumber ((missing, not held) ∷ [])
   unfolding packedCauses firstNumber
-  remove-cause = first-append (linkCauses (self .n) (self .locks) k) _ free ∙ rw has-link
+  remove-cause = first-append (linkCauses (self .n) (self .marks) k) _ free ∙ rw has-link
 
-pub add-stop : (self : Register) (k : Link) (z : ℕ) → z ≡ firstNumber (linkCauses (self .n) (self .locks) k) → (z ≡ 0 → ⊥) → firstNumber (packedCauses (self .n) (packedOf self) (add k)) ≡ z
+pub add-stop : (self : Register) (k : Link) (z : ℕ) → z ≡ firstNumber (linkCauses (self .n) (self .marks) k) → (z ≡ 0 → ⊥) → firstNumber (packedCauses (self .n) (packedOf self) (add k)) ≡ z
 unfolding packedCauses
-add-stop self k z e n = first-stop (linkCauses (self .n) (self .locks) k) _ (λ q. n (e ∙ q)) ∙ sym e
+add-stop self k z e n = first-stop (linkCauses (self .n) (self .marks) k) _ (λ q. n (e ∙ q)) ∙ sym e
 
-pub remove-stop : (self : Register) (k : Link) (z : ℕ) → z ≡ firstNumber (linkCauses (self .n) (self .locks) k) → (z ≡ 0 → ⊥) → firstNumber (packedCauses (self .n) (packedOf self) (remove k)) ≡ z
+pub remove-stop : (self : Register) (k : Link) (z : ℕ) → z ≡ firstNumber (linkCauses (self .n) (self .marks) k) → (z ≡ 0 → ⊥) → firstNumber (packedCauses (self .n) (packedOf self) (remove k)) ≡ z
 unfolding packedCauses
-remove-stop self k z e n = first-stop (linkCauses (self .n) (self .locks) k) _ (λ q. n (e ∙ q)) ∙ sym e
+remove-stop self k z e n = first-stop (linkCauses (self .n) (self .marks) k) _ (λ q. n (e ∙ q)) ∙ sym e
 
-pub link-proper : (n : ℕ) (locks : List Bool) (k : Link) → firstNumber (linkCauses n locks k) ≡ 0 → Proper n k
+pub link-proper : (n : ℕ) (marks : List ℕ) (k : Link) → firstNumber (linkCauses n marks k) ≡ 0 → Proper n k
 unfolding linkCauses
-link-proper n locks k e = first-proper n k _ e .0
+link-proper n marks k e = first-proper n k _ _ e .0
 
 -- ---- undo
 -- nothing is held
@@ -164,13 +165,16 @@ module _ (self : Register) (inside : InRange self) (none : heldWords self ≡ []
     follows = λ b h. rw (ap (undone b) (empty-pile _ _ (b .pile) (h .pile))) h;
   }
 
--- every kind but the first three takes an unlock back
-pub back-rest : (k x : ℕ) (p : Packed) → (k ≡ 0 → ⊥) → (k ≡ 1 → ⊥) → (k ≡ 2 → ⊥) → takeBackKind k x p ≡ record { links = p .links; locks = set (p .locks) x true }
+-- every kind but the first five takes a reinstate back
+pub back-rest : (k x : ℕ) (p : Packed) → (k ≡ 0 → ⊥) → (k ≡ 1 → ⊥) → (k ≡ 2 → ⊥) → (k ≡ 3 → ⊥) → (k ≡ 4 → ⊥)
+    → takeBackKind k x p ≡ record { links = p .links; marks = set (p .marks) x withdrawnMark }
 unfolding takeBackKind
-back-rest zero x p a b c = absurd (a refl)
-back-rest (suc zero) x p a b c = absurd (b refl)
-back-rest (suc (suc zero)) x p a b c = absurd (c refl)
-back-rest (suc (suc (suc k))) x p a b c = refl
+back-rest zero x p a b c d e = absurd (a refl)
+back-rest (suc zero) x p a b c d e = absurd (b refl)
+back-rest (suc (suc zero)) x p a b c d e = absurd (c refl)
+back-rest (suc (suc (suc zero))) x p a b c d e = absurd (d refl)
+back-rest (suc (suc (suc (suc zero)))) x p a b c d e = absurd (e refl)
+back-rest (suc (suc (suc (suc (suc k))))) x p a b c d e = refl
 
 -- what the register that an accepted undo hands back has to be: the latest word w is taken back
 pub record Restored (self : Register) (w : ℕ) (r : Register) : Type 0 where

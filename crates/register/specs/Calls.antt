@@ -11,14 +11,14 @@
 use mathlib.Core.Path.{_≡_}
 use Prim.Native.Nat.{ℕ, zero, suc}
 use Rattle.book.specs.Causes.{not-open, number, Caused}
-use Rattle.book.specs.Book.{Book, add, remove, lock, unlock, Call as Book·Call, edit, undo, answer, next, freshAnswer, fresh}
+use Rattle.book.specs.Book.{Book, add, remove, lock, unlock, withdraw, reinstate, Call as Book·Call, edit, undo, answer, next, freshAnswer, fresh}
 use Rattle.register.specs.Counters.{InRange}
 use Rattle.register.specs.Representation.{Represents}
 use Rattle.register.specs.declared.Register.{Register}
 use Rattle.register.specs.declared.Answer.{Answer}
 use Rattle.register.specs.declared.Answer.the-variants.{Done, Refused}
 use Rattle.register.specs.declared.Call.{Call}
-use Rattle.register.specs.declared.Call.the-variants.{Add, Remove, Lock, Unlock, Undo}
+use Rattle.register.specs.declared.Call.the-variants.{Add, Remove, Lock, Unlock, Withdraw, Reinstate, Undo}
 use Rattle.register.specs.declared.Outcome.{Outcome}
 
 abbrev pub answerOf : ℕ → Answer
@@ -34,6 +34,8 @@ callOf (Add x l y) = edit (add (record { from = x; label = l; to = y }))
 callOf (Remove x l y) = edit (remove (record { from = x; label = l; to = y }))
 callOf (Lock r) = edit (lock r)
 callOf (Unlock r) = edit (unlock r)
+callOf (Withdraw r) = edit (withdraw r)
+callOf (Reinstate r) = edit (reinstate r)
 callOf Undo = undo
 
 pub record Opens (n : ℕ) (out : Outcome) : Type 0 where

@@ -1,7 +1,7 @@
 -- The whole history: calls made one after the other, each on the register that the one before handed back; and a history as a list of words.
 --   CallsMade r cs told e
 --                   from r on, the calls cs gave the numbers told and the register e at the end, by results that meet `Steps`
---   addKind .. undoKind
+--   addKind .. reinstateKind
 --                   the kinds of calls, numbered as those of the program's frames
 --   Entry           what a word of a history is: a call, or none
 --   kindCall, wordCall
@@ -25,7 +25,7 @@ use lib.ListN.{length, drop}
 use lib.Dec.{eqb, ltb}
 use Rattle.book.specs.Basics.{pick}
 use Rattle.book.specs.Causes.{bad-size, short-work, unknown-kind, number, firstNumber, maxRecords}
-use Rattle.book.specs.Book.{Book, add, remove, lock, unlock, Call, edit, undo, answer, next, fresh, after}
+use Rattle.book.specs.Book.{Book, add, remove, lock, unlock, withdraw, reinstate, Call, edit, undo, answer, next, fresh, after}
 use Rattle.register.specs.Representation.{Represents}
 use Rattle.register.specs.Calls.{answerOf, answerNumber, Steps}
 use Rattle.register.specs.declared.Register.{Register}
@@ -52,6 +52,12 @@ unlockKind = 5
 abbrev pub undoKind : ℕ
 undoKind = 6
 
+abbrev pub withdrawKind : ℕ
+withdrawKind = 10
+
+abbrev pub reinstateKind : ℕ
+reinstateKind = 11
+
 pub data Entry : Type 0 where
   is-call : Call → Entry
   no-call : Entry
@@ -63,7 +69,9 @@ kindCall k f l t =
     (pick (eqb k lockKind) (is-call (edit (lock f)))
     (pick (eqb k unlockKind) (is-call (edit (unlock f)))
     (pick (eqb k undoKind) (is-call undo)
-    no-call))))
+    (pick (eqb k withdrawKind) (is-call (edit (withdraw f)))
+    (pick (eqb k reinstateKind) (is-call (edit (reinstate f)))
+    no-call))))))
 
 -- bits 40 and up are the kind, bits 24 to 39 from or the record, 16 to 23 the label, 0 to 15 to
 unfoldable pub wordCall : ℕ → Entry

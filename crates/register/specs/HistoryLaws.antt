@@ -11,14 +11,16 @@ use lib.Dec.{eqb}
 use lib.ListN.{length, take, getD}
 use Rattle.book.specs.Basics.{pick, All, all-none, all-more}
 use Rattle.book.specs.Causes.{labels}
-use Rattle.book.specs.Book.{sameLink, Sheet, Book, add, remove, lock, unlock, Call, edit, undo, isLocked, total, answer, next, fresh, answers, after}
+use Rattle.book.specs.Book.{sameLink, Sheet, Book, add, remove, lock, unlock, withdraw, reinstate, Call, edit, undo, isLocked, isWithdrawn, total, answer, next, fresh, answers, after}
 use Rattle.book.specs.BookLaws.{caused-positive}
 use Rattle.book.specs.Sheets.{Distinct, Fit, Sound}
 use Rattle.register.specs.Links.{Linked}
+use Rattle.register.specs.Marks.{lockMark, withdrawnMark, hasMark}
 use Rattle.register.specs.Packed.{Packed, takeBack, Piled}
 use Rattle.register.specs.Representation.{heldWords, packedOf, Represents}
+use Rattle.register.specs.MarkLaws.{shows-locked, shows-withdrawn}
 use Rattle.register.specs.Calls.{answerOf, answerNumber, Steps}
-use Rattle.register.specs.History.{CallsMade, done, more, addKind, removeKind, lockKind, unlockKind, undoKind, kindCall, wordCall}
+use Rattle.register.specs.History.{CallsMade, done, more, addKind, removeKind, lockKind, unlockKind, undoKind, withdrawKind, reinstateKind, kindCall, wordCall}
 use Rattle.register.specs.History.{Entry, is-call, no-call, entryNumber, entryNext, EntrySteps, entryCalls, isCall}
 use Rattle.register.specs.History.{wordAnswers, callsOf, toldCalls, replayNumber, Replays}
 use Rattle.register.specs.declared.Register.{Register}
@@ -62,12 +64,25 @@ pub record Members (e : Register) (b : Book) : Type 0 where
   pub count : length (take (e .count) (e .links)) ≡ length (b .sheet .links)
   -- the register's total of each label is the number of the book's links of that label
   pub totals : (l : ℕ) → l < labels → getD (e .totals) l 0 ≡ total (b .sheet) l
-  -- a record is locked in the register exactly if it is in the book; and no lock of the book is there twice
-  pub locks : (r : ℕ) → getD (e .locks) r false ≡ isLocked (b .sheet) r
+  -- a record is locked in the register exactly if it is in the book, and so is a withdrawn one; and none of either is in the book twice
+  pub locks : (r : ℕ) → hasMark lockMark (e .marks) r ≡ isLocked (b .sheet) r
   pub single : Distinct eqb (b .sheet .locks)
+  pub withdrawn : (r : ℕ) → hasMark withdrawnMark (e .marks) r ≡ isWithdrawn (b .sheet) r
+  pub apart : Distinct eqb (b .sheet .withdrawn)
 
 pub members : {e : Register} {b : Book} → Represents e b → Members e b
-members h = let s = h .sheet in record { links = s .links; once = s .fit .once; count = s .count; totals = h .totals; locks = s .locks; single = s .fit .single }
+members h =
+    let s = h .sheet in
+    record {
+      links = s .links;
+      once = s .fit .once;
+      count = s .count;
+      totals = h .totals;
+      locks = shows-locked s;
+      single = s .fit .single;
+      withdrawn = shows-withdrawn s;
+      apart = s .fit .apart;
+    }
 
 pub history-members : (n : ℕ) {r e : Register} {cs : List Call} {told : List ℕ} → Represents r (fresh n) → CallsMade r cs told e
     → (told ≡ answers (fresh n) cs) × Members e (after (fresh n) cs)
@@ -161,6 +176,8 @@ Small (edit (add k)) = (k .from < 65536) × (k .label < 256) × (k .to < 65536)
 Small (edit (remove k)) = (k .from < 65536) × (k .label < 256) × (k .to < 65536)
 Small (edit (lock r)) = r < 65536
 Small (edit (unlock r)) = r < 65536
+Small (edit (withdraw r)) = r < 65536
+Small (edit (reinstate r)) = r < 65536
 Small undo = Unit {0}
 
 pub has-word : (c : Call) → Small c → (w : ℕ) × (wordCall w ≡ is-call c)
@@ -169,4 +186,6 @@ has-word (edit (add k)) h = (callWord addKind (k .from) (k .label) (k .to), word
 has-word (edit (remove k)) h = (callWord removeKind (k .from) (k .label) (k .to), word-of removeKind (k .from) (k .label) (k .to) (h .0) (h .1) (h .2))
 has-word (edit (lock r)) h = (callWord lockKind r 0 0, word-of lockKind r 0 0 h (omega arith) (omega arith))
 has-word (edit (unlock r)) h = (callWord unlockKind r 0 0, word-of unlockKind r 0 0 h (omega arith) (omega arith))
+has-word (edit (withdraw r)) h = (callWord withdrawKind r 0 0, word-of withdrawKind r 0 0 h (omega arith) (omega arith))
+has-word (edit (reinstate r)) h = (callWord reinstateKind r 0 0, word-of reinstateKind r 0 0 h (omega arith) (omega arith))
 has-word undo h = (callWord undoKind 0 0 0, word-of undoKind 0 0 0 (omega arith) (omega arith) (omega arith))

@@ -4,11 +4,10 @@
 --   Seam x ws c i   i is a place for x among the first c words: the word before it is below x, and the word at it is not
 --   standsAt ws c i x
 --                   whether i is one of the first c places and x stands there
---   linkCauses n locks k
+--   linkCauses n marks k
 --                   the causes against the ends and the label of a link, in their order
 --   hasAt unit r w  whether a word has the record r in the ten bits from unit on
---   Flags ws        every word is 0 or 1
---   Formed ws       the words of a register, as they are told: enough of them, the counters in range, each lock 0 or 1
+--   Formed ws       the words of a register, as they are told: enough of them, the counters in range, each mark one of the three
 --   Tested P ok     ok is whether P
 --   Raised l ts us, Lowered l ts us
 --                   what `raise` and `lower` promise: one more and one less of the label l, where the total has room for it
@@ -23,13 +22,14 @@ use Prim.Native.Nat.{ℕ, suc, _+_, _/_, _%_, _≤_, _<_}
 use lib.ListN.{length, take, drop, getD}
 use lib.Dec.{leb, ltb, eqb}
 use Rattle.book.specs.Basics.{bit, Rises}
-use Rattle.book.specs.Causes.{Cause, no-record, bad-label, locked-end, not-open, number, Caused, firstNumber, labels, maxRecords, maxLinks, maxHeld}
+use Rattle.book.specs.Causes.{Cause, no-record, bad-label, locked-end, not-open, withdrawn-record, number, Caused, firstNumber, labels, maxRecords, maxLinks, maxHeld}
 use Rattle.book.specs.Book.{Link}
 use Rattle.register.specs.Links.{linkWord, wordTotal}
+use Rattle.register.specs.Marks.{lockMark, withdrawnMark, hasMark, Marked}
 use Rattle.register.specs.Packed.{Packed, takeBackKind}
 use Rattle.register.specs.Counters.{Ranged}
 use Rattle.register.specs.Representation.{heldWords, packedOf}
-use Rattle.register.specs.Words.{stateWords, locksAt}
+use Rattle.register.specs.Words.{stateWords, marksAt}
 use Rattle.register.specs.declared.Register.{Register}
 use Rattle.register.specs.declared.LinkCheck.{LinkCheck}
 use Rattle.register.specs.declared.LinkCheck.the-variants.{Word, Fault}
@@ -48,11 +48,12 @@ pub record Seam (x : ℕ) (ws : List ℕ) (c i : ℕ) : Type 0 where
 unfoldable pub standsAt : List ℕ → ℕ → ℕ → ℕ → Bool
 standsAt ws c i x = ltb i c && eqb (getD ws i 0) x
 
-unfoldable pub linkCauses : ℕ → List Bool → Link → List (Cause × Bool)
-linkCauses n locks k =
+unfoldable pub linkCauses : ℕ → List ℕ → Link → List (Cause × Bool)
+linkCauses n marks k =
     (no-record, leb n (k .from) || leb n (k .to)) ∷
+    (withdrawn-record, hasMark withdrawnMark marks (k .from) || hasMark withdrawnMark marks (k .to)) ∷
     (bad-label, leb labels (k .label)) ∷
-    (locked-end, getD locks (k .from) false || getD locks (k .to) false) ∷ []
+    (locked-end, hasMark lockMark marks (k .from) || hasMark lockMark marks (k .to)) ∷ []
 
 unfoldable pub hasAt : ℕ → ℕ → ℕ → Bool
 hasAt unit r w = eqb (w / unit % 1024) r
@@ -63,9 +64,9 @@ pub record Guarded (n c t h : ℕ) (ok : Bool) : Type 0 where
 
 -- a fault is the number of a refusal: of a register in range that of the first cause, of any other contents that of no register;
 -- a word is the link's, with no cause so far
-abbrev pub Checks : ℕ → ℕ → ℕ → ℕ → List Bool → Link → LinkCheck → Type 0
-Checks n c t h locks k (Fault z) = Caused z × (Ranged n c t h → z ≡ firstNumber (linkCauses n locks k)) × ((Ranged n c t h → ⊥) → z ≡ number not-open)
-Checks n c t h locks k (Word x) = Ranged n c t h × (x ≡ linkWord k) × (firstNumber (linkCauses n locks k) ≡ 0)
+abbrev pub Checks : ℕ → ℕ → ℕ → ℕ → List ℕ → Link → LinkCheck → Type 0
+Checks n c t h marks k (Fault z) = Caused z × (Ranged n c t h → z ≡ firstNumber (linkCauses n marks k)) × ((Ranged n c t h → ⊥) → z ≡ number not-open)
+Checks n c t h marks k (Word x) = Ranged n c t h × (x ≡ linkWord k) × (firstNumber (linkCauses n marks k) ≡ 0)
 
 -- one more word is held, and the oldest is forgotten where 256 were
 pub record Holding (self : Register) (w : ℕ) (r : Register) : Type 0 where
@@ -106,13 +107,10 @@ pub record TakenBack (self : Register) (kind x : ℕ) (r : Register) : Type 0 wh
   pub sheet : Rises 0 (packedOf self .links) → length (takeBackKind kind x (packedOf self) .links) ≤ maxLinks → packedOf r ≡ takeBackKind kind x (packedOf self)
   pub counted : Rises 0 (packedOf self .links) → Counted self → Counted r
 
-abbrev pub Flags : List ℕ → Type 0
-Flags ws = (i : ℕ) → getD ws i 0 ≤ 1
-
 pub record Formed (ws : List ℕ) : Type 0 where
   pub long : stateWords ≤ length ws
   pub ranged : Ranged (getD ws 0 0) (getD ws 1 0) (getD ws 2 0) (getD ws 3 0)
-  pub flags : Flags (take maxRecords (drop locksAt ws))
+  pub marked : Marked (take maxRecords (drop marksAt ws))
 
 pub record Tested (P : Type 0) (ok : Bool) : Type 0 where
   pub sure : ok ≡ true → P

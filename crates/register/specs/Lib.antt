@@ -1,4 +1,5 @@
 pub mod Links
+pub mod Marks
 pub mod Packed
 pub mod Counters
 pub mod Representation
@@ -8,6 +9,7 @@ pub mod Questions
 pub mod Lookups
 pub mod Words
 pub mod Inner
+pub mod MarkLaws
 pub mod LinkLaws
 pub mod HistoryLaws
 pub mod WordLaws

@@ -1,6 +1,7 @@
 -- Laws of links as words: a word and its link give one another, a sheet has one list of words, and what a word of the list says of the sheet. Assumes nothing.
-use mathlib.Core.Path.{_≡_, refl, sym, ap, _∙_}
-use mathlib.Core.List.{List}
+use mathlib.Core.Path.{_≡_, refl, sym, ap, subst, _∙_}
+use mathlib.Core.Logic.{_⊎_, inl, inr, ⊎-elim}
+use mathlib.Core.List.{List, map}
 use mathlib.Core.Bool.{Bool, true, false}
 use Prim.Native.Nat.{ℕ, _/_, _%_, _≤_, _<_}
 use native.Mathlib.Omega.{arith}
@@ -8,8 +9,9 @@ use lib.Dec.{eqb}
 use borrow.Author.Tests.{eqb-true, eq-eqb}
 use Rattle.book.specs.Basics.{In, has}
 use Rattle.book.specs.Causes.{maxRecords}
-use Rattle.book.specs.Book.{Link, sameLink, Sheet, present}
-use Rattle.book.specs.ListLaws.{rises-same}
+use Rattle.book.specs.Book.{Link, sameLink, Sheet, present, touched}
+use Rattle.book.specs.ListLaws.{rises-same, map-in, in-map}
+use Rattle.book.specs.BookLaws.{touched-end, end-touched}
 use Rattle.book.specs.SetLaws.{eqb-test, sameLink-test, has-in, in-has}
 use Rattle.book.specs.Sheets.{Proper, Fit}
 use Rattle.register.specs.Links.{linkWord, linkOf, Linked}
@@ -65,4 +67,22 @@ module _ {n : ℕ} (small : n ≤ maxRecords) where
         go true e true f = refl
         go true e false f = sym (linked-present (has-in eqb-test (linkWord k) ws e)) ∙ ap (present s) (word-link p) ∙ f
         go false e true f = sym e ∙ in-has eqb-test (linkWord k) ws (l .whole k f)
+        go false e false f = refl
+
+    -- a link touches a record by the words as it does by the sheet
+    pub linked-touched : (r : ℕ) → touched r (map linkOf ws) ≡ touched r (s .links)
+    linked-touched r = go (touched r (map linkOf ws)) refl (touched r (s .links)) refl
+      where
+        go : (t : Bool) → touched r (map linkOf ws) ≡ t → (u : Bool) → touched r (s .links) ≡ u → t ≡ u
+        go true e true f = refl
+        go true e false f =
+            let o = touched-end r (map linkOf ws) e in
+            let w = in-map linkOf ws (o .1) in
+            let p : present s (o .0) ≡ true = ap (present s) (w .2) ∙ linked-present (w .1) in
+            sym (end-touched r (s .links) (has-in sameLink-test (o .0) (s .links) p) (o .2)) ∙ f
+        go false e true f =
+            let o = touched-end r (s .links) f in
+            let p : present s (o .0) ≡ true = in-has sameLink-test (o .0) (s .links) (o .1) in
+            let i : In (o .0) (map linkOf ws) = subst (λ (k : Link). In k (map linkOf ws)) (word-link (fit .links (o .0) p)) (map-in linkOf (l .whole (o .0) p)) in
+            sym e ∙ end-touched r (map linkOf ws) i (o .2)
         go false e false f = refl

@@ -1,10 +1,12 @@
--- What is read of a register: its size, its locks, its totals, and its links as a slice of words.
+-- What is read of a register: its size, its marks, its totals, and its links as a slice of words.
 -- Contents out of range are those of no register: nothing is read of them.
 --   Sized self n    what `size` promises: at most 1,024, and the number of records of every book that the register represents
 --   Listing self r  what `links` promises: at most 4,096 words, and for every book that the register represents, the words of its links
---   LockList self r what `locks` promises: for every book that the register represents, whether each record is locked
+--   MarkList self r what `marks` promises: for every book that the register represents, whether each record is locked, and whether it is withdrawn
 --   Locking self k r
---                   what `is_locked` promises: the same of the record k
+--                   what `is_locked` promises: whether the record k is locked
+--   Withdrawal self k r
+--                   what `is_withdrawn` promises: whether it is withdrawn
 --   TotalList self r
 --                   what `totals` promises: for every book that the register represents, the total of each label
 --   totalOf k t     the answer whose number is k: the total t if k is 0, else refused with k
@@ -18,8 +20,9 @@ use mathlib.Core.Bool.{Bool, false}
 use Prim.Native.Nat.{ℕ, zero, suc, _≤_, _<_}
 use lib.ListN.{length, take, getD, replicate}
 use Rattle.book.specs.Causes.{bad-label, not-open, number, labels, maxRecords, maxLinks}
-use Rattle.book.specs.Book.{Sheet, Book, isLocked, total, totalNumber}
+use Rattle.book.specs.Book.{Sheet, Book, isLocked, isWithdrawn, total, totalNumber}
 use Rattle.register.specs.Links.{Linked}
+use Rattle.register.specs.Marks.{freeMark, lockMark, withdrawnMark, hasMark}
 use Rattle.register.specs.Counters.{InRange}
 use Rattle.register.specs.Representation.{Represents}
 use Rattle.register.specs.declared.Register.{Register}
@@ -38,14 +41,19 @@ pub record Listing (self : Register) (r : Links) : Type 0 where
   pub foreign : (InRange self → ⊥) → r .count ≡ 0
   pub linked : (b : Book) → Represents self b → Linked (take (r .count) (r .words)) (b .sheet)
 
-pub record LockList (self : Register) (r : List Bool) : Type 0 where
+pub record MarkList (self : Register) (r : List ℕ) : Type 0 where
   pub long : length r ≡ maxRecords
-  pub foreign : (InRange self → ⊥) → r ≡ replicate maxRecords false
-  pub locked : (b : Book) → Represents self b → (k : ℕ) → getD r k false ≡ isLocked (b .sheet) k
+  pub foreign : (InRange self → ⊥) → r ≡ replicate maxRecords freeMark
+  pub locked : (b : Book) → Represents self b → (k : ℕ) → hasMark lockMark r k ≡ isLocked (b .sheet) k
+  pub withdrawn : (b : Book) → Represents self b → (k : ℕ) → hasMark withdrawnMark r k ≡ isWithdrawn (b .sheet) k
 
 pub record Locking (self : Register) (k : ℕ) (r : Bool) : Type 0 where
   pub foreign : (InRange self → ⊥) → r ≡ false
   pub locked : (b : Book) → Represents self b → r ≡ isLocked (b .sheet) k
+
+pub record Withdrawal (self : Register) (k : ℕ) (r : Bool) : Type 0 where
+  pub foreign : (InRange self → ⊥) → r ≡ false
+  pub withdrawn : (b : Book) → Represents self b → r ≡ isWithdrawn (b .sheet) k
 
 pub record TotalList (self : Register) (r : List ℕ) : Type 0 where
   pub long : length r ≡ labels

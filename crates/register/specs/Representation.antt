@@ -3,7 +3,7 @@
 --   latest, heldWords
 --                   the words of the held edits, the latest first: of a ring, its top and their number, and of a register
 --   packedOf r      the sheet that a register keeps
---   Represents r b  the register r stands for the book b: n, links, locks, totals, and every sheet that an undo could restore
+--   Represents r b  the register r stands for the book b: n, links, marks, totals, and every sheet that an undo could restore
 -- Assumes nothing: these are definitions.
 use mathlib.Core.Path.{_≡_}
 use mathlib.Core.List.{List, [], _∷_}
@@ -28,7 +28,7 @@ abbrev pub heldWords : Register → List ℕ
 heldWords r = latest (r .ring) (r .top) (r .held)
 
 abbrev pub packedOf : Register → Packed
-packedOf r = record { links = take (r .count) (r .links); locks = r .locks }
+packedOf r = record { links = take (r .count) (r .links); marks = r .marks }
 
 pub record Represents (r : Register) (b : Book) : Type 0 where
   pub size : r .n ≡ b .n

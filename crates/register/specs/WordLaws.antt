@@ -1,19 +1,17 @@
 -- Laws of a register's words: how many they are, that they are the words of one register, which words are a register's, and when they are loaded.
 -- Assumes nothing.
 use mathlib.Core.Path.{_≡_, refl, sym, ap, _∙_}
-use mathlib.Core.List.{List, [], _∷_, _++_, map}
-use mathlib.Core.Bool.{Bool, true, false}
-use Prim.Native.Nat.{ℕ, zero, suc, _+_, _≤_, _<_}
+use mathlib.Core.List.{List, [], _∷_, _++_}
+use Prim.Native.Nat.{ℕ, _+_, _≤_, _<_}
 use native.Mathlib.Omega.{arith}
-use lib.Dec.{eqb}
-use lib.ListN.{length, take, drop, getD, length-append, length-take, length-drop, length-map, List·getD-map}
+use lib.ListN.{length, take, drop, getD, length-append, length-take, length-drop}
 use lib.Seq.{take-at, drop-at, getD-take, take-add, length-take-le}
 use Rattle.book.specs.Causes.{not-open, number, labels, maxLinks, maxHeld, maxRecords}
 use Rattle.register.specs.Counters.{Ranged}
 use Rattle.register.specs.Calls.{answerNumber}
 use Rattle.register.specs.HistoryLaws.{answer-done}
-use Rattle.register.specs.Inner.{Flags, Formed}
-use Rattle.register.specs.Words.{stateWords, linksAt, ringAt, locksAt, totalsAt, lockWord, numbersOf, stateOf, Keeps, Foreign, Loads}
+use Rattle.register.specs.Inner.{Formed}
+use Rattle.register.specs.Words.{stateWords, linksAt, ringAt, marksAt, totalsAt, numbersOf, stateOf, Keeps, Foreign, Loads}
 use Rattle.register.specs.declared.Register.{Register}
 use Rattle.register.specs.declared.Answer.{Answer}
 use Rattle.register.specs.declared.Answer.the-variants.{Done, Refused}
@@ -26,67 +24,45 @@ parted a b a′ b′ l e = (
   sym (drop-at a b (length a) refl) ∙ ap (drop (length a)) e ∙ drop-at a′ b′ (length a) (sym l),
 )
 
-pub unlock : (ls : List Bool) → map (λ w. eqb w 1) (map lockWord ls) ≡ ls
-unlock [] = refl
-unlock (true ∷ ls) = ap (λ (t : List Bool). true ∷ t) (unlock ls)
-unlock (false ∷ ls) = ap (λ (t : List Bool). false ∷ t) (unlock ls)
-
-pub locks-same : (ls ks : List Bool) → map lockWord ls ≡ map lockWord ks → ls ≡ ks
-locks-same ls ks e = sym (unlock ls) ∙ ap (map (λ w. eqb w 1)) e ∙ unlock ks
-
 -- the lengths of the front before each part
 ring-front : (r : Register) → length (numbersOf r ++ r .links) ≡ 4 + length (r .links)
 ring-front r = length-append (numbersOf r) (r .links)
 
-locks-front : (r : Register) → length (numbersOf r ++ r .links ++ r .ring) ≡ 4 + length (r .links) + length (r .ring)
-locks-front r = length-append (numbersOf r ++ r .links) (r .ring) ∙ ap (λ (k : ℕ). k + length (r .ring)) (ring-front r)
+marks-front : (r : Register) → length (numbersOf r ++ r .links ++ r .ring) ≡ 4 + length (r .links) + length (r .ring)
+marks-front r = length-append (numbersOf r ++ r .links) (r .ring) ∙ ap (λ (k : ℕ). k + length (r .ring)) (ring-front r)
 
-totals-front : (r : Register) → length (numbersOf r ++ r .links ++ r .ring ++ map lockWord (r .locks)) ≡ 4 + length (r .links) + length (r .ring) + length (r .locks)
+totals-front : (r : Register) → length (numbersOf r ++ r .links ++ r .ring ++ r .marks) ≡ 4 + length (r .links) + length (r .ring) + length (r .marks)
 totals-front r =
-    length-append (numbersOf r ++ r .links ++ r .ring) (map lockWord (r .locks))
-    ∙ ap (λ (k : ℕ). k + length (map lockWord (r .locks))) (locks-front r)
-    ∙ ap (λ (k : ℕ). 4 + length (r .links) + length (r .ring) + k) (length-map (r .locks) lockWord)
+    length-append (numbersOf r ++ r .links ++ r .ring) (r .marks)
+    ∙ ap (λ (k : ℕ). k + length (r .marks)) (marks-front r)
 
-pub words-long : (r : Register) → length (stateOf r) ≡ 4 + length (r .links) + length (r .ring) + length (r .locks) + length (r .totals)
+pub words-long : (r : Register) → length (stateOf r) ≡ 4 + length (r .links) + length (r .ring) + length (r .marks) + length (r .totals)
 words-long r =
-    length-append (numbersOf r ++ r .links ++ r .ring ++ map lockWord (r .locks)) (r .totals)
+    length-append (numbersOf r ++ r .links ++ r .ring ++ r .marks) (r .totals)
     ∙ ap (λ (k : ℕ). k + length (r .totals)) (totals-front r)
 
 module _ {ws : List ℕ} where
   pub keeps-long : {r : Register} → Keeps ws r → stateWords ≤ length ws
-  keeps-long {r} k = omega (arith, length-take stateWords ws, ap length (k .words), words-long r, k .links, k .ring, k .locks, k .totals)
+  keeps-long {r} k = omega (arith, length-take stateWords ws, ap length (k .words), words-long r, k .links, k .ring, k .marks, k .totals)
 
   pub keeps-same : {r s : Register} → Keeps ws r → Keeps ws s → r ≡ s
   keeps-same {r} {s} k l =
       let front : length (numbersOf r ++ r .links) ≡ length (numbersOf s ++ s .links) = omega (arith, ring-front r, ring-front s, k .links, l .links) in
       let ringed : length (numbersOf r ++ r .links ++ r .ring) ≡ length (numbersOf s ++ s .links ++ s .ring)
-      = omega (arith, locks-front r, locks-front s, k .links, l .links, k .ring, l .ring) in
-      let locked : length (numbersOf r ++ r .links ++ r .ring ++ map lockWord (r .locks)) ≡ length (numbersOf s ++ s .links ++ s .ring ++ map lockWord (s .locks))
-      = omega (arith, totals-front r, totals-front s, k .links, l .links, k .ring, l .ring, k .locks, l .locks) in
-      let d = parted (numbersOf r ++ r .links ++ r .ring ++ map lockWord (r .locks)) (r .totals) (numbersOf s ++ s .links ++ s .ring ++ map lockWord (s .locks)) (s .totals) locked (sym (k .words) ∙ l .words) in
-      let a = parted (numbersOf r ++ r .links ++ r .ring) (map lockWord (r .locks)) (numbersOf s ++ s .links ++ s .ring) (map lockWord (s .locks)) ringed (d .0) in
+      = omega (arith, marks-front r, marks-front s, k .links, l .links, k .ring, l .ring) in
+      let marked : length (numbersOf r ++ r .links ++ r .ring ++ r .marks) ≡ length (numbersOf s ++ s .links ++ s .ring ++ s .marks)
+      = omega (arith, totals-front r, totals-front s, k .links, l .links, k .ring, l .ring, k .marks, l .marks) in
+      let d = parted (numbersOf r ++ r .links ++ r .ring ++ r .marks) (r .totals) (numbersOf s ++ s .links ++ s .ring ++ s .marks) (s .totals) marked (sym (k .words) ∙ l .words) in
+      let a = parted (numbersOf r ++ r .links ++ r .ring) (r .marks) (numbersOf s ++ s .links ++ s .ring) (s .marks) ringed (d .0) in
       let b = parted (numbersOf r ++ r .links) (r .ring) (numbersOf s ++ s .links) (s .ring) front (a .0) in
       let c = parted (numbersOf r) (r .links) (numbersOf s) (s .links) refl (b .0) in
       let n : r .n ≡ s .n = ap (λ (t : List ℕ). getD t 0 0) (c .0) in
       let count : r .count ≡ s .count = ap (λ (t : List ℕ). getD t 1 0) (c .0) in
       let top : r .top ≡ s .top = ap (λ (t : List ℕ). getD t 2 0) (c .0) in
       let held : r .held ≡ s .held = ap (λ (t : List ℕ). getD t 3 0) (c .0) in
-      let locks : r .locks ≡ s .locks = locks-same (r .locks) (s .locks) (a .1) in
-      λ i. record { n = n i; count = count i; links = c .1 i; locks = locks i; ring = b .1 i; top = top i; held = held i; totals = d .1 i }
+      λ i. record { n = n i; count = count i; links = c .1 i; marks = a .1 i; ring = b .1 i; top = top i; held = held i; totals = d .1 i }
 
 -- ---- which words are a register's: those of the form, no others
-lock-small : (l : Bool) → lockWord l ≤ 1
-lock-small true = omega arith
-lock-small false = omega arith
-
-pub lock-back : (w : ℕ) → w ≤ 1 → lockWord (eqb w 1) ≡ w
-lock-back zero h = refl
-lock-back (suc zero) h = refl
-lock-back (suc (suc w)) h = absurd (omega arith)
-
-pub lock-flags : (ls : List Bool) → Flags (map lockWord ls)
-lock-flags ls i = let e : getD (map lockWord ls) i 0 ≡ lockWord (getD ls i false) = List·getD-map lockWord ls i false in omega (arith, lock-small (getD ls i false))
-
 four : (ws : List ℕ) → 4 ≤ length ws → take 4 ws ≡ getD ws 0 0 ∷ getD ws 1 0 ∷ getD ws 2 0 ∷ getD ws 3 0 ∷ []
 four [] h = absurd (omega arith)
 four (a ∷ []) h = absurd (omega arith)
@@ -97,58 +73,53 @@ four (a ∷ b ∷ c ∷ d ∷ ws) h = refl
 pub part-long : (ws : List ℕ) (i k : ℕ) → i + k ≤ length ws → length (take k (drop i ws)) ≡ k
 part-long ws i k h = length-take-le k (drop i ws) (omega (arith, length-drop i ws))
 
-pub loaded : (ws ls rs ts : List ℕ) (ks : List Bool) → Formed ws
-    → ls ≡ take maxLinks (drop linksAt ws) → rs ≡ take maxHeld (drop ringAt ws) → map lockWord ks ≡ take maxRecords (drop locksAt ws)
+pub loaded : (ws ls rs ks ts : List ℕ) → Formed ws
+    → ls ≡ take maxLinks (drop linksAt ws) → rs ≡ take maxHeld (drop ringAt ws) → ks ≡ take maxRecords (drop marksAt ws)
     → ts ≡ take labels (drop totalsAt ws)
-    → Keeps ws (record { n = getD ws 0 0; count = getD ws 1 0; links = ls; locks = ks; ring = rs; top = getD ws 2 0; held = getD ws 3 0; totals = ts })
-loaded ws ls rs ts ks f e g h t = record {
+    → Keeps ws (record { n = getD ws 0 0; count = getD ws 1 0; links = ls; marks = ks; ring = rs; top = getD ws 2 0; held = getD ws 3 0; totals = ts })
+loaded ws ls rs ks ts f e g h t = record {
   ranged = f .ranged;
   links = ap length e ∙ part-long ws linksAt maxLinks (omega (arith, f .long));
   ring = ap length g ∙ part-long ws ringAt maxHeld (omega (arith, f .long));
-  locks = sym (length-map ks lockWord) ∙ ap length h ∙ part-long ws locksAt maxRecords (omega (arith, f .long));
+  marked = rw h (f .marked);
+  marks = ap length h ∙ part-long ws marksAt maxRecords (omega (arith, f .long));
   totals = ap length t ∙ part-long ws totalsAt labels (omega (arith, f .long));
-  words = take-add totalsAt labels ws ∙ ap (λ (u : List ℕ). take totalsAt ws ++ u) (sym t) ∙ ap (λ (u : List ℕ). u ++ ts) locked;
+  words = take-add totalsAt labels ws ∙ ap (λ (u : List ℕ). take totalsAt ws ++ u) (sym t) ∙ ap (λ (u : List ℕ). u ++ ts) marked;
 }
   where
-    front : take locksAt ws ≡ (getD ws 0 0 ∷ getD ws 1 0 ∷ getD ws 2 0 ∷ getD ws 3 0 ∷ []) ++ ls ++ rs
+    front : take marksAt ws ≡ (getD ws 0 0 ∷ getD ws 1 0 ∷ getD ws 2 0 ∷ getD ws 3 0 ∷ []) ++ ls ++ rs
     front =
         take-add ringAt maxHeld ws ∙ ap (λ (t : List ℕ). take ringAt ws ++ t) (sym g)
         ∙ ap (λ (t : List ℕ). t ++ rs) (take-add linksAt maxLinks ws ∙ ap (λ (t : List ℕ). take linksAt ws ++ t) (sym e) ∙ ap (λ (t : List ℕ). t ++ ls) (four ws (omega (arith, f .long))))
 
-    locked : take totalsAt ws ≡ (getD ws 0 0 ∷ getD ws 1 0 ∷ getD ws 2 0 ∷ getD ws 3 0 ∷ []) ++ ls ++ rs ++ map lockWord ks
-    locked = take-add locksAt maxRecords ws ∙ ap (λ (u : List ℕ). take locksAt ws ++ u) (sym h) ∙ ap (λ (u : List ℕ). u ++ map lockWord ks) front
+    marked : take totalsAt ws ≡ (getD ws 0 0 ∷ getD ws 1 0 ∷ getD ws 2 0 ∷ getD ws 3 0 ∷ []) ++ ls ++ rs ++ ks
+    marked = take-add marksAt maxRecords ws ∙ ap (λ (u : List ℕ). take marksAt ws ++ u) (sym h) ∙ ap (λ (u : List ℕ). u ++ ks) front
 
 pub keeps-formed : (ws : List ℕ) (r : Register) → Keeps ws r → Formed ws
 keeps-formed ws r k = record {
   long = keeps-long k;
   ranged = rw (front 0 (omega arith), front 1 (omega arith), front 2 (omega arith), front 3 (omega arith)) (k .ranged);
-  flags = rw locked (lock-flags (r .locks));
+  marked = rw back (k .marked);
 }
   where
     front : (i : ℕ) → i < stateWords → getD ws i 0 ≡ getD (stateOf r) i 0
     front i h = sym (getD-take stateWords ws i 0 h) ∙ ap (λ (t : List ℕ). getD t i 0) (k .words)
 
-    -- the front with the locks, and the locks of it
-    whole : take totalsAt ws ≡ numbersOf r ++ r .links ++ r .ring ++ map lockWord (r .locks)
+    -- the front with the marks, and the marks of it
+    whole : take totalsAt ws ≡ numbersOf r ++ r .links ++ r .ring ++ r .marks
     whole =
         sym (take-at (take totalsAt ws) (take labels (drop totalsAt ws)) totalsAt (length-take-le totalsAt ws (omega (arith, keeps-long k))))
         ∙ ap (take totalsAt) (sym (take-add totalsAt labels ws) ∙ k .words)
-        ∙ take-at (numbersOf r ++ r .links ++ r .ring ++ map lockWord (r .locks)) (r .totals) totalsAt (omega (arith, totals-front r, k .links, k .ring, k .locks))
+        ∙ take-at (numbersOf r ++ r .links ++ r .ring ++ r .marks) (r .totals) totalsAt (omega (arith, totals-front r, k .links, k .ring, k .marks))
 
-    locked : take maxRecords (drop locksAt ws) ≡ map lockWord (r .locks)
-    locked =
-        sym (drop-at (take locksAt ws) (take maxRecords (drop locksAt ws)) locksAt (length-take-le locksAt ws (omega (arith, keeps-long k))))
-        ∙ ap (drop locksAt) (sym (take-add locksAt maxRecords ws) ∙ whole)
-        ∙ drop-at (numbersOf r ++ r .links ++ r .ring) (map lockWord (r .locks)) locksAt (omega (arith, locks-front r, k .links, k .ring))
+    back : take maxRecords (drop marksAt ws) ≡ r .marks
+    back =
+        sym (drop-at (take marksAt ws) (take maxRecords (drop marksAt ws)) marksAt (length-take-le marksAt ws (omega (arith, keeps-long k))))
+        ∙ ap (drop marksAt) (sym (take-add marksAt maxRecords ws) ∙ whole)
+        ∙ drop-at (numbersOf r ++ r .links ++ r .ring) (r .marks) marksAt (omega (arith, marks-front r, k .links, k .ring))
 
 pub formed-keeps : (ws : List ℕ) → Formed ws → (r : Register) × Keeps ws r
-formed-keeps ws f =
-    let ks = take maxRecords (drop locksAt ws) in
-    (_, loaded ws (take maxLinks (drop linksAt ws)) (take maxHeld (drop ringAt ws)) (take labels (drop totalsAt ws)) (map (λ w. eqb w 1) ks) f refl refl (locks ks (f .flags)) refl)
-  where
-    locks : (vs : List ℕ) → Flags vs → map lockWord (map (λ w. eqb w 1) vs) ≡ vs
-    locks [] g = refl
-    locks (v ∷ vs) g = ap (λ (t : List ℕ). lockWord (eqb v 1) ∷ t) (locks vs (λ i. g (suc i))) ∙ ap (λ (w : ℕ). w ∷ vs) (lock-back v (g 0))
+formed-keeps ws f = (_, loaded ws _ _ _ _ f refl refl refl refl)
 
 pub foreign-form : {ws : List ℕ} → Foreign ws → Formed ws → ⊥
 foreign-form {ws} g f = let k = formed-keeps ws f in g (k .0) (k .1)

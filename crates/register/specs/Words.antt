@@ -1,25 +1,25 @@
 -- A register kept by a caller as plain words. A state may be longer than a register's words: its front is the register, and the words past it are left.
---   linksAt, ringAt, locksAt, totalsAt
---                   the places of a register's first link, of the ring, of its first lock and of its first total
+--   linksAt, ringAt, marksAt, totalsAt
+--                   the places of a register's first link, of the ring, of its first mark and of its first total
 --   stateWords      how many words a register has
---   lockWord l      1 if locked, 0 if not
 --   numbersOf r, stateOf r
---                   the words of a register: its counters, its links, its ring, its locks, its totals
---   Keeps ws r      the front of ws is the words of the register r, whose counters are in range
+--                   the words of a register: its counters, its links, its ring, its marks, its totals
+--   Keeps ws r      the front of ws is the words of the register r, whose counters are in range and whose marks are marks
 --   Foreign ws      the front of ws is the words of no register
 --   Copies xs at before after ok
 --                   what `copy` promises: xs from place `at` on, or, if they do not fit there, false and nothing changed
 --   Loads ws out    what `load` promises: the register of the words, or, if they are no register's, 16 and the register of no records
 --   Stores r before after ok
---                   what `store` promises: the register's words in the front, or, with too few words or counters out of range, false and nothing changed
+--                   what `store` promises: the register's words in the front, or, with too few words, or counters or marks out of range, false and nothing changed
 -- Assumes nothing: these are definitions.
 use mathlib.Core.Path.{_≡_}
-use mathlib.Core.List.{List, [], _∷_, _++_, map}
+use mathlib.Core.List.{List, [], _∷_, _++_}
 use mathlib.Core.Bool.{Bool, true, false}
 use Prim.Native.Nat.{ℕ, _+_, _≤_, _<_}
 use lib.ListN.{length, take, drop}
 use Rattle.book.specs.Causes.{not-open, number, labels, maxLinks, maxHeld, maxRecords}
 use Rattle.book.specs.Book.{fresh}
+use Rattle.register.specs.Marks.{Marked}
 use Rattle.register.specs.Counters.{InRange}
 use Rattle.register.specs.Representation.{Represents}
 use Rattle.register.specs.Calls.{answerOf}
@@ -33,31 +33,28 @@ linksAt = 4
 abbrev pub ringAt : ℕ
 ringAt = linksAt + maxLinks
 
-abbrev pub locksAt : ℕ
-locksAt = ringAt + maxHeld
+abbrev pub marksAt : ℕ
+marksAt = ringAt + maxHeld
 
 abbrev pub totalsAt : ℕ
-totalsAt = locksAt + maxRecords
+totalsAt = marksAt + maxRecords
 
 abbrev pub stateWords : ℕ
 stateWords = totalsAt + labels
-
-abbrev pub lockWord : Bool → ℕ
-lockWord true = 1
-lockWord false = 0
 
 abbrev pub numbersOf : Register → List ℕ
 numbersOf r = r .n ∷ r .count ∷ r .top ∷ r .held ∷ []
 
 abbrev pub stateOf : Register → List ℕ
-stateOf r = numbersOf r ++ r .links ++ r .ring ++ map lockWord (r .locks) ++ r .totals
+stateOf r = numbersOf r ++ r .links ++ r .ring ++ r .marks ++ r .totals
 
 -- the lengths are those of the arrays
 pub record Keeps (ws : List ℕ) (r : Register) : Type 0 where
   pub ranged : InRange r
   pub links : length (r .links) ≡ maxLinks
   pub ring : length (r .ring) ≡ maxHeld
-  pub locks : length (r .locks) ≡ maxRecords
+  pub marks : length (r .marks) ≡ maxRecords
+  pub marked : Marked (r .marks)
   pub totals : length (r .totals) ≡ labels
   pub words : take stateWords ws ≡ stateOf r
 
@@ -74,4 +71,4 @@ pub record Loads (ws : List ℕ) (out : Outcome) : Type 0 where
 
 pub record Stores (r : Register) (before after : List ℕ) (ok : Bool) : Type 0 where
   pub done : ok ≡ true → Keeps after r × (drop stateWords after ≡ drop stateWords before)
-  pub refused : ok ≡ false → (after ≡ before) × (stateWords ≤ length before → InRange r → ⊥)
+  pub refused : ok ≡ false → (after ≡ before) × (stateWords ≤ length before → InRange r → Marked (r .marks) → ⊥)

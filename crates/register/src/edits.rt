@@ -1,16 +1,22 @@
-// The calls that edit a register: add, remove, lock, unlock, undo, and apply for any of them. What they promise is stated in specs/Calls.antt.
+// The calls that edit a register: add, remove, lock, unlock, withdraw, reinstate, undo, and apply for any of them. What they promise is stated in specs/Calls.antt.
 use crate::Answer;
 use crate::Call;
+use crate::FREE_MARK;
 use crate::FROM_UNIT;
 use crate::KIND_UNIT;
 use crate::LABELS;
 use crate::LAST_HELD;
+use crate::LOCK_MARK;
 use crate::LOCKED;
 use crate::LinkCheck;
 use crate::Outcome;
+use crate::REINSTATED;
 use crate::REMOVED;
 use crate::Register;
 use crate::UNLOCKED;
+use crate::WITHDRAWN;
+use crate::WITHDRAWN_MARK;
+use crate::questions::touched;
 use crate::sorted::cut;
 use crate::sorted::holds;
 use crate::sorted::place;
@@ -25,7 +31,7 @@ ghost use lib.ListN.{length, set};
 ghost use lib.Dec.{eqb};
 ghost use Rattle.book.specs.Basics.{without};
 ghost use Rattle.book.specs.Causes.{firstNumber, maxRecords, labels, maxLinks, maxHeld};
-ghost use Rattle.book.specs.Book.{add, remove, lock, unlock, edit, undo};
+ghost use Rattle.book.specs.Book.{add, remove, lock, unlock, withdraw, reinstate, edit, undo};
 ghost use Rattle.register.specs.Links.{linkWord};
 ghost use Rattle.register.specs.Packed.{insert};
 ghost use Rattle.register.specs.Representation.{packedOf};
@@ -33,9 +39,9 @@ ghost use Rattle.register.specs.Calls.{callOf, Steps};
 ghost use Rattle.register.specs.Inner.{linkCauses, Checks, Holding, Changed, TakenBack};
 
 // The first cause against the ends and the label of a link, or 0.
-fn link_cause(n: u16, locks: &[bool], from: u16, label: u8, to: u16) -> u32
-    requires { ⌜ n ≤ length (now locks) ⌝ }
-    ensures { λ r. ⌜ r ≡ firstNumber (linkCauses n (now (locks .entry)) (record { from = from; label = label; to = to })) ⌝ }
+fn link_cause(n: u16, marks: &[u32], from: u16, label: u8, to: u16) -> u32
+    requires { ⌜ n ≤ length (now marks) ⌝ }
+    ensures { λ r. ⌜ r ≡ firstNumber (linkCauses n (now (marks .entry)) (record { from = from; label = label; to = to })) ⌝ }
 {
     if n <= from {
         return book::NO_RECORD;
@@ -43,13 +49,19 @@ fn link_cause(n: u16, locks: &[bool], from: u16, label: u8, to: u16) -> u32
     if n <= to {
         return book::NO_RECORD;
     }
+    if marks[from as usize] == WITHDRAWN_MARK {
+        return book::WITHDRAWN_RECORD;
+    }
+    if marks[to as usize] == WITHDRAWN_MARK {
+        return book::WITHDRAWN_RECORD;
+    }
     if LABELS <= label {
         return book::BAD_LABEL;
     }
-    if locks[from as usize] {
+    if marks[from as usize] == LOCK_MARK {
         return book::LOCKED_END;
     }
-    if locks[to as usize] {
+    if marks[to as usize] == LOCK_MARK {
         return book::LOCKED_END;
     }
     0
@@ -69,18 +81,18 @@ fn check_link(
     count: usize,
     top: usize,
     held: usize,
-    locks: &[bool],
+    marks: &[u32],
     from: u16,
     label: u8,
     to: u16,
 ) -> LinkCheck
-    requires { ⌜ length (now locks) ≡ maxRecords ⌝ }
-    ensures { λ r. ⌜ Checks n count top held (now (locks .entry)) (record { from = from; label = label; to = to }) r ⌝ }
+    requires { ⌜ length (now marks) ≡ maxRecords ⌝ }
+    ensures { λ r. ⌜ Checks n count top held (now (marks .entry)) (record { from = from; label = label; to = to }) r ⌝ }
 {
     if !ranged(n, count, top, held) {
         return LinkCheck::Fault(book::NOT_OPEN);
     }
-    let cause = link_cause(n, locks, from, label, to);
+    let cause = link_cause(n, marks, from, label, to);
     if cause != 0 {
         return LinkCheck::Fault(cause);
     }
@@ -110,7 +122,7 @@ impl Register {
     // The link of a word put in, and its label's total with it.
     fn put_in(mut self, x: u32) -> Register
         requires { ⌜ self .count < maxLinks ⌝ }
-        ensures { λ r. ⌜ Changed self (record { links = insert x (packedOf self .links); locks = self .locks }) r ⌝ }
+        ensures { λ r. ⌜ Changed self (record { links = insert x (packedOf self .links); marks = self .marks }) r ⌝ }
     {
         let count = self.count;
         let at = place(&self.links, count, x);
@@ -123,7 +135,7 @@ impl Register {
     // The link of a word taken out, and of its label's total.
     fn take_out(mut self, x: u32) -> Register
         requires { ⌜ self .count ≤ maxLinks ⌝ }
-        ensures { λ r. ⌜ Changed self (record { links = without eqb x (packedOf self .links); locks = self .locks }) r ⌝ }
+        ensures { λ r. ⌜ Changed self (record { links = without eqb x (packedOf self .links); marks = self .marks }) r ⌝ }
     {
         let count = self.count;
         let at = place(&self.links, count, x);
@@ -136,14 +148,14 @@ impl Register {
         self
     }
 
-    // A record locked or not.
-    fn set_lock(mut self, x: u32, value: bool) -> Register
+    // A record's mark.
+    fn set_mark(mut self, x: u32, mark: u32) -> Register
         requires { ⌜ self .count ≤ maxLinks ⌝ }
-        ensures { λ r. ⌜ Changed self (record { links = packedOf self .links; locks = set (self .locks) x value }) r ⌝ }
+        ensures { λ r. ⌜ Changed self (record { links = packedOf self .links; marks = set (self .marks) x mark }) r ⌝ }
     {
         let i = x as usize;
         if i < book::MAX_RECORDS {
-            self.locks[i] = value;
+            self.marks[i] = mark;
         }
         self
     }
@@ -161,12 +173,14 @@ impl Register {
                 }
                 self.put_in(x)
             }
-            2 => self.set_lock(x, false),
-            _ => self.set_lock(x, true),
+            2 => self.set_mark(x, FREE_MARK),
+            3 => self.set_mark(x, LOCK_MARK),
+            4 => self.set_mark(x, FREE_MARK), // in use again
+            _ => self.set_mark(x, WITHDRAWN_MARK),
         }
     }
 
-    // A link put in: 2, 3, 4, 5 or 7 if it cannot be.
+    // A link put in: 2, 18, 3, 4, 5 or 7 if it cannot be.
     pub fn add(self, from: u16, label: u8, to: u16) -> Outcome
         ensures { λ r. ⌜ Steps self (edit (add (record { from = from; label = label; to = to }))) r ⌝ }
     {
@@ -176,7 +190,7 @@ impl Register {
             count,
             self.top,
             self.held,
-            &self.locks,
+            &self.marks,
             from,
             label,
             to,
@@ -209,7 +223,7 @@ impl Register {
         }
     }
 
-    // A link taken out: 2, 3, 4 or 6 if it cannot be.
+    // A link taken out: 2, 18, 3, 4 or 6 if it cannot be.
     pub fn remove(self, from: u16, label: u8, to: u16) -> Outcome
         ensures { λ r. ⌜ Steps self (edit (remove (record { from = from; label = label; to = to }))) r ⌝ }
     {
@@ -219,7 +233,7 @@ impl Register {
             count,
             self.top,
             self.held,
-            &self.locks,
+            &self.marks,
             from,
             label,
             to,
@@ -245,7 +259,7 @@ impl Register {
         }
     }
 
-    // A record locked: 2 or 5 if it cannot be.
+    // A record locked: 2, 18 or 5 if it cannot be.
     pub fn lock(self, record: u16) -> Outcome
         ensures { λ r. ⌜ Steps self (edit (lock «record»)) r ⌝ }
     {
@@ -261,21 +275,27 @@ impl Register {
                 answer: Answer::Refused(book::NO_RECORD),
             };
         }
-        let i = record as usize;
-        if self.locks[i] {
+        let mark = self.marks[record as usize];
+        if mark == WITHDRAWN_MARK {
+            return Outcome {
+                register: self,
+                answer: Answer::Refused(book::WITHDRAWN_RECORD),
+            };
+        }
+        if mark == LOCK_MARK {
             return Outcome {
                 register: self,
                 answer: Answer::Refused(book::ALREADY),
             };
         }
-        let changed = self.set_lock(record as u32, true);
+        let changed = self.set_mark(record as u32, LOCK_MARK);
         Outcome {
             register: changed.hold(LOCKED + record as u32),
             answer: Answer::Done,
         }
     }
 
-    // A record unlocked: 2 or 6 if it cannot be.
+    // A record unlocked: 2, 18 or 6 if it cannot be.
     pub fn unlock(self, record: u16) -> Outcome
         ensures { λ r. ⌜ Steps self (edit (unlock «record»)) r ⌝ }
     {
@@ -291,16 +311,93 @@ impl Register {
                 answer: Answer::Refused(book::NO_RECORD),
             };
         }
-        let i = record as usize;
-        if !self.locks[i] {
+        let mark = self.marks[record as usize];
+        if mark == WITHDRAWN_MARK {
+            return Outcome {
+                register: self,
+                answer: Answer::Refused(book::WITHDRAWN_RECORD),
+            };
+        }
+        if mark != LOCK_MARK {
             return Outcome {
                 register: self,
                 answer: Answer::Refused(book::MISSING),
             };
         }
-        let changed = self.set_lock(record as u32, false);
+        let changed = self.set_mark(record as u32, FREE_MARK);
         Outcome {
             register: changed.hold(UNLOCKED + record as u32),
+            answer: Answer::Done,
+        }
+    }
+
+    // A record withdrawn: 2, 4, 5 or 17 if it cannot be.
+    pub fn withdraw(self, record: u16) -> Outcome
+        ensures { λ r. ⌜ Steps self (edit (withdraw «record»)) r ⌝ }
+    {
+        if !ranged(self.n, self.count, self.top, self.held) {
+            return Outcome {
+                register: self,
+                answer: Answer::Refused(book::NOT_OPEN),
+            };
+        }
+        if self.n <= record {
+            return Outcome {
+                register: self,
+                answer: Answer::Refused(book::NO_RECORD),
+            };
+        }
+        let mark = self.marks[record as usize];
+        if mark == LOCK_MARK {
+            return Outcome {
+                register: self,
+                answer: Answer::Refused(book::LOCKED_END),
+            };
+        }
+        if mark == WITHDRAWN_MARK {
+            return Outcome {
+                register: self,
+                answer: Answer::Refused(book::ALREADY),
+            };
+        }
+        if touched(&self.links, self.count, record) {
+            return Outcome {
+                register: self,
+                answer: Answer::Refused(book::TOUCHED_RECORD),
+            };
+        }
+        let changed = self.set_mark(record as u32, WITHDRAWN_MARK);
+        Outcome {
+            register: changed.hold(WITHDRAWN + record as u32),
+            answer: Answer::Done,
+        }
+    }
+
+    // A record reinstated: 2 or 6 if it cannot be.
+    pub fn reinstate(self, record: u16) -> Outcome
+        ensures { λ r. ⌜ Steps self (edit (reinstate «record»)) r ⌝ }
+    {
+        if !ranged(self.n, self.count, self.top, self.held) {
+            return Outcome {
+                register: self,
+                answer: Answer::Refused(book::NOT_OPEN),
+            };
+        }
+        if self.n <= record {
+            return Outcome {
+                register: self,
+                answer: Answer::Refused(book::NO_RECORD),
+            };
+        }
+        if self.marks[record as usize] != WITHDRAWN_MARK {
+            return Outcome {
+                register: self,
+                answer: Answer::Refused(book::MISSING),
+            };
+        }
+        let changed = self.set_mark(record as u32, FREE_MARK);
+        Outcome {
+            register: changed.hold(REINSTATED + record as u32),
             answer: Answer::Done,
         }
     }
@@ -346,6 +443,8 @@ impl Register {
             Call::Remove(from, label, to) => self.remove(from, label, to),
             Call::Lock(record) => self.lock(record),
             Call::Unlock(record) => self.unlock(record),
+            Call::Withdraw(record) => self.withdraw(record),
+            Call::Reinstate(record) => self.reinstate(record),
             Call::Undo => self.undo(),
         }
     }

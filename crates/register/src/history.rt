@@ -18,6 +18,10 @@ pub const UNLOCK_KIND: u64 = 5;
 
 pub const UNDO_KIND: u64 = 6;
 
+pub const WITHDRAW_KIND: u64 = 10;
+
+pub const REINSTATE_KIND: u64 = 11;
+
 // A call's word is its kind, from or the record, label and to, each times its unit. Records have 16 bits, labels 8.
 const WORD_RECORDS: u64 = 65536;
 
@@ -44,6 +48,8 @@ impl Register {
             LOCK_KIND => self.apply(Call::Lock(from)),
             UNLOCK_KIND => self.apply(Call::Unlock(from)),
             UNDO_KIND => self.apply(Call::Undo),
+            WITHDRAW_KIND => self.apply(Call::Withdraw(from)),
+            REINSTATE_KIND => self.apply(Call::Reinstate(from)),
             _ => Outcome {
                 register: self,
                 answer: Answer::Refused(book::UNKNOWN_KIND),

@@ -1,4 +1,4 @@
-// The register: links, locks and held edits by value. This file has its types and its numbers, and passes the rest on: sorted.rt ascending words,
+// The register: links, marks and held edits by value. This file has its types and its numbers, and passes the rest on: sorted.rt ascending words,
 // state.rt a fresh register, totals.rt the totals, edits.rt the calls that edit it, history.rt a history as words, questions.rt what questions read, words.rt its words.
 // What the calls promise is stated in specs/Calls.antt, specs/History.antt and specs/Questions.antt, about the plain book of the crate book.
 mod edits;
@@ -11,9 +11,11 @@ mod words;
 
 pub use history::ADD_KIND;
 pub use history::LOCK_KIND;
+pub use history::REINSTATE_KIND;
 pub use history::REMOVE_KIND;
 pub use history::UNDO_KIND;
 pub use history::UNLOCK_KIND;
+pub use history::WITHDRAW_KIND;
 pub use history::replay;
 pub use questions::label_part;
 pub use questions::next_in;
@@ -43,16 +45,27 @@ const LOCKED: u32 = 2 * KIND_UNIT;
 
 const UNLOCKED: u32 = 3 * KIND_UNIT;
 
+const WITHDRAWN: u32 = 4 * KIND_UNIT;
+
+const REINSTATED: u32 = 5 * KIND_UNIT;
+
+// A record's mark: in use and not locked, locked, or withdrawn.
+const FREE_MARK: u32 = 0;
+
+const LOCK_MARK: u32 = 1;
+
+pub const WITHDRAWN_MARK: u32 = 2;
+
 // The last place of the ring.
 const LAST_HELD: usize = book::MAX_HELD - 1;
 
-// n records; the first count words of links, ascending, are the links present; of ring, the held words before top are the latest accepted edits;
+// n records, and the mark of each; the first count words of links, ascending, are the links present; of ring, the held words before top are the latest accepted edits;
 // totals has the number of links of each label.
 pub struct Register {
     n: u16,
     count: usize,
     links: [u32; book::MAX_LINKS],
-    locks: [bool; book::MAX_RECORDS],
+    marks: [u32; book::MAX_RECORDS],
     ring: [u32; book::MAX_HELD],
     top: usize,
     held: usize,
@@ -71,6 +84,8 @@ pub enum Call {
     Remove(u16, u8, u16),
     Lock(u16),
     Unlock(u16),
+    Withdraw(u16),
+    Reinstate(u16),
     Undo,
 }
 

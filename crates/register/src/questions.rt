@@ -1,19 +1,26 @@
-// What questions read of a register: its size, links, locks and totals, the part of one label, the links of a record. See specs/Questions.antt.
+// What questions read of a register: its size, links, marks and totals, the part of one label, the links of a record. See specs/Questions.antt.
+use crate::FREE_MARK;
 use crate::FROM_UNIT;
 use crate::LABEL_UNIT;
 use crate::LABELS;
+use crate::LOCK_MARK;
 use crate::Links;
 use crate::MAX_RECORDS;
 use crate::Register;
 use crate::TO_UNIT;
 use crate::TotalAnswer;
+use crate::WITHDRAWN_MARK;
 use crate::sorted::place;
 use crate::state::ranged;
 ghost use mathlib.Core.Path.{_≡_};
-ghost use Prim.Native.Nat.{_<_};
+ghost use mathlib.Core.List.{map};
+ghost use Prim.Native.Nat.{_≤_, _<_};
+ghost use lib.ListN.{length, take};
+ghost use Rattle.book.specs.Book.{touched as Book·touched};
+ghost use Rattle.register.specs.Links.{linkOf};
 ghost use Rattle.register.specs.Inner.{hasAt};
 ghost use Rattle.register.specs.Lookups.{LabelPart, nextPlace, NextLink, start, end};
-ghost use Rattle.register.specs.Questions.{Sized, Listing, LockList, Locking, TotalList, Totals};
+ghost use Rattle.register.specs.Questions.{Sized, Listing, MarkList, Locking, Withdrawal, TotalList, Totals};
 
 impl Register {
     // The number of records; none of contents out of range, which are those of no register.
@@ -40,14 +47,14 @@ impl Register {
         }
     }
 
-    // Whether each record is locked; none is of contents out of range.
-    pub fn locks(self) -> [bool; book::MAX_RECORDS]
-        ensures { λ r. ⌜ LockList self r ⌝ }
+    // The mark of each record; contents out of range have no locked one and no withdrawn one.
+    pub fn marks(self) -> [u32; book::MAX_RECORDS]
+        ensures { λ r. ⌜ MarkList self r ⌝ }
     {
         if !ranged(self.n, self.count, self.top, self.held) {
-            return [false; book::MAX_RECORDS];
+            return [FREE_MARK; book::MAX_RECORDS];
         }
-        self.locks
+        self.marks
     }
 
     // Whether a record is locked; none is of contents out of range.
@@ -60,7 +67,20 @@ impl Register {
         if MAX_RECORDS <= record {
             return false;
         }
-        self.locks[record as usize]
+        self.marks[record as usize] == LOCK_MARK
+    }
+
+    // Whether a record is withdrawn; none is of contents out of range.
+    pub fn is_withdrawn(self, record: u16) -> bool
+        ensures { λ r. ⌜ Withdrawal self «record» r ⌝ }
+    {
+        if !ranged(self.n, self.count, self.top, self.held) {
+            return false;
+        }
+        if MAX_RECORDS <= record {
+            return false;
+        }
+        self.marks[record as usize] == WITHDRAWN_MARK
     }
 
     // The total of each label; none of contents out of range.
@@ -111,6 +131,18 @@ fn next_side(words: &[u32], unit: u32, record: u16, at: usize) -> usize
         i += 1;
     }
     words.len()
+}
+
+// Whether a link of the first count words has the record at either side.
+pub fn touched(words: &[u32], count: usize, record: u16) -> bool
+    requires { ⌜ count ≤ length (now words) ⌝ }
+    ensures { λ r. ⌜ r ≡ Book·touched «record» (map linkOf (take count (now (words .entry)))) ⌝ }
+{
+    let part = &words[..count];
+    if next_side(part, FROM_UNIT, record, 0) < part.len() {
+        return true;
+    }
+    next_side(part, TO_UNIT, record, 0) < part.len()
 }
 
 // The first place from at on whose link begins at the record, or the number of words.

@@ -1,5 +1,6 @@
 // A register's numbers in range, a fresh register, and the number of an answer.
 use crate::Answer;
+use crate::FREE_MARK;
 use crate::MAX_RECORDS;
 use crate::Outcome;
 use crate::Register;
@@ -30,7 +31,7 @@ pub fn ranged(n: u16, count: usize, top: usize, held: usize) -> bool
     true
 }
 
-// A register of n records with no link, no lock and nothing held.
+// A register of n records with no link, no lock, no record withdrawn and nothing held.
 pub fn empty(n: u16) -> Register
     requires { ⌜ n ≤ maxRecords ⌝ }
     ensures { λ r. ⌜ Represents r (fresh n) ⌝ }
@@ -39,7 +40,7 @@ pub fn empty(n: u16) -> Register
         n,
         count: 0,
         links: [0; book::MAX_LINKS],
-        locks: [false; book::MAX_RECORDS],
+        marks: [FREE_MARK; book::MAX_RECORDS],
         ring: [0; book::MAX_HELD],
         top: 0,
         held: 0,

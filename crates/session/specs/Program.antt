@@ -5,7 +5,7 @@
 --   twoBytes n, frameOf k s
 --                   a number below 65,536 as two bytes, little-endian; the bytes of a frame of kind k with the body s
 --   openKind, pairsKind, chainKind, totalKind
---                   the kinds of frames that are no call; those of calls are a history's (register `addKind` .. `undoKind`)
+--                   the kinds of frames that are no call; those of calls are a history's (register `addKind` .. `reinstateKind`)
 --   Request         opening with n; a call of the book; a pair question with its text; a chain question with from, to and its text; asking for the
 --                   total of a label
 --   Frame           what a frame says: a request, or the cause why it says none
@@ -30,11 +30,11 @@ use lib.ListN.{length, getD, take, drop}
 use lib.Dec.{leb, ltb, eqb}
 use Rattle.book.specs.Basics.{pick}
 use Rattle.book.specs.Causes.{Cause, bad-size, broken-frame, unknown-kind, not-open, number, firstNumber}
-use Rattle.book.specs.Book.{Link, Book, Call, edit, undo, add, remove, lock, unlock, answer, next, fresh, total, totalNumber}
+use Rattle.book.specs.Book.{Link, Book, Call, edit, undo, add, remove, lock, unlock, withdraw, reinstate, answer, next, fresh, total, totalNumber}
 use Rattle.paths.specs.Grammar.{Verdict, Judged}
 use Rattle.paths.specs.Chains.{asked, Reply}
 use Rattle.paths.specs.Questions.{pairsAnswer, chainAnswer, ReplyTo, listAfter}
-use Rattle.register.specs.History.{addKind, removeKind, lockKind, unlockKind, undoKind}
+use Rattle.register.specs.History.{addKind, removeKind, lockKind, unlockKind, undoKind, withdrawKind, reinstateKind}
 use Rattle.report.specs.Report.{refusedText, answerText, totalText, outcomeText}
 
 abbrev pub programRecords : ℕ
@@ -100,7 +100,9 @@ decode k s =
     (pick (eqb k pairsKind) (asks (pairs s))
     (pick (eqb k chainKind) (sized (leb 4 (length s)) (chain (number16 s 0) (number16 s 2) (drop 4 s)))
     (pick (eqb k totalKind) (sized (eqb (length s) 1) (totalling (getD s 0 0)))
-    (faulty unknown-kind)))))))))
+    (pick (eqb k withdrawKind) (sized (eqb (length s) 2) (call (edit (withdraw (number16 s 0)))))
+    (pick (eqb k reinstateKind) (sized (eqb (length s) 2) (call (edit (reinstate (number16 s 0)))))
+    (faulty unknown-kind)))))))))))
 
 pub data Session : Type 0 where
   unopened : Session

@@ -1,4 +1,4 @@
--- Three runs as theorems, the sample of S7.8, one of refusals and one of totals: these frames on standard input, these lines on standard output.
+-- Four runs as theorems, the sample of S7.8, one of refusals, one of totals and one of withdrawn records: these frames on standard input, these lines on standard output.
 --   input           the frames: open 4; add 0 a 1; add 2 a 1; lock 1; add 1 b 3; pairs a/^a; undo; add 1 b 3; chain 0 to 3 a/b
 --   output          the lines
 --   Prints s i o    from the session s, with 4,096 words of work and any list of 4,096, a run over i prints o
@@ -7,6 +7,8 @@
 --                   a run of refused frames: the order of 15, 14 and 16; a refused open keeps the register; a cut frame ends it
 --   totalled, totals, totalled-run
 --                   a run that asks for totals: 16 before an open even of a label that there is not; after adds, a remove and an undo; then 3 and 14
+--   struck, uses, struck-run
+--                   a run that withdraws a record and reinstates it, with its refusals, both undone; pairs and a chain in between
 -- Assumes nothing.
 use mathlib.Core.Path.{_≡_, refl, subst, _∙_}
 use mathlib.Core.List.{List, [], _∷_, _++_}
@@ -18,7 +20,7 @@ use lib.Dec.{leb}
 use borrow.Author.Tests.{leb-true}
 use Rattle.book.specs.Basics.{has, without, tally}
 use Rattle.book.specs.Causes.{number, firstNumber}
-use Rattle.book.specs.Book.{Call, edit, undo, add, lock, causes, editAnswer, edited, turned, undoAnswer, undone, answer, next, fresh, after, total, totalNumber}
+use Rattle.book.specs.Book.{Call, edit, undo, add, lock, withdraw, touched, causes, editAnswer, edited, turned, undoAnswer, undone, answer, next, fresh, after, total, totalNumber}
 use Rattle.k2.specs.PairSets.{rowPairs, rowsPairs, listed, union, transpose, most, serves, product, via, closure, diagonal}
 use Rattle.k2.specs.Trees.{rise, height, treeUnit}
 use Rattle.paths.specs.Expressions.{Expr, symbol, letter, sequence, standsFor, letters, depth}
@@ -28,11 +30,11 @@ use Rattle.paths.specs.Relations.{crossed, zeroSteps, cells, pairs}
 use Rattle.paths.specs.Questions.{ReplyTo, pairsOf, pairsCauses, pairsAnswer, steps, chainCauses, chainAnswer}
 use Rattle.paths.specs.Descent.{alternativesIn, readAlternatives}
 use Rattle.paths.specs.Verdicts.{verdict, verdict-right}
-use Rattle.paths.specs.PairLaws.{history-inside}
+use Rattle.paths.specs.PairLaws.{history-inside, withdrawn-none}
 use Rattle.paths.specs.ChainOrder.{before}
 use Rattle.paths.specs.Acceptance.{parted, many, accepts}
 use Rattle.paths.specs.FirstChain.{reach, stepsBelow, before-each, after-each, walks, walksTo, end, best, firstTo, chainTo, chain-first}
-use Rattle.report.specs.Report.{bytes, figures, decimal, pairLine, labelLetter, senseSign, stepLine, lines, counted, okText, refusedText, pairsText, chainText, answerText, totalText, outcomeText}
+use Rattle.report.specs.Report.{bytes, figures, decimal, pairLine, labelLetter, senseSign, stepLine, lines, counted, okText, refusedText, noneText, pairsText, chainText, answerText, totalText, outcomeText}
 use Rattle.session.specs.Program.{programWords, minFrame, maxFrame, number16, twoBytes, frameOf, linkIn, decode, Session, unopened, openAnswer, nextSession, Right, printed, listLeft, frameIn, Run, framed, ended, lone-byte}
 use Rattle.session.specs.ProgramLaws.{length-left}
 
@@ -207,5 +209,48 @@ totalled-run =
     (by (drop 68 totals) long none refl refl refl tt
     (by (drop 76 totals) long none refl refl refl tt
     (by (drop 86 totals) long none refl refl refl tt
+    (by [] long none refl refl refl tt
+    (λ l e. (_, l, ended)))))))))))))))
+
+unfoldable pub struck : List ℕ
+struck =
+    frameOf 1 (2 ∷ 0 ∷ []) ++ (
+    frameOf 2 (0 ∷ 0 ∷ 0 ∷ 0 ∷ 0 ∷ []) ++ (
+    frameOf 10 (1 ∷ 0 ∷ []) ++ (
+    frameOf 10 (1 ∷ 0 ∷ []) ++ (
+    frameOf 10 (0 ∷ 0 ∷ []) ++ (
+    frameOf 4 (1 ∷ 0 ∷ []) ++ (
+    frameOf 7 (bytes "a*") ++ (
+    frameOf 8 (1 ∷ 0 ∷ 1 ∷ 0 ∷ bytes "a*") ++ (
+    frameOf 11 (1 ∷ 0 ∷ []) ++ (
+    frameOf 11 (1 ∷ 0 ∷ []) ++ (
+    frameOf 6 [] ++ (
+    frameOf 6 [] ++ (
+    frameOf 7 (bytes "a*") ++ (
+    frameOf 10 (1 ∷ []))))))))))))))
+
+unfoldable pub uses : List ℕ
+uses = bytes "ok\nok\nok\nrefused 5\nrefused 17\nrefused 18\npairs 1\n0 0\nnone\nok\nrefused 6\nok\nok\npairs 2\n0 0\n1 1\nrefused 14\n"
+
+none-from-1 : Judged (bytes "a*") (verdict (bytes "a*")) × ReplyTo (asked (after (fresh 2) (link 0 0 0 ∷ edit (withdraw 1) ∷ []))) (verdict (bytes "a*")) 1 1 none
+unfolding number firstNumber causes editAnswer edited turned undone next fresh after has without touched
+none-from-1 = (verdict-right (bytes "a*"), λ e h. withdrawn-none _ e 1 1 refl)
+
+pub struck-run : Prints unopened struck uses
+unfolding struck uses twoBytes frameOf bytes number16 linkIn decode openAnswer nextSession printed answerText outcomeText okText refusedText noneText pairsText chainText counted lines pairLine stepLine labelLetter senseSign decimal figures number firstNumber causes editAnswer edited turned undoAnswer undone answer next fresh after has without touched verdict readAlternatives alternativesIn letters depth verdictCause standsFor asked most crossed zeroSteps diagonal transpose union serves product via closure cells rowPairs rowsPairs listed pairs pairsOf pairsCauses pairsAnswer steps stepWords chainCauses chainAnswer rise height treeUnit
+struck-run =
+    by (drop 3 uses) long none refl refl refl tt
+    (by (drop 6 uses) long none refl refl refl tt
+    (by (drop 9 uses) long none refl refl refl tt
+    (by (drop 19 uses) long none refl refl refl tt
+    (by (drop 30 uses) long none refl refl refl tt
+    (by (drop 41 uses) long none refl refl refl tt
+    (by (drop 53 uses) (verdict (bytes "a*")) none refl refl refl (verdict-right (bytes "a*"))
+    (by (drop 58 uses) (verdict (bytes "a*")) none refl refl refl none-from-1
+    (by (drop 61 uses) long none refl refl refl tt
+    (by (drop 71 uses) long none refl refl refl tt
+    (by (drop 74 uses) long none refl refl refl tt
+    (by (drop 77 uses) long none refl refl refl tt
+    (by (drop 93 uses) (verdict (bytes "a*")) none refl refl refl (verdict-right (bytes "a*"))
     (by [] long none refl refl refl tt
     (λ l e. (_, l, ended)))))))))))))))

@@ -41,6 +41,10 @@ pub const CHAIN: u16 = 8;
 
 pub const TOTAL: u16 = 9;
 
+pub const WITHDRAW: u16 = register::WITHDRAW_KIND as u16;
+
+pub const REINSTATE: u16 = register::REINSTATE_KIND as u16;
+
 // The bytes of a number, of a link, and of the two ends of a chain question.
 const NUMBER_BYTES: usize = 2;
 
@@ -161,6 +165,18 @@ pub fn decode(kind: u16, body: &[u8]) -> Decoded
             }
             let label = body[0];
             Decoded::Total(label)
+        }
+        WITHDRAW => {
+            if n != NUMBER_BYTES {
+                return Decoded::Broken;
+            }
+            Decoded::Edit(Call::Withdraw(number16(body, 0)))
+        }
+        REINSTATE => {
+            if n != NUMBER_BYTES {
+                return Decoded::Broken;
+            }
+            Decoded::Edit(Call::Reinstate(number16(body, 0)))
         }
         _ => Decoded::Unknown,
     }

@@ -1,5 +1,5 @@
 // Runs the register's calls and prints the answers: the edits of the sample (S7.8), as calls and as words, a register kept as words, every refusal that a
-// register can give, 257 edits with 257 undos, and a register filled to 4,096 links with one more, of which a removed link's space is used again.
+// register can give, a record withdrawn and reinstated, 257 edits with 257 undos, and a register filled to 4,096 links with one more, of which a removed link's space is used again.
 use libc::STDOUT_FILENO;
 use register::Answer;
 use register::Outcome;
@@ -135,13 +135,52 @@ fn refusals() {
     count(b"links", r.links().count);
 }
 
+fn use_of(r: Register, record: u16) {
+    if r.is_withdrawn(record) {
+        line(b"withdrawn");
+    } else {
+        line(b"in use");
+    }
+}
+
+// The numbers of withdraw and reinstate, and 18 of the other edits, each where an earlier cause is not there and, as far as it can be, a later one is;
+// then both undone.
+fn withdrawn() {
+    line(b"withdrawn records");
+    let r = open(4);
+    let r = after(r.withdraw(4));
+    let r = after(r.reinstate(65535));
+    let r = after(r.reinstate(3));
+    let r = after(r.add(0, 0, 1));
+    let r = after(r.lock(0));
+    let r = after(r.withdraw(0));
+    let r = after(r.unlock(0));
+    let r = after(r.withdraw(0));
+    let r = after(r.withdraw(1));
+    let r = after(r.withdraw(3));
+    let r = after(r.withdraw(3));
+    let r = after(r.add(3, 26, 4));
+    let r = after(r.add(3, 26, 0));
+    let r = after(r.remove(0, 0, 3));
+    let r = after(r.lock(3));
+    let r = after(r.unlock(3));
+    use_of(r, 3);
+    let r = after(r.reinstate(3));
+    use_of(r, 3);
+    let r = after(r.undo());
+    use_of(r, 3);
+    let r = after(r.undo());
+    use_of(r, 3);
+    after(r.add(3, 0, 3));
+}
+
 fn numbers(told: &[u32]) {
     for i in 0..told.len() {
         count(b"told", told[i] as usize);
     }
 }
 
-// The word of a call, by its kind: 2 add, 3 remove, 4 lock, 5 unlock, 6 undo.
+// The word of a call, by its kind: 2 add, 3 remove, 4 lock, 5 unlock, 6 undo, 10 withdraw, 11 reinstate.
 fn word(kind: u8, from: u16, label: u8, to: u16) -> u64 {
     ((kind as u64 * 65536 + from as u64) * 256 + label as u64) * 65536 + to as u64
 }
@@ -159,9 +198,11 @@ fn replayed() {
         word(2, 1, 1, 3),
         word(6, 0, 0, 0),
         word(2, 1, 1, 3),
+        word(10, 3, 0, 0),
+        word(11, 3, 0, 0),
         18446744073709551615,
     ];
-    let mut told = [99u32; 10];
+    let mut told = [99u32; 12];
     let out = register::replay(4, &words, &mut told);
     let answer = out.answer;
     say(answer);
@@ -188,7 +229,14 @@ fn too_many_held(mut state: [u32; MORE]) -> [u32; MORE] {
     state
 }
 
-// A register kept as words in the front of a longer slice, whose last word stays as it was, and loaded again; then a counter out of range, and too few words.
+// The first record's mark.
+fn marked(mut state: [u32; MORE], mark: u32) -> [u32; MORE] {
+    state[4356] = mark;
+    state
+}
+
+// A register kept as words in the front of a longer slice, whose last word stays as it was, and loaded again; then a counter out of range, too few words, and
+// a mark that is the last of its three, and one above it.
 fn kept() {
     line(b"state");
     let r = open(4);
@@ -210,6 +258,13 @@ fn kept() {
     let answer = out.answer;
     say(answer);
     count(b"records", out.register.size());
+    let out = Register::load(&marked(state, 2));
+    let answer = out.answer;
+    say(answer);
+    use_of(out.register, 0);
+    let out = Register::load(&marked(state, 3));
+    let answer = out.answer;
+    say(answer);
 }
 
 // A register after many calls, and how many of them were accepted.
@@ -312,6 +367,7 @@ fn main() {
     replayed();
     kept();
     refusals();
+    withdrawn();
     depth();
     full();
 }

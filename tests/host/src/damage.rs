@@ -9,8 +9,8 @@ use oracle::{tree, Space};
 const N: usize = 0;
 const LINKS: usize = 4;
 const RING: usize = LINKS + 4096;
-const LOCKS: usize = RING + 256;
-const TOTALS: usize = LOCKS + 1024;
+const MARKS: usize = RING + 256;
+const TOTALS: usize = MARKS + 1024;
 const WORDS: usize = TOTALS + 26;
 
 fn any(random: &mut Random) -> u32 {
@@ -32,15 +32,15 @@ fn damage(random: &mut Random, words: &mut Vec<u32>) {
             0 => random.below(LINKS),
             1 => random.between(LINKS, LINKS + 40),
             2 => random.between(LINKS, RING - 1),
-            3 => random.between(RING, LOCKS - 1),
+            3 => random.between(RING, MARKS - 1),
             4 => random.between(TOTALS, words.len() - 1),
-            _ => random.between(LOCKS, words.len() - 1),
+            _ => random.between(MARKS, words.len() - 1),
         };
-        words[at] = if at < LOCKS || at >= TOTALS || random.chance(20) { any(random) } else { random.below(2) as u32 };
+        words[at] = if at < MARKS || at >= TOTALS || random.chance(20) { any(random) } else { random.below(3) as u32 };
     }
     match random.below(14) {
         0 => words[LINKS..RING].iter_mut().for_each(|word| *word = any(random)),
-        1 => words[RING..LOCKS].iter_mut().for_each(|word| *word = any(random)),
+        1 => words[RING..MARKS].iter_mut().for_each(|word| *word = any(random)),
         2 => words.iter_mut().for_each(|word| *word = any(random)),
         3 => words.truncate(random.below(WORDS)),
         4 => words.resize(random.between(WORDS + 1, 6000), 0),
@@ -53,11 +53,11 @@ fn damage(random: &mut Random, words: &mut Vec<u32>) {
     }
 }
 
-/// Whether the front of these could be the words of a register: enough of them, counters in range, locks 0 or 1. If not, the answer is 16.
+/// Whether the front of these could be the words of a register: enough of them, counters in range, marks 0 to 2. If not, the answer is 16.
 fn possible(words: &[u32]) -> bool {
     words.len() >= WORDS
         && (words[N] <= 1024 && words[1] <= 4096 && words[2] < 256 && words[3] <= 256)
-        && words[LOCKS..TOTALS].iter().all(|&word| word <= 1)
+        && words[MARKS..TOTALS].iter().all(|&word| word <= 2)
 }
 
 pub fn damaged(run: &mut Run, seed: u64, size: Size) {
@@ -72,12 +72,14 @@ pub fn damaged(run: &mut Run, seed: u64, size: Size) {
         let mut record = || if random.chance(90) { random.record(n) } else { random.word() as u32 % 65536 };
         let link = Link { from: record(), label: 0, to: record() };
         let link = Link { label: random.below(27) as u32, ..link };
-        let call = match random.below(6) {
+        let call = match random.below(8) {
             0..=1 => Call::Undo,
             2 => Call::Add(link),
             3 => Call::Remove(link),
             4 => Call::Lock(link.from),
-            _ => Call::Unlock(link.from),
+            5 => Call::Unlock(link.from),
+            6 => Call::Withdraw(link.from),
+            _ => Call::Reinstate(link.from),
         };
         let refused = !possible(&words);
         let answer = run.engine.edit(&mut words, call);
@@ -110,8 +112,10 @@ pub fn damaged(run: &mut Run, seed: u64, size: Size) {
         }
     }
     let locked = run.engine.locked(&words, random.record(n) as u16);
+    let withdrawn = run.engine.withdrawn(&words, random.record(n) as u16);
     if !possible {
         run.same("whether a record of no register is locked", &locked, &0);
+        run.same("whether a record of no register is withdrawn", &withdrawn, &0);
     }
     for label in [0, random.label() as u8, 25, 26, 255] {
         let total = run.engine.total(&words, label);

@@ -95,7 +95,7 @@ impl Engine {
         words.copy_from_slice(state);
         self.intact();
         self.fault(past, "changes a state past the register's words");
-        self.fault(answer <= 16, &format!("answers an edit with {answer}"));
+        self.fault(answer <= 18, &format!("answers an edit with {answer}"));
         self.fault(answer == 0 || kept, &format!("changes the register and answers {answer}"));
         answer
     }
@@ -110,6 +110,8 @@ impl Engine {
             Call::Remove(link) => calls::remove(state, link.from as u16, link.label as u8, link.to as u16),
             Call::Lock(record) => calls::lock(state, record as u16),
             Call::Unlock(record) => calls::unlock(state, record as u16),
+            Call::Withdraw(record) => calls::withdraw(state, record as u16),
+            Call::Reinstate(record) => calls::reinstate(state, record as u16),
             Call::Undo => calls::undo(state),
         })
     }
@@ -124,6 +126,13 @@ impl Engine {
         let answer = calls::locked(self.state.lend_words(words), record);
         self.intact();
         self.fault(answer <= 1, &format!("answers with {answer} whether a record is locked"));
+        answer
+    }
+
+    pub fn withdrawn(&mut self, words: &[u32], record: u16) -> u32 {
+        let answer = calls::withdrawn(self.state.lend_words(words), record);
+        self.intact();
+        self.fault(answer <= 1, &format!("answers with {answer} whether a record is withdrawn"));
         answer
     }
 

@@ -105,6 +105,18 @@ impl<'a> History<'a> {
         links.iter().nth(at).copied()
     }
 
+    /// A record that no link touches, if some draws find one.
+    fn untouched(&mut self) -> u32 {
+        let mut record = self.record();
+        for _ in 0..8 {
+            if self.book.first_cause(Call::Withdraw(record)).is_none() {
+                break;
+            }
+            record = self.record();
+        }
+        record
+    }
+
     /// Adds links until there are so many, or so many draws were made.
     fn fill(&mut self, links: usize) {
         for _ in 0..2 * links {
@@ -119,7 +131,7 @@ impl<'a> History<'a> {
     /// Edits of every kind, accepted and refused.
     fn edits(&mut self, count: usize) {
         for _ in 0..count {
-            let call = match self.random.below(20) {
+            let call = match self.random.below(26) {
                 0..=5 => Call::Add(self.link()),
                 6..=7 => {
                     let label =
@@ -139,13 +151,21 @@ impl<'a> History<'a> {
                     locked.map_or(Call::Unlock(self.record()), Call::Unlock)
                 }
                 17 => Call::Unlock(self.record()),
+                18..=19 => Call::Withdraw(self.record()),
+                20 => Call::Withdraw(self.untouched()),
+                21..=22 => {
+                    let withdrawn: Vec<u32> = self.book.sheet().withdrawn.iter().copied().collect();
+                    let some = !withdrawn.is_empty();
+                    Call::Reinstate(if some { self.random.pick(&withdrawn) } else { self.record() })
+                }
+                23 => Call::Reinstate(self.record()),
                 _ => Call::Undo,
             };
             self.edit(call);
         }
     }
 
-    /// Links, locks, totals and size are those of the book.
+    /// Links, locks, withdrawn records, totals and size are those of the book.
     fn compare_contents(&mut self) {
         let word = |link: &Link| (link.label * 1024 + link.from) * 1024 + link.to;
         let mut links: Vec<u32> = self.book.sheet().links.iter().map(word).collect();
@@ -161,6 +181,9 @@ impl<'a> History<'a> {
             let answer = self.run.engine.locked(&self.words, record as u16);
             let expected = u32::from(self.book.sheet().locked.contains(&record));
             self.run.same_of(|| format!("locked {record}"), &answer, &expected);
+            let answer = self.run.engine.withdrawn(&self.words, record as u16);
+            let expected = u32::from(self.book.sheet().withdrawn.contains(&record));
+            self.run.same_of(|| format!("withdrawn {record}"), &answer, &expected);
         }
         for label in (0..=LABELS).chain([31, 97, 255]) {
             self.compare_total(label);
@@ -205,6 +228,10 @@ impl<'a> History<'a> {
                     (from, to) = (word / 1024, word % 1024);
                 }
                 _ => {}
+            }
+            let withdrawn = self.book.sheet().withdrawn.iter().next().copied();
+            if let Some(record) = withdrawn.filter(|_| self.random.chance(20)) {
+                (from, to) = self.random.pick(&[(record, record), (record, to), (from, record)]);
             }
             let steps = match &read {
                 _ if from >= n || to >= n => Err(Refusal::Record),

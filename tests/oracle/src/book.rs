@@ -1,4 +1,4 @@
-//! The plain book: a sheet of links and locked records, and a pile of earlier sheets.
+//! The plain book: a sheet of links, locked records and withdrawn ones, and a pile of earlier sheets.
 
 use crate::{check_size, Refusal};
 use std::collections::{BTreeSet, VecDeque};
@@ -17,11 +17,12 @@ pub struct Link {
     pub to: u32,
 }
 
-/// A set of links and a set of locked records.
+/// A set of links, a set of locked records and a set of withdrawn ones.
 #[derive(Clone, Debug, Default, PartialEq, Eq)]
 pub struct Sheet {
     pub links: BTreeSet<Link>,
     pub locked: BTreeSet<u32>,
+    pub withdrawn: BTreeSet<u32>,
 }
 
 /// A call that changes the register, with any arguments.
@@ -31,6 +32,8 @@ pub enum Call {
     Remove(Link),
     Lock(u32),
     Unlock(u32),
+    Withdraw(u32),
+    Reinstate(u32),
     Undo,
 }
 
@@ -42,7 +45,7 @@ pub struct Book {
 }
 
 impl Book {
-    /// A fresh register: no links, no locks, nothing held.
+    /// A fresh register: no links, no locks, every record in use, nothing held.
     pub fn fresh(n: u32) -> Result<Book, Refusal> {
         check_size(n)?;
         Ok(Book { n, sheet: Sheet::default(), pile: VecDeque::new() })
@@ -87,6 +90,8 @@ impl Book {
             Call::Remove(link) => self.sheet.links.remove(&link),
             Call::Lock(record) => self.sheet.locked.insert(record),
             Call::Unlock(record) => self.sheet.locked.remove(&record),
+            Call::Withdraw(record) => self.sheet.withdrawn.insert(record),
+            Call::Reinstate(record) => self.sheet.withdrawn.remove(&record),
             Call::Undo => unreachable!("undo is done above"),
         };
         Ok(())
@@ -94,21 +99,26 @@ impl Book {
 
     /// The first cause, in the order for edits (S6.6), to refuse an edit.
     pub fn first_cause(&self, edit: Call) -> Option<Refusal> {
-        let Sheet { links, locked } = &self.sheet;
+        let Sheet { links, locked, withdrawn } = &self.sheet;
         let (records, label) = match edit {
             Call::Add(link) | Call::Remove(link) => (vec![link.from, link.to], Some(link.label)),
             Call::Lock(record) | Call::Unlock(record) => (vec![record], None),
+            Call::Withdraw(record) | Call::Reinstate(record) => (vec![record], None),
             Call::Undo => (vec![], None),
         };
+        let withdraws = matches!(edit, Call::Withdraw(_));
+        let about_use = withdraws || matches!(edit, Call::Reinstate(_));
         let causes = [
             (Refusal::Record, records.iter().any(|&record| record >= self.n)),
+            (Refusal::Withdrawn, !about_use && records.iter().any(|record| withdrawn.contains(record))),
             (Refusal::Label, label.is_some_and(|label| label >= LABELS)),
-            (Refusal::Locked, label.is_some() && records.iter().any(|record| locked.contains(record))),
+            (Refusal::Locked, (label.is_some() || withdraws) && records.iter().any(|record| locked.contains(record))),
             (
                 Refusal::Already,
                 match edit {
                     Call::Add(link) => links.contains(&link),
                     Call::Lock(record) => locked.contains(&record),
+                    Call::Withdraw(record) => withdrawn.contains(&record),
                     _ => false,
                 },
             ),
@@ -117,10 +127,15 @@ impl Book {
                 match edit {
                     Call::Remove(link) => !links.contains(&link),
                     Call::Unlock(record) => !locked.contains(&record),
+                    Call::Reinstate(record) => !withdrawn.contains(&record),
                     _ => false,
                 },
             ),
             (Refusal::Full, matches!(edit, Call::Add(_)) && links.len() >= MAX_LINKS),
+            (
+                Refusal::Touched,
+                withdraws && links.iter().any(|link| records.contains(&link.from) || records.contains(&link.to)),
+            ),
         ];
         causes.into_iter().find(|&(_, there)| there).map(|(cause, _)| cause)
     }

@@ -54,9 +54,13 @@ impl Steps {
     }
 }
 
-/// The step words of the first chain from `x` to `y` that spells a word of the expression, if there is any chain.
+/// The step words of the first chain from `x` to `y` that spells a word of the expression, if there is any chain; there is
+/// none from or to a withdrawn record (S4.9).
 pub fn first(n: u32, sheet: &Sheet, expression: &Expression, x: u32, y: u32) -> Option<Vec<u32>> {
     assert!(x < n && y < n);
+    if sheet.withdrawn.contains(&x) || sheet.withdrawn.contains(&y) {
+        return None;
+    }
     let steps = Steps::of(sheet);
     let words = Words::of(expression);
     let ends = |&(record, rest): &Place| record == y && words.may_end[rest];

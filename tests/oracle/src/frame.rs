@@ -30,10 +30,15 @@ impl Request {
                 }
                 _ => Err(Refusal::Frame),
             },
-            4 | 5 => match *body {
+            4 | 5 | 10 | 11 => match *body {
                 [a, b] => {
                     let record = number(a, b);
-                    Ok(Request::Edit(if kind == 4 { Call::Lock(record) } else { Call::Unlock(record) }))
+                    Ok(Request::Edit(match kind {
+                        4 => Call::Lock(record),
+                        5 => Call::Unlock(record),
+                        10 => Call::Withdraw(record),
+                        _ => Call::Reinstate(record),
+                    }))
                 }
                 _ => Err(Refusal::Frame),
             },
@@ -63,6 +68,8 @@ impl Request {
             Request::Edit(Call::Lock(record)) => frame(4, &two(*record)),
             Request::Edit(Call::Unlock(record)) => frame(5, &two(*record)),
             Request::Edit(Call::Undo) => frame(6, &[]),
+            Request::Edit(Call::Withdraw(record)) => frame(10, &two(*record)),
+            Request::Edit(Call::Reinstate(record)) => frame(11, &two(*record)),
             Request::Pairs(text) => frame(7, text),
             Request::Chain(from, to, text) => frame(8, &[&two(*from)[..], &two(*to), text].concat()),
             Request::Total(label) => frame(9, &[one(*label)]),

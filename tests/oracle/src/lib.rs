@@ -3,7 +3,7 @@
 //!
 //! | Module | Holds | Section |
 //! |---|---|---|
-//! | `book` | the plain book: sheets of links and locks, the pile of earlier sheets | S2 The plain book |
+//! | `book` | the plain book: sheets of links, locked and withdrawn records, the pile of earlier sheets | S2 The plain book |
 //! | `expression` | the reader of expressions, with its refusals | S3 Expressions |
 //! | `relation` | sets of pairs as rows of bits, and the set that an expression means | S3 Expressions |
 //! | `chain` | the first chain between two records | S4 Chains |
@@ -48,11 +48,11 @@ pub enum Refusal {
     Record = 2,
     /// a label above 25
     Label = 3,
-    /// add or remove where an end is locked
+    /// add or remove where an end is locked; withdrawing a locked record
     Locked = 4,
-    /// the link is present, or the record locked, already
+    /// the link is present, or the record locked or withdrawn, already
     Already = 5,
-    /// the link is absent, or the record not locked
+    /// the link is absent, or the record not locked; reinstating a record in use
     Absent = 6,
     /// 4,096 links are present at an add
     Full = 7,
@@ -74,6 +74,10 @@ pub enum Refusal {
     Kind = 15,
     /// no register is opened
     NotOpened = 16,
+    /// withdrawing a record that a link touches
+    Touched = 17,
+    /// a withdrawn record named in add, remove, lock or unlock
+    Withdrawn = 18,
 }
 
 impl Refusal {

@@ -3,7 +3,7 @@
 //! ```text
 //! open 4            add 0 a 1         lock 1            undo              chain 0 3 a/b
 //! bytes 01 00 ff    remove 0 a 1      unlock 1          pairs a/^a        total a
-//! # a remark
+//! withdraw 1        reinstate 1       # a remark
 //! ```
 //!
 //! A label is a letter from a to z or a number. An expression is all that follows its space, and may be empty. `bytes`
@@ -33,6 +33,8 @@ fn request(word: &str, rest: &str) -> Result<Request, String> {
         ("remove", [from, label, to]) => Request::Edit(Call::Remove(link(from, label, to)?)),
         ("lock", [record]) => Request::Edit(Call::Lock(number(record)?)),
         ("unlock", [record]) => Request::Edit(Call::Unlock(number(record)?)),
+        ("withdraw", [record]) => Request::Edit(Call::Withdraw(number(record)?)),
+        ("reinstate", [record]) => Request::Edit(Call::Reinstate(number(record)?)),
         ("undo", [""]) => Request::Edit(Call::Undo),
         ("pairs", _) => Request::Pairs(rest.into()),
         ("chain", [from, to, text @ ..]) => Request::Chain(number(from)?, number(to)?, text.join(" ").into()),

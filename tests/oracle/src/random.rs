@@ -315,10 +315,12 @@ impl Session {
                     self.edit(Call::Lock(record));
                 }
                 35..=41 => self.unlock(),
-                42..=50 => self.edit(Call::Undo),
-                51..=68 => self.pairs(),
-                69..=72 => self.total(),
-                73..=94 => self.chain(),
+                42..=45 => self.withdraw(),
+                46..=49 => self.reinstate(),
+                50..=57 => self.edit(Call::Undo),
+                58..=73 => self.pairs(),
+                74..=76 => self.total(),
+                77..=94 => self.chain(),
                 95..=96 => self.unknown_kind(),
                 97 => self.wrong_size(),
                 98 => {
@@ -403,12 +405,37 @@ impl Session {
         self.edit(Call::Unlock(record));
     }
 
+    /// Mostly withdraws a record that nothing is against, if some draws find one.
+    fn withdraw(&mut self) {
+        let mut record = self.any_record();
+        for _ in 0..self.random.below(8) {
+            if self.book.as_ref().is_some_and(|book| book.first_cause(Call::Withdraw(record)).is_none()) {
+                break;
+            }
+            record = self.record();
+        }
+        self.edit(Call::Withdraw(record));
+    }
+
+    fn withdrawn(&self) -> Vec<u32> {
+        self.book.iter().flat_map(|book| book.sheet().withdrawn.iter().copied()).collect()
+    }
+
+    /// Mostly reinstates a withdrawn record.
+    fn reinstate(&mut self) {
+        let withdrawn = self.withdrawn();
+        let some = !withdrawn.is_empty() && self.random.chance(75);
+        let record = if some { self.random.pick(&withdrawn) } else { self.any_record() };
+        self.edit(Call::Reinstate(record));
+    }
+
     fn pairs(&mut self) {
         let text = expression(&mut self.random, &self.labels);
         self.ask(Request::Pairs(text));
     }
 
-    /// A chain question, every other time for a pair that has a chain if there is one.
+    /// A chain question, every other time for a pair that has a chain if there is one, and now and then from or to a
+    /// withdrawn record.
     fn chain(&mut self) {
         let text = expression(&mut self.random, &self.labels);
         let mut ends = (self.any_record(), self.any_record());
@@ -418,6 +445,11 @@ impl Session {
                 let word = self.random.pick(&words);
                 ends = (word / 1024, word % 1024);
             }
+        }
+        let withdrawn = self.withdrawn();
+        if !withdrawn.is_empty() && self.random.chance(10) {
+            let record = self.random.pick(&withdrawn);
+            ends = self.random.pick(&[(record, record), (record, ends.1), (ends.0, record)]);
         }
         self.ask(Request::Chain(ends.0, ends.1, text));
     }
@@ -439,7 +471,7 @@ impl Session {
     }
 
     fn wrong_size(&mut self) {
-        let kind = self.random.pick(&[1, 2, 3, 4, 5, 6, 8, 9]);
+        let kind = self.random.pick(&[1, 2, 3, 4, 5, 6, 8, 9, 10, 11]);
         let sizes: Vec<usize> =
             (0..=8).chain([1022]).filter(|&size| Request::read(kind, &vec![1; size]).is_err()).collect();
         let size = self.random.pick(&sizes);
@@ -452,13 +484,15 @@ impl Session {
         self.start();
         let edits = self.random.between(MAX_HELD - 2, MAX_HELD + 20);
         while self.accepted < edits {
-            match self.random.below(10) {
+            match self.random.below(12) {
                 0..=5 => self.add_absent(),
                 6..=7 => self.remove_present(),
                 8 => {
                     let record = self.any_record();
                     self.edit(Call::Lock(record));
                 }
+                9 => self.withdraw(),
+                10 => self.reinstate(),
                 _ => self.unlock(),
             }
         }

@@ -20,6 +20,11 @@ impl Relation {
         Relation::of(n, (0..n).map(|x| (x, x)))
     }
 
+    /// Zero steps: each record that is not withdrawn with itself (S3.8).
+    pub fn zero_steps(n: u32, sheet: &Sheet) -> Relation {
+        Relation::of(n, (0..n).filter(|x| !sheet.withdrawn.contains(x)).map(|x| (x, x)))
+    }
+
     /// The set of these pairs, all below n.
     pub fn of(n: u32, pairs: impl IntoIterator<Item = (u32, u32)>) -> Relation {
         let mut set = Relation::empty(n);
@@ -119,8 +124,8 @@ impl Relation {
             Expression::Alternative(left, right) => meant(left).union(&meant(right)),
             Expression::Sequence(left, right) => meant(left).product(&meant(right)),
             Expression::Plus(part) => meant(part).closure(),
-            Expression::Star(part) => meant(part).closure().union(&Relation::identity(n)),
-            Expression::Optional(part) => meant(part).union(&Relation::identity(n)),
+            Expression::Star(part) => meant(part).closure().union(&Relation::zero_steps(n, sheet)),
+            Expression::Optional(part) => meant(part).union(&Relation::zero_steps(n, sheet)),
         }
     }
 }

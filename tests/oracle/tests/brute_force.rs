@@ -50,6 +50,10 @@ fn first_of_length(
     length: usize,
     chain: &mut Vec<u32>,
 ) -> bool {
+    let withdrawn = &book.sheet().withdrawn;
+    if withdrawn.contains(&at) || withdrawn.contains(&to) {
+        return false;
+    }
     if chain.len() == length {
         let letters: Vec<Letter> = chain.iter().map(|&word| Step::of_word(word).letter).collect();
         return at == to && spells(expression, &letters);
@@ -78,7 +82,17 @@ fn tiny_book(random: &mut Random) -> Book {
         let link = Link { from: random.record(n), label: random.below(2) as u32, to: random.record(n) };
         let _present_already = book.call(Call::Add(link));
     }
+    withdraw_some(random, &mut book);
     book
+}
+
+/// Withdraws some of the records that no link touches.
+fn withdraw_some(random: &mut Random, book: &mut Book) {
+    for record in 0..book.n() {
+        if random.chance(40) {
+            let _touched = book.call(Call::Withdraw(record));
+        }
+    }
 }
 
 #[test]
@@ -126,6 +140,7 @@ fn pairs_are_those_with_a_chain() {
             let link = Link { from: random.record(n), label: random.below(3) as u32, to: random.record(n) };
             let _present_already = book.call(Call::Add(link));
         }
+        withdraw_some(&mut random, &mut book);
         let letters = random.between(1, 12);
         let text = random::in_grammar(&mut random, &[0, 1, 2], letters, 3);
         let expression = expression::read(&text).unwrap();

@@ -125,6 +125,32 @@ fn zero_steps_join_unlinked_records_too() {
 }
 
 #[test]
+fn a_withdrawn_record_supports_not_even_itself() {
+    let mut book = cases_book();
+    book.call(Call::Withdraw(3)).unwrap();
+    assert_eq!(pairs(&book, "b?"), [(0, 0), (1, 1), (2, 0), (2, 2)]);
+    assert_eq!(pairs(&book, "b?/c*"), [(0, 0), (1, 1), (2, 0), (2, 2)]);
+    assert_eq!(pairs(&book, "(c*)?"), [(0, 0), (1, 1), (2, 2)]);
+    for text in ["a*", "a?", "(a|b|^a|^b)*"] {
+        for (x, y) in [(3, 3), (3, 0), (0, 3)] {
+            assert_eq!(chain(&book, x, y, text), None);
+        }
+    }
+    book.call(Call::Reinstate(3)).unwrap();
+    assert_eq!(pairs(&book, "b?"), [(0, 0), (1, 1), (2, 0), (2, 2), (3, 3)]);
+    assert_eq!(chain(&book, 3, 3, "a*").unwrap(), "");
+    assert_eq!((book.call(Call::Undo), chain(&book, 3, 3, "a*")), (Ok(()), None));
+    assert_eq!((book.call(Call::Undo), chain(&book, 3, 3, "a*").unwrap()), (Ok(()), String::new()));
+    // none comes after 2, the expression's numbers and 12
+    book.call(Call::Withdraw(3)).unwrap();
+    let asked = |to, text: &str, work| {
+        question::chain(&book, 3, to, text.as_bytes(), Space { work, list: 0 }).map_err(Refusal::number)
+    };
+    assert_eq!((asked(4, "a*", 256), asked(3, "a**", 0), asked(3, "a*", 255)), (Err(2), Err(9), Err(12)));
+    assert_eq!(asked(3, "a*", 256), Ok(None));
+}
+
+#[test]
 fn a_chain_may_have_more_than_n_steps() {
     let ring = book(3, &[(0, 0, 1), (1, 0, 2), (2, 0, 0)]);
     assert_eq!(chain(&ring, 0, 1, "a/a/a/a").unwrap(), "a + 1, a + 2, a + 0, a + 1");
@@ -234,12 +260,28 @@ fn a_full_register_refuses_only_new_links() {
 
 #[test]
 fn the_order_of_refusals_of_edits() {
-    let open = "open 2\nadd 0 a 0\nlock 1\n";
+    let open = "open 3\nadd 0 a 0\nlock 1\nwithdraw 2\n";
     let last = |typed: &str| answers(&format!("{open}{typed}")).rsplit(", ").next().unwrap().to_string();
     for (typed, number) in [
-        ("add 2 26 1", 2),
+        ("add 3 26 1", 2),
+        ("add 2 26 3", 2),
         ("remove 1 255 65535", 2),
-        ("lock 2", 2),
+        ("lock 3", 2),
+        ("withdraw 3", 2),
+        ("reinstate 65535", 2),
+        ("add 2 26 0", 18),
+        ("remove 0 26 2", 18),
+        ("add 2 a 1", 18),
+        ("remove 1 a 2", 18),
+        ("remove 2 a 2", 18),
+        ("lock 2", 18),
+        ("unlock 2", 18),
+        ("withdraw 1", 4),
+        ("lock 0\nwithdraw 0", 4),
+        ("withdraw 2", 5),
+        ("withdraw 0", 17),
+        ("reinstate 0", 6),
+        ("reinstate 1", 6),
         ("unlock 256", 2),
         ("add 1 26 1", 3),
         ("remove 0 26 1", 3),
@@ -249,7 +291,7 @@ fn the_order_of_refusals_of_edits() {
         ("lock 1", 5),
         ("remove 0 b 0", 6),
         ("unlock 0", 6),
-        ("chain 0 2 ", 2),
+        ("chain 0 3 ", 2),
         ("chain 0 1", 9),
         ("pairs", 9),
         ("pairs a b", 9),
@@ -284,10 +326,10 @@ fn the_order_of_refusals_of_frames() {
         "ok, ok, refused 1, pairs 1, 63 63, ok, refused 8"
     });
     // Every kind at each size.
-    for kind in (0..=9).chain([12]) {
+    for kind in 0..=12 {
         for size in [0, 1, 2, 3, 4, 5, 6, 1022] {
             let right = match kind {
-                1 | 4 | 5 => size == 2,
+                1 | 4 | 5 | 10 | 11 => size == 2,
                 2 | 3 => size == 5,
                 6 => size == 0,
                 7 => true,
@@ -362,5 +404,5 @@ fn sessions_meet_every_number_of_the_program() {
         assert_eq!(session, random::session(seed, count));
         met.extend(printed(&session).lines().filter_map(|line| line.strip_prefix("refused ")?.parse::<u32>().ok()));
     }
-    assert_eq!(met, (1..=10).chain(14..=16).collect());
+    assert_eq!(met, (1..=10).chain(14..=18).collect());
 }

@@ -6,7 +6,7 @@ use native.Mathlib.Omega.{arith}
 use borrow.Author.Needs.{needs}
 use lib.ListN.{length}
 use Rattle.reader.specs.ReadsLaws.{reads-accepted, reads-refused}
-use Rattle.chains.proofs.ReplyLaws.{inside, spans, in-use, asked-size, refuses-record, refuses-text, refuses-work, replies}
+use Rattle.chains.proofs.ReplyLaws.{spans, refuses-record, refuses-text, refuses-work, replies}
 use Rattle.chains.proofs.chain.Statement.{statement}
 use Rattle.chains.proofs.chain.Tie as tie
 
@@ -106,8 +106,8 @@ returns-5 c =
     let hy = c .before .before .before .before .before .before .before .before .before .before .before .before .before .before .before .before .before .before .before .before .before .before .if2 .left in
     let k : length (c .before .before .before .before .before .before .before .before .before .before .before .before .before .before .before .links .result .words) ≡ 4096 = search needs in
     let m : c .before .before .before .before .before .before .before .before .before .before .before .before .before .before .before .links .result .count ≤ length (c .before .before .before .before .before .before .before .before .before .before .before .before .before .before .before .links .result .words) = omega (arith, c .before .before .before .before .before .before .before .before .before .before .before .before .before .before .before .links .ensures .few) in
-    let all = replies (z .size) hx hy e (A .is) (c .before .before .before .before .before .before .before .before .before .before .before .before .before .before .before .before .if3 .left) (f .ensures .0) (f .kept .1 .1 .1 .1 .1 .0)
-    (λ b R. f .ensures .1 (s .text .now) e (A .limits) (rw part (A .front)) _ (asked-size R (z .size b R)) (inside R) (spans R (z .size b R) (z .small) _ _ (c .before .before .before .before .before .before .before .before .before .before .before .before .before .before .before .links .ensures .linked b R) m) (in-use R (z .size b R) _ hx) (in-use R (z .size b R) _ hy)) in
+    let all = replies (z .size) hx hy e (A .is) (c .before .before .before .before .before .before .before .before .before .before .before .before .before .before .before .before .if3 .left) (f .ensures .0) (f .kept .1 .1 .1 .1 .1 .1 .0)
+    (λ b R. f .ensures .1 (s .text .now) e (A .limits) (rw part (A .front)) b R (z .size b R) (spans R (z .size b R) (z .small) _ _ (c .before .before .before .before .before .before .before .before .before .before .before .before .before .before .before .links .ensures .linked b R) m)) in
     rw (c .before .found .given .1) at all
 
 same-length-3 : tie.Need-same-length-3
@@ -129,8 +129,8 @@ returns-6 c =
     let hy = c .before .before .before .before .before .before .before .before .before .before .before .before .before .before .before .before .before .before .before .before .before .if2 .left in
     let k : length (c .before .before .before .before .before .before .before .before .before .before .before .before .before .before .links .result .words) ≡ 4096 = search needs in
     let m : c .before .before .before .before .before .before .before .before .before .before .before .before .before .before .links .result .count ≤ length (c .before .before .before .before .before .before .before .before .before .before .before .before .before .before .links .result .words) = omega (arith, c .before .before .before .before .before .before .before .before .before .before .before .before .before .before .links .ensures .few) in
-    let all = replies (z .size) hx hy e (A .is) (c .before .before .before .before .before .before .before .before .before .before .before .before .before .before .before .if3 .left) (f .ensures .0) (f .kept .1 .1 .1 .1 .1 .0)
-    (λ b R. f .ensures .1 (s .text .now) e (A .limits) (rw part (A .front)) _ (asked-size R (z .size b R)) (inside R) (spans R (z .size b R) (z .small) _ _ (c .before .before .before .before .before .before .before .before .before .before .before .before .before .before .links .ensures .linked b R) m) (in-use R (z .size b R) _ hx) (in-use R (z .size b R) _ hy)) in
+    let all = replies (z .size) hx hy e (A .is) (c .before .before .before .before .before .before .before .before .before .before .before .before .before .before .before .if3 .left) (f .ensures .0) (f .kept .1 .1 .1 .1 .1 .1 .0)
+    (λ b R. f .ensures .1 (s .text .now) e (A .limits) (rw part (A .front)) b R (z .size b R) (spans R (z .size b R) (z .small) _ _ (c .before .before .before .before .before .before .before .before .before .before .before .before .before .before .links .ensures .linked b R) m)) in
     rw (c .enum-told .given .1) at all
 
 same-length-5 : tie.Need-same-length-5
@@ -152,8 +152,8 @@ returns-7 c =
     let hy = c .before .before .before .before .before .before .before .before .before .before .before .before .before .before .before .before .before .before .before .before .before .if2 .left in
     let k : length (c .before .before .before .before .before .before .before .before .before .before .before .before .before .before .links .result .words) ≡ 4096 = search needs in
     let m : c .before .before .before .before .before .before .before .before .before .before .before .before .before .before .links .result .count ≤ length (c .before .before .before .before .before .before .before .before .before .before .before .before .before .before .links .result .words) = omega (arith, c .before .before .before .before .before .before .before .before .before .before .before .before .before .before .links .ensures .few) in
-    let all = replies (z .size) hx hy e (A .is) (c .before .before .before .before .before .before .before .before .before .before .before .before .before .before .before .if3 .left) (f .ensures .0) (f .kept .1 .1 .1 .1 .1 .0)
-    (λ b R. f .ensures .1 (s .text .now) e (A .limits) (rw part (A .front)) _ (asked-size R (z .size b R)) (inside R) (spans R (z .size b R) (z .small) _ _ (c .before .before .before .before .before .before .before .before .before .before .before .before .before .before .links .ensures .linked b R) m) (in-use R (z .size b R) _ hx) (in-use R (z .size b R) _ hy)) in
+    let all = replies (z .size) hx hy e (A .is) (c .before .before .before .before .before .before .before .before .before .before .before .before .before .before .before .if3 .left) (f .ensures .0) (f .kept .1 .1 .1 .1 .1 .1 .0)
+    (λ b R. f .ensures .1 (s .text .now) e (A .limits) (rw part (A .front)) b R (z .size b R) (spans R (z .size b R) (z .small) _ _ (c .before .before .before .before .before .before .before .before .before .before .before .before .before .before .links .ensures .linked b R) m)) in
     rw (c .enum-told2 .given .1) at all
 
 pub chain-spec : {M : Type 1} → statement M

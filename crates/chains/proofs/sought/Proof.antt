@@ -1,14 +1,39 @@
--- `sought` meets its contract: the tables are those of the expression's automaton, and the search's promise is over any such tables and the links that
--- count. Assumes nothing.
-use mathlib.Core.Path.{_≡_}
+-- `sought` meets its contract: from or to a withdrawn record there is no chain; else the tables are those of the expression's automaton, and the search's promise
+-- is over any such tables and the links that count. Assumes nothing.
+use mathlib.Core.Path.{_≡_, refl}
 use Prim.Native.Nat.{_-_}
 use native.Mathlib.Omega.{arith}
 use borrow.Author.Needs.{needs}
 use lib.ListN.{length, take}
 use lib.Seq.{length-take-le}
+use Rattle.paths.specs.Chains.{asked}
 use Rattle.arcs.specs.ArcLaws.{spans-take}
+use Rattle.search.specs.Steps.{none}
+use Rattle.chains.proofs.ReplyLaws.{inside, asked-size, used, withdrawn-from, withdrawn-to}
 use Rattle.chains.proofs.sought.Statement.{statement}
 use Rattle.chains.proofs.sought.Tie as tie
+
+cast-is-withdrawn : tie.Need-cast-is-withdrawn
+cast-is-withdrawn c = search needs
+
+is-withdrawn-requires : tie.Need-is-withdrawn-requires
+is-withdrawn-requires c κs = search needs
+
+returns : tie.Need-returns
+returns c =
+    let a = c .before .before .before .before .before .before .before .args in
+    (none refl, λ text e L q b R size S. withdrawn-from R e (a .ends .from) (a .ends .to) (a .list .now) (c .before .is-withdrawn .ensures) (c .if1 .taken))
+
+cast-is-withdrawn-2 : tie.Need-cast-is-withdrawn-2
+cast-is-withdrawn-2 c = search needs
+
+is-withdrawn-requires-2 : tie.Need-is-withdrawn-requires-2
+is-withdrawn-requires-2 c κs = search needs
+
+returns-2 : tie.Need-returns-2
+returns-2 c =
+    let a = c .before .before .before .before .before .before .before .before .before .before .args in
+    (none refl, λ text e L q b R size S. withdrawn-to R e (a .ends .from) (a .ends .to) (a .list .now) (c .before .is-withdrawn2 .ensures) (c .if2 .taken))
 
 tables-of-requires : tie.Need-tables-of-requires
 tables-of-requires c κs = search needs
@@ -33,9 +58,9 @@ slice-aggregate-first-chain-3 c = search needs
 
 first-chain-requires : tie.Need-first-chain-requires
 first-chain-requires c κs =
-    let s = c .before .before .before .before .before .before .before .before .before .before .before .before .before .before .args in
-    let p = c .before .before .before .before .before .before .before .before .before .before .before .before .before .before .pre in
-    let e : length (take (s .count - 0) (s .links .now)) ≡ s .count - 0 = length-take-le (s .count - 0) (s .links .now) (omega arith) in
+    let a = c .before .before .before .before .before .before .before .before .before .before .before .before .before .before .before .before .before .before .before .before .args in
+    let p = c .before .before .before .before .before .before .before .before .before .before .before .before .before .before .before .before .before .before .before .before .pre in
+    let e : length (take (a .count - 0) (a .links .now)) ≡ a .count - 0 = length-take-le (a .count - 0) (a .links .now) (omega arith) in
     (omega arith, p .2, search needs, search needs, search needs, p .3, p .4, p .5)
 
 same-length : tie.Need-same-length
@@ -44,17 +69,29 @@ same-length c = search needs
 same-length-2 : tie.Need-same-length-2
 same-length-2 c = search needs
 
-returns : tie.Need-returns
-returns c =
-    let s = c .before .before .before .before .before .before .before .before .before .before .before .before .before .before .before .before .before .before .before .args in
+returns-3 : tie.Need-returns-3
+returns-3 c =
     let f = c .before .before .before .before .first-chain .ensures in
-    let part : s .count - 0 ≡ s .count = omega arith in
-    (f .0, λ text e L q g size I S ux uy. f .1 g e size I (rw part (spans-take _ _ (c .before .before .before .before .before .before .before .before .before .before .before .before .before .before .before .before .before .before .before .pre .0) S)) (c .before .before .before .before .before .before .before .before .before .before .before .before .before .before .tables-of .ensures text e L q) ux uy)
+    let a = c .before .before .before .before .before .before .before .before .before .before .before .before .before .before .before .before .before .before .before .before .before .before .before .before .before .args in
+    let p = c .before .before .before .before .before .before .before .before .before .before .before .before .before .before .before .before .before .before .before .before .before .before .before .before .before .pre in
+    let part : a .count - 0 ≡ a .count = omega arith in (
+      f .0,
+      λ text e L q b R size S.
+          f .1 (asked b) e (asked-size R size) (inside R) (rw part (spans-take _ _ (p .0) S)) (c .before .before .before .before .before .before .before .before .before .before .before .before .before .before .tables-of .ensures text e L q)
+          (used R size (a .ends .from) (p .3) (c .before .before .before .before .before .before .before .before .before .before .before .before .before .before .before .before .before .before .before .is-withdrawn .ensures) (c .before .before .before .before .before .before .before .before .before .before .before .before .before .before .before .before .before .before .if1 .left))
+          (used R size (a .ends .to) (p .4) (c .before .before .before .before .before .before .before .before .before .before .before .before .before .before .before .before .is-withdrawn2 .ensures) (c .before .before .before .before .before .before .before .before .before .before .before .before .before .before .before .if2 .left)),
+    )
 
 pub sought-spec : {M : Type 1} → statement M
 sought-spec =
     tie.close
     (tie.spec
+    cast-is-withdrawn
+    is-withdrawn-requires
+    returns
+    cast-is-withdrawn-2
+    is-withdrawn-requires-2
+    returns-2
     tables-of-requires
     sub-first-chain
     part-first-chain-start
@@ -65,4 +102,4 @@ sought-spec =
     first-chain-requires
     same-length
     same-length-2
-    returns)
+    returns-3)

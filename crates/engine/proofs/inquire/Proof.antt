@@ -26,8 +26,8 @@ number-of-requires c κs = search needs
 links-requires : tie.Need-links-requires
 links-requires c κs = search needs
 
-locks-requires : tie.Need-locks-requires
-locks-requires c κs = search needs
+marks-requires : tie.Need-marks-requires
+marks-requires c κs = search needs
 
 totals-requires : tie.Need-totals-requires
 totals-requires c κs = search needs
@@ -52,7 +52,8 @@ returns c =
             list = refl;
             steps = refl;
             links = none-linked 0 _ (c .before .before .before .links .ensures .linked (fresh 0) e);
-            locks = c .before .before .locks .ensures .locked (fresh 0) e;
+            locks = c .before .before .marks .ensures .locked (fresh 0) e;
+            withdrawn = c .before .before .marks .ensures .withdrawn (fresh 0) e;
             totals = c .before .totals .ensures .totals (fresh 0) e;
           };
       made = λ z. absurd (c .if1 .taken (k ∙ z));
@@ -94,7 +95,7 @@ returns-2 c =
         numbers = p .told z;
         pairs = asked .book _ (p .book z);
         chain = lent long replied .answers _ (p .book z);
-        demand = claims _ (record { links = (_, c .before .before .before .before .before .before .before .before .before .before .before .before .before .before .before .before .before .links .ensures, refl); locks = c .before .before .before .before .before .before .before .before .before .before .before .before .before .before .before .before .locks .ensures; totals = c .before .before .before .before .before .before .before .before .before .before .before .before .before .before .before .totals .ensures; pairs = asked; chain = lent long replied })
+        demand = claims _ (record { links = (_, c .before .before .before .before .before .before .before .before .before .before .before .before .before .before .before .before .before .links .ensures, refl); marks = c .before .before .before .before .before .before .before .before .before .before .before .before .before .before .before .before .marks .ensures; totals = c .before .before .before .before .before .before .before .before .before .before .before .before .before .before .before .totals .ensures; pairs = asked; chain = lent long replied })
             (replayed-calls _ _ _ _ (p .told z)) (p .book z);
       };
     }
@@ -106,7 +107,7 @@ inquire-spec =
     replay-requires
     number-of-requires
     links-requires
-    locks-requires
+    marks-requires
     totals-requires
     same-length
     returns

@@ -69,53 +69,89 @@ returns-8 c = (rw (c .before .match .keys9, ne-eqb _ _ (c .if8 .taken)), tt)
 shared-slice-read-label-3 : tie.Need-shared-slice-read-label-3
 shared-slice-read-label-3 c = search needs
 
+returns-9 : tie.Need-returns-9
+unfolding says callOf decode linkIn
+returns-9 c = (rw (c .before .match .keys10, ne-eqb _ _ (c .if9 .taken)), tt)
+
+number16-requires-10 : tie.Need-number16-requires-10
+number16-requires-10 c κs = search needs
+
+returns-10 : tie.Need-returns-10
+unfolding says callOf decode linkIn
+returns-10 c = (rw (c .before .match .keys11, ne-eqb _ _ (c .if10 .taken)), tt)
+
+number16-requires-11 : tie.Need-number16-requires-11
+number16-requires-11 c κs = search needs
+
 number16-requires-8 : tie.Need-number16-requires-8
 number16-requires-8 c κs = search needs
 
 number16-requires-9 : tie.Need-number16-requires-9
 number16-requires-9 c κs = search needs
 
-returns-9 : tie.Need-returns-9
-unfolding says callOf decode linkIn
-returns-9 c = (rw (c .before .before .match .keys1, eq-eqb _ _ (c .before .if1 .left), c .number16 .ensures), tt)
-
-returns-10 : tie.Need-returns-10
-unfolding says callOf decode linkIn
-returns-10 c = (rw (c .before .before .before .before .match .keys2, eq-eqb _ _ (c .before .before .before .if2 .left), c .before .number162 .ensures, c .number163 .ensures), tt)
-
 returns-11 : tie.Need-returns-11
 unfolding says callOf decode linkIn
-returns-11 c = (rw (c .before .before .before .before .match .keys3, eq-eqb _ _ (c .before .before .before .if3 .left), c .before .number164 .ensures, c .number165 .ensures), tt)
+returns-11 c = (rw (c .before .before .match .keys1, eq-eqb _ _ (c .before .if1 .left), c .number16 .ensures), tt)
 
 returns-12 : tie.Need-returns-12
 unfolding says callOf decode linkIn
-returns-12 c = (rw (c .before .before .match .keys4, eq-eqb _ _ (c .before .if4 .left), c .number166 .ensures), tt)
+returns-12 c = (rw (c .before .before .before .before .match .keys2, eq-eqb _ _ (c .before .before .before .if2 .left), c .before .number162 .ensures, c .number163 .ensures), tt)
 
 returns-13 : tie.Need-returns-13
 unfolding says callOf decode linkIn
-returns-13 c = (rw (c .before .before .match .keys5, eq-eqb _ _ (c .before .if5 .left), c .number167 .ensures), tt)
+returns-13 c = (rw (c .before .before .before .before .match .keys3, eq-eqb _ _ (c .before .before .before .if3 .left), c .before .number164 .ensures, c .number165 .ensures), tt)
 
 returns-14 : tie.Need-returns-14
 unfolding says callOf decode linkIn
-returns-14 c = (rw (c .before .match .keys6, eq-eqb _ _ (c .if6 .left)), tt)
+returns-14 c = (rw (c .before .before .match .keys4, eq-eqb _ _ (c .before .if4 .left), c .number166 .ensures), tt)
 
 returns-15 : tie.Need-returns-15
 unfolding says callOf decode linkIn
-returns-15 c = (rw (c .match .keys7), tt)
+returns-15 c = (rw (c .before .before .match .keys5, eq-eqb _ _ (c .before .if5 .left), c .number167 .ensures), tt)
 
 returns-16 : tie.Need-returns-16
 unfolding says callOf decode linkIn
-returns-16 c = (rw (c .before .before .before .match .keys8, le-leb _ _ (c .before .before .if7 .left), c .before .number168 .ensures, c .number169 .ensures), c .before .before .if7 .left)
+returns-16 c = (rw (c .before .match .keys6, eq-eqb _ _ (c .if6 .left)), tt)
 
 returns-17 : tie.Need-returns-17
 unfolding says callOf decode linkIn
-returns-17 c = (rw (c .before .before .match .keys9, eq-eqb _ _ (c .before .if8 .left)), tt)
+returns-17 c = (rw (c .match .keys7), tt)
 
 returns-18 : tie.Need-returns-18
 unfolding says callOf decode linkIn
-returns-18 c =
-    let no = c .match .rest in
-    (rw (ne-eqb _ _ (no .0 .0 .0 .0 .0 .0 .0 .0 .1), ne-eqb _ _ (no .0 .0 .0 .0 .0 .0 .0 .1), ne-eqb _ _ (no .0 .0 .0 .0 .0 .0 .1), ne-eqb _ _ (no .0 .0 .0 .0 .0 .1), ne-eqb _ _ (no .0 .0 .0 .0 .1), ne-eqb _ _ (no .0 .0 .0 .1), ne-eqb _ _ (no .0 .0 .1), ne-eqb _ _ (no .0 .1), ne-eqb _ _ (no .1)), tt)
+returns-18 c = (rw (c .before .before .before .match .keys8, le-leb _ _ (c .before .before .if7 .left), c .before .number168 .ensures, c .number169 .ensures), c .before .before .if7 .left)
+
+returns-19 : tie.Need-returns-19
+unfolding says callOf decode linkIn
+returns-19 c = (rw (c .before .before .match .keys9, eq-eqb _ _ (c .before .if8 .left)), tt)
+
+returns-20 : tie.Need-returns-20
+unfolding says callOf decode linkIn
+returns-20 c = (rw (c .before .before .match .keys10, eq-eqb _ _ (c .before .if9 .left), c .number1610 .ensures), tt)
+
+returns-21 : tie.Need-returns-21
+unfolding says callOf decode linkIn
+returns-21 c = (rw (c .before .before .match .keys11, eq-eqb _ _ (c .before .if10 .left), c .number1611 .ensures), tt)
+
+returns-22 : tie.Need-returns-22
+unfolding says callOf decode linkIn
+returns-22 c =
+    let no = c .match .rest in (
+      rw (
+        ne-eqb _ _ (no .0 .0 .0 .0 .0 .0 .0 .0 .0 .0 .1),
+        ne-eqb _ _ (no .0 .0 .0 .0 .0 .0 .0 .0 .0 .1),
+        ne-eqb _ _ (no .0 .0 .0 .0 .0 .0 .0 .0 .1),
+        ne-eqb _ _ (no .0 .0 .0 .0 .0 .0 .0 .1),
+        ne-eqb _ _ (no .0 .0 .0 .0 .0 .0 .1),
+        ne-eqb _ _ (no .0 .0 .0 .0 .0 .1),
+        ne-eqb _ _ (no .0 .0 .0 .0 .1),
+        ne-eqb _ _ (no .0 .0 .0 .1),
+        ne-eqb _ _ (no .0 .0 .1),
+        ne-eqb _ _ (no .0 .1),
+        ne-eqb _ _ (no .1),
+      ),
+      tt,
+    )
 
 pub decode-spec : {M : Type 1} → statement M
 decode-spec =
@@ -142,7 +178,9 @@ decode-spec =
     returns-8
     shared-slice-read-label-3
     returns-9
+    number16-requires-10
     returns-10
+    number16-requires-11
     returns-11
     returns-12
     returns-13
@@ -150,4 +188,8 @@ decode-spec =
     returns-15
     returns-16
     returns-17
-    returns-18)
+    returns-18
+    returns-19
+    returns-20
+    returns-21
+    returns-22)

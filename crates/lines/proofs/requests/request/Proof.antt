@@ -5,7 +5,7 @@ use mathlib.Core.Bool.{true, false}
 use native.Mathlib.Omega.{arith}
 use denote.Ref.{now}
 use Rattle.book.specs.Causes.{number}
-use Rattle.book.specs.Book.{edit, add, remove, lock, unlock}
+use Rattle.book.specs.Book.{edit, add, remove, lock, unlock, withdraw, reinstate}
 use Rattle.report.specs.Report.{bytes}
 use Rattle.report.specs.WrittenLaws.{wrote-as}
 use Rattle.session.specs.Program.{opening, call}
@@ -43,6 +43,12 @@ start8 c = start7 (c .before .before .before)
 
 abbrev start9 : tie.Else9 → tie.Start
 start9 c = start8 (c .before .before .before)
+
+abbrev start10 : tie.Else10 → tie.Start
+start10 c = start9 (c .before .before .before)
+
+abbrev start11 : tie.Else11 → tie.Start
+start11 c = start10 (c .before .before .before)
 
 slice-aggregate-same : tie.Need-slice-aggregate-same
 slice-aggregate-same c = search needs
@@ -224,6 +230,46 @@ returns-9 c =
     let yes = sym (t .before .same9 .ensures) ∙ t .if9 .taken in
     wrote-as (ap sent (sym (requested-as (bytes "total") (now (a .word)) (now (a .s)) yes))) (c .before .before .total .ensures)
 
+slice-aggregate-same-10 : tie.Need-slice-aggregate-same-10
+slice-aggregate-same-10 c = search needs
+
+same-requires-10 : tie.Need-same-requires-10
+same-requires-10 c κs = search needs
+
+numbered-requires-4 : tie.Need-numbered-requires-4
+numbered-requires-4 c κs = start9 (c .before .before .before .before) .pre
+
+same-length-10 : tie.Need-same-length-10
+same-length-10 c = search needs
+
+returns-10 : tie.Need-returns-10
+unfolding requested sameBytes bytes sent frameFor kindOf bodyOf
+returns-10 c =
+    let t = c .before .before .before .before in
+    let a = (start9 (t .before .before .before)) .args in
+    let yes = sym (t .before .same10 .ensures) ∙ t .if10 .taken in
+    wrote-as (ap sent (sym (requested-as (bytes "withdraw") (now (a .word)) (now (a .s)) yes))) (c .before .before .numbered4 .ensures (λ x. call (edit (withdraw x))) (λ n. refl))
+
+slice-aggregate-same-11 : tie.Need-slice-aggregate-same-11
+slice-aggregate-same-11 c = search needs
+
+same-requires-11 : tie.Need-same-requires-11
+same-requires-11 c κs = search needs
+
+numbered-requires-5 : tie.Need-numbered-requires-5
+numbered-requires-5 c κs = start10 (c .before .before .before .before) .pre
+
+same-length-11 : tie.Need-same-length-11
+same-length-11 c = search needs
+
+returns-11 : tie.Need-returns-11
+unfolding requested sameBytes bytes sent frameFor kindOf bodyOf
+returns-11 c =
+    let t = c .before .before .before .before in
+    let a = (start10 (t .before .before .before)) .args in
+    let yes = sym (t .before .same11 .ensures) ∙ t .if11 .taken in
+    wrote-as (ap sent (sym (requested-as (bytes "reinstate") (now (a .word)) (now (a .s)) yes))) (c .before .before .numbered5 .ensures (λ x. call (edit (reinstate x))) (λ n. refl))
+
 slice-aggregate-put-frame : tie.Need-slice-aggregate-put-frame
 slice-aggregate-put-frame c = search needs
 
@@ -232,15 +278,17 @@ slice-aggregate-put-frame-2 c = search needs
 
 -- past the places that `search` enters
 put-frame-requires : tie.Need-put-frame-requires
-put-frame-requires c κs = (omega arith, start9 (c .before .before .before) .pre)
+put-frame-requires c κs = (omega arith, start11 (c .before .before .before) .pre)
 
-same-length-10 : tie.Need-same-length-10
-same-length-10 c = search needs
+same-length-12 : tie.Need-same-length-12
+same-length-12 c = search needs
 
-returns-10 : tie.Need-returns-10
+returns-12 : tie.Need-returns-12
 unfolding bytes sent frameFor kindOf bodyOf number
-returns-10 c =
-    let e9 = c .before .before .before .before .before .before in
+returns-12 c =
+    let e11 = c .before .before .before .before .before .before in
+    let e10 = e11 .before .before .before in
+    let e9 = e10 .before .before .before in
     let e8 = e9 .before .before .before in
     let e7 = e8 .before .before .before in
     let e6 = e7 .before .before .before in
@@ -249,7 +297,7 @@ returns-10 c =
     let e3 = e4 .before .before .before in
     let e2 = e3 .before .before .before in
     let e1 = e2 .before .before .before in
-    let a = (start9 e9) .args in
+    let a = (start11 e11) .args in
     wrote-as (ap sent (sym (requested-none (now (a .word)) (now (a .s))
     (sym (e1 .before .same .ensures) ∙ e1 .if1 .left)
     (sym (e2 .before .same2 .ensures) ∙ e2 .if2 .left)
@@ -259,7 +307,9 @@ returns-10 c =
     (sym (e6 .before .same6 .ensures) ∙ e6 .if6 .left)
     (sym (e7 .before .same7 .ensures) ∙ e7 .if7 .left)
     (sym (e8 .before .same8 .ensures) ∙ e8 .if8 .left)
-    (sym (e9 .before .same9 .ensures) ∙ e9 .if9 .left))))
+    (sym (e9 .before .same9 .ensures) ∙ e9 .if9 .left)
+    (sym (e10 .before .same10 .ensures) ∙ e10 .if10 .left)
+    (sym (e11 .before .same11 .ensures) ∙ e11 .if11 .left))))
     (c .before .before .put-frame .ensures)
 
 pub request-spec : {M : Type 1} → statement M
@@ -311,8 +361,18 @@ request-spec =
     total-requires
     same-length-9
     returns-9
+    slice-aggregate-same-10
+    same-requires-10
+    numbered-requires-4
+    same-length-10
+    returns-10
+    slice-aggregate-same-11
+    same-requires-11
+    numbered-requires-5
+    same-length-11
+    returns-11
     slice-aggregate-put-frame
     slice-aggregate-put-frame-2
     put-frame-requires
-    same-length-10
-    returns-10)
+    same-length-12
+    returns-12)

@@ -34,10 +34,10 @@ abbrev link : (c : tie.Start) → Link
 link c = record { from = c .args .from; label = c .args .label; to = c .args .to }
 
 -- what the check found
-fault : (c : tie.After-check) → Checks (c .before .before .before .before .before .before .args .t1 .n) (c .before .before .before .before .before .before .args .t1 .count) (c .before .before .before .before .before .before .args .t1 .top) (c .before .before .before .before .before .before .args .t1 .held) (c .before .before .before .before .before .before .args .t1 .locks) (link (c .before .before .before .before .before .before)) (Fault (c .check .given .0 .0))
+fault : (c : tie.After-check) → Checks (c .before .before .before .before .before .before .args .t1 .n) (c .before .before .before .before .before .before .args .t1 .count) (c .before .before .before .before .before .before .args .t1 .top) (c .before .before .before .before .before .before .args .t1 .held) (c .before .before .before .before .before .before .args .t1 .marks) (link (c .before .before .before .before .before .before)) (Fault (c .check .given .0 .0))
 fault c = rw (c .check .given .1) at (c .before .before .check-link .ensures)
 
-word : (c : tie.After-check2) → Checks (c .before .before .before .before .before .before .args .t1 .n) (c .before .before .before .before .before .before .args .t1 .count) (c .before .before .before .before .before .before .args .t1 .top) (c .before .before .before .before .before .before .args .t1 .held) (c .before .before .before .before .before .before .args .t1 .locks) (link (c .before .before .before .before .before .before)) (Word (c .check2 .given .0 .0))
+word : (c : tie.After-check2) → Checks (c .before .before .before .before .before .before .args .t1 .n) (c .before .before .before .before .before .before .args .t1 .count) (c .before .before .before .before .before .before .args .t1 .top) (c .before .before .before .before .before .before .args .t1 .held) (c .before .before .before .before .before .before .args .t1 .marks) (link (c .before .before .before .before .before .before)) (Word (c .check2 .given .0 .0))
 word c = rw (c .check2 .given .1) at (c .before .before .check-link .ensures)
 
 holds-requires : tie.Need-holds-requires
@@ -81,7 +81,7 @@ unfolding firstNumber number packedEdit heldWord
 returns-4 c =
     let s = c .before .before .before .before .before .before .before .before .before .before .before .before .before .before .before .args .t1 in
     let k : length (s .links) ≡ 4096 = search needs in
-    let m : length (s .locks) ≡ 1024 = search needs in
+    let m : length (s .marks) ≡ 1024 = search needs in
     let w = word (c .before .before .before .before .before .before .before .before .before) in
     let h : length (take (s .count) (s .links)) < 4096 = omega (arith, length-take-le (s .count) (s .links) (omega (arith, w .0 .count)), c .before .before .if2 .left) in
     accept s (add (link (c .before .before .before .before .before .before .before .before .before .before .before .before .before .before .before))) (c .before .put-in .result) (c .hold .result) (w .0) m

@@ -28,6 +28,18 @@ enum-known-call-4 c = search needs
 unlock-requires : tie.Need-unlock-requires
 unlock-requires c κs = search needs
 
+enum-known-call-5 : tie.Need-enum-known-call-5
+enum-known-call-5 c = search needs
+
+withdraw-requires : tie.Need-withdraw-requires
+withdraw-requires c κs = search needs
+
+enum-known-call-6 : tie.Need-enum-known-call-6
+enum-known-call-6 c = search needs
+
+reinstate-requires : tie.Need-reinstate-requires
+reinstate-requires c κs = search needs
+
 enum-told : tie.Need-enum-told
 enum-told c = search needs
 
@@ -52,7 +64,15 @@ returns-4 c = rw (c .before .before .call4 .given .1) (c .unlock .ensures)
 
 returns-5 : tie.Need-returns-5
 unfolding callOf
-returns-5 c = rw (c .before .enum-told .given .1) (c .undo .ensures)
+returns-5 c = rw (c .before .before .call5 .given .1) (c .withdraw .ensures)
+
+returns-6 : tie.Need-returns-6
+unfolding callOf
+returns-6 c = rw (c .before .before .call6 .given .1) (c .reinstate .ensures)
+
+returns-7 : tie.Need-returns-7
+unfolding callOf
+returns-7 c = rw (c .before .enum-told .given .1) (c .undo .ensures)
 
 pub apply-spec : {M : Type 1} → statement M
 apply-spec =
@@ -66,10 +86,16 @@ apply-spec =
     lock-requires
     enum-known-call-4
     unlock-requires
+    enum-known-call-5
+    withdraw-requires
+    enum-known-call-6
+    reinstate-requires
     enum-told
     undo-requires
     returns
     returns-2
     returns-3
     returns-4
-    returns-5)
+    returns-5
+    returns-6
+    returns-7)

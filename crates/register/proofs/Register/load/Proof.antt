@@ -2,7 +2,7 @@
 use mathlib.Core.Path.{_≡_, sym, _∙_}
 use Prim.Native.Nat.{ℕ}
 use native.Mathlib.Omega.{arith}
-use lib.ListN.{take, drop, replicate, length-replicate, length-take, length-drop}
+use lib.ListN.{take, drop, replicate, length-replicate}
 use borrow.Author.Tests.{not-true, not-false}
 use Rattle.register.specs.Inner.{Formed}
 use Rattle.register.proofs.Keeping.{copied-over, load-refused, load-made}
@@ -11,11 +11,11 @@ use borrow.Author.Needs.{needs}
 use Rattle.register.proofs.Register.load.Statement.{statement}
 use Rattle.register.proofs.Register.load.Tie as tie
 
-is-register-requires : tie.Need-is-register-requires
-is-register-requires c κs = search needs
-
 made : (c : tie.Else1) → Formed (c .before .before .before .args .words .now)
 made c = c .before .is-register .ensures .sure (not-false _ (c .if1 .left))
+
+is-register-requires : tie.Need-is-register-requires
+is-register-requires c κs = search needs
 
 empty-requires : tie.Need-empty-requires
 empty-requires c κs = search needs
@@ -53,21 +53,6 @@ slice-aggregate-copy-2 c = search needs
 copy-requires-2 : tie.Need-copy-requires-2
 copy-requires-2 c κs = search needs
 
-sub-read-locks : tie.Need-sub-read-locks
-sub-read-locks c = search needs
-
-part-read-locks-start : tie.Need-part-read-locks-start
-part-read-locks-start c = search needs
-
-part-read-locks-end : tie.Need-part-read-locks-end
-part-read-locks-end c = omega (arith, made (c .before .before .before .before .before .before .before .before) .long)
-
-slice-aggregate-read-locks : tie.Need-slice-aggregate-read-locks
-slice-aggregate-read-locks c = search needs
-
-read-locks-requires : tie.Need-read-locks-requires
-read-locks-requires c κs = rw (length-take, length-drop) (omega (arith, made (c .before .before .before .before .before .before .before .before .before .before) .long))
-
 sub-copy-3 : tie.Need-sub-copy-3
 sub-copy-3 c = search needs
 
@@ -75,7 +60,7 @@ part-copy-start-3 : tie.Need-part-copy-start-3
 part-copy-start-3 c = search needs
 
 part-copy-end-3 : tie.Need-part-copy-end-3
-part-copy-end-3 c = omega (arith, made (c .before .before .before .before .before .before .before .before .before .before .before .before) .long)
+part-copy-end-3 c = omega (arith, made (c .before .before .before .before .before .before .before .before) .long)
 
 slice-aggregate-copy-3 : tie.Need-slice-aggregate-copy-3
 slice-aggregate-copy-3 c = search needs
@@ -83,29 +68,44 @@ slice-aggregate-copy-3 c = search needs
 copy-requires-3 : tie.Need-copy-requires-3
 copy-requires-3 c κs = search needs
 
-shared-slice-read-t33 : tie.Need-shared-slice-read-t33
-shared-slice-read-t33 c = omega (arith, made (c .before .before .before .before .before .before .before .before .before .before .before .before .before .before .before .before .before) .long)
+sub-copy-4 : tie.Need-sub-copy-4
+sub-copy-4 c = search needs
 
-cast-t34 : tie.Need-cast-t34
-cast-t34 c = omega (arith, made (c .before .before .before .before .before .before .before .before .before .before .before .before .before .before .before .before .before) .ranged .size)
+part-copy-start-4 : tie.Need-part-copy-start-4
+part-copy-start-4 c = search needs
 
-shared-slice-read-t36 : tie.Need-shared-slice-read-t36
-shared-slice-read-t36 c = omega (arith, made (c .before .before .before .before .before .before .before .before .before .before .before .before .before .before .before .before .before .before) .long)
+part-copy-end-4 : tie.Need-part-copy-end-4
+part-copy-end-4 c = omega (arith, made (c .before .before .before .before .before .before .before .before .before .before .before .before) .long)
+
+slice-aggregate-copy-4 : tie.Need-slice-aggregate-copy-4
+slice-aggregate-copy-4 c = search needs
+
+copy-requires-4 : tie.Need-copy-requires-4
+copy-requires-4 c κs = search needs
+
+shared-slice-read-t32 : tie.Need-shared-slice-read-t32
+shared-slice-read-t32 c = omega (arith, made (c .before .before .before .before .before .before .before .before .before .before .before .before .before .before .before .before .before) .long)
+
+cast-t33 : tie.Need-cast-t33
+cast-t33 c = omega (arith, made (c .before .before .before .before .before .before .before .before .before .before .before .before .before .before .before .before .before) .ranged .size)
+
+shared-slice-read-t35 : tie.Need-shared-slice-read-t35
+shared-slice-read-t35 c = omega (arith, made (c .before .before .before .before .before .before .before .before .before .before .before .before .before .before .before .before .before .before) .long)
 
 cast-t11 : tie.Need-cast-t11
 cast-t11 c = omega (arith, c .shared-slice-known3 .given 1)
 
-shared-slice-read-t41 : tie.Need-shared-slice-read-t41
-shared-slice-read-t41 c = omega (arith, made (c .before .before .before .before .before .before .before .before .before .before .before .before .before .before .before .before .before .before .before) .long)
+shared-slice-read-t40 : tie.Need-shared-slice-read-t40
+shared-slice-read-t40 c = omega (arith, made (c .before .before .before .before .before .before .before .before .before .before .before .before .before .before .before .before .before .before .before) .long)
 
-cast-t42 : tie.Need-cast-t42
-cast-t42 c = omega (arith, c .shared-slice-known4 .given 2)
+cast-t41 : tie.Need-cast-t41
+cast-t41 c = omega (arith, c .shared-slice-known4 .given 2)
 
-shared-slice-read-t44 : tie.Need-shared-slice-read-t44
-shared-slice-read-t44 c = omega (arith, made (c .before .before .before .before .before .before .before .before .before .before .before .before .before .before .before .before .before .before .before .before) .long)
+shared-slice-read-t43 : tie.Need-shared-slice-read-t43
+shared-slice-read-t43 c = omega (arith, made (c .before .before .before .before .before .before .before .before .before .before .before .before .before .before .before .before .before .before .before .before) .long)
 
-cast-t45 : tie.Need-cast-t45
-cast-t45 c = omega (arith, c .shared-slice-known5 .given 3)
+cast-t44 : tie.Need-cast-t44
+cast-t44 c = omega (arith, c .shared-slice-known5 .given 3)
 
 links-read : (c : tie.After-copy) → c .copy .last .1 .0 ≡ take 4096 (drop 4 (c .before .before .before .before .before .before .args .words .now))
 links-read c =
@@ -119,19 +119,23 @@ ring-read c =
     copied-over (take 256 (drop 4100 ws)) (replicate 256 0) (c .copy2 .last .1 .0) (c .copy2 .result)
     (part-long ws 4100 256 (omega (arith, made (c .before .before .before .before .before .before .before) .long)) ∙ sym (length-replicate {A = ℕ} 256 0)) (c .copy2 .ensures)
 
-totals-read : (c : tie.After-copy3) → c .copy3 .last .1 .0 ≡ take 26 (drop 5380 (c .before .before .before .before .before .before .before .before .before .before .before .before .before .before .before .before .before .before .args .words .now))
+marks-read : (c : tie.After-copy3) → c .copy3 .last .1 .0 ≡ take 1024 (drop 4356 (c .before .before .before .before .before .before .before .before .before .before .before .before .before .before .args .words .now))
+marks-read c =
+    let ws = c .before .before .before .before .before .before .before .before .before .before .before .before .before .before .args .words .now in
+    copied-over (take 1024 (drop 4356 ws)) (replicate 1024 0) (c .copy3 .last .1 .0) (c .copy3 .result)
+    (part-long ws 4356 1024 (omega (arith, made (c .before .before .before .before .before .before .before .before .before .before .before) .long)) ∙ sym (length-replicate {A = ℕ} 1024 0)) (c .copy3 .ensures)
+
+totals-read : (c : tie.After-copy4) → c .copy4 .last .1 .0 ≡ take 26 (drop 5380 (c .before .before .before .before .before .before .before .before .before .before .before .before .before .before .before .before .before .before .args .words .now))
 totals-read c =
     let ws = c .before .before .before .before .before .before .before .before .before .before .before .before .before .before .before .before .before .before .args .words .now in
-    copied-over (take 26 (drop 5380 ws)) (replicate 26 0) (c .copy3 .last .1 .0) (c .copy3 .result)
-    (part-long ws 5380 26 (omega (arith, made (c .before .before .before .before .before .before .before .before .before .before .before .before .before .before .before) .long)) ∙ sym (length-replicate {A = ℕ} 26 0)) (c .copy3 .ensures)
+    copied-over (take 26 (drop 5380 ws)) (replicate 26 0) (c .copy4 .last .1 .0) (c .copy4 .result)
+    (part-long ws 5380 26 (omega (arith, made (c .before .before .before .before .before .before .before .before .before .before .before .before .before .before .before) .long)) ∙ sym (length-replicate {A = ℕ} 26 0)) (c .copy4 .ensures)
 
 returns-2 : tie.Need-returns-2
 returns-2 c =
-    let ws = c .before .before .before .before .before .before .before .before .before .before .before .before .before .before .before .before .before .before .before .before .before .before .before .args .words .now in
-    let f = made (c .before .before .before .before .before .before .before .before .before .before .before .before .before .before .before .before .before .before .before .before) in
     load-made (
-    loaded ws (c .before .before .before .before .before .before .before .before .before .before .before .before .before .before .before .before .before .copy .last .1 .0) (c .before .before .before .before .before .before .before .before .before .before .before .before .before .copy2 .last .1 .0) (c .before .before .before .before .before .copy3 .last .1 .0) (c .before .before .before .before .before .before .before .before .before .read-locks .last .1 .0) f
-    (links-read (c .before .before .before .before .before .before .before .before .before .before .before .before .before .before .before .before .before)) (ring-read (c .before .before .before .before .before .before .before .before .before .before .before .before .before)) (c .before .before .before .before .before .before .before .before .before .read-locks .ensures (f .flags)) (totals-read (c .before .before .before .before .before)))
+    loaded (c .before .before .before .before .before .before .before .before .before .before .before .before .before .before .before .before .before .before .before .before .before .before .before .args .words .now) (c .before .before .before .before .before .before .before .before .before .before .before .before .before .before .before .before .before .copy .last .1 .0) (c .before .before .before .before .before .before .before .before .before .before .before .before .before .copy2 .last .1 .0) (c .before .before .before .before .before .before .before .before .before .copy3 .last .1 .0) (c .before .before .before .before .before .copy4 .last .1 .0) (made (c .before .before .before .before .before .before .before .before .before .before .before .before .before .before .before .before .before .before .before .before))
+    (links-read (c .before .before .before .before .before .before .before .before .before .before .before .before .before .before .before .before .before)) (ring-read (c .before .before .before .before .before .before .before .before .before .before .before .before .before)) (marks-read (c .before .before .before .before .before .before .before .before .before)) (totals-read (c .before .before .before .before .before)))
 
 pub load-spec : {M : Type 1} → statement M
 load-spec =
@@ -150,22 +154,22 @@ load-spec =
     part-copy-end-2
     slice-aggregate-copy-2
     copy-requires-2
-    sub-read-locks
-    part-read-locks-start
-    part-read-locks-end
-    slice-aggregate-read-locks
-    read-locks-requires
     sub-copy-3
     part-copy-start-3
     part-copy-end-3
     slice-aggregate-copy-3
     copy-requires-3
-    shared-slice-read-t33
-    cast-t34
-    shared-slice-read-t36
+    sub-copy-4
+    part-copy-start-4
+    part-copy-end-4
+    slice-aggregate-copy-4
+    copy-requires-4
+    shared-slice-read-t32
+    cast-t33
+    shared-slice-read-t35
     cast-t11
-    shared-slice-read-t41
-    cast-t42
-    shared-slice-read-t44
-    cast-t45
+    shared-slice-read-t40
+    cast-t41
+    shared-slice-read-t43
+    cast-t44
     returns-2)

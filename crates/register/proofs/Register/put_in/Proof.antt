@@ -35,7 +35,7 @@ returns c =
     let put-in = seam-insert (s .x) (s .t1 .links) links (s .t1 .count) (at .result) (omega arith) (at .ensures) (c .before .before .put .ensures) in
     record {
       kept = record { n = refl; ring = refl; top = refl; held = refl; count = omega arith };
-      sheet = λ r. ap (λ (m : List ℕ). record { links = m; locks = s .t1 .locks }) (put-in r);
+      sheet = λ r. ap (λ (m : List ℕ). record { links = m; marks = s .t1 .marks }) (put-in r);
       counted = λ r t. raised-counted (s .x) (s .t1 .totals) (c .raise .last .0) l (take (s .t1 .count + 1) links) few (put-in r) (c .raise .ensures) t;
     }
 

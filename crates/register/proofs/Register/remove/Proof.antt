@@ -31,10 +31,10 @@ abbrev link : (c : tie.Start) → Link
 link c = record { from = c .args .from; label = c .args .label; to = c .args .to }
 
 -- what the check found
-fault : (c : tie.After-check) → Checks (c .before .before .before .before .before .before .args .t1 .n) (c .before .before .before .before .before .before .args .t1 .count) (c .before .before .before .before .before .before .args .t1 .top) (c .before .before .before .before .before .before .args .t1 .held) (c .before .before .before .before .before .before .args .t1 .locks) (link (c .before .before .before .before .before .before)) (Fault (c .check .given .0 .0))
+fault : (c : tie.After-check) → Checks (c .before .before .before .before .before .before .args .t1 .n) (c .before .before .before .before .before .before .args .t1 .count) (c .before .before .before .before .before .before .args .t1 .top) (c .before .before .before .before .before .before .args .t1 .held) (c .before .before .before .before .before .before .args .t1 .marks) (link (c .before .before .before .before .before .before)) (Fault (c .check .given .0 .0))
 fault c = rw (c .check .given .1) at (c .before .before .check-link .ensures)
 
-word : (c : tie.After-check2) → Checks (c .before .before .before .before .before .before .args .t1 .n) (c .before .before .before .before .before .before .args .t1 .count) (c .before .before .before .before .before .before .args .t1 .top) (c .before .before .before .before .before .before .args .t1 .held) (c .before .before .before .before .before .before .args .t1 .locks) (link (c .before .before .before .before .before .before)) (Word (c .check2 .given .0 .0))
+word : (c : tie.After-check2) → Checks (c .before .before .before .before .before .before .args .t1 .n) (c .before .before .before .before .before .before .args .t1 .count) (c .before .before .before .before .before .before .args .t1 .top) (c .before .before .before .before .before .before .args .t1 .held) (c .before .before .before .before .before .before .args .t1 .marks) (link (c .before .before .before .before .before .before)) (Word (c .check2 .given .0 .0))
 word c = rw (c .check2 .given .1) at (c .before .before .check-link .ensures)
 
 holds-requires : tie.Need-holds-requires
@@ -57,7 +57,7 @@ take-out-requires c κs = word (c .before .before .before .before .before .befor
 add-hold : tie.Need-add-hold
 add-hold c =
     let w = word (c .before .before .before .before .before .before .before) in
-    let p = link-proper _ (c .before .before .before .before .before .before .before .before .before .before .before .before .before .args .t1 .locks) _ (w .2) in
+    let p = link-proper _ (c .before .before .before .before .before .before .before .before .before .before .before .before .before .args .t1 .marks) _ (w .2) in
     omega (arith, p .from, p .label, p .to, w .0 .size, w .1)
 
 hold-requires : tie.Need-hold-requires
@@ -75,7 +75,7 @@ returns-3 : tie.Need-returns-3
 unfolding firstNumber number packedEdit heldWord
 returns-3 c =
     let s = c .before .before .before .before .before .before .before .before .before .before .before .before .before .before .args .t1 in
-    let m : length (s .locks) ≡ 1024 = search needs in
+    let m : length (s .marks) ≡ 1024 = search needs in
     let w = word (c .before .before .before .before .before .before .before .before) in
     accept s (remove (link (c .before .before .before .before .before .before .before .before .before .before .before .before .before .before))) (c .before .take-out .result) (c .hold .result) (w .0) m
     (λ r. causes-left (c .before .before .before) r ∙ rw (c .before .before .if1 .left))

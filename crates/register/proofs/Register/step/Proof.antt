@@ -32,6 +32,12 @@ apply-requires-4 c κs = search needs
 apply-requires-5 : tie.Need-apply-requires-5
 apply-requires-5 c κs = search needs
 
+apply-requires-6 : tie.Need-apply-requires-6
+apply-requires-6 c κs = search needs
+
+apply-requires-7 : tie.Need-apply-requires-7
+apply-requires-7 c κs = search needs
+
 returns : tie.Need-returns
 unfolding wordCall kindCall callOf
 returns c = rw (c .before .match .keys1) (c .apply .ensures)
@@ -53,10 +59,18 @@ unfolding wordCall kindCall callOf
 returns-5 c = rw (c .before .match .keys5) (c .apply5 .ensures)
 
 returns-6 : tie.Need-returns-6
+unfolding wordCall kindCall callOf
+returns-6 c = rw (c .before .match .keys6) (c .apply6 .ensures)
+
+returns-7 : tie.Need-returns-7
+unfolding wordCall kindCall callOf
+returns-7 c = rw (c .before .match .keys7) (c .apply7 .ensures)
+
+returns-8 : tie.Need-returns-8
 unfolding wordCall number
-returns-6 c =
+returns-8 c =
     let r = c .match .rest in
-    rw (kind-none _ _ _ _ (r .0 .0 .0 .0 .1) (r .0 .0 .0 .1) (r .0 .0 .1) (r .0 .1) (r .1)) (refl, refl)
+    rw (kind-none _ _ _ _ (r .0 .0 .0 .0 .0 .0 .1) (r .0 .0 .0 .0 .0 .1) (r .0 .0 .0 .0 .1) (r .0 .0 .0 .1) (r .0 .0 .1) (r .0 .1) (r .1)) (refl, refl)
 
 pub step-spec : {M : Type 1} → statement M
 step-spec =
@@ -70,9 +84,13 @@ step-spec =
     apply-requires-3
     apply-requires-4
     apply-requires-5
+    apply-requires-6
+    apply-requires-7
     returns
     returns-2
     returns-3
     returns-4
     returns-5
-    returns-6)
+    returns-6
+    returns-7
+    returns-8)

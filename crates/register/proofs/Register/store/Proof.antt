@@ -3,6 +3,8 @@ use mathlib.Core.Path.{_≡_}
 use Prim.Native.Nat.{_≤_}
 use lib.ListN.{length}
 use native.Mathlib.Omega.{arith}
+use borrow.Author.Tests.{not-true, not-false}
+use Rattle.register.specs.Marks.{Marked}
 use Rattle.register.specs.Counters.{InRange}
 use Rattle.register.proofs.Stepping.{outside, inside}
 use Rattle.register.proofs.Keeping.{stored, store-refused}
@@ -13,38 +15,47 @@ use Rattle.register.proofs.Register.store.Tie as tie
 in-range : (c : tie.Else2) → InRange (c .before .before .before .before .args .t1)
 in-range c = inside (c .before .before .before .before .args .t1) (c .before .ranged .result) (c .before .ranged .ensures) (c .if2 .left)
 
+marks-right : (c : tie.Else3) → Marked (c .before .before .before .before .before .before .before .before .before .args .t1 .marks)
+marks-right c = c .before .marked .ensures .sure (not-false _ (c .if3 .left))
+
 links-long : (c : tie.Start) → length (c .args .t1 .links) ≡ 4096
 links-long c = search needs
 
 ring-long : (c : tie.Start) → length (c .args .t1 .ring) ≡ 256
 ring-long c = search needs
 
-locks-long : (c : tie.Start) → length (c .args .t1 .locks) ≡ 1024
-locks-long c = search needs
+marks-long : (c : tie.Start) → length (c .args .t1 .marks) ≡ 1024
+marks-long c = search needs
 
 totals-long : (c : tie.Start) → length (c .args .t1 .totals) ≡ 26
 totals-long c = search needs
 
 returns : tie.Need-returns
-returns c = store-refused _ _ (λ l g. omega (arith, c .if1 .taken))
+returns c = store-refused _ _ (λ l _ _. omega (arith, c .if1 .taken))
 
 ranged-requires : tie.Need-ranged-requires
 ranged-requires c κs = search needs
 
 returns-2 : tie.Need-returns-2
-returns-2 c = store-refused _ _ (λ l g. outside (c .before .before .before .before .args .t1) _ (c .before .ranged .ensures) (c .if2 .taken) g)
+returns-2 c = store-refused _ _ (λ _ g _. outside (c .before .before .before .before .args .t1) _ (c .before .ranged .ensures) (c .if2 .taken) g)
 
-cast-t11 : tie.Need-cast-t11
-cast-t11 c = search needs
+marked-requires : tie.Need-marked-requires
+marked-requires c κs = search needs
 
-cast-t12 : tie.Need-cast-t12
-cast-t12 c = omega (arith, in-range c .count)
+returns-3 : tie.Need-returns-3
+returns-3 c = store-refused _ _ (λ _ _ m. c .before .marked .ensures .none (not-true _ (c .if3 .taken)) m)
 
 cast-t13 : tie.Need-cast-t13
-cast-t13 c = omega (arith, in-range c .top)
+cast-t13 c = search needs
 
 cast-t14 : tie.Need-cast-t14
-cast-t14 c = omega (arith, in-range c .held)
+cast-t14 c = omega (arith, in-range (c .before .before .before .before .before) .count)
+
+cast-t15 : tie.Need-cast-t15
+cast-t15 c = omega (arith, in-range (c .before .before .before .before .before) .top)
+
+cast-t16 : tie.Need-cast-t16
+cast-t16 c = omega (arith, in-range (c .before .before .before .before .before) .held)
 
 slice-aggregate-copy : tie.Need-slice-aggregate-copy
 slice-aggregate-copy c = search needs
@@ -58,40 +69,40 @@ copy-requires-2 c κs = search needs
 copy-requires-3 : tie.Need-copy-requires-3
 copy-requires-3 c κs = search needs
 
-write-locks-requires : tie.Need-write-locks-requires
-write-locks-requires c κs = search needs
-
 copy-requires-4 : tie.Need-copy-requires-4
 copy-requires-4 c κs = search needs
+
+copy-requires-5 : tie.Need-copy-requires-5
+copy-requires-5 c κs = search needs
 
 same-length : tie.Need-same-length
 same-length c = search needs
 
-returns-3 : tie.Need-returns-3
-returns-3 c =
-    let r = c .before .before .before .before .before .before .before .before .before .before .before .before .before .before .before .before .before .before .before .before .before .before .before .before .before .before .before .before .before .before .before .before .before .before .before .before .before .args .t1 in
-    let w₀ = c .before .before .before .before .before .before .before .before .before .before .before .before .before .before .before .before .before .before .before .before .before .before .before .before .before .before .before .before .before .before .before .before .before .before .before .before .before .args .words .now in
+returns-4 : tie.Need-returns-4
+returns-4 c =
+    let r = c .before .before .before .before .before .before .before .before .before .before .before .before .before .before .before .before .before .before .before .before .before .before .before .before .before .before .before .before .before .before .before .before .before .before .before .before .before .before .before .before .before .before .args .t1 in
+    let w₀ = c .before .before .before .before .before .before .before .before .before .before .before .before .before .before .before .before .before .before .before .before .before .before .before .before .before .before .before .before .before .before .before .before .before .before .before .before .before .before .before .before .before .before .args .words .now in
     let w₁ = c .before .before .before .before .before .before .before .before .before .before .before .before .before .before .before .before .before .before .before .before .before .before .before .before .before .before .before .before .before .before .copy .last .1 .0 in
     let w₂ = c .before .before .before .before .before .before .before .before .before .before .before .before .before .before .before .before .before .before .before .before .before .before .before .copy2 .last .1 .0 in
     let w₃ = c .before .before .before .before .before .before .before .before .before .before .before .before .before .before .before .before .copy3 .last .1 .0 in
-    let w₄ = c .before .before .before .before .before .before .before .before .before .write-locks .last .1 .0 in
-    let w₅ = c .before .before .copy4 .last .1 .0 in
-    let k₀ : 5406 ≤ length w₀ = omega (arith, c .before .before .before .before .before .before .before .before .before .before .before .before .before .before .before .before .before .before .before .before .before .before .before .before .before .before .before .before .before .before .before .before .before .before .before .if1 .left) in
+    let w₄ = c .before .before .before .before .before .before .before .before .before .copy4 .last .1 .0 in
+    let w₅ = c .before .before .copy5 .last .1 .0 in
+    let k₀ : 5406 ≤ length w₀ = omega (arith, c .before .before .before .before .before .before .before .before .before .before .before .before .before .before .before .before .before .before .before .before .before .before .before .before .before .before .before .before .before .before .before .before .before .before .before .before .before .before .before .before .if1 .left) in
     let k₁ : length w₁ ≡ length w₀ = c .before .before .before .before .before .before .before .before .before .before .before .before .before .before .before .before .before .before .before .before .before .before .before .before .before .before .before .before .before .before .copy .kept .1 .0 in
     let k₂ : length w₂ ≡ length w₁ = c .before .before .before .before .before .before .before .before .before .before .before .before .before .before .before .before .before .before .before .before .before .before .before .copy2 .kept .1 .0 in
     let k₃ : length w₃ ≡ length w₂ = c .before .before .before .before .before .before .before .before .before .before .before .before .before .before .before .before .copy3 .kept .1 .0 in
-    let k₄ : length w₄ ≡ length w₃ = c .before .before .before .before .before .before .before .before .before .write-locks .kept .1 .0 in
-    let ls = links-long (c .before .before .before .before .before .before .before .before .before .before .before .before .before .before .before .before .before .before .before .before .before .before .before .before .before .before .before .before .before .before .before .before .before .before .before .before .before) in
-    let rs = ring-long (c .before .before .before .before .before .before .before .before .before .before .before .before .before .before .before .before .before .before .before .before .before .before .before .before .before .before .before .before .before .before .before .before .before .before .before .before .before) in
-    let ks = locks-long (c .before .before .before .before .before .before .before .before .before .before .before .before .before .before .before .before .before .before .before .before .before .before .before .before .before .before .before .before .before .before .before .before .before .before .before .before .before) in
-    let ts = totals-long (c .before .before .before .before .before .before .before .before .before .before .before .before .before .before .before .before .before .before .before .before .before .before .before .before .before .before .before .before .before .before .before .before .before .before .before .before .before) in
-    stored r w₀ w₁ w₂ w₃ w₄ w₅ (in-range (c .before .before .before .before .before .before .before .before .before .before .before .before .before .before .before .before .before .before .before .before .before .before .before .before .before .before .before .before .before .before .before .before .before)) ls rs ks ts
+    let k₄ : length w₄ ≡ length w₃ = c .before .before .before .before .before .before .before .before .before .copy4 .kept .1 .0 in
+    let ls = links-long (c .before .before .before .before .before .before .before .before .before .before .before .before .before .before .before .before .before .before .before .before .before .before .before .before .before .before .before .before .before .before .before .before .before .before .before .before .before .before .before .before .before .before) in
+    let rs = ring-long (c .before .before .before .before .before .before .before .before .before .before .before .before .before .before .before .before .before .before .before .before .before .before .before .before .before .before .before .before .before .before .before .before .before .before .before .before .before .before .before .before .before .before) in
+    let ms = marks-long (c .before .before .before .before .before .before .before .before .before .before .before .before .before .before .before .before .before .before .before .before .before .before .before .before .before .before .before .before .before .before .before .before .before .before .before .before .before .before .before .before .before .before) in
+    let ts = totals-long (c .before .before .before .before .before .before .before .before .before .before .before .before .before .before .before .before .before .before .before .before .before .before .before .before .before .before .before .before .before .before .before .before .before .before .before .before .before .before .before .before .before .before) in
+    stored r w₀ w₁ w₂ w₃ w₄ w₅ (in-range (c .before .before .before .before .before .before .before .before .before .before .before .before .before .before .before .before .before .before .before .before .before .before .before .before .before .before .before .before .before .before .before .before .before .before .before .before .before .before)) (marks-right (c .before .before .before .before .before .before .before .before .before .before .before .before .before .before .before .before .before .before .before .before .before .before .before .before .before .before .before .before .before .before .before .before .before)) ls rs ms ts
     k₀ (omega (arith, k₀, k₁)) (omega (arith, k₀, k₁, k₂)) (omega (arith, k₀, k₁, k₂, k₃)) (omega (arith, k₀, k₁, k₂, k₃, k₄))
     (c .before .before .before .before .before .before .before .before .before .before .before .before .before .before .before .before .before .before .before .before .before .before .before .before .before .before .before .before .before .before .copy .ensures .fits (omega (arith, k₀)) .1)
     (c .before .before .before .before .before .before .before .before .before .before .before .before .before .before .before .before .before .before .before .before .before .before .before .copy2 .ensures .fits (omega (arith, k₀, k₁, ls)) .1)
     (c .before .before .before .before .before .before .before .before .before .before .before .before .before .before .before .before .copy3 .ensures .fits (omega (arith, k₀, k₁, k₂, rs)) .1)
-    (c .before .before .before .before .before .before .before .before .before .write-locks .ensures)
-    (c .before .before .copy4 .ensures .fits (omega (arith, k₀, k₁, k₂, k₃, k₄, ts)) .1)
+    (c .before .before .before .before .before .before .before .before .before .copy4 .ensures .fits (omega (arith, k₀, k₁, k₂, k₃, ms)) .1)
+    (c .before .before .copy5 .ensures .fits (omega (arith, k₀, k₁, k₂, k₃, k₄, ts)) .1)
 
 pub store-spec : {M : Type 1} → statement M
 store-spec =
@@ -100,15 +111,17 @@ store-spec =
     returns
     ranged-requires
     returns-2
-    cast-t11
-    cast-t12
+    marked-requires
+    returns-3
     cast-t13
     cast-t14
+    cast-t15
+    cast-t16
     slice-aggregate-copy
     copy-requires
     copy-requires-2
     copy-requires-3
-    write-locks-requires
     copy-requires-4
+    copy-requires-5
     same-length
-    returns-3)
+    returns-4)

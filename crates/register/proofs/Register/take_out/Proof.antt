@@ -31,7 +31,7 @@ returns c =
     let st = c .before .stands in
     record {
       kept = record { n = refl; ring = refl; top = refl; held = refl; count = c .before .before .before .before .before .before .before .before .before .pre };
-      sheet = λ r. ap (λ (m : List ℕ). record { links = m; locks = s .t1 .locks })
+      sheet = λ r. ap (λ (m : List ℕ). record { links = m; marks = s .t1 .marks })
           (sym (without-absent eqb-test (s .x) l (sym (seam-has (s .x) (s .t1 .links) (s .t1 .count) (at .result) (omega arith) r (at .ensures)) ∙ sym (st .ensures) ∙ not-true (st .result) (c .if1 .taken))));
       counted = λ _ t. t;
     }
@@ -64,7 +64,7 @@ returns-2 c =
     let taken-out = seam-without (s .x) (s .t1 .links) links (s .t1 .count) (at .result) h (at .ensures) (c .before .before .cut .ensures) in
     record {
       kept = record { n = refl; ring = refl; top = refl; held = refl; count = omega arith };
-      sheet = λ r. ap (λ (m : List ℕ). record { links = m; locks = s .t1 .locks }) (taken-out r (there r));
+      sheet = λ r. ap (λ (m : List ℕ). record { links = m; marks = s .t1 .marks }) (taken-out r (there r));
       counted = λ r t. lowered-counted (s .x) (s .t1 .totals) (c .lower .last .0) l (take (s .t1 .count - 1) links) r (there r) (taken-out r (there r)) (c .lower .ensures) t;
     }
 

@@ -30,11 +30,17 @@ returns c =
 put-in-requires : tie.Need-put-in-requires
 put-in-requires c κs = search needs
 
-set-lock-requires : tie.Need-set-lock-requires
-set-lock-requires c κs = search needs
+set-mark-requires : tie.Need-set-mark-requires
+set-mark-requires c κs = search needs
 
-set-lock-requires-2 : tie.Need-set-lock-requires-2
-set-lock-requires-2 c κs = search needs
+set-mark-requires-2 : tie.Need-set-mark-requires-2
+set-mark-requires-2 c κs = search needs
+
+set-mark-requires-3 : tie.Need-set-mark-requires-3
+set-mark-requires-3 c κs = search needs
+
+set-mark-requires-4 : tie.Need-set-mark-requires-4
+set-mark-requires-4 c κs = search needs
 
 returns-2 : tie.Need-returns-2
 unfolding takeBackKind
@@ -46,13 +52,26 @@ returns-3 c = let o = c .put-in .ensures in record { kept = o .kept; sheet = rw 
 
 returns-4 : tie.Need-returns-4
 unfolding takeBackKind
-returns-4 c = let o = c .set-lock .ensures in record { kept = o .kept; sheet = rw (c .before .match .keys3) (λ r _. o .sheet r); counted = o .counted }
+returns-4 c = let o = c .set-mark .ensures in record { kept = o .kept; sheet = rw (c .before .match .keys3) (λ r _. o .sheet r); counted = o .counted }
 
 returns-5 : tie.Need-returns-5
-returns-5 c =
-    let o = c .set-lock2 .ensures in
+unfolding takeBackKind
+returns-5 c = let o = c .set-mark2 .ensures in record { kept = o .kept; sheet = rw (c .before .match .keys4) (λ r _. o .sheet r); counted = o .counted }
+
+returns-6 : tie.Need-returns-6
+unfolding takeBackKind
+returns-6 c = let o = c .set-mark3 .ensures in record { kept = o .kept; sheet = rw (c .before .match .keys5) (λ r _. o .sheet r); counted = o .counted }
+
+returns-7 : tie.Need-returns-7
+returns-7 c =
+    let o = c .set-mark4 .ensures in
     let m = c .before .match .rest in
-    record { kept = o .kept; sheet = λ r _. o .sheet r ∙ sym (back-rest (c .before .before .args .kind) (c .before .before .args .x) (packedOf (c .before .before .args .self)) (m .0 .0 .1) (m .0 .1) (m .1)); counted = o .counted }
+    let s = c .before .before .args in
+    record {
+      kept = o .kept;
+      sheet = λ r _. o .sheet r ∙ sym (back-rest (s .kind) (s .x) (packedOf (s .self)) (m .0 .0 .0 .0 .1) (m .0 .0 .0 .1) (m .0 .0 .1) (m .0 .1) (m .1));
+      counted = o .counted;
+    }
 
 pub taken-back-spec : {M : Type 1} → statement M
 taken-back-spec =
@@ -61,9 +80,13 @@ taken-back-spec =
     take-out-requires
     returns
     put-in-requires
-    set-lock-requires
-    set-lock-requires-2
+    set-mark-requires
+    set-mark-requires-2
+    set-mark-requires-3
+    set-mark-requires-4
     returns-2
     returns-3
     returns-4
-    returns-5)
+    returns-5
+    returns-6
+    returns-7)

@@ -2,10 +2,9 @@
 use mathlib.Core.Path.{_≡_, refl}
 use native.Mathlib.Omega.{arith}
 use borrow.Author.Needs.{needs}
-use borrow.Author.Tests.{le-leb, lt-leb, not-true, not-false}
-use lib.ListN.{length, getD}
-use mathlib.Core.Bool.{false}
-use Rattle.book.specs.Causes.{no-record, missing, number, firstNumber}
+use borrow.Author.Tests.{le-leb, lt-leb, eq-eqb, ne-eqb}
+use lib.ListN.{length}
+use Rattle.book.specs.Causes.{no-record, withdrawn-record, missing, number, firstNumber}
 use Rattle.book.specs.Book.{unlock}
 use Rattle.register.specs.Packed.{heldWord}
 use Rattle.register.specs.Counters.{InRange}
@@ -27,35 +26,42 @@ returns-2 : tie.Need-returns-2
 unfolding packedCauses firstNumber number
 returns-2 c = refuse-ranged (c .before .before .before .args .t1) (unlock (c .before .before .before .args .«record»)) (in-range (c .before)) 2 (no-record, refl) (λ _. rw (le-leb _ _ (c .if2 .taken)))
 
-element-copy-out-if3 : tie.Need-element-copy-out-if3
-element-copy-out-if3 c = omega (arith, in-range (c .before) .size)
+mul-mark : tie.Need-mul-mark
+mul-mark c = search needs
+
+element-copy-out-mark : tie.Need-element-copy-out-mark
+element-copy-out-mark c = omega (arith, in-range (c .before) .size)
 
 returns-3 : tie.Need-returns-3
 unfolding packedCauses firstNumber number
-returns-3 c = refuse-ranged (c .before .before .before .before .before .args .t1) (unlock (c .before .before .before .before .before .args .«record»)) (in-range (c .before .before .before)) 6 (missing, refl) (λ _. rw (lt-leb _ _ (c .before .before .if2 .left), not-true (getD (c .before .before .before .before .before .args .t1 .locks) (c .before .before .before .before .before .args .«record») false) (c .if3 .taken)))
+returns-3 c = refuse-ranged (c .before .before .before .before .before .args .t1) (unlock (c .before .before .before .before .before .args .«record»)) (in-range (c .before .before .before)) 18 (withdrawn-record, refl) (λ _. rw (lt-leb _ _ (c .before .before .if2 .left), eq-eqb _ _ (c .if3 .taken)))
 
-set-lock-requires : tie.Need-set-lock-requires
-set-lock-requires c κs = in-range (c .before .before .before) .count
+returns-4 : tie.Need-returns-4
+unfolding packedCauses firstNumber number
+returns-4 c = refuse-ranged (c .before .before .before .before .before .before .args .t1) (unlock (c .before .before .before .before .before .before .args .«record»)) (in-range (c .before .before .before .before)) 6 (missing, refl) (λ _. rw (lt-leb _ _ (c .before .before .before .if2 .left), ne-eqb _ _ (c .before .if3 .left), ne-eqb _ _ (c .if4 .taken)))
+
+set-mark-requires : tie.Need-set-mark-requires
+set-mark-requires c κs = in-range (c .before .before .before .before) .count
 
 add-hold : tie.Need-add-hold
 add-hold c = search needs
 
 hold-requires : tie.Need-hold-requires
 hold-requires c κs =
-    let h = in-range (c .before .before .before .before) in
-    let k = c .set-lock .ensures .kept in
+    let h = in-range (c .before .before .before .before .before) in
+    let k = c .set-mark .ensures .kept in
     (omega (arith, k .top, h .top), omega (arith, k .held, h .held))
 
-locks-long : (c : tie.Start) → length (c .args .t1 .locks) ≡ 1024
-locks-long c = search needs
+marks-long : (c : tie.Start) → length (c .args .t1 .marks) ≡ 1024
+marks-long c = search needs
 
-returns-4 : tie.Need-returns-4
+returns-5 : tie.Need-returns-5
 unfolding packedCauses firstNumber number packedEdit heldWord
-returns-4 c =
-    let s = c .before .before .before .before .before .before .before .args in
-    accept (s .t1) (unlock (s .«record»)) (c .before .set-lock .result) (c .hold .result) (in-range (c .before .before .before .before .before)) (locks-long (c .before .before .before .before .before .before .before))
-    (λ _. rw (lt-leb _ _ (c .before .before .before .before .if2 .left), not-false (getD (s .t1 .locks) (s .«record») false) (c .before .before .if3 .left)))
-    (c .before .set-lock .ensures)
+returns-5 c =
+    let s = c .before .before .before .before .before .before .before .before .args in
+    accept (s .t1) (unlock (s .«record»)) (c .before .set-mark .result) (c .hold .result) (in-range (c .before .before .before .before .before .before)) (marks-long (c .before .before .before .before .before .before .before .before))
+    (λ _. rw (lt-leb _ _ (c .before .before .before .before .before .if2 .left), ne-eqb _ _ (c .before .before .before .if3 .left), eq-eqb _ _ (c .before .before .if4 .left)))
+    (c .before .set-mark .ensures)
     (c .hold .ensures)
 
 pub unlock-spec : {M : Type 1} → statement M
@@ -65,9 +71,11 @@ unlock-spec =
     ranged-requires
     returns
     returns-2
-    element-copy-out-if3
+    mul-mark
+    element-copy-out-mark
     returns-3
-    set-lock-requires
+    returns-4
+    set-mark-requires
     add-hold
     hold-requires
-    returns-4)
+    returns-5)

@@ -32,12 +32,12 @@ abbrev link : (c : tie.Start) → Link
 link c = record { from = c .args .from; label = c .args .label; to = c .args .to }
 
 -- no cause in the ends and the label
-free : (c : tie.Else2) → firstNumber (linkCauses (c .before .before .before .before .before .args .n) (c .before .before .before .before .before .args .locks .now) (link (c .before .before .before .before .before))) ≡ 0
+free : (c : tie.Else2) → firstNumber (linkCauses (c .before .before .before .before .before .args .n) (c .before .before .before .before .before .args .marks .now) (link (c .before .before .before .before .before))) ≡ 0
 free c = sym (c .before .link-cause .ensures) ∙ c .if2 .left
 
 link-word-requires : tie.Need-link-word-requires
 link-word-requires c κs =
-    let p = link-proper _ (c .before .before .before .before .before .args .locks .now) _ (free c) in
+    let p = link-proper _ (c .before .before .before .before .before .args .marks .now) _ (free c) in
     let h = in-range (c .before .before) in
     (omega (arith, p .from, h .size), p .label, omega (arith, p .to, h .size))
 

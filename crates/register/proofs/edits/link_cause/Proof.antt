@@ -1,10 +1,11 @@
 -- `register::edits::link_cause` meets its contract: each answer by the tests that led to it. Assumes nothing.
 use mathlib.Core.Path.{_≡_}
-use mathlib.Core.Bool.{true, false}
-use lib.ListN.{getD}
+use mathlib.Core.Bool.{false}
+use lib.Dec.{leb}
 use borrow.Author.Needs.{needs}
-use borrow.Author.Tests.{le-leb, lt-leb}
+use borrow.Author.Tests.{le-leb, lt-leb, eq-eqb, ne-eqb}
 use Rattle.book.specs.Causes.{number, firstNumber}
+use Rattle.register.specs.Marks.{withdrawnMark, hasMark}
 use Rattle.register.specs.Inner.{linkCauses}
 use Rattle.register.proofs.edits.link_cause.Statement.{statement}
 use Rattle.register.proofs.edits.link_cause.Tie as tie
@@ -17,39 +18,61 @@ returns-2 : tie.Need-returns-2
 unfolding linkCauses firstNumber number
 returns-2 c = rw (lt-leb _ _ (c .before .if1 .left), le-leb _ _ (c .if2 .taken))
 
+mul-if3 : tie.Need-mul-if3
+mul-if3 c = search needs
+
+shared-slice-read-if3 : tie.Need-shared-slice-read-if3
+shared-slice-read-if3 c = search needs
+
+-- the ends are records, from here on
+records : (c : tie.Else2) → (leb (c .before .before .args .n) (c .before .before .args .from) ≡ false) × (leb (c .before .before .args .n) (c .before .before .args .to) ≡ false)
+records c = (lt-leb _ _ (c .before .if1 .left), lt-leb _ _ (c .if2 .left))
+
 returns-3 : tie.Need-returns-3
 unfolding linkCauses firstNumber number
-returns-3 c = rw (lt-leb _ _ (c .before .before .if1 .left), lt-leb _ _ (c .before .if2 .left), le-leb _ _ (c .if3 .taken))
+returns-3 c = rw (records (c .before .before) .0, records (c .before .before) .1, eq-eqb _ _ (c .if3 .taken))
+
+mul-if4 : tie.Need-mul-if4
+mul-if4 c = search needs
 
 shared-slice-read-if4 : tie.Need-shared-slice-read-if4
 shared-slice-read-if4 c = search needs
 
--- the two locks, at an end each
 returns-4 : tie.Need-returns-4
 unfolding linkCauses firstNumber number
-returns-4 c =
-    let s = c .before .before .before .before .before .args in
-    let f : getD (s .locks .now) (s .from) false ≡ true = c .if4 .taken in
-    rw (lt-leb _ _ (c .before .before .before .before .if1 .left), lt-leb _ _ (c .before .before .before .if2 .left), lt-leb _ _ (c .before .before .if3 .left), f)
+returns-4 c = rw (records (c .before .before .before .before) .0, records (c .before .before .before .before) .1, ne-eqb _ _ (c .before .before .if3 .left), eq-eqb _ _ (c .if4 .taken))
 
-shared-slice-read-if5 : tie.Need-shared-slice-read-if5
-shared-slice-read-if5 c = search needs
+-- and neither is withdrawn
+in-use : (c : tie.Else4) → (hasMark withdrawnMark (c .before .before .before .before .before .before .args .marks .now) (c .before .before .before .before .before .before .args .from) ≡ false) × (hasMark withdrawnMark (c .before .before .before .before .before .before .args .marks .now) (c .before .before .before .before .before .before .args .to) ≡ false)
+in-use c = (ne-eqb _ _ (c .before .before .if3 .left), ne-eqb _ _ (c .if4 .left))
 
 returns-5 : tie.Need-returns-5
 unfolding linkCauses firstNumber number
-returns-5 c =
-    let s = c .before .before .before .before .before .before .before .args in
-    let f : getD (s .locks .now) (s .from) false ≡ false = c .before .before .if4 .left in
-    let t : getD (s .locks .now) (s .to) false ≡ true = c .if5 .taken in
-    rw (lt-leb _ _ (c .before .before .before .before .before .before .if1 .left), lt-leb _ _ (c .before .before .before .before .before .if2 .left), lt-leb _ _ (c .before .before .before .before .if3 .left), f, t)
+returns-5 c = rw (records (c .before .before .before .before .before) .0, records (c .before .before .before .before .before) .1, in-use (c .before) .0, in-use (c .before) .1, le-leb _ _ (c .if5 .taken))
+
+mul-if6 : tie.Need-mul-if6
+mul-if6 c = search needs
+
+shared-slice-read-if6 : tie.Need-shared-slice-read-if6
+shared-slice-read-if6 c = search needs
 
 returns-6 : tie.Need-returns-6
 unfolding linkCauses firstNumber number
-returns-6 c =
-    let s = c .before .before .before .before .before .before .before .args in
-    let f : getD (s .locks .now) (s .from) false ≡ false = c .before .before .if4 .left in
-    let t : getD (s .locks .now) (s .to) false ≡ false = c .if5 .left in
-    rw (lt-leb _ _ (c .before .before .before .before .before .before .if1 .left), lt-leb _ _ (c .before .before .before .before .before .if2 .left), lt-leb _ _ (c .before .before .before .before .if3 .left), f, t)
+returns-6 c = rw (records (c .before .before .before .before .before .before .before) .0, records (c .before .before .before .before .before .before .before) .1, in-use (c .before .before .before) .0, in-use (c .before .before .before) .1, lt-leb _ _ (c .before .before .if5 .left), eq-eqb _ _ (c .if6 .taken))
+
+mul-if7 : tie.Need-mul-if7
+mul-if7 c = search needs
+
+shared-slice-read-if7 : tie.Need-shared-slice-read-if7
+shared-slice-read-if7 c = search needs
+
+returns-7 : tie.Need-returns-7
+unfolding linkCauses firstNumber number
+returns-7 c = rw (records (c .before .before .before .before .before .before .before .before .before) .0, records (c .before .before .before .before .before .before .before .before .before) .1, in-use (c .before .before .before .before .before) .0, in-use (c .before .before .before .before .before) .1, lt-leb _ _ (c .before .before .before .before .if5 .left), ne-eqb _ _ (c .before .before .if6 .left), eq-eqb _ _ (c .if7 .taken))
+
+returns-8 : tie.Need-returns-8
+unfolding linkCauses firstNumber number
+returns-8 c = rw (records (c .before .before .before .before .before .before .before .before .before) .0, records (c .before .before .before .before .before .before .before .before .before) .1, in-use (c .before .before .before .before .before) .0, in-use (c .before .before .before .before .before) .1, lt-leb _ _ (c .before .before .before .before .if5 .left), ne-eqb _ _ (c .before .before .if6 .left), ne-eqb _ _ (c .if7 .left))
 
 pub link-cause-spec : {M : Type 1} → statement M
 link-cause-spec =
@@ -57,9 +80,17 @@ link-cause-spec =
     (tie.spec
     returns
     returns-2
+    mul-if3
+    shared-slice-read-if3
     returns-3
+    mul-if4
     shared-slice-read-if4
     returns-4
-    shared-slice-read-if5
     returns-5
-    returns-6)
+    mul-if6
+    shared-slice-read-if6
+    returns-6
+    mul-if7
+    shared-slice-read-if7
+    returns-7
+    returns-8)

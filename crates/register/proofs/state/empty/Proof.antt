@@ -1,4 +1,4 @@
--- `register::state::empty` meets its contract: no words show no links, and each record's lock is false. Assumes nothing.
+-- `register::state::empty` meets its contract: no words show no links, and each record's mark is that of one in use. Assumes nothing.
 use mathlib.Core.Path.{refl}
 use mathlib.Core.Bool.{false≢true}
 use native.Mathlib.Omega.{arith}
@@ -9,7 +9,7 @@ use Rattle.book.specs.ListLaws.{in-none}
 use Rattle.register.specs.Links.{wordTotal}
 use Rattle.register.specs.Packed.{Piled}
 use Rattle.register.specs.Representation.{latest}
-use Rattle.register.proofs.Showing.{none-locked, none-counted}
+use Rattle.register.proofs.Showing.{replicate-at}
 use Rattle.register.proofs.state.empty.Statement.{statement}
 use Rattle.register.proofs.state.empty.Tie as tie
 
@@ -22,11 +22,11 @@ returns c = record {
     links = record { ascending = ended; sound = λ w i. absurd (in-none i refl); whole = λ k e. absurd (false≢true e) };
     count = refl;
     totals = λ l. refl;
-    locks = none-locked 1024;
+    marks = replicate-at 0 1024;
     fit = fresh-sound _ (c .pre) .sheet;
   };
   pile = tt;
-  totals = λ l h. none-counted 26 l;
+  totals = λ l h. replicate-at 0 26 l;
 }
 
 pub empty-spec : {M : Type 1} → statement M

@@ -1,4 +1,4 @@
--- `register::words::is_register` looks at the length, the counters and the locks in turn. Assumes nothing.
+-- `register::words::is_register` looks at the length, the counters and the marks in turn. Assumes nothing.
 use Prim.Native.Nat.{_≤_}
 use native.Mathlib.Omega.{arith}
 use borrow.Author.Tests.{not-true, not-false}
@@ -46,22 +46,22 @@ ranged-requires c κs = search needs
 returns-3 : tie.Need-returns-3
 returns-3 c = tested-not (λ f. c .before .ranged .ensures .none (not-true _ (c .if3 .taken)) (f .ranged))
 
-sub-flags : tie.Need-sub-flags
-sub-flags c = search needs
+sub-marked : tie.Need-sub-marked
+sub-marked c = search needs
 
-part-flags-start : tie.Need-part-flags-start
-part-flags-start c = search needs
+part-marked-start : tie.Need-part-marked-start
+part-marked-start c = search needs
 
-part-flags-end : tie.Need-part-flags-end
-part-flags-end c = search needs
+part-marked-end : tie.Need-part-marked-end
+part-marked-end c = search needs
 
-flags-requires : tie.Need-flags-requires
-flags-requires c κs = search needs
+marked-requires : tie.Need-marked-requires
+marked-requires c κs = search needs
 
 returns-4 : tie.Need-returns-4
 returns-4 c =
     let ws = c .before .before .before .before .before .before .before .before .before .before .before .before .args .words .now in
-    formed-by ws (c .flags .result) (c .before .before .before .before .before .before .before .before .before .before .if1 .left) (c .before .before .before .ranged .ensures .sure (not-false _ (c .before .before .if3 .left))) (c .flags .ensures)
+    formed-by ws (c .marked .result) (c .before .before .before .before .before .before .before .before .before .before .if1 .left) (c .before .before .before .ranged .ensures .sure (not-false _ (c .before .before .if3 .left))) (c .marked .ensures)
 
 pub is-register-spec : {M : Type 1} → statement M
 is-register-spec =
@@ -80,8 +80,8 @@ is-register-spec =
     cast-held
     ranged-requires
     returns-3
-    sub-flags
-    part-flags-start
-    part-flags-end
-    flags-requires
+    sub-marked
+    part-marked-start
+    part-marked-end
+    marked-requires
     returns-4)

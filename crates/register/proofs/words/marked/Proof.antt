@@ -1,14 +1,15 @@
--- `register::words::flags` looks at each word. The loop's invariant: the words before i are 0 or 1. The measure is the words left. Assumes nothing.
+-- `register::words::marked` looks at each word. The loop's invariant: the words before i are marks. The measure is the words left. Assumes nothing.
 use borrow.Author.Count.{below-more}
-use Rattle.register.proofs.Keeping.{tested, tested-not, flags-all}
+use Rattle.register.proofs.Keeping.{tested, tested-not, marked-all}
 use Prim.Native.Nat.{ℕ, _-_, _≤_, _<_}
 use native.Mathlib.Omega.{arith}
 use lib.ListN.{length, getD}
-use Rattle.register.proofs.words.flags.Statement.{statement}
-use Rattle.register.proofs.words.flags.Tie as tie
+use Rattle.register.specs.Marks.{freeMark, withdrawnMark}
+use Rattle.register.proofs.words.marked.Statement.{statement}
+use Rattle.register.proofs.words.marked.Tie as tie
 
 abbrev Inv-loop : tie.InvT-loop
-Inv-loop words i₀ i = (i ≤ length words) × ((j : ℕ) → j < i → getD words j 0 ≤ 1)
+Inv-loop words i₀ i = (i ≤ length words) × ((j : ℕ) → j < i → getD words j freeMark ≤ withdrawnMark)
 
 abbrev μ-loop : tie.MeasureT-loop
 μ-loop words i₀ i = length words - i
@@ -35,10 +36,10 @@ loop-again : tie.Need-loop-again Inv-loop μ-loop
 loop-again c = (omega arith, λ j h. below-more _ _ (c .before .before .before .loop .inv .1) (c .if1 .left) j h)
 
 returns-2 : tie.Need-returns-2 Inv-loop μ-loop
-returns-2 c = let l = c .before .loop in tested (flags-all (c .before .before .args .words .now) (λ j h. l .inv .1 j (omega arith)))
+returns-2 c = let l = c .before .loop in tested (marked-all (c .before .before .args .words .now) (λ j h. l .inv .1 j (omega arith)))
 
-pub flags-spec : {M : Type 1} → statement M
-flags-spec =
+pub marked-spec : {M : Type 1} → statement M
+marked-spec =
     tie.close
     (tie.spec
     Inv-loop

@@ -1,0 +1,93 @@
+-- `register::Register::withdraw` meets its contract: each refusal by `refuse-foreign` or `refuse-ranged` with the tests that led to it, and acceptance by `accept`. Assumes nothing.
+use mathlib.Core.Path.{_≡_, refl, sym}
+use native.Mathlib.Omega.{arith}
+use borrow.Author.Needs.{needs}
+use borrow.Author.Tests.{le-leb, lt-leb, eq-eqb, ne-eqb}
+use lib.ListN.{length}
+use Rattle.book.specs.Causes.{no-record, locked-end, already, touched-record, number, firstNumber}
+use Rattle.book.specs.Book.{withdraw}
+use Rattle.register.specs.Packed.{heldWord}
+use Rattle.register.specs.Counters.{InRange}
+use Rattle.register.proofs.Showing.{packedCauses, packedEdit}
+use Rattle.register.proofs.Stepping.{outside, inside, refuse-foreign, refuse-ranged, accept}
+use Rattle.register.proofs.Register.withdraw.Statement.{statement}
+use Rattle.register.proofs.Register.withdraw.Tie as tie
+
+ranged-requires : tie.Need-ranged-requires
+ranged-requires c κs = search needs
+
+returns : tie.Need-returns
+returns c = refuse-foreign _ _ (outside (c .before .before .args .t1) _ (c .before .ranged .ensures) (c .if1 .taken))
+
+in-range : (c : tie.Else1) → InRange (c .before .before .args .t1)
+in-range c = inside (c .before .before .args .t1) (c .before .ranged .result) (c .before .ranged .ensures) (c .if1 .left)
+
+returns-2 : tie.Need-returns-2
+unfolding packedCauses firstNumber number
+returns-2 c = refuse-ranged (c .before .before .before .args .t1) (withdraw (c .before .before .before .args .«record»)) (in-range (c .before)) 2 (no-record, refl) (λ _. rw (le-leb _ _ (c .if2 .taken)))
+
+mul-mark : tie.Need-mul-mark
+mul-mark c = search needs
+
+element-copy-out-mark : tie.Need-element-copy-out-mark
+element-copy-out-mark c = omega (arith, in-range (c .before) .size)
+
+returns-3 : tie.Need-returns-3
+unfolding packedCauses firstNumber number
+returns-3 c = refuse-ranged (c .before .before .before .before .before .args .t1) (withdraw (c .before .before .before .before .before .args .«record»)) (in-range (c .before .before .before)) 4 (locked-end, refl) (λ _. rw (lt-leb _ _ (c .before .before .if2 .left), eq-eqb _ _ (c .if3 .taken)))
+
+returns-4 : tie.Need-returns-4
+unfolding packedCauses firstNumber number
+returns-4 c = refuse-ranged (c .before .before .before .before .before .before .args .t1) (withdraw (c .before .before .before .before .before .before .args .«record»)) (in-range (c .before .before .before .before)) 5 (already, refl) (λ _. rw (lt-leb _ _ (c .before .before .before .if2 .left), ne-eqb _ _ (c .before .if3 .left), eq-eqb _ _ (c .if4 .taken)))
+
+links-long : (c : tie.Start) → length (c .args .t1 .links) ≡ 4096
+links-long c = search needs
+
+touched-requires : tie.Need-touched-requires
+touched-requires c κs = omega (arith, in-range (c .before .before .before .before .before .before .before) .count, links-long (c .before .before .before .before .before .before .before .before .before))
+
+returns-5 : tie.Need-returns-5
+unfolding packedCauses firstNumber number
+returns-5 c = refuse-ranged (c .before .before .before .before .before .before .before .before .before .before .before .args .t1) (withdraw (c .before .before .before .before .before .before .before .before .before .before .before .args .«record»)) (in-range (c .before .before .before .before .before .before .before .before .before)) 17 (touched-record, refl) (λ _. rw (lt-leb _ _ (c .before .before .before .before .before .before .before .before .if2 .left), ne-eqb _ _ (c .before .before .before .before .before .before .if3 .left), ne-eqb _ _ (c .before .before .before .before .before .if4 .left), sym (c .before .touched .ensures), c .if5 .taken))
+
+set-mark-requires : tie.Need-set-mark-requires
+set-mark-requires c κs = in-range (c .before .before .before .before .before .before .before .before .before) .count
+
+add-hold : tie.Need-add-hold
+add-hold c = search needs
+
+hold-requires : tie.Need-hold-requires
+hold-requires c κs =
+    let h = in-range (c .before .before .before .before .before .before .before .before .before .before) in
+    let k = c .set-mark .ensures .kept in
+    (omega (arith, k .top, h .top), omega (arith, k .held, h .held))
+
+marks-long : (c : tie.Start) → length (c .args .t1 .marks) ≡ 1024
+marks-long c = search needs
+
+returns-6 : tie.Need-returns-6
+unfolding packedCauses firstNumber number packedEdit heldWord
+returns-6 c =
+    let s = c .before .before .before .before .before .before .before .before .before .before .before .before .before .args in
+    accept (s .t1) (withdraw (s .«record»)) (c .before .set-mark .result) (c .hold .result) (in-range (c .before .before .before .before .before .before .before .before .before .before .before)) (marks-long (c .before .before .before .before .before .before .before .before .before .before .before .before .before))
+    (λ _. rw (lt-leb _ _ (c .before .before .before .before .before .before .before .before .before .before .if2 .left), ne-eqb _ _ (c .before .before .before .before .before .before .before .before .if3 .left), ne-eqb _ _ (c .before .before .before .before .before .before .before .if4 .left), sym (c .before .before .before .touched .ensures), c .before .before .if5 .left))
+    (c .before .set-mark .ensures)
+    (c .hold .ensures)
+
+pub withdraw-spec : {M : Type 1} → statement M
+withdraw-spec =
+    tie.close
+    (tie.spec
+    ranged-requires
+    returns
+    returns-2
+    mul-mark
+    element-copy-out-mark
+    returns-3
+    returns-4
+    touched-requires
+    returns-5
+    set-mark-requires
+    add-hold
+    hold-requires
+    returns-6)
