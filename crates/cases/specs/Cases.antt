@@ -16,7 +16,7 @@ use Rattle.paths.specs.Expressions.{standsFor, Expr, letters, depth}
 use Rattle.paths.specs.Grammar.{Verdict, accepted, long, outside, large, Judged}
 use Rattle.paths.specs.Words.{backwards}
 use Rattle.paths.specs.Chains.{Graph, asked, spell, stepWords, no-chain}
-use Rattle.paths.specs.Relations.{crossed, zeroSteps, cells, PairsAre, pairs}
+use Rattle.paths.specs.Relations.{crossedBy, zeroSteps, cells, PairsAre, pairs}
 use Rattle.paths.specs.Descent.{alternativesIn, readAlternatives}
 use Rattle.paths.specs.Verdicts.{verdict, verdict-right}
 use Rattle.paths.specs.ChainLaws.{Inside}
@@ -62,7 +62,7 @@ by n cs h k q r = all-more (holds (made n cs) (history-inside n h cs) (history-s
 
 -- K1 to K12
 pub k1-to-k12 : All (Met (made 4 links)) table
-unfolding table links bytes verdict readAlternatives alternativesIn letters depth standsFor after next turned editAnswer firstNumber number causes edited fresh has without asked most crossed zeroSteps diagonal transpose union serves product via closure cells rowPairs rowsPairs listed pairs parted many accepts before reach stepsBelow before-each after-each walks walksTo end best firstTo chainTo spell stepWords quadrant filled quarters keep levels treeBits rise height backwards
+unfolding table links bytes verdict readAlternatives alternativesIn letters depth standsFor after next turned editAnswer firstNumber number causes edited fresh has without asked most crossedBy zeroSteps diagonal transpose union serves product via closure cells rowPairs rowsPairs listed pairs parted many accepts before reach stepsBelow before-each after-each walks walksTo end best firstTo chainTo spell stepWords quadrant filled quarters keep levels treeBits rise height backwards
 k1-to-k12 =
     let h : 4 ≤ 1024 = omega arith in
     by 4 links h _ refl
@@ -81,7 +81,7 @@ k1-to-k12 =
 
 -- what looks right and is wrong, and chains as short as one another
 pub others : All (Met (made 3 ring)) ring-table × All (Met (made 4 links)) swapped-table × All (Met (made 4 ties)) ties-table
-unfolding ring-table ring swapped-table links ties-table ties bytes verdict readAlternatives alternativesIn letters depth standsFor after next turned editAnswer firstNumber number causes edited fresh has without asked most crossed zeroSteps diagonal transpose union serves product via closure cells rowPairs rowsPairs listed pairs parted many accepts before reach stepsBelow before-each after-each walks walksTo end best firstTo chainTo spell stepWords quadrant filled quarters keep levels treeBits rise height backwards
+unfolding ring-table ring swapped-table links ties-table ties bytes verdict readAlternatives alternativesIn letters depth standsFor after next turned editAnswer firstNumber number causes edited fresh has without asked most crossedBy zeroSteps diagonal transpose union serves product via closure cells rowPairs rowsPairs listed pairs parted many accepts before reach stepsBelow before-each after-each walks walksTo end best firstTo chainTo spell stepWords quadrant filled quarters keep levels treeBits rise height backwards
 others =
     let h : 3 ≤ 1024 = omega arith in
     let i : 4 ≤ 1024 = omega arith in (

@@ -4,9 +4,10 @@
 --                   e is read from the place at to q's, and its code written: the code's array was `before` and is `after`
 --   Done k s at n before after x r
 --                   r is what x is, where k is what is left to do: `got` if nothing is
+--   Stands s at x r r is the symbol that x is: it is read from the place at on, and its letters are those that it stands for
 --   Asks s at n code
 --                   what an inner reader asks: the code is not ahead of the text, and is no shorter
---   Fits, RoomToJoin, RoomToWrap
+--   Fits, RoomToJoin, RoomToWrap, RoomToWrite
 --                   what the steps after a reading ask
 --   Infix           the two operators that stand between expressions; of each the byte, the number, the expression that it makes of two, and what
 --                   the descent reads: between two of its bytes, in all, and from the first on
@@ -17,9 +18,9 @@
 --                   r is `first` and `next` as one expression, joined by the operator of number x
 --   Since o s at n first₀ code₀ first code
 --                   `first` is what the operator's loop has read, told from what was read before it
---   markOf s r      the number of the mark after what was read, or 0
+--   markOf s r      the number of the mark after what was read, or no-mark
 --   wrap x passed r, wrapCode x r code
---                   what was read with the operator x on it, if x is not 0, and the code with its number
+--                   what was read with the operator x on it, if x is not no-mark, and the code with its number
 --   Closes s r q    q is the group whose inside is r
 -- Assumes nothing: these are definitions.
 use mathlib.Core.Path.{_≡_}
@@ -30,10 +31,14 @@ use lib.Dec.{eqb}
 use lib.ListN.{length, drop, set}
 use lib.Seq.{sets}
 use Rattle.book.specs.Basics.{pick}
-use Rattle.paths.specs.Expressions.{Expr, alternative, sequence, letters, depth}
+use Rattle.paths.specs.Expressions.{Symbol, standsFor, Expr, symbol, alternative, sequence, letters, depth}
 use Rattle.paths.specs.Grammar.{bar, slash, asterisk, plus-sign, question-mark}
 use Rattle.paths.specs.Descent.{Parse, got, fault, firstByte, then, readClose, readAlternatives, readMoreAlternatives, readParts, readMoreParts, readPart}
 use Rattle.reader.specs.Code.{op-star, op-plus, op-optional, op-alternative, op-sequence, code}
+use Rattle.reader.specs.Letters.{forwardOf, againstOf}
+use Rattle.reader.specs.declared.Letters.{Letters}
+use Rattle.reader.specs.declared.Symbol.{Symbol as Symbol-read}
+use Rattle.reader.specs.declared.Symbol.the-variants.{Read, Missing}
 use Rattle.reader.specs.declared.Spot.{Spot}
 use Rattle.reader.specs.declared.Parsed.{Parsed}
 use Rattle.reader.specs.declared.Parsed.the-variants.{Got, Fault}
@@ -51,6 +56,17 @@ pub data Done (k : Expr → List ℕ → Parse) (s : List ℕ) (at n : ℕ) (bef
   none : x ≡ fault → Done k s at n before after x Fault
   some : {q : Spot} (e : Expr) → x ≡ k e (drop (q .at) s) → Found s at n before after e q → Done k s at n before after x (Got q)
 
+pub record StandsFor (s : List ℕ) (at : ℕ) (x : Parse) (y : Symbol) (q : Letters) : Type 0 where
+  pub is : x ≡ got (symbol y) (drop (q .at) s)
+  pub past : at < q .at
+  pub inside : q .at ≤ length s
+  pub forward : q .forward ≡ forwardOf (standsFor y)
+  pub against : q .against ≡ againstOf (standsFor y)
+
+pub data Stands (s : List ℕ) (at : ℕ) (x : Parse) : Symbol-read → Type 0 where
+  missing : x ≡ fault → Stands s at x Missing
+  stands : {q : Letters} (y : Symbol) → StandsFor s at x y q → Stands s at x (Read q)
+
 pub record Asks (s : List ℕ) (at n : ℕ) (code : List ℕ) : Type 0 where
   pub inside : at ≤ length s
   pub behind : n ≤ at
@@ -59,6 +75,10 @@ pub record Asks (s : List ℕ) (at n : ℕ) (code : List ℕ) : Type 0 where
 pub record Fit (s : List ℕ) (q : Spot) : Type 0 where
   pub inside : q .at ≤ length s
   pub flat : q .depth ≤ q .at
+
+-- a number that no code has
+abbrev pub no-mark : ℕ
+no-mark = 6
 
 abbrev pub Fits : List ℕ → Parsed → Type 0
 Fits s Fault = Unit {0}
@@ -71,7 +91,11 @@ RoomToJoin space (Got p) (Got q) = (q .end < space) × (p .letters + q .letters 
 
 abbrev pub RoomToWrap : ℕ → ℕ → ℕ → Parsed → Type 0
 RoomToWrap space x passed Fault = Unit {0}
-RoomToWrap space x passed (Got q) = 0 < x → (q .end < space) × (q .at + passed ≤ space)
+RoomToWrap space x passed (Got q) = (x ≡ no-mark → ⊥) → (q .end < space) × (q .at + passed ≤ space)
+
+abbrev pub RoomToWrite : ℕ → ℕ → Symbol-read → Type 0
+RoomToWrite space n Missing = Unit {0}
+RoomToWrite space n (Read q) = n < space
 
 pub data Infix : Type 0 where
   of-alternatives of-parts : Infix
@@ -123,19 +147,19 @@ abbrev pub Since : Infix → List ℕ → ℕ → ℕ → Parsed → List ℕ �
 Since o s at n first₀ code₀ first code = (before : List ℕ) → Done got s at n before code₀ (readOf o (drop at s)) first₀ → Done (moreOf o) s at n before code (wholeOf o (drop at s)) first
 
 abbrev pub markNumber : ℕ → ℕ
-markNumber c = pick (eqb c asterisk) op-star (pick (eqb c plus-sign) op-plus (pick (eqb c question-mark) op-optional 0))
+markNumber c = pick (eqb c asterisk) op-star (pick (eqb c plus-sign) op-plus (pick (eqb c question-mark) op-optional no-mark))
 
 abbrev pub markOf : List ℕ → Parsed → ℕ
-markOf s Fault = 0
+markOf s Fault = no-mark
 markOf s (Got q) = markNumber (firstByte (drop (q .at) s))
 
 abbrev pub wrap : ℕ → ℕ → Parsed → Parsed
 wrap x passed Fault = Fault
-wrap x passed (Got q) = pick (eqb x 0) (Got q) (Got (record { at = q .at + passed; end = q .end + 1; letters = q .letters; depth = q .depth }))
+wrap x passed (Got q) = pick (eqb x no-mark) (Got q) (Got (record { at = q .at + passed; end = q .end + 1; letters = q .letters; depth = q .depth }))
 
 abbrev pub wrapCode : ℕ → Parsed → List ℕ → List ℕ
 wrapCode x Fault code = code
-wrapCode x (Got q) code = pick (eqb x 0) code (set code (q .end) x)
+wrapCode x (Got q) code = pick (eqb x no-mark) code (set code (q .end) x)
 
 abbrev pub Closes : List ℕ → Parsed → Parsed → Type 0
 Closes s r q = (at n : ℕ) (before code : List ℕ) (x : Parse) → Done got s (at + 1) n before code x r → Done got s at n before code (then x readClose) q

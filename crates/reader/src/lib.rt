@@ -1,31 +1,85 @@
 // The expression reader: alternatives, sequences and parts read one another through a group, over lent bytes and a position.
 // What is written is the postfix code of the expression, in its own numbers. A code is no longer than its text, so there is always room.
 ghost use mathlib.Core.Path.{_≡_};
-ghost use Prim.Native.Nat.{_+_, _<_, max};
+ghost use mathlib.Core.List.{List};
+ghost use Prim.Native.Nat.{ℕ, _+_, _<_, max};
 ghost use lib.ListN.{length, drop, set, replicate};
 ghost use Rattle.book.specs.Causes.{maxBytes};
-ghost use Rattle.paths.specs.Descent.{got, firstByte, readAlternatives, readParts, readPart, readAtom};
+ghost use Rattle.paths.specs.Grammar.{open-group};
+ghost use Rattle.paths.specs.Descent.{Parse, got, firstByte, readAlternatives, readParts, readPart, readAtom};
+ghost use Rattle.reader.specs.Code.{itemOf, lettersNumber};
 ghost use Rattle.reader.specs.Reads.{Reads};
 ghost use Rattle.reader.specs.declared.Answer.the-variants.{Refused};
-ghost use Rattle.reader.specs.Progress.{Done, Asks, Fits, RoomToJoin, RoomToWrap, Joins, Closes, comesNext, spotOf, markOf, wrap, wrapCode};
+ghost use Rattle.reader.specs.Progress.{Done, Stands, Asks, Fits, RoomToJoin, RoomToWrap, RoomToWrite, Joins, Closes, comesNext, spotOf, markOf, wrap, wrapCode};
 
-// The numbers of a code: a label is its own number; then the operators, those on one operand first. `code` of specs/Code.antt has what they mean.
-pub const INVERSE: u8 = 26;
+// The numbers of a code: the operators, those on one operand first, then the symbols. `item_of` says what a number is.
+const INVERSE: u64 = 0;
 
-pub const STAR: u8 = 27;
+const STAR: u64 = 1;
 
-pub const PLUS: u8 = 28;
+const PLUS: u64 = 2;
 
-pub const OPTIONAL: u8 = 29;
+const OPTIONAL: u64 = 3;
 
-pub const ALTERNATIVE: u8 = 30;
+const ALTERNATIVE: u64 = 4;
 
-pub const SEQUENCE: u8 = 31;
+const SEQUENCE: u64 = 5;
 
-// The first number that is no label's, and the first of an operator on two operands.
-pub const FIRST_OPERATOR: u8 = INVERSE;
+// A number that no code has.
+const NO_MARK: u64 = 6;
 
-pub const FIRST_BINARY: u8 = ALTERNATIVE;
+// The first number of a symbol, which stands for no letter; and how many sets of labels there are.
+const FIRST_LETTERS: u64 = 8;
+
+const LABEL_SETS: u64 = 67108864;
+
+// What a number of a code is: the letters that a symbol stands for, or an operator. The letters are two sets of labels, of 26 bits: bit l of the
+// first is set if the letter l is one of them plain, so that links of the label l are crossed forward; bit l of the second if it is inverted, so that
+// they are crossed against their sense.
+pub enum Item {
+    Letters(u32, u32),
+    Inverse,
+    Star,
+    Plus,
+    Optional,
+    Alternative,
+    Sequence,
+}
+
+pub fn item_of(number: u64) -> Item
+    ensures { λ r. ⌜ r ≡ itemOf number ⌝ }
+{
+    if number == INVERSE {
+        return Item::Inverse;
+    }
+    if number == STAR {
+        return Item::Star;
+    }
+    if number == PLUS {
+        return Item::Plus;
+    }
+    if number == OPTIONAL {
+        return Item::Optional;
+    }
+    if number == ALTERNATIVE {
+        return Item::Alternative;
+    }
+    if number < FIRST_LETTERS {
+        return Item::Sequence;
+    }
+    let letters = number - FIRST_LETTERS;
+    Item::Letters(
+        (letters % LABEL_SETS) as u32,
+        (letters / LABEL_SETS % LABEL_SETS) as u32,
+    )
+}
+
+// The number of a symbol that stands for these letters.
+fn letters_number(forward: u32, against: u32) -> u64
+    ensures { λ r. ⌜ r ≡ lettersNumber forward against ⌝ }
+{
+    FIRST_LETTERS + forward as u64 + against as u64 * LABEL_SETS
+}
 
 // The numbers of the causes, in the type of this crate's answers.
 const NO_EXPRESSION: u8 = book::NO_EXPRESSION as u8;
@@ -48,6 +102,19 @@ enum Parsed {
     Fault,
 }
 
+// The letters of a symbol that was read, as two sets of labels, and where it ends in the text.
+struct Letters {
+    at: usize,
+    forward: u32,
+    against: u32,
+}
+
+// What is read where a symbol may stand.
+enum Symbol {
+    Read(Letters),
+    Missing,
+}
+
 // The byte at a place, or 0 at the end.
 fn peek(s: &[u8], at: usize) -> u8
     ensures { λ r. ⌜ r ≡ firstByte (drop at (now (s .entry))) ⌝ }
@@ -56,7 +123,7 @@ fn peek(s: &[u8], at: usize) -> u8
 }
 
 // One number more at the end of the code.
-fn push(code: &mut [u8], n: usize, x: u8) -> usize
+fn push(code: &mut [u64], n: usize, x: u64) -> usize
     requires { ⌜ n < length (now code) ⌝ }
     ensures { λ r. ⌜ (r ≡ n + 1) × (now (code .exit) ≡ set (now (code .entry)) n x) ⌝ }
 {
@@ -96,7 +163,7 @@ fn ends_at(r: Parsed) -> Spot
 }
 
 // What was read first, and what was read next after an operator's byte, as one expression.
-fn joined(code: &mut [u8], first: Parsed, next: Parsed, x: u8) -> Parsed
+fn joined(code: &mut [u64], first: Parsed, next: Parsed, x: u64) -> Parsed
     requires { ⌜ RoomToJoin (length (now code)) first next ⌝ }
     ensures { λ r. ⌜ Joins x first next (now (code .entry)) (now (code .exit)) r ⌝ }
 {
@@ -116,7 +183,7 @@ fn joined(code: &mut [u8], first: Parsed, next: Parsed, x: u8) -> Parsed
 }
 
 // Sequences, with | between them.
-fn alternatives(s: &[u8], at: usize, code: &mut [u8], n: usize) -> Parsed
+fn alternatives(s: &[u8], at: usize, code: &mut [u64], n: usize) -> Parsed
     requires { ⌜ Asks (now s) at n (now code) ⌝ }
     ensures { λ r. ⌜ Done got (now (s .entry)) at n (now (code .entry)) (now (code .exit)) (readAlternatives (drop at (now (s .entry)))) r ⌝ }
 {
@@ -130,7 +197,7 @@ fn alternatives(s: &[u8], at: usize, code: &mut [u8], n: usize) -> Parsed
 }
 
 // Parts, with / between them.
-fn sequence(s: &[u8], at: usize, code: &mut [u8], n: usize) -> Parsed
+fn sequence(s: &[u8], at: usize, code: &mut [u64], n: usize) -> Parsed
     requires { ⌜ Asks (now s) at n (now code) ⌝ }
     ensures { λ r. ⌜ Done got (now (s .entry)) at n (now (code .entry)) (now (code .exit)) (readParts (drop at (now (s .entry)))) r ⌝ }
 {
@@ -144,7 +211,7 @@ fn sequence(s: &[u8], at: usize, code: &mut [u8], n: usize) -> Parsed
 }
 
 // An optional ^, then a letter or a group, then at most one mark. The mark belongs to the letter or group, and the ^ to both.
-fn part(s: &[u8], at: usize, code: &mut [u8], n: usize) -> Parsed
+fn part(s: &[u8], at: usize, code: &mut [u64], n: usize) -> Parsed
     requires { ⌜ Asks (now s) at n (now code) ⌝ }
     ensures { λ r. ⌜ Done got (now (s .entry)) at n (now (code .entry)) (now (code .exit)) (readPart (drop at (now (s .entry)))) r ⌝ }
 {
@@ -160,37 +227,60 @@ fn part(s: &[u8], at: usize, code: &mut [u8], n: usize) -> Parsed
     }
 }
 
-// A letter, or a group: inside its parentheses a whole expression again.
-fn atom(s: &[u8], at: usize, code: &mut [u8], n: usize) -> Parsed
+// A symbol, or a group: inside its parentheses a whole expression again.
+fn atom(s: &[u8], at: usize, code: &mut [u64], n: usize) -> Parsed
     requires { ⌜ Asks (now s) at n (now code) ⌝ }
     ensures { λ r. ⌜ Done got (now (s .entry)) at n (now (code .entry)) (now (code .exit)) (readAtom (drop at (now (s .entry)))) r ⌝ }
 {
-    let c = peek(s, at);
-    if c == b'(' {
+    if peek(s, at) == b'(' {
         let r = alternatives(s, at + 1, code, n);
         return closed(s, r);
     }
+    let x = symbol_at(s, at);
+    written(code, n, x)
+}
+
+// A letter, where no group begins.
+fn symbol_at(s: &[u8], at: usize) -> Symbol
+    ensures { λ x. ⌜ ((firstByte (drop at (now (s .entry))) ≡ open-group → ⊥) → Stands (now (s .entry)) at (readAtom (drop at (now (s .entry)))) x) ⌝ }
+{
+    let c = peek(s, at);
     if c < b'a' {
-        return Parsed::Fault;
+        return Symbol::Missing;
     }
     if b'z' < c {
-        return Parsed::Fault;
+        return Symbol::Missing;
     }
-    let end = push(code, n, c - b'a');
-    Parsed::Got(Spot {
+    Symbol::Read(Letters {
         at: at + 1,
+        forward: 1 << (c - b'a'),
+        against: 0,
+    })
+}
+
+// A symbol's number written.
+fn written(code: &mut [u64], n: usize, x: Symbol) -> Parsed
+    requires { ⌜ RoomToWrite (length (now code)) n x ⌝ }
+    ensures { λ r. ⌜ ((s : List ℕ) (at : ℕ) (y : Parse) → Stands s at y x → Done got s at n (now (code .entry)) (now (code .exit)) y r) ⌝ }
+{
+    let Symbol::Read(q) = x else {
+        return Parsed::Fault;
+    };
+    let end = push(code, n, letters_number(q.forward, q.against));
+    Parsed::Got(Spot {
+        at: q.at,
         end,
         letters: 1,
         depth: 0,
     })
 }
 
-// The number of the mark's operator that comes after what was read, or 0 if no mark does.
-fn mark_after(s: &[u8], r: Parsed) -> u8
+// The number of the mark's operator that comes after what was read, or NO_MARK if none does.
+fn mark_after(s: &[u8], r: Parsed) -> u64
     ensures { λ x. ⌜ x ≡ markOf (now (s .entry)) r ⌝ }
 {
     let Parsed::Got(p) = r else {
-        return 0;
+        return NO_MARK;
     };
     let c = peek(s, p.at);
     if c == b'*' {
@@ -202,18 +292,18 @@ fn mark_after(s: &[u8], r: Parsed) -> u8
     if c == b'?' {
         return OPTIONAL;
     }
-    0
+    NO_MARK
 }
 
-// What was read with the operator of number x on it, its text `passed` bytes longer; as it is if x is 0.
-fn wrapped(code: &mut [u8], r: Parsed, x: u8, passed: usize) -> Parsed
+// What was read with the operator of number x on it, its text `passed` bytes longer; as it is if x is NO_MARK.
+fn wrapped(code: &mut [u64], r: Parsed, x: u64, passed: usize) -> Parsed
     requires { ⌜ RoomToWrap (length (now code)) x passed r ⌝ }
     ensures { λ q. ⌜ (q ≡ wrap x passed r) × (now (code .exit) ≡ wrapCode x r (now (code .entry))) ⌝ }
 {
     let Parsed::Got(p) = r else {
         return Parsed::Fault;
     };
-    if x == 0 {
+    if x == NO_MARK {
         return r;
     }
     let end = push(code, p.end, x);
@@ -254,7 +344,7 @@ pub enum Answer {
 // An answer with the code: zeros follow it, and stand alone with a refusal.
 pub struct Reading {
     pub answer: Answer,
-    pub code: [u8; book::MAX_BYTES],
+    pub code: [u64; book::MAX_BYTES],
 }
 
 // A refusal, with no code.
@@ -263,7 +353,7 @@ fn refused(number: u8) -> Reading
 {
     Reading {
         answer: Answer::Refused(number),
-        code: [0u8; book::MAX_BYTES],
+        code: [0u64; book::MAX_BYTES],
     }
 }
 
@@ -274,7 +364,7 @@ fn whole(s: &[u8]) -> Reading
     if book::MAX_BYTES < s.len() {
         return refused(TOO_MANY_BYTES);
     }
-    let mut code = [0u8; book::MAX_BYTES];
+    let mut code = [0u64; book::MAX_BYTES];
     let r = alternatives(s, 0, &mut code, 0);
     let Parsed::Got(q) = r else {
         return refused(NO_EXPRESSION);
