@@ -1,5 +1,6 @@
 -- Laws of the code of an expression of the grammar.
 --   item-letters    a symbol's number is its letters
+--   letters-number  and no number below the first symbol's is any
 --   run-code        run on a stack of any kind of value, it puts the expression's value on top
 --   runs-code       no number lacks an operand, and at most 2 × depth + 3 values are on the stack at once, besides those that were there
 --   few-places      the same of the stack after i numbers: 2 × depth + 3 places are enough
@@ -9,10 +10,13 @@
 -- Assumes nothing.
 use mathlib.Core.Path.{_≡_, refl, ap, ap₂, _∙_}
 use mathlib.Core.List.{List, [], _∷_, _++_}
+use mathlib.Core.Bool.{Bool, true, false}
 use Prim.Native.Nat.{ℕ, zero, suc, _+_, _-_, _*_, _/_, _%_, _^_, _<_, _≤_}
 use native.Mathlib.Omega.{arith}
 use lib.ListN.{length, take, getD, length-append}
-use borrow.Author.Tests.{ne-eqb, le-ltb}
+use lib.Dec.{eqb, ltb}
+use borrow.Author.Tests.{ne-eqb, le-ltb, ltb-false}
+use Rattle.book.specs.Basics.{pick}
 use Rattle.book.specs.Causes.{labels}
 use Rattle.paths.specs.Expressions.{Symbol, letter, standsFor, Expr, symbol, group, inverse, star, plus, optional, alternative, sequence, letters, depth}
 use Rattle.paths.specs.Grammar.{Rule, alternatives, parts, part, marked, atom, Is, one-alternative, more-alternatives, one-part, more-parts, plain, inverted, bare, with-star, with-plus, with-optional, is-letter, is-group, bar, slash, asterisk, plus-sign, question-mark, close-group}
@@ -51,6 +55,22 @@ item-letters forward against h g =
       e,
     )
     (ap₂ Letters (p .0) (p .1))
+
+-- by the tests in turn
+no-letters : (b : Bool) {x y : Item} {forward against : ℕ} → pick b x y ≡ Letters forward against → (x ≡ Letters forward against → ⊥) → (b ≡ false) × (y ≡ Letters forward against)
+no-letters true h n = absurd (n h)
+no-letters false h n = (refl, h)
+
+pub letters-number : (i : ℕ) {forward against : ℕ} → itemOf i ≡ Letters forward against → first-letters ≤ i
+unfolding itemOf
+letters-number i h =
+    let a = no-letters (eqb i op-inverse) h (λ e. let z : _≡_ {A = ℕ} 0 1 = cc in omega arith) in
+    let b = no-letters (eqb i op-star) (a .1) (λ e. let z : _≡_ {A = ℕ} 0 1 = cc in omega arith) in
+    let c = no-letters (eqb i op-plus) (b .1) (λ e. let z : _≡_ {A = ℕ} 0 1 = cc in omega arith) in
+    let d = no-letters (eqb i op-optional) (c .1) (λ e. let z : _≡_ {A = ℕ} 0 1 = cc in omega arith) in
+    let f = no-letters (eqb i op-alternative) (d .1) (λ e. let z : _≡_ {A = ℕ} 0 1 = cc in omega arith) in
+    let g = no-letters (ltb i first-letters) (f .1) (λ e. let z : _≡_ {A = ℕ} 0 1 = cc in omega arith) in
+    ltb-false i first-letters (g .0)
 
 abbrev symbolNumber : Symbol → ℕ
 symbolNumber s = lettersNumber (forwardOf (standsFor s)) (againstOf (standsFor s))

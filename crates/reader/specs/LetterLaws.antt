@@ -3,16 +3,19 @@
 --   label-set-tell  a number of 26 bits that has the labels of f is their set
 --   letters-in      the two sets of a set of letters have its letters, as far as there are labels
 --   letters-past    and no others
+--   letters-all     so they are the set, if that has no others
+--   letter-past     a letter stands for no others
 --   letter-forward, letter-against
 --                   those of a letter alone
 -- Assumes nothing.
-use mathlib.Core.Path.{_≡_, refl, sym, ap, _∙_}
+use mathlib.Core.Path.{_≡_, refl, sym, ap, _∙_, fun-ext}
 use mathlib.Core.Bool.{Bool, true, false, not, _&&_}
 use Prim.Native.Nat.{ℕ, _^_, _<_, _≤_}
 use native.Mathlib.Omega.{arith}
 use native.Mathlib.Decide.{decLt}
 use lib.Dec.{eqb}
 use lib.Pow.{pow-lt, pow-pos}
+use borrow.Author.Tests.{ne-eqb}
 use Rattle.book.specs.Basics.{pick, bit}
 use Rattle.book.specs.Causes.{labels}
 use Rattle.k2.specs.Bits.{digit, value}
@@ -53,14 +56,21 @@ letters-past f a h = go (a .inverted)
     go true = ap (λ (d : ℕ). eqb d 1) (digit-big labels (a .label) (againstOf f) (label-set-lt (λ l. f (record { label = l; inverted = true }))) h)
     go false = ap (λ (d : ℕ). eqb d 1) (digit-big labels (a .label) (forwardOf f) (label-set-lt (λ l. f (record { label = l; inverted = false }))) h)
 
--- a letter alone
-and-true : (b : Bool) → b && true ≡ b
-and-true true = refl
-and-true false = refl
+pub letters-all : (f : Letter → Bool) → ((a : Letter) → labels ≤ a .label → f a ≡ false) → lettersIn (forwardOf f) (againstOf f) ≡ f
+letters-all f h = fun-ext (λ a. go a (decLt (a .label) labels))
+  where
+    go : (a : Letter) → Dec (a .label < labels) → lettersIn (forwardOf f) (againstOf f) a ≡ f a
+    go a (yes l) = letters-in f a l
+    go a (no l) = let z : labels ≤ a .label = omega (arith, l) in letters-past f a z ∙ sym (h a z)
 
+-- a letter alone
 and-false : (b : Bool) → b && false ≡ false
 and-false true = refl
 and-false false = refl
+
+pub letter-past : (k : ℕ) → k < labels → (a : Letter) → labels ≤ a .label → standsFor (letter k) a ≡ false
+unfolding standsFor
+letter-past k h a l = ap (λ (b : Bool). b && not (a .inverted)) (ne-eqb (a .label) k (λ e. omega arith))
 
 pub letter-forward : (k : ℕ) → k < labels → forwardOf (standsFor (letter k)) ≡ 2 ^ k
 unfolding standsFor

@@ -6,18 +6,14 @@ ghost use Rattle.reader.specs.declared.Answer.the-variants.{Accepted};
 use reader::Answer;
 use reader::Reading;
 
-fn wide(x: u8) -> u64 {
-    x as u64
-}
-
 // The first n numbers, each after a space.
-fn write_numbers(code: &[u8], n: usize)
+fn write_numbers(code: &[u64], n: usize)
     requires { ⌜ n ≤ length (now code) ⌝ }
 {
     let mut i = 0;
     while i < n {
         io::write_all(libc::STDOUT_FILENO, b" ");
-        io::print_decimal(libc::STDOUT_FILENO, wide(code[i]));
+        io::print_decimal(libc::STDOUT_FILENO, code[i]);
         i += 1;
     }
 }
@@ -34,7 +30,7 @@ fn write_answer(r: Reading)
         }
         Answer::Refused(k) => {
             io::write_all(libc::STDOUT_FILENO, b": refused ");
-            io::print_decimal(libc::STDOUT_FILENO, wide(k));
+            io::print_decimal(libc::STDOUT_FILENO, k as u64);
         }
     }
     io::write_all(libc::STDOUT_FILENO, b"\n");
