@@ -1,3 +1,4 @@
 pub mod Steps
+pub mod Symbols
 pub mod Joining
 pub mod Answers

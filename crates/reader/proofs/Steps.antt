@@ -5,7 +5,6 @@
 --   closes, not-closed, none-closed
 --                            the ) of a group
 --   writes, writes-none      a symbol with its number
---   letter-there, no-atom    a letter, or no atom
 --   group-is, hat-is, plain-is
 --                            what the descent reads at ( and at ^
 --   fit, has-room, has-place, room-for-mark, room-for-hat, room-for-symbol, asks-kept, asks-next-byte, fits-after
@@ -255,36 +254,6 @@ has-place {space} {n} e h = subst (RoomToWrite space n) e h
 pub room-for-symbol : {s : List ℕ} {at n : ℕ} {a : List ℕ} {x : Parse} {r : Symbol-read} → Asks s at n a → Stands s at x r → RoomToWrite (length a) n r
 room-for-symbol k (missing h) = tt
 room-for-symbol k (stands y h) = omega (arith, h .past, h .inside, k .behind, k .space)
-
--- `1 << r` at a width of 32
-pub one-shl-32 : (r : ℕ) → r < 32 → (1 * 2 ^ r) % 2 ^ 32 ≡ 2 ^ r
-one-shl-32 r h = shl-exact 1 r 32 (lit< tt) (omega arith) ∙ one-mul (2 ^ r)
-
--- a letter
-pub letter-there : {s : List ℕ} {at : ℕ} (c : ℕ) → c ≡ firstByte (drop at s) → letter-a ≤ c → c < letter-a + labels → (forward : ℕ) → forward ≡ 2 ^ (c - letter-a)
-    → Stands s at (readAtom (drop at s)) (Read (record { at = at + 1; forward = forward; against = 0 }))
-letter-there {s} {at} c v low high forward is =
-    let is-one : (leb letter-a c && ltb c (letter-a + labels)) ≡ true = rw (le-leb letter-a c low, lt-ltb c (letter-a + labels) high) in
-    let byte : eqb (firstByte (drop at s)) open-group ≡ false = ne-eqb (firstByte (drop at s)) open-group (λ w. omega arith) in
-    let within = there s at c (sym v) (omega arith) in
-    stands {q = record { at = at + 1; forward = forward; against = 0 }} (letter (c - letter-a)) (record {
-      is = atom-letter (drop at s) byte (ap isLetter (sym v) ∙ is-one) ∙ ap (λ (t : ℕ). got (symbol (letter (t - letter-a))) (rest (drop at s))) (sym v) ∙ ap (got (symbol (letter (c - letter-a)))) (rest-drop s at);
-      past = omega arith;
-      inside = omega arith;
-      forward = is ∙ sym (letter-forward (c - letter-a) (omega arith));
-      against = sym (letter-against (c - letter-a));
-    })
-
--- a byte that begins no atom
-not-letter : (c : ℕ) → (c < letter-a) ⊎ (letter-a + labels ≤ c) → isLetter c ≡ false
-not-letter c h = ⊎-elim (λ k. ap (λ (b : Bool). b && ltb c (letter-a + labels)) (lt-leb letter-a c k)) (λ k. go (leb letter-a c) (ltb c (letter-a + labels)) (le-ltb c (letter-a + labels) k)) h
-  where
-    go : (a b : Bool) → b ≡ false → (a && b) ≡ false
-    go true b e = e
-    go false b e = refl
-
-pub no-atom : {s : List ℕ} {at : ℕ} (c : ℕ) → c ≡ firstByte (drop at s) → (firstByte (drop at s) ≡ open-group → ⊥) → (c < letter-a) ⊎ (letter-a + labels ≤ c) → Stands s at (readAtom (drop at s)) Missing
-no-atom {s} {at} c v k h = missing (atom-fault (drop at s) (ne-eqb _ _ k) (ap isLetter (sym v) ∙ not-letter c h))
 
 -- what the descent reads at ( and at ^
 pub group-is : (s : List ℕ) (at : ℕ) → firstByte (drop at s) ≡ open-group → readAtom (drop at s) ≡ then (readAlternatives (drop (at + 1) s)) readClose

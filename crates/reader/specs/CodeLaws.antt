@@ -18,8 +18,8 @@ use lib.Dec.{eqb, ltb}
 use borrow.Author.Tests.{ne-eqb, le-ltb, ltb-false}
 use Rattle.book.specs.Basics.{pick}
 use Rattle.book.specs.Causes.{labels}
-use Rattle.paths.specs.Expressions.{Symbol, letter, standsFor, Expr, symbol, group, inverse, star, plus, optional, alternative, sequence, letters, depth}
-use Rattle.paths.specs.Grammar.{Rule, alternatives, parts, part, marked, atom, Is, one-alternative, more-alternatives, one-part, more-parts, plain, inverted, bare, with-star, with-plus, with-optional, is-letter, is-group, bar, slash, asterisk, plus-sign, question-mark, close-group}
+use Rattle.paths.specs.Expressions.{Symbol, letter, noneOf, standsFor, Expr, symbol, group, inverse, star, plus, optional, alternative, sequence, letters, depth}
+use Rattle.paths.specs.Grammar.{Rule, alternatives, parts, part, marked, atom, Is, one-alternative, more-alternatives, one-part, more-parts, plain, inverted, bare, with-star, with-plus, with-optional, is-letter, is-negated, is-set, is-group, bar, slash, asterisk, plus-sign, question-mark, close-group}
 use Rattle.reader.specs.declared.Item.{Item}
 use Rattle.reader.specs.declared.Item.the-variants.{Letters}
 use Rattle.reader.specs.Letters.{forwardOf, againstOf}
@@ -110,6 +110,8 @@ module _ {D : Type 0} (A : Algebra D) where
   run-code (with-plus {e = e} d) st = run-one (code e) op-plus st _ (run-code d st)
   run-code (with-optional {e = e} d) st = run-one (code e) op-optional st _ (run-code d st)
   run-code (is-letter {k} h) st = does-symbol (letter k) st
+  run-code (is-negated {a = a} m) st = does-symbol (noneOf (a ∷ [])) st
+  run-code (is-set {w = w} m) st = does-symbol (noneOf w) st
   run-code (is-group d) st = run-code d st
 
   -- one code after another
@@ -168,6 +170,8 @@ module _ {D : Type 0} (A : Algebra D) where
       let v : D = value A e in
       runs-one (code e) op-optional st v (run-code d st) (runs-code d k st h) (runs-number k op-optional (v ∷ st) st (A .maybe v) refl (omega arith) (omega arith) (omega arith))
   runs-code (is-letter {k = j} b) k st h = runs-symbol k st (letter j) (omega arith)
+  runs-code (is-negated {a = a} m) k st h = runs-symbol k st (noneOf (a ∷ [])) (omega arith)
+  runs-code (is-set {w = w} m) k st h = runs-symbol k st (noneOf w) (omega arith)
   runs-code (is-group d) k st h = runs-code d k st (omega arith)
 
   -- after i numbers
@@ -214,4 +218,6 @@ code-short (with-star {s} {e} d) = omega (arith, code-short d, length-append s (
 code-short (with-plus {s} {e} d) = omega (arith, code-short d, length-append s (plus-sign ∷ []), length-append (code e) (op-plus ∷ []))
 code-short (with-optional {s} {e} d) = omega (arith, code-short d, length-append s (question-mark ∷ []), length-append (code e) (op-optional ∷ []))
 code-short (is-letter h) = omega arith
+code-short (is-negated m) = omega arith
+code-short (is-set m) = omega arith
 code-short (is-group {s} d) = omega (arith, code-short d, length-append s (close-group ∷ []))

@@ -4,25 +4,27 @@
 --   letters-in      the two sets of a set of letters have its letters, as far as there are labels
 --   letters-past    and no others
 --   letters-all     so they are the set, if that has no others
---   letter-past     a letter stands for no others
+--   letter-past, none-past
+--                   a letter and a negated set stand for no others
 --   letter-forward, letter-against
 --                   those of a letter alone
 -- Assumes nothing.
 use mathlib.Core.Path.{_≡_, refl, sym, ap, _∙_, fun-ext}
+use mathlib.Core.List.{List}
 use mathlib.Core.Bool.{Bool, true, false, not, _&&_}
 use Prim.Native.Nat.{ℕ, _^_, _<_, _≤_}
 use native.Mathlib.Omega.{arith}
 use native.Mathlib.Decide.{decLt}
 use lib.Dec.{eqb}
 use lib.Pow.{pow-lt, pow-pos}
-use borrow.Author.Tests.{ne-eqb}
-use Rattle.book.specs.Basics.{pick, bit}
+use borrow.Author.Tests.{ne-eqb, le-ltb}
+use Rattle.book.specs.Basics.{pick, bit, has}
 use Rattle.book.specs.Causes.{labels}
 use Rattle.k2.specs.Bits.{digit, value}
 use Rattle.k2.specs.BitLaws.{value-lt, value-digit}
 use Rattle.k2.specs.DigitLaws.{digit-none, digit-pow, digit-big, digits-tell}
 use Rattle.k2.specs.PairSetLaws.{bit-small}
-use Rattle.paths.specs.Expressions.{Letter, letter, standsFor}
+use Rattle.paths.specs.Expressions.{Letter, letter, noneOf, sameLetter, hasSense, standsFor}
 use Rattle.reader.specs.Letters.{labelSet, forwardOf, againstOf, lettersIn}
 
 pub label-set-lt : (f : ℕ → Bool) → labelSet f < 2 ^ labels
@@ -71,6 +73,10 @@ and-false false = refl
 pub letter-past : (k : ℕ) → k < labels → (a : Letter) → labels ≤ a .label → standsFor (letter k) a ≡ false
 unfolding standsFor
 letter-past k h a l = ap (λ (b : Bool). b && not (a .inverted)) (ne-eqb (a .label) k (λ e. omega arith))
+
+pub none-past : (w : List Letter) (a : Letter) → labels ≤ a .label → standsFor (noneOf w) a ≡ false
+unfolding standsFor
+none-past w a l = ap (λ (b : Bool). b && (hasSense (a .inverted) w && not (has sameLetter a w))) (le-ltb (a .label) labels l)
 
 pub letter-forward : (k : ℕ) → k < labels → forwardOf (standsFor (letter k)) ≡ 2 ^ k
 unfolding standsFor

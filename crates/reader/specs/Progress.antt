@@ -5,6 +5,11 @@
 --   Done k s at n before after x r
 --                   r is what x is, where k is what is left to do: `got` if nothing is
 --   Stands s at x r r is the symbol that x is: it is read from the place at on, and its letters are those that it stands for
+--   labelAt c       the label of a letter's byte, as a set; the empty set of any other byte
+--   Marks b w x     the set x has the labels of those members w of a negated set that have the sense b; Marked w q says so of both
+--   MemberAt s at w r
+--                   r is the member at the place at, if there is one, put to the members w
+--   othersOf x      the labels that a negated set stands for in a sense where its members have the labels x: none if it has no member of that sense
 --   Asks s at n code
 --                   what an inner reader asks: the code is not ahead of the text, and is no shorter
 --   Fits, RoomToJoin, RoomToWrap, RoomToWrite
@@ -24,17 +29,19 @@
 --   Closes s r q    q is the group whose inside is r
 -- Assumes nothing: these are definitions.
 use mathlib.Core.Path.{_≡_}
-use mathlib.Core.List.{List}
+use mathlib.Core.List.{List, [], _∷_, _++_}
 use mathlib.Core.Bool.{Bool, true, false}
-use Prim.Native.Nat.{ℕ, _+_, _-_, _<_, _≤_}
-use lib.Dec.{eqb}
+use Prim.Native.Nat.{ℕ, _+_, _-_, _^_, _<_, _≤_}
+use lib.Dec.{eqb, ltb}
 use lib.ListN.{length, drop, set}
 use lib.Seq.{sets}
-use Rattle.book.specs.Basics.{pick}
-use Rattle.paths.specs.Expressions.{Symbol, standsFor, Expr, symbol, alternative, sequence, letters, depth}
-use Rattle.paths.specs.Grammar.{bar, slash, asterisk, plus-sign, question-mark}
-use Rattle.paths.specs.Descent.{Parse, got, fault, firstByte, then, readClose, readAlternatives, readMoreAlternatives, readParts, readMoreParts, readPart}
-use Rattle.reader.specs.Code.{op-star, op-plus, op-optional, op-alternative, op-sequence, code}
+use Rattle.book.specs.Basics.{pick, bit, has}
+use Rattle.book.specs.Causes.{labels}
+use Rattle.k2.specs.Bits.{digit}
+use Rattle.paths.specs.Expressions.{Letter, Symbol, sameLetter, hasSense, standsFor, Expr, symbol, alternative, sequence, letters, depth}
+use Rattle.paths.specs.Grammar.{bar, slash, asterisk, plus-sign, question-mark, letter-a}
+use Rattle.paths.specs.Descent.{Parse, got, fault, firstByte, isLetter, then, readMember, readClose, readAlternatives, readMoreAlternatives, readParts, readMoreParts, readPart}
+use Rattle.reader.specs.Code.{op-star, op-plus, op-optional, op-alternative, op-sequence, label-sets, code}
 use Rattle.reader.specs.Letters.{forwardOf, againstOf}
 use Rattle.reader.specs.declared.Letters.{Letters}
 use Rattle.reader.specs.declared.Symbol.{Symbol as Symbol-read}
@@ -66,6 +73,30 @@ pub record StandsFor (s : List ℕ) (at : ℕ) (x : Parse) (y : Symbol) (q : Let
 pub data Stands (s : List ℕ) (at : ℕ) (x : Parse) : Symbol-read → Type 0 where
   missing : x ≡ fault → Stands s at x Missing
   stands : {q : Letters} (y : Symbol) → StandsFor s at x y q → Stands s at x (Read q)
+
+abbrev pub labelAt : ℕ → ℕ
+labelAt c = pick (isLetter c) (2 ^ (c - letter-a)) 0
+
+pub record Marks (b : Bool) (w : List Letter) (x : ℕ) : Type 0 where
+  pub below : x < label-sets
+  pub marked : (l : ℕ) → l < labels → digit x l ≡ bit (has sameLetter (record { label = l; inverted = b }) w)
+  pub some : hasSense b w ≡ ltb 0 x
+
+abbrev pub Marked : List Letter → Letters → Type 0
+Marked w q = Marks false w (q .forward) × Marks true w (q .against)
+
+pub record MemberIs (s : List ℕ) (at : ℕ) (w : List Letter) (a : Letter) (q : Letters) : Type 0 where
+  pub is : (k : Letter → List ℕ → Parse) → readMember k (drop at s) ≡ k a (drop (q .at) s)
+  pub past : at < q .at
+  pub inside : q .at ≤ length s
+  pub marks : Marked (w ++ (a ∷ [])) q
+
+pub data MemberAt (s : List ℕ) (at : ℕ) (w : List Letter) : Symbol-read → Type 0 where
+  no-member : ((k : Letter → List ℕ → Parse) → readMember k (drop at s) ≡ fault) → MemberAt s at w Missing
+  a-member : {q : Letters} (a : Letter) → MemberIs s at w a q → MemberAt s at w (Read q)
+
+abbrev pub othersOf : ℕ → ℕ
+othersOf x = pick (eqb x 0) 0 ((label-sets - 1) - x)
 
 pub record Asks (s : List ℕ) (at n : ℕ) (code : List ℕ) : Type 0 where
   pub inside : at ≤ length s

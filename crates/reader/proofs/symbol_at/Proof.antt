@@ -1,38 +1,46 @@
--- `reader::symbol_at` meets its contract: a letter at the place, or nothing. Assumes nothing.
-use mathlib.Core.Path.{sym}
-use mathlib.Core.Logic.{inl, inr}
+-- `reader::symbol_at` meets its contract: a negated set at a !, else a letter, else nothing. Assumes nothing.
+use mathlib.Core.Path.{_≡_, sym, _∙_}
 use Prim.Native.Nat.{_<_}
 use native.Mathlib.Omega.{arith}
-use lib.ListN.{length}
+use lib.ListN.{length, drop}
 use borrow.Author.Needs.{needs}
-use Rattle.reader.proofs.Steps.{there, no-atom, letter-there, one-shl-32}
+use Rattle.paths.specs.Grammar.{bang}
+use Rattle.paths.specs.Descent.{firstByte}
+use Rattle.reader.proofs.Steps.{there}
+use Rattle.reader.proofs.Symbols.{symbol-letter, symbol-none, symbol-negated}
 use Rattle.reader.proofs.symbol_at.Statement.{statement}
 use Rattle.reader.proofs.symbol_at.Tie as tie
 
 peek-requires : tie.Need-peek-requires
 peek-requires c κs = search needs
 
+add-negated : tie.Need-add-negated
+add-negated c = search needs
+
+-- the ! stands inside the text
+is-bang : (c : tie.Then1) → firstByte (drop (c .before .before .before .args .at) (c .before .before .before .args .s .now)) ≡ bang
+is-bang c = sym (c .before .peek .ensures) ∙ c .if1 .taken
+
+inside : (c : tie.Then1) → c .before .before .before .args .at < length (c .before .before .before .args .s .now)
+inside c = there _ _ bang (is-bang c) (omega arith)
+
+negated-requires : tie.Need-negated-requires
+negated-requires c κs = let h = inside c in omega arith
+
 returns : tie.Need-returns
-returns c = λ k. no-atom _ (c .before .peek .ensures) k (inl (c .if1 .taken))
+returns c = λ n. symbol-negated (is-bang (c .before)) (c .negated .ensures)
+
+label-at-requires : tie.Need-label-at-requires
+label-at-requires c κs = search needs
 
 returns-2 : tie.Need-returns-2
-returns-2 c = λ k. no-atom _ (c .before .before .peek .ensures) k (inr (c .if2 .taken))
+returns-2 c = λ n. symbol-none n (λ e. c .before .before .if1 .left (c .before .before .before .peek .ensures ∙ e)) (sym (c .before .label-at .ensures) ∙ c .if2 .taken)
 
--- the letter stands inside the text
-inside : (c : tie.Else2) → c .before .before .before .before .args .at < length (c .before .before .before .before .args .s .now)
-inside c = there _ _ _ (sym (c .before .before .peek .ensures)) (omega (arith, c .before .if1 .left))
-
-add-t5 : tie.Need-add-t5
-add-t5 c = let h = inside c in omega arith
-
-cast-t7 : tie.Need-cast-t7
-cast-t7 c = search needs
-
-shl-t8 : tie.Need-shl-t8
-shl-t8 c = search needs
+add-t7 : tie.Need-add-t7
+add-t7 c = search needs
 
 returns-3 : tie.Need-returns-3
-returns-3 c = λ k. letter-there _ (c .before .before .peek .ensures) (omega (arith, c .before .if1 .left)) (omega (arith, c .if2 .left)) _ (one-shl-32 _ (omega (arith, c .if2 .left)))
+returns-3 c = λ n. symbol-letter (c .before .label-at .ensures) (c .if2 .left)
 
 pub symbol-at-spec : {M : Type 1} → statement M
-symbol-at-spec = tie.close (tie.spec peek-requires returns returns-2 add-t5 cast-t7 shl-t8 returns-3)
+symbol-at-spec = tie.close (tie.spec peek-requires add-negated negated-requires returns label-at-requires returns-2 add-t7 returns-3)
