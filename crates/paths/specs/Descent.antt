@@ -74,10 +74,10 @@ unfoldable pub membersIn : ℕ → List Letter → List ℕ → Parse
 membersIn zero w l = fault
 membersIn (suc f) w l =
     readMember (λ a r.
-      elim (eqb (firstByte r) bar) [
-        | true ↦ membersIn f (w ++ (a ∷ [])) (rest r)
-        | false ↦ elim (eqb (firstByte r) close-group) [ true ↦ got (symbol (noneOf (w ++ (a ∷ [])))) (rest r) | false ↦ fault ]
-      ]) l
+    elim (eqb (firstByte r) bar) [
+      | true ↦ membersIn f (w ++ (a ∷ [])) (rest r)
+      | false ↦ elim (eqb (firstByte r) close-group) [ true ↦ got (symbol (noneOf (w ++ (a ∷ [])))) (rest r) | false ↦ fault ]
+    ]) l
 
 abbrev pub gotNegated : Letter → List ℕ → Parse
 gotNegated a r = got (symbol (noneOf (a ∷ []))) r

@@ -188,9 +188,9 @@ others-are {b} {w} {x} M = go (eqb x 0) refl
         let n = eqb-false x 0 e in
         let z : hasSense b w ≡ true = M .some ∙ lt-ltb 0 x (omega (arith, n)) in
         label-set-tell _ ((label-sets - 1) - x) (omega arith) (λ l h.
-          digit-not labels l x (M .below) h ∙ rest-of (digit x l) (has sameLetter (record { label = l; inverted = b }) w) (M .marked l h)
-          ∙ ap (λ (t : Bool). bit (t && not (has sameLetter (record { label = l; inverted = b }) w))) (sym z)
-          ∙ ap (λ (t : Bool). bit (t && (hasSense b w && not (has sameLetter (record { label = l; inverted = b }) w)))) (sym (lt-ltb l labels h)))
+        digit-not labels l x (M .below) h ∙ rest-of (digit x l) (has sameLetter (record { label = l; inverted = b }) w) (M .marked l h)
+        ∙ ap (λ (t : Bool). bit (t && not (has sameLetter (record { label = l; inverted = b }) w))) (sym z)
+        ∙ ap (λ (t : Bool). bit (t && (hasSense b w && not (has sameLetter (record { label = l; inverted = b }) w)))) (sym (lt-ltb l labels h)))
 
 -- ---- a member
 module _ {s : List ℕ} {q : Letters} {w : List Letter} (M : Marked w q) where

@@ -1,7 +1,7 @@
 -- Running the code: what each number does to the tables, what stands at the start and at the end. Assumes nothing.
 use mathlib.Core.Path.{_≡_, refl, sym, ap, ap₂, _∙_, subst}
 use mathlib.Core.List.{List, [], _∷_, _++_}
-use mathlib.Core.Bool.{Bool}
+use mathlib.Core.Bool.{Bool, false}
 use Prim.Native.Nat.{ℕ, zero, suc, _+_, _≤_, _<_, min, max}
 use native.Mathlib.Omega.{arith}
 use native.Mathlib.Decide.{decLt}
@@ -11,15 +11,16 @@ use lib.ListN.{length, getD, set, replicate}
 use lib.Seq.{getD-set-same, getD-set-other}
 use borrow.Author.Tests.{ne-eqb, le-leb}
 use Rattle.book.specs.Basics.{bit}
+use Rattle.book.specs.Causes.{labels}
 use Rattle.k2.specs.Bits.{digit}
 use Rattle.k2.specs.DigitLaws.{digit-lt, digit-zero, digit-none, digit-or, digit-pow, digit-big}
-use Rattle.paths.specs.Expressions.{Letter, letter, standsFor, Expr, symbol, group, inverse, star, plus, optional as optional-part, alternative, sequence, letters}
-use Rattle.paths.specs.Grammar.{Rule, alternatives, Is, one-alternative, more-alternatives, one-part, more-parts, plain, inverted, bare, with-star, with-plus, with-optional, is-letter, is-group}
+use Rattle.paths.specs.Expressions.{Letter, Symbol, letter, noneOf, standsFor, Expr, symbol, group, inverse, star, plus, optional as optional-part, alternative, sequence, letters}
+use Rattle.paths.specs.Grammar.{Rule, alternatives, Is, one-alternative, more-alternatives, one-part, more-parts, plain, inverted, bare, with-star, with-plus, with-optional, is-letter, is-negated, is-set, is-group}
 use Rattle.paths.specs.Verdicts.{InLimits}
 use Rattle.reader.specs.declared.Item.{Item}
 use Rattle.reader.specs.declared.Item.the-variants.{Letters, Inverse, Star, Plus, Optional, Alternative, Sequence}
 use Rattle.reader.specs.Letters.{forwardOf, againstOf}
-use Rattle.reader.specs.LetterLaws.{letters-all, letter-past}
+use Rattle.reader.specs.LetterLaws.{letters-all, letter-past, none-past}
 use Rattle.reader.specs.Code.{op-inverse, op-star, op-plus, op-optional, op-alternative, op-sequence, first-letters, lettersNumber, itemOf, code, value, does, run}
 use Rattle.reader.specs.Running.{operands, Runs, ended, next}
 use Rattle.reader.specs.CodeLaws.{letters-number, run-code, runs-code}
@@ -189,6 +190,10 @@ zeros-at (suc n) (suc i) = zeros-at n i
 abbrev part-of : Expr → Part
 part-of e = record { letters = letters e; fragment = fragment e }
 
+value-symbol : (s : Symbol) → ((a : Letter) → labels ≤ a .label → standsFor s a ≡ false) → value parts (symbol s) ≡ part-of (symbol s)
+unfolding value parts fragment letters
+value-symbol s h = ap (λ (f : Letter → Bool). record { letters = 1; fragment = λ o. single (suc o) f }) (letters-all (standsFor s) h)
+
 value-parts : {R : Rule} {s : List ℕ} {e : Expr} → Is R s e → value parts e ≡ part-of e
 unfolding value parts fragment letters
 value-parts (one-alternative d) = value-parts d
@@ -201,7 +206,9 @@ value-parts (bare d) = value-parts d
 value-parts (with-star d) = ap (changed (λ A. optional (repeated A))) (value-parts d)
 value-parts (with-plus d) = ap (changed repeated) (value-parts d)
 value-parts (with-optional d) = ap (changed optional) (value-parts d)
-value-parts (is-letter {k} h) = ap (λ (f : Letter → Bool). record { letters = 1; fragment = λ o. single (suc o) f }) (letters-all (standsFor (letter k)) (letter-past k h))
+value-parts (is-letter {k} h) = value-symbol (letter k) (letter-past k h)
+value-parts (is-negated {a = a} m) = value-symbol (noneOf (a ∷ [])) (none-past (a ∷ []))
+value-parts (is-set {w = w} m) = value-symbol (noneOf w) (none-past w)
 value-parts (is-group d) = value-parts d
 
 -- ---- at the end
