@@ -1,4 +1,4 @@
 pub mod Steps
-pub mod Symbols
+pub mod SymbolLaws
 pub mod Joining
 pub mod Answers

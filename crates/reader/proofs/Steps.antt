@@ -32,9 +32,9 @@ use Rattle.paths.specs.DescentWhole.{if-true, if-false, atom-letter, atom-fault
 use Rattle.reader.specs.Code.{op-inverse, op-star, op-plus, op-optional, lettersNumber, code}
 use Rattle.reader.specs.LetterLaws.{letter-forward, letter-against}
 use Rattle.reader.specs.CodeLaws.{letters-code}
-use Rattle.reader.specs.declared.Letters.{Letters}
-use Rattle.reader.specs.declared.Symbol.{Symbol as Symbol-read}
-use Rattle.reader.specs.declared.Symbol.the-variants.{Read, Missing}
+use Rattle.reader.specs.declared.symbols.Letters.{Letters}
+use Rattle.reader.specs.declared.symbols.Symbol.{Symbol as Symbol-read}
+use Rattle.reader.specs.declared.symbols.Symbol.the-variants.{Read, Missing}
 use Rattle.reader.specs.declared.Spot.{Spot}
 use Rattle.reader.specs.declared.Parsed.{Parsed}
 use Rattle.reader.specs.declared.Parsed.the-variants.{Got, Fault}

@@ -13,8 +13,8 @@ use Prim.Native.Nat.{ℕ, _+_, _-_, _*_, _/_, _%_}
 use lib.Dec.{eqb, ltb}
 use Rattle.book.specs.Basics.{pick}
 use Rattle.paths.specs.Expressions.{standsFor, Expr, symbol, group, inverse, star, plus, optional, alternative, sequence}
-use Rattle.reader.specs.declared.Item.{Item}
-use Rattle.reader.specs.declared.Item.the-variants.{Letters, Inverse, Star, Plus, Optional, Alternative, Sequence}
+use Rattle.reader.specs.declared.items.Item.{Item}
+use Rattle.reader.specs.declared.items.Item.the-variants.{Letters, Inverse, Star, Plus, Optional, Alternative, Sequence}
 use Rattle.reader.specs.Letters.{forwardOf, againstOf}
 
 -- the operators' numbers, those on one operand first

@@ -20,8 +20,8 @@ use Rattle.book.specs.Basics.{pick}
 use Rattle.book.specs.Causes.{labels}
 use Rattle.paths.specs.Expressions.{Symbol, letter, noneOf, standsFor, Expr, symbol, group, inverse, star, plus, optional, alternative, sequence, letters, depth}
 use Rattle.paths.specs.Grammar.{Rule, alternatives, parts, part, marked, atom, Is, one-alternative, more-alternatives, one-part, more-parts, plain, inverted, bare, with-star, with-plus, with-optional, is-letter, is-negated, is-set, is-group, bar, slash, asterisk, plus-sign, question-mark, close-group}
-use Rattle.reader.specs.declared.Item.{Item}
-use Rattle.reader.specs.declared.Item.the-variants.{Letters}
+use Rattle.reader.specs.declared.items.Item.{Item}
+use Rattle.reader.specs.declared.items.Item.the-variants.{Letters}
 use Rattle.reader.specs.Letters.{forwardOf, againstOf}
 use Rattle.reader.specs.LetterLaws.{label-set-lt}
 use Rattle.reader.specs.Code.{op-inverse, op-star, op-plus, op-optional, op-alternative, op-sequence, first-letters, label-sets, lettersNumber, itemOf, code, Algebra, value, does, run}

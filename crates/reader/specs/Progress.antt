@@ -43,9 +43,9 @@ use Rattle.paths.specs.Grammar.{bar, slash, asterisk, plus-sign, question-mark,
 use Rattle.paths.specs.Descent.{Parse, got, fault, firstByte, isLetter, then, readMember, readClose, readAlternatives, readMoreAlternatives, readParts, readMoreParts, readPart}
 use Rattle.reader.specs.Code.{op-star, op-plus, op-optional, op-alternative, op-sequence, label-sets, code}
 use Rattle.reader.specs.Letters.{forwardOf, againstOf}
-use Rattle.reader.specs.declared.Letters.{Letters}
-use Rattle.reader.specs.declared.Symbol.{Symbol as Symbol-read}
-use Rattle.reader.specs.declared.Symbol.the-variants.{Read, Missing}
+use Rattle.reader.specs.declared.symbols.Letters.{Letters}
+use Rattle.reader.specs.declared.symbols.Symbol.{Symbol as Symbol-read}
+use Rattle.reader.specs.declared.symbols.Symbol.the-variants.{Read, Missing}
 use Rattle.reader.specs.declared.Spot.{Spot}
 use Rattle.reader.specs.declared.Parsed.{Parsed}
 use Rattle.reader.specs.declared.Parsed.the-variants.{Got, Fault}

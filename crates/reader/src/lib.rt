@@ -1,88 +1,31 @@
-// The expression reader: alternatives, sequences and parts read one another through a group, over lent bytes and a position.
-// What is written is the postfix code of the expression, in its own numbers. A code is no longer than its text, so there is always room.
+// The expression reader: alternatives, sequences and parts read one another through a group, over lent bytes and a position; symbols.rt has letters and
+// negated sets. What is written is the postfix code of the expression, in the numbers of items.rt. A code is no longer than its text, so there is always
+// room.
+mod items;
+mod symbols;
+
+use crate::items::ALTERNATIVE;
+use crate::items::INVERSE;
+use crate::items::NO_MARK;
+use crate::items::OPTIONAL;
+use crate::items::PLUS;
+use crate::items::SEQUENCE;
+use crate::items::STAR;
+use crate::items::letters_number;
+use crate::symbols::Symbol;
+use crate::symbols::peek;
+use crate::symbols::symbol_at;
 ghost use mathlib.Core.Path.{_≡_};
-ghost use mathlib.Core.List.{List, []};
-ghost use Prim.Native.Nat.{ℕ, _+_, _<_, _≤_, max};
+ghost use mathlib.Core.List.{List};
+ghost use Prim.Native.Nat.{ℕ, _+_, _<_, max};
 ghost use lib.ListN.{length, drop, set, replicate};
 ghost use Rattle.book.specs.Causes.{maxBytes};
-ghost use Rattle.paths.specs.Expressions.{Letter};
-ghost use Rattle.paths.specs.Grammar.{open-group};
-ghost use Rattle.paths.specs.Descent.{Parse, got, firstByte, membersIn, readNegated, readAlternatives, readParts, readPart, readAtom};
-ghost use Rattle.reader.specs.Code.{label-sets, lettersNumber, itemOf};
+ghost use Rattle.paths.specs.Descent.{Parse, got, readAlternatives, readParts, readPart, readAtom};
 ghost use Rattle.reader.specs.Reads.{Reads};
 ghost use Rattle.reader.specs.declared.Answer.the-variants.{Refused};
-ghost use Rattle.reader.specs.Progress.{Done, Stands, labelAt, Marked, MemberAt, othersOf, Asks, Fits, RoomToJoin, RoomToWrap, RoomToWrite, Joins, Closes, comesNext, spotOf, markOf, wrap, wrapCode};
-
-// The numbers of a code: the operators, those on one operand first, then the symbols. `item_of` says what a number is.
-const INVERSE: u64 = 0;
-
-const STAR: u64 = 1;
-
-const PLUS: u64 = 2;
-
-const OPTIONAL: u64 = 3;
-
-const ALTERNATIVE: u64 = 4;
-
-const SEQUENCE: u64 = 5;
-
-// A number that no code has.
-const NO_MARK: u64 = 6;
-
-// The first number of a symbol, which stands for no letter; how many sets of labels there are; and the set of all labels.
-const FIRST_LETTERS: u64 = 8;
-
-const LABEL_SETS: u64 = 67108864;
-
-const ALL_LABELS: u32 = 67108863;
-
-// What a number of a code is: the letters that a symbol stands for, or an operator. The letters are two sets of labels, of 26 bits: bit l of the
-// first is set if the letter l is one of them plain, so that links of the label l are crossed forward; bit l of the second if it is inverted, so that
-// they are crossed against their sense.
-pub enum Item {
-    Letters(u32, u32),
-    Inverse,
-    Star,
-    Plus,
-    Optional,
-    Alternative,
-    Sequence,
-}
-
-pub fn item_of(number: u64) -> Item
-    ensures { λ r. ⌜ r ≡ itemOf number ⌝ }
-{
-    if number == INVERSE {
-        return Item::Inverse;
-    }
-    if number == STAR {
-        return Item::Star;
-    }
-    if number == PLUS {
-        return Item::Plus;
-    }
-    if number == OPTIONAL {
-        return Item::Optional;
-    }
-    if number == ALTERNATIVE {
-        return Item::Alternative;
-    }
-    if number < FIRST_LETTERS {
-        return Item::Sequence;
-    }
-    let letters = number - FIRST_LETTERS;
-    Item::Letters(
-        (letters % LABEL_SETS) as u32,
-        (letters / LABEL_SETS % LABEL_SETS) as u32,
-    )
-}
-
-// The number of a symbol that stands for these letters.
-fn letters_number(forward: u32, against: u32) -> u64
-    ensures { λ r. ⌜ r ≡ lettersNumber forward against ⌝ }
-{
-    FIRST_LETTERS + forward as u64 + against as u64 * LABEL_SETS
-}
+ghost use Rattle.reader.specs.Progress.{Done, Stands, Asks, Fits, RoomToJoin, RoomToWrap, RoomToWrite, Joins, Closes, comesNext, spotOf, markOf, wrap, wrapCode};
+pub use items::Item;
+pub use items::item_of;
 
 // The numbers of the causes, in the type of this crate's answers.
 const NO_EXPRESSION: u8 = book::NO_EXPRESSION as u8;
@@ -103,26 +46,6 @@ struct Spot {
 enum Parsed {
     Got(Spot),
     Fault,
-}
-
-// The letters of a symbol that was read, as two sets of labels, and where it ends in the text.
-struct Letters {
-    at: usize,
-    forward: u32,
-    against: u32,
-}
-
-// What is read where a symbol may stand.
-enum Symbol {
-    Read(Letters),
-    Missing,
-}
-
-// The byte at a place, or 0 at the end.
-fn peek(s: &[u8], at: usize) -> u8
-    ensures { λ r. ⌜ r ≡ firstByte (drop at (now (s .entry))) ⌝ }
-{
-    if at < s.len() { s[at] } else { 0 }
 }
 
 // One number more at the end of the code.
@@ -241,137 +164,6 @@ fn atom(s: &[u8], at: usize, code: &mut [u64], n: usize) -> Parsed
     }
     let x = symbol_at(s, at);
     written(code, n, x)
-}
-
-// A letter or a negated set, where no group begins.
-fn symbol_at(s: &[u8], at: usize) -> Symbol
-    requires { ⌜ at ≤ length (now s) ⌝ }
-    ensures { λ x. ⌜ ((firstByte (drop at (now (s .entry))) ≡ open-group → ⊥) → Stands (now (s .entry)) at (readAtom (drop at (now (s .entry)))) x) ⌝ }
-{
-    if peek(s, at) == b'!' {
-        return negated(s, at + 1);
-    }
-    let label = label_at(s, at);
-    if label == 0 {
-        return Symbol::Missing;
-    }
-    Symbol::Read(Letters {
-        at: at + 1,
-        forward: label,
-        against: 0,
-    })
-}
-
-// A letter's label as a set, or the empty set if no letter stands there.
-fn label_at(s: &[u8], at: usize) -> u32
-    ensures { λ r. ⌜ r ≡ labelAt (firstByte (drop at (now (s .entry)))) ⌝ }
-{
-    let c = peek(s, at);
-    if c < b'a' {
-        return 0;
-    }
-    if b'z' < c {
-        return 0;
-    }
-    1 << (c - b'a')
-}
-
-// A negated set, after its !: one member, or members in parentheses, which are no group.
-fn negated(s: &[u8], at: usize) -> Symbol
-    requires { ⌜ at ≤ length (now s) ⌝ }
-    ensures { λ x. ⌜ Stands (now (s .entry)) at (readNegated (drop at (now (s .entry)))) x ⌝ }
-{
-    if peek(s, at) == b'(' {
-        return set(s, at + 1);
-    }
-    let r = member(
-        s,
-        Letters {
-            at,
-            forward: 0,
-            against: 0,
-        },
-    );
-    let Symbol::Read(q) = r else {
-        return Symbol::Missing;
-    };
-    Symbol::Read(Letters {
-        at: q.at,
-        forward: others(q.forward),
-        against: others(q.against),
-    })
-}
-
-// The members of a set up to its ), after the (.
-fn set(s: &[u8], at: usize) -> Symbol
-    requires { ⌜ at ≤ length (now s) ⌝ }
-    ensures { λ x. ⌜ Stands (now (s .entry)) at (membersIn (length (drop at (now (s .entry))) + 1) [] (drop at (now (s .entry)))) x ⌝ }
-{
-    let mut before = Letters {
-        at,
-        forward: 0,
-        against: 0,
-    };
-    loop {
-        let r = member(s, before);
-        let Symbol::Read(q) = r else {
-            return Symbol::Missing;
-        };
-        let c = peek(s, q.at);
-        if c == b')' {
-            return Symbol::Read(Letters {
-                at: q.at + 1,
-                forward: others(q.forward),
-                against: others(q.against),
-            });
-        }
-        if c != b'|' {
-            return Symbol::Missing;
-        }
-        before = Letters {
-            at: q.at + 1,
-            forward: q.forward,
-            against: q.against,
-        };
-    }
-}
-
-// The member of a set that stands after `before`, a letter or ^ and a letter, with those before it.
-fn member(s: &[u8], before: Letters) -> Symbol
-    requires { ⌜ before .at ≤ length (now s) ⌝ }
-    ensures { λ x. ⌜ ((w : List Letter) → Marked w before → MemberAt (now (s .entry)) (before .at) w x) ⌝ }
-{
-    if peek(s, before.at) == b'^' {
-        let label = label_at(s, before.at + 1);
-        if label == 0 {
-            return Symbol::Missing;
-        }
-        return Symbol::Read(Letters {
-            at: before.at + 2,
-            forward: before.forward,
-            against: before.against | label,
-        });
-    }
-    let label = label_at(s, before.at);
-    if label == 0 {
-        return Symbol::Missing;
-    }
-    Symbol::Read(Letters {
-        at: before.at + 1,
-        forward: before.forward | label,
-        against: before.against,
-    })
-}
-
-// The labels that a negated set stands for, in a sense where its members have these.
-fn others(labels: u32) -> u32
-    requires { ⌜ labels < label-sets ⌝ }
-    ensures { λ r. ⌜ r ≡ othersOf labels ⌝ }
-{
-    if labels == 0 {
-        return 0;
-    }
-    ALL_LABELS - labels
 }
 
 // A symbol's number written.

@@ -17,8 +17,8 @@ use Rattle.k2.specs.DigitLaws.{digit-lt, digit-zero, digit-none, digit-or, digi
 use Rattle.paths.specs.Expressions.{Letter, Symbol, letter, noneOf, standsFor, Expr, symbol, group, inverse, star, plus, optional as optional-part, alternative, sequence, letters}
 use Rattle.paths.specs.Grammar.{Rule, alternatives, Is, one-alternative, more-alternatives, one-part, more-parts, plain, inverted, bare, with-star, with-plus, with-optional, is-letter, is-negated, is-set, is-group}
 use Rattle.paths.specs.Verdicts.{InLimits}
-use Rattle.reader.specs.declared.Item.{Item}
-use Rattle.reader.specs.declared.Item.the-variants.{Letters, Inverse, Star, Plus, Optional, Alternative, Sequence}
+use Rattle.reader.specs.declared.items.Item.{Item}
+use Rattle.reader.specs.declared.items.Item.the-variants.{Letters, Inverse, Star, Plus, Optional, Alternative, Sequence}
 use Rattle.reader.specs.Letters.{forwardOf, againstOf}
 use Rattle.reader.specs.LetterLaws.{letters-all, letter-past, none-past}
 use Rattle.reader.specs.Code.{op-inverse, op-star, op-plus, op-optional, op-alternative, op-sequence, first-letters, lettersNumber, itemOf, code, value, does, run}

@@ -2,7 +2,7 @@
 use mathlib.Core.Path.{_≡_, sym, _∙_}
 use native.Mathlib.Omega.{arith}
 use borrow.Author.Needs.{needs}
-use Rattle.reader.specs.declared.Item.the-variants.{Letters, Inverse, Star, Plus, Optional, Alternative, Sequence}
+use Rattle.reader.specs.declared.items.Item.the-variants.{Letters, Inverse, Star, Plus, Optional, Alternative, Sequence}
 use Rattle.reader.specs.Code.{itemOf}
 use Rattle.tables.proofs.RunLaws.{inverts, stars, repeats, allows-none, unites, follows, room-symbol, after-symbol, room-one, after-one, room-two, after-two}
 use Rattle.tables.proofs.step.Statement.{statement}

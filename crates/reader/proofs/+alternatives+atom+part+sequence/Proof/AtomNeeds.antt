@@ -12,8 +12,8 @@ use Rattle.reader.proofs.+alternatives+atom+part+sequence.Proof.Ranks.{
 use Rattle.reader.proofs.alternatives.Reads as alternatives
 use Rattle.reader.proofs.atom.Reads as atom
 use Rattle.reader.proofs.closed.Reads as closed
-use Rattle.reader.proofs.peek.Reads as peek
-use Rattle.reader.proofs.symbol_at.Reads as symbol-at
+use Rattle.reader.proofs.symbols.peek.Reads as peek
+use Rattle.reader.proofs.symbols.symbol_at.Reads as symbol-at
 use Rattle.reader.proofs.written.Reads as written
 use Rattle.reader.proofs.+alternatives+atom+part+sequence.Lts-atom as atom-lts
 

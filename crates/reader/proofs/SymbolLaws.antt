@@ -31,9 +31,9 @@ use Rattle.paths.specs.Expressions.{Letter, letter, noneOf, sameSense, sameLett
 use Rattle.paths.specs.Grammar.{bar, hat, bang, open-group, close-group, letter-a}
 use Rattle.paths.specs.Descent.{Parse, got, fault, firstByte, rest, isLetter, letterOf, readMember, membersIn, gotNegated, readNegated, readAtom}
 use Rattle.paths.specs.DescentWhole.{if-true, if-false, atom-letter, atom-negated, atom-fault}
-use Rattle.reader.specs.declared.Letters.{Letters}
-use Rattle.reader.specs.declared.Symbol.{Symbol as Symbol-read}
-use Rattle.reader.specs.declared.Symbol.the-variants.{Read, Missing}
+use Rattle.reader.specs.declared.symbols.Letters.{Letters}
+use Rattle.reader.specs.declared.symbols.Symbol.{Symbol as Symbol-read}
+use Rattle.reader.specs.declared.symbols.Symbol.the-variants.{Read, Missing}
 use Rattle.reader.specs.Letters.{labelSet, forwardOf, againstOf}
 use Rattle.reader.specs.LetterLaws.{label-set-tell, letter-forward, letter-against}
 use Rattle.reader.specs.Code.{label-sets}

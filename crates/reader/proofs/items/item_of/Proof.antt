@@ -2,8 +2,8 @@
 use borrow.Author.Needs.{needs}
 use borrow.Author.Tests.{eq-eqb, ne-eqb, lt-ltb, le-ltb}
 use Rattle.reader.specs.Code.{itemOf}
-use Rattle.reader.proofs.item_of.Statement.{statement}
-use Rattle.reader.proofs.item_of.Tie as tie
+use Rattle.reader.proofs.items.item_of.Statement.{statement}
+use Rattle.reader.proofs.items.item_of.Tie as tie
 
 returns : tie.Need-returns
 unfolding itemOf

@@ -2,8 +2,8 @@
 use mathlib.Core.Path.{refl}
 use borrow.Author.Needs.{needs}
 use Rattle.reader.specs.Code.{lettersNumber}
-use Rattle.reader.proofs.letters_number.Statement.{statement}
-use Rattle.reader.proofs.letters_number.Tie as tie
+use Rattle.reader.proofs.items.letters_number.Statement.{statement}
+use Rattle.reader.proofs.items.letters_number.Tie as tie
 
 add-result : tie.Need-add-result
 add-result c = search needs

@@ -1,9 +1,9 @@
 -- `reader::member` meets its contract: a letter, or ^ and a letter, put to the members before it; or neither. Assumes nothing.
 use mathlib.Core.Path.{sym, _∙_}
 use borrow.Author.Needs.{needs}
-use Rattle.reader.proofs.Symbols.{hat-member, hat-none, plain-member, plain-none}
-use Rattle.reader.proofs.member.Statement.{statement}
-use Rattle.reader.proofs.member.Tie as tie
+use Rattle.reader.proofs.SymbolLaws.{hat-member, hat-none, plain-member, plain-none}
+use Rattle.reader.proofs.symbols.member.Statement.{statement}
+use Rattle.reader.proofs.symbols.member.Tie as tie
 
 peek-requires : tie.Need-peek-requires
 peek-requires c κs = search needs

@@ -7,9 +7,9 @@ use borrow.Author.Needs.{needs}
 use Rattle.paths.specs.Grammar.{bang}
 use Rattle.paths.specs.Descent.{firstByte}
 use Rattle.reader.proofs.Steps.{there}
-use Rattle.reader.proofs.Symbols.{symbol-letter, symbol-none, symbol-negated}
-use Rattle.reader.proofs.symbol_at.Statement.{statement}
-use Rattle.reader.proofs.symbol_at.Tie as tie
+use Rattle.reader.proofs.SymbolLaws.{symbol-letter, symbol-none, symbol-negated}
+use Rattle.reader.proofs.symbols.symbol_at.Statement.{statement}
+use Rattle.reader.proofs.symbols.symbol_at.Tie as tie
 
 peek-requires : tie.Need-peek-requires
 peek-requires c κs = search needs

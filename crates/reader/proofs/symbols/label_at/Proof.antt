@@ -4,9 +4,9 @@ use mathlib.Core.Logic.{inl, inr}
 use native.Mathlib.Omega.{arith}
 use borrow.Author.Needs.{needs}
 use Rattle.reader.specs.Progress.{labelAt}
-use Rattle.reader.proofs.Symbols.{one-shl-32, label-letter, label-other}
-use Rattle.reader.proofs.label_at.Statement.{statement}
-use Rattle.reader.proofs.label_at.Tie as tie
+use Rattle.reader.proofs.SymbolLaws.{one-shl-32, label-letter, label-other}
+use Rattle.reader.proofs.symbols.label_at.Statement.{statement}
+use Rattle.reader.proofs.symbols.label_at.Tie as tie
 
 peek-requires : tie.Need-peek-requires
 peek-requires c κs = search needs

@@ -10,9 +10,9 @@ use Rattle.paths.specs.Descent.{firstByte}
 use Rattle.reader.specs.Code.{label-sets}
 use Rattle.reader.specs.Progress.{MemberAt, missing}
 use Rattle.reader.proofs.Steps.{there}
-use Rattle.reader.proofs.Symbols.{Setting, set-starts, set-fails, set-reaches, set-again, set-ends, set-other}
-use Rattle.reader.proofs.set.Statement.{statement}
-use Rattle.reader.proofs.set.Tie as tie
+use Rattle.reader.proofs.SymbolLaws.{Setting, set-starts, set-fails, set-reaches, set-again, set-ends, set-other}
+use Rattle.reader.proofs.symbols.set.Statement.{statement}
+use Rattle.reader.proofs.symbols.set.Tie as tie
 
 abbrev Inv-loop : tie.InvT-loop
 Inv-loop s at before₀ before = Setting s at before

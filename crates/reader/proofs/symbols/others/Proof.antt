@@ -1,8 +1,8 @@
 -- `reader::others` meets its contract: its test is that of `othersOf`. Assumes nothing.
 use borrow.Author.Needs.{needs}
 use borrow.Author.Tests.{eq-eqb, ne-eqb}
-use Rattle.reader.proofs.others.Statement.{statement}
-use Rattle.reader.proofs.others.Tie as tie
+use Rattle.reader.proofs.symbols.others.Statement.{statement}
+use Rattle.reader.proofs.symbols.others.Tie as tie
 
 returns : tie.Need-returns
 returns c = rw (eq-eqb _ _ (c .if1 .taken))

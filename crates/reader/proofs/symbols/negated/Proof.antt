@@ -10,9 +10,9 @@ use Rattle.paths.specs.Descent.{firstByte}
 use Rattle.reader.specs.Code.{label-sets}
 use Rattle.reader.specs.Progress.{MemberAt}
 use Rattle.reader.proofs.Steps.{there}
-use Rattle.reader.proofs.Symbols.{marks-none, member-of, negated-set, negated-member, negated-none}
-use Rattle.reader.proofs.negated.Statement.{statement}
-use Rattle.reader.proofs.negated.Tie as tie
+use Rattle.reader.proofs.SymbolLaws.{marks-none, member-of, negated-set, negated-member, negated-none}
+use Rattle.reader.proofs.symbols.negated.Statement.{statement}
+use Rattle.reader.proofs.symbols.negated.Tie as tie
 
 peek-requires : tie.Need-peek-requires
 peek-requires c κs = search needs
