@@ -21,7 +21,7 @@ use Rattle.k2.specs.DigitLaws.{shifted, digit-add, digit-big}
 use Rattle.k2.specs.WordLaws.{digit-mod, shifted-in, shifted-out, trailing-set, trailing-clear}
 use Rattle.bits.specs.BitSets.{either, fourAt}
 use Rattle.rows.specs.Rows.{flat, noPairs}
-use Rattle.packing.specs.Reading.{sensed, turned, inside, quartersTo, Reads}
+use Rattle.packing.specs.Reading.{turnedBy, turned, inside, quartersTo, Reads}
 
 -- ---- squares of a set
 module _ (h x y : ℕ) (a : Cells) (i j : ℕ) where
@@ -125,23 +125,23 @@ unfolding quartersTo union noPairs
 quarters-none h x y a b = fun-ext (λ i. fun-ext (λ j. omega arith))
 
 -- ---- reading with a sense
-sensed-quadrant : (s h q : ℕ) (a : Cells) → q < 4 → sensed s (quadrant h (turned s q) a) ≡ quadrant h q (sensed s a)
-sensed-quadrant zero h q a l = refl
-sensed-quadrant (suc s) h q a l =
+turnedBy-quadrant : (s h q : ℕ) (a : Cells) → q < 4 → turnedBy s (quadrant h (turned s q) a) ≡ quadrant h q (turnedBy s a)
+turnedBy-quadrant zero h q a l = refl
+turnedBy-quadrant (suc s) h q a l =
     let e : exchanged (exchanged q) ≡ q = omega arith in
     sym (quadrant-transpose h (exchanged q) a (omega arith)) ∙ ap (λ (p : ℕ). quadrant h p (transpose a)) e
 
-sensed-bit : (s : ℕ) (a : Cells) → ((i j : ℕ) → a i j < 2) → (i j : ℕ) → sensed s a i j < 2
-sensed-bit zero a b i j = b i j
-sensed-bit (suc s) a b i j = unfold transpose in (b j i)
+turnedBy-bit : (s : ℕ) (a : Cells) → ((i j : ℕ) → a i j < 2) → (i j : ℕ) → turnedBy s a i j < 2
+turnedBy-bit zero a b i j = b i j
+turnedBy-bit (suc s) a b i j = unfold transpose in (b j i)
 
 pub turned-lt : (s q : ℕ) → q < 4 → turned s q < 4
 turned-lt zero q l = l
 turned-lt (suc s) q l = omega arith
 
-filled-sensed : (s h : ℕ) (a : Cells) → filled h (sensed s a) ≡ filled h a
-filled-sensed zero h a = refl
-filled-sensed (suc s) h a = filled-transpose h a
+filled-turnedBy : (s h : ℕ) (a : Cells) → filled h (turnedBy s a) ≡ filled h a
+filled-turnedBy zero h a = refl
+filled-turnedBy (suc s) h a = filled-transpose h a
 
 -- quarter q of a square that is read
 module _ (s : ℕ) (ws : List ℕ) (h b x y : ℕ) (a : Cells) (n : Reads s ws (suc h) b x y a) (q : ℕ) (ql : q < 4) where
@@ -152,9 +152,9 @@ module _ (s : ℕ) (ws : List ℕ) (h b x y : ℕ) (a : Cells) (n : Reads s ws (
   Q = quadrant h e (n .square)
 
   -- its cells are those of a
-  quarter-cell : (i j : ℕ) → i < 2 ^ h → j < 2 ^ h → sensed s Q i j ≡ a (x + q / 2 * 2 ^ h + i) (y + q % 2 * 2 ^ h + j)
+  quarter-cell : (i j : ℕ) → i < 2 ^ h → j < 2 ^ h → turnedBy s Q i j ≡ a (x + q / 2 * 2 ^ h + i) (y + q % 2 * 2 ^ h + j)
   quarter-cell i j hi hj =
-      ap (λ (c : Cells). c i j) (sensed-quadrant s h q (n .square) ql)
+      ap (λ (c : Cells). c i j) (turnedBy-quadrant s h q (n .square) ql)
       ∙ unfold quadrant in (n .cells (q / 2 * 2 ^ h + i) (q % 2 * 2 ^ h + j) (fits (q / 2) i hi (omega arith)) (fits (q % 2) j hj (omega arith))
       ∙ ap₂ a (omega arith) (omega arith))
     where
@@ -180,19 +180,19 @@ module _ (s : ℕ) (ws : List ℕ) (h b x y : ℕ) (a : Cells) (n : Reads s ws (
       }
 
   pub reads-empty : bitAt ws (b + e) ≡ 0 → (i j : ℕ) → i < 2 ^ h → j < 2 ^ h → a (x + q / 2 * 2 ^ h + i) (y + q % 2 * 2 ^ h + j) ≡ 0
-  reads-empty o i j hi hj = sym (quarter-cell i j hi hj) ∙ empty-cell h (sensed s Q) i j hi hj (filled-sensed s h Q ∙ sym reads-bit ∙ o)
+  reads-empty o i j hi hj = sym (quarter-cell i j hi hj) ∙ empty-cell h (turnedBy s Q) i j hi hj (filled-turnedBy s h Q ∙ sym reads-bit ∙ o)
 
 -- the cells of a square of side 2
 pub reads-cell : (s : ℕ) (ws : List ℕ) (b x y : ℕ) (a : Cells) → Reads s ws 1 b x y a → (q : ℕ) → q < 4 → bitAt ws (b + turned s q) ≡ a (x + q / 2) (y + q % 2)
 unfolding filled
 reads-cell s ws b x y a n q l =
     let Q : Cells = quadrant 0 (turned s q) (n .square) in
-    let c : sensed s Q 0 0 ≡ a (x + q / 2) (y + q % 2) = quarter-cell s ws 0 b x y a n q l 0 0 (omega arith) (omega arith) ∙ ap₂ a (omega arith) (omega arith) in
-    let z : sensed s Q 0 0 < 2 = sensed-bit s Q (λ i j. unfold quadrant in (n .bit _ _)) 0 0 in
-    reads-bit s ws 0 b x y a n q l ∙ sym (filled-sensed s 0 Q) ∙ omega arith
+    let c : turnedBy s Q 0 0 ≡ a (x + q / 2) (y + q % 2) = quarter-cell s ws 0 b x y a n q l 0 0 (omega arith) (omega arith) ∙ ap₂ a (omega arith) (omega arith) in
+    let z : turnedBy s Q 0 0 < 2 = turnedBy-bit s Q (λ i j. unfold quadrant in (n .bit _ _)) 0 0 in
+    reads-bit s ws 0 b x y a n q l ∙ sym (filled-turnedBy s 0 Q) ∙ omega arith
 
 -- ---- a whole tree
-pub reads-tree : (s n h : ℕ) (ws : List ℕ) (a : Cells) → h ≡ height n → IsSet n a → ws ≡ treeWords n a → Reads s ws h 0 0 0 (sensed s a)
+pub reads-tree : (s n h : ℕ) (ws : List ℕ) (a : Cells) → h ≡ height n → IsSet n a → ws ≡ treeWords n a → Reads s ws h 0 0 0 (turnedBy s a)
 reads-tree s n h ws a eh is e =
     record {
       side = h;
@@ -201,7 +201,7 @@ reads-tree s n h ws a eh is e =
       bits = ap bitAt e ∙ treeWords-bits n a ∙ ap (λ (k : ℕ). bitsOf (treeBits k a)) (sym eh);
       node = root;
       bit = is .bit;
-      cells = λ i j hi hj. ap₂ (sensed s a) (omega arith) (omega arith);
+      cells = λ i j hi hj. ap₂ (turnedBy s a) (omega arith) (omega arith);
     }
 
 pub inside-all : (n h : ℕ) (a : Cells) → n ≤ 2 ^ h → IsSet n a → inside h 0 0 a ≡ a

@@ -1,5 +1,5 @@
 -- What the functions that load a tree into rows make of it.
---   sensed s a      the set a; with sense 1 its pairs exchanged
+--   turnedBy s a    the set a; with sense 1 its pairs exchanged
 --   turned s q      the quarter q of a square; with sense 1 the one that comes to its place when pairs are exchanged
 --   inside h x y a  the pairs of a in the square of side 2 ^ h at row x and column y
 --   quartersTo k h x y a
@@ -30,9 +30,9 @@ use Rattle.k2.specs.Trees.{treeBits}
 use Rattle.k2.specs.Nodes.{Node, exchanged}
 use Rattle.rows.specs.Rows.{noPairs}
 
-abbrev pub sensed : ℕ → Cells → Cells
-sensed zero a = a
-sensed (suc s) a = transpose a
+abbrev pub turnedBy : ℕ → Cells → Cells
+turnedBy zero a = a
+turnedBy (suc s) a = transpose a
 
 abbrev pub turned : ℕ → ℕ → ℕ
 turned zero q = q
@@ -61,7 +61,7 @@ pub record Reads (s : ℕ) (ws : List ℕ) (h b x y : ℕ) (a : Cells) : Type 0 
   pub bits : bitAt ws ≡ bitsOf (treeBits side whole)
   pub node : Node side whole (bitAt ws) h square b
   pub bit : (i j : ℕ) → square i j < 2
-  pub cells : (i j : ℕ) → i < 2 ^ h → j < 2 ^ h → sensed s square i j ≡ a (x + i) (y + j)
+  pub cells : (i j : ℕ) → i < 2 ^ h → j < 2 ^ h → turnedBy s square i j ≡ a (x + i) (y + j)
 
 abbrev pub squareBit : ℕ → ℕ
 squareBit w = w / 1048576

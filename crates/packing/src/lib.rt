@@ -5,6 +5,7 @@ mod making;
 mod measures;
 mod testing;
 
+pub use loading::Sense;
 pub use loading::load;
 pub use making::pack;
 pub use measures::height;

@@ -11,7 +11,8 @@ ghost use Rattle.k2.specs.PairSets.{Cells, IsSet, union};
 ghost use Rattle.k2.specs.Trees.{treeWords, childPlace};
 ghost use Rattle.bits.specs.BitSets.{either};
 ghost use Rattle.rows.specs.Rows.{flat};
-ghost use Rattle.packing.specs.Reading.{sensed, turned, inside, WordsCounted, BlocksCounted, Counted, Reads, squareBit, squareRow, squareColumn, squaresTo, FitAll, ReadAll};
+ghost use Rattle.packing.specs.Senses.{sensed};
+ghost use Rattle.packing.specs.Reading.{turnedBy, turned, inside, WordsCounted, BlocksCounted, Counted, Reads, squareBit, squareRow, squareColumn, squaresTo, FitAll, ReadAll};
 
 // The ones before each word of a tree.
 fn count_words(tree: &[u64], before: &mut [u32])
@@ -285,14 +286,32 @@ fn dive(
     }
 }
 
+// How a tree is read: as it is, or with each pair exchanged.
+pub enum Sense {
+    Plain,
+    Inverted,
+}
+
 // The pairs of a tree put into rows; with sense 1 each pair exchanged.
-pub fn load(tree: &[u64], n: usize, sense: usize, rows: &mut [u64])
+fn load_by(tree: &[u64], n: usize, sense: usize, rows: &mut [u64])
     requires { ⌜ (n ≤ maxRecords) × (length (now tree) ≤ 21846) × (sense ≤ 1) × (length (now rows) ≡ 16384) ⌝ }
     ensures { λ _. ⌜ ((a x : Cells) → IsSet n a → now (tree .entry) ≡ treeWords n a → bitAt (now (rows .entry)) ≡ flat x
-        → bitAt (now (rows .exit)) ≡ flat (union x (sensed sense a))) ⌝ }
+        → bitAt (now (rows .exit)) ≡ flat (union x (turnedBy sense a))) ⌝ }
 {
     let mut before: [u32; 5462] = [0; 5462];
     count(tree, &mut before);
     let root: [usize; 1] = [0; 1];
     dive(tree, &before, height(n), &root, 0, 1, sense, rows);
+}
+
+// The same by its name.
+pub fn load(tree: &[u64], n: usize, sense: Sense, rows: &mut [u64])
+    requires { ⌜ (n ≤ maxRecords) × (length (now tree) ≤ 21846) × (length (now rows) ≡ 16384) ⌝ }
+    ensures { λ _. ⌜ ((a x : Cells) → IsSet n a → now (tree .entry) ≡ treeWords n a → bitAt (now (rows .entry)) ≡ flat x
+        → bitAt (now (rows .exit)) ≡ flat (union x (sensed sense a))) ⌝ }
+{
+    match sense {
+        Sense::Plain => load_by(tree, n, 0, rows),
+        Sense::Inverted => load_by(tree, n, 1, rows),
+    }
 }

@@ -1,4 +1,5 @@
 // Which words are a k2-tree: those that come back when what is read of them is packed again.
+use crate::loading::Sense;
 use crate::loading::load;
 use crate::making::pack;
 use crate::measures::tree_unit;
@@ -39,7 +40,7 @@ pub fn well_formed(tree: &[u64], n: usize) -> bool
         return false;
     }
     let mut rows: [u64; 16384] = [0; 16384];
-    load(tree, n, 0, &mut rows);
+    load(tree, n, Sense::Plain, &mut rows);
     if !rows::within(&rows, n) {
         return false;
     }

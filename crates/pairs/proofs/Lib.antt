@@ -1,4 +1,3 @@
 mod Stepping
 mod Running
-mod Operators
 mod Answering

@@ -1,37 +1,38 @@
--- One number of the code, in plain variables: what a letter, an operator on one operand and one on two do to the operands that wait.
+-- One number of the code, in plain variables: what a letter, `^`, and an operator do to the operands that wait.
 -- Assumes nothing.
-use mathlib.Core.Path.{_≡_, refl, sym, ap, _∙_, subst}
-use mathlib.Core.List.{List, [], _∷_, _++_, map, append-nil}
-use Prim.Native.Nat.{ℕ, suc, _+_, _-_, _*_, _<_, _≤_}
+use mathlib.Core.Path.{_≡_, refl, sym, ap, ap₂, _∙_, subst}
+use mathlib.Core.List.{List, [], _∷_, _++_, append-nil}
+use Prim.Native.Nat.{ℕ, suc, _+_, _-_, _*_, _^_, _<_, _≤_}
 use native.Mathlib.Nat.{mul-le-mul-right}
 use native.Mathlib.Decide.{decLt}
 use native.Mathlib.Omega.{arith}
-use lib.ListN.{length, take, drop, getD, set, length-drop}
-use lib.Seq.{drop-at, drop-drop, length-take-le, drop-length, take-all}
+use lib.ListN.{length, take, drop, getD, set, length-set, length-drop}
+use lib.Seq.{drop-at, drop-drop, length-take-le, drop-length, take-all, getD-set-same, getD-set-other}
 use borrow.Rule.Slice.PartMut.{putMid, take-put, mid-len}
 use Rattle.book.specs.Book.{Book}
-use Rattle.k2.specs.PairSets.{Cells, IsSet, setOf, union, transpose}
-use Rattle.k2.specs.PairSetLaws.{union-set}
+use Rattle.k2.specs.Bits.{bitAt}
+use Rattle.k2.specs.BitLaws.{bit-lt}
+use Rattle.k2.specs.PairSets.{Cells, IsSet, union, transpose, diagonal}
 use Rattle.k2.specs.Trees.{treeUnit, treeWords}
-use Rattle.k2.specs.TreeLaws.{treeWords-tell}
 use Rattle.paths.specs.Expressions.{Expr, letter}
-use Rattle.paths.specs.Chains.{asked}
-use Rattle.paths.specs.Relations.{crossed}
-use Rattle.paths.specs.RelationLaws.{crossed-set}
-use Rattle.paths.specs.PairLaws.{fit-inside}
-use Rattle.register.specs.Lookups.{LabelPart}
-use Rattle.rows.specs.Rows.{noPairs, linkPair}
+use Rattle.paths.specs.Chains.{Graph, asked}
+use Rattle.paths.specs.Relations.{crossed, zeroSteps, cells}
+use Rattle.rows.specs.Rows.{noPairs, crossedWords}
 use Rattle.rows.specs.RowLaws.{none-set, none-tree, union-none}
-use Rattle.reader.specs.Code.{does}
+use Rattle.packing.specs.declared.loading.Sense.the-variants.{Plain}
+use Rattle.reader.specs.Code.{op-inverse, op-alternative, op-sequence, does}
 use Rattle.reader.specs.Running.{operands}
-use Rattle.packing.specs.Reading.{sensed}
-use Rattle.packing.specs.ReadingLaws.{sensed-set, other-sense}
-use Rattle.tree.specs.Inner.{TreeAt, OneWithLinks, TwoWithLinks}
+use Rattle.tree.specs.declared.operations.Operation.the-variants.{Union}
+use Rattle.tree.specs.declared.operations.Operand.{Operand}
+use Rattle.tree.specs.Inner.{nothing, treeAlone, flipped, valued, outcome, Roomy, Room as Spaces, Lent, termSet, TreeAt, Operated}
+use Rattle.tree.specs.InnerLaws.{valued-flipped, valued-alone, valued-nothing, term-set}
 use Rattle.pairs.specs.declared.Stack.{Stack}
-use Rattle.pairs.specs.Evaluation.{relations, onOne, onTwo, Lying, held, beside, Waiting, Totals, Placed, Room}
-use Rattle.pairs.specs.EvaluationLaws.{begins, does-label, does-one, does-two, on-one-set, on-two-set, label-set, zero-identity, runs-number, runs-operands, sizes-count, top, lying-put, waits-next, held-none, beside-none}
+use Rattle.pairs.specs.declared.Taken.{Taken}
+use Rattle.pairs.specs.Evaluation.{relations, letterOperand, operationOf, operandAt, pushed, turned, Standing, Waiting, Totals, Placed, Room}
+use Rattle.pairs.specs.EvaluationLaws.{does-inverse, does-one, does-two, does-label, runs-number, runs-operands, standing-count, standing-top, standing-kept, standing-put, waits-next}
 use Rattle.pairs.specs.RoomLaws.{placed-put, room-operands, room-next, totals-below, totals-most, operands-none, operands-one, operands-two}
-use Rattle.pairs.specs.Steps.{Lettered, Topped, Settled, Goes}
+use Rattle.pairs.specs.LetterLaws.{links-below, letter-crossed, zero-used, used-below}
+use Rattle.pairs.specs.Steps.{Lettered, Taking, Takes, Goes}
 
 -- ---- work with a part of it, from a word on, changed
 module _ (work part : List ℕ) (start : ℕ) (h : start ≤ length work) where
@@ -55,273 +56,296 @@ long-as r l xs h e = sym (length-take-le r l h) ∙ ap length e
 pub rest : (work : List ℕ) (start : ℕ) → take (length work - start) (drop start work) ≡ drop start work
 rest work start = take-all (length work - start) (drop start work) (rw (length-drop start work) (omega arith))
 
--- ---- where the operands lie, for the indices and the part that is lent
+-- ---- where the operands lie
 product-le : (k m d : ℕ) → k ≤ m → k * d ≤ m * d
 product-le k m d h = mul-le-mul-right d h
 
-module _ {d : ℕ} {S : Stack} (P : Placed d S) (few : S .count ≤ 19) where
-  pub lies-one : 1 ≤ S .count
-      → (getD (S .sizes) (S .count - 1) 0 ≤ S .end) × (getD (S .sizes) (S .count - 1) 0 ≤ d) × (S .end - getD (S .sizes) (S .count - 1) 0 ≤ 18 * d)
-      × Totals d (S .sizes) (S .count - 1) (S .end - getD (S .sizes) (S .count - 1) 0)
-  lies-one l =
-      let t = totals-below (P .totals) (S .count - 1) (omega arith) in
-      (t .0, t .1, omega (arith, totals-most (t .2), product-le (S .count - 1) 18 d (omega arith)), t .2)
-
-  pub lies-two : 2 ≤ S .count
-      → (getD (S .sizes) (S .count - 1) 0 ≤ S .end) × (getD (S .sizes) (S .count - 1) 0 ≤ d)
-      × (getD (S .sizes) (S .count - 1 - 1) 0 ≤ S .end - getD (S .sizes) (S .count - 1) 0) × (getD (S .sizes) (S .count - 1 - 1) 0 ≤ d)
-      × (S .end - getD (S .sizes) (S .count - 1) 0 - getD (S .sizes) (S .count - 1 - 1) 0 ≤ 17 * d)
-      × Totals d (S .sizes) (S .count - 1 - 1) (S .end - getD (S .sizes) (S .count - 1) 0 - getD (S .sizes) (S .count - 1 - 1) 0)
-  lies-two l =
-      let t = totals-below (P .totals) (S .count - 1) (omega arith) in
-      let u = totals-below (t .2) (S .count - 1 - 1) (omega arith) in
-      (t .0, t .1, u .0, u .1, omega (arith, totals-most (u .2), product-le (S .count - 1 - 1) 17 d (omega arith)), u .2)
+-- the trees of the operands below the top end early enough to leave room for the value
+pub starts-early : {d k at : ℕ} {os : List Operand} → Totals d os k at → k ≤ 18 → at ≤ 18 * d
+starts-early {d} {k} t h = omega (arith, totals-most t, product-le k 18 d h)
 
 -- how many there are before a number of the code
 module _ {d op : ℕ} {c : List ℕ} {S : Stack} (R : Room d (op ∷ c) S) where
-  pub before-letter : op < 26 → S .count < 19
+  pub before-letter : op < op-inverse → S .count < 19
   before-letter h = let q = room-operands R in omega (arith, q .room, operands-none op h)
 
-  pub before-one : 26 ≤ op → op < 30 → (1 ≤ S .count) × (S .count ≤ 19)
-  before-one l h = let q = room-operands R in (omega (arith, q .found, operands-one op l h), q .few)
+  pub before-some : op-inverse ≤ op → (1 ≤ S .count) × (S .count ≤ 19)
+  before-some l = by (decLt op op-alternative)
+    where
+      by : Dec (op < op-alternative) → (1 ≤ S .count) × (S .count ≤ 19)
+      by (yes h) = let q = room-operands R in (omega (arith, q .found, operands-one op l h), q .few)
+      by (no h) = let q = room-operands R in (omega (arith, q .found, operands-two op (omega arith)), q .few)
 
-  pub before-two : 30 ≤ op → (2 ≤ S .count) × (S .count ≤ 19)
+  pub before-two : op-alternative ≤ op → (2 ≤ S .count) × (S .count ≤ 19)
   before-two l = let q = room-operands R in (omega (arith, q .found, operands-two op l), q .few)
 
-  pub before-some : 26 ≤ op → (1 ≤ S .count) × (S .count ≤ 19)
-  before-some l = by (decLt op 30)
-    where
-      by : Dec (op < 30) → (1 ≤ S .count) × (S .count ≤ 19)
-      by (yes h) = before-one l h
-      by (no h) = let t = before-two (omega arith) in (omega arith, t .1)
-
-  pub before-number : op ≤ 31
+  pub before-number : op ≤ op-sequence
   before-number = room-operands R .number
 
 -- the length of the part from a word on
 pub part-length : (work : List ℕ) (start : ℕ) → length (take (length work - start) (drop start work)) ≡ length work - start
 part-length work start = mid-len start (length work) work (omega arith)
 
--- ---- a size cut off at D is the size of a tree
-pub bounded-tree : {n : ℕ} {a : Cells} {us : List ℕ} {r q : ℕ} → TreeAt n a us r → (r ≤ treeUnit n → q ≡ r) → TreeAt n a us q
-bounded-tree {n} {a} {us} t e = subst (λ (j : ℕ). TreeAt n a us j) (sym (e (t .few))) t
+-- ---- the operands taken off
+-- the operand on top, and the one below it
+abbrev pub onTop : Stack → Operand
+onTop S = operandAt (S .operands) (S .count - 1)
 
--- ---- the links beside
--- a letter's set, and it read with a sense
-module _ (b : Book) (n : ℕ) (ws links : List ℕ) (S : Stack) (P : LabelPart ws (S .label) links) (L : Lettered b n ws) where
-  abbrev pub letters : Cells
-  letters = setOf (map linkPair links)
+abbrev pub belowTop : Stack → Operand
+belowTop S = operandAt (S .operands) (S .count - 1 - 1)
 
-  pub letters-held : sensed (S .sense) letters ≡ held (asked b) S
-  unfolding linkPair
-  letters-held = ap (sensed (S .sense)) (label-set b (L .fit) (L .small) (S .label) (map linkPair links) (P .pairs (b .n) (b .sheet) (L .small) (L .fit) (L .linked)))
+module _ {d op : ℕ} {c : List ℕ} {S : Stack} (R : Room d (op ∷ c) S) where
+  top-totals : op-inverse ≤ op → (onTop S .size ≤ S .end) × (onTop S .size ≤ d) × Totals d (S .operands) (S .count - 1) (S .end - onTop S .size)
+  top-totals l = totals-below (R .placed .totals) (S .count - 1) (omega (arith, before-some R l))
 
-  pub letters-set : IsSet (b .n) letters
-  unfolding linkPair asked
-  letters-set = subst (IsSet (b .n)) (sym (label-set b (L .fit) (L .small) (S .label) (map linkPair links) (P .pairs (b .n) (b .sheet) (L .small) (L .fit) (L .linked)))) (crossed-set (asked b) (letter (S .label)) (fit-inside b (L .fit)))
+  pub top-within : op-inverse ≤ op → onTop S .size ≤ S .end
+  top-within l = top-totals l .0
 
-  pub held-set : IsSet (b .n) (held (asked b) S)
-  held-set = subst (IsSet (b .n)) letters-held (sensed-set (S .sense) (b .n) letters letters-set)
+  below-totals : op-alternative ≤ op
+      → (belowTop S .size ≤ S .end - onTop S .size) × (belowTop S .size ≤ d) × Totals d (S .operands) (S .count - 1 - 1) (S .end - onTop S .size - belowTop S .size)
+  below-totals l = totals-below (top-totals (omega arith) .2) (S .count - 1 - 1) (omega (arith, before-two R l))
 
--- ---- an operator on the operand on top
-module _ (n op : ℕ) (ws links work part : List ℕ) (S : Stack) (r : ℕ) (some : 1 ≤ S .count) (few : S .count ≤ 19) (P : Placed (treeUnit n) S)
-    (h : S .end - getD (S .sizes) (S .count - 1) 0 ≤ length work) (rd : r ≤ treeUnit n) (rp : r ≤ length part) (B : LabelPart ws (S .label) links)
-    (made : OneWithLinks (onOne n op) n (getD (S .sizes) (S .count - 1) 0) links (S .sense)
-    (take (length work - (S .end - getD (S .sizes) (S .count - 1) 0)) (drop (S .end - getD (S .sizes) (S .count - 1) 0) work)) part r) where
-  abbrev size₁ : ℕ
-  size₁ = getD (S .sizes) (S .count - 1) 0
+  pub below-within : op-alternative ≤ op → belowTop S .size ≤ S .end - onTop S .size
+  below-within l = below-totals l .0
 
-  abbrev start₁ : ℕ
-  start₁ = S .end - size₁
-
-  abbrev after₁ : Stack
-  after₁ = record { sizes = set (S .sizes) (S .count - 1) r; count = S .count; end = start₁ + r; label = 26; sense = 0 }
-
-  top-lies : (b : Book) → Lettered b n ws → (t : Cells) (st : List Cells) → Lying (b .n) work S (t ∷ st)
-      → Lying (b .n) (changed work part start₁ h) after₁ (onOne (b .n) op (union t (held (asked b) S)) ∷ st)
-  top-lies b L t st y =
-      let T = top (y .sets) (y .sizes) (y .ends) (y .trees) in
-      let u : Cells = union t (held (asked b) S) in
-      let v : Cells = onOne (b .n) op u in
-      let e : take r part ≡ treeWords (b .n) v =
-      subst (λ (a : Cells). take r part ≡ treeWords (b .n) (onOne (b .n) op (union t a))) (letters-held b n ws links S B L)
-      (subst (λ (i : ℕ). take size₁ (drop start₁ work) ≡ treeWords i t → IsSet i t → IsSet i (letters b n ws links S B L) → take r part ≡ treeWords i (onOne i op (union t (sensed (S .sense) (letters b n ws links S B L))))) (L .size)
-      (λ p q s. made t q (ap (take size₁) (rest work start₁) ∙ p) s .words) (T .tree) (T .set) (letters-set b n ws links S B L)) in
-      let j : S .count ≡ suc (length st) = sizes-count (y .sizes) in
-      let l : S .count - 1 < length (S .sizes) = omega (arith, P .slots) in
-      lying-put (b .n) work (changed work part start₁ h) (S .sizes) start₁ r (S .count - 1) (S .count) 26 0 st v (omega arith) j (T .below) (T .sizes) (T .begins) (T .trees)
-      (on-one-set (b .n) op (union-set (b .n) t (held (asked b) S) (T .set) (held-set b n ws links S B L))) l (front work part start₁ h)
-      (ap (take r) (back work part start₁ h) ∙ e) (long-as r part (treeWords (b .n) v) rp e)
-
-  pub topped : Topped n ws op work (changed work part start₁ h) S after₁
-  topped = record {
-    placed = placed-put start₁ r (S .count - 1) (S .count) 26 0 P (lies-one P few some .3) rd (omega arith) (omega arith) (omega arith);
-    same = refl;
-    alone = refl;
-    lies = top-lies;
-  }
-
--- ---- what is beside the operand on top put into it
-module _ (n : ℕ) (ws work : List ℕ) (S : Stack) (P : Placed (treeUnit n) S) where
-  pub settled-none : S .count ≡ 0 → Settled n ws work work S S
-  settled-none e = record { placed = P; same = refl; lies = go }
+  -- `^`
+  pub takes-inverse : op ≡ op-inverse
+      → Takes d op S (record { term = record { operation = Union; first = nothing; second = flipped (onTop S) }; start = S .end - onTop S .size; below = S .count - 1 })
+  takes-inverse e =
+      let o = operands-one op (omega arith) (omega arith) in
+      let b = before-some R (omega arith) in
+      let t = top-totals (omega arith) in
+      record { below = omega arith; totals = t .2; first = omega arith; second = t .1; taking = taken }
     where
-      go : (b : Book) → Lettered b n ws → (st : List Cells) → Lying (b .n) work S st → Lying (b .n) work S (beside (held (asked b) S) st)
-      go b L [] y = y
-      go b L (t ∷ st) y = absurd (omega (arith, sizes-count (y .sizes)))
+      taken : (g : Graph) (ws work : List ℕ) (u : ℕ → ℕ) (st : List Cells) → diagonal u ≡ zeroSteps g → Standing (g .n) ws work (S .operands) (S .count) (S .end) st
+          → Taking g ws work u op S (record { term = record { operation = Union; first = nothing; second = flipped (onTop S) }; start = S .end - onTop S .size; below = S .count - 1 }) st
+      taken g ws work u st z s =
+          let T = standing-top s (S .count - 1) (omega (arith, before-some R (omega arith))) in
+          record {
+            a = noPairs;
+            b = T .a;
+            others = T .others;
+            first = none-set (g .n);
+            second = T .set;
+            front = none-tree (g .n);
+            behind = T .tree;
+            stand = T .below;
+            does = ap₂ (λ (i : ℕ) (x : List Cells). does (relations g) i x) e (T .is) ∙ (does-inverse g (valued ws (onTop S) (T .a)) (T .others) ∙ ap (λ (x : Cells). x ∷ T .others)
+                (sym (valued-flipped ws (onTop S) (T .a)) ∙ sym (union-none _) ∙ ap (λ (x : Cells). union x (valued ws (flipped (onTop S)) (T .a))) (sym (valued-nothing ws))));
+          }
 
-  pub settled-alone : S .label ≡ 26 → Settled n ws work work S S
-  settled-alone e = record {
-    placed = P;
-    same = refl;
-    lies = λ b L st y. subst (Lying (b .n) work S) (sym (ap (λ (a : Cells). beside a st) (held-none b (L .fit) S e) ∙ beside-none st)) y;
-  }
+  -- an operator on one operand
+  pub takes-one : op-inverse < op → op < op-alternative
+      → Takes d op S (record { term = record { operation = operationOf op; first = nothing; second = onTop S }; start = S .end - onTop S .size; below = S .count - 1 })
+  takes-one l h =
+      let o = operands-one op (omega arith) h in
+      let b = before-some R (omega arith) in
+      let t = top-totals (omega arith) in
+      record { below = omega arith; totals = t .2; first = omega arith; second = t .1; taking = taken }
+    where
+      taken : (g : Graph) (ws work : List ℕ) (u : ℕ → ℕ) (st : List Cells) → diagonal u ≡ zeroSteps g → Standing (g .n) ws work (S .operands) (S .count) (S .end) st
+          → Taking g ws work u op S (record { term = record { operation = operationOf op; first = nothing; second = onTop S }; start = S .end - onTop S .size; below = S .count - 1 }) st
+      taken g ws work u st z s =
+          let T = standing-top s (S .count - 1) (omega (arith, before-some R (omega arith))) in
+          record {
+            a = noPairs;
+            b = T .a;
+            others = T .others;
+            first = none-set (g .n);
+            second = T .set;
+            front = none-tree (g .n);
+            behind = T .tree;
+            stand = T .below;
+            does = ap (does (relations g) op) (T .is) ∙ (does-one g u z op (valued ws (onTop S) (T .a)) (T .others) l h
+                ∙ ap (λ (x : Cells). outcome (operationOf op) (g .n) u x (valued ws (onTop S) (T .a)) ∷ T .others) (sym (valued-nothing ws)));
+          }
 
-pub settled-top : {n : ℕ} {ws work work′ : List ℕ} {S S′ : Stack} → 1 ≤ S .count → Topped n ws 0 work work′ S S′ → Settled n ws work work′ S S′
-unfolding onOne
-settled-top {n} {ws} {work} {work′} {S} {S′} l T = record { placed = T .placed; same = T .same; lies = go }
+  -- an operator on two
+  pub takes-two : op-alternative ≤ op
+      → Takes d op S (record {
+        term = record { operation = operationOf op; first = belowTop S; second = onTop S };
+        start = S .end - onTop S .size - belowTop S .size;
+        below = S .count - 1 - 1;
+      })
+  takes-two l =
+      let o = operands-two op l in
+      let b = before-two R l in
+      let t = top-totals (omega arith) in
+      let t′ = below-totals l in
+      record { below = omega arith; totals = t′ .2; first = t′ .1; second = t .1; taking = taken }
+    where
+      taken : (g : Graph) (ws work : List ℕ) (u : ℕ → ℕ) (st : List Cells) → diagonal u ≡ zeroSteps g → Standing (g .n) ws work (S .operands) (S .count) (S .end) st
+          → Taking g ws work u op S (record {
+            term = record { operation = operationOf op; first = belowTop S; second = onTop S };
+            start = S .end - onTop S .size - belowTop S .size;
+            below = S .count - 1 - 1;
+          }) st
+      taken g ws work u st z s =
+          let n = before-two R l in
+          let T = standing-top s (S .count - 1) (omega arith) in
+          let U = standing-top (T .below) (S .count - 1 - 1) (omega arith) in
+          let q : S .end - onTop S .size - belowTop S .size + belowTop S .size ≡ S .end - onTop S .size = let w = U .within in omega arith in
+          record {
+            a = U .a;
+            b = T .a;
+            others = U .others;
+            first = U .set;
+            second = T .set;
+            front = U .tree;
+            behind = ap (take (onTop S .size)) (drop-drop (belowTop S .size) (S .end - onTop S .size - belowTop S .size) work ∙ ap (λ (i : ℕ). drop i work) q) ∙ T .tree;
+            stand = U .below;
+            does = ap (does (relations g) op) (T .is ∙ ap (λ (x : List Cells). valued ws (onTop S) (T .a) ∷ x) (U .is))
+                ∙ does-two g u z op (valued ws (belowTop S) (U .a)) (valued ws (onTop S) (T .a)) (U .others) l (before-number R);
+          }
+
+-- few operands stay
+pub takes-early : {d op : ℕ} {c : List ℕ} {S : Stack} {q : Taken} → Room d (op ∷ c) S → op-inverse ≤ op → Takes d op S q → q .below ≤ 18
+takes-early {op = op} {q = q} R l T = by (decLt op op-alternative)
   where
-    go : (b : Book) → Lettered b n ws → (st : List Cells) → Lying (b .n) work S st → Lying (b .n) work′ S′ (beside (held (asked b) S) st)
-    go b L [] y = absurd (omega (arith, sizes-count (y .sizes)))
-    go b L (t ∷ st) y = T .lies b L t st y
+    by : Dec (op < op-alternative) → q .below ≤ 18
+    by (yes h) = omega (arith, before-some R l, T .below, operands-one op l h)
+    by (no h) = omega (arith, before-some R l, T .below, operands-two op (omega arith))
 
--- ---- a letter: what is on top is settled, and one more operand is put on it
-module _ (n op : ℕ) (ws work work′ : List ℕ) (S S′ : Stack) (small : op < 26) (low : S .count < 19) (T : Settled n ws work work′ S S′) where
-  abbrev lettered : Stack
-  lettered = record { sizes = set (S′ .sizes) (S′ .count) 0; count = S′ .count + 1; end = S′ .end; label = op; sense = 0 }
-
-  letter-room : (c : List ℕ) → Room (treeUnit n) (op ∷ c) S → Room (treeUnit n) c lettered
+-- ---- a letter
+module _ (n op : ℕ) (ws used work : List ℕ) (S : Stack) (small : op < op-inverse) where
+  letter-room : (c : List ℕ) → Room (treeUnit n) (op ∷ c) S → Room (treeUnit n) c (pushed (letterOperand op) (S .count) (S .end) S)
   letter-room c R =
-      let q = room-operands R in
       let o = operands-none op small in
-      let l : S′ .count < 19 = omega (arith, q .room, T .same) in
-      let z : S′ .end + 0 ≡ S′ .end = omega arith in
-      room-next R (subst (λ (i : ℕ). Placed (treeUnit n) (record { sizes = set (S′ .sizes) (S′ .count) 0; count = S′ .count + 1; end = i; label = op; sense = 0 })) z
-      (placed-put (S′ .end) 0 (S′ .count) (S′ .count + 1) op 0 (T .placed) (T .placed .totals) (omega arith) l (omega arith) (omega arith))) (omega (arith, T .same))
+      let z : S .end + 0 ≡ S .end = omega arith in
+      room-next R (subst (λ (i : ℕ). Placed (treeUnit n) (pushed (letterOperand op) (S .count) i S)) z
+      (placed-put (S .end) (S .count) (letterOperand op) (R .placed) (R .placed .totals) (omega arith) (before-letter R small))) (omega arith)
 
-  letter-waits : (b : Book) → Lettered b n ws → (e : Expr) (c : List ℕ) (st : List Cells) → Waiting (asked b) e (op ∷ c) work S st → (st′ : List Cells) × Waiting (asked b) e c work′ lettered st′
+  letter-waits : (b : Book) → Lettered b n ws used → (e : Expr) (c : List ℕ) (st : List Cells) → length (S .operands) ≡ 19 → S .count < 19 → Waiting (asked b) e (op ∷ c) ws work S st
+      → (st′ : List Cells) × Waiting (asked b) e c ws work (pushed (letterOperand op) (S .count) (S .end) S) st′
   unfolding asked
-  letter-waits b L e c st w =
-      let u = beside (held (asked b) S) st in
-      let y = T .lies b L st (w .lie) in
-      let z : S′ .end + 0 ≡ S′ .end = omega arith in
-      let k : S′ .count ≡ length u = sizes-count (y .sizes) in
-      let l : S′ .count < length (S′ .sizes) = omega (arith, T .placed .slots, T .same) in
-      let d : does (relations (asked b)) op u ≡ beside (held (asked b) lettered) (noPairs ∷ u) = does-label (asked b) op u small ∙ ap (λ (a : Cells). a ∷ u) (sym (union-none (crossed (asked b) (letter op)))) in (
-        noPairs ∷ u,
-        waits-next (noPairs ∷ u) w d
-            (subst (λ (i : ℕ). Lying (b .n) work′ (record { sizes = set (S′ .sizes) (S′ .count) 0; count = S′ .count + 1; end = i; label = op; sense = 0 }) (noPairs ∷ u)) z
-            (lying-put (b .n) work′ work′ (S′ .sizes) (S′ .end) 0 (S′ .count) (S′ .count + 1) op 0 u noPairs k (omega arith) (y .sets) (y .sizes) (y .ends) (y .trees) (none-set (b .n)) l refl (none-tree (b .n)) (ap length (none-tree (b .n))))),
+  letter-waits b L e c st k m w =
+      let g : Graph = asked b in
+      let v : valued ws (letterOperand op) noPairs ≡ crossed g (letter op) = union-none (crossedWords ws (2 ^ op) 0) ∙ letter-crossed b n ws used L op in
+      let z : S .end + 0 ≡ S .end = omega arith in (
+        valued ws (letterOperand op) noPairs ∷ st,
+        waits-next (valued ws (letterOperand op) noPairs ∷ st) w (does-label g op st small ∙ ap (λ (a : Cells). a ∷ st) (sym v))
+            (subst (λ (i : ℕ). Standing (b .n) ws work (set (S .operands) (S .count) (letterOperand op)) (S .count + 1) i (valued ws (letterOperand op) noPairs ∷ st)) z
+            (standing-put (b .n) ws work (S .operands) (S .count) (S .end) (letterOperand op) noPairs st (w .stand) (omega arith) (none-set (b .n)) (none-tree (b .n)) (ap length (none-tree (b .n))))),
       )
 
-  pub goes-letter : Goes n ws op work work′ S lettered
-  goes-letter = record { room = letter-room; waits = letter-waits }
+  pub goes-letter : {c : List ℕ} → Room (treeUnit n) (op ∷ c) S → Goes n ws used op work work S (pushed (letterOperand op) (S .count) (S .end) S)
+  goes-letter R = record { room = letter-room; waits = λ b L e c st w. letter-waits b L e c st (R .placed .slots) (before-letter R small) w }
 
--- ---- an operator on one operand
--- a tree of no words is that of no pairs
-bare-none : (n : ℕ) (t : Cells) → IsSet n t → (start size : ℕ) (work : List ℕ) → size ≡ 0 → take size (drop start work) ≡ treeWords n t → t ≡ noPairs
-bare-none n t i start size work e q =
-    treeWords-tell n t noPairs i (none-set n) (sym q ∙ ap (λ (k : ℕ). take k (drop start work)) e ∙ none-tree n)
+-- ---- `^`
+module _ (n op : ℕ) (ws used work : List ℕ) (S : Stack) (is : op ≡ op-inverse) where
+  abbrev top : ℕ
+  top = S .count - 1
 
--- no pairs, and beside them links, turned
-turned-union : (n op s : ℕ) (t a : Cells) → op ≡ 26 → s ≤ 1 → t ≡ noPairs → onOne n op (union t (sensed s a)) ≡ union t (sensed (1 - s) a)
-unfolding onOne
-turned-union n op s t a e l z = rw (e, z) (ap transpose (union-none (sensed s a)) ∙ sym (other-sense s a l) ∙ sym (union-none (sensed (1 - s) a)))
+  module _ (some : 1 ≤ S .count) (within : onTop S .size ≤ S .end) where
+    one-more : top + 1 ≡ S .count
+    one-more = omega arith
 
-module _ (n op : ℕ) (ws work : List ℕ) (low : 26 ≤ op) (high : op < 30) where
-  pub goes-one : (work′ : List ℕ) (S S′ : Stack) → Topped n ws op work work′ S S′ → Goes n ws op work work′ S S′
+    same-end : S .end - onTop S .size + onTop S .size ≡ S .end
+    same-end = omega arith
+
+    turned-placed : {d : ℕ} → Placed d (record { operands = set (S .operands) top (flipped (onTop S)); count = top + 1; end = S .end - onTop S .size + onTop S .size }) → Placed d (turned S)
+    turned-placed {d} P =
+        subst (λ (i : ℕ). Placed d (record { operands = set (S .operands) top (flipped (onTop S)); count = i; end = S .end })) one-more
+        (subst (λ (i : ℕ). Placed d (record { operands = set (S .operands) top (flipped (onTop S)); count = top + 1; end = i })) same-end P)
+
+    turned-stands : {m : ℕ} {st : List Cells} → Standing m ws work (set (S .operands) top (flipped (onTop S))) (top + 1) (S .end - onTop S .size + onTop S .size) st
+        → Standing m ws work (set (S .operands) top (flipped (onTop S))) (S .count) (S .end) st
+    turned-stands {m} {st} s =
+        subst (λ (i : ℕ). Standing m ws work (set (S .operands) top (flipped (onTop S))) i (S .end) st) one-more
+        (subst (λ (i : ℕ). Standing m ws work (set (S .operands) top (flipped (onTop S))) (top + 1) i st) same-end s)
+
+  inverse-room : (c : List ℕ) → Room (treeUnit n) (op ∷ c) S → Room (treeUnit n) c (turned S)
+  inverse-room c R =
+      let o = operands-one op (omega arith) (omega arith) in
+      let b = before-some R (omega arith) in
+      let t = top-totals R (omega arith) in
+      room-next R (turned-placed (b .0) (t .0) (placed-put (S .end - onTop S .size) top (flipped (onTop S)) (R .placed) (t .2) (t .1) (omega arith))) (omega arith)
+
+  inverse-waits : {c : List ℕ} → Room (treeUnit n) (op ∷ c) S → (b : Book) (e : Expr) (c′ : List ℕ) (st : List Cells) → Waiting (asked b) e (op ∷ c′) ws work S st
+      → (st′ : List Cells) × Waiting (asked b) e c′ ws work (turned S) st′
   unfolding asked
-  goes-one work′ S S′ T = record { room = room; waits = waits }
-    where
-      room : (c : List ℕ) → Room (treeUnit n) (op ∷ c) S → Room (treeUnit n) c S′
-      room c R = room-next R (T .placed) (omega (arith, T .same, operands-one op low high, room-operands R .found))
-
-      waits : (b : Book) → Lettered b n ws → (e : Expr) (c : List ℕ) (st : List Cells) → Waiting (asked b) e (op ∷ c) work S st → (st′ : List Cells) × Waiting (asked b) e c work′ S′ st′
-      waits b L e c [] w = absurd (omega (arith, runs-operands (relations (asked b)) (w .runs), operands-one op low high))
-      waits b L e c (t ∷ st) w =
-          let v : Cells = onOne (b .n) op (union t (held (asked b) S)) in
-          let d : does (relations (asked b)) op (union t (held (asked b) S) ∷ st) ≡ beside (held (asked b) S′) (v ∷ st) =
-          does-one (asked b) (zero-identity b) op (union t (held (asked b) S)) st low high ∙ sym (ap (λ (a : Cells). beside a (v ∷ st)) (held-none b (L .fit) S′ (T .alone)) ∙ beside-none (v ∷ st)) in
-          (v ∷ st, waits-next (v ∷ st) w d (T .lies b L t st (w .lie)))
-
-  -- `^` on links alone: they are read with the other sense
-  module _ (S : Stack) (inverse : op ≡ 26) (bare : getD (S .sizes) (S .count - 1) 0 ≡ 0) where
-    abbrev turned : Stack
-    turned = record { sizes = S .sizes; count = S .count; end = S .end; label = S .label; sense = 1 - S .sense }
-
-    turned-room : (c : List ℕ) → Room (treeUnit n) (op ∷ c) S → Room (treeUnit n) c turned
-    turned-room c R = room-next R (record { slots = R .placed .slots; totals = R .placed .totals; sense = omega arith }) (omega (arith, operands-one op low high, room-operands R .found))
-
-    pub goes-turned : S .sense ≤ 1 → Goes n ws op work work S turned
-    unfolding asked
-    goes-turned o = record { room = turned-room; waits = waits }
-      where
-        waits : (b : Book) → Lettered b n ws → (e : Expr) (c : List ℕ) (st : List Cells) → Waiting (asked b) e (op ∷ c) work S st → (st′ : List Cells) × Waiting (asked b) e c work turned st′
-        waits b L e c [] w = absurd (omega (arith, runs-operands (relations (asked b)) (w .runs), operands-one op low high))
-        waits b L e c (t ∷ st) w =
-            let y = w .lie in
-            let T = top (y .sets) (y .sizes) (y .ends) (y .trees) in
-            let z : t ≡ noPairs = bare-none (b .n) t (T .set) (S .end - getD (S .sizes) (S .count - 1) 0) (getD (S .sizes) (S .count - 1) 0) work bare (T .tree) in
-            let d : does (relations (asked b)) op (union t (held (asked b) S) ∷ st) ≡ union t (held (asked b) turned) ∷ st =
-            does-one (asked b) (zero-identity b) op (union t (held (asked b) S)) st low high
-            ∙ ap (λ (a : Cells). a ∷ st) (turned-union (b .n) op (S .sense) t (crossed (asked b) (letter (S .label))) inverse o z) in
-            (t ∷ st, waits-next (t ∷ st) w d (record { sets = y .sets; sizes = y .sizes; ends = y .ends; trees = y .trees }))
-
--- ---- an operator on two operands
-module _ (n op : ℕ) (ws links work part : List ℕ) (S : Stack) (r : ℕ) (low : 30 ≤ op) (few : S .count ≤ 19) (P : Placed (treeUnit n) S)
-    (h : S .end - getD (S .sizes) (S .count - 1) 0 - getD (S .sizes) (S .count - 1 - 1) 0 ≤ length work)
-    (rd : r ≤ treeUnit n) (rp : r ≤ length part) (B : LabelPart ws (S .label) links)
-    (made : TwoWithLinks (onTwo n op) n (getD (S .sizes) (S .count - 1 - 1) 0) (getD (S .sizes) (S .count - 1) 0) links (S .sense)
-    (take (length work - (S .end - getD (S .sizes) (S .count - 1) 0 - getD (S .sizes) (S .count - 1 - 1) 0)) (drop (S .end - getD (S .sizes) (S .count - 1) 0 - getD (S .sizes) (S .count - 1 - 1) 0) work)) part r) where
-  abbrev right : ℕ
-  right = getD (S .sizes) (S .count - 1) 0
-
-  abbrev left : ℕ
-  left = getD (S .sizes) (S .count - 1 - 1) 0
-
-  abbrev start₂ : ℕ
-  start₂ = S .end - right - left
-
-  abbrev after₂ : Stack
-  after₂ = record { sizes = set (S .sizes) (S .count - 1 - 1) r; count = S .count - 1; end = start₂ + r; label = 26; sense = 0 }
-
-  two-room : (c : List ℕ) → Room (treeUnit n) (op ∷ c) S → Room (treeUnit n) c after₂
-  two-room c R =
-      let q = room-operands R in
-      let o : operands op ≡ 2 = operands-two op low in
-      let p : S .count - 1 - 1 < 19 = omega (arith, q .few, q .found) in
-      let t = lies-two (R .placed) (q .few) (omega (arith, q .found)) in
-      room-next R (placed-put start₂ r (S .count - 1 - 1) (S .count - 1) 26 0 (R .placed) (t .5) rd p (omega (arith, q .found)) (omega arith)) (omega (arith, q .found))
-
-  two-waits : (b : Book) → Lettered b n ws → (e : Expr) (c : List ℕ) (st : List Cells) → Waiting (asked b) e (op ∷ c) work S st
-      → (st′ : List Cells) × Waiting (asked b) e c (changed work part start₂ h) after₂ st′
-  unfolding asked
-  two-waits b L e c [] w = absurd (omega (arith, runs-operands (relations (asked b)) (w .runs), operands-two op low))
-  two-waits b L e c (y ∷ []) w = absurd (omega (arith, runs-operands (relations (asked b)) (w .runs), operands-two op low))
-  two-waits b L e c (y ∷ x ∷ st) w =
-      let I = w .lie in
-      let T = top (I .sets) (I .sizes) (I .ends) (I .trees) in
-      let U = top (T .below) (T .sizes) (T .begins) (T .trees) in
-      let u : Cells = union y (held (asked b) S) in
-      let v : Cells = onTwo (b .n) op x u in
-      let p : take right (drop left (drop start₂ work)) ≡ treeWords (b .n) y =
-      ap (take right) (drop-drop left start₂ work ∙ ap (λ (i : ℕ). drop i work) (sym (U .ends))) ∙ T .tree in
-      let t : take r part ≡ treeWords (b .n) v =
-      subst (λ (a : Cells). take r part ≡ treeWords (b .n) (onTwo (b .n) op x (union y a))) (letters-held b n ws links S B L)
-      (subst (λ (i : ℕ). take left (drop start₂ work) ≡ treeWords i x → take right (drop left (drop start₂ work)) ≡ treeWords i y → IsSet i x → IsSet i y → IsSet i (letters b n ws links S B L)
-      → take r part ≡ treeWords i (onTwo i op x (union y (sensed (S .sense) (letters b n ws links S B L))))) (L .size)
-      (λ p q i j s. made x y i j (ap (take left) (rest work start₂) ∙ p) (ap (λ (z : List ℕ). take right (drop left z)) (rest work start₂) ∙ q) s .words)
-      (U .tree) p (U .set) (T .set) (letters-set b n ws links S B L)) in
-      let j : S .count ≡ suc (suc (length st)) = sizes-count (I .sizes) in
-      let d : does (relations (asked b)) op (u ∷ x ∷ st) ≡ beside (held (asked b) after₂) (v ∷ st) =
-      does-two (asked b) op x u st low (runs-number (relations (asked b)) (w .runs)) ∙ sym (ap (λ (a : Cells). beside a (v ∷ st)) (held-none b (L .fit) after₂ refl) ∙ beside-none (v ∷ st)) in
-      let l : S .count - 1 - 1 < length (S .sizes) = omega (arith, P .slots) in (
-        v ∷ st,
-        waits-next (v ∷ st) w d
-            (lying-put (b .n) work (changed work part start₂ h) (S .sizes) start₂ r (S .count - 1 - 1) (S .count - 1) 26 0 st v (omega arith) (omega arith) (U .below) (U .sizes) (U .begins) (U .trees)
-            (on-two-set (b .n) op (U .set) (union-set (b .n) y (held (asked b) S) (T .set) (held-set b n ws links S B L))) l (front work part start₂ h)
-            (ap (take r) (back work part start₂ h) ∙ t) (long-as r part (treeWords (b .n) v) rp t)),
+  inverse-waits R b e c′ st w =
+      let g : Graph = asked b in
+      let k = before-some R (omega arith) in
+      let T = standing-top (w .stand) top (omega arith) in
+      let v : Cells = valued ws (flipped (onTop S)) (T .a) in
+      let d : does (relations g) op st ≡ v ∷ T .others =
+      ap₂ (λ (i : ℕ) (x : List Cells). does (relations g) i x) is (T .is) ∙ (does-inverse g (valued ws (onTop S) (T .a)) (T .others) ∙ ap (λ (x : Cells). x ∷ T .others) (sym (valued-flipped ws (onTop S) (T .a)))) in
+      let l : top < length (S .operands) = omega (arith, R .placed .slots) in (
+        v ∷ T .others,
+        waits-next (v ∷ T .others) w d (turned-stands (k .0) (T .within)
+            (standing-put (b .n) ws work (S .operands) top (S .end - onTop S .size) (flipped (onTop S)) (T .a) (T .others) (T .below) l (T .set) (T .tree) (T .long))),
       )
 
-  pub goes-two : Goes n ws op work (changed work part start₂ h) S after₂
-  goes-two = record { room = two-room; waits = two-waits }
+  pub goes-inverse : {c : List ℕ} → Room (treeUnit n) (op ∷ c) S → Goes n ws used op work work S (turned S)
+  goes-inverse R = record { room = inverse-room; waits = λ b L e c st w. inverse-waits R b e c st w }
+
+-- ---- an operator
+-- what is lent to the operation
+module _ (n op : ℕ) (ws used work : List ℕ) (S : Stack) (q : Taken) (T : Takes (treeUnit n) op S q) where
+  pub lent : (b : Book) (L : Lettered b n ws used) (st : List Cells) → Standing (b .n) ws work (S .operands) (S .count) (S .end) st
+      → (t : Taking (asked b) ws work (bitAt used) op S q st) × Lent (q .term) n ws (bitAt used) (drop (q .start) work) (t .a) (t .b)
+  unfolding asked
+  lent b L st s =
+      let t = T .taking (asked b) ws work (bitAt used) st (zero-used b n ws used L) s in
+      let z = sym (L .size) in (
+        t,
+        record {
+          first = subst (λ (i : ℕ). IsSet i (t .a)) z (t .first);
+          second = subst (λ (i : ℕ). IsSet i (t .b)) z (t .second);
+          front = subst (λ (i : ℕ). take (q .term .first .size) (drop (q .start) work) ≡ treeWords i (t .a)) z (t .front);
+          behind = subst (λ (i : ℕ). take (q .term .second .size) (drop (q .term .first .size) (drop (q .start) work)) ≡ treeWords i (t .b)) z (t .behind);
+          links = links-below b n ws used L;
+          used = used-below b n ws used L;
+        },
+      )
+
+module _ (n op : ℕ) (ws used work part : List ℕ) (S : Stack) (q : Taken) (r size : ℕ) (low : op-inverse < op) (small : n ≤ 1024) (wide : 32 * treeUnit n ≤ length work)
+    (T : Takes (treeUnit n) op S q) (h : q .start ≤ length work) (few : size ≤ treeUnit n) (cut : r ≤ treeUnit n → size ≡ r) (long : length part ≡ length (take (length work - q .start) (drop (q .start) work)))
+    (rows : ℕ) (bits : rows ≡ 16384) (made : Operated (q .term) n ws used rows (take (length work - q .start) (drop (q .start) work)) part r)
+    (sixteen : length used ≡ 16) (early : q .below ≤ 18) where
+  abbrev after : Stack
+  after = record { operands = set (S .operands) (q .below) (treeAlone size Plain); count = q .below + 1; end = q .start + size }
+
+  O : Operated (q .term) n ws used 16384 (drop (q .start) work) part r
+  O = subst (λ (l : List ℕ). Operated (q .term) n ws used 16384 l part r) (rest work (q .start))
+      (subst (λ (i : ℕ). Operated (q .term) n ws used i (take (length work - q .start) (drop (q .start) work)) part r) bits made)
+
+  spaces : Spaces n (q .term) (length (drop (q .start) work)) (length used) 16384
+  spaces = record {
+    trees = record { size = small; first = T .first; second = T .second; work = rw (length-drop (q .start) work) (omega (arith, starts-early (T .totals) early)) };
+    records = sixteen;
+    bits = refl;
+  }
+
+  operator-room : (c : List ℕ) → Room (treeUnit n) (op ∷ c) S → Room (treeUnit n) c after
+  operator-room c R =
+      let b = before-some R (omega arith) in
+      let k = T .below in
+      let f = room-operands R in
+      room-next R (placed-put (q .start) (q .below) (treeAlone size Plain) (R .placed) (T .totals) few (omega (arith, f .room))) (omega (arith, f .found))
+
+  operator-waits : {c : List ℕ} → Room (treeUnit n) (op ∷ c) S → (b : Book) → Lettered b n ws used → (e : Expr) (c′ : List ℕ) (st : List Cells) → Waiting (asked b) e (op ∷ c′) ws work S st
+      → (st′ : List Cells) × Waiting (asked b) e c′ ws (changed work part (q .start) h) after st′
+  unfolding asked
+  operator-waits R b L e c′ st w =
+      let m = lent n op ws used work S q T b L st (w .stand) in
+      let t = m .0 in
+      let v : Cells = termSet (q .term) (b .n) ws (bitAt used) (t .a) (t .b) in
+      let tree : TreeAt n (termSet (q .term) n ws (bitAt used) (t .a) (t .b)) part r = O .tree spaces (t .a) (t .b) (m .1) in
+      let same : size ≡ r = cut (tree .few) in
+      let words : take size part ≡ treeWords (b .n) v =
+      subst (λ (i : ℕ). take i part ≡ treeWords (b .n) v) (sym same)
+      (subst (λ (i : ℕ). take r part ≡ treeWords i (termSet (q .term) i ws (bitAt used) (t .a) (t .b))) (L .size) (tree .words)) in
+      let x : Cells = valued ws (treeAlone size Plain) v in
+      let k = room-operands R in
+      let j : q .below < length (S .operands) = omega (arith, T .below, k .room, R .placed .slots) in (
+        x ∷ t .others,
+        waits-next (x ∷ t .others) w (t .does ∙ ap (λ (y : Cells). y ∷ t .others) (sym (valued-alone ws size Plain v)))
+            (standing-put (b .n) ws (changed work part (q .start) h) (S .operands) (q .below) (q .start) (treeAlone size Plain) v (t .others)
+            (standing-kept (t .stand) (q .start) (omega arith) (front work part (q .start) h)) j
+            (subst (λ (i : ℕ). IsSet i (termSet (q .term) i ws (bitAt used) (t .a) (t .b))) (L .size) (term-set (q .term) n ws (bitAt used) _ (t .a) (t .b) small (bit-lt used) (m .1))) (ap (take size) (back work part (q .start) h) ∙ words) (long-as size part (treeWords (b .n) v) (omega (arith, O .most, part-length work (q .start), length-drop (q .start) work)) words)),
+      )
+
+  pub goes-operator : {c : List ℕ} → Room (treeUnit n) (op ∷ c) S → Goes n ws used op work (changed work part (q .start) h) S after
+  goes-operator R = record { room = operator-room; waits = λ b L e c st w. operator-waits R b L e c st w }

@@ -2,6 +2,9 @@
 --   asks-refused    the verdict's number
 --   asks-short      12
 --   asks-handed     the pairs, or 13
+--   relation-refused, relation-short, relation-few, relation-paired
+--                   the same of the relation as rows
+--   refused-alike   with rows enough, a pair question is refused as its relation is
 --   faulty-caused   a verdict's number is a cause's
 --   handed-fits, handed-past, handed-kept, handed-caused
 --                   what is handed over fits the list, and leaves the words past it, all of them with a refusal, whose number is a cause's
@@ -9,6 +12,7 @@
 use mathlib.Core.Path.{_≡_, refl, sym, ap, _∙_}
 use mathlib.Core.List.{List}
 use Prim.Native.Nat.{ℕ, _*_, _≤_, _<_}
+use native.Mathlib.Decide.{decLt}
 use native.Mathlib.Omega.{arith}
 use lib.ListN.{length, drop}
 use lib.Seq.{drop-at}
@@ -26,7 +30,7 @@ use Rattle.reader.specs.Reads.{readAnswer}
 use Rattle.reader.specs.declared.Answer.the-variants.{Refused as Faulty}
 use Rattle.pairs.specs.declared.PairsAnswer.{PairsAnswer}
 use Rattle.pairs.specs.declared.PairsAnswer.the-variants.{Refused}
-use Rattle.pairs.specs.Asking.{pairsLength, told-number, told-pairs, Handed, too-long, handed, BookPairs}
+use Rattle.pairs.specs.Asking.{pairsLength, told-number, told-pairs, Handed, too-long, handed, BookPairs, rowWords, relationCauses, relationAnswer}
 
 module _ (b : Book) (work room : ℕ) where
   pub asks-refused : (v : Verdict) (k : ℕ) → readAnswer v ≡ Faulty k → pairsAnswer b v work room ≡ refused k
@@ -62,6 +66,40 @@ pub asks-handed : (b : Book) (e : Expr) (work : ℕ) {before after : List ℕ} {
 unfolding listAfter number
 asks-handed b e work {before} h (too-long l q) = let o = asks-long b work (length before) e h l in record { tells = rw o told-number; list = rw o q }
 asks-handed b e work {before} h (handed l q) = let o = asks-paired b work (length before) e h l in record { tells = rw o told-pairs; list = rw o q }
+
+-- ---- the relation as rows
+module _ (b : Book) (work rows : ℕ) where
+  pub relation-refused : (v : Verdict) (k : ℕ) → readAnswer v ≡ Faulty k → relationAnswer b v work rows ≡ refused k
+  unfolding relationAnswer relationCauses verdictCause firstNumber number readAnswer
+  relation-refused (accepted e) k q = absurd (let z : _≡_ {A = ℕ} 0 1 = cc in omega arith)
+  relation-refused long k q = let z : 10 ≡ k = cc in ap refused z
+  relation-refused outside k q = let z : 9 ≡ k = cc in ap refused z
+  relation-refused large k q = let z : 10 ≡ k = cc in ap refused z
+
+  pub relation-short : (e : Expr) → work < 32 * treeUnit (b .n) → relationAnswer b (accepted e) work rows ≡ refused 12
+  unfolding relationAnswer relationCauses verdictCause firstNumber number
+  relation-short e h = rw (lt-ltb work (32 * treeUnit (b .n)) h)
+
+  module _ (e : Expr) (h : 32 * treeUnit (b .n) ≤ work) where
+    pub relation-few : rows < rowWords → relationAnswer b (accepted e) work rows ≡ refused 12
+    unfolding relationAnswer relationCauses verdictCause firstNumber number
+    relation-few l = rw (le-ltb work (32 * treeUnit (b .n)) h, lt-ltb rows rowWords l)
+
+    pub relation-paired : rowWords ≤ rows → relationAnswer b (accepted e) work rows ≡ paired (pairs (asked b) e)
+    unfolding relationAnswer relationCauses verdictCause firstNumber number pairsOf
+    relation-paired l = rw (le-ltb work (32 * treeUnit (b .n)) h, le-ltb rows rowWords l)
+
+-- with rows enough, a pair question is refused as its relation is
+pub refused-alike : (b : Book) (work room k : ℕ) (v : Verdict) → relationAnswer b v work rowWords ≡ refused k → pairsAnswer b v work room ≡ refused k
+unfolding relationAnswer relationCauses pairsAnswer pairsCauses verdictCause firstNumber number
+refused-alike b work room k long e = e
+refused-alike b work room k outside e = e
+refused-alike b work room k large e = e
+refused-alike b work room k (accepted x) e = go (decLt work (32 * treeUnit (b .n)))
+  where
+    go : Dec (work < 32 * treeUnit (b .n)) → pairsAnswer b (accepted x) work room ≡ refused k
+    go (yes h) = asks-short b work room x h ∙ sym (relation-short b work rowWords x h) ∙ e
+    go (no h) = absurd (let z : paired (pairs (asked b) x) ≡ refused k = sym (relation-paired b work rowWords x (omega arith) (omega arith)) ∙ e in let y : _≡_ {A = ℕ} 0 1 = cc in omega arith)
 
 -- ---- some pairs handed over
 module _ {l before after : List ℕ} where

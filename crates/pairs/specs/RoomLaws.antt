@@ -12,10 +12,11 @@ use mathlib.Core.List.{List, [], _∷_}
 use mathlib.Core.Bool.{Bool, true, false}
 use Prim.Native.Nat.{ℕ, suc, _+_, _-_, _*_, _<_, _≤_}
 use native.Mathlib.Nat.{suc-mul}
+use native.Mathlib.Numerals.{add-one}
 use native.Mathlib.Decide.{decLt}
 use native.Mathlib.Omega.{arith}
 use lib.Dec.{eqb}
-use lib.ListN.{length, getD, set, length-set}
+use lib.ListN.{length, set, length-set}
 use lib.Seq.{getD-set-same, getD-set-other}
 use borrow.Author.Tests.{lt-ltb, le-ltb, eqb-false, eq-eqb, ne-eqb}
 use Rattle.paths.specs.Expressions.{Expr, symbol, letter, group, inverse, star, plus, optional, alternative, sequence, depth}
@@ -24,36 +25,37 @@ use Rattle.reader.specs.Code.{op-inverse, op-star, op-plus, op-optional, op-alt
 use Rattle.reader.specs.Running.{operands, Runs, next}
 use Rattle.reader.specs.CodeLaws.{run-code, runs-code}
 use Rattle.pairs.specs.declared.Stack.{Stack}
-use Rattle.pairs.specs.Evaluation.{heights, most-waiting, Totals, nothing, also, Placed, Room}
-use Rattle.pairs.specs.EvaluationLaws.{fresh, runs-height}
+use Rattle.tree.specs.declared.operations.Operand.{Operand}
+use Rattle.tree.specs.Inner.{nothing}
+use Rattle.pairs.specs.Evaluation.{heights, operandAt, most-waiting, Totals, no-words, more-words, Placed, Room}
+use Rattle.pairs.specs.EvaluationLaws.{runs-height}
 
-pub totals-below : {d k at : ℕ} {ls : List ℕ} → Totals d ls k at → (j : ℕ) → k ≡ suc j → (getD ls j 0 ≤ at) × (getD ls j 0 ≤ d) × Totals d ls j (at - getD ls j 0)
-totals-below nothing j e = absurd (omega arith)
-totals-below {d} {ls = ls} (also {k} {at} t h) j e =
+pub totals-below : {d k at : ℕ} {os : List Operand} → Totals d os k at → (j : ℕ) → k ≡ suc j
+    → (operandAt os j .size ≤ at) × (operandAt os j .size ≤ d) × Totals d os j (at - operandAt os j .size)
+totals-below no-words j e = absurd (omega arith)
+totals-below {d} {os = os} (more-words {k} {at} t h) j e =
     let z : k ≡ j = omega arith in
-    subst (λ (i : ℕ). (getD ls i 0 ≤ at + getD ls k 0) × (getD ls i 0 ≤ d) × Totals d ls i (at + getD ls k 0 - getD ls i 0)) z
-    (omega arith, h, subst (Totals d ls k) (let q : at ≡ at + getD ls k 0 - getD ls k 0 = omega arith in q) t)
+    subst (λ (i : ℕ). (operandAt os i .size ≤ at + operandAt os k .size) × (operandAt os i .size ≤ d) × Totals d os i (at + operandAt os k .size - operandAt os i .size)) z
+    (omega arith, h, subst (Totals d os k) (let q : at ≡ at + operandAt os k .size - operandAt os k .size = omega arith in q) t)
 
-pub totals-most : {d k at : ℕ} {ls : List ℕ} → Totals d ls k at → at ≤ k * d
-totals-most nothing = omega arith
-totals-most {d} (also {k} t h) = omega (arith, totals-most t, suc-mul k d)
+pub totals-most : {d k at : ℕ} {os : List Operand} → Totals d os k at → at ≤ k * d
+totals-most no-words = omega arith
+totals-most {d} (more-words {k} t h) = omega (arith, totals-most t, suc-mul k d)
 
-totals-store : {d k at : ℕ} {ls : List ℕ} (j v : ℕ) → k ≤ j → Totals d ls k at → Totals d (set ls j v) k at
-totals-store j v h nothing = nothing
-totals-store {d} {ls = ls} j v h (also {k} {at} t b) =
-    let e : getD (set ls j v) k 0 ≡ getD ls k 0 = getD-set-other ls j k v 0 (λ z. omega arith) in
-    subst (λ (x : ℕ). Totals d (set ls j v) (suc k) (at + x)) e (also (totals-store j v (omega arith) t) (omega arith))
+totals-store : {d k at : ℕ} {os : List Operand} (j : ℕ) (o : Operand) → k ≤ j → Totals d os k at → Totals d (set os j o) k at
+totals-store j o h no-words = no-words
+totals-store {d} {os = os} j o h (more-words {k} {at} t b) =
+    let e : operandAt (set os j o) k ≡ operandAt os k = getD-set-other os j k o nothing (λ z. omega arith) in
+    subst (λ (x : Operand). Totals d (set os j o) (suc k) (at + x .size)) e (more-words (totals-store j o (omega arith) t) (rw e b))
 
 -- ---- one operand on top of those below it
-pub placed-put : {d : ℕ} {S : Stack} (start r j k label sense : ℕ) → Placed d S → Totals d (S .sizes) j start → r ≤ d → j < most-waiting → k ≡ suc j → sense ≤ 1
-    → Placed d (record { sizes = set (S .sizes) j r; count = k; end = start + r; label = label; sense = sense })
-placed-put {d} {S} start r j k label sense P t h l e o =
-    let q : getD (set (S .sizes) j r) j 0 ≡ r = getD-set-same (S .sizes) j r 0 (omega (arith, P .slots)) in
+pub placed-put : {d : ℕ} {S : Stack} (start j : ℕ) (o : Operand) → Placed d S → Totals d (S .operands) j start → o .size ≤ d → j < most-waiting
+    → Placed d (record { operands = set (S .operands) j o; count = j + 1; end = start + o .size })
+placed-put {d} {S} start j o P t h l =
+    let q : operandAt (set (S .operands) j o) j ≡ o = getD-set-same (S .operands) j o nothing (omega (arith, P .slots)) in
     record {
-      slots = length-set (S .sizes) j r ∙ P .slots;
-      totals = subst (λ (i : ℕ). Totals d (set (S .sizes) j r) i (start + r)) (sym e)
-          (subst (λ (x : ℕ). Totals d (set (S .sizes) j r) (suc j) (start + x)) q (also (totals-store j r (omega arith) t) (omega arith)));
-      sense = o;
+      slots = length-set (S .operands) j o ∙ P .slots;
+      totals = rw add-one (subst (λ (x : Operand). Totals d (set (S .operands) j o) (suc j) (start + x .size)) q (more-words (totals-store j o (omega arith) t) (rw q h)));
     }
 
 -- ---- the code
@@ -68,13 +70,14 @@ value-heights (optional e) = refl
 value-heights (alternative e f) = refl
 value-heights (sequence e f) = refl
 
-pub room-begins : (d : ℕ) {s : List ℕ} (e : Expr) → Is alternatives s e → depth e ≤ 8 → (ls : List ℕ) → length ls ≡ most-waiting → Room d (code e) (fresh ls)
-room-begins d e p h ls l = record {
+pub room-begins : (d : ℕ) {s : List ℕ} (e : Expr) → Is alternatives s e → depth e ≤ 8 → (os : List Operand) → length os ≡ most-waiting
+    → Room d (code e) (record { operands = os; count = 0; end = 0 })
+room-begins d e p h os l = record {
   stack = [];
   rest = run-code heights p [] ∙ ap (λ (v : ℕ). v ∷ []) (value-heights e);
   runs = runs-code heights p most-waiting [] (omega arith);
   count = refl;
-  placed = record { slots = l; totals = nothing; sense = omega arith };
+  placed = record { slots = l; totals = no-words };
 }
 
 -- what the next number asks

@@ -1,7 +1,7 @@
 -- Laws of pairs put into rows, and of rows that lie below n. Assumes nothing.
 use mathlib.Core.Path.{_≡_, refl, sym, ap, _∙_, fun-ext}
 use mathlib.Core.Bool.{Bool, true, false, _||_, _&&_}
-use mathlib.Core.List.{List, [], _∷_, _++_, map}
+use mathlib.Core.List.{List, [], _∷_, _++_, map, append-nil}
 use Prim.Native.Nat.{ℕ, _+_, _*_, _/_, _%_, _≤_, _<_, min, max}
 use native.Mathlib.Numerals.{add-one}
 use native.Mathlib.Decide.{decLt, ℕ-discrete}
@@ -11,13 +11,16 @@ use lib.ListN.{length, getD, take}
 use lib.Seq.{take-suc, take-length}
 use borrow.Author.Tests.{eq-eqb, ne-eqb, lt-ltb, le-ltb}
 use Rattle.book.specs.Basics.{pick, bit, has}
-use Rattle.k2.specs.Bits.{bitAt}
+use Rattle.k2.specs.Bits.{digit, bitAt}
 use Rattle.k2.specs.BitLaws.{Bits, bit-lt, bit-out}
 use Rattle.k2.specs.PairSets.{Cells, IsSet, setOf, union, transpose, diagonal}
-use Rattle.k2.specs.PairSetLaws.{bit-small, set-past}
+use Rattle.k2.specs.PairSetLaws.{set-bit, set-past}
 use Rattle.bits.specs.BitSets.{put, Gap}
 use Rattle.bits.specs.BitSetLaws.{put-at, put-off}
-use Rattle.rows.specs.Rows.{flat, identity, linkPair, RowsOf}
+use Rattle.rows.specs.Rows.{flat, linkPair, labelled, crossedWords, RowsOf}
+use Rattle.rows.specs.RowLaws.{union-join, union-swap}
+use Rattle.rows.specs.Steps.{below}
+use Rattle.rows.proofs.Search.{below-in, below-out, below-skip}
 
 -- bits put in agree with a set's rows if they do at the place and off it
 put-flat : (f : ℕ → ℕ) (v : ℕ) (b : Cells) → flat b v ≡ 1 → ((p : ℕ) → (p ≡ v → ⊥) → f p ≡ flat b p) → put v 1 f ≡ flat b
@@ -93,65 +96,146 @@ turned-more x ps v l b = one-more x (transpose (setOf ps)) (transpose (setOf (ps
     off i j n (yes h) = set-off v ps j i (λ e. n (omega arith))
     off i j n (no h) = set-past ps j i (omega arith) ∙ sym (set-past (ps ++ (v ∷ [])) j i (omega arith))
 
-pub list-none : (x : Cells) → union x (setOf []) ≡ x
-unfolding union setOf has
-list-none x = fun-ext (λ u. fun-ext (λ y. omega arith))
-
-pub turned-none : (x : Cells) → union x (transpose (setOf [])) ≡ x
-unfolding union transpose setOf has
-turned-none x = fun-ext (λ u. fun-ext (λ y. omega arith))
+-- ---- the pairs of the first i words whose label is in a set of labels
+abbrev pub lettersOf : ℕ → List ℕ → List ℕ
+lettersOf m ws = map linkPair (labelled m ws)
 
 map-last : (ws : List ℕ) (w : ℕ) → map linkPair (ws ++ (w ∷ [])) ≡ map linkPair ws ++ (linkPair w ∷ [])
 map-last [] w = refl
 map-last (v ∷ ws) w = ap (λ (l : List ℕ). linkPair v ∷ l) (map-last ws w)
 
-links-next : (ws : List ℕ) (i : ℕ) → i < length ws → map linkPair (take i ws) ++ (linkPair (getD ws i 0) ∷ []) ≡ map linkPair (take (i + 1) ws)
-links-next ws i l =
-    sym (ap (λ (k : ℕ). map linkPair (take k ws)) (add-one i) ∙ ap (map linkPair) (take-suc ws i 0 l) ∙ map-last (take i ws) (getD ws i 0))
+module _ (m : ℕ) where
+  labelled-last : (ws : List ℕ) (w : ℕ) → labelled m (ws ++ (w ∷ [])) ≡ labelled m ws ++ pick (eqb (digit m (w / 1048576)) 1) (w ∷ []) []
+  unfolding labelled
+  labelled-last [] w = refl
+  labelled-last (v ∷ ws) w = go (eqb (digit m (v / 1048576)) 1) (labelled-last ws w)
+    where
+      go : (b : Bool) → labelled m (ws ++ (w ∷ [])) ≡ labelled m ws ++ pick (eqb (digit m (w / 1048576)) 1) (w ∷ []) []
+          → pick b (v ∷ labelled m (ws ++ (w ∷ []))) (labelled m (ws ++ (w ∷ [])))
+          ≡ pick b (v ∷ labelled m ws) (labelled m ws) ++ pick (eqb (digit m (w / 1048576)) 1) (w ∷ []) []
+      go true e = ap (λ (l : List ℕ). v ∷ l) e
+      go false e = e
 
-pub links-more : (x : Cells) (ws : List ℕ) (i : ℕ) → i < length ws → Bits (flat x)
-    → put (linkPair (getD ws i 0)) 1 (flat (union x (setOf (map linkPair (take i ws))))) ≡ flat (union x (setOf (map linkPair (take (i + 1) ws))))
-links-more x ws i l b =
-    list-more x (map linkPair (take i ws)) (linkPair (getD ws i 0)) b ∙ ap (λ (ps : List ℕ). flat (union x (setOf ps))) (links-next ws i l)
+  module _ (ws : List ℕ) (i : ℕ) (l : i < length ws) where
+    labelled-next : labelled m (take (i + 1) ws) ≡ labelled m (take i ws) ++ pick (eqb (digit m (getD ws i 0 / 1048576)) 1) (getD ws i 0 ∷ []) []
+    labelled-next =
+        ap (λ (k : ℕ). labelled m (take k ws)) (add-one i) ∙ ap (labelled m) (take-suc ws i 0 l) ∙ labelled-last (take i ws) (getD ws i 0)
 
-pub links-turned : (x : Cells) (ws : List ℕ) (i : ℕ) → i < length ws → Bits (flat x)
-    → put (exchange (linkPair (getD ws i 0))) 1 (flat (union x (transpose (setOf (map linkPair (take i ws))))))
-    ≡ flat (union x (transpose (setOf (map linkPair (take (i + 1) ws)))))
-links-turned x ws i l b =
-    turned-more x (map linkPair (take i ws)) (linkPair (getD ws i 0)) (unfold linkPair in (omega arith)) b
-    ∙ ap (λ (ps : List ℕ). flat (union x (transpose (setOf ps)))) (links-next ws i l)
+    letters-in : eqb (digit m (getD ws i 0 / 1048576)) 1 ≡ true → lettersOf m (take i ws) ++ (linkPair (getD ws i 0) ∷ []) ≡ lettersOf m (take (i + 1) ws)
+    letters-in t =
+        sym (ap (map linkPair) (labelled-next ∙ ap (λ (b : Bool). labelled m (take i ws) ++ pick b (getD ws i 0 ∷ []) []) t)
+        ∙ map-last (labelled m (take i ws)) (getD ws i 0))
 
-pub links-all : (ws : List ℕ) (i : ℕ) → i ≡ length ws → map linkPair (take i ws) ≡ map linkPair ws
-links-all ws i e = ap (map linkPair) (ap (λ (k : ℕ). take k ws) e ∙ take-length ws)
+    pub letters-out : eqb (digit m (getD ws i 0 / 1048576)) 1 ≡ false → lettersOf m (take i ws) ≡ lettersOf m (take (i + 1) ws)
+    letters-out t =
+        sym (ap (map linkPair) (labelled-next ∙ ap (λ (b : Bool). labelled m (take i ws) ++ pick b (getD ws i 0 ∷ []) []) t
+        ∙ append-nil (labelled m (take i ws))))
+
+-- ---- the pairs of two lists, the second's exchanged
+unfoldable pub crossing : List ℕ → List ℕ → Cells
+crossing ps qs = union (setOf ps) (transpose (setOf qs))
+
+union-bits : (x a : Cells) → Bits (flat x) → ((i j : ℕ) → a i j < 2) → Bits (flat (union x a))
+unfolding flat union
+union-bits x a b d k = omega (arith, b k, d (k / 1024) (k % 1024))
+
+union-last : (x a b : Cells) → union x (union a b) ≡ union (union x b) a
+union-last x a b = ap (union x) (union-swap a b) ∙ sym (union-join x b a)
+
+module _ (x : Cells) (ps qs : List ℕ) (v : ℕ) (b : Bits (flat x)) where
+  forward-more : put v 1 (flat (union x (crossing ps qs))) ≡ flat (union x (crossing (ps ++ (v ∷ [])) qs))
+  unfolding crossing transpose
+  forward-more =
+      ap (λ (a : Cells). put v 1 (flat a)) (union-last x (setOf ps) (transpose (setOf qs)))
+      ∙ list-more (union x (transpose (setOf qs))) ps v (union-bits x (transpose (setOf qs)) b (λ i j. set-bit qs j i))
+      ∙ ap flat (sym (union-last x (setOf (ps ++ (v ∷ []))) (transpose (setOf qs))))
+
+  against-more : v < 1048576 → put (exchange v) 1 (flat (union x (crossing ps qs))) ≡ flat (union x (crossing ps (qs ++ (v ∷ []))))
+  unfolding crossing
+  against-more l =
+      ap (λ (a : Cells). put (exchange v) 1 (flat a)) (sym (union-join x (setOf ps) (transpose (setOf qs))))
+      ∙ turned-more (union x (setOf ps)) qs v l (union-bits x (setOf ps) b (set-bit ps))
+      ∙ ap flat (union-join x (setOf ps) (transpose (setOf (qs ++ (v ∷ [])))))
+
+-- a word more, forward and then against
+module _ (x : Cells) (ws : List ℕ) (i f a : ℕ) (l : i < length ws) (b : Bits (flat x)) where
+  pub crossed-forward : (qs : List ℕ) → eqb (digit f (getD ws i 0 / 1048576)) 1 ≡ true
+      → put (linkPair (getD ws i 0)) 1 (flat (union x (crossing (lettersOf f (take i ws)) qs))) ≡ flat (union x (crossing (lettersOf f (take (i + 1) ws)) qs))
+  crossed-forward qs t =
+      forward-more x (lettersOf f (take i ws)) qs (linkPair (getD ws i 0)) b ∙ ap (λ (ps : List ℕ). flat (union x (crossing ps qs))) (letters-in f ws i l t)
+
+  pub crossed-against : (ps : List ℕ) → eqb (digit a (getD ws i 0 / 1048576)) 1 ≡ true
+      → put (exchange (linkPair (getD ws i 0))) 1 (flat (union x (crossing ps (lettersOf a (take i ws)))))
+      ≡ flat (union x (crossing ps (lettersOf a (take (i + 1) ws))))
+  crossed-against ps t =
+      against-more x ps (lettersOf a (take i ws)) (linkPair (getD ws i 0)) b (unfold linkPair in (omega arith))
+      ∙ ap (λ (qs : List ℕ). flat (union x (crossing ps qs))) (letters-in a ws i l t)
+
+pub crossed-is : (ws : List ℕ) (f a : ℕ) → crossedWords ws f a ≡ crossing (lettersOf f ws) (lettersOf a ws)
+unfolding crossedWords crossing
+crossed-is ws f a = refl
+
+pub crossed-start : (x : Cells) (f a : ℕ) → union x (crossedWords [] f a) ≡ x
+unfolding crossedWords labelled union transpose setOf has
+crossed-start x f a = fun-ext (λ u. fun-ext (λ y. omega arith))
+
+pub crossed-all : (ws : List ℕ) (i f a : ℕ) → i ≡ length ws → crossedWords (take i ws) f a ≡ crossedWords ws f a
+crossed-all ws i f a e = ap (λ (l : List ℕ). crossedWords l f a) (ap (λ (k : ℕ). take k ws) e ∙ take-length ws)
 
 -- ---- the diagonal
-identity-at : (n x : ℕ) → identity n x x ≡ bit (ltb x n)
-unfolding diagonal
-identity-at n x = rw (eq-eqb x x refl) (omega (arith, bit-small (ltb x n)))
+module _ (f : ℕ → ℕ) (b : Bits f) where
+  diagonal-at : (x : ℕ) → diagonal f x x ≡ f x
+  unfolding diagonal
+  diagonal-at x = rw (eq-eqb x x refl) (omega (arith, b x))
 
-identity-off : (n x y : ℕ) → (x ≡ y → ⊥) → identity n x y ≡ 0
+diagonal-off : (f : ℕ → ℕ) (x y : ℕ) → (x ≡ y → ⊥) → diagonal f x y ≡ 0
 unfolding diagonal
-identity-off n x y h = rw (ne-eqb x y h) (omega arith)
+diagonal-off f x y h = rw (ne-eqb x y h) (omega arith)
 
-pub diagonal-none : (x : Cells) → union x (identity 0) ≡ x
+pub diagonal-none : (x : Cells) (f : ℕ → ℕ) → union x (diagonal (below 0 f)) ≡ x
 unfolding union diagonal
-diagonal-none x = fun-ext (λ u. fun-ext (λ y. rw (le-ltb u 0 (omega arith)) (omega arith)))
+diagonal-none x f = fun-ext (λ u. fun-ext (λ y. rw (below-out f 0 u (omega arith)) (omega arith)))
 
-pub diagonal-more : (x : Cells) (i : ℕ) → i < 1024 → Bits (flat x) → put (i * 1024 + i) 1 (flat (union x (identity i))) ≡ flat (union x (identity (i + 1)))
-diagonal-more x i l b = one-more x (identity i) (identity (i + 1)) (i * 1024 + i) b here (λ u y n. same u y n (ℕ-discrete u y) (decLt u i))
+module _ (f : ℕ → ℕ) (b : Bits f) where
+  below-bits : (n : ℕ) → Bits (below n f)
+  below-bits n k = go (decLt k n)
+    where
+      go : Dec (k < n) → below n f k < 2
+      go (yes l) = rw (below-in f n k l) (b k)
+      go (no l) = rw (below-out f n k (omega arith)) (omega arith)
+
+  -- record i is in the set
+  pub diagonal-more : (x : Cells) (i : ℕ) → i < 1024 → Bits (flat x) → f i ≡ 1
+      → put (i * 1024 + i) 1 (flat (union x (diagonal (below i f)))) ≡ flat (union x (diagonal (below (i + 1) f)))
+  diagonal-more x i l bx one =
+      one-more x (diagonal (below i f)) (diagonal (below (i + 1) f)) (i * 1024 + i) bx here (λ u y n. same u y n (ℕ-discrete u y) (decLt u i))
+    where
+      here : diagonal (below (i + 1) f) ((i * 1024 + i) / 1024) ((i * 1024 + i) % 1024) ≡ 1
+      here =
+          let p : (i * 1024 + i) / 1024 ≡ i = omega arith in
+          let q : (i * 1024 + i) % 1024 ≡ i = omega arith in
+          rw (p, q) (diagonal-at (below (i + 1) f) (below-bits (i + 1)) i ∙ below-in f (i + 1) i (omega arith) ∙ one)
+
+      on : (u : ℕ) → below i f u ≡ below (i + 1) f u → diagonal (below i f) u u ≡ diagonal (below (i + 1) f) u u
+      on u e = diagonal-at (below i f) (below-bits i) u ∙ e ∙ sym (diagonal-at (below (i + 1) f) (below-bits (i + 1)) u)
+
+      same : (u y : ℕ) → (u * 1024 + y ≡ i * 1024 + i → ⊥) → Dec (u ≡ y) → Dec (u < i) → diagonal (below i f) u y ≡ diagonal (below (i + 1) f) u y
+      same u y n (no s) d = diagonal-off (below i f) u y s ∙ sym (diagonal-off (below (i + 1) f) u y s)
+      same u y n (yes s) (yes d) = rw (← s) (on u (below-in f i u d ∙ sym (below-in f (i + 1) u (omega arith))))
+      same u y n (yes s) (no d) =
+          let z : (u ≡ i → ⊥) = λ e. n (omega arith) in
+          rw (← s) (on u (below-out f i u (omega arith) ∙ sym (below-out f (i + 1) u (omega (arith, z)))))
+
+  -- it is not
+  pub diagonal-skip : (i : ℕ) → f i ≡ 0 → diagonal (below i f) ≡ diagonal (below (i + 1) f)
+  diagonal-skip i e = ap diagonal (below-skip f i (i + 1) (omega arith) (λ c l h. let s : c ≡ i = omega arith in ap f s ∙ e))
+
+pub diagonal-all : (ws : List ℕ) → length ws ≡ 16 → diagonal (below 1024 (bitAt ws)) ≡ diagonal (bitAt ws)
+diagonal-all ws e = ap diagonal (fun-ext (λ c. go c (decLt c 1024)))
   where
-    here : identity (i + 1) ((i * 1024 + i) / 1024) ((i * 1024 + i) % 1024) ≡ 1
-    here =
-        let p : (i * 1024 + i) / 1024 ≡ i = omega arith in
-        let q : (i * 1024 + i) % 1024 ≡ i = omega arith in
-        rw (p, q, identity-at (i + 1) i, lt-ltb i (i + 1) (omega arith))
-
-    same : (u y : ℕ) → (u * 1024 + y ≡ i * 1024 + i → ⊥) → Dec (u ≡ y) → Dec (u < i) → identity i u y ≡ identity (i + 1) u y
-    same u y n (no s) d = identity-off i u y s ∙ sym (identity-off (i + 1) u y s)
-    same u y n (yes s) (yes d) = rw (← s, identity-at i u, identity-at (i + 1) u, lt-ltb u i d, lt-ltb u (i + 1) (omega arith))
-    same u y n (yes s) (no d) =
-        let z : (u ≡ i → ⊥) = λ e. n (omega arith) in
-        rw (← s, identity-at i u, identity-at (i + 1) u, le-ltb u i (omega arith), le-ltb u (i + 1) (omega (arith, z)))
+    go : (c : ℕ) → Dec (c < 1024) → below 1024 (bitAt ws) c ≡ bitAt ws c
+    go c (yes l) = below-in (bitAt ws) 1024 c l
+    go c (no l) = below-out (bitAt ws) 1024 c (omega arith) ∙ sym (bit-out ws c (omega arith))
 
 -- ---- rows below n
 module _ (n : ℕ) (ws : List ℕ) (nl : n ≤ 1024) (long : length ws ≡ 16384) where

@@ -157,15 +157,15 @@ empty-serves f g i j z = most-none 1024 (meets f g i j) (λ k l. unfold meets in
 
 -- ---- the bits before a place
 module _ (g : ℕ → ℕ) where
-  below-in : (b c : ℕ) → c < b → below b g c ≡ g c
+  pub below-in : (b c : ℕ) → c < b → below b g c ≡ g c
   unfolding below
   below-in b c l = rw (lt-ltb c b l)
 
-  below-out : (b c : ℕ) → b ≤ c → below b g c ≡ 0
+  pub below-out : (b c : ℕ) → b ≤ c → below b g c ≡ 0
   unfolding below
   below-out b c l = rw (le-ltb c b l)
 
-  below-skip : (b d : ℕ) → b ≤ d → ((c : ℕ) → b ≤ c → c < d → g c ≡ 0) → below b g ≡ below d g
+  pub below-skip : (b d : ℕ) → b ≤ d → ((c : ℕ) → b ≤ c → c < d → g c ≡ 0) → below b g ≡ below d g
   below-skip b d l z = fun-ext (λ c. go c (decLt c b) (decLt c d))
     where
       go : (c : ℕ) → Dec (c < b) → Dec (c < d) → below b g c ≡ below d g c

@@ -1,20 +1,24 @@
--- Laws of rows: a row's bits are the set's cells, the rows of the operations on sets, the pairs of link words, and the pairs that rows hold.
+-- Laws of rows: a row's bits are the set's cells, the rows of the operations on sets, the pairs of link words and one step over them, and the pairs
+-- that rows hold.
 -- Assumes nothing.
 use mathlib.Core.Path.{_≡_, refl, sym, ap, ap₂, _∙_, fun-ext}
+use mathlib.Core.Bool.{Bool, true, false}
 use mathlib.Core.List.{List, [], _∷_, _++_, map, append-nil, append-assoc}
 use Prim.Native.Nat.{ℕ, zero, suc, _+_, _-_, _*_, _/_, _%_, _≤_, _<_}
 use native.Mathlib.Nat.{add-zero, add-suc, mod-eq-of-lt}
 use native.Mathlib.Omega.{arith}
-use lib.Dec.{ltb}
+use lib.Dec.{ltb, eqb}
 use borrow.Author.Tests.{le-ltb}
-use Rattle.book.specs.Basics.{bit, here, there}
-use Rattle.k2.specs.Bits.{bitAt}
-use Rattle.k2.specs.PairSets.{Cells, IsSet, ifSet, rowPairs, rowsPairs, listed, union, intersection, difference, PairsBelow}
-use Rattle.k2.specs.PairSetLaws.{bit-small, diagonal-set}
+use Rattle.book.specs.Basics.{pick, bit, has, In, here, there}
+use Rattle.k2.specs.Bits.{digit, bitAt}
+use Rattle.k2.specs.DigitLaws.{digit-none}
+use Rattle.k2.specs.BitLaws.{bit-lt}
+use Rattle.k2.specs.PairSets.{Cells, IsSet, ifSet, rowPairs, rowsPairs, listed, setOf, union, intersection, difference, transpose, diagonal, PairsBelow}
+use Rattle.k2.specs.PairSetLaws.{bit-small, union-set, transpose-set, setOf-set, diagonal-set}
 use Rattle.k2.specs.Trees.{treeWords}
 use Rattle.k2.specs.TreeLaws.{treeWords-none}
 use Rattle.bits.specs.BitSets.{none, both, minus, Gap}
-use Rattle.rows.specs.Rows.{flat, noPairs, identity, linkPair, places, pairsIn}
+use Rattle.rows.specs.Rows.{flat, noPairs, identity, linkPair, labelled, crossedWords, places, pairsIn}
 
 pub flat-at : (a : Cells) (x y : ℕ) → y < 1024 → flat a (x * 1024 + y) ≡ a x y
 unfolding flat
@@ -40,6 +44,10 @@ pub union-right : (a : Cells) → union a noPairs ≡ a
 unfolding union noPairs
 union-right a = fun-ext (λ x. fun-ext (λ y. omega arith))
 
+pub transpose-none : transpose noPairs ≡ noPairs
+unfolding transpose noPairs
+transpose-none = refl
+
 -- its tree has no words
 pub none-tree : (n : ℕ) → [] ≡ treeWords n noPairs
 none-tree n = sym (treeWords-none n) ∙ ap (treeWords n) (unfold noPairs in refl)
@@ -48,6 +56,22 @@ pub identity-set : (n : ℕ) → IsSet n (identity n)
 identity-set n = diagonal-set n (λ x. bit (ltb x n)) (λ x. bit-small (ltb x n)) (λ x l. rw (le-ltb x n l))
 
 -- ---- the operations, cell by cell
+pub union-join : (x a b : Cells) → union (union x a) b ≡ union x (union a b)
+unfolding union
+union-join x a b = fun-ext (λ u. fun-ext (λ y. omega arith))
+
+pub union-swap : (a b : Cells) → union a b ≡ union b a
+unfolding union
+union-swap a b = fun-ext (λ u. fun-ext (λ y. omega arith))
+
+pub transpose-union : (a b : Cells) → transpose (union a b) ≡ union (transpose a) (transpose b)
+unfolding transpose union
+transpose-union a b = refl
+
+pub transpose-twice : (a : Cells) → transpose (transpose a) ≡ a
+unfolding transpose
+transpose-twice a = refl
+
 pub flat-intersection : (a b : Cells) → both (flat a) (flat b) ≡ flat (intersection a b)
 unfolding both flat intersection
 flat-intersection a b = refl
@@ -65,6 +89,70 @@ pair-links (w ∷ ps) b =
     let r = b w here in
     let e : w % 1048576 ≡ w = mod-eq-of-lt (omega (arith, r .0, r .1)) in
     rw (e, pair-links ps (λ v h. b v (there h)))
+
+-- no label is in the set 0, and 0 alone in the set 1
+pub labelled-none : (ws : List ℕ) → labelled 0 ws ≡ []
+unfolding labelled
+labelled-none [] = refl
+labelled-none (w ∷ ws) = rw (digit-none (w / 1048576)) (labelled-none ws)
+
+labelled-pairs : (ps : List ℕ) → PairsBelow 1024 ps → labelled 1 ps ≡ ps
+unfolding labelled digit
+labelled-pairs [] b = refl
+labelled-pairs (w ∷ ps) b =
+    let r = b w here in
+    let e : w / 1048576 ≡ 0 = omega (arith, r .0, r .1) in
+    rw (e, labelled-pairs ps (λ v h. b v (there h)))
+
+in-more : {p v : ℕ} {l k : List ℕ} → (In p l → In p k) → In p (v ∷ l) → In p (v ∷ k)
+in-more f here = here
+in-more f (there h) = there (f h)
+
+in-labelled : {p : ℕ} (m : ℕ) (ws : List ℕ) → In p (map linkPair (labelled m ws)) → In p (map linkPair ws)
+unfolding labelled
+in-labelled m [] h = h
+in-labelled {p} m (w ∷ ws) h = go (eqb (digit m (w / 1048576)) 1) (in-labelled m ws) h
+  where
+    go : (b : Bool) → (In p (map linkPair (labelled m ws)) → In p (map linkPair ws))
+        → In p (map linkPair (pick b (w ∷ labelled m ws) (labelled m ws))) → In p (linkPair w ∷ map linkPair ws)
+    go true f k = in-more f k
+    go false f k = there (f k)
+
+pub set-none : setOf [] ≡ noPairs
+unfolding setOf has noPairs
+set-none = fun-ext (λ x. fun-ext (λ y. omega arith))
+
+-- ---- one step over link words
+-- no label
+pub crossed-none : (ws : List ℕ) → crossedWords ws 0 0 ≡ noPairs
+unfolding crossedWords
+crossed-none ws = rw (labelled-none ws, set-none, transpose-none) (union-none noPairs)
+
+-- the senses exchanged
+pub crossed-turned : (ws : List ℕ) (f a : ℕ) → transpose (crossedWords ws f a) ≡ crossedWords ws a f
+unfolding crossedWords
+crossed-turned ws f a =
+    let p = setOf (map linkPair (labelled f ws)) in
+    let q = setOf (map linkPair (labelled a ws)) in
+    transpose-union p (transpose q) ∙ union-swap (transpose p) (transpose (transpose q)) ∙ ap (λ (t : Cells). union t (transpose p)) (transpose-twice q)
+
+-- pair words as they are
+pub crossed-pairs : (ps : List ℕ) → PairsBelow 1024 ps → crossedWords ps 1 0 ≡ setOf ps
+unfolding crossedWords
+crossed-pairs ps b = rw (labelled-pairs ps b, pair-links ps b, labelled-none ps, set-none, transpose-none) (union-right (setOf ps))
+
+pub crossed-set : (n : ℕ) (ws : List ℕ) (f a : ℕ) → n ≤ 1024 → PairsBelow n (map linkPair ws) → IsSet n (crossedWords ws f a)
+unfolding crossedWords
+crossed-set n ws f a nl b =
+    union-set n (setOf (map linkPair (labelled f ws))) (transpose (setOf (map linkPair (labelled a ws)))) (part f)
+    (transpose-set n (setOf (map linkPair (labelled a ws))) (part a))
+  where
+    part : (m : ℕ) → IsSet n (setOf (map linkPair (labelled m ws)))
+    part m = setOf-set n (map linkPair (labelled m ws)) nl (λ p h. b p (in-labelled m ws h))
+
+-- ---- a lent set of records, each joined to itself
+pub diagonal-used : (n : ℕ) (ws : List ℕ) → ((x : ℕ) → n ≤ x → bitAt ws x ≡ 0) → IsSet n (diagonal (bitAt ws))
+diagonal-used n ws z = diagonal-set n (bitAt ws) (bit-lt ws) z
 
 -- ---- the pairs that rows hold
 places-far : (f : ℕ → ℕ) (p d : ℕ) → Gap f p (p + d) → places f (p + d) ≡ places f p

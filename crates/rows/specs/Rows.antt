@@ -3,17 +3,21 @@
 --   noPairs         the set that has no pair
 --   identity n      each record below n joined to itself
 --   linkPair w      the pair word of a link's word, label × 1,048,576 + pair word
+--   labelled m ws   the words of the links ws whose label is in the set m of labels, bit l of which stands for the label l
+--   crossedWords ws forward against
+--                   the pairs joined by one step over the links ws: forward over those whose label is in the set `forward`, and against their sense over
+--                   those whose label is in the set `against`
 --   RowsOf n ws     the words are the rows of some set of pairs below n
 --   places f n      the places below n at which f is not 0, ascending
 --   pairsIn n ws    the pair words that the first n rows of ws hold, ascending, whatever the words are
 -- Assumes nothing: these are definitions.
 use mathlib.Core.Path.{_≡_}
-use mathlib.Core.List.{List, [], _++_}
+use mathlib.Core.List.{List, [], _∷_, _++_, map}
 use Prim.Native.Nat.{ℕ, zero, suc, _*_, _/_, _%_}
-use lib.Dec.{ltb}
-use Rattle.book.specs.Basics.{bit}
-use Rattle.k2.specs.Bits.{bitAt}
-use Rattle.k2.specs.PairSets.{Cells, IsSet, ifSet, diagonal}
+use lib.Dec.{ltb, eqb}
+use Rattle.book.specs.Basics.{pick, bit}
+use Rattle.k2.specs.Bits.{digit, bitAt}
+use Rattle.k2.specs.PairSets.{Cells, IsSet, ifSet, setOf, union, transpose, diagonal}
 
 unfoldable pub flat : Cells → ℕ → ℕ
 flat a p = a (p / 1024) (p % 1024)
@@ -26,6 +30,13 @@ identity n = diagonal (λ x. bit (ltb x n))
 
 unfoldable pub linkPair : ℕ → ℕ
 linkPair w = w % 1048576
+
+unfoldable pub labelled : ℕ → List ℕ → List ℕ
+labelled m [] = []
+labelled m (w ∷ ws) = pick (eqb (digit m (w / 1048576)) 1) (w ∷ labelled m ws) (labelled m ws)
+
+unfoldable pub crossedWords : List ℕ → ℕ → ℕ → Cells
+crossedWords ws forward against = union (setOf (map linkPair (labelled forward ws))) (transpose (setOf (map linkPair (labelled against ws))))
 
 pub record RowsOf (n : ℕ) (ws : List ℕ) : Type 0 where
   pub set : Cells

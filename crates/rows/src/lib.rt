@@ -2,13 +2,14 @@
 // word p, from * 1024 + to. A square of a row is one of its words: 64 columns.
 ghost use mathlib.Core.Path.{_≡_};
 ghost use mathlib.Core.Bool.{true};
-ghost use mathlib.Core.List.{_++_, map};
+ghost use mathlib.Core.List.{_++_};
 ghost use Prim.Native.Nat.{ℕ, _+_, _*_, _≤_, _<_};
+ghost use lib.Dec.{eqb};
 ghost use lib.ListN.{length, take, drop};
-ghost use Rattle.k2.specs.Bits.{bitAt};
-ghost use Rattle.k2.specs.PairSets.{Cells, IsSet, setOf, union, intersection, difference, transpose, product, via, closure};
+ghost use Rattle.k2.specs.Bits.{digit, bitAt};
+ghost use Rattle.k2.specs.PairSets.{Cells, IsSet, union, intersection, difference, transpose, product, via, closure, diagonal};
 ghost use Rattle.bits.specs.BitSets.{none};
-ghost use Rattle.rows.specs.Rows.{flat, identity, linkPair, RowsOf, pairsIn};
+ghost use Rattle.rows.specs.Rows.{flat, noPairs, crossedWords, RowsOf, pairsIn};
 ghost use Rattle.rows.specs.Steps.{Masked, rowAt, Occupied, Masks, Common, served, below, withRow, plusRow};
 
 // The pairs of a that b lacks taken out of a.
@@ -37,41 +38,60 @@ pub fn minus(a: &mut [u64], b: &[u64])
     }
 }
 
-// Each record below n joined to itself.
-pub fn set_diagonal(rows: &mut [u64], n: usize)
-    requires { ⌜ (n ≤ 1024) × (length (now rows) ≡ 16384) ⌝ }
-    ensures { λ _. ⌜ ((x : Cells) → bitAt (now (rows .entry)) ≡ flat x → bitAt (now (rows .exit)) ≡ flat (union x (identity n))) ⌝ }
+// Rows that hold no pair.
+pub fn clear(rows: &mut [u64])
+    requires { ⌜ length (now rows) ≡ 16384 ⌝ }
+    ensures { λ _. ⌜ bitAt (now (rows .exit)) ≡ flat noPairs ⌝ }
 {
     let mut i = 0;
-    while i < n {
-        bits::set_bit(rows, i * 1024 + i);
+    while i < 16384 {
+        rows[i] = 0;
         i += 1;
     }
 }
 
-// The pairs of link words put in: a link's word is label * 1048576 + pair word, and a pair word is the word of a link of label 0.
-pub fn put_words(words: &[u32], rows: &mut [u64])
-    requires { ⌜ length (now rows) ≡ 16384 ⌝ }
+// Each record of a set joined to itself; the set is lent as 1,024 bits.
+pub fn set_diagonal(rows: &mut [u64], records: &[u64])
+    requires { ⌜ (length (now rows) ≡ 16384) × (length (now records) ≡ 16) ⌝ }
     ensures { λ _. ⌜ ((x : Cells) → bitAt (now (rows .entry)) ≡ flat x
-        → bitAt (now (rows .exit)) ≡ flat (union x (setOf (map linkPair (now (words .entry)))))) ⌝ }
+        → bitAt (now (rows .exit)) ≡ flat (union x (diagonal (bitAt (now (records .entry)))))) ⌝ }
 {
     let mut i = 0;
-    while i < words.len() {
-        bits::set_bit(rows, (words[i] % 1048576) as usize);
+    while i < 1024 {
+        if bits::bit(records, i) == 1 {
+            bits::set_bit(rows, i * 1024 + i);
+        }
         i += 1;
     }
 }
 
-// The same with each pair exchanged.
-pub fn put_turned(words: &[u32], rows: &mut [u64])
+// Is a label in a set of labels?
+fn has_label(labels: u32, label: u32) -> bool
+    ensures { λ r. ⌜ r ≡ eqb (digit labels label) 1 ⌝ }
+{
+    if 32 <= label {
+        return false;
+    }
+    (labels >> label) % 2 == 1
+}
+
+// The pairs of link words put in: of links whose label is in `forward` as they are, of those whose label is in `against` exchanged. A link's word is
+// label * 1048576 + pair word, and a pair word is the word of a link of label 0.
+pub fn put_letters(words: &[u32], forward: u32, against: u32, rows: &mut [u64])
     requires { ⌜ length (now rows) ≡ 16384 ⌝ }
     ensures { λ _. ⌜ ((x : Cells) → bitAt (now (rows .entry)) ≡ flat x
-        → bitAt (now (rows .exit)) ≡ flat (union x (transpose (setOf (map linkPair (now (words .entry))))))) ⌝ }
+        → bitAt (now (rows .exit)) ≡ flat (union x (crossedWords (now (words .entry)) forward against))) ⌝ }
 {
     let mut i = 0;
     while i < words.len() {
+        let label = words[i] / 1048576;
         let p = (words[i] % 1048576) as usize;
-        bits::set_bit(rows, p % 1024 * 1024 + p / 1024);
+        if has_label(forward, label) {
+            bits::set_bit(rows, p);
+        }
+        if has_label(against, label) {
+            bits::set_bit(rows, p % 1024 * 1024 + p / 1024);
+        }
         i += 1;
     }
 }

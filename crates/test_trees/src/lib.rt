@@ -1,34 +1,126 @@
-// The inner tree operations for a Rust program: what `rt staticlib test_trees` exports, to be tested and measured. Each promises what that of `tree` does.
-ghost use mathlib.Core.List.{map};
+// The inner tree operations for a Rust program: what `rt staticlib test_trees` exports, to be tested and measured. Each promises what `operate` of `tree`
+// does of its term (specs/Terms.antt).
+use packing::Sense;
+use tree::Operand;
+use tree::Operation;
+use tree::Term;
+ghost use mathlib.Core.Path.{_≡_};
+ghost use mathlib.Core.List.{[]};
 ghost use Prim.Native.Nat.{_≤_};
-ghost use lib.ListN.{length};
-ghost use Rattle.k2.specs.PairSets.{IsSet, setOf, union, intersection, difference, product, transpose, closure};
-ghost use Rattle.rows.specs.Rows.{identity, linkPair};
-ghost use Rattle.packing.specs.Reading.{sensed};
-ghost use Rattle.tree.specs.Inner.{Room, TreeAt, OneTree, TwoTrees, Guarded};
+ghost use lib.ListN.{length, take, replicate};
+ghost use Rattle.book.specs.Causes.{maxRecords};
+ghost use Rattle.k2.specs.Bits.{bitAt};
+ghost use Rattle.k2.specs.PairSets.{Cells, IsSet, union};
+ghost use Rattle.k2.specs.Trees.{treeWords};
+ghost use Rattle.bits.specs.BitSets.{none};
+ghost use Rattle.rows.specs.Rows.{identity};
+ghost use Rattle.packing.specs.declared.loading.Sense.the-variants.{Plain, Inverted};
+ghost use Rattle.tree.specs.declared.operations.Operation.the-variants.{Union, Intersection, Difference, Product, Closure, Optional};
+ghost use Rattle.tree.specs.Inner.{Roomy, TreeAt, Operated};
+ghost use Rattle.test_trees.specs.Terms.{senseOf, onTwo, onOne, anyLetter, below};
+
+// The sense that a number stands for.
+fn sense_of(s: usize) -> Sense
+    ensures { λ r. ⌜ r ≡ senseOf s ⌝ }
+{
+    if s == 0 {
+        return Sense::Plain;
+    }
+    Sense::Inverted
+}
+
+// An operation on two trees, with no links. It has rows of its own.
+fn on_trees(
+    operation: Operation,
+    la: usize,
+    s: Sense,
+    lb: usize,
+    t: Sense,
+    work: &mut [u64],
+    n: usize,
+    used: &[u64],
+) -> usize
+    ensures { λ r. ⌜ Operated (onTwo operation la s lb t) n [] (now (used .entry)) 16384 (now (work .entry)) (now (work .exit)) r ⌝ }
+{
+    let links: [u32; 1] = [0; 1];
+    let mut rows: [u64; 16384] = [0; 16384];
+    let term = Term {
+        operation,
+        first: Operand {
+            size: la,
+            sense: s,
+            forward: 0,
+            against: 0,
+        },
+        second: Operand {
+            size: lb,
+            sense: t,
+            forward: 0,
+            against: 0,
+        },
+    };
+    tree::operate(term, work, n, &links[..0], used, &mut rows)
+}
+
+// The same with no record in use.
+fn on_two(
+    operation: Operation,
+    la: usize,
+    s: Sense,
+    lb: usize,
+    t: Sense,
+    work: &mut [u64],
+    n: usize,
+) -> usize
+    ensures { λ r. ⌜ Operated (onTwo operation la s lb t) n [] (replicate 16 0) 16384 (now (work .entry)) (now (work .exit)) r ⌝ }
+{
+    let used: [u64; 16] = [0; 16];
+    on_trees(operation, la, s, lb, t, work, n, &used)
+}
 
 #[no_mangle]
 pub extern "C" fn tree_union_in(work: &mut [u64], n: usize, la: usize, lb: usize) -> usize
-    ensures { λ r. ⌜ Guarded (Room n la lb (length (now (work .entry)))) (now (work .entry)) (now (work .exit)) r
-        (TwoTrees union n la lb (now (work .entry)) (now (work .exit)) r) ⌝ }
+    ensures { λ r. ⌜ Operated (onTwo Union la Plain lb Plain) n [] (replicate 16 0) 16384 (now (work .entry)) (now (work .exit)) r ⌝ }
 {
-    tree::union_in(work, n, la, lb)
+    on_two(
+        Operation::Union,
+        la,
+        Sense::Plain,
+        lb,
+        Sense::Plain,
+        work,
+        n,
+    )
 }
 
 #[no_mangle]
 pub extern "C" fn tree_intersection_in(work: &mut [u64], n: usize, la: usize, lb: usize) -> usize
-    ensures { λ r. ⌜ Guarded (Room n la lb (length (now (work .entry)))) (now (work .entry)) (now (work .exit)) r
-        (TwoTrees intersection n la lb (now (work .entry)) (now (work .exit)) r) ⌝ }
+    ensures { λ r. ⌜ Operated (onTwo Intersection la Plain lb Plain) n [] (replicate 16 0) 16384 (now (work .entry)) (now (work .exit)) r ⌝ }
 {
-    tree::intersection_in(work, n, la, lb)
+    on_two(
+        Operation::Intersection,
+        la,
+        Sense::Plain,
+        lb,
+        Sense::Plain,
+        work,
+        n,
+    )
 }
 
 #[no_mangle]
 pub extern "C" fn tree_difference_in(work: &mut [u64], n: usize, la: usize, lb: usize) -> usize
-    ensures { λ r. ⌜ Guarded (Room n la lb (length (now (work .entry)))) (now (work .entry)) (now (work .exit)) r
-        (TwoTrees difference n la lb (now (work .entry)) (now (work .exit)) r) ⌝ }
+    ensures { λ r. ⌜ Operated (onTwo Difference la Plain lb Plain) n [] (replicate 16 0) 16384 (now (work .entry)) (now (work .exit)) r ⌝ }
 {
-    tree::difference_in(work, n, la, lb)
+    on_two(
+        Operation::Difference,
+        la,
+        Sense::Plain,
+        lb,
+        Sense::Plain,
+        work,
+        n,
+    )
 }
 
 #[no_mangle]
@@ -40,41 +132,97 @@ pub extern "C" fn tree_product_in(
     sa: usize,
     sb: usize,
 ) -> usize
-    ensures { λ r. ⌜ Guarded (Room n la lb (length (now (work .entry))) × (sa ≤ 1) × (sb ≤ 1)) (now (work .entry)) (now (work .exit)) r
-        (TwoTrees (λ a b. product n (sensed sa a) (sensed sb b)) n la lb (now (work .entry)) (now (work .exit)) r) ⌝ }
+    ensures { λ r. ⌜ Operated (onTwo Product la (senseOf sa) lb (senseOf sb)) n [] (replicate 16 0) 16384 (now (work .entry)) (now (work .exit)) r ⌝ }
 {
-    tree::product_in(work, n, la, lb, sa, sb)
+    let s = sense_of(sa);
+    let t = sense_of(sb);
+    on_two(Operation::Product, la, s, lb, t, work, n)
 }
 
 #[no_mangle]
 pub extern "C" fn tree_transpose_in(work: &mut [u64], n: usize, la: usize) -> usize
-    ensures { λ r. ⌜ Guarded (Room n la 0 (length (now (work .entry)))) (now (work .entry)) (now (work .exit)) r
-        (OneTree transpose n la (now (work .entry)) (now (work .exit)) r) ⌝ }
+    ensures { λ r. ⌜ Operated (onOne Union la Inverted) n [] (replicate 16 0) 16384 (now (work .entry)) (now (work .exit)) r ⌝ }
 {
-    tree::transpose_in(work, n, la)
+    on_two(
+        Operation::Union,
+        0,
+        Sense::Plain,
+        la,
+        Sense::Inverted,
+        work,
+        n,
+    )
 }
 
 #[no_mangle]
 pub extern "C" fn tree_closure_in(work: &mut [u64], n: usize, la: usize) -> usize
-    ensures { λ r. ⌜ Guarded (Room n la 0 (length (now (work .entry)))) (now (work .entry)) (now (work .exit)) r
-        (OneTree (closure n) n la (now (work .entry)) (now (work .exit)) r) ⌝ }
+    ensures { λ r. ⌜ Operated (onOne Closure la Plain) n [] (replicate 16 0) 16384 (now (work .entry)) (now (work .exit)) r ⌝ }
 {
-    tree::closure_in(work, n, la)
+    on_two(
+        Operation::Closure,
+        0,
+        Sense::Plain,
+        la,
+        Sense::Plain,
+        work,
+        n,
+    )
+}
+
+// The records below n marked as in use.
+fn mark(used: &mut [u64], n: usize)
+    requires { ⌜ (n ≤ maxRecords) × (length (now used) ≡ 16) ⌝ }
+    ensures { λ _. ⌜ (bitAt (now (used .entry)) ≡ none → bitAt (now (used .exit)) ≡ below n) ⌝ }
+{
+    let mut i = 0;
+    while i < n {
+        bits::set_bit(used, i);
+        i += 1;
+    }
 }
 
 #[no_mangle]
 pub extern "C" fn tree_identity_in(work: &mut [u64], n: usize, la: usize) -> usize
-    ensures { λ r. ⌜ Guarded (Room n la 0 (length (now (work .entry)))) (now (work .entry)) (now (work .exit)) r
-        (OneTree (λ a. union a (identity n)) n la (now (work .entry)) (now (work .exit)) r) ⌝ }
+    ensures { λ r. ⌜ (Roomy n (onOne Optional la Plain) (length (now (work .entry))) → (a : Cells) → IsSet n a → take la (now (work .entry)) ≡ treeWords n a
+        → TreeAt n (union a (identity n)) (now (work .exit)) r) ⌝ }
 {
-    tree::identity_in(work, n, la)
+    if book::MAX_RECORDS < n {
+        return 0;
+    }
+    let mut used: [u64; 16] = [0; 16];
+    mark(&mut used, n);
+    on_trees(
+        Operation::Optional,
+        0,
+        Sense::Plain,
+        la,
+        Sense::Plain,
+        work,
+        n,
+        &used,
+    )
 }
 
 #[no_mangle]
 pub extern "C" fn tree_letter_in(work: &mut [u64], n: usize, words: &[u32]) -> usize
-    ensures { λ r. ⌜ Guarded (Room n 0 0 (length (now (work .entry)))) (now (work .entry)) (now (work .exit)) r
-        (IsSet n (setOf (map linkPair (now (words .entry))))
-        → TreeAt n (setOf (map linkPair (now (words .entry)))) (now (work .exit)) r) ⌝ }
+    ensures { λ r. ⌜ Operated anyLetter n (now (words .entry)) (replicate 16 0) 16384 (now (work .entry)) (now (work .exit)) r ⌝ }
 {
-    tree::letter_in(work, n, words)
+    let used: [u64; 16] = [0; 16];
+    let mut rows: [u64; 16384] = [0; 16384];
+    let term = Term {
+        operation: Operation::Union,
+        first: Operand {
+            size: 0,
+            sense: Sense::Plain,
+            forward: 0,
+            against: 0,
+        },
+        second: Operand {
+            size: 0,
+            sense: Sense::Plain,
+            forward: 4294967295,
+            against: 0,
+        },
+    };
+    tree::operate(term, work, n, words, &used, &mut rows)
 }

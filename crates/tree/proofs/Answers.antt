@@ -69,6 +69,11 @@ module _ (n : ℕ) (ps : List ℕ) (ts : List (List ℕ)) (k : ℕ) (xs before a
   pub accept : {r : ℕ} {v : Answer} → r ≡ firstNumber (lentCauses n ps ts k) → r ≡ 0 → (ys : List ℕ) → ys ≡ xs → Settled ys before after v → Answered n ps ts k xs before after v
   accept {v = v} e z ys q s = settle (sym e ∙ z) (subst (λ (l : List ℕ). Settled l before after v) q s)
 
+-- an equal answer
+pub answer-as : {n k : ℕ} {ps xs ys before after : List ℕ} {ts : List (List ℕ)} {r : Answer} → xs ≡ ys → Answered n ps ts k xs before after r
+    → Answered n ps ts k ys before after r
+answer-as {n} {k} {ps} {before = before} {after} {ts} {r} e a = subst (λ (l : List ℕ). Answered n ps ts k l before after r) e a
+
 -- ---- the facts that no cause leaves
 pub met : (n k : ℕ) (ps t u : List ℕ) {r : ℕ} → r ≡ firstNumber (lentCauses n ps (t ∷ u ∷ []) k) → r ≡ 0
     → (1 ≤ n) × (n ≤ maxRecords) × PairsBelow n ps × (WellFormed n t × WellFormed n u) × (32 * treeUnit n ≤ k)

@@ -1,69 +1,109 @@
--- What the inner operations promise. Their operands lie at the front of a part of the lent work, one after another, and the result is left there.
---   Room n la lb k  what an operation on operands of la and lb words needs: k words of work, two D of them
+-- What an operation on operands in the lent work promises. The operands' trees lie at the front of a part of it, one after the other, and the outcome is left
+-- in rows, or as a tree at the front.
+--   nothing         the operand that has no pair
+--   treeAlone k s   a tree of k words, read with the sense s, and no links
+--   flipped o       the operand o with each pair exchanged
+--   valued ws o a   the set that the operand o stands for, whose tree is that of the set a: a and beside it the links of its letters, which are among the
+--                   words ws, read with its sense
+--   LinksBelow n ws both ends of each link of the words ws are below n
+--   outcome k n u a b
+--                   what the operation k makes of the sets a and b of pairs below n, u being the records in use: for Closure, Optional and Star of the union of
+--                   both. Zero steps join each record in use to itself
+--   Apart k         the operations that look at both operands apart, besides Union
+--   Roomy n t k     the operands of the term t have at most D words each, and k words of work have room for two trees
+--   Room n t work used rows
+--                   so it is, with 16 words for the records in use, and 16,384 for rows
+--   Lent t n ws u work a b
+--                   what a term's outcome is said of: its operands' trees are those of sets a and b of pairs below n, and so are the links and the records in use
+--   termSet t n ws u a b
+--                   the set that is its outcome then
 --   TreeAt n a ws r the first r words are the tree of a, and no more than D
---   outcome k n a b the operations by their numbers: of the sets a and b union, intersection, difference and product; the closure of their union; their
---                   union with each record below n joined to itself; the closure with these too; from 7 on the union of the first and the
---                   transpose of the second. An operation on one set has none as its first
---   OneTree op n la ws us r
---                   of a tree of la words at the front of ws, r words of us are the tree of op's set
---   TwoTrees op n la lb ws us r
---                   the same of two, of la words and then lb
---   OneWithLinks op n lb links sense ws us r
---                   of a tree of lb words at the front of ws that has the pairs of link words beside its own, read with a sense, r words of us are the tree
---                   of op's set
---   TwoWithLinks op n la lb links sense ws us r
---                   the same of two trees, of la words and then lb; the second has the pairs of the links beside its own
---   Guarded room ws us r made
---                   with room it is made; without, nothing is done, us are the words ws as they were and r is 0
+--   InRows t n ws used work before after r
+--                   what `outcome_rows` promises: with room, r is true and the rows are those of the outcome; without, r is false and they are as they were
+--   Operated t n ws used rows before after r
+--                   what `operate` promises: with room, the first r words of the work are the outcome's tree; without, r is 0 and the work is as it was
 -- Assumes nothing: these are definitions.
 use mathlib.Core.Path.{_≡_}
+use mathlib.Core.Bool.{Bool, true, false}
 use mathlib.Core.List.{List, map}
-use Prim.Native.Nat.{ℕ, zero, suc, _*_, _≤_}
+use Prim.Native.Nat.{ℕ, _*_, _≤_}
 use lib.ListN.{length, take, drop}
 use Rattle.book.specs.Causes.{maxRecords}
-use Rattle.k2.specs.PairSets.{Cells, IsSet, setOf, union, intersection, difference, product, transpose, closure}
+use Rattle.k2.specs.Bits.{bitAt}
+use Rattle.k2.specs.PairSets.{Cells, IsSet, PairsBelow, union, intersection, difference, product, closure, diagonal}
 use Rattle.k2.specs.Trees.{treeWords, treeUnit}
-use Rattle.rows.specs.Rows.{identity, linkPair}
-use Rattle.packing.specs.Reading.{sensed}
+use Rattle.rows.specs.Rows.{flat, linkPair, crossedWords}
+use Rattle.packing.specs.declared.loading.Sense.{Sense}
+use Rattle.packing.specs.declared.loading.Sense.the-variants.{Plain}
+use Rattle.packing.specs.Senses.{sensed, opposite}
+use Rattle.tree.specs.declared.operations.Operation.{Operation}
+use Rattle.tree.specs.declared.operations.Operation.the-variants.{Union, Intersection, Difference, Product, Closure, Optional, Star}
+use Rattle.tree.specs.declared.operations.Operand.{Operand}
+use Rattle.tree.specs.declared.operations.Term.{Term}
 
-pub record Room (n la lb k : ℕ) : Type 0 where
+abbrev pub nothing : Operand
+nothing = record { size = 0; sense = Plain; forward = 0; against = 0 }
+
+abbrev pub treeAlone : ℕ → Sense → Operand
+treeAlone k s = record { size = k; sense = s; forward = 0; against = 0 }
+
+abbrev pub flipped : Operand → Operand
+flipped o = record { size = o .size; sense = opposite (o .sense); forward = o .forward; against = o .against }
+
+abbrev pub valued : List ℕ → Operand → Cells → Cells
+valued ws o a = sensed (o .sense) (union a (crossedWords ws (o .forward) (o .against)))
+
+abbrev pub LinksBelow : ℕ → List ℕ → Type 0
+LinksBelow n ws = PairsBelow n (map linkPair ws)
+
+abbrev pub outcome : Operation → ℕ → (ℕ → ℕ) → Cells → Cells → Cells
+outcome Union n u a b = union a b
+outcome Intersection n u a b = intersection a b
+outcome Difference n u a b = difference a b
+outcome Product n u a b = product n a b
+outcome Closure n u a b = closure n (union a b)
+outcome Optional n u a b = union (union a b) (diagonal u)
+outcome Star n u a b = union (closure n (union a b)) (diagonal u)
+
+pub data Apart : Operation → Type 0 where
+  intersects : Apart Intersection
+  differs : Apart Difference
+  multiplies : Apart Product
+
+pub record Roomy (n : ℕ) (t : Term) (k : ℕ) : Type 0 where
   pub size : n ≤ maxRecords
-  pub first : la ≤ treeUnit n
-  pub second : lb ≤ treeUnit n
+  pub first : t .first .size ≤ treeUnit n
+  pub second : t .second .size ≤ treeUnit n
   pub work : 2 * treeUnit n ≤ k
+
+pub record Room (n : ℕ) (t : Term) (work used rows : ℕ) : Type 0 where
+  pub trees : Roomy n t work
+  pub records : used ≡ 16
+  pub bits : rows ≡ 16384
+
+pub record Lent (t : Term) (n : ℕ) (ws : List ℕ) (u : ℕ → ℕ) (work : List ℕ) (a b : Cells) : Type 0 where
+  pub first : IsSet n a
+  pub second : IsSet n b
+  pub front : take (t .first .size) work ≡ treeWords n a
+  pub behind : take (t .second .size) (drop (t .first .size) work) ≡ treeWords n b
+  pub links : LinksBelow n ws
+  pub used : (x : ℕ) → n ≤ x → u x ≡ 0
+
+abbrev pub termSet : Term → ℕ → List ℕ → (ℕ → ℕ) → Cells → Cells → Cells
+termSet t n ws u a b = outcome (t .operation) n u (valued ws (t .first) a) (valued ws (t .second) b)
 
 pub record TreeAt (n : ℕ) (a : Cells) (ws : List ℕ) (r : ℕ) : Type 0 where
   pub words : take r ws ≡ treeWords n a
   pub few : r ≤ treeUnit n
 
-abbrev pub outcome : ℕ → ℕ → Cells → Cells → Cells
-outcome zero n a b = union a b
-outcome (suc zero) n a b = intersection a b
-outcome (suc (suc zero)) n a b = difference a b
-outcome (suc (suc (suc zero))) n a b = product n a b
-outcome (suc (suc (suc (suc zero)))) n a b = closure n (union a b)
-outcome (suc (suc (suc (suc (suc zero))))) n a b = union (union a b) (identity n)
-outcome (suc (suc (suc (suc (suc (suc zero)))))) n a b = union (closure n (union a b)) (identity n)
-outcome (suc (suc (suc (suc (suc (suc (suc k))))))) n a b = union a (transpose b)
+pub record InRows (t : Term) (n : ℕ) (ws used work before after : List ℕ) (r : Bool) : Type 0 where
+  pub done : Room n t (length work) (length used) (length before) → r ≡ true
+  pub rows : Room n t (length work) (length used) (length before)
+      → (a b : Cells) → Lent t n ws (bitAt used) work a b → bitAt after ≡ flat (termSet t n ws (bitAt used) a b)
+  pub left : (Room n t (length work) (length used) (length before) → ⊥) → (r ≡ false) × (after ≡ before)
 
-abbrev pub OneTree : (Cells → Cells) → ℕ → ℕ → List ℕ → List ℕ → ℕ → Type 0
-OneTree op n la ws us r = (a : Cells) → IsSet n a → take la ws ≡ treeWords n a → TreeAt n (op a) us r
-
-abbrev pub TwoTrees : (Cells → Cells → Cells) → ℕ → ℕ → ℕ → List ℕ → List ℕ → ℕ → Type 0
-TwoTrees op n la lb ws us r =
-    (a b : Cells) → IsSet n a → IsSet n b → take la ws ≡ treeWords n a → take lb (drop la ws) ≡ treeWords n b → TreeAt n (op a b) us r
-
-abbrev pub OneWithLinks : (Cells → Cells) → ℕ → ℕ → List ℕ → ℕ → List ℕ → List ℕ → ℕ → Type 0
-OneWithLinks op n lb links sense ws us r =
-    (b : Cells) → IsSet n b → take lb ws ≡ treeWords n b → IsSet n (setOf (map linkPair links))
-    → TreeAt n (op (union b (sensed sense (setOf (map linkPair links))))) us r
-
-abbrev pub TwoWithLinks : (Cells → Cells → Cells) → ℕ → ℕ → ℕ → List ℕ → ℕ → List ℕ → List ℕ → ℕ → Type 0
-TwoWithLinks op n la lb links sense ws us r =
-    (a b : Cells) → IsSet n a → IsSet n b → take la ws ≡ treeWords n a → take lb (drop la ws) ≡ treeWords n b → IsSet n (setOf (map linkPair links))
-    → TreeAt n (op a (union b (sensed sense (setOf (map linkPair links))))) us r
-
-pub record Guarded (room : Type 0) (ws us : List ℕ) (r : ℕ) (made : Type 0) : Type 0 where
-  pub most : r ≤ length ws
-  pub done : room → made
-  pub left : (room → ⊥) → (us ≡ ws) × (r ≡ 0)
+pub record Operated (t : Term) (n : ℕ) (ws used : List ℕ) (rows : ℕ) (before after : List ℕ) (r : ℕ) : Type 0 where
+  pub most : r ≤ length before
+  pub tree : Room n t (length before) (length used) rows
+      → (a b : Cells) → Lent t n ws (bitAt used) before a b → TreeAt n (termSet t n ws (bitAt used) a b) after r
+  pub left : (Room n t (length before) (length used) rows → ⊥) → (after ≡ before) × (r ≡ 0)

@@ -1,4 +1,5 @@
 pub mod Inner
+pub mod InnerLaws
 pub mod Calls
 pub mod Settling
 pub mod CallLaws

@@ -1,15 +1,13 @@
 // The calls on lent trees and lists: each tests what it is lent, names the first cause against it, and hands over a tree or a list.
 // What they promise is stated in specs/Calls.antt.
-use crate::inner::closure_in;
-use crate::inner::letter_in;
-use crate::inner::transpose_in;
 use crate::listing::Answer;
 use crate::listing::hand_over;
-use crate::operations::DIFFERENCE;
-use crate::operations::INTERSECTION;
-use crate::operations::PRODUCT;
-use crate::operations::UNION;
-use crate::operations::operate_on;
+use crate::operations::Operand;
+use crate::operations::Operation;
+use crate::operations::Term;
+use crate::operations::no_operand;
+use crate::operations::operate;
+use packing::Sense;
 ghost use mathlib.Core.Path.{_≡_};
 ghost use mathlib.Core.Bool.{true};
 ghost use mathlib.Core.List.{[], _∷_, _++_};
@@ -18,7 +16,10 @@ ghost use lib.ListN.{length, take, drop};
 ghost use Rattle.book.specs.Causes.{firstNumber, maxRecords};
 ghost use Rattle.k2.specs.PairSets.{Cells, IsSet, listed, union, intersection, difference, product, transpose, closure, PairsBelow};
 ghost use Rattle.k2.specs.Trees.{treeWords};
-ghost use Rattle.tree.specs.Inner.{outcome};
+ghost use Rattle.bits.specs.BitSets.{none};
+ghost use Rattle.rows.specs.Rows.{noPairs};
+ghost use Rattle.packing.specs.Senses.{sensed};
+ghost use Rattle.tree.specs.Inner.{treeAlone, outcome, Roomy, Lent, termSet, TreeAt};
 ghost use Rattle.tree.specs.Settling.{Settled};
 ghost use Rattle.tree.specs.Calls.{lentCauses, Answered, treeOf, listOf, treeOfOne, treeOfTwo};
 
@@ -89,19 +90,81 @@ fn settle(work: &[u64], len: usize, out: &mut [u64]) -> Answer
     Answer::Done(len)
 }
 
-// An operation on two lent trees, by its number.
-fn binary(kind: u8, n: usize, a: &[u64], b: &[u64], out: &mut [u64], work: &mut [u64]) -> Answer
-    ensures { λ r. ⌜ Answered n [] (now (a .entry) ∷ now (b .entry) ∷ []) (length (now (work .entry)))
-        (treeOfTwo (outcome kind n) n (now (a .entry)) (now (b .entry))) (now (out .entry)) (now (out .exit)) r ⌝ }
+// A tree of so many words as an operand.
+fn tree_of(size: usize, sense: Sense) -> Operand
+    ensures { λ r. ⌜ r ≡ treeAlone size sense ⌝ }
 {
-    let none: [u32; 1] = [0; 1];
-    let cause = refusal(n, &none[..0], a, b, work.len());
+    Operand {
+        size,
+        sense,
+        forward: 0,
+        against: 0,
+    }
+}
+
+// The outcome of a term, as a tree at the front of work; how many words it has. No record is in use. It has rows of its own.
+fn made(term: Term, work: &mut [u64], n: usize, links: &[u32]) -> usize
+    requires { ⌜ Roomy n term (length (now work)) ⌝ }
+    ensures { λ r. ⌜ (r ≤ length (now (work .entry))) × ((a b : Cells) → Lent term n (now (links .entry)) none (now (work .entry)) a b
+        → TreeAt n (termSet term n (now (links .entry)) none a b) (now (work .exit)) r) ⌝ }
+{
+    let used: [u64; 16] = [0; 16];
+    let mut rows: [u64; 16384] = [0; 16384];
+    operate(term, work, n, links, &used, &mut rows)
+}
+
+// An operation on two lent trees.
+fn binary(
+    operation: Operation,
+    n: usize,
+    a: &[u64],
+    b: &[u64],
+    out: &mut [u64],
+    work: &mut [u64],
+) -> Answer
+    ensures { λ r. ⌜ Answered n [] (now (a .entry) ∷ now (b .entry) ∷ []) (length (now (work .entry)))
+        (treeOfTwo (outcome operation n none) n (now (a .entry)) (now (b .entry))) (now (out .entry)) (now (out .exit)) r ⌝ }
+{
+    let no_links: [u32; 1] = [0; 1];
+    let cause = refusal(n, &no_links[..0], a, b, work.len());
     if cause != 0 {
         return Answer::Refused(cause);
     }
     copy(a, work, 0);
     copy(b, work, a.len());
-    let len = operate_on(kind, work, n, a.len(), b.len(), 0, 0);
+    let term = Term {
+        operation,
+        first: tree_of(a.len(), Sense::Plain),
+        second: tree_of(b.len(), Sense::Plain),
+    };
+    let len = made(term, work, n, &no_links[..0]);
+    settle(work, len, out)
+}
+
+// An operation on one lent tree, read with a sense.
+fn unary(
+    operation: Operation,
+    n: usize,
+    a: &[u64],
+    sense: Sense,
+    out: &mut [u64],
+    work: &mut [u64],
+) -> Answer
+    ensures { λ r. ⌜ Answered n [] (now (a .entry) ∷ []) (length (now (work .entry)))
+        (treeOfOne (λ x. outcome operation n none noPairs (sensed sense x)) n (now (a .entry))) (now (out .entry)) (now (out .exit)) r ⌝ }
+{
+    let no_links: [u32; 1] = [0; 1];
+    let cause = refusal(n, &no_links[..0], a, &a[..0], work.len());
+    if cause != 0 {
+        return Answer::Refused(cause);
+    }
+    copy(a, work, 0);
+    let term = Term {
+        operation,
+        first: no_operand(),
+        second: tree_of(a.len(), sense),
+    };
+    let len = made(term, work, n, &no_links[..0]);
     settle(work, len, out)
 }
 
@@ -110,7 +173,7 @@ pub fn union(n: usize, a: &[u64], b: &[u64], out: &mut [u64], work: &mut [u64]) 
     ensures { λ r. ⌜ Answered n [] (now (a .entry) ∷ now (b .entry) ∷ []) (length (now (work .entry)))
         (treeOfTwo union n (now (a .entry)) (now (b .entry))) (now (out .entry)) (now (out .exit)) r ⌝ }
 {
-    binary(UNION, n, a, b, out, work)
+    binary(Operation::Union, n, a, b, out, work)
 }
 
 // The tree of the pairs in both.
@@ -118,7 +181,7 @@ pub fn intersection(n: usize, a: &[u64], b: &[u64], out: &mut [u64], work: &mut 
     ensures { λ r. ⌜ Answered n [] (now (a .entry) ∷ now (b .entry) ∷ []) (length (now (work .entry)))
         (treeOfTwo intersection n (now (a .entry)) (now (b .entry))) (now (out .entry)) (now (out .exit)) r ⌝ }
 {
-    binary(INTERSECTION, n, a, b, out, work)
+    binary(Operation::Intersection, n, a, b, out, work)
 }
 
 // The tree of the pairs in the first and not in the second.
@@ -126,7 +189,7 @@ pub fn difference(n: usize, a: &[u64], b: &[u64], out: &mut [u64], work: &mut [u
     ensures { λ r. ⌜ Answered n [] (now (a .entry) ∷ now (b .entry) ∷ []) (length (now (work .entry)))
         (treeOfTwo difference n (now (a .entry)) (now (b .entry))) (now (out .entry)) (now (out .exit)) r ⌝ }
 {
-    binary(DIFFERENCE, n, a, b, out, work)
+    binary(Operation::Difference, n, a, b, out, work)
 }
 
 // The tree of the product: the pairs for which some middle record serves.
@@ -134,7 +197,7 @@ pub fn product(n: usize, a: &[u64], b: &[u64], out: &mut [u64], work: &mut [u64]
     ensures { λ r. ⌜ Answered n [] (now (a .entry) ∷ now (b .entry) ∷ []) (length (now (work .entry)))
         (treeOfTwo (product n) n (now (a .entry)) (now (b .entry))) (now (out .entry)) (now (out .exit)) r ⌝ }
 {
-    binary(PRODUCT, n, a, b, out, work)
+    binary(Operation::Product, n, a, b, out, work)
 }
 
 // The tree of the pairs exchanged.
@@ -142,14 +205,7 @@ pub fn transpose(n: usize, a: &[u64], out: &mut [u64], work: &mut [u64]) -> Answ
     ensures { λ r. ⌜ Answered n [] (now (a .entry) ∷ []) (length (now (work .entry)))
         (treeOfOne transpose n (now (a .entry))) (now (out .entry)) (now (out .exit)) r ⌝ }
 {
-    let none: [u32; 1] = [0; 1];
-    let cause = refusal(n, &none[..0], a, &a[..0], work.len());
-    if cause != 0 {
-        return Answer::Refused(cause);
-    }
-    copy(a, work, 0);
-    let len = transpose_in(work, n, a.len());
-    settle(work, len, out)
+    unary(Operation::Union, n, a, Sense::Inverted, out, work)
 }
 
 // The tree of the closure: one or more pairs that lead from one to the other.
@@ -157,14 +213,7 @@ pub fn closure(n: usize, a: &[u64], out: &mut [u64], work: &mut [u64]) -> Answer
     ensures { λ r. ⌜ Answered n [] (now (a .entry) ∷ []) (length (now (work .entry)))
         (treeOfOne (closure n) n (now (a .entry))) (now (out .entry)) (now (out .exit)) r ⌝ }
 {
-    let none: [u32; 1] = [0; 1];
-    let cause = refusal(n, &none[..0], a, &a[..0], work.len());
-    if cause != 0 {
-        return Answer::Refused(cause);
-    }
-    copy(a, work, 0);
-    let len = closure_in(work, n, a.len());
-    settle(work, len, out)
+    unary(Operation::Closure, n, a, Sense::Plain, out, work)
 }
 
 // The tree of a list of pair words, in any order and with repeats.
@@ -178,7 +227,17 @@ pub fn make(n: usize, pairs: &[u32], out: &mut [u64], work: &mut [u64]) -> Answe
     if cause != 0 {
         return Answer::Refused(cause);
     }
-    let len = letter_in(work, n, pairs);
+    let term = Term {
+        operation: Operation::Union,
+        first: no_operand(),
+        second: Operand {
+            size: 0,
+            sense: Sense::Plain,
+            forward: 1,
+            against: 0,
+        },
+    };
+    let len = made(term, work, n, pairs);
     settle(work, len, out)
 }
 
@@ -188,7 +247,7 @@ fn list_pairs(tree: &[u64], n: usize, out: &mut [u32]) -> Answer
     ensures { λ r. ⌜ ((a : Cells) → IsSet n a → now (tree .entry) ≡ treeWords n a → Settled (listed n a) (now (out .entry)) (now (out .exit)) r) ⌝ }
 {
     let mut rows: [u64; 16384] = [0; 16384];
-    packing::load(tree, n, 0, &mut rows);
+    packing::load(tree, n, Sense::Plain, &mut rows);
     hand_over(&rows, n, out)
 }
 

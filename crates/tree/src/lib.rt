@@ -1,7 +1,7 @@
-// k2-trees in parts of the lent work: operations.rt has an operation by its number, inner.rt each by its name, listing.rt the pairs of an outcome
-// listed, calls.rt the calls on lent trees, with their refusals. D, the words of a full tree, is handed on from below.
+// k2-trees in parts of the lent work: operations.rt has an operation on operands that lie there, with the links of their letters beside their trees;
+// listing.rt how an answer is listed, calls.rt the calls on lent trees, with their refusals. D, the words of a full tree, and the sense in which a
+// tree is read are handed on from below.
 mod calls;
-mod inner;
 mod listing;
 mod operations;
 
@@ -13,29 +13,13 @@ pub use calls::make;
 pub use calls::product;
 pub use calls::transpose;
 pub use calls::union;
-pub use inner::closure_in;
-pub use inner::closure_with;
-pub use inner::difference_in;
-pub use inner::identity_in;
-pub use inner::intersection_in;
-pub use inner::letter_in;
-pub use inner::optional_with;
-pub use inner::product_in;
-pub use inner::product_with;
-pub use inner::put_links_in;
-pub use inner::star_with;
-pub use inner::transpose_in;
-pub use inner::transpose_with;
-pub use inner::union_in;
-pub use inner::union_with;
 pub use listing::Answer;
-pub use listing::list_with;
-pub use operations::CLOSURE;
-pub use operations::DIFFERENCE;
-pub use operations::INTERSECTION;
-pub use operations::OPTIONAL;
-pub use operations::PRODUCT;
-pub use operations::STAR;
-pub use operations::TRANSPOSE;
-pub use operations::UNION;
+pub use operations::Operand;
+pub use operations::Operation;
+pub use operations::Term;
+pub use operations::inverted;
+pub use operations::no_operand;
+pub use operations::operate;
+pub use operations::outcome_rows;
+pub use packing::Sense;
 pub use packing::tree_unit;

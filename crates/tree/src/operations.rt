@@ -1,235 +1,244 @@
-// An operation, by its number, on k2-trees in parts of the lent work, with link words beside the last one.
+// An operation on operands in parts of the lent work: of each a k2-tree, and beside it the links of its letters, read with one sense.
+use packing::Sense;
 ghost use mathlib.Core.Path.{_≡_};
 ghost use mathlib.Core.Bool.{true};
-ghost use mathlib.Core.List.{map};
-ghost use Prim.Native.Nat.{_+_, _≤_};
+ghost use Prim.Native.Nat.{ℕ, _+_, _≤_};
 ghost use lib.ListN.{length, take, drop};
 ghost use Rattle.book.specs.Causes.{maxRecords};
 ghost use Rattle.k2.specs.Bits.{bitAt};
-ghost use Rattle.k2.specs.PairSets.{Cells, IsSet, setOf, union};
+ghost use Rattle.k2.specs.PairSets.{Cells, IsSet, union};
 ghost use Rattle.k2.specs.Trees.{treeWords, treeUnit};
-ghost use Rattle.rows.specs.Rows.{flat, linkPair};
-ghost use Rattle.packing.specs.Reading.{sensed};
-ghost use Rattle.tree.specs.Inner.{Room, TreeAt, outcome, TwoTrees, Guarded};
+ghost use Rattle.rows.specs.Rows.{flat, crossedWords};
+ghost use Rattle.packing.specs.Senses.{sensed, opposite};
+ghost use Rattle.tree.specs.Inner.{nothing, flipped, valued, LinksBelow, Apart, outcome, Roomy, Room, InRows, Operated};
 
-// The operations, by number; `outcome` of specs/Inner.antt has what they are.
-pub const UNION: u8 = 0;
+// What is done with the sets of two operands; the last three take the union of both, so that an operation on one operand has none as its first.
+pub enum Operation {
+    Union,
+    Intersection,
+    Difference,
+    Product,
+    Closure,
+    Optional,
+    Star,
+}
 
-pub const INTERSECTION: u8 = 1;
+// An operand: the words of its tree, the sense in which it is read, and the letters whose links are beside the tree, as two sets of labels: those crossed
+// forward, and those crossed against their sense.
+pub struct Operand {
+    pub size: usize,
+    pub sense: Sense,
+    pub forward: u32,
+    pub against: u32,
+}
 
-pub const DIFFERENCE: u8 = 2;
+// An operation with its operands; the first one's tree lies before the second's.
+pub struct Term {
+    pub operation: Operation,
+    pub first: Operand,
+    pub second: Operand,
+}
 
-pub const PRODUCT: u8 = 3;
-
-pub const CLOSURE: u8 = 4;
-
-pub const OPTIONAL: u8 = 5;
-
-pub const STAR: u8 = 6;
-
-pub const TRANSPOSE: u8 = 7;
-
-// The pairs of the tree of `len` words at word `at` put into rows; with sense 1 each pair exchanged.
-pub(crate) fn load_at(work: &[u64], at: usize, len: usize, n: usize, sense: usize, rows: &mut [u64])
-    requires { ⌜ (n ≤ maxRecords) × (len ≤ treeUnit n) × (sense ≤ 1) × (at + len ≤ length (now work)) × (length (now rows) ≡ 16384) ⌝ }
-    ensures { λ _. ⌜ ((a x : Cells) → IsSet n a → take len (drop at (now (work .entry))) ≡ treeWords n a → bitAt (now (rows .entry)) ≡ flat x
-        → bitAt (now (rows .exit)) ≡ flat (union x (sensed sense a))) ⌝ }
+// The operand that has no pair.
+pub fn no_operand() -> Operand
+    ensures { λ r. ⌜ r ≡ nothing ⌝ }
 {
-    let end = at + len;
+    Operand {
+        size: 0,
+        sense: Sense::Plain,
+        forward: 0,
+        against: 0,
+    }
+}
+
+// The other sense.
+fn turned(sense: Sense) -> Sense
+    ensures { λ r. ⌜ r ≡ opposite sense ⌝ }
+{
+    match sense {
+        Sense::Plain => Sense::Inverted,
+        Sense::Inverted => Sense::Plain,
+    }
+}
+
+// The operand with each pair exchanged; nothing is written.
+pub fn inverted(operand: Operand) -> Operand
+    ensures { λ r. ⌜ r ≡ flipped operand ⌝ }
+{
+    let sense = operand.sense;
+    Operand {
+        size: operand.size,
+        sense: turned(sense),
+        forward: operand.forward,
+        against: operand.against,
+    }
+}
+
+// The links of an operand's letters put into rows, read with its sense.
+fn put_links(operand: Operand, links: &[u32], rows: &mut [u64])
+    requires { ⌜ length (now rows) ≡ 16384 ⌝ }
+    ensures { λ _. ⌜ ((x : Cells) → bitAt (now (rows .entry)) ≡ flat x
+        → bitAt (now (rows .exit)) ≡ flat (union x (sensed (operand .sense) (crossedWords (now (links .entry)) (operand .forward) (operand .against))))) ⌝ }
+{
+    if operand.forward == 0 {
+        if operand.against == 0 {
+            return;
+        }
+    }
+    let sense = operand.sense;
+    match sense {
+        Sense::Plain => rows::put_letters(links, operand.forward, operand.against, rows),
+        Sense::Inverted => rows::put_letters(links, operand.against, operand.forward, rows),
+    }
+}
+
+// The tree of an operand, at word `at`, put into rows, read with its sense.
+fn load_tree(work: &[u64], at: usize, operand: Operand, n: usize, rows: &mut [u64])
+    requires { ⌜ (n ≤ maxRecords) × (operand .size ≤ treeUnit n) × (at + operand .size ≤ length (now work)) × (length (now rows) ≡ 16384) ⌝ }
+    ensures { λ _. ⌜ ((a x : Cells) → IsSet n a → take (operand .size) (drop at (now (work .entry))) ≡ treeWords n a → bitAt (now (rows .entry)) ≡ flat x
+        → bitAt (now (rows .exit)) ≡ flat (union x (sensed (operand .sense) a))) ⌝ }
+{
+    if operand.size == 0 {
+        return;
+    }
+    let end = at + operand.size;
+    let sense = operand.sense;
     packing::load(&work[at..end], n, sense, rows);
 }
 
-// The pairs of link words put into rows; with sense 1 each pair exchanged.
-fn put_links(words: &[u32], sense: usize, rows: &mut [u64])
-    requires { ⌜ length (now rows) ≡ 16384 ⌝ }
-    ensures { λ _. ⌜ ((x : Cells) → bitAt (now (rows .entry)) ≡ flat x
-        → bitAt (now (rows .exit)) ≡ flat (union x (sensed sense (setOf (map linkPair (now (words .entry))))))) ⌝ }
+// An operand, whose tree is at word `at`, put into rows.
+fn load(work: &[u64], at: usize, operand: Operand, n: usize, links: &[u32], rows: &mut [u64])
+    requires { ⌜ (n ≤ maxRecords) × (operand .size ≤ treeUnit n) × (at + operand .size ≤ length (now work)) × (length (now rows) ≡ 16384) ⌝ }
+    ensures { λ _. ⌜ ((a x : Cells) → IsSet n a → take (operand .size) (drop at (now (work .entry))) ≡ treeWords n a → bitAt (now (rows .entry)) ≡ flat x
+        → bitAt (now (rows .exit)) ≡ flat (union x (valued (now (links .entry)) operand a))) ⌝ }
 {
-    if sense == 0 {
-        rows::put_words(words, rows);
-        return;
-    }
-    rows::put_turned(words, rows);
+    load_tree(work, at, operand, n, rows);
+    put_links(operand, links, rows);
 }
 
-// The last operand put into rows: the pairs of a tree and those of link words, each read with its sense.
-fn load_last(
-    work: &[u64],
-    at: usize,
-    len: usize,
-    n: usize,
-    sb: usize,
-    words: &[u32],
-    sense: usize,
-    rows: &mut [u64],
-)
-    requires { ⌜ (n ≤ maxRecords) × (len ≤ treeUnit n) × (sb ≤ 1) × (at + len ≤ length (now work)) × (length (now rows) ≡ 16384) ⌝ }
-    ensures { λ _. ⌜ ((b x : Cells) → IsSet n b → take len (drop at (now (work .entry))) ≡ treeWords n b → bitAt (now (rows .entry)) ≡ flat x
-        → bitAt (now (rows .exit)) ≡ flat (union x (union (sensed sb b) (sensed sense (setOf (map linkPair (now (words .entry)))))))) ⌝ }
-{
-    load_at(work, at, len, n, sb, rows);
-    put_links(words, sense, rows);
-}
-
-// The last operand loaded into rows of its own, and the operation on both, left in rows: intersection, difference or product.
-fn with_second(
-    kind: u8,
-    work: &[u64],
-    n: usize,
-    la: usize,
-    lb: usize,
-    sb: usize,
-    words: &[u32],
-    sense: usize,
-    rows: &mut [u64],
-)
-    requires { ⌜ Room n la lb (length (now work)) × (1 ≤ kind) × (kind ≤ 3) × (sb ≤ 1) × (sense ≤ 1) × (length (now rows) ≡ 16384) ⌝ }
-    ensures { λ _. ⌜ ((a b : Cells) → IsSet n a → IsSet n b → bitAt (now (rows .entry)) ≡ flat a
-        → take lb (drop la (now (work .entry))) ≡ treeWords n b → IsSet n (setOf (map linkPair (now (words .entry))))
-        → bitAt (now (rows .exit)) ≡ flat (outcome kind n a (union (sensed sb b) (sensed sense (setOf (map linkPair (now (words .entry)))))))) ⌝ }
+// The operation on the set in rows and the second operand, which is loaded into rows of its own, for a product with its pairs exchanged: intersection,
+// difference or product. Left in rows.
+fn with_second(term: Term, work: &[u64], n: usize, links: &[u32], rows: &mut [u64])
+    requires { ⌜ Roomy n term (length (now work)) × Apart (term .operation) × (length (now rows) ≡ 16384) ⌝ }
+    ensures { λ _. ⌜ ((a b : Cells) (u : ℕ → ℕ) → IsSet n a → IsSet n b → take (term .second .size) (drop (term .first .size) (now (work .entry))) ≡ treeWords n b
+        → LinksBelow n (now (links .entry)) → bitAt (now (rows .entry)) ≡ flat a
+        → bitAt (now (rows .exit)) ≡ flat (outcome (term .operation) n u a (valued (now (links .entry)) (term .second) b))) ⌝ }
 {
     let mut other: [u64; 16384] = [0; 16384];
-    if kind == PRODUCT {
-        load_last(work, la, lb, n, 1 - sb, words, 1 - sense, &mut other);
-        rows::compose(rows, &other, n);
-        return;
+    let first = term.first;
+    let second = term.second;
+    let operation = term.operation;
+    match operation {
+        Operation::Intersection => {
+            load(work, first.size, second, n, links, &mut other);
+            rows::intersect(rows, &other);
+        }
+        Operation::Difference => {
+            load(work, first.size, second, n, links, &mut other);
+            rows::minus(rows, &other);
+        }
+        Operation::Product => {
+            load(work, first.size, inverted(second), n, links, &mut other);
+            rows::compose(rows, &other, n);
+        }
+        Operation::Union => {}
+        Operation::Closure => {}
+        Operation::Optional => {}
+        Operation::Star => {}
     }
-    load_last(work, la, lb, n, sb, words, sense, &mut other);
-    if kind == INTERSECTION {
-        rows::intersect(rows, &other);
-        return;
-    }
-    rows::minus(rows, &other);
 }
 
-// An operation, by its number, on the set in rows and the last operand, left in rows.
-pub(crate) fn combine(
-    kind: u8,
-    work: &[u64],
-    n: usize,
-    la: usize,
-    lb: usize,
-    sb: usize,
-    words: &[u32],
-    sense: usize,
-    rows: &mut [u64],
-)
-    requires { ⌜ Room n la lb (length (now work)) × (sb ≤ 1) × (sense ≤ 1) × (length (now rows) ≡ 16384) ⌝ }
-    ensures { λ _. ⌜ ((a b : Cells) → IsSet n a → IsSet n b → bitAt (now (rows .entry)) ≡ flat a
-        → take lb (drop la (now (work .entry))) ≡ treeWords n b → IsSet n (setOf (map linkPair (now (words .entry))))
-        → bitAt (now (rows .exit)) ≡ flat (outcome kind n a (union (sensed sb b) (sensed sense (setOf (map linkPair (now (words .entry)))))))) ⌝ }
+// The operation on the set in rows and the second operand, left in rows.
+fn combine(term: Term, work: &[u64], n: usize, links: &[u32], used: &[u64], rows: &mut [u64])
+    requires { ⌜ Roomy n term (length (now work)) × (length (now used) ≡ 16) × (length (now rows) ≡ 16384) ⌝ }
+    ensures { λ _. ⌜ ((a b : Cells) → IsSet n a → IsSet n b → take (term .second .size) (drop (term .first .size) (now (work .entry))) ≡ treeWords n b
+        → LinksBelow n (now (links .entry)) → bitAt (now (rows .entry)) ≡ flat a
+        → bitAt (now (rows .exit)) ≡ flat (outcome (term .operation) n (bitAt (now (used .entry))) a (valued (now (links .entry)) (term .second) b))) ⌝ }
 {
-    if kind == UNION {
-        load_last(work, la, lb, n, sb, words, sense, rows);
-        return;
+    let first = term.first;
+    let second = term.second;
+    let operation = term.operation;
+    match operation {
+        Operation::Union => load(work, first.size, second, n, links, rows),
+        Operation::Intersection => with_second(term, work, n, links, rows),
+        Operation::Difference => with_second(term, work, n, links, rows),
+        Operation::Product => with_second(term, work, n, links, rows),
+        Operation::Closure => {
+            load(work, first.size, second, n, links, rows);
+            rows::close(rows, n);
+        }
+        Operation::Optional => {
+            load(work, first.size, second, n, links, rows);
+            rows::set_diagonal(rows, used);
+        }
+        Operation::Star => {
+            load(work, first.size, second, n, links, rows);
+            rows::close(rows, n);
+            rows::set_diagonal(rows, used);
+        }
     }
-    if kind < CLOSURE {
-        with_second(kind, work, n, la, lb, sb, words, sense, rows);
-        return;
-    }
-    if STAR < kind {
-        load_last(work, la, lb, n, 1 - sb, words, 1 - sense, rows);
-        return;
-    }
-    load_last(work, la, lb, n, sb, words, sense, rows);
-    if kind == OPTIONAL {
-        rows::set_diagonal(rows, n);
-        return;
-    }
-    rows::close(rows, n);
-    if kind == CLOSURE {
-        return;
-    }
-    rows::set_diagonal(rows, n);
 }
 
-// An operation, by its number, on trees at the front of work, each read with its sense; the last one has the pairs of link words beside its
-// own, read with a sense too. The tree that results is left at the front; how many words it has. All operations go through here, so that their
-// rows stand on the stack once.
-fn operate(
-    kind: u8,
-    work: &mut [u64],
-    n: usize,
-    la: usize,
-    lb: usize,
-    sa: usize,
-    sb: usize,
-    words: &[u32],
-    sense: usize,
-) -> usize
-    requires { ⌜ Room n la lb (length (now work)) × (sa ≤ 1) × (sb ≤ 1) × (sense ≤ 1) ⌝ }
-    ensures { λ r. ⌜ (r ≤ length (now (work .entry))) × ((a b : Cells) → IsSet n a → IsSet n b
-        → take la (now (work .entry)) ≡ treeWords n a → take lb (drop la (now (work .entry))) ≡ treeWords n b
-        → IsSet n (setOf (map linkPair (now (words .entry))))
-        → TreeAt n (outcome kind n (sensed sa a) (union (sensed sb b) (sensed sense (setOf (map linkPair (now (words .entry)))))))
-        (now (work .exit)) r) ⌝ }
-{
-    let mut rows: [u64; 16384] = [0; 16384];
-    load_at(work, 0, la, n, sa, &mut rows);
-    combine(kind, work, n, la, lb, sb, words, sense, &mut rows);
-    packing::pack(&rows, n, work)
-}
-
-// Is there room for an operation on operands of la and lb words in k words of work?
-pub(crate) fn room(n: usize, la: usize, lb: usize, k: usize) -> bool
-    ensures { λ r. ⌜ (r ≡ true → Room n la lb k) × (Room n la lb k → r ≡ true) ⌝ }
+// Is there room for an operation on operands of these sizes in so many words of work, of the set of records in use and of rows?
+fn room(n: usize, term: Term, work: usize, used: usize, rows: usize) -> bool
+    ensures { λ r. ⌜ (r ≡ true → Room n term work used rows) × (Room n term work used rows → r ≡ true) ⌝ }
 {
     if book::MAX_RECORDS < n {
         return false;
     }
+    if used != 16 {
+        return false;
+    }
+    if rows != 16384 {
+        return false;
+    }
     let unit = packing::tree_unit(n);
-    if unit < la {
+    let first = term.first;
+    let second = term.second;
+    if unit < first.size {
         return false;
     }
-    if unit < lb {
+    if unit < second.size {
         return false;
     }
-    2 * unit <= k
+    2 * unit <= work
 }
 
-// The same if there is room for it and the link words have a sense, 0 or 1; otherwise nothing is done, and the number is 0.
-pub(crate) fn guarded(
-    kind: u8,
+// What an operation makes of its operands, whose trees lie at the front of work and whose links are among the lent ones; zero steps go by the lent set of
+// records in use. Its outcome is left in rows. Without room nothing is done; is there?
+pub fn outcome_rows(
+    term: Term,
+    work: &[u64],
+    n: usize,
+    links: &[u32],
+    used: &[u64],
+    rows: &mut [u64],
+) -> bool
+    ensures { λ r. ⌜ InRows term n (now (links .entry)) (now (used .entry)) (now (work .entry)) (now (rows .entry)) (now (rows .exit)) r ⌝ }
+{
+    if !room(n, term, work.len(), used.len(), rows.len()) {
+        return false;
+    }
+    rows::clear(rows);
+    let first = term.first;
+    load(work, 0, first, n, links, rows);
+    combine(term, work, n, links, used, rows);
+    true
+}
+
+// The same as a tree, left at the front of work; how many words it has. The rows may hold anything then. Without room nothing is done, and the number is 0.
+pub fn operate(
+    term: Term,
     work: &mut [u64],
     n: usize,
-    la: usize,
-    lb: usize,
-    sa: usize,
-    sb: usize,
-    words: &[u32],
-    sense: usize,
+    links: &[u32],
+    used: &[u64],
+    rows: &mut [u64],
 ) -> usize
-    requires { ⌜ (sa ≤ 1) × (sb ≤ 1) ⌝ }
-    ensures { λ r. ⌜ Guarded (Room n la lb (length (now (work .entry))) × (sense ≤ 1)) (now (work .entry)) (now (work .exit)) r
-        ((a b : Cells) → IsSet n a → IsSet n b
-        → take la (now (work .entry)) ≡ treeWords n a → take lb (drop la (now (work .entry))) ≡ treeWords n b
-        → IsSet n (setOf (map linkPair (now (words .entry))))
-        → TreeAt n (outcome kind n (sensed sa a) (union (sensed sb b) (sensed sense (setOf (map linkPair (now (words .entry)))))))
-        (now (work .exit)) r) ⌝ }
+    ensures { λ r. ⌜ Operated term n (now (links .entry)) (now (used .entry)) (length (now (rows .entry))) (now (work .entry)) (now (work .exit)) r ⌝ }
 {
-    if 1 < sense {
-        return 0;
-    }
-    if room(n, la, lb, work.len()) {
-        return operate(kind, work, n, la, lb, sa, sb, words, sense);
+    if outcome_rows(term, work, n, links, used, rows) {
+        return packing::pack(rows, n, work);
     }
     0
-}
-
-// The same with no link words.
-pub(crate) fn operate_on(
-    kind: u8,
-    work: &mut [u64],
-    n: usize,
-    la: usize,
-    lb: usize,
-    sa: usize,
-    sb: usize,
-) -> usize
-    requires { ⌜ (sa ≤ 1) × (sb ≤ 1) ⌝ }
-    ensures { λ r. ⌜ Guarded (Room n la lb (length (now (work .entry)))) (now (work .entry)) (now (work .exit)) r
-        (TwoTrees (λ a b. outcome kind n (sensed sa a) (sensed sb b)) n la lb (now (work .entry)) (now (work .exit)) r) ⌝ }
-{
-    let none: [u32; 1] = [0; 1];
-    guarded(kind, work, n, la, lb, sa, sb, &none[..0], 0)
 }

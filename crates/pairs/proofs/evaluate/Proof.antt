@@ -1,5 +1,6 @@
--- `pairs::evaluate` meets its contract. The loop's invariant: the first i numbers of the code have been run (`Going`), one is left at least, and work is
--- as long as it was. The measure is what is left of the code. Assumes nothing.
+-- `evaluate` runs all numbers but the last. The loop's invariant: the first i numbers of the code have been run (`Going`), one is left at least, and work and
+-- rows are as long as they were. The measure is what is left of the code. Assumes nothing.
+use borrow.Author.Needs.{needs}
 use native.Mathlib.Omega.{arith}
 use mathlib.Core.Path.{_≡_, refl, _∙_, subst}
 use Prim.Native.Nat.{ℕ, _+_, _-_, _≤_}
@@ -8,44 +9,73 @@ use Rattle.pairs.specs.Steps.{Going}
 use Rattle.pairs.proofs.Running.{coded-some, going-begins, going-room, going-more}
 use Rattle.pairs.proofs.evaluate.Statement.{statement}
 use Rattle.pairs.proofs.evaluate.Tie as tie
+use Rattle.pairs.proofs.evaluate.Reads as reads
+use Rattle.pairs.proofs.evaluate.Lts as lts
+use Rattle.pairs.proofs.step.Reads as step-reads
+use Rattle.tree.proofs.no_operand.Reads as no-operand-reads
 
 abbrev Inv-loop : tie.InvT-loop
-Inv-loop work₀ n words code stack₀ i₀ work stack i = (i + 1 ≤ length code) × (length work ≡ length work₀) × Going n words code work stack i
+Inv-loop work₀ n links used rows₀ code stack₀ i₀ work rows stack i =
+    (i + 1 ≤ length code) × (length work ≡ length work₀) × (length rows ≡ length rows₀) × Going n links used code work stack i
 
 abbrev μ-loop : tie.MeasureT-loop
-μ-loop work₀ n words code stack₀ i₀ work stack i = length code - i
+μ-loop work₀ n links used rows₀ code stack₀ i₀ work rows stack i = length code - i
 
+-- src/lib.rt:241:20
+no-operand-requires : tie.Need-no-operand-requires Inv-loop μ-loop
+no-operand-requires c κs = search needs
+
+-- src/lib.rt:246:5
 loop-holds : tie.Need-loop-holds Inv-loop μ-loop
-loop-holds c = let P = c .before .before .before .pre in (coded-some (c .before .before .before .args .n) (c .before .before .before .args .words .now) _ (P .2 .2), refl, going-begins _ _ _ (P .2 .2) _ _ refl)
+loop-holds c =
+    let P = c .before .before .before .before .before .before .pre in
+    let a = c .before .before .before .before .before .before .args in
+    (coded-some (a .n) (a .links .now) (a .used .now) _ (P .4 .2), refl, refl, going-begins _ _ _ _ (P .4 .2) _ _ refl)
 
+-- src/lib.rt:246:11
 add-loop : tie.Need-add-loop Inv-loop μ-loop
 add-loop c = omega arith
 
+-- src/lib.rt:247:57
 shared-slice-read-step : tie.Need-shared-slice-read-step Inv-loop μ-loop
 shared-slice-read-step c = omega arith
 
+-- src/lib.rt:247:9
 step-requires : tie.Need-step-requires Inv-loop μ-loop
 step-requires c κs =
-    let l = c .before .before .before .loop in
-    let P = c .before .before .before .before .before .before .before .pre in
-    (P .0, omega (arith, l .inv .1, P .1), (_, going-room _ _ _ (l .i) (omega arith) (l .inv .2)))
+    let l = c .before .before .before .before .loop in
+    let P = c .before .before .before .before .before .before .before .before .before .before .before .pre in
+    (P .0, omega (arith, l .inv .1, P .1), P .2, omega (arith, l .inv .2, P .3), (_, going-room _ _ _ _ (l .i) (omega arith) (l .inv .3)))
 
+-- src/lib.rt:248:9
 add-i : tie.Need-add-i Inv-loop μ-loop
 add-i c = omega arith
 
+-- src/lib.rt:246:5
 loop-less : tie.Need-loop-less Inv-loop μ-loop
 loop-less c = omega arith
 
+-- src/lib.rt:246:5
 loop-again : tie.Need-loop-again Inv-loop μ-loop
 loop-again c =
-    let l = c .before .before .before .before .before .before .loop in
-    (omega arith, c .before .before .step .kept .0 ∙ l .inv .1, going-more _ _ _ (l .i) (omega arith) (l .inv .2) (c .before .before .step .ensures))
+    let l = c .before .before .before .before .before .before .before .before .before .loop in
+    let s = c .before .before .before .before .step in
+    (omega arith, s .kept .0 ∙ l .inv .1, s .kept .1 .1 .1 .1 .0 ∙ l .inv .2, going-more _ _ _ _ (l .i) (omega arith) (l .inv .3) (s .ensures))
 
+-- src/lib.rt:228:1
 same-length : tie.Need-same-length Inv-loop μ-loop
 same-length c = c .before .loop .inv .1
 
+-- src/lib.rt:228:1
+same-length-2 : tie.Need-same-length-2 Inv-loop μ-loop
+same-length-2 c = c .before .loop .inv .2
+
+-- src/lib.rt:228:1
 returns : tie.Need-returns Inv-loop μ-loop
-returns c = let l = c .before .loop in subst (λ (j : ℕ). Going (c .before .before .before .before .before .args .n) (c .before .before .before .before .before .args .words .now) (c .before .before .before .before .before .args .code .now) (l .work) (l .stack) j) (let e : l .i ≡ length (c .before .before .before .before .before .args .code .now) - 1 = omega arith in e) (l .inv .2)
+returns c =
+    let l = c .before .loop in
+    let a = c .before .before .before .before .before .before .before .before .args in
+    subst (λ (j : ℕ). Going (a .n) (a .links .now) (a .used .now) (a .code .now) (l .work) (l .stack) j) (let e : l .i ≡ length (a .code .now) - 1 = omega arith in e) (l .inv .3)
 
 pub evaluate-spec : {M : Type 1} → statement M
 evaluate-spec =
@@ -53,6 +83,7 @@ evaluate-spec =
     (tie.spec
     Inv-loop
     μ-loop
+    no-operand-requires
     loop-holds
     add-loop
     shared-slice-read-step
@@ -61,4 +92,5 @@ evaluate-spec =
     loop-less
     loop-again
     same-length
+    same-length-2
     returns)

@@ -1,86 +1,50 @@
--- `pairs::hand_over` runs the code and tells what its last number gives: a number of pairs, or a refusal. Assumes nothing.
+-- `hand_over` counts the pairs, and writes them if the list takes them. Assumes nothing.
 use native.Mathlib.Omega.{arith}
-use mathlib.Core.Path.{_≡_, subst}
-use lib.ListN.{length}
-use Rattle.k2.specs.PairSets.{listed}
-use Rattle.paths.specs.Chains.{asked}
-use Rattle.paths.specs.Relations.{cells}
-use Rattle.tree.specs.Settling.{Settled as Told}
-use Rattle.tree.specs.declared.listing.Answer.{Answer}
-use Rattle.pairs.proofs.Running.{coded-some, going-last, going-lists, told-handed, told-refused}
+use mathlib.Core.Path.{_≡_, refl, sym, ap, subst, _∙_}
+use mathlib.Core.List.{List, _++_}
+use Prim.Native.Nat.{ℕ}
+use lib.ListN.{length, drop}
+use lib.Seq.{take-all}
+use Rattle.book.specs.Causes.{number}
+use Rattle.rows.specs.Rows.{pairsIn}
+use Rattle.pairs.specs.declared.PairsAnswer.the-variants.{Pairs}
+use Rattle.pairs.specs.Asking.{Handed, too-long, handed}
 use borrow.Author.Needs.{needs}
 use Rattle.pairs.proofs.hand_over.Statement.{statement}
 use Rattle.pairs.proofs.hand_over.Tie as tie
+use Rattle.pairs.proofs.hand_over.Reads as reads
+use Rattle.pairs.proofs.hand_over.Lts as lts
+use Rattle.rows.proofs.count_pairs.Reads as count-pairs-reads
+use Rattle.rows.proofs.write_pairs.Reads as write-pairs-reads
 
-evaluate-requires : tie.Need-evaluate-requires
-evaluate-requires c κs = search needs
+-- src/lib.rt:379:9
+count-pairs-requires : tie.Need-count-pairs-requires
+count-pairs-requires c κs = search needs
 
-sub-last : tie.Need-sub-last
-sub-last c = coded-some (c .before .before .before .before .before .before .before .before .before .args .n) (c .before .before .before .before .before .before .before .before .before .args .words .now) _ (c .before .before .before .before .before .before .before .before .before .pre .2 .2)
+-- src/lib.rt:381:9
+returns : tie.Need-returns
+unfolding number
+returns c = too-long (rw (← c .before .count-pairs .ensures) (omega arith)) refl
 
-shared-slice-read-last : tie.Need-shared-slice-read-last
-shared-slice-read-last c = omega (arith, coded-some (c .before .before .before .before .before .before .before .before .before .before .args .n) (c .before .before .before .before .before .before .before .before .before .before .args .words .now) _ (c .before .before .before .before .before .before .before .before .before .before .pre .2 .2))
+-- src/lib.rt:383:5
+write-pairs-requires : tie.Need-write-pairs-requires
+write-pairs-requires c κs = search needs
 
-last-requires : tie.Need-last-requires
-last-requires c κs =
-    let A = c .before .before .before .before .before .before .before .before .before .before .before .args in
-    let P = c .before .before .before .before .before .before .before .before .before .before .before .pre in
-    let k : length (c .before .before .before .before .before .evaluate .last .0) ≡ length (A .work .now) = c .before .before .before .before .before .evaluate .kept .0 in
-    (P .0, omega (arith, P .1), going-last (A .n) (A .words .now) _ (coded-some (A .n) (A .words .now) _ (P .2 .2)) (c .before .before .before .before .before .evaluate .ensures))
-
-enum-known-answer : tie.Need-enum-known-answer
-enum-known-answer c = search needs
-
-enum-known-answer-2 : tie.Need-enum-known-answer-2
-enum-known-answer-2 c = search needs
-
+-- src/lib.rt:375:1
 same-length : tie.Need-same-length
 same-length c = search needs
 
-same-length-2 : tie.Need-same-length-2
-same-length-2 c = search needs
-
-returns : tie.Need-returns
-returns c =
-    let A = c .before .before .before .before .before .before .before .before .before .before .before .before .before .before .before .before .before .args in
-    let P = c .before .before .before .before .before .before .before .before .before .before .before .before .before .before .before .before .before .pre in
-    let I = c .before .before .before .before .before .last in (
-      (I .ensures .settles .0, told-handed _ (subst (λ (v : Answer). Told (I .ensures .settles .0) (A .list .now) (I .last .1 .1 .1 .1 .1 .0) v) (c .before .answer .given .1) (I .ensures .settles .1))),
-      λ b L s x q.
-          told-handed _ (subst (λ (v : Answer). Told (listed (b .n) (cells (asked b) x)) (A .list .now) (I .last .1 .1 .1 .1 .1 .0) v) (c .before .answer .given .1)
-          (going-lists (A .n) (A .words .now) _ (coded-some (A .n) (A .words .now) _ (P .2 .2)) (c .before .before .before .before .before .before .before .before .before .before .before .evaluate .ensures) (I .ensures) b L s x q)),
-    )
-
-same-length-3 : tie.Need-same-length-3
-same-length-3 c = search needs
-
-same-length-4 : tie.Need-same-length-4
-same-length-4 c = search needs
-
+-- src/lib.rt:375:1
 returns-2 : tie.Need-returns-2
 returns-2 c =
-    let A = c .before .before .before .before .before .before .before .before .before .before .before .before .before .before .before .before .before .args in
-    let P = c .before .before .before .before .before .before .before .before .before .before .before .before .before .before .before .before .before .pre in
-    let I = c .before .before .before .before .before .last in (
-      (I .ensures .settles .0, told-refused _ (subst (λ (v : Answer). Told (I .ensures .settles .0) (A .list .now) (I .last .1 .1 .1 .1 .1 .0) v) (c .before .answer2 .given .1) (I .ensures .settles .1))),
-      λ b L s x q.
-          told-refused _ (subst (λ (v : Answer). Told (listed (b .n) (cells (asked b) x)) (A .list .now) (I .last .1 .1 .1 .1 .1 .0) v) (c .before .answer2 .given .1)
-          (going-lists (A .n) (A .words .now) _ (coded-some (A .n) (A .words .now) _ (P .2 .2)) (c .before .before .before .before .before .before .before .before .before .before .before .evaluate .ensures) (I .ensures) b L s x q)),
-    )
+    let a = c .before .before .before .before .before .before .before .before .args in
+    let list : List ℕ = a .list .now in
+    let xs : List ℕ = pairsIn (a .n) (a .rows .now) in
+    let n : ℕ = c .before .before .before .before .before .count-pairs .result in
+    let k : n ≡ length xs = c .before .before .before .before .before .count-pairs .ensures in
+    subst (λ (t : ℕ). Handed xs list (c .before .before .write-pairs .last .1 .1 .0) (Pairs t)) (sym k)
+    (handed (omega arith) (c .before .before .write-pairs .ensures ∙ ap (λ (t : List ℕ). t ++ drop (length xs) list) (take-all (length list) xs (omega arith))))
 
 pub hand-over-spec : {M : Type 1} → statement M
 hand-over-spec =
-    tie.close
-    (tie.spec
-    evaluate-requires
-    sub-last
-    shared-slice-read-last
-    last-requires
-    enum-known-answer
-    enum-known-answer-2
-    same-length
-    same-length-2
-    returns
-    same-length-3
-    same-length-4
-    returns-2)
+    tie.close (tie.spec count-pairs-requires returns write-pairs-requires same-length returns-2)

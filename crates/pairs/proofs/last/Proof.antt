@@ -1,149 +1,113 @@
--- `pairs::last` meets its contract: the last number finds its operands, and the part from the first of them on is long enough; `lists-letter`, `lists-one`
--- and `lists-two` do the rest. Assumes nothing.
+-- `last` leaves the value of the last number in rows: of a letter alone, or of the operands taken off, from the first of which on the work is lent. Assumes
+-- nothing.
 use native.Mathlib.Omega.{arith}
-use mathlib.Core.Path.{refl}
-use Prim.Native.Nat.{_-_}
-use lib.ListN.{getD}
-use Rattle.pairs.proofs.Stepping.{before-some, before-one, before-two, before-number, lies-one, lies-two}
-use Rattle.pairs.proofs.Running.{lists-letter, lists-one, lists-two}
+use mathlib.Core.Path.{ap₂, subst}
+use Prim.Native.Nat.{_*_, _≤_}
+use Rattle.k2.specs.Trees.{treeUnit}
+use Rattle.tree.specs.declared.operations.Operation.the-variants.{Union}
+use Rattle.tree.specs.declared.operations.Operand.{Operand}
+use Rattle.tree.specs.declared.operations.Term.{Term}
+use Rattle.tree.specs.Inner.{InRows}
+use Rattle.pairs.specs.Steps.{Takes}
+use Rattle.pairs.proofs.Stepping.{starts-early, takes-early}
+use Rattle.pairs.proofs.Running.{ends-letter, ends-term}
 use borrow.Author.Needs.{needs}
 use Rattle.pairs.proofs.last.Statement.{statement}
 use Rattle.pairs.proofs.last.Tie as tie
+use Rattle.pairs.proofs.last.Reads as reads
+use Rattle.pairs.proofs.last.Lts as lts
+use Rattle.pairs.proofs.letter.Reads as letter-reads
+use Rattle.pairs.proofs.take_off.Reads as take-off-reads
+use Rattle.tree.proofs.no_operand.Reads as no-operand-reads
+use Rattle.tree.proofs.outcome_rows.Reads as outcome-rows-reads
 
-label-part-requires : tie.Need-label-part-requires
-label-part-requires c κs = search needs
+-- the operands taken off
+takes : (c : tie.After-take-off) → Takes (treeUnit (c .before .before .before .before .before .before .args .n)) (c .before .before .before .before .before .before .args .op) (c .before .before .before .before .before .before .args .stack) (c .take-off .result)
+takes c = c .take-off .ensures _ _ (c .before .before .before .before .before .before .pre .4)
 
-list-with-requires : tie.Need-list-with-requires
-list-with-requires c κs = search needs
+early : (c : tie.After-take-off) → c .take-off .result .below ≤ 18
+early c = takes-early (c .before .before .before .before .before .before .pre .4) (omega arith) (takes c)
 
+starts : (c : tie.After-take-off) → c .take-off .result .start ≤ 18 * treeUnit (c .before .before .before .before .before .before .args .n)
+starts c = starts-early (takes c .totals) (early c)
+
+-- src/lib.rt:270:20
+no-operand-requires : tie.Need-no-operand-requires
+no-operand-requires c κs = search needs
+
+-- src/lib.rt:271:21
+letter-requires : tie.Need-letter-requires
+letter-requires c κs = search needs
+
+-- src/lib.rt:273:9
+outcome-rows-requires : tie.Need-outcome-rows-requires
+outcome-rows-requires c κs = search needs
+
+-- src/lib.rt:274:9
 same-length : tie.Need-same-length
 same-length c = search needs
 
+-- src/lib.rt:274:9
 returns : tie.Need-returns
 returns c =
-    let P = c .before .before .before .before .before .before .before .before .before .pre in
-    let I = c .before .before .list-with in
-    lists-letter _ _ _ _ _ _ _ _ (P .0) (P .1) _ (omega arith) (c .before .before .before .before .label-part .ensures) (I .ensures)
+    let a = c .before .before .before .before .before .before .before .before .before .before .before .args in
+    let P = c .before .before .before .before .before .before .before .before .before .before .before .pre in
+    let I = c .before .before .outcome-rows in
+    ends-letter (a .n) (a .op) (a .links .now) (a .used .now) (a .work .now) (a .rows .now) (I .last .1 .1 .1 .1 .1 .0) (I .result) (a .stack) (P .0) (P .1) (P .2) (P .3) (c .before .before .before .before .before .before .if1 .taken)
+    (subst (λ (t : Term). InRows t (a .n) (a .links .now) (a .used .now) (a .work .now) (a .rows .now) (I .last .1 .1 .1 .1 .1 .0) (I .result))
+    (ap₂ (λ (o l : Operand). record { operation = Union; first = o; second = l }) (c .before .before .before .before .before .no-operand .ensures) (c .before .before .before .before .letter .ensures)) (I .ensures))
 
-sub-top : tie.Need-sub-top
-sub-top c = let P = c .before .before .before .before .pre in before-some (P .2) (omega arith) .0
+-- src/lib.rt:276:9
+take-off-requires : tie.Need-take-off-requires
+take-off-requires c κs = search needs
 
-mul-right : tie.Need-mul-right
-mul-right c = let P = c .before .before .before .before .pre in omega (arith, before-some (P .2) (omega arith) .1)
+-- src/lib.rt:279:30
+mul-outcome-rows : tie.Need-mul-outcome-rows
+mul-outcome-rows c = omega (arith, starts (c .before), c .before .before .before .before .before .before .before .pre .1)
 
-element-copy-out-right : tie.Need-element-copy-out-right
-element-copy-out-right c = let P = c .before .before .before .before .pre in omega (arith, before-some (P .2) (omega arith))
+-- src/lib.rt:279:30
+sub-outcome-rows : tie.Need-sub-outcome-rows
+sub-outcome-rows c = omega (arith, starts (c .before), c .before .before .before .before .before .before .before .pre .1)
 
-label-part-requires-2 : tie.Need-label-part-requires-2
-label-part-requires-2 c κs = search needs
+-- src/lib.rt:279:30
+part-outcome-rows-start : tie.Need-part-outcome-rows-start
+part-outcome-rows-start c = omega (arith, starts (c .before), c .before .before .before .before .before .before .before .pre .1)
 
-sub-start : tie.Need-sub-start
-sub-start c = let P = c .before .before .before .before .before .before .before .pre in let o = before-one (P .2) (omega arith) (omega arith) in let l = lies-one (P .2 .placed) (o .1) (o .0) in l .0
+-- src/lib.rt:279:30
+part-outcome-rows-end : tie.Need-part-outcome-rows-end
+part-outcome-rows-end c = search needs
 
-kind-requires : tie.Need-kind-requires
-kind-requires c κs = search needs
+-- src/lib.rt:279:5
+outcome-rows-requires-2 : tie.Need-outcome-rows-requires-2
+outcome-rows-requires-2 c κs = search needs
 
-mul-list-with : tie.Need-mul-list-with
-mul-list-with c = let P = c .before .before .before .before .before .before .before .before .pre in let o = before-one (P .2) (omega arith) (omega arith) in let l = lies-one (P .2 .placed) (o .1) (o .0) in omega (arith, l .2, P .1)
-
-sub-list-with : tie.Need-sub-list-with
-sub-list-with c = let P = c .before .before .before .before .before .before .before .before .pre in let o = before-one (P .2) (omega arith) (omega arith) in let l = lies-one (P .2 .placed) (o .1) (o .0) in omega (arith, l .2, P .1)
-
-part-list-with-start : tie.Need-part-list-with-start
-part-list-with-start c = let P = c .before .before .before .before .before .before .before .before .pre in let o = before-one (P .2) (omega arith) (omega arith) in let l = lies-one (P .2 .placed) (o .1) (o .0) in omega (arith, l .2, P .1)
-
-part-list-with-end : tie.Need-part-list-with-end
-part-list-with-end c = search needs
-
-list-with-requires-2 : tie.Need-list-with-requires-2
-list-with-requires-2 c κs = search needs
-
+-- src/lib.rt:254:1
 same-length-2 : tie.Need-same-length-2
 same-length-2 c = search needs
 
+-- src/lib.rt:254:1
 returns-2 : tie.Need-returns-2
 returns-2 c =
-    let P = c .before .before .before .before .before .before .before .before .before .before .before .before .before .pre in
-    let o = before-one (P .2) (omega arith) (omega arith) in
-    let I = c .before .before .list-with2 in
-    let S = c .before .before .before .before .before .before .before .before .before .before .before .before .before .args .t4 in
-    lists-one _ _ _ _ _ _ _ _ (P .0) (P .1) S (c .before .before .before .before .before .kind .result) (S .end - getD (S .sizes) (S .count - 1) 0) (o .1) (P .2 .placed) (c .before .before .before .before .before .before .before .label-part2 .ensures) (omega arith) (omega arith) (o .0) refl (λ m x. c .before .before .before .before .before .kind .ensures .0 m x (omega arith)) (I .ensures)
-
-sub-left : tie.Need-sub-left
-sub-left c = let P = c .before .before .before .before .before .before .before .pre in let t = before-two (P .2) (omega arith) in omega (arith, t .0)
-
-mul-left : tie.Need-mul-left
-mul-left c = let P = c .before .before .before .before .before .before .before .pre in let t = before-two (P .2) (omega arith) in omega (arith, t .1)
-
-element-copy-out-left : tie.Need-element-copy-out-left
-element-copy-out-left c = let P = c .before .before .before .before .before .before .before .pre in let t = before-two (P .2) (omega arith) in omega (arith, t .0, t .1)
-
-sub-start-2 : tie.Need-sub-start-2
-sub-start-2 c = let P = c .before .before .before .before .before .before .before .before .pre in let t = before-two (P .2) (omega arith) in let l = lies-two (P .2 .placed) (t .1) (t .0) in l .0
-
-sub-start-3 : tie.Need-sub-start-3
-sub-start-3 c = let P = c .before .before .before .before .before .before .before .before .pre in let t = before-two (P .2) (omega arith) in let l = lies-two (P .2 .placed) (t .1) (t .0) in l .2
-
-kind-requires-2 : tie.Need-kind-requires-2
-kind-requires-2 c κs = search needs
-
-mul-list-with-2 : tie.Need-mul-list-with-2
-mul-list-with-2 c = let P = c .before .before .before .before .before .before .before .before .before .pre in let t = before-two (P .2) (omega arith) in let l = lies-two (P .2 .placed) (t .1) (t .0) in omega (arith, l .4, P .1)
-
-sub-list-with-2 : tie.Need-sub-list-with-2
-sub-list-with-2 c = let P = c .before .before .before .before .before .before .before .before .before .pre in let t = before-two (P .2) (omega arith) in let l = lies-two (P .2 .placed) (t .1) (t .0) in omega (arith, l .4, P .1)
-
-part-list-with-start-2 : tie.Need-part-list-with-start-2
-part-list-with-start-2 c = let P = c .before .before .before .before .before .before .before .before .before .pre in let t = before-two (P .2) (omega arith) in let l = lies-two (P .2 .placed) (t .1) (t .0) in omega (arith, l .4, P .1)
-
-part-list-with-end-2 : tie.Need-part-list-with-end-2
-part-list-with-end-2 c = search needs
-
-list-with-requires-3 : tie.Need-list-with-requires-3
-list-with-requires-3 c κs = search needs
-
-same-length-3 : tie.Need-same-length-3
-same-length-3 c = search needs
-
-returns-3 : tie.Need-returns-3
-returns-3 c =
-    let P = c .before .before .before .before .before .before .before .before .before .before .before .before .before .before .pre in
-    let t = before-two (P .2) (omega arith) in
-    let I = c .before .before .list-with3 in
-    let S = c .before .before .before .before .before .before .before .before .before .before .before .before .before .before .args .t4 in
-    lists-two _ _ _ _ _ _ _ _ (P .0) (P .1) S (c .before .before .before .before .before .kind2 .result) (S .end - getD (S .sizes) (S .count - 1) 0 - getD (S .sizes) (S .count - 1 - 1) 0) (t .1) (P .2 .placed) (c .before .before .before .before .before .before .before .before .label-part2 .ensures) (omega arith) (t .0) refl (λ m x y. c .before .before .before .before .before .kind2 .ensures .1 m x y (omega arith) (before-number (P .2))) (I .ensures)
+    let a = c .before .before .before .before .before .before .before .before .before .before .before .before .args in
+    let P = c .before .before .before .before .before .before .before .before .before .before .before .before .pre in
+    let I = c .before .before .outcome-rows2 in
+    ends-term (a .n) (a .op) (a .links .now) (a .used .now) (a .work .now) (a .rows .now) (I .last .1 .1 .1 .1 .1 .0) (I .result) (a .stack) (P .0) (P .1) (P .2) (P .3)
+    (c .before .before .before .before .before .before .take-off .result) (takes (c .before .before .before .before .before .before)) (early (c .before .before .before .before .before .before)) (I .ensures)
 
 pub last-spec : {M : Type 1} → statement M
 last-spec =
     tie.close
     (tie.spec
-    label-part-requires
-    list-with-requires
+    no-operand-requires
+    letter-requires
+    outcome-rows-requires
     same-length
     returns
-    sub-top
-    mul-right
-    element-copy-out-right
-    label-part-requires-2
-    sub-start
-    kind-requires
-    mul-list-with
-    sub-list-with
-    part-list-with-start
-    part-list-with-end
-    list-with-requires-2
+    take-off-requires
+    mul-outcome-rows
+    sub-outcome-rows
+    part-outcome-rows-start
+    part-outcome-rows-end
+    outcome-rows-requires-2
     same-length-2
-    returns-2
-    sub-left
-    mul-left
-    element-copy-out-left
-    sub-start-2
-    sub-start-3
-    kind-requires-2
-    mul-list-with-2
-    sub-list-with-2
-    part-list-with-start-2
-    part-list-with-end-2
-    list-with-requires-3
-    same-length-3
-    returns-3)
+    returns-2)

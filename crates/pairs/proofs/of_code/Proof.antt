@@ -1,59 +1,106 @@
--- `pairs::of_code` meets its contract: with work enough the pairs of the code over the register's links are handed over.
--- Assumes nothing.
+-- `of_code` tests its space, reads the register's links and runs the code; the first 16,384 words of the rows are lent to it. Assumes nothing.
 use native.Mathlib.Omega.{arith}
-use mathlib.Core.Path.{sym}
+use mathlib.Core.Path.{_≡_, sym, _∙_}
 use Prim.Native.Nat.{_≤_}
 use lib.ListN.{length, take}
 use lib.Seq.{length-take-le}
-use Rattle.pairs.proofs.Answering.{little-work, by-code}
+use Rattle.pairs.proofs.Answering.{little-work, few-rows, made-rows}
 use borrow.Author.Needs.{needs}
 use Rattle.pairs.proofs.of_code.Statement.{statement}
 use Rattle.pairs.proofs.of_code.Tie as tie
+use Rattle.pairs.proofs.of_code.Reads as reads
+use Rattle.pairs.proofs.of_code.Lts as lts
+use Rattle.packing.proofs.tree_unit.Reads as tree-unit-reads
+use Rattle.pairs.proofs.in_use.Reads as in-use-reads
+use Rattle.pairs.proofs.run.Reads as run-reads
+use Rattle.register.proofs.Register.links.Reads as links-reads
+use Rattle.register.proofs.Register.size.Reads as size-reads
 
 in-words : (c : tie.After-links) → c .links .result .count ≤ length (c .links .result .words)
 in-words c = let o = c .links .ensures in omega (arith, o .few, o .long)
 
+-- src/lib.rt:325:9
 size-requires : tie.Need-size-requires
 size-requires c κs = search needs
 
+-- src/lib.rt:326:26
 tree-unit-requires : tie.Need-tree-unit-requires
 tree-unit-requires c κs = search needs
 
+-- src/lib.rt:326:21
 mul-if1 : tie.Need-mul-if1
 mul-if1 c = search needs
 
+-- src/lib.rt:327:9
 returns : tie.Need-returns
 returns c = λ s e q. little-work (c .before .before .before .before .before .args .register) e (c .before .before .size .result) (c .before .tree-unit .result) _ _ (c .before .before .size .ensures .size) (c .before .tree-unit .ensures .0) (c .if1 .taken)
 
+-- src/lib.rt:330:9
+returns-2 : tie.Need-returns-2
+returns-2 c = λ s e q. few-rows (c .before .before .before .before .before .before .args .register) e (c .before .before .before .size .result) (c .before .before .tree-unit .result) _ _ (c .before .before .before .size .ensures .size) (c .before .before .tree-unit .ensures .0) (omega arith) (c .if2 .taken)
+
+-- src/lib.rt:332:9
 links-requires : tie.Need-links-requires
 links-requires c κs = search needs
 
+-- src/lib.rt:335:16
+in-use-requires : tie.Need-in-use-requires
+in-use-requires c κs = search needs
+
+-- src/lib.rt:336:18
 array-share-prefix-array : tie.Need-array-share-prefix-array
-array-share-prefix-array c = in-words (c .before .before)
+array-share-prefix-array c = search needs
 
-slice-aggregate-hand-over : tie.Need-slice-aggregate-hand-over
-slice-aggregate-hand-over c = sym (length-take-le _ _ (in-words (c .before .before .before)))
+-- src/lib.rt:336:18
+slice-aggregate-run : tie.Need-slice-aggregate-run
+slice-aggregate-run c = sym (length-take-le _ _ (in-words (c .before .before .before .before)))
 
+-- src/lib.rt:336:35
+slice-aggregate-run-2 : tie.Need-slice-aggregate-run-2
+slice-aggregate-run-2 c = search needs
+
+-- src/lib.rt:336:42
+slice-relend-prefix-run : tie.Need-slice-relend-prefix-run
+slice-relend-prefix-run c = search needs
+
+-- src/lib.rt:336:42
+slice-aggregate-run-3 : tie.Need-slice-aggregate-run-3
+slice-aggregate-run-3 c = sym (length-take-le 16384 (c .before .before .before .before .before .before .before .before .before .before .before .before .before .args .rows .now) (omega arith))
+
+-- src/lib.rt:336:62
 array-share-prefix-code : tie.Need-array-share-prefix-code
 array-share-prefix-code c = search needs
 
-slice-aggregate-hand-over-2 : tie.Need-slice-aggregate-hand-over-2
-slice-aggregate-hand-over-2 c = sym (length-take-le _ _ (c .before .before .before .before .before .before .before .before .before .before .pre .0))
+-- src/lib.rt:336:62
+slice-aggregate-run-4 : tie.Need-slice-aggregate-run-4
+slice-aggregate-run-4 c = sym (length-take-le _ _ (c .before .before .before .before .before .before .before .before .before .before .before .before .before .before .pre .0))
 
-hand-over-requires : tie.Need-hand-over-requires
-hand-over-requires c κs = search needs
+-- src/lib.rt:336:5
+run-requires : tie.Need-run-requires
+run-requires c κs =
+    let P = c .before .before .before .before .before .before .before .before .before .before .before .before .before .before .pre in
+    let k : length (c .before .before .before .before .before .in-use .result) ≡ 16 = search needs in
+    (c .before .before .before .before .before .before .before .before .before .before .before .size .ensures .small, omega (arith, c .before .before .before .before .before .before .before .before .before .if1 .left, c .before .before .before .before .before .before .before .before .before .before .tree-unit .ensures .0), k, length-take-le 16384 (c .before .before .before .before .before .before .before .before .before .before .before .before .before .before .args .rows .now) (omega arith), P .1)
 
+-- src/lib.rt:315:1
 same-length : tie.Need-same-length
 same-length c = search needs
 
+-- src/lib.rt:315:1
 same-length-2 : tie.Need-same-length-2
 same-length-2 c = search needs
 
-returns-2 : tie.Need-returns-2
-returns-2 c =
-    λ s e q. by-code (c .before .before .before .before .before .before .before .before .before .before .before .before .before .before .before .before .args .register) e s (c .before .before .before .before .before .before .before .before .before .before .before .before .before .size .result) _ (take (c .before .before .before .before .before .before .before .before .before .before .links .result .count) (c .before .before .before .before .before .before .before .before .before .before .links .result .words)) _ _ _ _
-    (c .before .before .before .before .before .before .before .before .before .before .before .before .before .size .ensures .size) (c .before .before .before .before .before .before .before .before .before .before .links .ensures .linked) q (omega (arith, c .before .before .before .before .before .before .before .before .before .before .before .if1 .left, c .before .before .before .before .before .before .before .before .before .before .before .before .tree-unit .ensures .0))
-    (c .before .before .before .before .hand-over .ensures .0) (c .before .before .before .before .hand-over .ensures .1)
+-- src/lib.rt:315:1
+returns-3 : tie.Need-returns-3
+returns-3 c =
+    let a = c .before .before .before .before .before .before .before .before .before .before .before .before .before .before .before .before .before .before .before .args in
+    let n = c .before .before .before .before .before .before .before .before .before .before .before .before .before .before .before .before .size in
+    let u = c .before .before .before .before .before .before .before .before .before .before .before .before .before .before .before .tree-unit in
+    let l = c .before .before .before .before .before .before .before .before .before .before .before .before .links in
+    let m = c .before .before .before .before .run in
+    let k : length (m .last .1 .1 .1 .1 .0) ≡ length (take 16384 (a .rows .now)) = m .kept .1 .1 .1 .1 .0 in
+    λ s e q. made-rows (a .register) e (n .result) (u .result) _ (a .rows .now) (n .ensures .size) (u .ensures .0) s (take (l .result .count) (l .result .words)) (c .before .before .before .before .before .before .before .before .before .before .in-use .result) _
+    (m .last .1 .1 .1 .1 .0) (k ∙ length-take-le 16384 (a .rows .now) (omega arith)) (n .ensures .small) (omega arith) (omega arith) (l .ensures .linked) (c .before .before .before .before .before .before .before .before .before .before .in-use .ensures) q (m .ensures)
 
 pub of-code-spec : {M : Type 1} → statement M
 of-code-spec =
@@ -63,12 +110,17 @@ of-code-spec =
     tree-unit-requires
     mul-if1
     returns
+    returns-2
     links-requires
+    in-use-requires
     array-share-prefix-array
-    slice-aggregate-hand-over
+    slice-aggregate-run
+    slice-aggregate-run-2
+    slice-relend-prefix-run
+    slice-aggregate-run-3
     array-share-prefix-code
-    slice-aggregate-hand-over-2
-    hand-over-requires
+    slice-aggregate-run-4
+    run-requires
     same-length
     same-length-2
-    returns-2)
+    returns-3)

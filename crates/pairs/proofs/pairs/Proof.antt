@@ -1,66 +1,77 @@
--- `pairs::pairs` reads the text; a refused one gives its number, an accepted one is answered by its code. Assumes nothing.
+-- `pairs` makes the rows, and hands their pairs over. Assumes nothing.
 use native.Mathlib.Omega.{arith}
-use mathlib.Core.Path.{_≡_, sym, _∙_}
-use Prim.Native.Nat.{_≤_}
-use lib.ListN.{length, take}
-use Rattle.paths.specs.Expressions.{Expr}
-use Rattle.reader.specs.Reads.{ReadAs}
-use Rattle.reader.specs.ReadsLaws.{reads-accepted}
-use Rattle.pairs.specs.Steps.{Coded}
-use Rattle.pairs.proofs.Answering.{faulty-text, same-verdict}
+use mathlib.Core.Path.{_≡_, refl}
+use mathlib.Core.List.{[]}
+use lib.ListN.{length}
+use lib.Seq.{take-all}
+use Rattle.pairs.proofs.Answering.{asks-refused, asks-rows}
 use borrow.Author.Needs.{needs}
 use Rattle.pairs.proofs.pairs.Statement.{statement}
 use Rattle.pairs.proofs.pairs.Tie as tie
+use Rattle.pairs.proofs.pairs.Reads as reads
+use Rattle.pairs.proofs.pairs.Lts as lts
+use Rattle.pairs.proofs.hand_over.Reads as hand-over-reads
+use Rattle.pairs.proofs.of_text.Reads as of-text-reads
 
--- what an accepted text is
-read : (c : tie.After-answer2) → (e : Expr) × ReadAs (c .before .before .before .before .before .before .before .args .text .now) (c .answer2 .given .0 .0) (c .before .before .before .read .result .code) e
-read c = reads-accepted (c .before .before .before .read .ensures) (c .answer2 .given .1)
+-- src/lib.rt:397:49
+slice-aggregate-of-text : tie.Need-slice-aggregate-of-text
+slice-aggregate-of-text c = search needs
 
-coded : (c : tie.After-answer2) → Coded (c .before .before .before .before .before .before .before .args .text .now) (read c .0) (take (c .answer2 .given .0 .0) (c .before .before .before .read .result .code))
-coded c = let a = read c in record { syntax = a .1 .limits .syntax; shallow = a .1 .limits .shallow; is = a .1 .front }
+-- src/lib.rt:397:9
+of-text-requires : tie.Need-of-text-requires
+of-text-requires c κs = search needs
 
-read-requires : tie.Need-read-requires
-read-requires c κs = search needs
+-- src/lib.rt:399:26
+enum-known-related : tie.Need-enum-known-related
+enum-known-related c = search needs
 
-enum-known-answer : tie.Need-enum-known-answer
-enum-known-answer c = search needs
+-- src/lib.rt:400:23
+enum-known-related-2 : tie.Need-enum-known-related-2
+enum-known-related-2 c = search needs
 
-cast-t11 : tie.Need-cast-t11
-cast-t11 c = search needs
+-- src/lib.rt:400:39
+slice-aggregate-hand-over : tie.Need-slice-aggregate-hand-over
+slice-aggregate-hand-over c = search needs
 
-enum-known-answer-2 : tie.Need-enum-known-answer-2
-enum-known-answer-2 c = search needs
+-- src/lib.rt:400:29
+hand-over-requires : tie.Need-hand-over-requires
+hand-over-requires c κs = let t = c .before .before .before .before .before .before .before .before .of-text in let k : length (t .last .1 .1 .1 .0) ≡ 16384 = t .kept .1 .1 .1 .0 in (t .ensures .small _ (c .before .before .before .related2 .given .1), k)
 
-of-code-requires : tie.Need-of-code-requires
-of-code-requires c κs =
-    let a = read (c .before .before .before) in
-    let k : length (c .before .before .before .before .before .before .read .result .code) ≡ 256 = search needs in
-    (omega (arith, a .1 .fits), (c .before .before .before .before .before .before .before .before .before .before .args .text .now, a .0, coded (c .before .before .before)))
-
-returns : tie.Need-returns
-returns c = faulty-text _ _ _ _ _ (sym (c .before .before .before .before .read .ensures .answered) ∙ c .before .answer .given .1)
-
+-- src/lib.rt:388:1
 same-length : tie.Need-same-length
 same-length c = search needs
 
+-- src/lib.rt:388:1
+returns : tie.Need-returns
+returns c = asks-refused _ _ _ _ _ refl _ [] (c .before .related .given .1) (c .before .before .before .before .before .before .of-text .ensures)
+
+-- src/lib.rt:388:1
 same-length-2 : tie.Need-same-length-2
 same-length-2 c = search needs
 
+-- src/lib.rt:388:1
+same-length-3 : tie.Need-same-length-3
+same-length-3 c = search needs
+
+-- src/lib.rt:388:1
 returns-2 : tie.Need-returns-2
 returns-2 c =
-    let a = read (c .before .before .before .before .before .before .before .before) in
-    same-verdict _ _ (a .0) _ _ _ _ (a .1 .is) (c .before .before .before .before .of-code .ensures (c .before .before .before .before .before .before .before .before .before .before .before .before .before .before .before .args .text .now) (a .0) (coded (c .before .before .before .before .before .before .before .before)))
+    let t = c .before .before .before .before .before .before .before .before .before .before .before .of-text in
+    let k : length (t .last .1 .1 .1 .0) ≡ 16384 = t .kept .1 .1 .1 .0 in
+    asks-rows _ _ _ _ (t .last .1 .1 .1 .0) refl _ _ (c .before .before .before .before .before .before .related2 .given .1) (t .ensures) (take-all 16384 (t .last .1 .1 .1 .0) (omega arith)) (c .before .before .hand-over .ensures)
 
 pub pairs-spec : {M : Type 1} → statement M
 pairs-spec =
     tie.close
     (tie.spec
-    read-requires
-    enum-known-answer
-    cast-t11
-    enum-known-answer-2
-    of-code-requires
-    returns
+    slice-aggregate-of-text
+    of-text-requires
+    enum-known-related
+    enum-known-related-2
+    slice-aggregate-hand-over
+    hand-over-requires
     same-length
+    returns
     same-length-2
+    same-length-3
     returns-2)

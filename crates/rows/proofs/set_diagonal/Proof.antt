@@ -1,26 +1,33 @@
--- `set_diagonal` sets a bit for each record. The loop's invariant: the records below i are joined to themselves. The measure is the records
--- left. It rests on `diagonal-more`. Assumes nothing.
+-- `set_diagonal` sets a bit for each record of the set. The loop's invariant: those below i are joined to themselves. The measure is the records
+-- left. It rests on `diagonal-more` and `diagonal-skip`. Assumes nothing.
 use mathlib.Core.Path.{_≡_, refl, sym, ap, _∙_}
+use mathlib.Core.Logic.{⊎-elim}
 use Prim.Native.Nat.{_≤_, _-_}
 use native.Mathlib.Omega.{arith}
 use borrow.Author.Needs.{needs}
 use lib.ListN.{length}
 use Rattle.k2.specs.Bits.{bitAt}
 use Rattle.k2.specs.BitLaws.{Bits, bit-lt}
-use Rattle.k2.specs.PairSets.{Cells, union}
-use Rattle.rows.specs.Rows.{flat, identity}
-use Rattle.rows.proofs.Puts.{diagonal-none, diagonal-more}
+use Rattle.k2.specs.PairSets.{Cells, union, diagonal}
+use Rattle.rows.specs.Rows.{flat}
+use Rattle.rows.specs.Steps.{below}
+use Rattle.rows.proofs.Puts.{diagonal-none, diagonal-more, diagonal-skip, diagonal-all}
 use Rattle.rows.proofs.set_diagonal.Statement.{statement}
 use Rattle.rows.proofs.set_diagonal.Tie as tie
 
 abbrev Inv-loop : tie.InvT-loop
-Inv-loop rows₀ n i₀ rows i = (i ≤ n) × (length rows ≡ length rows₀) × ((x : Cells) → bitAt rows₀ ≡ flat x → bitAt rows ≡ flat (union x (identity i)))
+Inv-loop rows₀ records i₀ rows i =
+    (i ≤ 1024) × (length rows ≡ length rows₀)
+    × ((x : Cells) → bitAt rows₀ ≡ flat x → bitAt rows ≡ flat (union x (diagonal (below i (bitAt records)))))
 
 abbrev μ-loop : tie.MeasureT-loop
-μ-loop rows₀ n i₀ rows i = n - i
+μ-loop rows₀ records i₀ rows i = 1024 - i
 
 loop-holds : tie.Need-loop-holds Inv-loop μ-loop
-loop-holds c = (omega arith, refl, λ x e. e ∙ ap flat (sym (diagonal-none x)))
+loop-holds c = (omega arith, refl, λ x e. e ∙ ap flat (sym (diagonal-none x _)))
+
+bit-requires : tie.Need-bit-requires Inv-loop μ-loop
+bit-requires c κs = tt
 
 mul-set-bit : tie.Need-mul-set-bit Inv-loop μ-loop
 mul-set-bit c = omega arith
@@ -39,15 +46,26 @@ loop-less c = omega arith
 
 loop-again : tie.Need-loop-again Inv-loop μ-loop
 loop-again c =
-    let l = c .before .before .before .before .before .loop in
-    let a = c .before .before .before .before .before .before .before .args in
-    let s = c .before .before .set-bit in (
+    let l = c .before .before .before .loop in
+    let a = c .before .before .before .before .before .before .args in
+    let f = bitAt (a .records .now) in
+    let r = c .before .bit .ensures in
+    ⊎-elim
+    (λ w. (
       omega arith,
-      s .kept .0 ∙ l .inv .1,
+      rw (w .5) (w .2 .kept .0 ∙ l .inv .1),
       λ x e.
           let b : Bits (flat x) = λ k. rw (← e) (bit-lt (a .rows .now) k) in
-          s .ensures ∙ rw (l .inv .2 x e) (diagonal-more x (l .i) (omega arith) b),
-    )
+          rw (w .5) (w .2 .ensures ∙ rw (l .inv .2 x e) (diagonal-more f (bit-lt (a .records .now)) x (l .i) (omega arith) b (sym r ∙ w .0 .taken))),
+    ))
+    (λ w. (
+      omega arith,
+      rw (w .1) (l .inv .1),
+      λ x e.
+          let z : f (l .i) ≡ 0 = omega (arith, r, w .0 .left, bit-lt (a .records .now) (l .i)) in
+          rw (w .1) (l .inv .2 x e ∙ ap (λ (t : Cells). flat (union x t)) (diagonal-skip f (bit-lt (a .records .now)) (l .i) z)),
+    ))
+    (c .if1 .came)
 
 same-length : tie.Need-same-length Inv-loop μ-loop
 same-length c = search needs
@@ -55,9 +73,9 @@ same-length c = search needs
 returns : tie.Need-returns Inv-loop μ-loop
 returns c =
     let l = c .before .loop in
-    let a = c .before .before .before .args in
-    let h : l .i ≡ a .n = omega arith in
-    λ x e. l .inv .2 x e ∙ rw h
+    let a = c .before .before .before .before .args in
+    let h : l .i ≡ 1024 = omega arith in
+    λ x e. l .inv .2 x e ∙ rw h (ap (λ (t : Cells). flat (union x t)) (diagonal-all (a .records .now) (omega arith)))
 
 pub set-diagonal-spec : {M : Type 1} → statement M
 set-diagonal-spec =
@@ -66,6 +84,7 @@ set-diagonal-spec =
     Inv-loop
     μ-loop
     loop-holds
+    bit-requires
     mul-set-bit
     add-set-bit
     set-bit-requires

@@ -3,12 +3,14 @@ use mathlib.Core.Path.{refl}
 use native.Mathlib.Omega.{arith}
 use borrow.Author.Needs.{needs}
 use lib.ListN.{length-take}
+use Rattle.book.specs.Causes.{number}
 use Rattle.tree.specs.Settling.{too-long}
 use Rattle.tree.proofs.Copies.{settled}
 use Rattle.tree.proofs.calls.settle.Statement.{statement}
 use Rattle.tree.proofs.calls.settle.Tie as tie
 
 returns : tie.Need-returns
+unfolding number
 returns c = too-long (rw length-take (omega arith)) refl
 
 slice-aggregate-copy : tie.Need-slice-aggregate-copy

@@ -6,6 +6,7 @@ use native.Mathlib.Omega.{arith}
 use borrow.Author.Needs.{needs}
 use lib.ListN.{length, drop}
 use lib.Seq.{take-all}
+use Rattle.book.specs.Causes.{number}
 use Rattle.rows.specs.Rows.{pairsIn}
 use Rattle.tree.specs.Settling.{too-long}
 use Rattle.tree.proofs.Copies.{given-at}
@@ -16,6 +17,7 @@ count-pairs-requires : tie.Need-count-pairs-requires
 count-pairs-requires c κs = search needs
 
 returns : tie.Need-returns
+unfolding number
 returns c = too-long (rw (← c .before .count-pairs .ensures) (omega arith)) refl
 
 write-pairs-requires : tie.Need-write-pairs-requires

@@ -1,78 +1,90 @@
--- `combine` goes by the number; from 7 on it reads the last operand with the other senses (`last-turned`). Assumes nothing.
-use mathlib.Core.Path.{_≡_, ap, _∙_}
-use native.Mathlib.Omega.{arith}
+-- `combine` goes by the operation; the operations that are not `Apart` load the second operand beside the first. Assumes nothing.
 use borrow.Author.Needs.{needs}
-use mathlib.Core.List.{map}
-use Rattle.k2.specs.PairSets.{Cells, setOf, union, closure}
+use Rattle.k2.specs.Bits.{bitAt}
+use Rattle.k2.specs.PairSets.{Cells, union, closure}
 use Rattle.k2.specs.PairSetLaws.{union-set}
-use Rattle.rows.specs.Rows.{flat, linkPair}
-use Rattle.packing.specs.Reading.{sensed}
-use Rattle.tree.proofs.Ops.{last-set, last-turned, outcome-last}
+use Rattle.tree.specs.Inner.{valued, intersects, differs, multiplies}
+use Rattle.tree.specs.InnerLaws.{valued-set}
 use Rattle.tree.proofs.operations.combine.Statement.{statement}
 use Rattle.tree.proofs.operations.combine.Tie as tie
 
-load-last-requires : tie.Need-load-last-requires
-load-last-requires c κs = search needs
+enum-told : tie.Need-enum-told
+enum-told c = search needs
+
+load-requires : tie.Need-load-requires
+load-requires c κs = search needs
+
+enum-told-2 : tie.Need-enum-told-2
+enum-told-2 c = search needs
+
+with-second-requires : tie.Need-with-second-requires
+with-second-requires c κs = (c .before .before .before .before .before .before .before .before .before .pre .0, rw (c .before .enum-told2 .given .1) intersects, c .before .before .before .before .before .before .before .before .before .pre .2)
+
+enum-told-3 : tie.Need-enum-told-3
+enum-told-3 c = search needs
+
+with-second-requires-2 : tie.Need-with-second-requires-2
+with-second-requires-2 c κs = (c .before .before .before .before .before .before .before .before .before .pre .0, rw (c .before .enum-told3 .given .1) differs, c .before .before .before .before .before .before .before .before .before .pre .2)
+
+enum-told-4 : tie.Need-enum-told-4
+enum-told-4 c = search needs
+
+with-second-requires-3 : tie.Need-with-second-requires-3
+with-second-requires-3 c κs = (c .before .before .before .before .before .before .before .before .before .pre .0, rw (c .before .enum-told4 .given .1) multiplies, c .before .before .before .before .before .before .before .before .before .pre .2)
+
+enum-told-5 : tie.Need-enum-told-5
+enum-told-5 c = search needs
+
+load-requires-2 : tie.Need-load-requires-2
+load-requires-2 c κs = search needs
+
+close-requires : tie.Need-close-requires
+close-requires c κs = search needs
+
+enum-told-6 : tie.Need-enum-told-6
+enum-told-6 c = search needs
+
+load-requires-3 : tie.Need-load-requires-3
+load-requires-3 c κs = search needs
+
+set-diagonal-requires : tie.Need-set-diagonal-requires
+set-diagonal-requires c κs = search needs
+
+enum-told-7 : tie.Need-enum-told-7
+enum-told-7 c = search needs
+
+load-requires-4 : tie.Need-load-requires-4
+load-requires-4 c κs = search needs
+
+close-requires-2 : tie.Need-close-requires-2
+close-requires-2 c κs = search needs
+
+set-diagonal-requires-2 : tie.Need-set-diagonal-requires-2
+set-diagonal-requires-2 c κs = search needs
 
 same-length : tie.Need-same-length
 same-length c = search needs
 
 returns : tie.Need-returns
-returns c =
-    let e : c .before .before .before .before .before .before .before .before .args .kind ≡ 0 = c .before .before .before .before .if1 .taken in
-    λ a b ia ib ra eb il. rw e (c .before .before .load-last .ensures b a ib eb ra)
-
-with-second-requires : tie.Need-with-second-requires
-with-second-requires c κs = search needs
+returns c = λ a b ia ib e l ra. rw (c .before .before .before .before .enum-told .given .1) (c .before .before .load .ensures b a ib e ra)
 
 same-length-2 : tie.Need-same-length-2
 same-length-2 c = search needs
 
 returns-2 : tie.Need-returns-2
-returns-2 c = search needs
-
-sub-load-last : tie.Need-sub-load-last
-sub-load-last c = search needs
-
-sub-load-last-2 : tie.Need-sub-load-last-2
-sub-load-last-2 c = search needs
-
-load-last-requires-2 : tie.Need-load-last-requires-2
-load-last-requires-2 c κs = search needs
+returns-2 c = λ a b ia ib e l ra. c .before .before .with-second .ensures a b (bitAt (c .before .before .before .before .before .before .before .before .before .before .before .before .args .used .now)) ia ib e l ra
 
 same-length-3 : tie.Need-same-length-3
 same-length-3 c = search needs
 
 returns-3 : tie.Need-returns-3
-returns-3 c =
-    let g = c .before .before .before .before .before .before .before .before .before .before .args in
-    let l : Cells = setOf (map linkPair (g .words .now)) in
-    λ a b ia ib ra eb il.
-    let s : Cells = union (sensed (g .sb) b) (sensed (g .sense) l) in
-    c .before .before .load-last2 .ensures b a ib eb ra
-    ∙ ap flat (ap (union a) (last-turned (g .sb) (g .sense) b l (c .before .before .before .before .before .before .before .before .before .before .pre .1) (c .before .before .before .before .before .before .before .before .before .before .pre .2)) ∙ outcome-last (g .kind) (g .n) a s (omega arith))
-
-load-last-requires-3 : tie.Need-load-last-requires-3
-load-last-requires-3 c κs = search needs
-
-set-diagonal-requires : tie.Need-set-diagonal-requires
-set-diagonal-requires c κs = search needs
+returns-3 c = λ a b ia ib e l ra. c .before .before .with-second2 .ensures a b (bitAt (c .before .before .before .before .before .before .before .before .before .before .before .before .args .used .now)) ia ib e l ra
 
 same-length-4 : tie.Need-same-length-4
 same-length-4 c = search needs
 
 returns-4 : tie.Need-returns-4
-returns-4 c =
-    let g = c .before .before .before .before .before .before .before .before .before .before .before .before .before .before .before .args in
-    let l : Cells = setOf (map linkPair (g .words .now)) in
-    let e : g .kind ≡ 5 = c .before .before .before .before .if4 .taken in
-    λ a b ia ib ra eb il.
-    let s : Cells = union (sensed (g .sb) b) (sensed (g .sense) l) in
-    let r = c .before .before .before .before .before .before .before .load-last3 .ensures b a ib eb ra in
-    rw e (c .before .before .set-diagonal .ensures (union a s) r)
-
-close-requires : tie.Need-close-requires
-close-requires c κs = search needs
+returns-4 c = λ a b ia ib e l ra. c .before .before .with-second3 .ensures a b (bitAt (c .before .before .before .before .before .before .before .before .before .before .before .before .args .used .now)) ia ib e l ra
 
 same-length-5 : tie.Need-same-length-5
 same-length-5 c = search needs
@@ -80,51 +92,66 @@ same-length-5 c = search needs
 returns-5 : tie.Need-returns-5
 returns-5 c =
     let g = c .before .before .before .before .before .before .before .before .before .before .before .before .before .before .before .before .args in
-    let l : Cells = setOf (map linkPair (g .words .now)) in
-    let e : g .kind ≡ 4 = c .if5 .taken in
-    λ a b ia ib ra eb il.
-    let s : Cells = union (sensed (g .sb) b) (sensed (g .sense) l) in
-    let r = c .before .before .before .before .before .before .before .before .load-last3 .ensures b a ib eb ra in
-    rw e (c .before .before .before .close .ensures (union a s) (union-set (g .n) a s ia (last-set (g .n) (g .sb) (g .sense) b l ib il)) r)
-
-set-diagonal-requires-2 : tie.Need-set-diagonal-requires-2
-set-diagonal-requires-2 c κs = search needs
+    λ a b ia ib e l ra.
+    let s : Cells = valued (g .links .now) (g .term .second) b in
+    let i = union-set (g .n) a s ia (valued-set (g .n) (g .links .now) (g .term .second) b (c .before .before .before .before .before .before .before .before .before .before .before .before .before .before .before .before .pre .0 .size) ib l) in
+    rw (c .before .before .before .before .before .before .before .before .enum-told5 .given .1) (c .before .before .close .ensures (union a s) i (c .before .before .before .before .before .before .load2 .ensures b a ib e ra))
 
 same-length-6 : tie.Need-same-length-6
 same-length-6 c = search needs
 
 returns-6 : tie.Need-returns-6
 returns-6 c =
+    let g = c .before .before .before .before .before .before .before .before .before .before .before .before .before .before .before .before .args in
+    λ a b ia ib e l ra.
+    let s : Cells = valued (g .links .now) (g .term .second) b in
+    rw (c .before .before .before .before .before .before .before .before .enum-told6 .given .1) (c .before .before .set-diagonal .ensures (union a s) (c .before .before .before .before .before .before .load3 .ensures b a ib e ra))
+
+same-length-7 : tie.Need-same-length-7
+same-length-7 c = search needs
+
+returns-7 : tie.Need-returns-7
+returns-7 c =
     let g = c .before .before .before .before .before .before .before .before .before .before .before .before .before .before .before .before .before .before .before .before .args in
-    let l : Cells = setOf (map linkPair (g .words .now)) in
-    let e : g .kind ≡ 6 = omega arith in
-    λ a b ia ib ra eb il.
-    let s : Cells = union (sensed (g .sb) b) (sensed (g .sense) l) in
-    let r = c .before .before .before .before .before .before .before .before .before .before .before .before .load-last3 .ensures b a ib eb ra in
-    rw e (c .before .before .set-diagonal2 .ensures (closure (g .n) (union a s)) (c .before .before .before .before .before .before .before .close .ensures (union a s) (union-set (g .n) a s ia (last-set (g .n) (g .sb) (g .sense) b l ib il)) r))
+    λ a b ia ib e l ra.
+    let s : Cells = valued (g .links .now) (g .term .second) b in
+    let i = union-set (g .n) a s ia (valued-set (g .n) (g .links .now) (g .term .second) b (c .before .before .before .before .before .before .before .before .before .before .before .before .before .before .before .before .before .before .before .before .pre .0 .size) ib l) in
+    let r = c .before .before .before .before .before .before .close2 .ensures (union a s) i (c .before .before .before .before .before .before .before .before .before .before .load4 .ensures b a ib e ra) in
+    rw (c .before .before .before .before .before .before .before .before .before .before .before .before .enum-told7 .given .1) (c .before .before .set-diagonal2 .ensures (closure (g .n) (union a s)) r)
 
 pub combine-spec : {M : Type 1} → statement M
 combine-spec =
     tie.close
     (tie.spec
-    load-last-requires
+    enum-told
+    load-requires
+    enum-told-2
+    with-second-requires
+    enum-told-3
+    with-second-requires-2
+    enum-told-4
+    with-second-requires-3
+    enum-told-5
+    load-requires-2
+    close-requires
+    enum-told-6
+    load-requires-3
+    set-diagonal-requires
+    enum-told-7
+    load-requires-4
+    close-requires-2
+    set-diagonal-requires-2
     same-length
     returns
-    with-second-requires
     same-length-2
     returns-2
-    sub-load-last
-    sub-load-last-2
-    load-last-requires-2
     same-length-3
     returns-3
-    load-last-requires-3
-    set-diagonal-requires
     same-length-4
     returns-4
-    close-requires
     same-length-5
     returns-5
-    set-diagonal-requires-2
     same-length-6
-    returns-6)
+    returns-6
+    same-length-7
+    returns-7)

@@ -1,62 +1,72 @@
--- `operate` loads the first tree, combines it with the last operand and packs. Assumes nothing.
+-- `operate` packs the rows of the outcome, if there was room, which can be told (`room-or`). Assumes nothing.
+use mathlib.Core.Path.{_≡_, refl, _∙_}
+use native.Mathlib.Omega.{arith}
 use borrow.Author.Needs.{needs}
-use mathlib.Core.List.{map}
-use Rattle.k2.specs.PairSets.{Cells, setOf, union}
-use Rattle.rows.specs.Rows.{noPairs, linkPair}
-use Rattle.packing.specs.Reading.{sensed}
-use Rattle.packing.specs.ReadingLaws.{sensed-set}
-use Rattle.tree.specs.Inner.{outcome}
-use Rattle.tree.proofs.Ops.{rows-none, from-none, last-set, outcome-set, tree-at, pack-room}
+use lib.ListN.{length}
+use Rattle.k2.specs.Bits.{bitAt}
+use Rattle.k2.specs.BitLaws.{bit-lt}
+use Rattle.k2.specs.PairSets.{Cells}
+use Rattle.tree.specs.Inner.{Room, termSet}
+use Rattle.tree.specs.InnerLaws.{term-set}
+use Rattle.tree.proofs.Copies.{wrong}
+use Rattle.tree.proofs.Ops.{told-room, tree-at, pack-room}
 use Rattle.tree.proofs.operations.operate.Statement.{statement}
 use Rattle.tree.proofs.operations.operate.Tie as tie
 
-slice-aggregate-load-at : tie.Need-slice-aggregate-load-at
-slice-aggregate-load-at c = search needs
+outcome-rows-requires : tie.Need-outcome-rows-requires
+outcome-rows-requires c κs = search needs
 
-load-at-requires : tie.Need-load-at-requires
-load-at-requires c κs = search needs
-
-slice-aggregate-combine : tie.Need-slice-aggregate-combine
-slice-aggregate-combine c = search needs
-
-combine-requires : tie.Need-combine-requires
-combine-requires c κs = search needs
-
-slice-aggregate-pack : tie.Need-slice-aggregate-pack
-slice-aggregate-pack c = search needs
+-- there was room
+roomy : (c : tie.Then1) → Room (c .before .before .before .before .before .before .before .before .before .before .args .n) (c .before .before .before .before .before .before .before .before .before .before .args .term) (length (c .before .before .before .before .before .before .before .before .before .before .args .work .now)) (length (c .before .before .before .before .before .before .before .before .before .before .args .used .now)) (length (c .before .before .before .before .before .before .before .before .before .before .args .rows .now))
+roomy c = told-room (c .before .before .before .outcome-rows .ensures) (c .if1 .taken)
 
 pack-requires : tie.Need-pack-requires
-pack-requires c κs = (search needs, c .before .before .before .before .before .before .before .before .before .before .before .before .pre .0 .size, pack-room (c .before .before .before .before .before .before .before .before .before .before .before .before .args .n) _ _ _ (c .before .before .before .before .before .before .before .before .before .before .before .before .pre .0))
+pack-requires c κs =
+    let g = c .before .before .before .before .before .before .before .before .before .before .before .before .args in
+    let p = roomy (c .before .before) in
+    let k : length (c .before .before .before .before .before .outcome-rows .last .1 .1 .1 .1 .1 .0) ≡ length (g .rows .now) = c .before .before .before .before .before .outcome-rows .kept .1 .1 .1 .1 .1 .0 in
+    (k ∙ p .bits, p .trees .size, pack-room (g .n) (g .term) (length (g .work .now)) (p .trees))
 
 same-length : tie.Need-same-length
 same-length c = search needs
 
+same-length-2 : tie.Need-same-length-2
+same-length-2 c = search needs
+
 returns : tie.Need-returns
 returns c =
     let g = c .before .before .before .before .before .before .before .before .before .before .before .before .before .before .before .args in
-    let n = g .n in
-    let p = c .before .before .pack in
-    let l : Cells = setOf (map linkPair (g .words .now)) in (
-      p .ensures .0,
-      λ a b ia ib ea eb il.
-          let x : Cells = sensed (g .sa) a in
-          let s : Cells = union (sensed (g .sb) b) (sensed (g .sense) l) in
-          let o : Cells = outcome (g .kind) n x s in
-          let ix = sensed-set (g .sa) n a ia in
-          let r = from-none x _ (c .before .before .before .before .before .before .before .before .before .before .load-at .ensures a noPairs ia ea rows-none) in
-          tree-at n (p .result) o (p .last .1 .1 .0) (p .ensures .1 o (outcome-set (g .kind) n x s ix (last-set n (g .sb) (g .sense) b l ib il))
-          (c .before .before .before .before .before .before .combine .ensures x b ix ib r eb il)),
-    )
+    let p = roomy (c .before .before .before .before .before) in
+    let k = c .before .before .pack in
+    record {
+      most = k .ensures .0;
+      tree = λ r a b l.
+          let o : Cells = termSet (g .term) (g .n) (g .links .now) (bitAt (g .used .now)) a b in
+          let i = term-set (g .term) (g .n) (g .links .now) (bitAt (g .used .now)) (g .work .now) a b (p .trees .size) (bit-lt (g .used .now)) l in
+          tree-at (g .n) (k .result) o _ (k .ensures .1 o i (c .before .before .before .before .before .before .before .before .outcome-rows .ensures .rows r a b l));
+      left = λ f. absurd (f p);
+    }
+
+same-length-3 : tie.Need-same-length-3
+same-length-3 c = search needs
+
+same-length-4 : tie.Need-same-length-4
+same-length-4 c = search needs
+
+returns-2 : tie.Need-returns-2
+returns-2 c =
+    let f : (Room _ _ _ _ _ → ⊥) = λ r. wrong (c .if1 .left) (c .before .before .before .outcome-rows .ensures .done r) in
+    record { most = omega arith; tree = λ r. absurd (f r); left = λ g. (refl, refl) }
 
 pub operate-spec : {M : Type 1} → statement M
 operate-spec =
     tie.close
     (tie.spec
-    slice-aggregate-load-at
-    load-at-requires
-    slice-aggregate-combine
-    combine-requires
-    slice-aggregate-pack
+    outcome-rows-requires
     pack-requires
     same-length
-    returns)
+    same-length-2
+    returns
+    same-length-3
+    same-length-4
+    returns-2)

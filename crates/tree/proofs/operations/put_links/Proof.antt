@@ -1,35 +1,55 @@
--- `put_links` goes by the sense. Assumes nothing.
-use mathlib.Core.Path.{_≡_, ap, _∙_}
+-- `put_links` has the letters' two sets exchanged where the operand is inverted (`crossed-turned`); with no letters it does nothing. Assumes nothing.
+use mathlib.Core.Path.{sym, ap, _∙_}
 use borrow.Author.Needs.{needs}
 use Rattle.k2.specs.PairSets.{Cells, union}
 use Rattle.rows.specs.Rows.{flat}
-use Rattle.tree.proofs.Ops.{sensed-turned}
+use Rattle.rows.specs.RowLaws.{crossed-turned}
+use Rattle.tree.proofs.Ops.{no-letters}
 use Rattle.tree.proofs.operations.put_links.Statement.{statement}
 use Rattle.tree.proofs.operations.put_links.Tie as tie
 
-put-words-requires : tie.Need-put-words-requires
-put-words-requires c κs = search needs
+returns : tie.Need-returns
+returns c =
+    let a = c .before .before .before .before .before .before .args in
+    λ x r. r ∙ ap flat (no-letters (a .operand .sense) (a .links .now) (a .operand .forward) (a .operand .against) x (c .before .before .if1 .taken) (c .if2 .taken))
+
+enum-told : tie.Need-enum-told
+enum-told c = search needs
+
+put-letters-requires : tie.Need-put-letters-requires
+put-letters-requires c κs = search needs
+
+enum-told-2 : tie.Need-enum-told-2
+enum-told-2 c = search needs
+
+put-letters-requires-2 : tie.Need-put-letters-requires-2
+put-letters-requires-2 c κs = search needs
 
 same-length : tie.Need-same-length
 same-length c = search needs
 
-returns : tie.Need-returns
-returns c =
-    let e : c .before .before .before .before .before .before .before .args .sense ≡ 0 = c .before .before .before .before .if1 .taken in
-    λ x r. rw e (c .before .before .put-words .ensures x r)
-
-put-turned-requires : tie.Need-put-turned-requires
-put-turned-requires c κs = search needs
+returns-2 : tie.Need-returns-2
+returns-2 c = λ x r. rw (c .before .before .before .before .enum-told .given .1) (c .before .before .put-letters .ensures x r)
 
 same-length-2 : tie.Need-same-length-2
 same-length-2 c = search needs
 
-returns-2 : tie.Need-returns-2
-returns-2 c =
-    let a = c .before .before .before .before .before .before .before .args in
-    λ x r. c .before .before .put-turned .ensures x r ∙ ap (λ (t : Cells). flat (union x t)) (sensed-turned (a .sense) _ (c .before .before .before .before .if1 .left))
+returns-3 : tie.Need-returns-3
+returns-3 c =
+    let a = c .before .before .before .before .before .before .before .before .before .before .args in
+    λ x r. rw (c .before .before .before .before .enum-told2 .given .1)
+    (c .before .before .put-letters2 .ensures x r ∙ ap (λ (t : Cells). flat (union x t)) (sym (crossed-turned (a .links .now) (a .operand .forward) (a .operand .against))))
 
 pub put-links-spec : {M : Type 1} → statement M
 put-links-spec =
     tie.close
-    (tie.spec put-words-requires same-length returns put-turned-requires same-length-2 returns-2)
+    (tie.spec
+    returns
+    enum-told
+    put-letters-requires
+    enum-told-2
+    put-letters-requires-2
+    same-length
+    returns-2
+    same-length-2
+    returns-3)

@@ -1,44 +1,63 @@
--- `room` tests what `Room` asks, in its order. Assumes nothing.
-use mathlib.Core.Path.{_≡_}
-use Prim.Native.Nat.{ℕ, _*_}
+-- `room` tests what `Room` asks. Assumes nothing.
+use Prim.Native.Nat.{_*_}
 use native.Mathlib.Omega.{arith}
 use borrow.Author.Needs.{needs}
 use borrow.Author.Tests.{leb-true, le-leb}
+use Rattle.tree.proofs.Copies.{off}
 use Rattle.tree.proofs.operations.room.Statement.{statement}
 use Rattle.tree.proofs.operations.room.Tie as tie
 
 returns : tie.Need-returns
-returns c = (λ e. absurd (let y : _≡_ {A = ℕ} 0 1 = cc in omega arith), λ r. absurd (omega (arith, r .size)))
+returns c = (λ e. off e, λ r. absurd (omega (arith, r .trees .size)))
+
+returns-2 : tie.Need-returns-2
+returns-2 c = (λ e. off e, λ r. absurd (omega (arith, r .records)))
+
+returns-3 : tie.Need-returns-3
+returns-3 c = (λ e. off e, λ r. absurd (omega (arith, r .bits)))
 
 tree-unit-requires : tie.Need-tree-unit-requires
 tree-unit-requires c κs = search needs
 
-returns-2 : tie.Need-returns-2
-returns-2 c =
-    let u = c .before .tree-unit in
-    (λ e. absurd (let y : _≡_ {A = ℕ} 0 1 = cc in omega arith), λ r. absurd (omega (arith, r .first, u .ensures .0)))
-
-returns-3 : tie.Need-returns-3
-returns-3 c =
-    let u = c .before .before .tree-unit in
-    (λ e. absurd (let y : _≡_ {A = ℕ} 0 1 = cc in omega arith), λ r. absurd (omega (arith, r .second, u .ensures .0)))
-
-mul-result : tie.Need-mul-result
-mul-result c = omega (arith, c .before .before .tree-unit .ensures .2)
-
 returns-4 : tie.Need-returns-4
 returns-4 c =
-    let u = c .before .before .tree-unit in
-    let a = c .before .before .before .before .args in (
+    let u = c .before .before .before .before .tree-unit in
+    (λ e. off e, λ r. absurd (omega (arith, r .trees .first, u .ensures .0)))
+
+returns-5 : tie.Need-returns-5
+returns-5 c =
+    let u = c .before .before .before .before .before .before .tree-unit in
+    (λ e. off e, λ r. absurd (omega (arith, r .trees .second, u .ensures .0)))
+
+mul-result : tie.Need-mul-result
+mul-result c = omega (arith, c .before .before .before .before .before .before .tree-unit .ensures .2)
+
+returns-6 : tie.Need-returns-6
+returns-6 c =
+    let u = c .before .before .before .before .before .before .tree-unit in
+    let a = c .before .before .before .before .before .before .before .before .before .before .args in (
       λ e. record {
-        size = omega arith;
-        first = omega (arith, u .ensures .0);
-        second = omega (arith, u .ensures .0);
-        work = omega (arith, u .ensures .0, leb-true (2 * u .result) (a .k) e);
+        trees = record {
+          size = omega arith;
+          first = omega (arith, u .ensures .0);
+          second = omega (arith, u .ensures .0);
+          work = omega (arith, u .ensures .0, leb-true (2 * u .result) (a .work) e);
+        };
+        records = omega arith;
+        bits = omega arith;
       },
-      λ r. le-leb (2 * u .result) (a .k) (omega (arith, u .ensures .0, r .work)),
+      λ r. le-leb (2 * u .result) (a .work) (omega (arith, u .ensures .0, r .trees .work)),
     )
 
 pub room-spec : {M : Type 1} → statement M
 room-spec =
-    tie.close (tie.spec returns tree-unit-requires returns-2 returns-3 mul-result returns-4)
+    tie.close
+    (tie.spec
+    returns
+    returns-2
+    returns-3
+    tree-unit-requires
+    returns-4
+    returns-5
+    mul-result
+    returns-6)

@@ -1,50 +1,25 @@
--- `with_second` loads the last operand, for a product with the other senses, so that its columns are rows. Assumes nothing.
-use mathlib.Core.Path.{_≡_, ap, _∙_}
+-- `with_second` loads the second operand, for a product inverted, so that its columns are rows (`valued-flipped`). Assumes nothing.
+use mathlib.Core.Path.{_≡_, refl, ap, _∙_}
 use native.Mathlib.Omega.{arith}
 use borrow.Author.Needs.{needs}
-use mathlib.Core.List.{map}
-use Rattle.k2.specs.PairSets.{Cells, setOf, union}
-use Rattle.rows.specs.Rows.{flat, noPairs, linkPair}
-use Rattle.packing.specs.Reading.{sensed}
-use Rattle.tree.proofs.Ops.{rows-none, from-none, last-set, last-turned}
+use Rattle.k2.specs.PairSets.{Cells}
+use Rattle.rows.specs.Rows.{flat, noPairs}
+use Rattle.tree.specs.declared.operations.Operand.{Operand}
+use Rattle.tree.specs.declared.operations.Operation.the-variants.{Union, Closure, Optional, Star}
+use Rattle.tree.specs.Inner.{valued}
+use Rattle.tree.specs.InnerLaws.{valued-flipped, valued-set}
+use Rattle.tree.proofs.Ops.{rows-none, from-none, not-apart}
 use Rattle.tree.proofs.operations.with_second.Statement.{statement}
 use Rattle.tree.proofs.operations.with_second.Tie as tie
 
-sub-load-last : tie.Need-sub-load-last
-sub-load-last c = search needs
+enum-told : tie.Need-enum-told
+enum-told c = search needs
 
-sub-load-last-2 : tie.Need-sub-load-last-2
-sub-load-last-2 c = search needs
+slice-aggregate-load : tie.Need-slice-aggregate-load
+slice-aggregate-load c = search needs
 
-slice-aggregate-load-last : tie.Need-slice-aggregate-load-last
-slice-aggregate-load-last c = search needs
-
-load-last-requires : tie.Need-load-last-requires
-load-last-requires c κs = search needs
-
-slice-aggregate-compose : tie.Need-slice-aggregate-compose
-slice-aggregate-compose c = search needs
-
-compose-requires : tie.Need-compose-requires
-compose-requires c κs = search needs
-
-same-length : tie.Need-same-length
-same-length c = search needs
-
-returns : tie.Need-returns
-returns c =
-    let g = c .before .before .before .before .before .before .before .before .before .before .before .before .args in
-    let l : Cells = setOf (map linkPair (g .words .now)) in
-    let e : g .kind ≡ 3 = c .before .before .before .before .before .before .before .before .if1 .taken in
-    λ a b ia ib ra eb il.
-    let s : Cells = union (sensed (g .sb) b) (sensed (g .sense) l) in
-    rw e (c .before .before .compose .ensures a s ia (last-set (g .n) (g .sb) (g .sense) b l ib il) ra (from-none _ _ (c .before .before .before .before .before .before .load-last .ensures b noPairs ib eb rows-none) ∙ ap flat (last-turned (g .sb) (g .sense) b l (c .before .before .before .before .before .before .before .before .before .before .before .before .pre .3) (c .before .before .before .before .before .before .before .before .before .before .before .before .pre .4))))
-
-slice-aggregate-load-last-2 : tie.Need-slice-aggregate-load-last-2
-slice-aggregate-load-last-2 c = search needs
-
-load-last-requires-2 : tie.Need-load-last-requires-2
-load-last-requires-2 c κs = search needs
+load-requires : tie.Need-load-requires
+load-requires c κs = search needs
 
 slice-aggregate-intersect : tie.Need-slice-aggregate-intersect
 slice-aggregate-intersect c = search needs
@@ -52,17 +27,14 @@ slice-aggregate-intersect c = search needs
 intersect-requires : tie.Need-intersect-requires
 intersect-requires c κs = search needs
 
-same-length-2 : tie.Need-same-length-2
-same-length-2 c = search needs
+enum-told-2 : tie.Need-enum-told-2
+enum-told-2 c = search needs
 
-returns-2 : tie.Need-returns-2
-returns-2 c =
-    let g = c .before .before .before .before .before .before .before .before .before .before .before .before .before .args in
-    let l : Cells = setOf (map linkPair (g .words .now)) in
-    let e : g .kind ≡ 1 = c .before .before .before .before .before .if2 .taken in
-    λ a b ia ib ra eb il.
-    let s : Cells = union (sensed (g .sb) b) (sensed (g .sense) l) in
-    rw e (c .before .before .intersect .ensures a s ra (from-none _ _ (c .before .before .before .before .before .before .before .load-last2 .ensures b noPairs ib eb rows-none)))
+slice-aggregate-load-2 : tie.Need-slice-aggregate-load-2
+slice-aggregate-load-2 c = search needs
+
+load-requires-2 : tie.Need-load-requires-2
+load-requires-2 c κs = search needs
 
 slice-aggregate-minus : tie.Need-slice-aggregate-minus
 slice-aggregate-minus c = search needs
@@ -70,37 +42,116 @@ slice-aggregate-minus c = search needs
 minus-requires : tie.Need-minus-requires
 minus-requires c κs = search needs
 
+enum-told-3 : tie.Need-enum-told-3
+enum-told-3 c = search needs
+
+inverted-requires : tie.Need-inverted-requires
+inverted-requires c κs = search needs
+
+slice-aggregate-load-3 : tie.Need-slice-aggregate-load-3
+slice-aggregate-load-3 c = search needs
+
+-- the inverted operand has as many words
+as-long : (c : tie.After-inverted) → c .inverted .result .size ≡ c .before .before .before .before .before .before .before .before .args .term .second .size
+as-long c = ap (λ (o : Operand). o .size) (c .inverted .ensures)
+
+load-requires-3 : tie.Need-load-requires-3
+load-requires-3 c κs =
+    let p = c .before .before .before .before .before .before .before .before .before .pre .0 in
+    let e = as-long (c .before) in
+    (p .size, omega (arith, e, p .second), omega (arith, e, p .first, p .second, p .work), refl)
+
+slice-aggregate-compose : tie.Need-slice-aggregate-compose
+slice-aggregate-compose c = search needs
+
+compose-requires : tie.Need-compose-requires
+compose-requires c κs = search needs
+
+enum-told-4 : tie.Need-enum-told-4
+enum-told-4 c = search needs
+
+enum-told-5 : tie.Need-enum-told-5
+enum-told-5 c = search needs
+
+enum-told-6 : tie.Need-enum-told-6
+enum-told-6 c = search needs
+
+enum-told-7 : tie.Need-enum-told-7
+enum-told-7 c = search needs
+
+same-length : tie.Need-same-length
+same-length c = search needs
+
+returns : tie.Need-returns
+returns c =
+    λ a b u ia ib e l ra.
+    rw (c .before .before .before .before .before .before .before .before .enum-told .given .1) (c .before .before .intersect .ensures a _ ra (from-none _ _ (c .before .before .before .before .before .before .load .ensures b noPairs ib e rows-none)))
+
+same-length-2 : tie.Need-same-length-2
+same-length-2 c = search needs
+
+returns-2 : tie.Need-returns-2
+returns-2 c =
+    λ a b u ia ib e l ra.
+    rw (c .before .before .before .before .before .before .before .before .enum-told2 .given .1) (c .before .before .minus .ensures a _ ra (from-none _ _ (c .before .before .before .before .before .before .load2 .ensures b noPairs ib e rows-none)))
+
 same-length-3 : tie.Need-same-length-3
 same-length-3 c = search needs
 
 returns-3 : tie.Need-returns-3
 returns-3 c =
-    let g = c .before .before .before .before .before .before .before .before .before .before .before .before .before .args in
-    let l : Cells = setOf (map linkPair (g .words .now)) in
-    let e : g .kind ≡ 2 = omega arith in
-    λ a b ia ib ra eb il.
-    let s : Cells = union (sensed (g .sb) b) (sensed (g .sense) l) in
-    rw e (c .before .before .minus .ensures a s ra (from-none _ _ (c .before .before .before .before .before .before .before .load-last2 .ensures b noPairs ib eb rows-none)))
+    let g = c .before .before .before .before .before .before .before .before .before .before .before .before .before .before .before .before .args in
+    let q = c .before .before .before .before .before .before .before .before .inverted .ensures in
+    λ a b u ia ib e l ra.
+    let s : Cells = valued (g .links .now) (g .term .second) b in
+    let k = from-none _ _ (c .before .before .before .before .before .before .load3 .ensures b noPairs ib (rw (as-long (c .before .before .before .before .before .before .before .before)) e) rows-none) in
+    rw (c .before .before .before .before .before .before .before .before .before .enum-told3 .given .1)
+    (c .before .before .compose .ensures a s ia (valued-set (g .n) (g .links .now) (g .term .second) b (c .before .before .before .before .before .before .before .before .before .before .before .before .before .before .before .before .pre .0 .size) ib l) ra
+    (k ∙ ap flat (ap (λ (o : Operand). valued (g .links .now) o b) q ∙ valued-flipped (g .links .now) (g .term .second) b)))
+
+returns-4 : tie.Need-returns-4
+returns-4 c = not-apart Union refl (c .enum-told4 .given .1) (c .before .before .before .before .before .before .before .pre .1)
+
+returns-5 : tie.Need-returns-5
+returns-5 c = not-apart Closure refl (c .enum-told5 .given .1) (c .before .before .before .before .before .before .before .pre .1)
+
+returns-6 : tie.Need-returns-6
+returns-6 c = not-apart Optional refl (c .enum-told6 .given .1) (c .before .before .before .before .before .before .before .pre .1)
+
+returns-7 : tie.Need-returns-7
+returns-7 c = not-apart Star refl (c .enum-told7 .given .1) (c .before .before .before .before .before .before .before .pre .1)
 
 pub with-second-spec : {M : Type 1} → statement M
 with-second-spec =
     tie.close
     (tie.spec
-    sub-load-last
-    sub-load-last-2
-    slice-aggregate-load-last
-    load-last-requires
-    slice-aggregate-compose
-    compose-requires
-    same-length
-    returns
-    slice-aggregate-load-last-2
-    load-last-requires-2
+    enum-told
+    slice-aggregate-load
+    load-requires
     slice-aggregate-intersect
     intersect-requires
-    same-length-2
-    returns-2
+    enum-told-2
+    slice-aggregate-load-2
+    load-requires-2
     slice-aggregate-minus
     minus-requires
+    enum-told-3
+    inverted-requires
+    slice-aggregate-load-3
+    load-requires-3
+    slice-aggregate-compose
+    compose-requires
+    enum-told-4
+    enum-told-5
+    enum-told-6
+    enum-told-7
+    same-length
+    returns
+    same-length-2
+    returns-2
     same-length-3
-    returns-3)
+    returns-3
+    returns-4
+    returns-5
+    returns-6
+    returns-7)

@@ -1,0 +1,109 @@
+-- `operator` takes its operands off the stack and lends the work from the first of them on to the operation; `goes-operator` does the rest. Assumes nothing.
+use native.Mathlib.Omega.{arith}
+use mathlib.Core.Path.{_≡_}
+use Prim.Native.Nat.{_-_, _*_, _≤_}
+use lib.ListN.{length, take, drop}
+use Rattle.k2.specs.Trees.{treeUnit}
+use Rattle.pairs.specs.Steps.{Takes}
+use Rattle.pairs.proofs.Stepping.{starts-early, takes-early, goes-operator}
+use borrow.Author.Needs.{needs}
+use Rattle.pairs.proofs.operator.Statement.{statement}
+use Rattle.pairs.proofs.operator.Tie as tie
+use Rattle.pairs.proofs.operator.Reads as reads
+use Rattle.pairs.proofs.operator.Lts as lts
+use Rattle.pairs.proofs.bounded.Reads as bounded-reads
+use Rattle.pairs.proofs.take_off.Reads as take-off-reads
+use Rattle.tree.proofs.operate.Reads as operate-reads
+
+-- the operands taken off
+takes : (c : tie.After-take-off) → Takes (treeUnit (c .before .before .before .before .before .args .n)) (c .before .before .before .before .before .args .op) (c .before .before .before .before .before .args .stack) (c .take-off .result)
+takes c = c .take-off .ensures _ _ (c .before .before .before .before .before .pre .5 .1)
+
+early : (c : tie.After-take-off) → c .take-off .result .below ≤ 18
+early c = takes-early (c .before .before .before .before .before .pre .5 .1) (omega (arith, c .before .before .before .before .before .pre .4)) (takes c)
+
+starts : (c : tie.After-take-off) → c .take-off .result .start ≤ 18 * treeUnit (c .before .before .before .before .before .args .n)
+starts c = starts-early (takes c .totals) (early c)
+
+-- src/lib.rt:185:9
+take-off-requires : tie.Need-take-off-requires
+take-off-requires c κs = search needs
+
+-- src/lib.rt:189:36
+mul-operate : tie.Need-mul-operate
+mul-operate c = omega (arith, starts (c .before), c .before .before .before .before .before .before .pre .1)
+
+-- src/lib.rt:189:36
+sub-operate : tie.Need-sub-operate
+sub-operate c = omega (arith, starts (c .before), c .before .before .before .before .before .before .pre .1)
+
+-- src/lib.rt:189:36
+part-operate-start : tie.Need-part-operate-start
+part-operate-start c = omega (arith, starts (c .before), c .before .before .before .before .before .before .pre .1)
+
+-- src/lib.rt:189:36
+part-operate-end : tie.Need-part-operate-end
+part-operate-end c = search needs
+
+-- src/lib.rt:189:9
+operate-requires : tie.Need-operate-requires
+operate-requires c κs = search needs
+
+-- src/lib.rt:190:9
+bounded-requires : tie.Need-bounded-requires
+bounded-requires c κs = search needs
+
+-- src/lib.rt:198:5
+mul-operand : tie.Need-mul-operand
+mul-operand c = omega (arith, early (c .before .before .before .before .before .before .before .before .before))
+
+-- src/lib.rt:198:5
+element-set-from-operand : tie.Need-element-set-from-operand
+element-set-from-operand c = omega (arith, early (c .before .before .before .before .before .before .before .before .before))
+
+-- src/lib.rt:199:18
+add-next : tie.Need-add-next
+add-next c = omega (arith, early (c .before .before .before .before .before .before .before .before .before))
+
+-- src/lib.rt:200:16
+add-next-2 : tie.Need-add-next-2
+add-next-2 c = omega (arith, starts (c .before .before .before .before .before .before .before .before .before), c .before .before .before .before .before .before .before .before .before .before .before .before .before .before .pre .1, c .bounded .ensures .0)
+
+-- src/lib.rt:172:1
+same-length : tie.Need-same-length
+same-length c = search needs
+
+-- src/lib.rt:172:1
+same-length-2 : tie.Need-same-length-2
+same-length-2 c = search needs
+
+-- src/lib.rt:172:1
+returns : tie.Need-returns
+returns c =
+    let a = c .before .before .before .before .before .before .before .before .before .before .before .before .before .before .args in
+    let P = c .before .before .before .before .before .before .before .before .before .before .before .before .before .before .pre in
+    let q = c .before .before .before .before .before .before .before .before .before .take-off .result in
+    let I = c .before .before .before .before .before .operate in
+    let h : q .start ≤ length (a .work .now) = omega (arith, starts (c .before .before .before .before .before .before .before .before .before), P .1) in
+    let kept : length (I .last .1 .0) ≡ length (take (length (a .work .now) - q .start) (drop (q .start) (a .work .now))) = I .kept .1 .0 in
+    goes-operator (a .n) (a .op) (a .links .now) (a .used .now) (a .work .now) (I .last .1 .0) (a .stack) q (I .result) (c .bounded .result) (P .4) (P .0) (P .1)
+    (takes (c .before .before .before .before .before .before .before .before .before)) h (c .bounded .ensures .0) (c .bounded .ensures .1) kept (length (a .rows .now)) (P .3) (I .ensures) (P .2) (early (c .before .before .before .before .before .before .before .before .before)) (P .5 .1)
+
+pub operator-spec : {M : Type 1} → statement M
+operator-spec =
+    tie.close
+    (tie.spec
+    take-off-requires
+    mul-operate
+    sub-operate
+    part-operate-start
+    part-operate-end
+    operate-requires
+    bounded-requires
+    mul-operand
+    element-set-from-operand
+    add-next
+    add-next-2
+    same-length
+    same-length-2
+    returns)

@@ -1,0 +1,60 @@
+-- `mark` sets a bit for each record below n. The loop's invariant: those below i are set. The measure is the records left. It rests on `below-more`. Assumes
+-- nothing.
+use mathlib.Core.Path.{_≡_, refl, ap, _∙_}
+use Prim.Native.Nat.{_≤_, _-_}
+use native.Mathlib.Omega.{arith}
+use borrow.Author.Needs.{needs}
+use lib.ListN.{length}
+use Rattle.k2.specs.Bits.{bitAt}
+use Rattle.bits.specs.BitSets.{none, put}
+use Rattle.test_trees.specs.Terms.{below}
+use Rattle.test_trees.proofs.Marks.{below-none, below-more}
+use Rattle.test_trees.proofs.mark.Statement.{statement}
+use Rattle.test_trees.proofs.mark.Tie as tie
+
+abbrev Inv-loop : tie.InvT-loop
+Inv-loop used₀ n i₀ used i = (i ≤ n) × (length used ≡ length used₀) × (bitAt used₀ ≡ none → bitAt used ≡ below i)
+
+abbrev μ-loop : tie.MeasureT-loop
+μ-loop used₀ n i₀ used i = n - i
+
+loop-holds : tie.Need-loop-holds Inv-loop μ-loop
+loop-holds c = (omega arith, refl, λ e. e ∙ below-none)
+
+set-bit-requires : tie.Need-set-bit-requires Inv-loop μ-loop
+set-bit-requires c κs = omega (arith, c .before .before .loop .inv .1, c .before .before .before .before .pre .0, c .before .before .before .before .pre .1)
+
+add-i : tie.Need-add-i Inv-loop μ-loop
+add-i c = omega arith
+
+loop-less : tie.Need-loop-less Inv-loop μ-loop
+loop-less c = omega arith
+
+loop-again : tie.Need-loop-again Inv-loop μ-loop
+loop-again c =
+    let l = c .before .before .before .before .before .loop in
+    let s = c .before .before .set-bit in
+    (omega arith, s .kept .0 ∙ l .inv .1, λ e. s .ensures ∙ ap (put (l .i) 1) (l .inv .2 e) ∙ below-more (l .i))
+
+same-length : tie.Need-same-length Inv-loop μ-loop
+same-length c = search needs
+
+returns : tie.Need-returns Inv-loop μ-loop
+returns c =
+    let l = c .before .loop in
+    let e : l .i ≡ c .before .before .before .args .n = omega arith in
+    λ z. l .inv .2 z ∙ ap below e
+
+pub mark-spec : {M : Type 1} → statement M
+mark-spec =
+    tie.close
+    (tie.spec
+    Inv-loop
+    μ-loop
+    loop-holds
+    set-bit-requires
+    add-i
+    loop-less
+    loop-again
+    same-length
+    returns)

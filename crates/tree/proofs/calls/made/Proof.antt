@@ -1,0 +1,40 @@
+-- `made` has no record in use (`none-lent`, `none-tree-at`) and rows of its own. Assumes nothing.
+use mathlib.Core.Path.{refl}
+use borrow.Author.Needs.{needs}
+use lib.ListN.{length}
+use Rattle.tree.specs.Inner.{Room}
+use Rattle.tree.proofs.Ops.{none-lent, none-tree-at}
+use Rattle.tree.proofs.calls.made.Statement.{statement}
+use Rattle.tree.proofs.calls.made.Tie as tie
+
+slice-aggregate-operate : tie.Need-slice-aggregate-operate
+slice-aggregate-operate c = search needs
+
+slice-aggregate-operate-2 : tie.Need-slice-aggregate-operate-2
+slice-aggregate-operate-2 c = search needs
+
+operate-requires : tie.Need-operate-requires
+operate-requires c κs = search needs
+
+same-length : tie.Need-same-length
+same-length c = search needs
+
+returns : tie.Need-returns
+returns c =
+    let g = c .before .before .before .before .before .before .before .before .before .args in
+    let o = c .before .before .before .operate in
+    let r : Room (g .n) (g .term) (length (g .work .now)) 16 16384 = record { trees = c .before .before .before .before .before .before .before .before .before .pre; records = refl; bits = refl } in (
+      o .ensures .most,
+      λ a b l. none-tree-at (g .term) (g .n) (g .links .now) (g .work .now) a b _ _
+          (o .ensures .tree r a b (none-lent (g .term) (g .n) (g .links .now) (g .work .now) a b l)),
+    )
+
+pub made-spec : {M : Type 1} → statement M
+made-spec =
+    tie.close
+    (tie.spec
+    slice-aggregate-operate
+    slice-aggregate-operate-2
+    operate-requires
+    same-length
+    returns)

@@ -1,0 +1,121 @@
+-- `unary` hands over the first cause, or copies the tree to the front of work and has the operation done there on nothing and it. Assumes nothing.
+use mathlib.Core.Path.{_≡_, refl, sym, ap, _∙_}
+use mathlib.Core.List.{[], _∷_}
+use Prim.Native.Nat.{_*_, _≤_}
+use native.Mathlib.Omega.{arith}
+use borrow.Author.Needs.{needs}
+use lib.ListN.{length}
+use Rattle.k2.specs.PairSets.{Cells, PairsBelow}
+use Rattle.k2.specs.Trees.{treeUnit, WellFormed}
+use Rattle.k2.specs.TreeSets.{setIn}
+use Rattle.k2.specs.TreeSetLaws.{formed-set}
+use Rattle.bits.specs.BitSets.{none}
+use Rattle.rows.specs.Rows.{noPairs}
+use Rattle.packing.specs.Senses.{sensed}
+use Rattle.tree.specs.declared.operations.Operand.{Operand}
+use Rattle.tree.specs.declared.operations.Term.{Term}
+use Rattle.tree.specs.Inner.{valued, outcome}
+use Rattle.tree.specs.InnerLaws.{valued-alone}
+use Rattle.tree.specs.Calls.{treeOfOne}
+use Rattle.tree.specs.CallLaws.{one-more}
+use Rattle.tree.proofs.Answers.{as-good, refuse, accept, met, formed-most}
+use Rattle.tree.proofs.Copies.{copied-one}
+use Rattle.tree.proofs.Ops.{one-lent, one-set}
+use Rattle.tree.proofs.calls.unary.Statement.{statement}
+use Rattle.tree.proofs.calls.unary.Tie as tie
+
+-- no cause was found
+met-all : (c : tie.Else1) → (1 ≤ c .before .before .before .before .before .before .before .args .n) × (c .before .before .before .before .before .before .before .args .n ≤ 1024) × PairsBelow (c .before .before .before .before .before .before .before .args .n) []
+    × (WellFormed (c .before .before .before .before .before .before .before .args .n) (c .before .before .before .before .before .before .before .args .a .now) × WellFormed (c .before .before .before .before .before .before .before .args .n) []) × (32 * treeUnit (c .before .before .before .before .before .before .before .args .n) ≤ length (c .before .before .before .before .before .before .before .args .work .now))
+met-all c = met _ _ _ _ _ (c .before .refusal .ensures) (c .if1 .left)
+
+array-share-prefix-no-links : tie.Need-array-share-prefix-no-links
+array-share-prefix-no-links c = search needs
+
+slice-aggregate-refusal : tie.Need-slice-aggregate-refusal
+slice-aggregate-refusal c = search needs
+
+slice-aggregate-refusal-2 : tie.Need-slice-aggregate-refusal-2
+slice-aggregate-refusal-2 c = search needs
+
+refusal-requires : tie.Need-refusal-requires
+refusal-requires c κs = search needs
+
+returns : tie.Need-returns
+returns c =
+    let a = c .before .before .before .before .before .before .before .args in
+    refuse (a .n) [] (a .a .now ∷ []) (length (a .work .now)) (treeOfOne (λ x. outcome (a .operation) (a .n) none noPairs (sensed (a .sense) x)) (a .n) (a .a .now)) (a .out .now) (a .out .now) _
+    (c .before .refusal .ensures ∙ as-good (a .n) [] _ _ (length (a .work .now)) (one-more (a .n) (a .a .now))) (c .if1 .taken) refl
+
+copy-requires : tie.Need-copy-requires
+copy-requires c κs =
+    let m = met-all (c .before) in
+    omega (arith, formed-most (m .3 .0), m .4)
+
+no-operand-requires : tie.Need-no-operand-requires
+no-operand-requires c κs = search needs
+
+tree-of-requires : tie.Need-tree-of-requires
+tree-of-requires c κs = search needs
+
+array-share-prefix-no-links-2 : tie.Need-array-share-prefix-no-links-2
+array-share-prefix-no-links-2 c = search needs
+
+slice-aggregate-made : tie.Need-slice-aggregate-made
+slice-aggregate-made c = search needs
+
+made-requires : tie.Need-made-requires
+made-requires c κs =
+    let a = c .before .before .before .before .before .before .before .before .before .before .before .before .before .before .before .args in
+    let m = met-all (c .before .before .before .before .before .before .before .before) in
+    let k : length (c .before .before .before .before .before .before .copy .last .1 .0) ≡ length (a .work .now) = c .before .before .before .before .before .before .copy .kept .1 .0 in
+    let f = ap (λ (o : Operand). o .size) (c .before .before .before .no-operand .ensures) in
+    let s = ap (λ (o : Operand). o .size) (c .before .before .tree-of .ensures) in
+    record { size = m .1; first = omega (arith, f); second = omega (arith, s, formed-most (m .3 .0)); work = omega (arith, k, m .4) }
+
+settle-requires : tie.Need-settle-requires
+settle-requires c κs =
+    let k : length (c .before .before .before .before .made .last .1 .0) ≡ length (c .before .before .before .before .before .before .before .before .before .before .before .copy .last .1 .0) = c .before .before .before .before .made .kept .1 .0 in
+    omega (arith, k, c .before .before .before .before .made .ensures .0)
+
+same-length : tie.Need-same-length
+same-length c = search needs
+
+same-length-2 : tie.Need-same-length-2
+same-length-2 c = search needs
+
+returns-2 : tie.Need-returns-2
+returns-2 c =
+    let a = c .before .before .before .before .before .before .before .before .before .before .before .before .before .before .before .before .before .before .before .before .before .before .before .args in
+    let m = met-all (c .before .before .before .before .before .before .before .before .before .before .before .before .before .before .before .before) in
+    let v = m .3 .0 in
+    let e = c .before .before .before .before .before .before .before .before .before .before .before .no-operand .ensures in
+    let q = c .before .before .before .before .before .before .before .before .before .before .tree-of .ensures in
+    let t : Term = record { operation = a .operation; first = c .before .before .before .before .before .before .before .before .before .before .before .no-operand .result; second = c .before .before .before .before .before .before .before .before .before .before .tree-of .result } in
+    let l = one-lent t (a .n) [] (c .before .before .before .before .before .before .before .before .before .before .before .before .before .before .copy .last .1 .0) (v .set) e (v .is-set) (rw q (copied-one (a .a .now) (a .work .now) _ (c .before .before .before .before .before .before .before .before .before .before .before .before .before .before .copy .ensures) ∙ v .tree)) (m .2) in
+    let x : Cells = sensed (a .sense) (setIn (a .n) (a .a .now)) in
+    let y : valued [] (t .second) (v .set) ≡ x =
+    ap (λ (o : Operand). valued [] o (v .set)) q ∙ valued-alone [] (length (a .a .now)) (a .sense) (v .set) ∙ ap (sensed (a .sense)) (sym (formed-set v)) in
+    accept (a .n) [] (a .a .now ∷ []) (length (a .work .now)) (treeOfOne (λ x. outcome (a .operation) (a .n) none noPairs (sensed (a .sense) x)) (a .n) (a .a .now)) (a .out .now) _
+    (c .before .before .before .before .before .before .before .before .before .before .before .before .before .before .before .before .before .refusal .ensures ∙ as-good (a .n) [] _ _ (length (a .work .now)) (one-more (a .n) (a .a .now))) (c .before .before .before .before .before .before .before .before .before .before .before .before .before .before .before .before .if1 .left)
+    _ (c .before .before .before .before .before .before .before .made .ensures .1 noPairs (v .set) l .words ∙ one-set t (a .n) [] [] (v .set) x e y) (c .before .before .settle .ensures)
+
+pub unary-spec : {M : Type 1} → statement M
+unary-spec =
+    tie.close
+    (tie.spec
+    array-share-prefix-no-links
+    slice-aggregate-refusal
+    slice-aggregate-refusal-2
+    refusal-requires
+    returns
+    copy-requires
+    no-operand-requires
+    tree-of-requires
+    array-share-prefix-no-links-2
+    slice-aggregate-made
+    made-requires
+    settle-requires
+    same-length
+    same-length-2
+    returns-2)

@@ -1,0 +1,27 @@
+-- `load` puts in the tree and then the links. Assumes nothing.
+use mathlib.Core.Path.{ap, _∙_}
+use borrow.Author.Needs.{needs}
+use Rattle.k2.specs.PairSets.{union}
+use Rattle.rows.specs.Rows.{flat}
+use Rattle.packing.specs.Senses.{sensed}
+use Rattle.tree.proofs.Ops.{both-loaded}
+use Rattle.tree.proofs.operations.load.Statement.{statement}
+use Rattle.tree.proofs.operations.load.Tie as tie
+
+load-tree-requires : tie.Need-load-tree-requires
+load-tree-requires c κs = search needs
+
+put-links-requires : tie.Need-put-links-requires
+put-links-requires c κs = search needs
+
+same-length : tie.Need-same-length
+same-length c = search needs
+
+returns : tie.Need-returns
+returns c =
+    let g = c .before .before .before .before .before .before .before .before .before .before .before .args in
+    λ a x is e r. c .before .before .put-links .ensures (union x (sensed (g .operand .sense) a)) (c .before .before .before .before .before .before .load-tree .ensures a x is e r)
+    ∙ ap flat (both-loaded (g .links .now) (g .operand) a x)
+
+pub load-spec : {M : Type 1} → statement M
+load-spec = tie.close (tie.spec load-tree-requires put-links-requires same-length returns)

@@ -1,0 +1,60 @@
+-- `load_tree` lends a part of the work to `load`; a tree of no words is that of no pairs (`no-tree`). Assumes nothing.
+use mathlib.Core.Path.{_≡_, ap, _∙_}
+use Prim.Native.Nat.{_+_, _-_}
+use native.Mathlib.Omega.{arith}
+use borrow.Author.Needs.{needs}
+use lib.ListN.{length-take}
+use Rattle.k2.specs.SizeLaws.{treeUnit-most}
+use Rattle.rows.specs.Rows.{flat}
+use Rattle.tree.proofs.Ops.{no-tree}
+use Rattle.tree.proofs.operations.load_tree.Statement.{statement}
+use Rattle.tree.proofs.operations.load_tree.Tie as tie
+
+returns : tie.Need-returns
+returns c =
+    let g = c .before .before .before .before .args in
+    λ a x is e r. r ∙ ap flat (no-tree (g .operand .sense) (g .n) (g .operand .size) (g .at) (g .work .now) a x is (c .if1 .taken) e)
+
+add-end : tie.Need-add-end
+add-end c = search needs
+
+mul-load : tie.Need-mul-load
+mul-load c = search needs
+
+sub-load : tie.Need-sub-load
+sub-load c = search needs
+
+part-load-start : tie.Need-part-load-start
+part-load-start c = search needs
+
+part-load-end : tie.Need-part-load-end
+part-load-end c = search needs
+
+load-requires : tie.Need-load-requires
+load-requires c κs =
+    let a = c .before .before .before .before .before .before .before .args in
+    let p = c .before .before .before .before .before .before .before .pre in
+    (p .0, rw length-take (omega (arith, treeUnit-most (a .n) (p .0))), p .3)
+
+same-length : tie.Need-same-length
+same-length c = search needs
+
+returns-2 : tie.Need-returns-2
+returns-2 c =
+    let g = c .before .before .before .before .before .before .before .before .before .before .args in
+    let k : g .at + g .operand .size - g .at ≡ g .operand .size = omega arith in
+    λ a x is e r. c .before .before .load .ensures a x is (rw k e) r
+
+pub load-tree-spec : {M : Type 1} → statement M
+load-tree-spec =
+    tie.close
+    (tie.spec
+    returns
+    add-end
+    mul-load
+    sub-load
+    part-load-start
+    part-load-end
+    load-requires
+    same-length
+    returns-2)
