@@ -1,26 +1,26 @@
 -- The computed set of an expression is its relation.
---   crossed-is, crossed-letter
---                   the pairs that one step joins; for a label alone, the links of that label
+--   crossed-is, is-crossed, crossed-same
+--                   the pairs that one step joins, by the letters of a set
 --   cells-set       it is a set of pairs of records below n
 --   cells-rel, rel-cells
 --                   a cell is 1 exactly if the pair is in the relation
 --   cells-is        a cell is 1 exactly if the pair has a chain; cells-has says "not 0" for 1
 -- Assumes nothing.
-use mathlib.Core.Path.{_≡_, refl, sym, ap, _∙_, subst}
+use mathlib.Core.Path.{_≡_, refl, sym, ap, ap₂, _∙_, subst, fun-ext}
 use mathlib.Core.Logic.{_↔_, _⊎_, ⊎-elim}
-use mathlib.Core.Bool.{Bool, true, false, not, _&&_, false≢true}
+use mathlib.Core.Bool.{Bool, true, false}
 use Prim.Native.Nat.{ℕ, zero, suc, max, min, _≤_, _<_}
 use native.Mathlib.Omega.{arith}
 use native.Mathlib.Decide.{decLt}
-use lib.Dec.{eqb, ltb}
+use lib.Dec.{eqb}
 use borrow.Author.Tests.{eq-eqb, eqb-true}
 use Rattle.book.specs.Basics.{pick, bit}
-use Rattle.book.specs.SetLaws.{and-both}
+use Rattle.book.specs.Causes.{labels}
 use Rattle.k2.specs.PairSets.{Cells, IsSet, union, transpose, most, serves, product, OneOrMore, once as once-more, more, closure, diagonal}
 use Rattle.k2.specs.PairSetLaws.{one-of, bit-small, bit-on, on-bit, most-some, some-most, most-bit, most-none, union-set, product-set, transpose-set, closure-set, diagonal-set, product-middle, middle-product, closure-leads, leads-closure}
-use Rattle.paths.specs.Expressions.{Letter, Symbol, letter, standsFor, Expr, symbol, group, inverse, star, plus, optional, alternative, sequence}
+use Rattle.paths.specs.Expressions.{Letter, standsFor, Expr, symbol, group, inverse, star, plus, optional, alternative, sequence}
 use Rattle.paths.specs.Chains.{Graph, crossing, Has}
-use Rattle.paths.specs.Relations.{Rel, link, inside, swapped, left, right, joined, once, again, star-none, star-some, optional-none, optional-once, joins, crossedBy, crossed, zeroSteps, cells}
+use Rattle.paths.specs.Relations.{Rel, link, inside, swapped, left, right, joined, once, again, star-none, star-some, optional-none, optional-once, joins, crossedBy, zeroSteps, cells}
 use Rattle.paths.specs.ChainLaws.{Inside, crossing-in, crossing-label, rel-in-use, rel-has}
 
 -- ---- one step
@@ -101,36 +101,18 @@ module _ (g : Graph) (f : Letter → Bool) where
       column = λ x y h. crossed-none x y (λ u v. absurd (omega (arith, I .below y v)));
     }
 
--- a label stands for itself, plain, and for nothing else
-stands-itself : (k : ℕ) → standsFor (letter k) (record { label = k; inverted = false }) ≡ true
-unfolding standsFor
-stands-itself k = rw (eq-eqb k k refl)
+-- sets that have the same letters are crossed alike
+most-same : (n : ℕ) (f h : ℕ → ℕ) → ((l : ℕ) → l < n → f l ≡ h l) → most n f ≡ most n h
+unfolding most
+most-same zero f h e = refl
+most-same (suc n) f h e = ap₂ max (most-same n f h (λ l k. e l (omega arith))) (e n (omega arith))
 
-plain : (b : Bool) → not b ≡ true → b ≡ false
-plain true r = sym r
-plain false r = refl
-
-stands-only : (k : ℕ) (a : Letter) → standsFor (letter k) a ≡ true → a ≡ record { label = k; inverted = false }
-unfolding standsFor
-stands-only k a h =
-    let q = and-both (eqb (a .label) k) (not (a .inverted)) h in
-    let e : a .label ≡ k = eqb-true (a .label) k (q .0) in
-    let f : a .inverted ≡ false = plain (a .inverted) (q .1) in
-    λ i. record { label = e i; inverted = f i }
-
--- a label's pairs are its links
-pub crossed-letter : (g : Graph) → Inside g → (k x y : ℕ) → crossed g (letter k) x y ≡ bit (g .present (record { from = x; label = k; to = y }))
-crossed-letter g I k x y = go (g .present (record { from = x; label = k; to = y })) refl
-  where
-    go : (p : Bool) → g .present (record { from = x; label = k; to = y }) ≡ p → crossed g (letter k) x y ≡ bit p
-    go true e = is-crossed g (standsFor (letter k)) I (record { label = k; inverted = false }) x y (stands-itself k) e
-    go false e = none (decLt 0 (crossed g (letter k) x y))
-      where
-        none : Dec (0 < crossed g (letter k) x y) → crossed g (letter k) x y ≡ 0
-        none (yes h) =
-            let r = crossed-is g (standsFor (letter k)) x y h in
-            absurd (false≢true (sym e ∙ subst (λ (a : Letter). g .present (crossing a x y) ≡ true) (stands-only k (r .0) (r .1)) (r .2)))
-        none (no h) = omega arith
+pub crossed-same : (g : Graph) (f h : Letter → Bool) → ((a : Letter) → a .label < labels → f a ≡ h a) → crossedBy g f ≡ crossedBy g h
+unfolding crossedBy
+crossed-same g f h e = fun-ext (λ x. fun-ext (λ y. most-same labels _ _ (λ l k.
+    ap₂ max
+    (ap (λ (t : Bool). pick t (bit (g .present (crossing (record { label = l; inverted = false }) x y))) 0) (e (record { label = l; inverted = false }) k))
+    (ap (λ (t : Bool). pick t (bit (g .present (crossing (record { label = l; inverted = true }) x y))) 0) (e (record { label = l; inverted = true }) k)))))
 
 -- ---- zero steps
 module _ (g : Graph) where
