@@ -26,9 +26,9 @@ use Rattle.tree.specs.declared.operations.Operand.{Operand}
 use Rattle.tree.specs.Inner.{nothing, Room as Spaces, termSet, InRows}
 use Rattle.pairs.specs.declared.Stack.{Stack}
 use Rattle.pairs.specs.declared.Taken.{Taken}
-use Rattle.pairs.specs.Evaluation.{relations, allBelow, most-waiting, Waiting, Room}
+use Rattle.pairs.specs.Evaluation.{relations, allBelow, most-waiting, Ready, Waiting, Placed, Room}
 use Rattle.pairs.specs.EvaluationLaws.{begins}
-use Rattle.pairs.specs.RoomLaws.{room-begins, room-ends}
+use Rattle.pairs.specs.RoomLaws.{room-begins, room-operands, room-ends}
 use Rattle.pairs.specs.Steps.{Lettered, Takes, Goes, Coded, Going, Ends}
 use Rattle.pairs.proofs.Stepping.{rest, starts-early, lent}
 
@@ -48,6 +48,10 @@ module _ (n : ℕ) (ws used c : List ℕ) where
     pub going-room : Room (treeUnit n) (getD c i 0 ∷ drop (suc i) c) S
     going-room = subst (λ (x : List ℕ). Room (treeUnit n) x S) next-number (G .room)
 
+    -- what the next number asks, which is the item y
+    pub going-ready : {y : Item} → itemOf (getD c i 0) ≡ y → Ready y (S .count) × Placed (treeUnit n) S
+    going-ready is = (subst (λ (z : Item). Ready z (S .count)) is (room-operands going-room), going-room .placed)
+
     pub going-more : {y : Item} {work′ : List ℕ} {S′ : Stack} → itemOf (getD c i 0) ≡ y → Goes n ws used y work work′ S S′ → Going n ws used c work′ S′ (i + 1)
     going-more is g = rw add-one (record {
       room = g .room (getD c i 0) (drop (suc i) c) is going-room;
@@ -61,10 +65,6 @@ module _ (n : ℕ) (ws used c : List ℕ) where
       some : (c : List ℕ) → Room (treeUnit n) c (record { operands = replicate most-waiting nothing; count = 0; end = 0 }) → 1 ≤ length c
       some [] R = absurd (omega (arith, room-ends R))
       some (i ∷ c) R = omega arith
-
-  -- the last one
-  pub going-last : {work : List ℕ} {S : Stack} → 1 ≤ length c → Going n ws used c work S (length c - 1) → Room (treeUnit n) (getD c (length c - 1) 0 ∷ []) S
-  going-last {S = S} h G = subst (λ (x : List ℕ). Room (treeUnit n) (getD c (length c - 1) 0 ∷ x) S) (drop-of-length-le c {i = suc (length c - 1)} (omega arith)) (going-room (length c - 1) (omega arith) G)
 
   pub going-ends : {y : Item} {work : List ℕ} {S : Stack} {rows : List ℕ} → 1 ≤ length c → itemOf (getD c (length c - 1) 0) ≡ y → Going n ws used c work S (length c - 1)
       → Ends n ws used y work S rows

@@ -103,6 +103,12 @@ module _ {d : ℕ} {y : Item} {S : Stack} (P : Placed d S) (Q : Ready y (S .coun
     pub has-one : (1 ≤ S .count) × (S .count ≤ 19) × (length (S .operands) ≡ 19) × (onTop S .size ≤ S .end)
     has-one = (omega (arith, Q .found), Q .few, P .slots, top-totals .0)
 
+    -- the same of the operand on top, read with the other sense
+    pub has-turned : (1 ≤ S .count) × (S .count ≤ 19) × (length (turned S .operands) ≡ 19) × (onTop (turned S) .size ≤ S .end)
+    has-turned =
+        let h = has-one in
+        (h .0, h .1, length-set (S .operands) (S .count - 1) (flipped (onTop S)) ∙ h .2, rw (getD-set-same (S .operands) (S .count - 1) (flipped (onTop S)) nothing (omega arith)) (h .3))
+
   -- `^`
   pub takes-inverse : y ≡ Inverse → Takes d y S (takenOne Union (turned S))
   takes-inverse e =

@@ -214,11 +214,7 @@ fn step(
     match item {
         Item::Letters(forward, against) => push(stack, letters(forward, against)),
         Item::Inverse => inverse(stack),
-        Item::Star => operator(work, n, links, used, rows, stack, item),
-        Item::Plus => operator(work, n, links, used, rows, stack, item),
-        Item::Optional => operator(work, n, links, used, rows, stack, item),
-        Item::Alternative => operator(work, n, links, used, rows, stack, item),
-        Item::Sequence => operator(work, n, links, used, rows, stack, item),
+        _ => operator(work, n, links, used, rows, stack, item),
     }
 }
 

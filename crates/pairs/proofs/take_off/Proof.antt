@@ -1,105 +1,109 @@
+-- `take_off` goes by the item: how many operands it takes, and with which operation (`takes-letters`, `takes-inverse`, `takes-one`, `takes-two`). Assumes
+-- nothing.
+use mathlib.Core.Path.{_≡_, sym, ap, _∙_, subst}
+use Prim.Native.Nat.{ℕ, _≤_}
+use native.Mathlib.Omega.{arith}
 use borrow.Author.Needs.{needs}
+use Rattle.reader.specs.declared.items.Item.{Item}
+use Rattle.reader.specs.Running.{operands}
+use Rattle.tree.specs.declared.operations.Operation.the-variants.{Union, Product, Closure, Optional, Star}
+use Rattle.tree.specs.declared.operations.Operand.{Operand}
+use Rattle.pairs.specs.declared.Stack.{Stack}
+use Rattle.pairs.specs.declared.Taken.{Taken}
+use Rattle.pairs.specs.Evaluation.{takenNone, takenOne, turned}
+use Rattle.pairs.specs.EvaluationLaws.{Unary, of-star, of-plus, of-optional, Binary, of-alternative, of-sequence, unary-one}
+use Rattle.pairs.specs.Steps.{Takes}
+use Rattle.pairs.proofs.Stepping.{has-one, has-turned, has-two, takes-letters, takes-inverse, takes-one, takes-two}
 use Rattle.pairs.proofs.take_off.Statement.{statement}
 use Rattle.pairs.proofs.take_off.Tie as tie
-use Rattle.pairs.proofs.take_off.Reads as reads
-use Rattle.pairs.proofs.take_off.Lts as lts
-use Rattle.pairs.proofs.inverse.Reads as inverse-reads
-use Rattle.pairs.proofs.letters.Reads as letters-reads
-use Rattle.pairs.proofs.on_one.Reads as on-one-reads
-use Rattle.pairs.proofs.on_two.Reads as on-two-reads
-use Rattle.tree.proofs.no_operand.Reads as no-operand-reads
 
--- src/lib.rt:146:23
 enum-known-item : tie.Need-enum-known-item
 enum-known-item c = search needs
 
--- src/lib.rt:149:24
 no-operand-requires : tie.Need-no-operand-requires
 no-operand-requires c κs = search needs
 
--- src/lib.rt:150:25
 letters-requires : tie.Need-letters-requires
 letters-requires c κs = search needs
 
--- src/lib.rt:158:33
 enum-told : tie.Need-enum-told
 enum-told c = search needs
 
--- src/lib.rt:158:33
+-- `^` has an operand
+inverts : (c : tie.After-enum-told) → 1 ≤ operands (c .before .before .args .item)
+inverts c = let o : operands (c .before .before .args .item) ≡ 1 = ap operands (c .enum-told .given .1) in omega arith
+
 inverse-requires : tie.Need-inverse-requires
-inverse-requires c κs = ?
+inverse-requires c κs = let h = has-one (c .before .before .pre .1 .1) (c .before .before .pre .0) (inverts c) in (h .0, h .1, h .2)
 
--- src/lib.rt:158:26
 on-one-requires : tie.Need-on-one-requires
-on-one-requires c κs = ?
+on-one-requires c κs = rw (c .inverse .ensures) (has-turned (c .before .before .before .pre .1 .1) (c .before .before .before .pre .0) (inverts (c .before)))
 
--- src/lib.rt:159:37
 enum-told-2 : tie.Need-enum-told-2
 enum-told-2 c = search needs
 
--- src/lib.rt:159:23
-on-one-requires-2 : tie.Need-on-one-requires-2
-on-one-requires-2 c κs = ?
+is-star : (c : tie.After-enum-told2) → Unary (c .before .before .args .item) Star
+is-star c = subst (λ (y : Item). Unary y Star) (sym (c .enum-told2 .given .1)) of-star
 
--- src/lib.rt:160:37
+on-one-requires-2 : tie.Need-on-one-requires-2
+on-one-requires-2 c κs = has-one (c .before .before .pre .1 .1) (c .before .before .pre .0) (let o = unary-one (is-star c) in omega arith)
+
 enum-told-3 : tie.Need-enum-told-3
 enum-told-3 c = search needs
 
--- src/lib.rt:160:23
-on-one-requires-3 : tie.Need-on-one-requires-3
-on-one-requires-3 c κs = ?
+is-plus : (c : tie.After-enum-told3) → Unary (c .before .before .args .item) Closure
+is-plus c = subst (λ (y : Item). Unary y Closure) (sym (c .enum-told3 .given .1)) of-plus
 
--- src/lib.rt:161:41
+on-one-requires-3 : tie.Need-on-one-requires-3
+on-one-requires-3 c κs = has-one (c .before .before .pre .1 .1) (c .before .before .pre .0) (let o = unary-one (is-plus c) in omega arith)
+
 enum-told-4 : tie.Need-enum-told-4
 enum-told-4 c = search needs
 
--- src/lib.rt:161:27
-on-one-requires-4 : tie.Need-on-one-requires-4
-on-one-requires-4 c κs = ?
+is-optional : (c : tie.After-enum-told4) → Unary (c .before .before .args .item) Optional
+is-optional c = subst (λ (y : Item). Unary y Optional) (sym (c .enum-told4 .given .1)) of-optional
 
--- src/lib.rt:162:44
+on-one-requires-4 : tie.Need-on-one-requires-4
+on-one-requires-4 c κs = has-one (c .before .before .pre .1 .1) (c .before .before .pre .0) (let o = unary-one (is-optional c) in omega arith)
+
 enum-told-5 : tie.Need-enum-told-5
 enum-told-5 c = search needs
 
--- src/lib.rt:162:30
-on-two-requires : tie.Need-on-two-requires
-on-two-requires c κs = ?
+is-alternative : (c : tie.After-enum-told5) → Binary (c .before .before .args .item) Union
+is-alternative c = subst (λ (y : Item). Binary y Union) (sym (c .enum-told5 .given .1)) of-alternative
 
--- src/lib.rt:163:41
+on-two-requires : tie.Need-on-two-requires
+on-two-requires c κs = has-two (c .before .before .pre .1 .1) (c .before .before .pre .0) (is-alternative c)
+
 enum-told-6 : tie.Need-enum-told-6
 enum-told-6 c = search needs
 
--- src/lib.rt:163:27
+is-sequence : (c : tie.After-enum-told6) → Binary (c .before .before .args .item) Product
+is-sequence c = subst (λ (y : Item). Binary y Product) (sym (c .enum-told6 .given .1)) of-sequence
+
 on-two-requires-2 : tie.Need-on-two-requires-2
-on-two-requires-2 c κs = ?
+on-two-requires-2 c κs = has-two (c .before .before .pre .1 .1) (c .before .before .pre .0) (is-sequence c)
 
--- src/lib.rt:141:1
 returns : tie.Need-returns
-returns c = ?
+returns c = λ d P. rw (c .before .no-operand .ensures, c .letters .ensures) (takes-letters P (c .before .before .before .before .before .pre .0) _ _ (c .before .before .before .item .given .1))
 
--- src/lib.rt:141:1
 returns-2 : tie.Need-returns-2
-returns-2 c = ?
+returns-2 c = λ d P. rw (c .on-one .ensures, c .before .inverse .ensures) (takes-inverse P (c .before .before .before .before .pre .0) (c .before .before .enum-told .given .1))
 
--- src/lib.rt:141:1
 returns-3 : tie.Need-returns-3
-returns-3 c = ?
+returns-3 c = λ d P. rw (c .on-one2 .ensures) (takes-one P (c .before .before .before .pre .0) (is-star (c .before)))
 
--- src/lib.rt:141:1
 returns-4 : tie.Need-returns-4
-returns-4 c = ?
+returns-4 c = λ d P. rw (c .on-one3 .ensures) (takes-one P (c .before .before .before .pre .0) (is-plus (c .before)))
 
--- src/lib.rt:141:1
 returns-5 : tie.Need-returns-5
-returns-5 c = ?
+returns-5 c = λ d P. rw (c .on-one4 .ensures) (takes-one P (c .before .before .before .pre .0) (is-optional (c .before)))
 
--- src/lib.rt:141:1
 returns-6 : tie.Need-returns-6
-returns-6 c = ?
+returns-6 c = λ d P. rw (c .on-two .ensures) (takes-two P (c .before .before .before .pre .0) (is-alternative (c .before)))
 
--- src/lib.rt:141:1
 returns-7 : tie.Need-returns-7
-returns-7 c = ?
+returns-7 c = λ d P. rw (c .on-two2 .ensures) (takes-two P (c .before .before .before .pre .0) (is-sequence (c .before)))
 
 pub take-off-spec : {M : Type 1} → statement M
 take-off-spec =
