@@ -71,8 +71,9 @@ uint64_t dating_tree_intersection(size_t n, const uint64_t *a, size_t a_len, con
                                   uint64_t *work, size_t work_len);
 uint64_t dating_tree_difference(size_t n, const uint64_t *a, size_t a_len, const uint64_t *b, size_t b_len, uint64_t *out, size_t out_len,
                                 uint64_t *work, size_t work_len);
-uint64_t dating_tree_product(size_t n, const uint64_t *a, size_t a_len, const uint64_t *b, size_t b_len, uint64_t *out, size_t out_len,
-                             uint64_t *work, size_t work_len);
+/* Each operand is read with its sense: 0 plain, any other with its pairs exchanged. */
+uint64_t dating_tree_product(size_t n, const uint64_t *a, size_t a_len, uint8_t a_sense, const uint64_t *b, size_t b_len, uint8_t b_sense,
+                             uint64_t *out, size_t out_len, uint64_t *work, size_t work_len);
 uint64_t dating_tree_transpose(size_t n, const uint64_t *a, size_t a_len, uint64_t *out, size_t out_len, uint64_t *work, size_t work_len);
 uint64_t dating_tree_closure(size_t n, const uint64_t *a, size_t a_len, uint64_t *out, size_t out_len, uint64_t *work, size_t work_len);
 

@@ -133,8 +133,10 @@ extern "C" {
         n: usize,
         a: *const u64,
         a_len: usize,
+        a_sense: u8,
         b: *const u64,
         b_len: usize,
+        b_sense: u8,
         out: *mut u64,
         out_len: usize,
         work: *mut u64,
@@ -286,9 +288,22 @@ pub fn tree_difference(n: usize, a: &[u64], b: &[u64], out: &mut [u64], work: &m
     }
 }
 
-pub fn tree_product(n: usize, a: &[u64], b: &[u64], out: &mut [u64], work: &mut [u64]) -> u64 {
+/// Each operand is read with its sense: 0 plain, any other inverted.
+pub fn tree_product(n: usize, a: &[u64], a_sense: u8, b: &[u64], b_sense: u8, out: &mut [u64], work: &mut [u64]) -> u64 {
     unsafe {
-        dating_tree_product(n, a.as_ptr(), a.len(), b.as_ptr(), b.len(), out.as_mut_ptr(), out.len(), work.as_mut_ptr(), work.len())
+        dating_tree_product(
+            n,
+            a.as_ptr(),
+            a.len(),
+            a_sense,
+            b.as_ptr(),
+            b.len(),
+            b_sense,
+            out.as_mut_ptr(),
+            out.len(),
+            work.as_mut_ptr(),
+            work.len(),
+        )
     }
 }
 

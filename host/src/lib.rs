@@ -40,4 +40,4 @@ pub use items::{Link, Links, Pairs, Step, Steps};
 pub use refusal::Refusal;
 pub use register::Register;
 pub use space::{chain_work, longest_chain, most_pairs, tree_words, tree_work};
-pub use tree::{Tree, Trees};
+pub use tree::{Sense, Tree, Trees};

@@ -20,6 +20,13 @@ impl Tree {
     }
 }
 
+/// How an operand is read: as it is, or with its pairs exchanged.
+#[derive(Clone, Copy, Debug, PartialEq, Eq, Hash)]
+pub enum Sense {
+    Plain = 0,
+    Inverted = 1,
+}
+
 /// The operations on trees of pairs below n, with the space that they need: for n = 1,024, 5.8 MB, and 4.2 MB for a list.
 ///
 /// ```
@@ -80,7 +87,23 @@ impl Trees {
 
     /// The pairs (x, z) with (x, y) in the first and (y, z) in the second for some y.
     pub fn product(&mut self, a: &Tree, b: &Tree) -> Result<Tree, Refusal> {
-        self.of_two(calls::tree_product, a, b)
+        self.product_sensed(a, Sense::Plain, b, Sense::Plain)
+    }
+
+    /// The product of the operands as they are read: of the transpose of each that is inverted, which is not written.
+    ///
+    /// ```
+    /// use dating::Sense::{Inverted, Plain};
+    /// let mut trees = dating::Trees::below(4)?;
+    /// let parents = trees.make([(0, 2), (1, 2), (2, 3)])?;
+    /// let siblings = trees.product_sensed(&parents, Plain, &parents, Inverted)?;
+    /// assert_eq!(trees.list(&siblings)?.collect::<Vec<_>>(), [(0, 0), (0, 1), (1, 0), (1, 1), (2, 2)]);
+    /// # Ok::<(), dating::Refusal>(())
+    /// ```
+    pub fn product_sensed(&mut self, a: &Tree, a_sense: Sense, b: &Tree, b_sense: Sense) -> Result<Tree, Refusal> {
+        let senses = (a_sense as u8, b_sense as u8);
+        let count = counted(calls::tree_product(self.n.into(), &a.0, senses.0, &b.0, senses.1, &mut self.tree, &mut self.work))?;
+        Ok(self.made(count))
     }
 
     /// Each pair exchanged.

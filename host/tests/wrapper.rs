@@ -1,6 +1,6 @@
 //! The wrapper over the engine: the cases of S8.1 through ordinary types, and what is refused.
 
-use dating::{Link, Refusal, Register, Tree, Trees};
+use dating::{Link, Refusal, Register, Sense, Tree, Trees};
 
 /// The links of the cases of S8.1.
 fn cases() -> Result<Register, Refusal> {
@@ -101,6 +101,9 @@ fn trees() {
     assert_eq!(list(other.intersection(&a, &b)), [(0, 1)]);
     assert_eq!(list(other.difference(&a, &b)), [(1, 2)]);
     assert_eq!(list(other.product(&a, &b)), [(1, 0)]);
+    assert_eq!(list(other.product_sensed(&a, Sense::Plain, &b, Sense::Inverted)), [(0, 0)]);
+    assert_eq!(list(other.product_sensed(&a, Sense::Inverted, &b, Sense::Plain)), [(1, 1)]);
+    assert_eq!(list(other.product_sensed(&a, Sense::Inverted, &b, Sense::Inverted)), [(1, 2), (2, 0)]);
     assert_eq!(list(other.transpose(&a)), [(1, 0), (2, 1)]);
     assert_eq!(list(other.closure(&a)), [(0, 1), (0, 2), (1, 2)]);
     assert_eq!(trees.make([(0, 4)]), Err(Refusal::Record));

@@ -1,4 +1,5 @@
 -- The index of the arcs by a record: the arcs of each record, one after another.
+--   indexWords      the words of an index: one for each record, and one for each arc
 --   keyAt cs b j    the record by which arc j is indexed: the one reached if b is 0, the one left if it is 10
 --   firstArc ix r   the first arc of the record r, and nextArc ix j the one after arc j; each time an arc's number and 1, or 0 for none
 --   Cursor key k r p
@@ -10,6 +11,9 @@ use mathlib.Core.Path.{_≡_}
 use mathlib.Core.List.{List}
 use Prim.Native.Nat.{ℕ, _+_, _-_, _/_, _%_, _^_, _<_, _≤_}
 use lib.ListN.{getD}
+
+abbrev pub indexWords : ℕ
+indexWords = 9216
 
 unfoldable pub keyAt : List ℕ → ℕ → ℕ → ℕ
 keyAt cs b j = getD cs j 0 / 2 ^ b % 1024

@@ -3,44 +3,44 @@ ghost use mathlib.Core.Path.{_≡_};
 ghost use Prim.Native.Nat.{_*_, _<_, _≤_};
 ghost use lib.ListN.{length};
 ghost use Rattle.book.specs.Causes.{maxRecords, maxLinks};
-ghost use Rattle.arcs.specs.Arcs.{arcOf, arcFrom, arcTo, Crossings};
-ghost use Rattle.arcs.specs.Index.{keyAt, firstArc, nextArc, Indexed};
+ghost use Rattle.arcs.specs.Arcs.{maxArcs, arcOf, arcFrom, arcTo, Crossings};
+ghost use Rattle.arcs.specs.Index.{indexWords, keyAt, firstArc, nextArc, Indexed};
+
+// Each link may be crossed in two senses.
+pub const MAX_ARCS: usize = 2 * book::MAX_LINKS;
+
+// An index has a word for each record, then one for each arc.
+pub const INDEX_WORDS: usize = book::MAX_RECORDS + MAX_ARCS;
 
 // The word of a link crossed, forward or against its sense.
-fn arc(w: u32, sense: u32) -> u32
-    ensures { λ r. ⌜ r ≡ arcOf w sense ⌝ }
+fn arc(link: u32, sense: u32) -> u32
+    ensures { λ r. ⌜ r ≡ arcOf link sense ⌝ }
 {
-    let label = w / 1048576 % 32;
-    let from = w / 1024 % 1024;
-    let to = w % 1024;
+    let label = link / 1048576 % 32;
+    let from = link / 1024 % 1024;
+    let to = link % 1024;
     if sense == 0 {
         return (label * 2 * 1024 + from) * 1024 + to;
     }
     ((label * 2 + 1) * 1024 + to) * 1024 + from
 }
 
-pub struct Arcs {
-    pub words: [u32; 8192],
-    pub count: usize,
-}
-
-// The crossings that can be of use: each of the first `count` links, in each sense whose letter enters a state.
-pub fn arcs_of(links: &[u32], count: usize, enter: &[u64]) -> Arcs
-    requires { ⌜ (count ≤ length (now links)) × (count ≤ maxLinks) × (length (now enter) ≡ 64) ⌝ }
-    ensures { λ r. ⌜ (r .count ≤ 8192) × Crossings (now (links .entry)) (now (enter .entry)) (2 * count) (r .words) (r .count) ⌝ }
+// The crossings that can be of use, into `arcs`: each link in each sense whose letter enters a state. How many are they?
+pub fn arcs_of(links: &[u32], enter: &[u64], arcs: &mut [u32]) -> usize
+    requires { ⌜ (length (now links) ≤ maxLinks) × (length (now enter) ≡ 64) × (length (now arcs) ≡ maxArcs) ⌝ }
+    ensures { λ r. ⌜ (r ≤ maxArcs) × Crossings (now (links .entry)) (now (enter .entry)) (2 * length (now (links .entry))) (now (arcs .exit)) r ⌝ }
 {
-    let mut words = [0u32; 8192];
-    let mut k = 0;
+    let mut count = 0;
     let mut j = 0;
-    while j < 2 * count {
-        let a = arc(links[j / 2], (j % 2) as u32);
-        if enter[(a / 1048576) as usize] != 0 {
-            words[k] = a;
-            k += 1;
+    while j < 2 * links.len() {
+        let crossed = arc(links[j / 2], (j % 2) as u32);
+        if enter[(crossed / 1048576) as usize] != 0 {
+            arcs[count] = crossed;
+            count += 1;
         }
         j += 1;
     }
-    Arcs { words, count: k }
+    count
 }
 
 // The lowest bit, in an arc's word, of the record reached and of the record left.
@@ -50,40 +50,40 @@ const LEFT: u32 = 10;
 
 // The arcs by the record whose bits begin at `key`: at r the last arc of the record r, at 1,024 + j the one before arc j of the same record, each
 // time its number and 1, or 0 for none.
-fn index_of(arcs: &[u32], count: usize, key: u32) -> [u16; 9216]
-    requires { ⌜ (count ≤ length (now arcs)) × (count ≤ 8192) × (key ≤ 10) ⌝ }
-    ensures { λ r. ⌜ Indexed (keyAt (now (arcs .entry)) key) count r ⌝ }
+fn index_of(arcs: &[u32], key: u32) -> [u16; INDEX_WORDS]
+    requires { ⌜ (length (now arcs) ≤ maxArcs) × (key ≤ 10) ⌝ }
+    ensures { λ r. ⌜ Indexed (keyAt (now (arcs .entry)) key) (length (now (arcs .entry))) r ⌝ }
 {
-    let mut index = [0u16; 9216];
+    let mut index = [0u16; INDEX_WORDS];
     let mut j = 0;
-    while j < count {
-        let r = ((arcs[j] >> key) % 1024) as usize;
-        index[1024 + j] = index[r];
-        index[r] = (j + 1) as u16;
+    while j < arcs.len() {
+        let record = ((arcs[j] >> key) % 1024) as usize;
+        index[book::MAX_RECORDS + j] = index[record];
+        index[record] = (j + 1) as u16;
         j += 1;
     }
     index
 }
 
 // The arcs by the record reached.
-pub fn index_by_reached(arcs: &[u32], count: usize) -> [u16; 9216]
-    requires { ⌜ (count ≤ length (now arcs)) × (count ≤ 8192) ⌝ }
-    ensures { λ r. ⌜ Indexed (arcTo (now (arcs .entry))) count r ⌝ }
+pub fn index_by_reached(arcs: &[u32]) -> [u16; INDEX_WORDS]
+    requires { ⌜ length (now arcs) ≤ maxArcs ⌝ }
+    ensures { λ r. ⌜ Indexed (arcTo (now (arcs .entry))) (length (now (arcs .entry))) r ⌝ }
 {
-    index_of(arcs, count, REACHED)
+    index_of(arcs, REACHED)
 }
 
 // The arcs by the record left.
-pub fn index_by_left(arcs: &[u32], count: usize) -> [u16; 9216]
-    requires { ⌜ (count ≤ length (now arcs)) × (count ≤ 8192) ⌝ }
-    ensures { λ r. ⌜ Indexed (arcFrom (now (arcs .entry))) count r ⌝ }
+pub fn index_by_left(arcs: &[u32]) -> [u16; INDEX_WORDS]
+    requires { ⌜ length (now arcs) ≤ maxArcs ⌝ }
+    ensures { λ r. ⌜ Indexed (arcFrom (now (arcs .entry))) (length (now (arcs .entry))) r ⌝ }
 {
-    index_of(arcs, count, LEFT)
+    index_of(arcs, LEFT)
 }
 
 // The first arc of the record r: its number and 1, or 0 for none.
 pub fn first_arc(index: &[u16], r: usize) -> usize
-    requires { ⌜ (length (now index) ≡ 9216) × (r < maxRecords) ⌝ }
+    requires { ⌜ (length (now index) ≡ indexWords) × (r < maxRecords) ⌝ }
     ensures { λ p. ⌜ p ≡ firstArc (now (index .entry)) r ⌝ }
 {
     index[r] as usize
@@ -91,8 +91,8 @@ pub fn first_arc(index: &[u16], r: usize) -> usize
 
 // The arc after arc j of the same record: its number and 1, or 0 for none.
 pub fn next_arc(index: &[u16], j: usize) -> usize
-    requires { ⌜ (length (now index) ≡ 9216) × (j < 8192) ⌝ }
+    requires { ⌜ (length (now index) ≡ indexWords) × (j < maxArcs) ⌝ }
     ensures { λ p. ⌜ p ≡ nextArc (now (index .entry)) j ⌝ }
 {
-    index[1024 + j] as usize
+    index[book::MAX_RECORDS + j] as usize
 }

@@ -15,6 +15,7 @@ ghost use Rattle.search.specs.Steps.{Untouched, Answered};
 ghost use Rattle.chains.specs.Replies.{Replies};
 use reader::Answer;
 use register::Register;
+use search::Ends;
 use search::Found;
 
 // The number of steps, which the list has; no chain of any length; or the number of a cause.
@@ -28,30 +29,26 @@ pub enum ChainAnswer {
 fn sought(
     links: &[u32],
     count: usize,
-    n: usize,
     numbers: &[u64],
-    x: usize,
-    y: usize,
+    ends: Ends,
     work: &mut [u64],
     list: &mut [u32],
 ) -> Found
-    requires { ⌜ (count ≤ length (now links)) × (count ≤ maxLinks) × (n ≤ maxRecords) × (x < n) × (y < n) × (n * 64 ≤ length (now work)) × ((text : List ℕ) × (e : Expr) × InLimits text e × (now numbers ≡ code e)) ⌝ }
-    ensures { λ r. ⌜ Untouched (now (list .entry)) (now (list .exit)) r × ((text : List ℕ) (e : Expr) → InLimits text e → now (numbers .entry) ≡ code e → (g : Graph) → g .n ≡ n → Inside g → Spans (now (links .entry)) count g → g .inUse x ≡ true → g .inUse y ≡ true → Answered g e x y (now (list .entry)) (now (list .exit)) r) ⌝ }
+    requires { ⌜ (count ≤ length (now links)) × (count ≤ maxLinks) × (ends .n ≤ maxRecords) × (ends .from < ends .n) × (ends .to < ends .n) × (ends .n * 64 ≤ length (now work)) × ((text : List ℕ) × (e : Expr) × InLimits text e × (now numbers ≡ code e)) ⌝ }
+    ensures { λ r. ⌜ Untouched (now (list .entry)) (now (list .exit)) r × ((text : List ℕ) (e : Expr) → InLimits text e → now (numbers .entry) ≡ code e → (g : Graph) → g .n ≡ ends .n → Inside g → Spans (now (links .entry)) count g → g .inUse (ends .from) ≡ true → g .inUse (ends .to) ≡ true → Answered g e (ends .from) (ends .to) (now (list .entry)) (now (list .exit)) r) ⌝ }
 {
-    let t = tables::tables_of(numbers);
-    let follow = t.follow;
-    let pred = t.pred;
-    let enter = t.enter;
+    let tables = tables::tables_of(numbers);
+    let follow = tables.follow;
+    let predecessors = tables.pred;
+    let enter = tables.enter;
+    let accepting = tables.accepting;
     search::first_chain(
-        links,
-        count,
-        n,
+        &links[0..count],
         &follow,
-        &pred,
+        &predecessors,
         &enter,
-        t.finals,
-        x,
-        y,
+        accepting,
+        ends,
         work,
         list,
     )
@@ -87,7 +84,8 @@ pub fn chain(
                 return ChainAnswer::Refused(book::SHORT_WORK);
             }
             let links = register.links();
-            let found = sought(&links.words, links.count, n, &code[0..k], x, y, work, list);
+            let ends = Ends { n, from: x, to: y };
+            let found = sought(&links.words, links.count, &code[0..k], ends, work, list);
             match found {
                 Found::Steps(steps) => ChainAnswer::Chain(steps),
                 Found::Nowhere => ChainAnswer::NoChain,

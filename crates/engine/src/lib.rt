@@ -4,11 +4,11 @@ ghost use mathlib.Core.Path.{_≡_};
 ghost use mathlib.Core.List.{[], _∷_};
 ghost use lib.ListN.{length};
 ghost use Rattle.book.specs.Book.{add, remove, lock, unlock, edit, undo};
-ghost use Rattle.k2.specs.PairSets.{union, intersection, difference, product, transpose, closure};
-ghost use Rattle.tree.specs.Calls.{Answered, treeOf, listOf, treeOfOne, treeOfTwo};
+ghost use Rattle.k2.specs.PairSets.{union, intersection, difference, transpose, closure};
+ghost use Rattle.tree.specs.Calls.{productSensed, Answered, treeOf, listOf, treeOfOne, treeOfTwo};
 ghost use Rattle.register.specs.Calls.{callOf, Opens, Steps};
 ghost use Rattle.register.specs.Questions.{Sized, Listing, Locking};
-ghost use Rattle.pairs.specs.Asking.{AsksPairs};
+ghost use Rattle.pairs.specs.Asking.{AsksPairs, Relates};
 ghost use Rattle.chains.specs.Replies.{Replies};
 ghost use Rattle.engine.specs.Inquiries.{Inquires};
 use chains::ChainAnswer;
@@ -96,6 +96,13 @@ pub fn pairs(register: Register, text: &[u8], work: &mut [u64], list: &mut [u32]
     pairs::pairs(register, text, work, list)
 }
 
+// The relation of an expression as rows of bits: bit from * 1024 + to of the first 16,384 words is 1 if the pair has a chain. The number of pairs is told.
+pub fn relation(register: Register, text: &[u8], work: &mut [u64], rows: &mut [u64]) -> PairsAnswer
+    ensures { λ a. ⌜ Relates register (now (text .entry)) (length (now (work .entry))) (now (rows .entry)) (now (rows .exit)) a ⌝ }
+{
+    pairs::relation(register, text, work, rows)
+}
+
 // The first chain of an expression between two records.
 pub fn chain(
     register: Register,
@@ -162,18 +169,20 @@ pub fn tree_difference(
     tree::difference(n, a, b, out, work)
 }
 
-// The tree of the product: the pairs for which some middle record serves.
+// The tree of the product, each operand read with its sense: the pairs for which some middle record serves.
 pub fn tree_product(
     n: usize,
     a: &[u64],
+    a_sense: tree::Sense,
     b: &[u64],
+    b_sense: tree::Sense,
     out: &mut [u64],
     work: &mut [u64],
 ) -> tree::Answer
     ensures { λ r. ⌜ Answered n [] (now (a .entry) ∷ now (b .entry) ∷ []) (length (now (work .entry)))
-        (treeOfTwo (product n) n (now (a .entry)) (now (b .entry))) (now (out .entry)) (now (out .exit)) r ⌝ }
+        (treeOfTwo (productSensed n «a_sense» «b_sense») n (now (a .entry)) (now (b .entry))) (now (out .entry)) (now (out .exit)) r ⌝ }
 {
-    tree::product(n, a, b, out, work)
+    tree::product(n, a, a_sense, b, b_sense, out, work)
 }
 
 // The tree of the pairs exchanged.

@@ -6,8 +6,8 @@ ghost use mathlib.Core.List.{[], _∷_};
 ghost use Prim.Native.Nat.{_<_};
 ghost use lib.ListN.{length};
 ghost use Rattle.book.specs.Book.{add, remove, lock, unlock, edit as Book·edit, undo};
-ghost use Rattle.k2.specs.PairSets.{union, intersection, difference, product, transpose, closure};
-ghost use Rattle.tree.specs.Calls.{Answered, treeOf, listOf, treeOfOne, treeOfTwo};
+ghost use Rattle.k2.specs.PairSets.{union, intersection, difference, transpose, closure};
+ghost use Rattle.tree.specs.Calls.{senseOf, productSensed, Answered, treeOf, listOf, treeOfOne, treeOfTwo};
 ghost use Rattle.register.specs.Calls.{callOf};
 ghost use Rattle.pairs.specs.Asking.{AsksPairs};
 ghost use Rattle.chains.specs.Replies.{Replies};
@@ -306,18 +306,22 @@ pub extern "C" fn dating_tree_difference(
     told_tree(engine::tree_difference(n, a, b, out, work))
 }
 
-// The tree of the product: the pairs for which some middle record serves.
+// The tree of the product, each operand read with its sense, 0 plain and any other inverted: the pairs for which some middle record serves.
 #[no_mangle]
 pub extern "C" fn dating_tree_product(
     n: usize,
     a: &[u64],
+    a_sense: u8,
     b: &[u64],
+    b_sense: u8,
     out: &mut [u64],
     work: &mut [u64],
 ) -> u64
-    ensures { λ k. ⌜ Told (Answered n [] (now (a .entry) ∷ now (b .entry) ∷ []) (length (now (work .entry))) (treeOfTwo (product n) n (now (a .entry)) (now (b .entry))) (now (out .entry)) (now (out .exit))) toldTree k ⌝ }
+    ensures { λ k. ⌜ Told (Answered n [] (now (a .entry) ∷ now (b .entry) ∷ []) (length (now (work .entry))) (treeOfTwo (productSensed n (senseOf «a_sense») (senseOf «b_sense»)) n (now (a .entry)) (now (b .entry))) (now (out .entry)) (now (out .exit))) toldTree k ⌝ }
 {
-    told_tree(engine::tree_product(n, a, b, out, work))
+    let s = tree::sense_of(a_sense);
+    let t = tree::sense_of(b_sense);
+    told_tree(engine::tree_product(n, a, s, b, t, out, work))
 }
 
 // The tree of the pairs exchanged.

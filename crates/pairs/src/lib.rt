@@ -350,8 +350,8 @@ pub fn relation(
     match related {
         Related::Refused(k) => PairsAnswer::Refused(k),
         Related::Rows(n) => {
-            let total = rows::count_pairs(&rows[..16384], n);
-            PairsAnswer::Pairs(total)
+            let found = rows::count_pairs(&rows[..16384], n);
+            PairsAnswer::Pairs(found)
         }
     }
 }

@@ -5,8 +5,8 @@ use Prim.Native.Nat.{ℕ, _+_, _≤_, _<_, min}
 use native.Mathlib.Omega.{arith}
 use native.Mathlib.Decide.{ℕ-discrete}
 use lib.Bits.{bitOr}
-use lib.ListN.{length, getD, set, replicate, getD-replicate}
-use lib.Seq.{getD-set-same, getD-set-other}
+use lib.ListN.{length, getD, set, take, replicate, getD-replicate}
+use lib.Seq.{getD-set-same, getD-set-other, getD-take, length-take-le}
 use Rattle.k2.specs.Bits.{digit, onesBelow}
 use Rattle.k2.specs.BitLaws.{ones-le}
 use Rattle.k2.specs.DigitLaws.{digit-none, digit-or}
@@ -124,6 +124,19 @@ module _ {list : List ℕ} {c n : ℕ} {nx : List ℕ} (I : Listed list c n nx) 
             let y : 0 < getD nx r 0 = rw z at (listed-some I i (omega arith)) in
             omega arith
         ap′ i j l h (more f) e = omega arith
+
+-- ---- the records listed, alone
+pub listed-take : {list : List ℕ} {c n : ℕ} {nx : List ℕ} → Listed list c n nx → c ≤ length list → Listed (take c list) (length (take c list)) n nx
+listed-take {list} {c} I h = rw (length-take-le c list h) (record {
+  small = λ i l. rw (same-at i l) (I .small i l);
+  some = λ i l. rw (same-at i l) (I .some i l);
+  all = λ r o. (let z = I .all r o in (z .0, z .1, same-at (z .0) (z .1) ∙ z .2));
+  apart = λ i j l g e. I .apart i j l g (sym (same-at i (omega arith)) ∙ e ∙ same-at j g);
+  room = I .room;
+})
+  where
+    same-at : (i : ℕ) → i < c → getD (take c list) i 0 ≡ getD list i 0
+    same-at i l = getD-take c list i 0 l
 
 -- ---- an empty list
 pub none-listed : {list : List ℕ} {c n : ℕ} {nx : List ℕ} → Listed list c n nx → c ≡ 0 → Zero nx

@@ -80,49 +80,49 @@ module _ {w : List ℕ} {n a m d left r k left′ : ℕ} (I : Kept w n a m d lef
       al q h o f (inr e) = let z : On (digit (2 ^ k) q) = rw e (bit-at k) in omega arith
 
 -- ---- the smallest step
-pub chosen-none : (cs es w seen : List ℕ) (n r fo d k : ℕ) → Chosen cs es w seen n r fo d k k 65536 0
-chosen-none cs es w seen n r fo d k = record { from = λ q o. absurd (none-on q o); all = λ j q h g. absurd (omega arith); some = λ h. absurd (omega arith); top = omega arith }
+pub chosen-none : (cs es w seen : List ℕ) (n r follows d k : ℕ) → Chosen cs es w seen n r follows d k k 65536 0
+chosen-none cs es w seen n r follows d k = record { from = λ q o. absurd (none-on q o); all = λ j q h g. absurd (omega arith); some = λ h. absurd (omega arith); top = omega arith }
 
 pub arc-small : (cs : List ℕ) (j : ℕ) → (arcLetter cs j < 64) × (arcTo cs j < 1024)
 unfolding arcLetter arcTo
 arc-small cs j = (omega arith, omega arith)
 
-module _ {cs es w seen : List ℕ} {n r fo d k p word states : ℕ} (I : Chosen cs es w seen n r fo d k p word states) where
+module _ {cs es w seen : List ℕ} {n r follows d k p word states : ℕ} (I : Chosen cs es w seen n r follows d k p word states) where
   -- arcs before p, if none of them is of the record
-  pub chosen-first : {u : ℕ} → u ≤ p → ((j : ℕ) → j < k → arcFrom cs j ≡ r → u ≤ j → p ≤ j) → Chosen cs es w seen n r fo d k u word states
+  pub chosen-first : {u : ℕ} → u ≤ p → ((j : ℕ) → j < k → arcFrom cs j ≡ r → u ≤ j → p ≤ j) → Chosen cs es w seen n r follows d k u word states
   chosen-first lo h = record { from = λ q o. (let g = I .from q o in (g .0, g .1, g .2, g .3, omega (arith, g .4))); all = λ j q l g s. I .all j q l (h j l (s .from) g) s; some = I .some; top = I .top }
 
-module _ {cs es w seen : List ℕ} {n r fo d k p word states : ℕ} (I : Chosen cs es w seen n r fo d k p word states)
+module _ {cs es w seen : List ℕ} {n r follows d k p word states : ℕ} (I : Chosen cs es w seen n r follows d k p word states)
     {m u : ℕ} (hm : m < k) (hp : m < p) (hu : u ≤ m) (only : (j : ℕ) → j < k → arcFrom cs j ≡ r → u ≤ j → (j ≡ m) ⊎ (p ≤ j)) where
   abbrev Leads : ℕ → ℕ → ℕ → ℕ → Type 0
   Leads word states j q = (word < arcStepWord cs j) ⊎ ((word ≡ arcStepWord cs j) × On (digit states q))
 
   -- where arc m serves no state, or none that is not there already
-  chosen-same : ((q : ℕ) → Serve cs es w seen n r fo d m q → Leads word states m q) → Chosen cs es w seen n r fo d k u word states
+  chosen-same : ((q : ℕ) → Serve cs es w seen n r follows d m q → Leads word states m q) → Chosen cs es w seen n r follows d k u word states
   chosen-same at = record { from = λ q o. (let g = I .from q o in (g .0, g .1, g .2, g .3, omega (arith, g .4))); all = λ j q h g s. go j q h s (only j h (s .from) g); some = I .some; top = I .top }
     where
-      go : (j q : ℕ) → j < k → Serve cs es w seen n r fo d j q → (j ≡ m) ⊎ (p ≤ j) → Leads word states j q
+      go : (j q : ℕ) → j < k → Serve cs es w seen n r follows d j q → (j ≡ m) ⊎ (p ≤ j) → Leads word states j q
       go j q h s (inr f) = I .all j q h f s
-      go j q h s (inl f) = subst (λ (i : ℕ). Leads word states i q) (sym f) (at q (subst (λ (i : ℕ). Serve cs es w seen n r fo d i q) f s))
+      go j q h s (inl f) = subst (λ (i : ℕ). Leads word states i q) (sym f) (at q (subst (λ (i : ℕ). Serve cs es w seen n r follows d i q) f s))
 
-  module _ (K : ℕ) (at : arcFrom cs m ≡ r) (Q : Kept w n (arcTo cs m) (bitAnd (bitAnd fo (getD es (arcLetter cs m) 0)) (getD seen (arcTo cs m) 0)) d 0 K) where
+  module _ (K : ℕ) (at : arcFrom cs m ≡ r) (Q : Kept w n (arcTo cs m) (bitAnd (bitAnd follows (getD es (arcLetter cs m) 0)) (getD seen (arcTo cs m) 0)) d 0 K) where
     -- the states kept are those that serve
-    serves : (q : ℕ) → On (digit K q) → Serve cs es w seen n r fo d m q
+    serves : (q : ℕ) → On (digit K q) → Serve cs es w seen n r follows d m q
     serves q o =
         let z = Q .from q o in
         let b = on-min _ _ (rw digit-and at (z .2)) in
         let c = on-min _ _ (rw digit-and at (b .0)) in
         record { from = at; small = z .0; to = z .1; among = c .0; enters = c .1; seen-at = b .1; number = z .3 }
 
-    served : (q : ℕ) → Serve cs es w seen n r fo d m q → On (digit K q)
+    served : (q : ℕ) → Serve cs es w seen n r follows d m q → On (digit K q)
     served q s = Q .all q (s .to) (rw (digit-and, digit-and) (let a = s .among in let b = s .enters in let c = s .seen-at in omega arith)) (digit-none q) (s .number)
 
-    pub chosen-more : {word′ states′ : ℕ} → Better word states (arcStepWord cs m) K word′ states′ → Chosen cs es w seen n r fo d k u word′ states′
+    pub chosen-more : {word′ states′ : ℕ} → Better word states (arcStepWord cs m) K word′ states′ → Chosen cs es w seen n r follows d k u word′ states′
     chosen-more (no-states e) = chosen-same (λ q s. absurd (none-on q (rw e at (served q s))))
     chosen-more (not-less e) = chosen-same (λ q s. last q s (which word (arcStepWord cs m)))
       where
         -- the same word comes from the same letter and record
-        twin : (q : ℕ) → word ≡ arcStepWord cs m → Serve cs es w seen n r fo d m q → On (digit states q)
+        twin : (q : ℕ) → word ≡ arcStepWord cs m → Serve cs es w seen n r follows d m q → On (digit states q)
         twin q f s =
             let c = arc-small cs m in
             let o = I .some (omega arith) in
@@ -130,14 +130,14 @@ module _ {cs es w seen : List ℕ} {n r fo d k p word states : ℕ} (I : Chosen 
             let a = arc-small cs (g .0) in
             let el : arcLetter cs (g .0) ≡ arcLetter cs m = omega (arith, g .2) in
             let et : arcTo cs (g .0) ≡ arcTo cs m = omega (arith, g .2) in
-            let s′ : Serve cs es w seen n r fo d (g .0) q = record { from = g .3 .from; small = s .small; to = rw et (s .to); among = s .among; enters = rw el (s .enters); seen-at = rw et (s .seen-at); number = rw et (s .number) } in
+            let s′ : Serve cs es w seen n r follows d (g .0) q = record { from = g .3 .from; small = s .small; to = rw et (s .to); among = s .among; enters = rw el (s .enters); seen-at = rw et (s .seen-at); number = rw et (s .number) } in
             pick (g .0) (g .2) (I .all (g .0) q (g .1) (g .4) s′)
           where
             pick : (j : ℕ) → arcStepWord cs j ≡ word → Leads word states j q → On (digit states q)
             pick j u (inl v) = absurd (omega arith)
             pick j u (inr v) = v .1
 
-        last : (q : ℕ) → Serve cs es w seen n r fo d m q → Which word (arcStepWord cs m) → Leads word states m q
+        last : (q : ℕ) → Serve cs es w seen n r follows d m q → Which word (arcStepWord cs m) → Leads word states m q
         last q s (less f) = inl f
         last q s (same f) = inr (f, twin q f s)
         last q s (more f) = absurd (omega arith)
@@ -147,6 +147,6 @@ module _ {cs es w seen : List ℕ} {n r fo d k p word states : ℕ} (I : Chosen 
         old j q (inl f) = inl (omega arith)
         old j q (inr f) = inl (let g = f .0 in omega arith)
 
-        go : (j q : ℕ) → j < k → Serve cs es w seen n r fo d j q → (j ≡ m) ⊎ (p ≤ j) → Leads (arcStepWord cs m) K j q
+        go : (j q : ℕ) → j < k → Serve cs es w seen n r follows d j q → (j ≡ m) ⊎ (p ≤ j) → Leads (arcStepWord cs m) K j q
         go j q h s (inr f) = old j q (I .all j q h f s)
-        go j q h s (inl f) = inr (ap (arcStepWord cs) (sym f), served q (subst (λ (i : ℕ). Serve cs es w seen n r fo d i q) f s))
+        go j q h s (inl f) = inr (ap (arcStepWord cs) (sym f), served q (subst (λ (i : ℕ). Serve cs es w seen n r follows d i q) f s))

@@ -65,7 +65,7 @@ module _ {g : Graph} {M : Automaton} {fs ps es : List ℕ} {f n : ℕ} {cs : Lis
       let b : Best g M y (digit st) r (steps - t) [] = rw z (best-none (q .1) (K .sound r (q .0) 0 (G .below) (a .0) (rw z at (a .1)))) in
       subst (λ (ss : List Step). Best g M y (is 0) x steps ss) (append-nil (map stepOf (take t out))) (G .goes-on [] b)
 
-  module _ (m : ℕ) (em : steps - t ≡ suc m) (fo word states : ℕ) (F : Spread fs st 0 fo) (C : Chosen cs es w seen n r fo (suc m) k 0 word states) where
+  module _ (m : ℕ) (em : steps - t ≡ suc m) (follows word states : ℕ) (F : Spread fs st 0 follows) (C : Chosen cs es w seen n r follows (suc m) k 0 word states) where
     -- a step that leads on is one of an arc that serves
     leads : (q q′ : ℕ) (s : Step) → On (digit st q) → Moves g M r q s q′ → Reach g M y m (s .reached) q′
         → (j : ℕ) × (arcStepWord cs j ≡ stepWord s) × (s .reached < 1024) × ((word < arcStepWord cs j) ⊎ ((word ≡ arcStepWord cs j) × On (digit states q′)))
@@ -75,8 +75,8 @@ module _ {g : Graph} {M : Automaton} {fs ps es : List ℕ} {f n : ℕ} {cs : Lis
         let e = exact (shut S) K r q q′ m s (G .below) (a .0) v (a .1 ∙ ap suc em) h in
         let i = distance-seen w seen (s .reached) q′ (omega arith) in
         let c = step-arc S r q q′ s v in
-        let fo-on = F .all q′ q o (digit-none q) (rw (S .masked .follow q q′) (v .follow)) in
-        let sv : Serve cs es w seen n r fo (suc m) (c .0) q′ = record { from = c .2; small = b .1; to = rw (c .3) (b .0); among = fo-on; enters = rw (c .4, S .masked .enters q′ (s .spelt)) (v .enters); seen-at = rw (c .3) i; number = rw (c .3) (sym (distance-on w seen (s .reached) q′ i) ∙ e) } in
+        let follows-on = F .all q′ q o (digit-none q) (rw (S .masked .follow q q′) (v .follow)) in
+        let sv : Serve cs es w seen n r follows (suc m) (c .0) q′ = record { from = c .2; small = b .1; to = rw (c .3) (b .0); among = follows-on; enters = rw (c .4, S .masked .enters q′ (s .spelt)) (v .enters); seen-at = rw (c .3) i; number = rw (c .3) (sym (distance-on w seen (s .reached) q′ i) ∙ e) } in
         (c .0, ap₂ (λ (c : ℕ) (d : ℕ). c * 1024 + d) (c .4) (c .3), omega (arith, b .0), C .all (c .0) q′ (c .1) (omega arith) sv)
 
     picks : Picks g M y (digit st) r m (stepOf word) (digit states)
@@ -86,8 +86,8 @@ module _ {g : Graph} {M : Automaton} {fs ps es : List ℕ} {f n : ℕ} {cs : Lis
         cm q′ o =
             let c = C .from q′ o in
             let p = F .from q′ (c .3 .among) in
-            let fo-on : On (M .follow (p .0) q′) = (let z = S .masked .follow (p .0) q′ in let h = p .3 in omega arith) in
-            (p .0, p .2, subst (λ (s : Step). Moves g M r (p .0) s q′) (sym (step-arc-of cs (c .0) word (c .2))) (arc-moves S (c .0) r (p .0) q′ (c .1) (c .3 .from) fo-on (c .3 .enters)))
+            let follows-on : On (M .follow (p .0) q′) = (let z = S .masked .follow (p .0) q′ in let h = p .3 in omega arith) in
+            (p .0, p .2, subst (λ (s : Step). Moves g M r (p .0) s q′) (sym (step-arc-of cs (c .0) word (c .2))) (arc-moves S (c .0) r (p .0) q′ (c .1) (c .3 .from) follows-on (c .3 .enters)))
 
         ls : (q q′ : ℕ) (s : Step) → On (digit st q) → Moves g M r q s q′ → Reach g M y m (s .reached) q′ → (stepWord (stepOf word) < stepWord s) ⊎ ((stepOf word ≡ s) × On (digit states q′))
         ls q q′ s o v h = let z = leads q q′ s o v h in go (z .0) (z .1) (z .2) (z .3)

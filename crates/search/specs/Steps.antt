@@ -1,9 +1,9 @@
 -- The walk forward: what the functions give, and what the search answers.
 --   Kept w n a m d left r
 --                   r are the states of m that are not left and whose number at the record a, below n, is d
---   Serve cs es w seen n r fo d j q
---                   arc j leads from the record r to the state q, one of fo, whose number there is d
---   Chosen cs es w seen n r fo d k p word states
+--   Serve cs es w seen n r follows d j q
+--                   arc j leads from the record r to the state q, one of follows, whose number there is d
+--   Chosen cs es w seen n r follows d k p word states
 --                   the smallest step word of the arcs that serve, from p on and below k, and its states; 65,536 and none if none serves
 --   Better w₀ s₀ w s w′ s′
 --                   w′ and s′ are the smaller of two step words, of which the second counts only with a state, and its states
@@ -33,18 +33,18 @@ pub record Kept (w : List ℕ) (n a m d left r : ℕ) : Type 0 where
   pub from : (q : ℕ) → On (digit r q) → (q < 64) × (a < n) × On (digit m q) × (numberAt w a q ≡ d)
   pub all : (q : ℕ) → a < n → On (digit m q) → digit left q ≡ 0 → numberAt w a q ≡ d → On (digit r q)
 
-pub record Serve (cs es w seen : List ℕ) (n r fo d j q : ℕ) : Type 0 where
+pub record Serve (cs es w seen : List ℕ) (n r follows d j q : ℕ) : Type 0 where
   pub from : arcFrom cs j ≡ r
   pub small : q < 64
   pub to : arcTo cs j < n
-  pub among : On (digit fo q)
+  pub among : On (digit follows q)
   pub enters : On (digit (getD es (arcLetter cs j) 0) q)
   pub seen-at : On (digit (getD seen (arcTo cs j) 0) q)
   pub number : numberAt w (arcTo cs j) q ≡ d
 
-pub record Chosen (cs es w seen : List ℕ) (n r fo d k p word states : ℕ) : Type 0 where
-  pub from : (q : ℕ) → On (digit states q) → (j : ℕ) × (j < k) × (arcStepWord cs j ≡ word) × Serve cs es w seen n r fo d j q × (p ≤ j)
-  pub all : (j q : ℕ) → j < k → p ≤ j → Serve cs es w seen n r fo d j q → (word < arcStepWord cs j) ⊎ ((word ≡ arcStepWord cs j) × On (digit states q))
+pub record Chosen (cs es w seen : List ℕ) (n r follows d k p word states : ℕ) : Type 0 where
+  pub from : (q : ℕ) → On (digit states q) → (j : ℕ) × (j < k) × (arcStepWord cs j ≡ word) × Serve cs es w seen n r follows d j q × (p ≤ j)
+  pub all : (j q : ℕ) → j < k → p ≤ j → Serve cs es w seen n r follows d j q → (word < arcStepWord cs j) ⊎ ((word ≡ arcStepWord cs j) × On (digit states q))
   pub some : word < 65536 → (q : ℕ) × On (digit states q)
   pub top : word ≤ 65536
 

@@ -237,13 +237,13 @@ pub struct Tables {
     pub follow: [u64; 64],
     pub pred: [u64; 64],
     pub enter: [u64; 64],
-    pub finals: u64,
+    pub accepting: u64,
 }
 
 // The tables of the automaton of the expression whose code it is.
 pub fn tables_of(numbers: &[u64]) -> Tables
     requires { ⌜ ((text : List ℕ) × (e : Expr) × InLimits text e × (now numbers ≡ code e)) ⌝ }
-    ensures { λ r. ⌜ ((text : List ℕ) (e : Expr) → InLimits text e → now (numbers .entry) ≡ code e → Masked (r .follow) (r .pred) (r .enter) (r .finals) (automaton e)) ⌝ }
+    ensures { λ r. ⌜ ((text : List ℕ) (e : Expr) → InLimits text e → now (numbers .entry) ≡ code e → Masked (r .follow) (r .pred) (r .enter) (r .accepting) (automaton e)) ⌝ }
 {
     let mut b = Build {
         follow: [0; 64],
@@ -273,6 +273,6 @@ pub fn tables_of(numbers: &[u64]) -> Tables
         follow,
         pred,
         enter,
-        finals: last | nullable,
+        accepting: last | nullable,
     }
 }

@@ -1,7 +1,7 @@
--- Laws of the exported operations: the sense of a number, the records below n marked, and what an operation on a tree and these makes. Assumes nothing.
+-- Laws of the exported operations: the records below n marked, and what an operation on a tree and these makes. Assumes nothing.
 use mathlib.Core.Path.{_≡_, refl, sym, ap, ap₂, subst, _∙_, fun-ext}
 use mathlib.Core.List.{List, []}
-use Prim.Native.Nat.{ℕ, zero, suc, _+_, _≤_, _<_}
+use Prim.Native.Nat.{ℕ, _+_, _≤_, _<_}
 use native.Mathlib.Decide.{decLt, ℕ-discrete}
 use native.Mathlib.Omega.{arith}
 use lib.ListN.{length, take}
@@ -14,15 +14,11 @@ use Rattle.bits.specs.BitSets.{none, put}
 use Rattle.bits.specs.BitSetLaws.{put-at, put-off}
 use Rattle.rows.specs.Rows.{noPairs, identity}
 use Rattle.rows.specs.RowLaws.{none-set, none-tree, union-none}
-use Rattle.packing.specs.declared.loading.Sense.the-variants.{Plain, Inverted}
+use Rattle.packing.specs.declared.loading.Sense.the-variants.{Plain}
 use Rattle.tree.specs.declared.operations.Operation.the-variants.{Optional}
 use Rattle.tree.specs.Inner.{Roomy, Lent, termSet, TreeAt, Operated}
 use Rattle.tree.specs.InnerLaws.{valued-alone, valued-nothing}
-use Rattle.test_trees.specs.Terms.{senseOf, onOne, below}
-
-pub sense-other : (s : ℕ) → (s ≡ 0 → ⊥) → Inverted ≡ senseOf s
-sense-other zero f = absurd (f refl)
-sense-other (suc s) f = refl
+use Rattle.test_trees.specs.Terms.{onOne, below}
 
 -- ---- the records below n
 below-in : (n x : ℕ) → x < n → below n x ≡ 1

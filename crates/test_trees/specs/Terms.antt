@@ -1,24 +1,19 @@
 -- The terms of the exported tree operations.
---   senseOf s       the sense that a number stands for: 0 plain, any other inverted
 --   onTwo k la s lb t
 --                   the operation k on trees of la and of lb words, read with the senses s and t
 --   onOne k la s    the operation k on nothing and a tree of la words, read with the sense s
 --   anyLetter       nothing and the links of every label, crossed forward
 --   below n         the records below n, as bits
 -- Assumes nothing: these are definitions.
-use Prim.Native.Nat.{ℕ, zero, suc}
+use Prim.Native.Nat.{ℕ}
 use lib.Dec.{ltb}
 use Rattle.book.specs.Basics.{bit}
 use Rattle.packing.specs.declared.loading.Sense.{Sense}
-use Rattle.packing.specs.declared.loading.Sense.the-variants.{Plain, Inverted}
+use Rattle.packing.specs.declared.loading.Sense.the-variants.{Plain}
 use Rattle.tree.specs.declared.operations.Operation.{Operation}
 use Rattle.tree.specs.declared.operations.Operation.the-variants.{Union}
 use Rattle.tree.specs.declared.operations.Term.{Term}
 use Rattle.tree.specs.Inner.{nothing, treeAlone}
-
-abbrev pub senseOf : ℕ → Sense
-senseOf zero = Plain
-senseOf (suc s) = Inverted
 
 abbrev pub onTwo : Operation → ℕ → Sense → ℕ → Sense → Term
 onTwo k la s lb t = record { operation = k; first = treeAlone la s; second = treeAlone lb t }

@@ -16,18 +16,9 @@ ghost use Rattle.bits.specs.BitSets.{none};
 ghost use Rattle.rows.specs.Rows.{identity};
 ghost use Rattle.packing.specs.declared.loading.Sense.the-variants.{Plain, Inverted};
 ghost use Rattle.tree.specs.declared.operations.Operation.the-variants.{Union, Intersection, Difference, Product, Closure, Optional};
+ghost use Rattle.tree.specs.Calls.{senseOf};
 ghost use Rattle.tree.specs.Inner.{Roomy, TreeAt, Operated};
-ghost use Rattle.test_trees.specs.Terms.{senseOf, onTwo, onOne, anyLetter, below};
-
-// The sense that a number stands for.
-fn sense_of(s: usize) -> Sense
-    ensures { λ r. ⌜ r ≡ senseOf s ⌝ }
-{
-    if s == 0 {
-        return Sense::Plain;
-    }
-    Sense::Inverted
-}
+ghost use Rattle.test_trees.specs.Terms.{onTwo, onOne, anyLetter, below};
 
 // An operation on two trees, with no links. It has rows of its own.
 fn on_trees(
@@ -129,13 +120,13 @@ pub extern "C" fn tree_product_in(
     n: usize,
     la: usize,
     lb: usize,
-    sa: usize,
-    sb: usize,
+    sa: u8,
+    sb: u8,
 ) -> usize
     ensures { λ r. ⌜ Operated (onTwo Product la (senseOf sa) lb (senseOf sb)) n [] (replicate 16 0) 16384 (now (work .entry)) (now (work .exit)) r ⌝ }
 {
-    let s = sense_of(sa);
-    let t = sense_of(sb);
+    let s = tree::sense_of(sa);
+    let t = tree::sense_of(sb);
     on_two(Operation::Product, la, s, lb, t, work, n)
 }
 

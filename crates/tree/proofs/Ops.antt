@@ -18,7 +18,6 @@ use Rattle.bits.specs.BitSetLaws.{bits-none}
 use Rattle.rows.specs.Rows.{flat, noPairs, crossedWords, pairsIn}
 use Rattle.rows.specs.RowLaws.{flat-none, none-set, none-tree, union-none, union-right, union-join, crossed-none, pairs-in}
 use Rattle.packing.specs.declared.loading.Sense.{Sense}
-use Rattle.packing.specs.declared.loading.Sense.the-variants.{Plain}
 use Rattle.packing.specs.Senses.{sensed}
 use Rattle.packing.specs.SenseLaws.{sensed-union, sensed-none}
 use Rattle.tree.specs.declared.listing.Answer.{Answer}
@@ -126,12 +125,12 @@ module _ (t : Term) (n : ℕ) (ws work : List ℕ) where
     used = none-used n;
   }
 
-  pub two-set : (j k : ℕ) (xs ys : List ℕ) → t .first ≡ treeAlone j Plain → t .second ≡ treeAlone k Plain → (v : WellFormed n xs) (w : WellFormed n ys)
-      → treeWords n (termSet t n ws none (v .set) (w .set)) ≡ treeOfTwo (outcome (t .operation) n none) n xs ys
-  two-set j k xs ys e f v w =
+  pub two-set : (j k : ℕ) (p q : Sense) (xs ys : List ℕ) → t .first ≡ treeAlone j p → t .second ≡ treeAlone k q → (v : WellFormed n xs) (w : WellFormed n ys)
+      → treeWords n (termSet t n ws none (v .set) (w .set)) ≡ treeOfTwo (λ x y. outcome (t .operation) n none (sensed p x) (sensed q y)) n xs ys
+  two-set j k p q xs ys e f v w =
       ap₂ (λ (x y : Cells). treeWords n (outcome (t .operation) n none x y))
-      (ap (λ (o : Operand). valued ws o (v .set)) e ∙ valued-alone ws j Plain (v .set) ∙ sym (formed-set v))
-      (ap (λ (o : Operand). valued ws o (w .set)) f ∙ valued-alone ws k Plain (w .set) ∙ sym (formed-set w))
+      (ap (λ (o : Operand). valued ws o (v .set)) e ∙ valued-alone ws j p (v .set) ∙ ap (sensed p) (sym (formed-set v)))
+      (ap (λ (o : Operand). valued ws o (w .set)) f ∙ valued-alone ws k q (w .set) ∙ ap (sensed q) (sym (formed-set w)))
 
   pub one-set : (a x : Cells) → t .first ≡ nothing → valued ws (t .second) a ≡ x
       → treeWords n (termSet t n ws none noPairs a) ≡ treeWords n (outcome (t .operation) n none noPairs x)

@@ -1,4 +1,5 @@
 -- Laws of the calls' causes: what each test says, the number of the first cause, and that the causes stand in the order of S6.8.
+--   sense-other     a number that is not 0 stands for the inverted sense
 --   all-below, below-all
 --                   pairs below n, as a fact and as a test
 --   one-more, none-more
@@ -13,7 +14,7 @@
 use mathlib.Core.Path.{_≡_, refl}
 use mathlib.Core.List.{List, [], _∷_}
 use mathlib.Core.Bool.{Bool, true, false, _&&_, _||_, not}
-use Prim.Native.Nat.{ℕ, suc, _*_, _/_, _%_, _≤_, _<_}
+use Prim.Native.Nat.{ℕ, zero, suc, _*_, _/_, _%_, _≤_, _<_}
 use native.Mathlib.Omega.{arith}
 use lib.Dec.{ltb}
 use lib.ListN.{length}
@@ -26,7 +27,12 @@ use Rattle.k2.specs.Trees.{treeUnit, WellFormed}
 use Rattle.k2.specs.TreeLaws.{tree-none}
 use Rattle.k2.specs.TreeSets.{formed}
 use Rattle.k2.specs.TreeSetLaws.{formed-tree, tree-formed}
-use Rattle.tree.specs.Calls.{allBelow, allFormed, lentCauses, treeCauses}
+use Rattle.packing.specs.declared.loading.Sense.the-variants.{Inverted}
+use Rattle.tree.specs.Calls.{senseOf, allBelow, allFormed, lentCauses, treeCauses}
+
+pub sense-other : (w : ℕ) → (w ≡ 0 → ⊥) → Inverted ≡ senseOf w
+sense-other zero f = absurd (f refl)
+sense-other (suc w) f = refl
 
 -- ---- tests
 and-both : (s t : Bool) → (s && t) ≡ true → (s ≡ true) × (t ≡ true)

@@ -1,5 +1,8 @@
 -- What the public calls promise, as equations: a call is refused with the number of the first cause, in the order of S6.8, and the list is as it was; with no
 -- cause the answer's words stand at the list's front, and behind them it is as it was.
+--   senseOf w       the sense that the number w stands for: 0 is plain, any other inverted
+--   productSensed n s t a b
+--                   the product of the set a read with the sense s, and of b read with t
 --   allBelow n ps   whether both ends of each pair of ps are below n, as `PairsBelow` has it (CallLaws `all-below`, `below-all`)
 --   allFormed n ts  whether each of the lent trees ts is well formed
 --   lentCauses n ps ts k
@@ -22,11 +25,21 @@ use Prim.Native.Nat.{ℕ, zero, suc, _*_, _/_, _%_}
 use lib.Dec.{ltb}
 use lib.ListN.{length, drop}
 use Rattle.book.specs.Causes.{Cause, bad-size, no-record, bad-tree, short-work, short-list, firstNumber, maxRecords}
-use Rattle.k2.specs.PairSets.{Cells, setOf, listed}
+use Rattle.k2.specs.PairSets.{Cells, setOf, listed, product}
 use Rattle.k2.specs.Trees.{treeWords, treeUnit}
 use Rattle.k2.specs.TreeSets.{setIn, formed}
+use Rattle.packing.specs.declared.loading.Sense.{Sense}
+use Rattle.packing.specs.declared.loading.Sense.the-variants.{Plain, Inverted}
+use Rattle.packing.specs.Senses.{sensed}
 use Rattle.tree.specs.declared.listing.Answer.{Answer}
 use Rattle.tree.specs.declared.listing.Answer.the-variants.{Done, Refused}
+
+abbrev pub senseOf : ℕ → Sense
+senseOf zero = Plain
+senseOf (suc w) = Inverted
+
+abbrev pub productSensed : ℕ → Sense → Sense → Cells → Cells → Cells
+productSensed n s t a b = product n (sensed s a) (sensed t b)
 
 unfoldable pub allBelow : ℕ → List ℕ → Bool
 allBelow n [] = true

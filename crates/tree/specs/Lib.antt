@@ -4,3 +4,4 @@ pub mod Calls
 pub mod Settling
 pub mod CallLaws
 pub mod RoundTrips
+pub mod SensedProducts

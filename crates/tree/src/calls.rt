@@ -14,14 +14,14 @@ ghost use mathlib.Core.List.{[], _∷_, _++_};
 ghost use Prim.Native.Nat.{_+_, _≤_};
 ghost use lib.ListN.{length, take, drop};
 ghost use Rattle.book.specs.Causes.{firstNumber, maxRecords};
-ghost use Rattle.k2.specs.PairSets.{Cells, IsSet, listed, union, intersection, difference, product, transpose, closure, PairsBelow};
+ghost use Rattle.k2.specs.PairSets.{Cells, IsSet, listed, union, intersection, difference, transpose, closure, PairsBelow};
 ghost use Rattle.k2.specs.Trees.{treeWords};
 ghost use Rattle.bits.specs.BitSets.{none};
 ghost use Rattle.rows.specs.Rows.{noPairs};
 ghost use Rattle.packing.specs.Senses.{sensed};
 ghost use Rattle.tree.specs.Inner.{treeAlone, outcome, Roomy, Lent, termSet, TreeAt};
 ghost use Rattle.tree.specs.Settling.{Settled};
-ghost use Rattle.tree.specs.Calls.{lentCauses, Answered, treeOf, listOf, treeOfOne, treeOfTwo};
+ghost use Rattle.tree.specs.Calls.{senseOf, productSensed, lentCauses, Answered, treeOf, listOf, treeOfOne, treeOfTwo};
 
 // Are both ends of each pair below n?
 fn pairs_below(pairs: &[u32], n: usize) -> bool
@@ -113,17 +113,30 @@ fn made(term: Term, work: &mut [u64], n: usize, links: &[u32]) -> usize
     operate(term, work, n, links, &used, &mut rows)
 }
 
-// An operation on two lent trees.
+// The sense that a number of the exported call stands for.
+pub fn sense_of(word: u8) -> Sense
+    ensures { λ r. ⌜ r ≡ senseOf word ⌝ }
+{
+    if word == 0 {
+        return Sense::Plain;
+    }
+    Sense::Inverted
+}
+
+// An operation on two lent trees, each read with a sense.
 fn binary(
     operation: Operation,
     n: usize,
     a: &[u64],
+    a_sense: Sense,
     b: &[u64],
+    b_sense: Sense,
     out: &mut [u64],
     work: &mut [u64],
 ) -> Answer
     ensures { λ r. ⌜ Answered n [] (now (a .entry) ∷ now (b .entry) ∷ []) (length (now (work .entry)))
-        (treeOfTwo (outcome operation n none) n (now (a .entry)) (now (b .entry))) (now (out .entry)) (now (out .exit)) r ⌝ }
+        (treeOfTwo (λ x y. outcome operation n none (sensed «a_sense» x) (sensed «b_sense» y)) n (now (a .entry)) (now (b .entry)))
+        (now (out .entry)) (now (out .exit)) r ⌝ }
 {
     let no_links: [u32; 1] = [0; 1];
     let cause = refusal(n, &no_links[..0], a, b, work.len());
@@ -134,8 +147,8 @@ fn binary(
     copy(b, work, a.len());
     let term = Term {
         operation,
-        first: tree_of(a.len(), Sense::Plain),
-        second: tree_of(b.len(), Sense::Plain),
+        first: tree_of(a.len(), a_sense),
+        second: tree_of(b.len(), b_sense),
     };
     let len = made(term, work, n, &no_links[..0]);
     settle(work, len, out)
@@ -173,7 +186,16 @@ pub fn union(n: usize, a: &[u64], b: &[u64], out: &mut [u64], work: &mut [u64]) 
     ensures { λ r. ⌜ Answered n [] (now (a .entry) ∷ now (b .entry) ∷ []) (length (now (work .entry)))
         (treeOfTwo union n (now (a .entry)) (now (b .entry))) (now (out .entry)) (now (out .exit)) r ⌝ }
 {
-    binary(Operation::Union, n, a, b, out, work)
+    binary(
+        Operation::Union,
+        n,
+        a,
+        Sense::Plain,
+        b,
+        Sense::Plain,
+        out,
+        work,
+    )
 }
 
 // The tree of the pairs in both.
@@ -181,7 +203,16 @@ pub fn intersection(n: usize, a: &[u64], b: &[u64], out: &mut [u64], work: &mut 
     ensures { λ r. ⌜ Answered n [] (now (a .entry) ∷ now (b .entry) ∷ []) (length (now (work .entry)))
         (treeOfTwo intersection n (now (a .entry)) (now (b .entry))) (now (out .entry)) (now (out .exit)) r ⌝ }
 {
-    binary(Operation::Intersection, n, a, b, out, work)
+    binary(
+        Operation::Intersection,
+        n,
+        a,
+        Sense::Plain,
+        b,
+        Sense::Plain,
+        out,
+        work,
+    )
 }
 
 // The tree of the pairs in the first and not in the second.
@@ -189,15 +220,32 @@ pub fn difference(n: usize, a: &[u64], b: &[u64], out: &mut [u64], work: &mut [u
     ensures { λ r. ⌜ Answered n [] (now (a .entry) ∷ now (b .entry) ∷ []) (length (now (work .entry)))
         (treeOfTwo difference n (now (a .entry)) (now (b .entry))) (now (out .entry)) (now (out .exit)) r ⌝ }
 {
-    binary(Operation::Difference, n, a, b, out, work)
+    binary(
+        Operation::Difference,
+        n,
+        a,
+        Sense::Plain,
+        b,
+        Sense::Plain,
+        out,
+        work,
+    )
 }
 
-// The tree of the product: the pairs for which some middle record serves.
-pub fn product(n: usize, a: &[u64], b: &[u64], out: &mut [u64], work: &mut [u64]) -> Answer
+// The tree of the product, each operand read with its sense: the pairs for which some middle record serves.
+pub fn product(
+    n: usize,
+    a: &[u64],
+    a_sense: Sense,
+    b: &[u64],
+    b_sense: Sense,
+    out: &mut [u64],
+    work: &mut [u64],
+) -> Answer
     ensures { λ r. ⌜ Answered n [] (now (a .entry) ∷ now (b .entry) ∷ []) (length (now (work .entry)))
-        (treeOfTwo (product n) n (now (a .entry)) (now (b .entry))) (now (out .entry)) (now (out .exit)) r ⌝ }
+        (treeOfTwo (productSensed n «a_sense» «b_sense») n (now (a .entry)) (now (b .entry))) (now (out .entry)) (now (out .exit)) r ⌝ }
 {
-    binary(Operation::Product, n, a, b, out, work)
+    binary(Operation::Product, n, a, a_sense, b, b_sense, out, work)
 }
 
 // The tree of the pairs exchanged.

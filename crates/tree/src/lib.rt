@@ -11,6 +11,7 @@ pub use calls::intersection;
 pub use calls::list;
 pub use calls::make;
 pub use calls::product;
+pub use calls::sense_of;
 pub use calls::transpose;
 pub use calls::union;
 pub use listing::Answer;

@@ -210,18 +210,18 @@ impl Engine {
     }
 
     pub fn binary(&mut self, operation: Binary, n: usize, a: &[u64], b: &[u64], space: Space) -> Answer<u64> {
-        let call = match operation {
-            Binary::Union => calls::tree_union,
-            Binary::Intersection => calls::tree_intersection,
-            Binary::Difference => calls::tree_difference,
-            Binary::Product => calls::tree_product,
+        let call = |first: &[u64], second: &[u64], tree: &mut [u64], work: &mut [u64]| match operation {
+            Binary::Union => calls::tree_union(n, first, second, tree, work),
+            Binary::Intersection => calls::tree_intersection(n, first, second, tree, work),
+            Binary::Difference => calls::tree_difference(n, first, second, tree, work),
+            Binary::Product { left, right } => calls::tree_product(n, first, left, second, right, tree, work),
         };
         self.listed(
             |engine| &mut engine.tree,
             space.list,
             |engine, tree| {
                 let (first, second) = (engine.first.lend_words(a), engine.second.lend_words(b));
-                let answer = call(n, first, second, tree, engine.work.lend(space.work));
+                let answer = call(first, second, tree, engine.work.lend(space.work));
                 let kept = first == a && second == b;
                 engine.fault(kept, "changes a lent tree");
                 answer

@@ -89,7 +89,10 @@ pub fn trees(run: &mut Run, seed: u64, size: Size) {
     }
     in_spaces(run, n, "make", |run, space| run.engine.make(at, &pairs, space), |space| tree::make(n, &pairs, space));
     in_spaces(run, n, "list", |run, space| run.engine.list(at, &a, space), |space| tree::list(n, &a, space));
-    for operation in [Binary::Union, Binary::Intersection, Binary::Difference, Binary::Product] {
+    let inverted = 1 + random.below(255) as u8;
+    let senses = [(0, 0), (0, inverted), (inverted, 0), (inverted, 1)];
+    let products = senses.map(|(left, right)| Binary::Product { left, right });
+    for operation in [Binary::Union, Binary::Intersection, Binary::Difference].into_iter().chain(products) {
         let ask = |run: &mut Run, space| run.engine.binary(operation, at, &a, &b, space);
         in_spaces(run, n, &format!("{operation:?}"), ask, |space| tree::binary(operation, n, &a, &b, space));
     }
@@ -106,7 +109,7 @@ pub fn sizes(run: &mut Run) {
             let (work, tree) = (space, [u64::MAX]);
             let answers = [
                 run.engine.make(n, &[u32::MAX], work),
-                run.engine.binary(Binary::Product, n, &tree, &tree, work),
+                run.engine.binary(Binary::Product { left: 0, right: 1 }, n, &tree, &tree, work),
                 run.engine.unary(Unary::Closure, n, &tree, work),
             ];
             for answer in answers {

@@ -82,12 +82,13 @@ pub fn decode(n: u32, tree: &[u64]) -> Option<Relation> {
     (words(&set) == tree).then_some(set)
 }
 
+/// The product has a sense for each operand: 0 reads it as it is, any other with its pairs exchanged.
 #[derive(Clone, Copy, Debug, PartialEq, Eq)]
 pub enum Binary {
     Union,
     Intersection,
     Difference,
-    Product,
+    Product { left: u8, right: u8 },
 }
 
 #[derive(Clone, Copy, Debug, PartialEq, Eq)]
@@ -121,7 +122,10 @@ pub fn binary(operation: Binary, n: u32, left: &[u64], right: &[u64], space: Spa
         Binary::Union => left.union(&right),
         Binary::Intersection => left.intersection(&right),
         Binary::Difference => left.difference(&right),
-        Binary::Product => left.product(&right),
+        Binary::Product { left: s, right: t } => {
+            let read = |set: Relation, sense: u8| if sense == 0 { set } else { set.transpose() };
+            read(left, s).product(&read(right, t))
+        }
     };
     space.listed(words(&set))
 }

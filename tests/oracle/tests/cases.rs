@@ -368,7 +368,11 @@ fn tree_operations_and_their_refusals() {
     assert_eq!(listed(tree::binary(Binary::Union, n, &left, &right, Space::AMPLE)), [1, 1025, 2052]);
     assert_eq!(listed(tree::binary(Binary::Intersection, n, &left, &right, Space::AMPLE)), [1]);
     assert_eq!(listed(tree::binary(Binary::Difference, n, &left, &right, Space::AMPLE)), [1025]);
-    assert_eq!(listed(tree::binary(Binary::Product, n, &right, &left, Space::AMPLE)), [1]);
+    let product = |left, right| Binary::Product { left, right };
+    assert_eq!(listed(tree::binary(product(0, 0), n, &right, &left, Space::AMPLE)), [1]);
+    assert_eq!(listed(tree::binary(product(0, 1), n, &right, &left, Space::AMPLE)), [0, 1]);
+    assert_eq!(listed(tree::binary(product(255, 0), n, &right, &left, Space::AMPLE)), [1025]);
+    assert_eq!(listed(tree::binary(product(1, 2), n, &left, &right, Space::AMPLE)), [1024]);
     assert_eq!(listed(tree::unary(Unary::Closure, n, &made(&[1, 1026, 2048]), Space::AMPLE)).len(), 9);
     assert_eq!(made(&[]), []);
 

@@ -34,12 +34,24 @@ extern "C" {
         w: LentMut,
         wl: usize,
     ) -> u64;
-    fn dating_tree_product(n: usize, a: Lent, al: usize, b: Lent, bl: usize, o: LentMut, ol: usize, w: LentMut, wl: usize) -> u64;
+    fn dating_tree_product(
+        n: usize,
+        a: Lent,
+        al: usize,
+        sa: u8,
+        b: Lent,
+        bl: usize,
+        sb: u8,
+        o: LentMut,
+        ol: usize,
+        w: LentMut,
+        wl: usize,
+    ) -> u64;
 
     fn tree_union_in(w: LentMut, wl: usize, n: usize, la: usize, lb: usize) -> usize;
     fn tree_intersection_in(w: LentMut, wl: usize, n: usize, la: usize, lb: usize) -> usize;
     fn tree_difference_in(w: LentMut, wl: usize, n: usize, la: usize, lb: usize) -> usize;
-    fn tree_product_in(w: LentMut, wl: usize, n: usize, la: usize, lb: usize, sa: usize, sb: usize) -> usize;
+    fn tree_product_in(w: LentMut, wl: usize, n: usize, la: usize, lb: usize, sa: u8, sb: u8) -> usize;
     fn tree_transpose_in(w: LentMut, wl: usize, n: usize, la: usize) -> usize;
     fn tree_closure_in(w: LentMut, wl: usize, n: usize, la: usize) -> usize;
     fn tree_identity_in(w: LentMut, wl: usize, n: usize, la: usize) -> usize;
@@ -89,26 +101,40 @@ pub fn one(op: One, n: usize, a: &[u64], out: &mut [u64], work: &mut [u64]) -> A
     told(unsafe { call(n, lent(a), a.len(), lent_mut(out), out.len(), lent_mut(work), work.len()) })
 }
 
-/// The operations on two trees.
+/// The operations on two trees; the product has a sense for each, 0 plain and any other inverted.
 #[derive(Clone, Copy, Debug, PartialEq)]
 pub enum Two {
     Union,
     Intersection,
     Difference,
-    Product,
+    Product { sense: u8, other: u8 },
 }
 
-pub const TWOS: [Two; 4] = [Two::Union, Two::Intersection, Two::Difference, Two::Product];
+/// The product of both as they are.
+pub const PRODUCT: Two = Two::Product { sense: 0, other: 0 };
+
+/// The product with every choice of senses.
+pub const TWOS: [Two; 7] = [
+    Two::Union,
+    Two::Intersection,
+    Two::Difference,
+    PRODUCT,
+    Two::Product { sense: 0, other: 1 },
+    Two::Product { sense: 255, other: 0 },
+    Two::Product { sense: 1, other: 2 },
+];
 
 pub fn two(op: Two, n: usize, a: &[u64], b: &[u64], out: &mut [u64], work: &mut [u64]) -> Answer {
-    let call = match op {
-        Two::Union => dating_tree_union,
-        Two::Intersection => dating_tree_intersection,
-        Two::Difference => dating_tree_difference,
-        Two::Product => dating_tree_product,
-    };
-    let (ol, wl) = (out.len(), work.len());
-    told(unsafe { call(n, lent(a), a.len(), lent(b), b.len(), lent_mut(out), ol, lent_mut(work), wl) })
+    let (al, bl, ol, wl) = (a.len(), b.len(), out.len(), work.len());
+    let (a, b, out, work) = (lent(a), lent(b), lent_mut(out), lent_mut(work));
+    told(unsafe {
+        match op {
+            Two::Union => dating_tree_union(n, a, al, b, bl, out, ol, work, wl),
+            Two::Intersection => dating_tree_intersection(n, a, al, b, bl, out, ol, work, wl),
+            Two::Difference => dating_tree_difference(n, a, al, b, bl, out, ol, work, wl),
+            Two::Product { sense, other } => dating_tree_product(n, a, al, sense, b, bl, other, out, ol, work, wl),
+        }
+    })
 }
 
 /// The inner operations: on trees of so many words at the front of work, one after another, in whose place the result is left.
@@ -117,7 +143,7 @@ pub enum Inner {
     Union,
     Intersection,
     Difference,
-    Product { sense: usize, other: usize },
+    Product { sense: u8, other: u8 },
     Transpose,
     Closure,
     Identity,

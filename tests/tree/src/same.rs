@@ -225,7 +225,7 @@ fn close(rows: &mut Rows, n: usize) {
 pub fn inner(op: Inner, work: &mut [u64], n: usize, la: usize, lb: usize) -> usize {
     let mut rows = [0; ROWS];
     let first = match op {
-        Inner::Product { sense, .. } => sense,
+        Inner::Product { sense, .. } => usize::from(sense != 0),
         Inner::Transpose => 1,
         _ => 0,
     };
@@ -237,7 +237,7 @@ pub fn inner(op: Inner, work: &mut [u64], n: usize, la: usize, lb: usize) -> usi
         Inner::Identity => (0..n).for_each(|i| rows[i * WORDS + i / 64] |= 1 << (i % 64)),
         _ => {
             let mut second = [0; ROWS];
-            let sense = if let Inner::Product { other, .. } = op { 1 - other } else { 0 };
+            let sense = usize::from(matches!(op, Inner::Product { other: 0, .. }));
             load(&work[la..la + lb], n, sense, &mut second);
             match op {
                 Inner::Intersection => rows.iter_mut().zip(&second).for_each(|(a, b)| *a &= b),
@@ -299,7 +299,7 @@ pub fn two(op: Two, n: usize, a: &[u64], b: &[u64], out: &mut [u64], work: &mut 
         Two::Union => Inner::Union,
         Two::Intersection => Inner::Intersection,
         Two::Difference => Inner::Difference,
-        Two::Product => Inner::Product { sense: 0, other: 0 },
+        Two::Product { sense, other } => Inner::Product { sense, other },
     };
     let len = inner(op, work, n, a.len(), b.len());
     settle(work, len, out)

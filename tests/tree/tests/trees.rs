@@ -80,7 +80,16 @@ fn on_two(op: Two, a: &Set, b: &Set) -> Set {
         Two::Union => a.union(b),
         Two::Intersection => a.intersection(b),
         Two::Difference => a.difference(b),
-        Two::Product => a.product(b),
+        Two::Product { sense, other } => turned(sense, a).product(&turned(other, b)),
+    }
+}
+
+/// A set as it is read with a sense.
+fn turned(sense: u8, set: &Set) -> Set {
+    if sense == 0 {
+        set.clone()
+    } else {
+        set.transpose()
     }
 }
 
@@ -150,8 +159,7 @@ fn check_pair(n: usize, a: &Set, b: &Set, random: &mut Random) {
 }
 
 fn check_inner(n: usize, a: &Set, b: &Set, random: &mut Random) {
-    let turned = |sense: usize, set: &Set| if sense == 1 { set.transpose() } else { set.clone() };
-    let (sense, other) = (random.below(2), random.below(2));
+    let (sense, other) = (random.below(2) as u8, random.below(2) as u8);
     let on_both = [
         (Inner::Union, a.union(b)),
         (Inner::Intersection, a.intersection(b)),
@@ -173,7 +181,7 @@ fn check_inner(n: usize, a: &Set, b: &Set, random: &mut Random) {
         assert!(work.get()[..len] == set.tree(), "n = {n}, {op:?}");
     }
     case();
-    let links: Vec<u32> = random.listed(a).iter().map(|&p| p + (random.below(4096) << 20) as u32).collect();
+    let links: Vec<u32> = random.listed(a).iter().map(|&p| p + (random.below(26) << 20) as u32).collect();
     let len = engine::letter(work.get(), n, &links);
     assert!(work.kept_around());
     assert!(work.get()[..len] == s[..], "n = {n}, letter");
@@ -215,7 +223,7 @@ fn all_sets_of_one_and_two_records() {
 fn check_lent(n: usize, words: &[u64], good: &[u64], random: &mut Random) {
     check(n, &Call::List(words.to_vec()));
     check(n, &Call::One(ONES[random.below(2)], words.to_vec()));
-    let op = TWOS[random.below(4)];
+    let op = TWOS[random.below(TWOS.len())];
     check(n, &Call::Two(op, words.to_vec(), good.to_vec()));
     check(n, &Call::Two(op, good.to_vec(), words.to_vec()));
 }
@@ -402,12 +410,6 @@ fn inner_operations_without_room() {
                     assert_eq!(engine::inner(op, work.get(), n, la, lb), 0);
                     assert!(work.written(0).is_some());
                 }
-            }
-            for (sense, other) in [(2, 0), (0, 2), (usize::MAX, 1)] {
-                case();
-                let mut work = Lent::new(2 * d, MARK);
-                assert_eq!(engine::inner(Inner::Product { sense, other }, work.get(), n, 0, 0), 0);
-                assert!(work.written(0).is_some());
             }
             for (n, words) in [(n, 2 * d - 1), (1025, 2 * d)] {
                 case();

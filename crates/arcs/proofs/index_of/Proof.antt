@@ -10,26 +10,26 @@ use Rattle.arcs.proofs.index_of.Statement.{statement}
 use Rattle.arcs.proofs.index_of.Tie as tie
 
 abbrev Inv-loop : tie.InvT-loop
-Inv-loop arcs count key index₀ j₀ index j =
-    (j ≤ count) × (length index ≡ 9216) × Indexed (keyAt arcs key) j index
+Inv-loop arcs key index₀ j₀ index j =
+    (j ≤ length arcs) × (length index ≡ 9216) × Indexed (keyAt arcs key) j index
 
 abbrev μ-loop : tie.MeasureT-loop
-μ-loop arcs count key index₀ j₀ index j = count - j
+μ-loop arcs key index₀ j₀ index j = length arcs - j
 
 loop-holds : tie.Need-loop-holds Inv-loop μ-loop
 loop-holds c = (omega arith, length-replicate {A = ℕ} 9216 0, indexed-none _ 9216 (omega arith))
 
-mul-r : tie.Need-mul-r Inv-loop μ-loop
-mul-r c = omega arith
+mul-record : tie.Need-mul-record Inv-loop μ-loop
+mul-record c = omega arith
 
-shared-slice-read-r : tie.Need-shared-slice-read-r Inv-loop μ-loop
-shared-slice-read-r c = omega arith
+shared-slice-read-record : tie.Need-shared-slice-read-record Inv-loop μ-loop
+shared-slice-read-record c = omega arith
 
-shr-r : tie.Need-shr-r Inv-loop μ-loop
-shr-r c = omega arith
+shr-record : tie.Need-shr-record Inv-loop μ-loop
+shr-record c = omega arith
 
-cast-r : tie.Need-cast-r Inv-loop μ-loop
-cast-r c = omega arith
+cast-record : tie.Need-cast-record Inv-loop μ-loop
+cast-record c = omega arith
 
 mul-index : tie.Need-mul-index Inv-loop μ-loop
 mul-index c = omega arith
@@ -72,7 +72,7 @@ loop-again c =
     (omega arith, simp (length-set, length-set) (l .inv .1), indexed-more (l .inv .2) (key-lt (s .arcs .now) (s .key)) (omega arith) (l .inv .1))
 
 returns : tie.Need-returns Inv-loop μ-loop
-returns c = let l = c .before .loop in let e : l .j ≡ c .before .before .args .count = omega arith in rw e at (l .inv .2)
+returns c = let l = c .before .loop in let e : l .j ≡ length (c .before .before .args .arcs .now) = omega arith in rw e at (l .inv .2)
 
 pub index-of-spec : {M : Type 1} → statement M
 index-of-spec =
@@ -81,10 +81,10 @@ index-of-spec =
     Inv-loop
     μ-loop
     loop-holds
-    mul-r
-    shared-slice-read-r
-    shr-r
-    cast-r
+    mul-record
+    shared-slice-read-record
+    shr-record
+    cast-record
     mul-index
     array-read-index
     add-index

@@ -25,8 +25,8 @@ read-requires c κs = search needs
 enum-known-answer : tie.Need-enum-known-answer
 enum-known-answer c = search needs
 
-cast-t20 : tie.Need-cast-t20
-cast-t20 c = search needs
+cast-t21 : tie.Need-cast-t21
+cast-t21 c = search needs
 
 enum-known-answer-2 : tie.Need-enum-known-answer-2
 enum-known-answer-2 c = search needs
@@ -106,7 +106,7 @@ returns-5 c =
     let hy = c .before .before .before .before .before .before .before .before .before .before .before .before .before .before .before .before .before .before .before .before .before .before .if2 .left in
     let k : length (c .before .before .before .before .before .before .before .before .before .before .before .before .before .before .before .links .result .words) ≡ 4096 = search needs in
     let m : c .before .before .before .before .before .before .before .before .before .before .before .before .before .before .before .links .result .count ≤ length (c .before .before .before .before .before .before .before .before .before .before .before .before .before .before .before .links .result .words) = omega (arith, c .before .before .before .before .before .before .before .before .before .before .before .before .before .before .before .links .ensures .few) in
-    let all = replies (z .size) hx hy e (A .is) (c .before .before .before .before .before .before .before .before .before .before .before .before .before .before .before .before .if3 .left) (f .ensures .0) (f .kept .1 .1 .1 .1 .1 .1 .1 .0)
+    let all = replies (z .size) hx hy e (A .is) (c .before .before .before .before .before .before .before .before .before .before .before .before .before .before .before .before .if3 .left) (f .ensures .0) (f .kept .1 .1 .1 .1 .1 .0)
     (λ b R. f .ensures .1 (s .text .now) e (A .limits) (rw part (A .front)) _ (asked-size R (z .size b R)) (inside R) (spans R (z .size b R) (z .small) _ _ (c .before .before .before .before .before .before .before .before .before .before .before .before .before .before .before .links .ensures .linked b R) m) (in-use R (z .size b R) _ hx) (in-use R (z .size b R) _ hy)) in
     rw (c .before .found .given .1) at all
 
@@ -129,7 +129,7 @@ returns-6 c =
     let hy = c .before .before .before .before .before .before .before .before .before .before .before .before .before .before .before .before .before .before .before .before .before .if2 .left in
     let k : length (c .before .before .before .before .before .before .before .before .before .before .before .before .before .before .links .result .words) ≡ 4096 = search needs in
     let m : c .before .before .before .before .before .before .before .before .before .before .before .before .before .before .links .result .count ≤ length (c .before .before .before .before .before .before .before .before .before .before .before .before .before .before .links .result .words) = omega (arith, c .before .before .before .before .before .before .before .before .before .before .before .before .before .before .links .ensures .few) in
-    let all = replies (z .size) hx hy e (A .is) (c .before .before .before .before .before .before .before .before .before .before .before .before .before .before .before .if3 .left) (f .ensures .0) (f .kept .1 .1 .1 .1 .1 .1 .1 .0)
+    let all = replies (z .size) hx hy e (A .is) (c .before .before .before .before .before .before .before .before .before .before .before .before .before .before .before .if3 .left) (f .ensures .0) (f .kept .1 .1 .1 .1 .1 .0)
     (λ b R. f .ensures .1 (s .text .now) e (A .limits) (rw part (A .front)) _ (asked-size R (z .size b R)) (inside R) (spans R (z .size b R) (z .small) _ _ (c .before .before .before .before .before .before .before .before .before .before .before .before .before .before .links .ensures .linked b R) m) (in-use R (z .size b R) _ hx) (in-use R (z .size b R) _ hy)) in
     rw (c .enum-told .given .1) at all
 
@@ -152,7 +152,7 @@ returns-7 c =
     let hy = c .before .before .before .before .before .before .before .before .before .before .before .before .before .before .before .before .before .before .before .before .before .if2 .left in
     let k : length (c .before .before .before .before .before .before .before .before .before .before .before .before .before .before .links .result .words) ≡ 4096 = search needs in
     let m : c .before .before .before .before .before .before .before .before .before .before .before .before .before .before .links .result .count ≤ length (c .before .before .before .before .before .before .before .before .before .before .before .before .before .before .links .result .words) = omega (arith, c .before .before .before .before .before .before .before .before .before .before .before .before .before .before .links .ensures .few) in
-    let all = replies (z .size) hx hy e (A .is) (c .before .before .before .before .before .before .before .before .before .before .before .before .before .before .before .if3 .left) (f .ensures .0) (f .kept .1 .1 .1 .1 .1 .1 .1 .0)
+    let all = replies (z .size) hx hy e (A .is) (c .before .before .before .before .before .before .before .before .before .before .before .before .before .before .before .if3 .left) (f .ensures .0) (f .kept .1 .1 .1 .1 .1 .0)
     (λ b R. f .ensures .1 (s .text .now) e (A .limits) (rw part (A .front)) _ (asked-size R (z .size b R)) (inside R) (spans R (z .size b R) (z .small) _ _ (c .before .before .before .before .before .before .before .before .before .before .before .before .before .before .links .ensures .linked b R) m) (in-use R (z .size b R) _ hx) (in-use R (z .size b R) _ hy)) in
     rw (c .enum-told2 .given .1) at all
 
@@ -165,7 +165,7 @@ chain-spec =
     returns-2
     read-requires
     enum-known-answer
-    cast-t20
+    cast-t21
     enum-known-answer-2
     mul-if3
     returns-3

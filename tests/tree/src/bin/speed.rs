@@ -2,7 +2,7 @@
 
 use std::hint::black_box;
 use std::time::Instant;
-use tree::engine::{self, Inner, One, Two};
+use tree::engine::{self, Inner, One, Two, PRODUCT};
 use tree::plain::{unit, Set};
 use tree::random::Random;
 use tree::same;
@@ -119,7 +119,8 @@ fn measure() -> usize {
     inner(&mut table, "inner product, 130 pairs each", 200.0, 2000, product, &a, &b);
     inner(&mut table, "inner closure, 130 pairs", ANY, 2000, Inner::Closure, &a, &[]);
     two(&mut table, "union, 130 pairs each", 200.0, 2000, Two::Union, &a, &b);
-    two(&mut table, "product, 130 pairs each", 400.0, 2000, Two::Product, &a, &b);
+    two(&mut table, "product, 130 pairs each", 400.0, 2000, PRODUCT, &a, &b);
+    two(&mut table, "product, both inverted, 130 pairs each", 400.0, 2000, Two::Product { sense: 1, other: 1 }, &a, &b);
     one(&mut table, "closure, 130 pairs", ANY, 2000, One::Closure, &a);
     make(&mut table, "make, 130 pairs", ANY, 2000, &few[0].list());
     list(&mut table, "list, 130 pairs", ANY, 2000, &a);
@@ -140,12 +141,12 @@ fn measure() -> usize {
     ];
     for (name, set) in &shapes {
         let t = set.tree();
-        two(&mut table, &format!("product of itself, {name}"), 100e3, 3, Two::Product, &t, &t);
+        two(&mut table, &format!("product of itself, {name}"), 100e3, 3, PRODUCT, &t, &t);
     }
     // no middle record serves: the search goes to its end for every cell
     let evens = Set::of(N, |_, y| y % 2 == 0).tree();
     let odds = Set::of(N, |x, _| x % 2 == 1).tree();
-    two(&mut table, "product, no middle record serves", 100e3, 3, Two::Product, &evens, &odds);
+    two(&mut table, "product, no middle record serves", 100e3, 3, PRODUCT, &evens, &odds);
     for (name, set) in &shapes {
         one(&mut table, &format!("closure, {name}"), 60e3, 3, One::Closure, &set.tree());
     }

@@ -2,7 +2,7 @@
 
 use std::process::Command;
 use std::thread::Builder;
-use tree::engine::{self, Inner, One, Two};
+use tree::engine::{self, Inner, One, Two, PRODUCT};
 use tree::plain::{unit, Set};
 
 const N: usize = 1024;
@@ -42,7 +42,7 @@ fn call(name: &str) -> usize {
         "union" => engine::two(Two::Union, N, &tree, &tree, &mut out, &mut work).unwrap(),
         "intersection" => engine::two(Two::Intersection, N, &tree, &tree, &mut out, &mut work).unwrap(),
         "difference" => engine::two(Two::Difference, N, &tree, &tree, &mut out, &mut work).unwrap(),
-        "product" => engine::two(Two::Product, N, &tree, &tree, &mut out, &mut work).unwrap(),
+        "product" => engine::two(PRODUCT, N, &tree, &tree, &mut out, &mut work).unwrap(),
         "transpose" => engine::one(One::Transpose, N, &tree, &mut out, &mut work).unwrap(),
         "closure" => engine::one(One::Closure, N, &tree, &mut out, &mut work).unwrap(),
         "inner union" => inner(Inner::Union, &mut work),

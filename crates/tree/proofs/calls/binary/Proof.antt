@@ -9,6 +9,7 @@ use lib.ListN.{length}
 use Rattle.k2.specs.PairSets.{PairsBelow}
 use Rattle.k2.specs.Trees.{treeUnit, WellFormed}
 use Rattle.bits.specs.BitSets.{none}
+use Rattle.packing.specs.Senses.{sensed}
 use Rattle.tree.specs.declared.operations.Operand.{Operand}
 use Rattle.tree.specs.declared.operations.Term.{Term}
 use Rattle.tree.specs.Inner.{outcome}
@@ -36,7 +37,7 @@ refusal-requires c κs = search needs
 returns : tie.Need-returns
 returns c =
     let a = c .before .before .before .before .before .before .before .args in
-    refuse (a .n) [] (a .a .now ∷ a .b .now ∷ []) (length (a .work .now)) (treeOfTwo (outcome (a .operation) (a .n) none) (a .n) (a .a .now) (a .b .now)) (a .out .now) (a .out .now) _
+    refuse (a .n) [] (a .a .now ∷ a .b .now ∷ []) (length (a .work .now)) (treeOfTwo (λ x y. outcome (a .operation) (a .n) none (sensed (a .a-sense) x) (sensed (a .b-sense) y)) (a .n) (a .a .now) (a .b .now)) (a .out .now) (a .out .now) _
     (c .before .refusal .ensures) (c .if1 .taken) refl
 
 copy-requires : tie.Need-copy-requires
@@ -94,9 +95,9 @@ returns-2 c =
     let t : Term = record { operation = a .operation; first = c .before .before .before .before .before .before .before .before .before .before .before .tree-of .result; second = c .before .before .before .before .before .before .before .before .before .before .tree-of2 .result } in
     let two = copied-two (a .a .now) (a .b .now) (a .work .now) _ _ (c .before .before .before .before .before .before .before .before .before .before .before .before .before .before .before .before .before .before .copy .ensures) (c .before .before .before .before .before .before .before .before .before .before .before .before .before .before .copy2 .ensures) in
     let l = two-lent t (a .n) [] _ (a .a .now) (a .b .now) (ap (λ (o : Operand). o .size) p) (ap (λ (o : Operand). o .size) q) two v w (m .2) in
-    accept (a .n) [] (a .a .now ∷ a .b .now ∷ []) (length (a .work .now)) (treeOfTwo (outcome (a .operation) (a .n) none) (a .n) (a .a .now) (a .b .now)) (a .out .now) _
+    accept (a .n) [] (a .a .now ∷ a .b .now ∷ []) (length (a .work .now)) (treeOfTwo (λ x y. outcome (a .operation) (a .n) none (sensed (a .a-sense) x) (sensed (a .b-sense) y)) (a .n) (a .a .now) (a .b .now)) (a .out .now) _
     (c .before .before .before .before .before .before .before .before .before .before .before .before .before .before .before .before .before .before .before .before .before .refusal .ensures) (c .before .before .before .before .before .before .before .before .before .before .before .before .before .before .before .before .before .before .before .before .if1 .left)
-    _ (c .before .before .before .before .before .before .before .made .ensures .1 (v .set) (w .set) l .words ∙ two-set t (a .n) [] [] _ _ (a .a .now) (a .b .now) p q v w) (c .before .before .settle .ensures)
+    _ (c .before .before .before .before .before .before .before .made .ensures .1 (v .set) (w .set) l .words ∙ two-set t (a .n) [] [] _ _ (a .a-sense) (a .b-sense) (a .a .now) (a .b .now) p q v w) (c .before .before .settle .ensures)
 
 pub binary-spec : {M : Type 1} → statement M
 binary-spec =

@@ -1,0 +1,125 @@
+-- `first_chain` meets its contract: what the two passes leave is the answer (AnswerLaws). Assumes nothing.
+use mathlib.Core.Path.{_≡_, refl}
+use Prim.Native.Nat.{_*_, _-_}
+use native.Mathlib.Omega.{arith}
+use borrow.Author.Needs.{needs}
+use lib.ListN.{length, take}
+use lib.Seq.{length-take-le}
+use Rattle.arcs.specs.ArcLaws.{crossings-take}
+use Rattle.arcs.specs.Arcs.{Crossings}
+use Rattle.search.specs.Steps.{written, none, too-long}
+use Rattle.search.proofs.AnswerLaws.{setting, answered-none, reached, answered-short, answered-first}
+use Rattle.search.proofs.chain.first_chain.Statement.{statement}
+use Rattle.search.proofs.chain.first_chain.Tie as tie
+
+slice-aggregate-arcs-of : tie.Need-slice-aggregate-arcs-of
+slice-aggregate-arcs-of c = search needs
+
+arcs-of-requires : tie.Need-arcs-of-requires
+arcs-of-requires c κs = search needs
+
+-- the words of the arcs, and how many of them count
+long : (c : tie.After-arcs-of) → length (c .arcs-of .last .1 .1 .0) ≡ 8192
+long c = search needs
+
+part-long : (c : tie.After-arcs-of) → length (take (c .arcs-of .result - 0) (c .arcs-of .last .1 .1 .0)) ≡ c .arcs-of .result - 0
+part-long c = length-take-le (c .arcs-of .result - 0) (c .arcs-of .last .1 .1 .0) (omega (arith, long c, c .arcs-of .ensures .0))
+
+sub-backward : tie.Need-sub-backward
+sub-backward c = search needs
+
+part-backward-start : tie.Need-part-backward-start
+part-backward-start c = search needs
+
+part-backward-end : tie.Need-part-backward-end
+part-backward-end c = omega (arith, long (c .before .before), c .before .before .arcs-of .ensures .0)
+
+backward-requires : tie.Need-backward-requires
+backward-requires c κs = let p = c .before .before .before .before .before .before .before .before .before .before .before .before .pre in (omega (arith, part-long (c .before .before .before .before), c .before .before .before .before .arcs-of .ensures .0), p .1, p .3, p .4, p .5, p .6, p .7)
+
+same-length : tie.Need-same-length
+same-length c = search needs
+
+-- those that count, alone, are the crossings
+crossed : (c : tie.After-arcs-of) → Crossings (c .before .before .before .before .before .before .before .before .args .links .now) (c .before .before .before .before .before .before .before .before .args .enter .now) (2 * length (c .before .before .before .before .before .before .before .before .args .links .now)) (take (c .arcs-of .result - 0) (c .arcs-of .last .1 .1 .0)) (length (take (c .arcs-of .result - 0) (c .arcs-of .last .1 .1 .0)))
+crossed c =
+    let a = c .arcs-of in
+    let part : a .result - 0 ≡ a .result = omega arith in
+    rw part (crossings-take (a .last .1 .1 .0) (a .result) (omega (arith, long c, a .ensures .0)) (a .ensures .1))
+
+returns : tie.Need-returns
+returns c =
+    let p = c .before .before .before .before .before .before .before .before .before .before .before .before .before .before .before .before .pre in (
+      none refl,
+      λ g e size I S T ux uy.
+          let Q = setting size I (p .1) S (crossed (c .before .before .before .before .before .before .before .before)) T (p .3) in
+          answered-none g e (c .before .before .before .backward .ensures g _ _ Q) (c .if1 .taken),
+    )
+
+sub-steps : tie.Need-sub-steps
+sub-steps c = search needs
+
+same-length-2 : tie.Need-same-length-2
+same-length-2 c = search needs
+
+returns-2 : tie.Need-returns-2
+returns-2 c =
+    let p = c .before .before .before .before .before .before .before .before .before .before .before .before .before .before .before .before .before .pre in (
+      too-long refl,
+      λ g e size I S T ux uy.
+          let Q = setting size I (p .1) S (crossed (c .before .before .before .before .before .before .before .before .before)) T (p .3) in
+          answered-short g e _ (reached g e (c .before .before .before .before .backward .ensures g _ _ Q) (c .before .if1 .left)) (p .5) ux uy (c .if2 .taken),
+    )
+
+sub-forward : tie.Need-sub-forward
+sub-forward c = search needs
+
+part-forward-start : tie.Need-part-forward-start
+part-forward-start c = search needs
+
+part-forward-end : tie.Need-part-forward-end
+part-forward-end c = omega (arith, long (c .before .before .before .before .before .before .before .before .before .before), c .before .before .before .before .before .before .before .before .before .before .arcs-of .ensures .0)
+
+forward-requires : tie.Need-forward-requires
+forward-requires c κs =
+    let p = c .before .before .before .before .before .before .before .before .before .before .before .before .before .before .before .before .before .before .before .before .before .before .before .before .pre in
+    (omega (arith, part-long (c .before .before .before .before .before .before .before .before .before .before .before .before .before .before .before .before), c .before .before .before .before .before .before .before .before .before .before .before .before .before .before .before .before .arcs-of .ensures .0), p .2, p .4, search needs, search needs, p .1, p .5, search needs)
+
+same-length-3 : tie.Need-same-length-3
+same-length-3 c = search needs
+
+same-length-4 : tie.Need-same-length-4
+same-length-4 c = search needs
+
+returns-3 : tie.Need-returns-3
+returns-3 c =
+    let p = c .before .before .before .before .before .before .before .before .before .before .before .before .before .before .before .before .before .before .before .before .before .before .before .before .before .before .before .pre in
+    let f = c .before .before .forward .ensures in (
+      written (c .before .before .before .before .before .before .before .before .before .before .if2 .left) (f .rest),
+      λ g e size I S T ux uy.
+          let Q = setting size I (p .1) S (crossed (c .before .before .before .before .before .before .before .before .before .before .before .before .before .before .before .before .before .before .before)) T (p .3) in
+          answered-first g e _ (reached g e (c .before .before .before .before .before .before .before .before .before .before .before .before .before .before .backward .ensures g _ _ Q) (c .before .before .before .before .before .before .before .before .before .before .before .if1 .left)) (p .5) ux uy Q f,
+    )
+
+pub first-chain-spec : {M : Type 1} → statement M
+first-chain-spec =
+    tie.close
+    (tie.spec
+    slice-aggregate-arcs-of
+    arcs-of-requires
+    sub-backward
+    part-backward-start
+    part-backward-end
+    backward-requires
+    same-length
+    returns
+    sub-steps
+    same-length-2
+    returns-2
+    sub-forward
+    part-forward-start
+    part-forward-end
+    forward-requires
+    same-length-3
+    same-length-4
+    returns-3)

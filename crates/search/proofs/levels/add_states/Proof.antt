@@ -1,0 +1,92 @@
+-- `add_states` returns early where nothing is added, and else by whether the record had a state (`listed-old`, `listed-new`). There is room on the list for a
+-- record that comes new, since the list is no longer than the number of records with a state (`list-room`). Assumes nothing.
+use Prim.Native.Nat.{ℕ, _<_}
+use native.Mathlib.Omega.{arith}
+use borrow.Author.Needs.{needs}
+use Rattle.k2.specs.Bits.{digit}
+use Rattle.automaton.specs.Automata.{On}
+use Rattle.search.proofs.LowestLaws.{some-digit}
+use Rattle.search.proofs.FrontierLaws.{added-zero, added-past, added-more, listed-old, list-room, listed-new}
+use Rattle.search.proofs.levels.add_states.Statement.{statement}
+use Rattle.search.proofs.levels.add_states.Tie as tie
+
+-- there is a state to add
+state : (c : tie.Else1) → (q : ℕ) × (q < 64) × On (digit (c .before .before .args .entry .states) q)
+state c = some-digit 64 (c .before .before .args .entry .states) (omega arith) (omega arith)
+
+room : (c : tie.Else3) → c .before .before .before .before .before .before .before .args .entry .listed < 1024
+room c =
+    let s = c .before .before .before .before .before .before .before .args in
+    let p = c .before .before .before .before .before .before .before .pre in
+    list-room (p .4) (s .entry .at) (s .entry .states) (p .3) (omega arith) (state (c .before .before .before .before .before)) (p .1) (c .if3 .left)
+
+returns : tie.Need-returns
+returns c = (c .before .before .pre .4, added-zero _ _ _ _ (c .if1 .taken))
+
+returns-2 : tie.Need-returns-2
+returns-2 c = (c .before .before .before .before .pre .4, added-past _ _ _ _ (c .if2 .taken))
+
+mul-old : tie.Need-mul-old
+mul-old c = search needs
+
+slice-read-old : tie.Need-slice-read-old
+slice-read-old c = search needs
+
+mul-next : tie.Need-mul-next
+mul-next c = search needs
+
+slice-write-next : tie.Need-slice-write-next
+slice-write-next c = search needs
+
+same-length : tie.Need-same-length
+same-length c = search needs
+
+returns-3 : tie.Need-returns-3
+returns-3 c =
+    let s = c .before .before .before .before .before .before .before .args in
+    let p = c .before .before .before .before .before .before .before .pre in
+    (listed-old (p .4) (s .entry .at) (s .entry .states) (p .3) (omega arith) (state (c .before .before .before .before .before)) (p .1) (omega arith), added-more _ _ _ _ (omega arith) (omega arith))
+
+cast-list : tie.Need-cast-list
+cast-list c = search needs
+
+mul-list : tie.Need-mul-list
+mul-list c = omega (arith, room c)
+
+slice-write-list : tie.Need-slice-write-list
+slice-write-list c = omega (arith, room c)
+
+add-result : tie.Need-add-result
+add-result c = omega (arith, room c)
+
+same-length-2 : tie.Need-same-length-2
+same-length-2 c = search needs
+
+same-length-3 : tie.Need-same-length-3
+same-length-3 c = search needs
+
+returns-4 : tie.Need-returns-4
+returns-4 c =
+    let s = c .before .before .before .before .before .before .before .args in
+    let p = c .before .before .before .before .before .before .before .pre in
+    (listed-new (p .4) (s .entry .at) (s .entry .states) (p .3) (omega arith) (state (c .before .before .before .before .before)) (p .1) (c .if3 .left) (p .2), added-more _ _ _ _ (omega arith) (omega arith))
+
+pub add-states-spec : {M : Type 1} → statement M
+add-states-spec =
+    tie.close
+    (tie.spec
+    returns
+    returns-2
+    mul-old
+    slice-read-old
+    mul-next
+    slice-write-next
+    same-length
+    returns-3
+    cast-list
+    mul-list
+    slice-write-list
+    add-result
+    same-length-2
+    same-length-3
+    returns-4)

@@ -1,0 +1,148 @@
+-- `commit` goes over the list. The loop's invariant: the first i records of the list are marked, seen, held, and cleared in next (`Committing`). The measure is
+-- what is left of the list. It rests on `committing-more`. Assumes nothing.
+use mathlib.Core.Path.{_≡_, refl, _∙_}
+use Prim.Native.Nat.{_-_, _≤_, _<_}
+use native.Mathlib.Omega.{arith}
+use lib.ListN.{length, getD, length-set}
+use Rattle.search.proofs.CommitLaws.{Committing, committing-none, committing-more, committed, cleared, held}
+use Rattle.search.proofs.levels.commit.Statement.{statement}
+use Rattle.search.proofs.levels.commit.Tie as tie
+
+abbrev Inv-loop : tie.InvT-loop
+Inv-loop work₀ seen₀ next₀ list mark records₀ masks₀ i₀ work seen next records masks i =
+    (i ≤ length list) × (length work ≡ length work₀) × (length seen ≡ length seen₀) × (length next ≡ length next₀) × (length records ≡ length records₀) × (length masks ≡ length masks₀) × Committing work₀ seen₀ next₀ mark list i work seen next records masks
+
+abbrev μ-loop : tie.MeasureT-loop
+μ-loop work₀ seen₀ next₀ list mark records₀ masks₀ i₀ work seen next records masks i = length list - i
+
+loop-holds : tie.Need-loop-holds Inv-loop μ-loop
+loop-holds c = (omega arith, refl, refl, refl, refl, refl, committing-none _ _ _ _ _ _ _)
+
+-- the record at i
+inside : (c : tie.In-loop Inv-loop μ-loop) → getD (c .before .before .before .before .before .before .before .before .args .list .now) (c .before .loop .i) 0 < c .before .before .before .before .before .before .before .before .pre .4 .0
+inside c = c .before .before .before .before .before .before .before .before .pre .4 .4 .small (c .before .loop .i) (omega arith)
+
+mul-at : tie.Need-mul-at Inv-loop μ-loop
+mul-at c = omega arith
+
+shared-slice-read-at : tie.Need-shared-slice-read-at Inv-loop μ-loop
+shared-slice-read-at c = omega arith
+
+cast-at : tie.Need-cast-at Inv-loop μ-loop
+cast-at c = omega (arith, inside (c .before))
+
+mul-states : tie.Need-mul-states Inv-loop μ-loop
+mul-states c = omega (arith, inside (c .before))
+
+slice-read-states : tie.Need-slice-read-states Inv-loop μ-loop
+slice-read-states c = omega (arith, inside (c .before .before))
+
+stamp-requires : tie.Need-stamp-requires Inv-loop μ-loop
+stamp-requires c κs = let z = inside (c .before .before .before) in (omega arith, omega arith)
+
+mul-seen : tie.Need-mul-seen Inv-loop μ-loop
+mul-seen c = omega (arith, inside (c .before .before .before .before .before .before))
+
+slice-read-seen : tie.Need-slice-read-seen Inv-loop μ-loop
+slice-read-seen c = omega (arith, inside (c .before .before .before .before .before .before .before))
+
+mul-seen-2 : tie.Need-mul-seen-2 Inv-loop μ-loop
+mul-seen-2 c = omega (arith, inside (c .before .before .before .before .before .before .before))
+
+slice-write-seen : tie.Need-slice-write-seen Inv-loop μ-loop
+slice-write-seen c = omega (arith, inside (c .before .before .before .before .before .before .before))
+
+mul-next : tie.Need-mul-next Inv-loop μ-loop
+mul-next c = omega (arith, inside (c .before .before .before .before .before .before .before))
+
+slice-write-next : tie.Need-slice-write-next Inv-loop μ-loop
+slice-write-next c = omega (arith, inside (c .before .before .before .before .before .before .before))
+
+mul-records : tie.Need-mul-records Inv-loop μ-loop
+mul-records c = omega arith
+
+shared-slice-read-records : tie.Need-shared-slice-read-records Inv-loop μ-loop
+shared-slice-read-records c = omega arith
+
+mul-records-2 : tie.Need-mul-records-2 Inv-loop μ-loop
+mul-records-2 c = omega arith
+
+slice-write-records : tie.Need-slice-write-records Inv-loop μ-loop
+slice-write-records c = omega arith
+
+mul-masks : tie.Need-mul-masks Inv-loop μ-loop
+mul-masks c = omega arith
+
+slice-write-masks : tie.Need-slice-write-masks Inv-loop μ-loop
+slice-write-masks c = omega arith
+
+add-i : tie.Need-add-i Inv-loop μ-loop
+add-i c = omega arith
+
+loop-less : tie.Need-loop-less Inv-loop μ-loop
+loop-less c = omega arith
+
+loop-again : tie.Need-loop-again Inv-loop μ-loop
+loop-again c =
+    let l = c .before .before .before .before .before .before .before .before .before .loop in
+    let T = c .before .before .before .before .stamp in
+    let z = inside (c .before .before .before .before .before .before .before .before) in
+    (omega arith, T .kept .0 ∙ l .inv .1, simp length-set (l .inv .2), simp length-set (l .inv .3), simp length-set (l .inv .4), simp length-set (l .inv .5), committing-more (l .inv .6) (c .before .before .before .before .before .before .before .before .before .before .before .before .before .before .before .before .pre .4 .4) (omega arith) (T .ensures) (omega arith) (omega arith) (omega arith) (omega arith))
+
+same-length : tie.Need-same-length Inv-loop μ-loop
+same-length c = c .before .loop .inv .1
+
+same-length-2 : tie.Need-same-length-2 Inv-loop μ-loop
+same-length-2 c = c .before .loop .inv .2
+
+same-length-3 : tie.Need-same-length-3 Inv-loop μ-loop
+same-length-3 c = c .before .loop .inv .3
+
+same-length-4 : tie.Need-same-length-4 Inv-loop μ-loop
+same-length-4 c = c .before .loop .inv .4
+
+same-length-5 : tie.Need-same-length-5 Inv-loop μ-loop
+same-length-5 c = c .before .loop .inv .5
+
+returns : tie.Need-returns Inv-loop μ-loop
+returns c =
+    let l = c .before .loop in
+    let p = c .before .before .before .before .before .before .before .before .pre in
+    let e : l .i ≡ length (c .before .before .before .before .before .before .before .before .args .list .now) = omega arith in
+    let I = rw e at (l .inv .6) in
+    (cleared I (p .4 .4), held I (p .4 .4) (p .4 .1), λ n L. committed I L)
+
+pub commit-spec : {M : Type 1} → statement M
+commit-spec =
+    tie.close
+    (tie.spec
+    Inv-loop
+    μ-loop
+    loop-holds
+    mul-at
+    shared-slice-read-at
+    cast-at
+    mul-states
+    slice-read-states
+    stamp-requires
+    mul-seen
+    slice-read-seen
+    mul-seen-2
+    slice-write-seen
+    mul-next
+    slice-write-next
+    mul-records
+    shared-slice-read-records
+    mul-records-2
+    slice-write-records
+    mul-masks
+    slice-write-masks
+    add-i
+    loop-less
+    loop-again
+    same-length
+    same-length-2
+    same-length-3
+    same-length-4
+    same-length-5
+    returns)

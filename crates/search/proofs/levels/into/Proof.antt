@@ -1,0 +1,117 @@
+-- `into` goes over the arcs into the record. The loop's invariant: the cursor stands at one of them (`Cursor`), the list has the records of the words (`Listed`), and
+-- the arcs passed are those before the record and those into it from it on (`Levelling`). The measure is the cursor, which falls (`next-falls`). It rests on
+-- `levelling-more`. Assumes nothing.
+use mathlib.Core.Path.{_≡_, refl, _∙_}
+use mathlib.Core.List.{List}
+use Prim.Native.Nat.{ℕ, _-_, _≤_, _<_}
+use native.Mathlib.Omega.{arith}
+use lib.ListN.{length, getD}
+use Rattle.arcs.specs.Arcs.{arcFrom, arcTo, arcLetter}
+use Rattle.arcs.specs.Index.{Cursor}
+use Rattle.arcs.specs.IndexLaws.{next-falls, cursor-next}
+use Rattle.search.specs.Frontiers.{Levelling, Listed}
+use Rattle.search.proofs.LevellingLaws.{levelling-first, levelling-more, levelling-done}
+use Rattle.search.proofs.levels.into.Statement.{statement}
+use Rattle.search.proofs.levels.into.Tie as tie
+
+abbrev Inv-loop : tie.InvT-loop
+Inv-loop arcs index predecessors enter seen next₀ list₀ entry n listed₀ cursor₀ next list listed cursor =
+    (length next ≡ length next₀) × (length list ≡ length list₀) × Cursor (arcTo arcs) (length arcs) (entry .at) cursor × Listed list listed (entry .n) next
+    × ((cur records : List ℕ) (i : ℕ) → entry .at ≡ getD records i 0 → entry .states ≡ getD cur (entry .at) 0 → Levelling arcs predecessors enter cur seen (entry .n) (length arcs) records i (length arcs) next₀ → Levelling arcs predecessors enter cur seen (entry .n) (length arcs) records i cursor next)
+
+abbrev μ-loop : tie.MeasureT-loop
+μ-loop arcs index predecessors enter seen next₀ list₀ entry n listed₀ cursor₀ next list listed cursor = cursor
+
+-- the arc at which the cursor stands
+stands : (c : tie.In-loop Inv-loop μ-loop) → (0 < c .before .loop .cursor) × (c .before .loop .cursor ≤ length (c .before .before .before .before .before .before .before .before .before .before .args .arcs .now))
+stands c = (omega arith, c .before .loop .inv .2 .0)
+
+first-arc-requires : tie.Need-first-arc-requires Inv-loop μ-loop
+first-arc-requires c κs = (c .before .before .before .before .before .before .before .pre .1, c .before .before .before .before .before .before .before .pre .4)
+
+loop-holds : tie.Need-loop-holds Inv-loop μ-loop
+loop-holds c =
+    let p = c .before .before .before .before .before .before .before .before .pre in
+    rw (c .first-arc .ensures) (refl, refl, p .9 .first-at _ (p .4), p .10, λ cur records i at e L. levelling-first at (p .9) L)
+
+sub-j : tie.Need-sub-j Inv-loop μ-loop
+sub-j c = omega arith
+
+mul-arc : tie.Need-mul-arc Inv-loop μ-loop
+mul-arc c = omega arith
+
+shared-slice-read-arc : tie.Need-shared-slice-read-arc Inv-loop μ-loop
+shared-slice-read-arc c = omega (arith, stands (c .before))
+
+cast-arc : tie.Need-cast-arc Inv-loop μ-loop
+cast-arc c = omega (arith, c .shared-slice-known6 .given (c .before .before .loop .cursor - 1) .fits)
+
+mul-spread : tie.Need-mul-spread Inv-loop μ-loop
+mul-spread c = omega arith
+
+shared-slice-read-spread : tie.Need-shared-slice-read-spread Inv-loop μ-loop
+shared-slice-read-spread c = omega arith
+
+spread-requires : tie.Need-spread-requires Inv-loop μ-loop
+spread-requires c κs = omega arith
+
+mul-states : tie.Need-mul-states Inv-loop μ-loop
+mul-states c = omega arith
+
+shared-slice-read-states : tie.Need-shared-slice-read-states Inv-loop μ-loop
+shared-slice-read-states c = omega arith
+
+add-states-requires : tie.Need-add-states-requires Inv-loop μ-loop
+add-states-requires c κs = (c .before .before .before .before .before .before .before .before .before .before .before .before .before .before .before .before .before .pre .6, omega arith, omega arith, omega arith, c .before .before .before .before .before .before .before .before .loop .inv .3)
+
+next-arc-requires : tie.Need-next-arc-requires Inv-loop μ-loop
+next-arc-requires c κs = (c .before .before .before .before .before .before .before .before .before .before .before .before .before .before .before .before .before .before .before .before .before .before .pre .1, omega (arith, stands (c .before .before .before .before .before .before .before .before .before .before .before .before)))
+
+loop-less : tie.Need-loop-less Inv-loop μ-loop
+loop-less c = let z = stands (c .before .before .before .before .before .before .before .before .before .before .before .before .before) in omega (arith, c .next-arc .ensures, next-falls (c .before .before .before .before .before .before .before .before .before .before .before .before .before .before .before .before .before .before .before .before .before .before .before .pre .9) (c .before .before .before .before .before .before .before .before .before .before .before .before .before .before .loop .inv .2) (z .0))
+
+loop-again : tie.Need-loop-again Inv-loop μ-loop
+unfolding arcFrom arcTo arcLetter
+loop-again c =
+    let s = c .before .before .before .before .before .before .before .before .before .before .before .before .before .before .before .before .before .before .before .before .before .before .before .args in
+    let X = c .before .before .before .before .before .before .before .before .before .before .before .before .before .before .before .before .before .before .before .before .before .before .before .pre .9 in
+    let l = c .before .before .before .before .before .before .before .before .before .before .before .before .before .before .loop in
+    let hp = stands (c .before .before .before .before .before .before .before .before .before .before .before .before .before) .0 in
+    let v = c .before .before .before .before .before .before .before .before .before .spread in
+    let word = c .before .before .before .before .before .before .before .before .shared-slice-known8 .given (arcFrom (s .arcs .now) (l .cursor - 1)) .fits in
+    let A = c .before .before .before .before .before .add-states in
+    rw (c .next-arc .ensures) (A .kept .0 ∙ l .inv .0, A .kept .1 .0 ∙ l .inv .1, cursor-next X (l .inv .2) hp, A .ensures .0, λ cur records i at e L. levelling-more at X (l .inv .2) hp (l .inv .4 cur records i at e L) _ (v .result) e (v .ensures) word (A .ensures .1))
+
+same-length : tie.Need-same-length Inv-loop μ-loop
+same-length c = c .before .loop .inv .0
+
+same-length-2 : tie.Need-same-length-2 Inv-loop μ-loop
+same-length-2 c = c .before .loop .inv .1
+
+returns : tie.Need-returns Inv-loop μ-loop
+returns c = let l = c .before .loop in let z : l .cursor ≡ 0 = omega arith in (l .inv .3, λ cur records i at e L. levelling-done (rw z at (l .inv .4 cur records i at e L)))
+
+pub into-spec : {M : Type 1} → statement M
+into-spec =
+    tie.close
+    (tie.spec
+    Inv-loop
+    μ-loop
+    first-arc-requires
+    loop-holds
+    sub-j
+    mul-arc
+    shared-slice-read-arc
+    cast-arc
+    mul-spread
+    shared-slice-read-spread
+    spread-requires
+    mul-states
+    shared-slice-read-states
+    add-states-requires
+    next-arc-requires
+    loop-less
+    loop-again
+    same-length
+    same-length-2
+    returns)

@@ -1,0 +1,117 @@
+-- `choose` goes over the arcs out of the record. The loop's invariant: the cursor stands at one of them (`Cursor`), and the choice is that of the arcs from it on (`Chosen`).
+-- The measure is the cursor, which falls (`next-falls`). It rests on `chosen-more`. Assumes nothing.
+use mathlib.Core.Path.{_≡_}
+use Prim.Native.Nat.{_-_, _<_, _≤_}
+use lib.ListN.{length}
+use native.Mathlib.Omega.{arith}
+use borrow.Author.Needs.{needs}
+use Rattle.arcs.specs.Arcs.{arcFrom, arcTo, arcLetter}
+use Rattle.search.specs.Steps.{Chosen}
+use Rattle.arcs.specs.Index.{Cursor}
+use Rattle.arcs.specs.IndexLaws.{next-falls, cursor-next, before-first, only-arc}
+use Rattle.search.proofs.MarkLaws.{chosen-none, chosen-first, chosen-more}
+use Rattle.search.proofs.walk.choose.Statement.{statement}
+use Rattle.search.proofs.walk.choose.Tie as tie
+
+abbrev Inv-loop : tie.InvT-loop
+Inv-loop arcs index enter work seen aim n distance best₀ cursor₀ best cursor =
+    Cursor (arcFrom arcs) (length arcs) (aim .at) cursor × Chosen arcs enter work seen (aim .n) (aim .at) (aim .follows) (aim .distance) (length arcs) cursor (best .word) (best .states)
+
+abbrev μ-loop : tie.MeasureT-loop
+μ-loop arcs index enter work seen aim n distance best₀ cursor₀ best cursor = cursor
+
+first-arc-requires : tie.Need-first-arc-requires Inv-loop μ-loop
+first-arc-requires c κs = (c .before .before .before .before .before .pre .1, c .before .before .before .before .before .pre .6)
+
+loop-holds : tie.Need-loop-holds Inv-loop μ-loop
+loop-holds c =
+    let p = c .before .before .before .before .before .before .pre in
+    let T = p .7 .first-at _ (p .6) in
+    rw (c .first-arc .ensures) (T, chosen-first (chosen-none _ _ _ _ _ _ _ _ _) (T .0) (before-first (p .7)))
+
+-- the arc at which the cursor stands
+stands : (c : tie.In-loop Inv-loop μ-loop) → (0 < c .before .loop .cursor) × (c .before .loop .cursor ≤ length (c .before .before .before .before .before .before .before .before .args .arcs .now))
+stands c = (omega arith, c .before .loop .inv .0 .0)
+
+sub-j : tie.Need-sub-j Inv-loop μ-loop
+sub-j c = omega arith
+
+mul-arc : tie.Need-mul-arc Inv-loop μ-loop
+mul-arc c = omega arith
+
+shared-slice-read-arc : tie.Need-shared-slice-read-arc Inv-loop μ-loop
+shared-slice-read-arc c = omega (arith, stands (c .before))
+
+cast-arc : tie.Need-cast-arc Inv-loop μ-loop
+cast-arc c = omega (arith, c .shared-slice-known6 .given (c .before .before .loop .cursor - 1) .fits)
+
+mul-kept : tie.Need-mul-kept Inv-loop μ-loop
+mul-kept c = omega arith
+
+shared-slice-read-kept : tie.Need-shared-slice-read-kept Inv-loop μ-loop
+shared-slice-read-kept c = omega arith
+
+mul-kept-2 : tie.Need-mul-kept-2 Inv-loop μ-loop
+mul-kept-2 c = omega arith
+
+shared-slice-read-kept-2 : tie.Need-shared-slice-read-kept-2 Inv-loop μ-loop
+shared-slice-read-kept-2 c = omega arith
+
+kept-requires : tie.Need-kept-requires Inv-loop μ-loop
+kept-requires c κs = omega arith
+
+mul-word : tie.Need-mul-word Inv-loop μ-loop
+mul-word c = omega arith
+
+add-word : tie.Need-add-word Inv-loop μ-loop
+add-word c = omega arith
+
+cast-word : tie.Need-cast-word Inv-loop μ-loop
+cast-word c = omega arith
+
+better-requires : tie.Need-better-requires Inv-loop μ-loop
+better-requires c κs = search needs
+
+next-arc-requires : tie.Need-next-arc-requires Inv-loop μ-loop
+next-arc-requires c κs = (c .before .before .before .before .before .before .before .before .before .before .before .before .before .before .pre .1, omega (arith, stands (c .before .before .before .before .before .before)))
+
+loop-less : tie.Need-loop-less Inv-loop μ-loop
+loop-less c = omega (arith, c .next-arc .ensures, stands (c .before .before .before .before .before .before .before), next-falls (c .before .before .before .before .before .before .before .before .before .before .before .before .before .before .before .pre .7) (c .before .before .before .before .before .before .before .before .loop .inv .0) (stands (c .before .before .before .before .before .before .before) .0))
+
+loop-again : tie.Need-loop-again Inv-loop μ-loop
+unfolding arcFrom arcTo arcLetter
+loop-again c =
+    let l = c .before .before .before .before .before .before .before .before .loop in
+    let X = c .before .before .before .before .before .before .before .before .before .before .before .before .before .before .before .pre .7 in
+    let C = l .inv .0 in
+    let z = stands (c .before .before .before .before .before .before .before) in
+    rw (c .next-arc .ensures) (cursor-next X C (z .0), chosen-more (l .inv .1) (omega arith) (omega arith) (next-falls X C (z .0)) (only-arc X C (z .0)) (c .before .before .kept .result) (C .1 (z .0)) (c .before .before .kept .ensures) (c .before .better .ensures))
+
+returns : tie.Need-returns Inv-loop μ-loop
+returns c = let l = c .before .loop in let z : l .cursor ≡ 0 = omega arith in rw z at (l .inv .1)
+
+pub choose-spec : {M : Type 1} → statement M
+choose-spec =
+    tie.close
+    (tie.spec
+    Inv-loop
+    μ-loop
+    first-arc-requires
+    loop-holds
+    sub-j
+    mul-arc
+    shared-slice-read-arc
+    cast-arc
+    mul-kept
+    shared-slice-read-kept
+    mul-kept-2
+    shared-slice-read-kept-2
+    kept-requires
+    mul-word
+    add-word
+    cast-word
+    better-requires
+    next-arc-requires
+    loop-less
+    loop-again
+    returns)

@@ -1,0 +1,186 @@
+// The levels backward from the end: the states from which it is so many steps away, each with its number in the lent work.
+// What the functions give is stated in specs/Levels.antt and specs/Frontiers.antt.
+use crate::Ends;
+use crate::Entry;
+use crate::Marks;
+use crate::states::spread;
+ghost use mathlib.Core.Path.{_≡_};
+ghost use mathlib.Core.List.{List};
+ghost use Prim.Native.Nat.{ℕ, _+_, _*_, _<_, _≤_};
+ghost use lib.ListN.{length, getD};
+ghost use Rattle.book.specs.Causes.{maxRecords};
+ghost use Rattle.paths.specs.Chains.{Graph};
+ghost use Rattle.automaton.specs.Automata.{Automaton};
+ghost use Rattle.arcs.specs.Arcs.{maxArcs, arcTo};
+ghost use Rattle.arcs.specs.Index.{indexWords, Indexed};
+ghost use Rattle.search.specs.Levels.{Setting, Stamped, Committed, Sought};
+ghost use Rattle.search.specs.Frontiers.{Levelling, Added, Listed, Frontier, Zero};
+
+// The states of the entry, if its record is below n, besides those of next, whose records are on the list. How many are they now?
+fn add_states(next: &mut [u64], list: &mut [u16], entry: Entry) -> usize
+    requires { ⌜ (entry .n ≤ maxRecords) × (length (now next) ≡ maxRecords) × (length (now list) ≡ maxRecords) × (entry .at < maxRecords) × Listed (now list) (entry .listed) (entry .n) (now next) ⌝ }
+    ensures { λ k. ⌜ Listed (now (list .exit)) k (entry .n) (now (next .exit)) × Added (now (next .entry)) (entry .n) (entry .at) (entry .states) (now (next .exit)) ⌝ }
+{
+    let at = entry.at;
+    let listed = entry.listed;
+    if entry.states == 0 {
+        return listed;
+    }
+    if entry.n <= at {
+        return listed;
+    }
+    let old = next[at];
+    next[at] = old | entry.states;
+    if old != 0 {
+        return listed;
+    }
+    list[listed] = at as u16;
+    listed + 1
+}
+
+// The states, not seen yet, from which an arc leads to one of the entry's, besides those of next. How many records are listed now?
+fn into(
+    arcs: &[u32],
+    index: &[u16],
+    predecessors: &[u64],
+    enter: &[u64],
+    seen: &[u64],
+    next: &mut [u64],
+    list: &mut [u16],
+    entry: Entry,
+) -> usize
+    requires { ⌜ (length (now arcs) ≤ maxArcs) × (length (now index) ≡ indexWords) × (length (now predecessors) ≡ 64) × (length (now enter) ≡ 64) × (entry .at < maxRecords) × (length (now seen) ≡ maxRecords) × (entry .n ≤ maxRecords) × (length (now next) ≡ maxRecords) × (length (now list) ≡ maxRecords) × Indexed (arcTo (now arcs)) (length (now arcs)) (now index) × Listed (now list) (entry .listed) (entry .n) (now next) ⌝ }
+    ensures { λ k. ⌜ Listed (now (list .exit)) k (entry .n) (now (next .exit)) × ((cur records : List ℕ) (i : ℕ) → entry .at ≡ getD records i 0 → entry .states ≡ getD cur (entry .at) 0 → Levelling (now (arcs .entry)) (now (predecessors .entry)) (now (enter .entry)) cur (now (seen .entry)) (entry .n) (length (now (arcs .entry))) records i (length (now (arcs .entry))) (now (next .entry)) → Levelling (now (arcs .entry)) (now (predecessors .entry)) (now (enter .entry)) cur (now (seen .entry)) (entry .n) (length (now (arcs .entry))) records (i + 1) (length (now (arcs .entry))) (now (next .exit))) ⌝ }
+{
+    let n = entry.n;
+    let mut listed = entry.listed;
+    let mut cursor = arcs::first_arc(index, entry.at);
+    while cursor != 0 {
+        let j = cursor - 1;
+        let arc = arcs[j] as usize;
+        let from = arc / 1024 % 1024;
+        let before = spread(predecessors, entry.states & enter[arc / 1048576 % 64]);
+        let states = before & !seen[from];
+        listed = add_states(
+            next,
+            list,
+            Entry {
+                at: from,
+                states,
+                n,
+                listed,
+            },
+        );
+        cursor = arcs::next_arc(index, j);
+    }
+    listed
+}
+
+// The mark at a record, at each of the states.
+fn stamp(work: &mut [u64], at: usize, states: u64, mark: u64)
+    requires { ⌜ (at * 64 + 64 ≤ length (now work)) × (at < maxRecords) ⌝ }
+    ensures { λ _. ⌜ Stamped (now (work .entry)) at states mark 0 (now (work .exit)) ⌝ }
+{
+    let mut left = states;
+    while left != 0 {
+        let q = u64::trailing_zeros(left) as usize;
+        work[at * 64 + q] = mark;
+        left = left & (left - 1);
+    }
+}
+
+// The mark at the records of the list, at the states of their words, which are seen from now on and become the current level.
+fn commit(
+    work: &mut [u64],
+    seen: &mut [u64],
+    next: &mut [u64],
+    list: &[u16],
+    mark: u64,
+    records: &mut [u16],
+    masks: &mut [u64],
+)
+    requires { ⌜ (length (now next) ≡ maxRecords) × (length (now records) ≡ maxRecords) × (length (now masks) ≡ maxRecords) × (length (now list) ≤ maxRecords) × ((n : ℕ) × (n ≤ maxRecords) × (n * 64 ≤ length (now work)) × (n ≤ length (now seen)) × Listed (now list) (length (now list)) n (now next)) ⌝ }
+    ensures { λ _. ⌜ Zero (now (next .exit)) × Frontier (now (records .exit)) (now (masks .exit)) (length (now (list .entry))) (now (next .entry)) × ((n : ℕ) → Listed (now (list .entry)) (length (now (list .entry))) n (now (next .entry)) → Committed (now (work .entry)) (now (seen .entry)) (now (next .entry)) mark n (now (work .exit)) (now (seen .exit))) ⌝ }
+{
+    let mut i = 0;
+    while i < list.len() {
+        let at = list[i] as usize;
+        let states = next[at];
+        stamp(work, at, states, mark);
+        seen[at] = seen[at] | states;
+        next[at] = 0;
+        records[i] = list[i];
+        masks[i] = states;
+        i += 1;
+    }
+}
+
+// The levels backward from the end, until the first state is seen at the start or a level is empty.
+pub(crate) fn backward(
+    arcs: &[u32],
+    predecessors: &[u64],
+    enter: &[u64],
+    accepting: u64,
+    ends: Ends,
+    work: &mut [u64],
+) -> Marks
+    requires { ⌜ (length (now arcs) ≤ maxArcs) × (ends .n ≤ maxRecords) × (length (now predecessors) ≡ 64) × (length (now enter) ≡ 64) × (ends .from < ends .n) × (ends .to < ends .n) × (ends .n * 64 ≤ length (now work)) ⌝ }
+    ensures { λ r. ⌜ ((g : Graph) (M : Automaton) (fs : List ℕ) → Setting g M fs (now (predecessors .entry)) (now (enter .entry)) accepting (ends .n) (now (arcs .entry)) (length (now (arcs .entry))) → Sought g M (ends .from) (ends .to) (ends .n) (now (work .exit)) (r .seen) (r .number)) ⌝ }
+{
+    let n = ends.n;
+    let start = ends.from;
+    let end = ends.to;
+    let index = arcs::index_by_reached(arcs);
+    stamp(work, end, accepting, 1);
+    let mut seen = [0u64; book::MAX_RECORDS];
+    seen[end] = accepting;
+    let mut next = [0u64; book::MAX_RECORDS];
+    let mut list = [0u16; book::MAX_RECORDS];
+    let mut records = [end as u16; book::MAX_RECORDS];
+    let mut masks = [accepting; book::MAX_RECORDS];
+    let mut count = 1;
+    let mut level: u64 = 0;
+    while seen[start] % 2 == 0 {
+        let mut listed = 0;
+        let mut i = 0;
+        while i < count {
+            let at = records[i] as usize;
+            let states = masks[i];
+            let entry = Entry {
+                at,
+                states,
+                n,
+                listed,
+            };
+            listed = into(
+                arcs,
+                &index,
+                predecessors,
+                enter,
+                &seen,
+                &mut next,
+                &mut list,
+                entry,
+            );
+            i += 1;
+        }
+        if listed == 0 {
+            return Marks { seen, number: 0 };
+        }
+        commit(
+            work,
+            &mut seen,
+            &mut next,
+            &list[0..listed],
+            level + 2,
+            &mut records,
+            &mut masks,
+        );
+        count = listed;
+        level += 1;
+    }
+    Marks {
+        seen,
+        number: work[start * 64],
+    }
+}
