@@ -42,6 +42,14 @@ impl Automaton {
                 self.enters[*label as usize * 2 + usize::from(inverted)] |= position;
                 Ends { first: position, last: position, empty: false }
             }
+            NoneOf(members) => {
+                let position = 1 << self.letters;
+                self.letters += 1;
+                for letter in members.others() {
+                    self.enters[letter as usize ^ usize::from(inverted)] |= position;
+                }
+                Ends { first: position, last: position, empty: false }
+            }
             Inverse(inner) => self.part(inner, !inverted),
             Alternative(left, right) => {
                 let (left, right) = (self.part(left, inverted), self.part(right, inverted));

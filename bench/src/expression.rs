@@ -5,6 +5,7 @@ use crate::system::Refusal;
 #[derive(Clone, Debug, PartialEq, Eq)]
 pub enum Expression {
     Letter(u32),
+    NoneOf(Members),
     Inverse(Box<Expression>),
     Alternative(Box<Expression>, Box<Expression>),
     Sequence(Box<Expression>, Box<Expression>),
@@ -14,6 +15,21 @@ pub enum Expression {
 }
 
 use Expression::*;
+
+/// The members of a negated set: the plain labels and the inverted ones, as sets of bits.
+#[derive(Clone, Copy, Debug, Default, PartialEq, Eq)]
+pub struct Members {
+    pub plain: u32,
+    pub inverted: u32,
+}
+
+impl Members {
+    /// The letters that the set stands for, each as label × 2 + sense.
+    pub fn others(self) -> impl Iterator<Item = u32> {
+        let members = [self.plain, self.inverted];
+        (0..52).filter(move |letter| members[*letter as usize % 2] != 0 && members[*letter as usize % 2] >> (letter / 2) & 1 == 0)
+    }
+}
 
 /// Reads a whole text; refused with 10 for bytes, 9, 10 for letters and depth, in this order.
 pub fn read(text: &[u8]) -> Result<Expression, Refusal> {
@@ -77,13 +93,33 @@ impl Reader<'_> {
             self.depth -= 1;
             return self.takes(b')').then_some(inner);
         }
-        let byte = *self.text.get(self.at)?;
-        if !byte.is_ascii_lowercase() {
-            return None;
-        }
-        self.at += 1;
         self.letters += 1;
-        Some(Letter(u32::from(byte - b'a')))
+        if self.takes(b'!') {
+            return self.members().map(NoneOf);
+        }
+        self.label().map(Letter)
+    }
+
+    /// One member, or members in parentheses, which are no group.
+    fn members(&mut self) -> Option<Members> {
+        let many = self.takes(b'(');
+        let mut members = Members::default();
+        loop {
+            let set = if self.takes(b'^') { &mut members.inverted } else { &mut members.plain };
+            *set |= 1 << self.label()?;
+            if !many {
+                return Some(members);
+            }
+            if !self.takes(b'|') {
+                return self.takes(b')').then_some(members);
+            }
+        }
+    }
+
+    fn label(&mut self) -> Option<u32> {
+        let byte = self.text.get(self.at).filter(|byte| byte.is_ascii_lowercase())?;
+        self.at += 1;
+        Some(u32::from(byte - b'a'))
     }
 
     fn takes(&mut self, byte: u8) -> bool {
@@ -105,14 +141,16 @@ mod tests {
     fn marks_bind_closer_than_inversion_and_sequences_closer_than_alternatives() {
         assert_eq!(read(b"^a*"), Ok(Inverse(Box::new(Star(boxed(0))))));
         assert_eq!(read(b"a|b/c"), Ok(Alternative(boxed(0), Box::new(Sequence(boxed(1), boxed(2))))));
+        assert_eq!(read(b"!(a|^c|b)*"), Ok(Star(Box::new(NoneOf(Members { plain: 0b11, inverted: 0b100 })))));
         assert_eq!(read(b"(a|b)/c"), Ok(Sequence(Box::new(Alternative(boxed(0), boxed(1))), boxed(2))));
     }
 
     #[test]
     fn faults_are_refused_with_9() {
-        for text in
-            ["", "()", "a**", "^^a", "A", "a b", " a", "a|", "|a", "a/", "(a", "a)", "^", "*", "ab", "a^", "a?+", "(^)", "1"]
-        {
+        for text in [
+            "", "()", "a**", "^^a", "A", "a b", " a", "a|", "|a", "a/", "(a", "a)", "^", "*", "ab", "a^", "a?+", "(^)", "1", "!",
+            "!()", "!(a", "!(a|)", "!((a))", "!(a*)", "!(a/b)", "!!a", "!^^a", "^^!a",
+        ] {
             assert_eq!(read(text.as_bytes()), Err(9), "{text}");
         }
     }
@@ -129,6 +167,9 @@ mod tests {
         assert_eq!(read(&[b' '; 256]), Err(9));
         assert_eq!(read((sequence(64) + "|").as_bytes()), Err(9));
         assert_eq!(read((nested(9) + ")").as_bytes()), Err(9));
+        assert!(read(nested(8).replace('a', "!(a|b)").as_bytes()).is_ok());
+        assert!(read(sequence(63).replace('a', "!a").as_bytes()).is_ok());
+        assert_eq!(read(sequence(64).replace('a', "!a").as_bytes()), Err(10));
         assert!(read(("(a)|".repeat(8) + "(a)").as_bytes()).is_ok());
     }
 }

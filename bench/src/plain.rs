@@ -56,6 +56,18 @@ fn relation(register: &Register, expression: &Expression) -> Rows {
             register.labelled(*label).for_each(|(from, to)| rows.insert(from, to));
             rows
         }
+        Expression::NoneOf(members) => {
+            let mut rows = Rows::empty(register.n());
+            for letter in members.others() {
+                let links = register.labelled(letter / 2);
+                if letter % 2 == 0 {
+                    links.for_each(|(from, to)| rows.insert(from, to));
+                } else {
+                    links.for_each(|(from, to)| rows.insert(to, from));
+                }
+            }
+            rows
+        }
         Expression::Inverse(inner) => of(inner).transpose(),
         Expression::Alternative(left, right) => of(left).union(&of(right)),
         Expression::Sequence(left, right) => of(left).product(&of(right)),

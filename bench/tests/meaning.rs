@@ -47,6 +47,9 @@ fn the_scopes_cases() {
         ("^a/^b", &[(1, 2)]),
         ("^b/^a", &[(0, 1)]),
         ("c*", &[(0, 0), (1, 1), (2, 2), (3, 3)]),
+        ("!a", &[(2, 0)]),
+        ("!(a|^b)", &[(1, 0), (2, 0), (2, 1)]),
+        ("^!^a", &[(2, 0)]),
     ] {
         assert_eq!(pairs(system, expression), expected, "{expression}");
     }
@@ -94,6 +97,14 @@ fn spells(steps: &[u32], expression: &Expression, inverted: bool) -> bool {
     };
     match expression {
         Letter(label) => steps.len() == 1 && steps[0] >> 10 == label * 2 + u32::from(inverted),
+        NoneOf(members) => match steps {
+            [step] => {
+                let (label, against) = (step >> 11, (step >> 10 & 1 == 1) != inverted);
+                let named = if against { members.inverted } else { members.plain };
+                named != 0 && named >> label & 1 == 0
+            }
+            _ => false,
+        },
         Inverse(inner) => spells(steps, inner, !inverted),
         Alternative(left, right) => spells(steps, left, inverted) || spells(steps, right, inverted),
         Sequence(left, right) => {
@@ -135,13 +146,14 @@ fn first_of_length(
     })
 }
 
-/// A random expression over a and b.
+/// A random expression over a and b, and negated sets.
 fn expression(random: &mut Random, depth: u32) -> String {
     let part = |random: &mut Random| {
         let inverse = ["", "", "^"][random.below(3) as usize];
-        let atom = match random.below(3) {
+        let atom = match random.below(4) {
             0 if depth > 0 => format!("({})", expression(random, depth - 1)),
             1 => "b".into(),
+            2 => ["!a", "!^b", "!(a|^b)", "!(c|^c)", "!(^a|a|a)", "!(a|b|^b)"][random.below(6) as usize].into(),
             _ => "a".into(),
         };
         let mark = ["", "", "*", "+", "?"][random.below(5) as usize];

@@ -5,7 +5,7 @@
 --   Fragment        what is known of a part of an expression: whether it has the empty word, the positions that begin and end its words, those that
 --                   may follow a position, and the letters that may enter a position. So a symbol that stands for many letters has one position
 --   single, reversed, repeated, optional, either, followed
---                   the fragment of a symbol at a position, and what each operator makes of fragments
+--                   the fragment of a set of letters at a position, and what each operator makes of fragments
 --   fragment e o    the fragment of e after o letters: its positions are o + 1 to o + letters e
 --   Automaton       which state may follow which, which are final, and the letters that may enter a state
 --   started A       the automaton that starts in the state 0 and goes on to the positions of A
@@ -13,10 +13,11 @@
 --   Run M q w       an accepted run: from the state q, entering a state by each letter of w, to a final state
 -- Assumes nothing: these are definitions.
 use mathlib.Core.List.{List, [], _∷_}
+use mathlib.Core.Bool.{Bool}
 use Prim.Native.Nat.{ℕ, suc, _+_, _<_, max, min}
 use lib.Dec.{eqb}
 use Rattle.book.specs.Basics.{bit}
-use Rattle.paths.specs.Expressions.{Letter, Symbol, standsFor, Expr, symbol, group, inverse, star, plus, optional as optional-part, alternative, sequence, letters}
+use Rattle.paths.specs.Expressions.{Letter, standsFor, Expr, symbol, group, inverse, star, plus, optional as optional-part, alternative, sequence, letters}
 use Rattle.paths.specs.Words.{inverseLetter}
 
 abbrev pub On : ℕ → Type 0
@@ -32,8 +33,8 @@ pub record Fragment : Type 0 where
   pub follow : ℕ → ℕ → ℕ
   pub enters : ℕ → Letter → ℕ
 
-unfoldable pub single : ℕ → Symbol → Fragment
-single p s = record { nullable = 0; first = is p; last = is p; follow = λ q r. 0; enters = λ q a. min (is p q) (bit (standsFor s a)) }
+unfoldable pub single : ℕ → (Letter → Bool) → Fragment
+single p f = record { nullable = 0; first = is p; last = is p; follow = λ q r. 0; enters = λ q a. min (is p q) (bit (f a)) }
 
 unfoldable pub reversed : Fragment → Fragment
 reversed A = record { nullable = A .nullable; first = A .last; last = A .first; follow = λ p q. A .follow q p; enters = λ q a. A .enters q (inverseLetter a) }
@@ -63,7 +64,7 @@ followed A B = record {
 }
 
 unfoldable pub fragment : Expr → ℕ → Fragment
-fragment (symbol s) o = single (suc o) s
+fragment (symbol s) o = single (suc o) (standsFor s)
 fragment (group e) o = fragment e o
 fragment (inverse e) o = reversed (fragment e o)
 fragment (star e) o = optional (repeated (fragment e o))

@@ -150,7 +150,7 @@ module _ (e : Expr) (A : Fragment) (s : (w : List Letter) → Reads A w → Word
   reads-repeated (nothing o) = once (s [] (nothing o))
   reads-repeated (along f t l) = lap-words f (lap l t)
 
-reads-single : (p : ℕ) (s : Symbol) {w : List Letter} → Reads (single p s) w → Words (symbol s) w
+reads-single : (p : ℕ) (s : Symbol) {w : List Letter} → Reads (single p (standsFor s)) w → Words (symbol s) w
 unfolding single
 reads-single p s (nothing o) = absurd (omega arith)
 reads-single p s (along f (on h g t) l) = absurd (omega arith)

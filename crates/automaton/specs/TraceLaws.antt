@@ -2,10 +2,11 @@
 use mathlib.Core.Path.{_≡_, sym, subst}
 use mathlib.Core.Logic.{_⊎_, inl, inr}
 use mathlib.Core.List.{List, _++_}
+use mathlib.Core.Bool.{Bool}
 use Prim.Native.Nat.{ℕ, suc, _+_, _≤_, max, min}
 use native.Mathlib.Omega.{arith}
 use Rattle.book.specs.Basics.{bit}
-use Rattle.paths.specs.Expressions.{Letter, Symbol, standsFor, Expr, symbol, group, inverse, star, plus, optional as optional-part, alternative, sequence, letters}
+use Rattle.paths.specs.Expressions.{Letter, standsFor, Expr, symbol, group, inverse, star, plus, optional as optional-part, alternative, sequence, letters}
 use Rattle.paths.specs.Words.{inverseLetter, backwards}
 use Rattle.paths.specs.ChainLaws.{inverse-inverse}
 use Rattle.automaton.specs.Automata.{On, is, Fragment, single, reversed, repeated, optional, either, followed, fragment}
@@ -45,7 +46,7 @@ or-in : (lo mid hi q a b : ℕ) → lo ≤ mid → mid ≤ hi → (On a → Betw
 or-in lo mid hi q a b l h f g o = in-or lo mid hi q b a l h g f (omega arith)
 
 module _ {A B : Fragment} (lo mid hi : ℕ) (l : lo ≤ mid) (h : mid ≤ hi) (U : Within lo mid A) (W : Within mid hi B) where
-  within-either : Within lo hi (either A B)
+  pub within-either : Within lo hi (either A B)
   unfolding either
   within-either = record {
     first = λ q. in-or lo mid hi q _ _ l h (U .first q) (W .first q);
@@ -55,7 +56,7 @@ module _ {A B : Fragment} (lo mid hi : ℕ) (l : lo ≤ mid) (h : mid ≤ hi) (U
     enters = λ q a. in-or lo mid hi q _ _ l h (U .enters q a) (W .enters q a);
   }
 
-  within-followed : Within lo hi (followed A B)
+  pub within-followed : Within lo hi (followed A B)
   unfolding followed
   within-followed = record {
     first = λ q. in-or lo mid hi q _ _ l h (U .first q) (λ o. W .first q (on-min (A .nullable) (B .first q) o .1));
@@ -73,7 +74,7 @@ module _ {A B : Fragment} (lo mid hi : ℕ) (l : lo ≤ mid) (h : mid ≤ hi) (U
       go-to p q (inl o) = in-or lo mid hi q _ _ l h (U .to p q) (W .to p q) o
       go-to p q (inr o) = let k = W .first q (on-min (A .last p) (B .first q) o .1) in (omega arith, omega arith)
 
-within-repeated : {A : Fragment} {lo hi : ℕ} → Within lo hi A → Within lo hi (repeated A)
+pub within-repeated : {A : Fragment} {lo hi : ℕ} → Within lo hi A → Within lo hi (repeated A)
 unfolding repeated
 within-repeated {A} {lo} {hi} W = record {
   first = W .first;
@@ -91,27 +92,27 @@ within-repeated {A} {lo} {hi} W = record {
     go-to p q (inl o) = W .to p q o
     go-to p q (inr o) = W .first q (on-min (A .last p) (A .first q) o .1)
 
-within-optional : {A : Fragment} {lo hi : ℕ} → Within lo hi A → Within lo hi (optional A)
+pub within-optional : {A : Fragment} {lo hi : ℕ} → Within lo hi A → Within lo hi (optional A)
 unfolding optional
 within-optional W = record { first = W .first; last = W .last; from = W .from; to = W .to; enters = W .enters }
 
-within-reversed : {A : Fragment} {lo hi : ℕ} → Within lo hi A → Within lo hi (reversed A)
+pub within-reversed : {A : Fragment} {lo hi : ℕ} → Within lo hi A → Within lo hi (reversed A)
 unfolding reversed
 within-reversed W = record { first = W .last; last = W .first; from = λ p q o. W .to q p o; to = λ p q o. W .from q p o; enters = λ q a o. W .enters q (inverseLetter a) o }
 
-within-single : (o : ℕ) (s : Symbol) → Within o (o + 1) (single (suc o) s)
+pub within-single : (o : ℕ) (f : Letter → Bool) → Within o (o + 1) (single (suc o) f)
 unfolding single
-within-single o s = record {
+within-single o f = record {
   first = λ q h. let e = on-is (suc o) q h in (omega arith, omega arith);
   last = λ q h. let e = on-is (suc o) q h in (omega arith, omega arith);
   from = λ p q h. absurd (omega arith);
   to = λ p q h. absurd (omega arith);
-  enters = λ q a h. let e = on-is (suc o) q (on-min (is (suc o) q) (bit (standsFor s a)) h .0) in (omega arith, omega arith);
+  enters = λ q a h. let e = on-is (suc o) q (on-min (is (suc o) q) (bit (f a)) h .0) in (omega arith, omega arith);
 }
 
 pub within : (e : Expr) (o : ℕ) → Within o (o + letters e) (fragment e o)
 unfolding fragment letters
-within (symbol s) o = within-single o s
+within (symbol s) o = within-single o (standsFor s)
 within (group e) o = within e o
 within (inverse e) o = within-reversed (within e o)
 within (star e) o = within-optional (within-repeated (within e o))

@@ -12,12 +12,12 @@ use Rattle.book.specs.Causes.{number, firstNumber}
 use Rattle.book.specs.Book.{Call, touched, causes, editAnswer, edited, turned, next, fresh, after}
 use Rattle.k2.specs.PairSets.{rowPairs, rowsPairs, listed, union, transpose, most, serves, product, via, closure, diagonal}
 use Rattle.k2.specs.Trees.{rise, height, quadrant, filled, quarters, keep, levels, treeBits}
-use Rattle.paths.specs.Expressions.{standsFor, Expr, letters, depth}
+use Rattle.paths.specs.Expressions.{hasSense, standsFor, Expr, letters, depth}
 use Rattle.paths.specs.Grammar.{Verdict, accepted, long, outside, large, Judged}
 use Rattle.paths.specs.Words.{backwards}
 use Rattle.paths.specs.Chains.{Graph, asked, spell, stepWords, no-chain}
-use Rattle.paths.specs.Relations.{crossed, zeroSteps, cells, PairsAre, pairs}
-use Rattle.paths.specs.Descent.{alternativesIn, readAlternatives}
+use Rattle.paths.specs.Relations.{crossedBy, zeroSteps, cells, PairsAre, pairs}
+use Rattle.paths.specs.Descent.{membersIn, alternativesIn, readAlternatives}
 use Rattle.paths.specs.Verdicts.{verdict, verdict-right}
 use Rattle.paths.specs.ChainLaws.{Inside}
 use Rattle.paths.specs.RelationLaws.{cells-set, cells-has, cells-is}
@@ -25,7 +25,7 @@ use Rattle.paths.specs.PairLaws.{pairs-are, history-inside, history-small}
 use Rattle.paths.specs.ChainOrder.{before}
 use Rattle.paths.specs.Acceptance.{parted, many, accepts}
 use Rattle.paths.specs.FirstChain.{reach, stepsBelow, before-each, after-each, walks, walksTo, end, best, just, firstTo, chainTo, chain-first}
-use Rattle.cases.specs.Tables.{bytes, Case, pairs-of, chain-of, none-of, tree-of, wordOf, Met, made, links, table, struck, struck-table, returned, returned-table, ring, ring-table, swapped-table, ties, ties-table}
+use Rattle.cases.specs.Tables.{bytes, Case, pairs-of, chain-of, none-of, tree-of, wordOf, Met, made, links, table, struck, struck-table, returned, returned-table, ring, ring-table, swapped-table, ties, ties-table, sets-table, set-ties-table}
 
 -- ---- a case from what is computed
 read : (t : String) (e : Expr) → verdict (bytes t) ≡ accepted e → Judged (bytes t) (accepted e)
@@ -62,7 +62,7 @@ by n cs h k q r = all-more (holds (made n cs) (history-inside n h cs) (history-s
 
 -- K1 to K12
 pub k1-to-k12 : All (Met (made 4 links)) table
-unfolding table links bytes verdict readAlternatives alternativesIn letters depth standsFor after next turned editAnswer firstNumber number causes edited fresh has without asked most crossed zeroSteps diagonal transpose union serves product via closure cells rowPairs rowsPairs listed pairs parted many accepts before reach stepsBelow before-each after-each walks walksTo end best firstTo chainTo spell stepWords quadrant filled quarters keep levels treeBits rise height backwards
+unfolding table links bytes verdict readAlternatives alternativesIn letters depth standsFor after next turned editAnswer firstNumber number causes edited fresh has without asked most crossedBy zeroSteps diagonal transpose union serves product via closure cells rowPairs rowsPairs listed pairs parted many accepts before reach stepsBelow before-each after-each walks walksTo end best firstTo chainTo spell stepWords quadrant filled quarters keep levels treeBits rise height backwards
 k1-to-k12 =
     let h : 4 ≤ 1024 = omega arith in
     by 4 links h _ refl
@@ -81,7 +81,7 @@ k1-to-k12 =
 
 -- with 3 withdrawn, and reinstated
 pub withdrawn-3 : All (Met (made 4 struck)) struck-table × All (Met (made 4 returned)) returned-table
-unfolding struck-table struck returned-table returned links bytes verdict readAlternatives alternativesIn letters depth standsFor after next turned editAnswer firstNumber number causes edited fresh has without touched asked most crossed zeroSteps diagonal transpose union serves product via closure cells rowPairs rowsPairs listed pairs parted many accepts before reach stepsBelow before-each after-each walks walksTo end best firstTo chainTo spell stepWords
+unfolding struck-table struck returned-table returned links bytes verdict readAlternatives alternativesIn letters depth standsFor after next turned editAnswer firstNumber number causes edited fresh has without touched asked most crossedBy zeroSteps diagonal transpose union serves product via closure cells rowPairs rowsPairs listed pairs parted many accepts before reach stepsBelow before-each after-each walks walksTo end best firstTo chainTo spell stepWords
 withdrawn-3 =
     let h : 4 ≤ 1024 = omega arith in (
       by 4 struck h _ refl
@@ -97,7 +97,7 @@ withdrawn-3 =
 
 -- what looks right and is wrong, and chains as short as one another
 pub others : All (Met (made 3 ring)) ring-table × All (Met (made 4 links)) swapped-table × All (Met (made 4 ties)) ties-table
-unfolding ring-table ring swapped-table links ties-table ties bytes verdict readAlternatives alternativesIn letters depth standsFor after next turned editAnswer firstNumber number causes edited fresh has without asked most crossed zeroSteps diagonal transpose union serves product via closure cells rowPairs rowsPairs listed pairs parted many accepts before reach stepsBelow before-each after-each walks walksTo end best firstTo chainTo spell stepWords quadrant filled quarters keep levels treeBits rise height backwards
+unfolding ring-table ring swapped-table links ties-table ties bytes verdict readAlternatives alternativesIn letters depth standsFor after next turned editAnswer firstNumber number causes edited fresh has without asked most crossedBy zeroSteps diagonal transpose union serves product via closure cells rowPairs rowsPairs listed pairs parted many accepts before reach stepsBelow before-each after-each walks walksTo end best firstTo chainTo spell stepWords quadrant filled quarters keep levels treeBits rise height backwards
 others =
     let h : 3 ≤ 1024 = omega arith in
     let i : 4 ≤ 1024 = omega arith in (
@@ -112,4 +112,39 @@ others =
           (by 4 ties i _ refl
           (by 4 ties i _ refl
           all-none))))))),
+    )
+
+-- negated sets
+pub sets : All (Met (made 4 links)) sets-table × All (Met (made 4 ties)) set-ties-table
+unfolding sets-table set-ties-table links ties bytes verdict readAlternatives alternativesIn membersIn letters depth hasSense standsFor after next turned editAnswer firstNumber number causes edited fresh has without asked most crossedBy zeroSteps diagonal transpose union serves product via closure cells rowPairs rowsPairs listed pairs parted many accepts before reach stepsBelow before-each after-each walks walksTo end best firstTo chainTo spell stepWords quadrant filled quarters keep levels treeBits rise height backwards
+sets =
+    let h : 4 ≤ 1024 = omega arith in (
+      by 4 links h _ refl
+          (by 4 links h _ refl
+          (by 4 links h _ refl
+          (by 4 links h _ refl
+          (by 4 links h _ refl
+          (by 4 links h _ refl
+          (by 4 links h _ refl
+          (by 4 links h _ refl
+          (by 4 links h _ refl
+          (by 4 links h _ refl
+          (by 4 links h _ refl
+          (by 4 links h _ refl
+          (by 4 links h _ refl
+          (by 4 links h _ refl
+          (by 4 links h _ refl
+          (by 4 links h _ refl
+          (by 4 links h _ refl
+          (by 4 links h _ refl
+          (by 4 links h _ refl
+          all-none)))))))))))))))))),
+      by 4 ties h _ refl
+          (by 4 ties h _ refl
+          (by 4 ties h _ refl
+          (by 4 ties h _ refl
+          (by 4 ties h _ refl
+          (by 4 ties h _ refl
+          (by 4 ties h _ refl
+          all-none)))))),
     )

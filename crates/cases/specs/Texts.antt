@@ -1,4 +1,4 @@
--- Texts and the number that their verdict gives, 0 for an expression: the faults of S3.4 and the limits of S8.2, each by computation.
+-- Texts and the number that their verdict gives, 0 for an expression: the faults of S3.4 and the limits of S8.2, negated sets among them, each by computation.
 --   rated           the number of the verdict on a text
 --   texts           a table of texts with their numbers; texts-rated says that they are those
 --   repeated k u    the bytes u, k times
@@ -11,7 +11,7 @@ use lib.ListN.{length}
 use Rattle.book.specs.Causes.{number, firstNumber}
 use Rattle.paths.specs.Expressions.{letters, depth}
 use Rattle.paths.specs.Grammar.{verdictCause}
-use Rattle.paths.specs.Descent.{alternativesIn, readAlternatives}
+use Rattle.paths.specs.Descent.{membersIn, alternativesIn, readAlternatives}
 use Rattle.paths.specs.Verdicts.{verdict}
 use Rattle.cases.specs.Tables.{bytes}
 
@@ -35,10 +35,25 @@ texts =
     (repeated 8 (bytes "(") ++ (bytes "a" ++ repeated 8 (bytes ")")), 0) ∷
     (repeated 9 (bytes "(") ++ (bytes "a" ++ repeated 9 (bytes ")")), 10) ∷
     (repeated 9 (bytes "(") ++ bytes "a", 9) ∷
+    -- negated sets, plain, inverted and of many members, repeated ones too; ^ before them and a mark after
+    (bytes "!a", 0) ∷ (bytes "!^a", 0) ∷ (bytes "!(a)", 0) ∷ (bytes "!(^a)", 0) ∷ (bytes "!(a|^b|c)", 0) ∷ (bytes "!(a|a)", 0) ∷
+    (bytes "^!a", 0) ∷ (bytes "^!^a", 0) ∷ (bytes "!a*", 0) ∷ (bytes "^!(a|b)+", 0) ∷ (bytes "!(a|b)/c|!d?", 0) ∷ (bytes "(!(a|b))*", 0) ∷
+    (bytes "!(a|b|c|d|e|f|g|h|i|j|k|l|m|n|o|p|q|r|s|t|u|v|w|x|y|z)", 0) ∷
+    -- their faults
+    (bytes "!", 9) ∷ (bytes "!()", 9) ∷ (bytes "!(a", 9) ∷ (bytes "!(a|", 9) ∷ (bytes "!(a|)", 9) ∷ (bytes "!(|a)", 9) ∷ (bytes "!((a))", 9) ∷
+    (bytes "!(a*)", 9) ∷ (bytes "!a**", 9) ∷ (bytes "!(a/b)", 9) ∷ (bytes "!(!a)", 9) ∷ (bytes "!!a", 9) ∷ (bytes "!^^a", 9) ∷ (bytes "^^!a", 9) ∷ (bytes "!*", 9) ∷ (bytes "!A", 9) ∷
+    (bytes "a!", 9) ∷ (bytes "!(a b)", 9) ∷ (bytes "!(^)", 9) ∷
+    -- a set's parentheses are no group: eight groups around one pass, nine give 10
+    (repeated 8 (bytes "(") ++ (bytes "!(a|b)" ++ repeated 8 (bytes ")")), 0) ∷
+    (repeated 9 (bytes "(") ++ (bytes "!(a|b)" ++ repeated 9 (bytes ")")), 10) ∷
+    -- a set is one letter: 63 pass, 64 give 10; 36 with 71 members pass
+    (repeated 62 (bytes "!a/") ++ bytes "!a", 0) ∷
+    (repeated 63 (bytes "!a/") ++ bytes "!a", 10) ∷
+    (repeated 35 (bytes "!(a|b)/") ++ bytes "!a", 0) ∷
     -- 257 bytes of anything give 10
     (repeated 257 (bytes " "), 10) ∷
     (repeated 256 (bytes " "), 9) ∷ []
 
 pub texts-rated : map (λ t. rated (t .0)) texts ≡ map (λ t. t .1) texts
-unfolding texts rated repeated bytes firstNumber number verdictCause verdict readAlternatives alternativesIn letters depth
+unfolding texts rated repeated bytes firstNumber number verdictCause verdict readAlternatives alternativesIn membersIn letters depth
 texts-rated = refl

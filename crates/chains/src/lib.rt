@@ -30,7 +30,7 @@ fn sought(
     register: Register,
     links: &[u32],
     count: usize,
-    numbers: &[u8],
+    numbers: &[u64],
     ends: Ends,
     work: &mut [u64],
     list: &mut [u32],
@@ -48,7 +48,7 @@ fn sought(
     let follow = tables.follow;
     let predecessors = tables.pred;
     let enter = tables.enter;
-    let accepting = tables.fin;
+    let accepting = tables.accepting;
     search::first_chain(
         &links[0..count],
         &follow,

@@ -1,8 +1,8 @@
 -- The whole code, in plain variables: how it begins, goes on and ends with its last number, whose value is left in rows. Assumes nothing.
-use mathlib.Core.Path.{_≡_, refl, sym, ap, ap₂, _∙_, subst, fun-ext}
+use mathlib.Core.Path.{_≡_, refl, sym, ap, _∙_, subst, fun-ext}
 use mathlib.Core.Bool.{Bool, true, false, not, _&&_}
 use mathlib.Core.List.{List, [], _∷_}
-use Prim.Native.Nat.{ℕ, suc, _+_, _-_, _*_, _^_, _<_, _≤_}
+use Prim.Native.Nat.{ℕ, suc, _+_, _-_, _*_, _<_, _≤_}
 use native.Mathlib.Numerals.{add-one}
 use native.Mathlib.Decide.{decLt, ℕ-discrete}
 use native.Mathlib.Omega.{arith}
@@ -13,31 +13,27 @@ use borrow.Author.Tests.{lt-ltb, le-ltb}
 use Rattle.book.specs.Basics.{bit}
 use Rattle.book.specs.Book.{Book}
 use Rattle.k2.specs.Bits.{bitAt}
-use Rattle.k2.specs.PairSets.{Cells, union}
+use Rattle.k2.specs.PairSets.{Cells}
 use Rattle.k2.specs.Trees.{treeUnit}
-use Rattle.paths.specs.Expressions.{Expr, letter}
-use Rattle.paths.specs.Chains.{Graph, asked}
-use Rattle.paths.specs.Relations.{crossed, cells}
+use Rattle.paths.specs.Expressions.{Expr}
+use Rattle.paths.specs.Chains.{asked}
+use Rattle.paths.specs.Relations.{cells}
 use Rattle.bits.specs.BitSets.{none, put}
 use Rattle.bits.specs.BitSetLaws.{put-at, put-off}
-use Rattle.rows.specs.Rows.{flat, noPairs, crossedWords}
-use Rattle.rows.specs.RowLaws.{none-set, none-tree, union-none}
-use Rattle.reader.specs.Code.{op-inverse, run}
+use Rattle.rows.specs.Rows.{flat}
+use Rattle.reader.specs.declared.items.Item.{Item}
+use Rattle.reader.specs.Code.{itemOf, does, run}
 use Rattle.register.specs.Marks.{withdrawnMark, hasMark}
 use Rattle.register.specs.Questions.{MarkList}
 use Rattle.register.specs.Representation.{Represents}
 use Rattle.register.specs.declared.Register.{Register}
-use Rattle.tree.specs.declared.operations.Operation.the-variants.{Union}
 use Rattle.tree.specs.declared.operations.Operand.{Operand}
-use Rattle.tree.specs.declared.operations.Term.{Term}
 use Rattle.tree.specs.Inner.{nothing, Room as Spaces, termSet, InRows}
-use Rattle.tree.specs.InnerLaws.{valued-nothing}
 use Rattle.pairs.specs.declared.Stack.{Stack}
 use Rattle.pairs.specs.declared.Taken.{Taken}
-use Rattle.pairs.specs.Evaluation.{letterOperand, usedBelow, most-waiting, Waiting, Room}
-use Rattle.pairs.specs.EvaluationLaws.{begins, does-label}
-use Rattle.pairs.specs.RoomLaws.{room-begins, room-ends}
-use Rattle.pairs.specs.LetterLaws.{links-below, letter-crossed, used-below}
+use Rattle.pairs.specs.Evaluation.{relations, usedBelow, most-waiting, Ready, Waiting, Placed, Room}
+use Rattle.pairs.specs.EvaluationLaws.{begins}
+use Rattle.pairs.specs.RoomLaws.{room-begins, room-operands, room-ends}
 use Rattle.pairs.specs.Steps.{Lettered, Takes, Goes, Coded, Going, Ends}
 use Rattle.pairs.proofs.Stepping.{rest, starts-early, lent}
 
@@ -57,10 +53,14 @@ module _ (n : ℕ) (ws used c : List ℕ) where
     pub going-room : Room (treeUnit n) (getD c i 0 ∷ drop (suc i) c) S
     going-room = subst (λ (x : List ℕ). Room (treeUnit n) x S) next-number (G .room)
 
-    pub going-more : {work′ : List ℕ} {S′ : Stack} → Goes n ws used (getD c i 0) work work′ S S′ → Going n ws used c work′ S′ (i + 1)
-    going-more g = rw add-one (record {
-      room = g .room (drop (suc i) c) going-room;
-      waits = λ b L s e q. let w = G .waits b L s e q in g .waits b L e (drop (suc i) c) (w .0) (subst (λ (x : List ℕ). Waiting (asked b) e x ws work S (w .0)) next-number (w .1));
+    -- what the next number asks, which is the item y
+    pub going-ready : {y : Item} → itemOf (getD c i 0) ≡ y → Ready y (S .count) × Placed (treeUnit n) S
+    going-ready is = (subst (λ (z : Item). Ready z (S .count)) is (room-operands going-room), going-room .placed)
+
+    pub going-more : {y : Item} {work′ : List ℕ} {S′ : Stack} → itemOf (getD c i 0) ≡ y → Goes n ws used y work work′ S S′ → Going n ws used c work′ S′ (i + 1)
+    going-more is g = rw add-one (record {
+      room = g .room (getD c i 0) (drop (suc i) c) is going-room;
+      waits = λ b L s e q. let w = G .waits b L s e q in g .waits b L e (getD c i 0) (drop (suc i) c) (w .0) is (subst (λ (x : List ℕ). Waiting (asked b) e x ws work S (w .0)) next-number (w .1));
     })
 
   -- a code has a number
@@ -71,53 +71,23 @@ module _ (n : ℕ) (ws used c : List ℕ) where
       some [] R = absurd (omega (arith, room-ends R))
       some (i ∷ c) R = omega arith
 
-  -- the last one
-  pub going-last : {work : List ℕ} {S : Stack} → 1 ≤ length c → Going n ws used c work S (length c - 1) → Room (treeUnit n) (getD c (length c - 1) 0 ∷ []) S
-  going-last {S = S} h G = subst (λ (x : List ℕ). Room (treeUnit n) (getD c (length c - 1) 0 ∷ x) S) (drop-of-length-le c {i = suc (length c - 1)} (omega arith)) (going-room (length c - 1) (omega arith) G)
-
-  pub going-ends : {work : List ℕ} {S : Stack} {rows : List ℕ} → 1 ≤ length c → Going n ws used c work S (length c - 1)
-      → Ends n ws used (getD c (length c - 1) 0) work S rows
+  pub going-ends : {y : Item} {work : List ℕ} {S : Stack} {rows : List ℕ} → 1 ≤ length c → itemOf (getD c (length c - 1) 0) ≡ y → Going n ws used c work S (length c - 1)
+      → Ends n ws used y work S rows
       → (b : Book) → Lettered b n ws used → (s : List ℕ) (e : Expr) → Coded s e c → bitAt rows ≡ flat (cells (asked b) e)
-  going-ends {work} {S} h G l b L s e k =
+  going-ends {work = work} {S} h is G l b L s e k =
       let w = G .waits b L s e k in
       let z : drop (length c - 1) c ≡ getD c (length c - 1) 0 ∷ [] =
       next-number (length c - 1) (omega arith) G ∙ ap (λ (x : List ℕ). getD c (length c - 1) 0 ∷ x) (drop-of-length-le c {i = suc (length c - 1)} (omega arith)) in
-      l .value b L e (w .0) (subst (λ (x : List ℕ). Waiting (asked b) e x ws work S (w .0)) z (w .1))
+      l .value b L e (getD c (length c - 1) 0) (w .0) is (subst (λ (x : List ℕ). Waiting (asked b) e x ws work S (w .0)) z (w .1))
 
 -- ---- the last number's value
 head-same : {x y : Cells} {xs ys : List Cells} → x ∷ xs ≡ y ∷ ys → x ≡ y
 head-same e = cc
 
-module _ (n op : ℕ) (ws used work before after : List ℕ) (r : Bool) (S : Stack) (small : n ≤ 1024) (wide : 32 * treeUnit n ≤ length work) (sixteen : length used ≡ 16)
+module _ (n : ℕ) (y : Item) (ws used work before after : List ℕ) (r : Bool) (S : Stack) (small : n ≤ 1024) (wide : 32 * treeUnit n ≤ length work) (sixteen : length used ≡ 16)
     (rows : length before ≡ 16384) where
-  -- a letter alone
-  abbrev alone : Term
-  alone = record { operation = Union; first = nothing; second = letterOperand op }
-
-  pub ends-letter : op < op-inverse → InRows alone n ws used work before after r → Ends n ws used op work S after
-  unfolding run asked
-  ends-letter l I = record { value = value }
-    where
-      room : Spaces n alone (length work) (length used) (length before)
-      room = record { trees = record { size = small; first = omega arith; second = omega arith; work = omega arith }; records = sixteen; bits = rows }
-
-      value : (b : Book) → Lettered b n ws used → (e : Expr) (st : List Cells) → Waiting (asked b) e (op ∷ []) ws work S st → bitAt after ≡ flat (cells (asked b) e)
-      value b L e st w =
-          let g : Graph = asked b in
-          let c : cells g e ≡ crossed g (letter op) = sym (head-same (sym (does-label g op st l) ∙ w .rest)) in
-          I .rows room noPairs noPairs (record {
-            first = none-set n;
-            second = none-set n;
-            front = none-tree n;
-            behind = none-tree n;
-            links = links-below b n ws used L;
-            used = used-below b n ws used L;
-          })
-          ∙ ap flat (ap₂ union (valued-nothing ws) (union-none (crossedWords ws (2 ^ op) 0)) ∙ union-none (crossedWords ws (2 ^ op) 0) ∙ letter-crossed b n ws used L op ∙ sym c)
-
-  -- an operator
-  pub ends-term : (q : Taken) → Takes (treeUnit n) op S q → q .below ≤ 18 → InRows (q .term) n ws used (take (length work - q .start) (drop (q .start) work)) before after r
-      → Ends n ws used op work S after
+  pub ends-term : (q : Taken) → Takes (treeUnit n) y S q → q .below ≤ 18 → InRows (q .term) n ws used (take (length work - q .start) (drop (q .start) work)) before after r
+      → Ends n ws used y work S after
   unfolding run asked
   ends-term q T early made = record { value = value }
     where
@@ -131,11 +101,11 @@ module _ (n op : ℕ) (ws used work before after : List ℕ) (r : Bool) (S : Sta
         bits = rows;
       }
 
-      value : (b : Book) → Lettered b n ws used → (e : Expr) (st : List Cells) → Waiting (asked b) e (op ∷ []) ws work S st → bitAt after ≡ flat (cells (asked b) e)
-      value b L e st w =
-          let m = lent n op ws used work S q T b L st (w .stand) in
+      value : (b : Book) → Lettered b n ws used → (e : Expr) (i : ℕ) (st : List Cells) → itemOf i ≡ y → Waiting (asked b) e (i ∷ []) ws work S st → bitAt after ≡ flat (cells (asked b) e)
+      value b L e i st is w =
+          let m = lent n y ws used work S q T b L st (w .stand) in
           let t = m .0 in
-          let c : termSet (q .term) (b .n) ws (bitAt used) (t .a) (t .b) ≡ cells (asked b) e = head-same (sym (t .does) ∙ w .rest) in
+          let c : termSet (q .term) (b .n) ws (bitAt used) (t .a) (t .b) ≡ cells (asked b) e = head-same (sym (ap (λ (z : Item). does (relations (asked b)) z st) is ∙ t .does) ∙ w .rest) in
           I .rows room (t .a) (t .b) (m .1) ∙ ap flat (ap (λ (i : ℕ). termSet (q .term) i ws (bitAt used) (t .a) (t .b)) (L .size) ∙ c)
 
 -- ---- the records in use, one after the other

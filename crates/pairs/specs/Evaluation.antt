@@ -1,10 +1,13 @@
 -- How a pair question is evaluated: the operands still waiting, whose trees lie one after another at the front of the lent work.
 --   relations g     the algebra of sets of pairs in a graph: running an expression's code in it gives the expression's set
---   letterOperand l the operand of the label l: its links, crossed forward, and no tree
---   operationOf i   the operation of the operator i; of any other number union
+--   lettersOperand forward against
+--                   the operand of a symbol: the links of its letters, and no tree
 --   operandAt os k  the operand at place k of the list os, nothing past its end
 --   pushed o k at S the stack S with the operand o as its last of k and one, whose trees end at `at`
 --   turned S        S with the operand on top read with the other sense
+--   takenNone o S, takenOne k S, takenTwo k S
+--                   what is taken off the stack S: nothing, the operand o being the term; the operand on top, or the two on top, with the operation k
+--   Ready y k       k operands are as many as the item y asks, and there is room for its value
 --   usedBelow n ms  the bits of the records below n whose mark, of the marks ms, is not that of a withdrawn one
 --   Standing n ws work os k at st
 --                   the first k operands of os, whose trees lie one after another at the front of work and end at `at`, stand for the sets st of pairs below n,
@@ -20,28 +23,31 @@
 use mathlib.Core.Path.{_≡_}
 use mathlib.Core.List.{List, [], _∷_}
 use mathlib.Core.Bool.{not, _&&_}
-use Prim.Native.Nat.{ℕ, suc, _+_, _-_, _^_, _≤_}
-use lib.Dec.{eqb, ltb}
+use Prim.Native.Nat.{ℕ, suc, _+_, _-_, _≤_}
+use lib.Dec.{ltb}
 use lib.ListN.{length, take, drop, getD, set}
-use Rattle.book.specs.Basics.{pick, bit}
+use Rattle.book.specs.Basics.{bit}
 use Rattle.k2.specs.PairSets.{Cells, IsSet, union, transpose, product, closure}
 use Rattle.k2.specs.Trees.{treeWords}
-use Rattle.paths.specs.Expressions.{Expr, letter}
+use Rattle.paths.specs.Expressions.{Expr}
 use Rattle.paths.specs.Chains.{Graph}
-use Rattle.paths.specs.Relations.{crossed, zeroSteps, cells}
+use Rattle.paths.specs.Relations.{crossedBy, zeroSteps, cells}
 use Rattle.register.specs.Marks.{withdrawnMark, hasMark}
 use Rattle.packing.specs.declared.loading.Sense.the-variants.{Plain}
-use Rattle.reader.specs.Code.{op-star, op-plus, op-optional, op-sequence, Algebra, run}
-use Rattle.reader.specs.Running.{Runs}
+use Rattle.reader.specs.declared.items.Item.{Item}
+use Rattle.reader.specs.Letters.{lettersIn}
+use Rattle.reader.specs.Code.{Algebra, run}
+use Rattle.reader.specs.Running.{operands, Runs}
 use Rattle.tree.specs.declared.operations.Operation.{Operation}
-use Rattle.tree.specs.declared.operations.Operation.the-variants.{Union, Product, Closure, Optional, Star}
+use Rattle.tree.specs.declared.operations.Operation.the-variants.{Union}
 use Rattle.tree.specs.declared.operations.Operand.{Operand}
 use Rattle.tree.specs.Inner.{nothing, flipped, valued}
 use Rattle.pairs.specs.declared.Stack.{Stack}
+use Rattle.pairs.specs.declared.Taken.{Taken}
 
 unfoldable pub relations : Graph → Algebra Cells
 relations g = record {
-  of = λ k. crossed g (letter k);
+  of = λ forward against. crossedBy g (lettersIn forward against);
   inverted = transpose;
   starred = λ a. union (closure (g .n) a) (zeroSteps g);
   repeated = closure (g .n);
@@ -50,15 +56,8 @@ relations g = record {
   followed = product (g .n);
 }
 
-abbrev pub letterOperand : ℕ → Operand
-letterOperand l = record { size = 0; sense = Plain; forward = 2 ^ l; against = 0 }
-
-unfoldable pub operationOf : ℕ → Operation
-operationOf i =
-    pick (eqb i op-star) Star
-    (pick (eqb i op-plus) Closure
-    (pick (eqb i op-optional) Optional
-    (pick (eqb i op-sequence) Product Union)))
+abbrev pub lettersOperand : ℕ → ℕ → Operand
+lettersOperand forward against = record { size = 0; sense = Plain; forward = forward; against = against }
 
 abbrev pub operandAt : List Operand → ℕ → Operand
 operandAt os k = getD os k nothing
@@ -68,6 +67,22 @@ pushed o k at S = record { operands = set (S .operands) k o; count = k + 1; end 
 
 abbrev pub turned : Stack → Stack
 turned S = record { operands = set (S .operands) (S .count - 1) (flipped (operandAt (S .operands) (S .count - 1))); count = S .count; end = S .end }
+
+-- the operand on top, and the one below it
+abbrev pub onTop : Stack → Operand
+onTop S = operandAt (S .operands) (S .count - 1)
+
+abbrev pub belowTop : Stack → Operand
+belowTop S = operandAt (S .operands) (S .count - 1 - 1)
+
+abbrev pub takenNone : Operand → Stack → Taken
+takenNone o S = record { term = record { operation = Union; first = nothing; second = o }; start = S .end; below = S .count }
+
+abbrev pub takenOne : Operation → Stack → Taken
+takenOne k S = record { term = record { operation = k; first = nothing; second = onTop S }; start = S .end - onTop S .size; below = S .count - 1 }
+
+abbrev pub takenTwo : Operation → Stack → Taken
+takenTwo k S = record { term = record { operation = k; first = belowTop S; second = onTop S }; start = S .end - onTop S .size - belowTop S .size; below = S .count - 1 - 1 }
 
 unfoldable pub usedBelow : ℕ → List ℕ → ℕ → ℕ
 usedBelow n ms x = bit (ltb x n && not (hasMark withdrawnMark ms x))
@@ -82,6 +97,11 @@ pub data Standing (n : ℕ) (ws work : List ℕ) (os : List Operand) : ℕ → �
 abbrev pub most-waiting : ℕ
 most-waiting = 19
 
+pub record Ready (y : Item) (k : ℕ) : Type 0 where
+  pub found : operands y ≤ k
+  pub few : k ≤ most-waiting
+  pub room : suc (k - operands y) ≤ most-waiting
+
 pub record Waiting (g : Graph) (e : Expr) (c ws work : List ℕ) (S : Stack) (st : List Cells) : Type 0 where
   pub rest : run (relations g) c st ≡ cells g e ∷ []
   pub runs : Runs (relations g) most-waiting c st
@@ -90,7 +110,7 @@ pub record Waiting (g : Graph) (e : Expr) (c ws work : List ℕ) (S : Stack) (st
 -- ---- the same of any contents: where the operands lie, whatever they are
 unfoldable pub heights : Algebra ℕ
 heights = record {
-  of = λ k. 0;
+  of = λ forward against. 0;
   inverted = λ a. 0;
   starred = λ a. 0;
   repeated = λ a. 0;

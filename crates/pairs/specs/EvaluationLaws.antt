@@ -1,9 +1,11 @@
 -- Laws of the evaluation.
 --   value-cells     an expression's value in the algebra of relations is its set
---   does-inverse, does-one, does-two, does-label
---                   what a number does to the stack
+--   Unary y k, Binary y k
+--                   the item y is an operator on one operand, or on two, by the operation k
+--   does-inverse, does-one, does-two, does-letters
+--                   what an item does to the stack
 --   begins          with nothing waiting the whole code is left
---   runs-rest, runs-height, runs-number, runs-operands
+--   runs-rest, runs-height
 --                   what a code that runs asks of its next number
 --   standing-count  the count of operands is the stack's height
 --   Top, standing-top
@@ -11,47 +13,40 @@
 --   standing-kept, standing-store
 --                   what stands below a word stands if only words behind it change, and if only operands above are stored
 --   standing-put    an operand put on top
---   letter-crossed  the pairs of a label's links are the set of its letter
---   links-below     the links of a book are of records below n
 -- Assumes nothing.
-use mathlib.Core.Path.{_≡_, refl, sym, ap, ap₂, _∙_, subst, fun-ext}
-use mathlib.Core.List.{List, [], _∷_, _++_, map}
-use mathlib.Core.Bool.{Bool, true, false, true≢false}
-use Prim.Native.Nat.{ℕ, zero, suc, _+_, _-_, _*_, _/_, _%_, _^_, _<_, _≤_}
-use native.Mathlib.Decide.{decLt}
+use mathlib.Core.Path.{_≡_, refl, sym, ap, ap₂, _∙_, subst}
+use mathlib.Core.List.{List, [], _∷_}
+use Prim.Native.Nat.{ℕ, zero, suc, _+_, _-_, _<_, _≤_}
+use native.Mathlib.Numerals.{add-one}
 use native.Mathlib.Omega.{arith}
-use lib.Dec.{eqb}
 use lib.ListN.{length, take, drop, getD, set}
 use lib.Seq.{getD-set-same, getD-set-other, take-take}
-use native.Mathlib.Numerals.{add-one}
-use borrow.Author.Tests.{eq-eqb, ne-eqb, eqb-true, eqb-false}
-use Rattle.book.specs.Basics.{pick, bit, In, here, there}
-use Rattle.book.specs.Book.{Book, present}
-use Rattle.book.specs.Sheets.{Fit}
-use Rattle.k2.specs.Bits.{digit}
-use Rattle.k2.specs.PairSets.{Cells, IsSet, PairsBelow, pairWord, setOf, union, transpose, product, closure, diagonal}
-use Rattle.k2.specs.PairSetLaws.{set-in, in-set, set-past}
+use Rattle.k2.specs.PairSets.{Cells, IsSet, union, transpose, product, closure, diagonal}
 use Rattle.k2.specs.Trees.{treeWords}
-use Rattle.paths.specs.Expressions.{Expr, symbol, letter, group, inverse, star, plus, optional, alternative, sequence, depth}
+use Rattle.paths.specs.Expressions.{standsFor, Expr, symbol, group, inverse, star, plus, optional, alternative, sequence, depth}
 use Rattle.paths.specs.Grammar.{alternatives, Is}
-use Rattle.paths.specs.Chains.{Graph, asked}
-use Rattle.paths.specs.Relations.{crossed, zeroSteps, cells}
-use Rattle.paths.specs.RelationLaws.{crossed-letter}
-use Rattle.paths.specs.PairLaws.{fit-inside}
-use Rattle.register.specs.Links.{linkWord, Linked}
-use Rattle.rows.specs.Rows.{noPairs, linkPair, labelled, crossedWords}
-use Rattle.rows.specs.RowLaws.{union-none, union-right}
-use Rattle.reader.specs.Code.{op-inverse, op-star, op-plus, op-optional, op-alternative, op-sequence, code, Algebra, value, does, run}
+use Rattle.paths.specs.Chains.{Graph}
+use Rattle.paths.specs.Relations.{crossedBy, zeroSteps, cells}
+use Rattle.paths.specs.RelationLaws.{crossed-same}
+use Rattle.rows.specs.Rows.{noPairs}
+use Rattle.rows.specs.RowLaws.{union-none}
+use Rattle.reader.specs.declared.items.Item.{Item}
+use Rattle.reader.specs.declared.items.Item.the-variants.{Letters, Inverse, Star, Plus, Optional, Alternative, Sequence}
+use Rattle.reader.specs.Letters.{lettersIn}
+use Rattle.reader.specs.LetterLaws.{letters-in}
+use Rattle.reader.specs.Code.{itemOf, code, Algebra, value, does, run}
 use Rattle.reader.specs.Running.{operands, Runs, ended, next}
 use Rattle.reader.specs.CodeLaws.{run-code, runs-code}
+use Rattle.tree.specs.declared.operations.Operation.{Operation}
+use Rattle.tree.specs.declared.operations.Operation.the-variants.{Union, Product, Closure, Optional as Possible, Star as Starred}
 use Rattle.tree.specs.declared.operations.Operand.{Operand}
-use Rattle.tree.specs.Inner.{nothing, valued, outcome, LinksBelow}
+use Rattle.tree.specs.Inner.{nothing, valued, outcome}
 use Rattle.pairs.specs.declared.Stack.{Stack}
-use Rattle.pairs.specs.Evaluation.{relations, operationOf, operandAt, Standing, none-waits, one-waits, most-waiting, Waiting}
+use Rattle.pairs.specs.Evaluation.{relations, operandAt, Standing, none-waits, one-waits, most-waiting, Waiting}
 
 pub value-cells : (g : Graph) (e : Expr) → value (relations g) e ≡ cells g e
 unfolding value relations cells
-value-cells g (symbol (letter k)) = refl
+value-cells g (symbol s) = crossed-same g _ _ (letters-in (standsFor s))
 value-cells g (group e) = value-cells g e
 value-cells g (inverse e) = ap transpose (value-cells g e)
 value-cells g (star e) = ap (λ (a : Cells). union (closure (g .n) a) (zeroSteps g)) (value-cells g e)
@@ -60,39 +55,44 @@ value-cells g (optional e) = ap (λ (a : Cells). union a (zeroSteps g)) (value-c
 value-cells g (alternative e f) = ap₂ union (value-cells g e) (value-cells g f)
 value-cells g (sequence e f) = ap₂ (product (g .n)) (value-cells g e) (value-cells g f)
 
--- ---- what a number does
-pub does-inverse : (g : Graph) (x : Cells) (st : List Cells) → does (relations g) op-inverse (x ∷ st) ≡ transpose x ∷ st
+-- ---- what an item does
+pub data Unary : Item → Operation → Type 0 where
+  of-star : Unary Star Starred
+  of-plus : Unary Plus Closure
+  of-optional : Unary Optional Possible
+
+pub data Binary : Item → Operation → Type 0 where
+  of-alternative : Binary Alternative Union
+  of-sequence : Binary Sequence Product
+
+pub unary-one : {y : Item} {k : Operation} → Unary y k → operands y ≡ 1
+unary-one of-star = refl
+unary-one of-plus = refl
+unary-one of-optional = refl
+
+pub binary-two : {y : Item} {k : Operation} → Binary y k → operands y ≡ 2
+binary-two of-alternative = refl
+binary-two of-sequence = refl
+
+pub does-letters : (g : Graph) (forward against : ℕ) (st : List Cells) → does (relations g) (Letters forward against) st ≡ crossedBy g (lettersIn forward against) ∷ st
+unfolding does relations
+does-letters g forward against st = refl
+
+pub does-inverse : (g : Graph) (x : Cells) (st : List Cells) → does (relations g) Inverse (x ∷ st) ≡ transpose x ∷ st
 unfolding does relations
 does-inverse g x st = refl
 
 module _ (g : Graph) (u : ℕ → ℕ) (z : diagonal u ≡ zeroSteps g) where
-  pub does-one : (i : ℕ) (x : Cells) (st : List Cells) → op-inverse < i → i < op-alternative → does (relations g) i (x ∷ st) ≡ outcome (operationOf i) (g .n) u noPairs x ∷ st
-  unfolding does relations operationOf
-  does-one i x st l h = go (eqb i op-star) refl (eqb i op-plus) refl
-    where
-      go : (t : Bool) → eqb i op-star ≡ t → (v : Bool) → eqb i op-plus ≡ v → does (relations g) i (x ∷ st) ≡ outcome (operationOf i) (g .n) u noPairs x ∷ st
-      go true e v q = rw (ne-eqb i op-inverse (λ d. omega arith), e) (ap₂ (λ (a d : Cells). union (closure (g .n) a) d ∷ st) (sym (union-none x)) (sym z))
-      go false e true q = rw (ne-eqb i op-inverse (λ d. omega arith), e, q) (ap (λ (a : Cells). closure (g .n) a ∷ st) (sym (union-none x)))
-      go false e false q =
-          let o : i ≡ op-optional = omega (arith, eqb-false i op-star e, eqb-false i op-plus q) in
-          rw (ne-eqb i op-inverse (λ d. omega arith), e, q, eq-eqb i op-optional o) (ap₂ (λ (a d : Cells). union a d ∷ st) (sym (union-none x)) (sym z))
+  pub does-one : {y : Item} {k : Operation} → Unary y k → (x : Cells) (st : List Cells) → does (relations g) y (x ∷ st) ≡ outcome k (g .n) u noPairs x ∷ st
+  unfolding does relations
+  does-one of-star x st = ap₂ (λ (a d : Cells). union (closure (g .n) a) d ∷ st) (sym (union-none x)) (sym z)
+  does-one of-plus x st = ap (λ (a : Cells). closure (g .n) a ∷ st) (sym (union-none x))
+  does-one of-optional x st = ap₂ (λ (a d : Cells). union a d ∷ st) (sym (union-none x)) (sym z)
 
-  pub does-two : (i : ℕ) (x y : Cells) (st : List Cells) → op-alternative ≤ i → i ≤ op-sequence → does (relations g) i (y ∷ x ∷ st) ≡ outcome (operationOf i) (g .n) u x y ∷ st
-  unfolding does relations operationOf
-  does-two i x y st l h = go (eqb i op-alternative) refl
-    where
-      go : (t : Bool) → eqb i op-alternative ≡ t → does (relations g) i (y ∷ x ∷ st) ≡ outcome (operationOf i) (g .n) u x y ∷ st
-      go true e =
-          let a : i ≡ op-alternative = eqb-true i op-alternative e in
-          rw (ne-eqb i op-inverse (λ q. omega arith), ne-eqb i op-star (λ q. omega arith), ne-eqb i op-plus (λ q. omega arith), ne-eqb i op-optional (λ q. omega arith), e, ne-eqb i op-sequence (λ q. omega arith))
-      go false e = rw (
-        ne-eqb i op-inverse (λ q. omega arith),
-        ne-eqb i op-star (λ q. omega arith),
-        ne-eqb i op-plus (λ q. omega arith),
-        ne-eqb i op-optional (λ q. omega arith),
-        e,
-        eq-eqb i op-sequence (omega (arith, eqb-false i op-alternative e)),
-      )
+  pub does-two : {y : Item} {k : Operation} → Binary y k → (x x′ : Cells) (st : List Cells) → does (relations g) y (x′ ∷ x ∷ st) ≡ outcome k (g .n) u x x′ ∷ st
+  unfolding does relations
+  does-two of-alternative x x′ st = refl
+  does-two of-sequence x x′ st = refl
 
 -- ---- the beginning
 pub begins : (g : Graph) {s : List ℕ} (e : Expr) → Is alternatives s e → depth e ≤ 8 → (ws work : List ℕ) (os : List Operand)
@@ -104,30 +104,12 @@ begins g e d h ws work os = record {
 }
 
 -- ---- what is left to run
-pub runs-rest : (g : Graph) {i : ℕ} {c : List ℕ} {st : List Cells} → Runs (relations g) most-waiting (i ∷ c) st → Runs (relations g) most-waiting c (does (relations g) i st)
-runs-rest g (next a b h r) = r
+pub runs-rest : (g : Graph) {i : ℕ} {c : List ℕ} {st : List Cells} → Runs (relations g) most-waiting (i ∷ c) st → Runs (relations g) most-waiting c (does (relations g) (itemOf i) st)
+runs-rest g (next b h r) = r
 
 pub runs-height : {D : Type 0} (A : Algebra D) {k : ℕ} {c : List ℕ} {st : List D} → Runs A k c st → length st ≤ k
 runs-height A (ended h) = h
-runs-height A (next a b h r) = h
-
--- a number is one of the code's, and finds its operands
-pub runs-number : {D : Type 0} (A : Algebra D) {k i : ℕ} {c : List ℕ} {st : List D} → Runs A k (i ∷ c) st → i ≤ op-sequence
-runs-number A (next a b h r) = a
-
-pub runs-operands : {D : Type 0} (A : Algebra D) {k i : ℕ} {c : List ℕ} {st : List D} → Runs A k (i ∷ c) st → operands i ≤ length st
-runs-operands A (next a b h r) = b
-
-pub does-label : (g : Graph) (i : ℕ) (st : List Cells) → i < op-inverse → does (relations g) i st ≡ crossed g (letter i) ∷ st
-unfolding does relations
-does-label g i st l = rw (
-  ne-eqb i op-inverse (λ e. omega arith),
-  ne-eqb i op-star (λ e. omega arith),
-  ne-eqb i op-plus (λ e. omega arith),
-  ne-eqb i op-optional (λ e. omega arith),
-  ne-eqb i op-alternative (λ e. omega arith),
-  ne-eqb i op-sequence (λ e. omega arith),
-)
+runs-height A (next b h r) = h
 
 -- ---- the operands
 pub standing-count : {n k at : ℕ} {ws work : List ℕ} {os : List Operand} {st : List Cells} → Standing n ws work os k at st → k ≡ length st
@@ -194,7 +176,7 @@ standing-put n ws work os j at o a st s h p t l =
 
 -- ---- one number more
 pub waits-next : {g : Graph} {e : Expr} {i : ℕ} {c ws work work′ : List ℕ} {S S′ : Stack} {st : List Cells} (st′ : List Cells) → Waiting g e (i ∷ c) ws work S st
-    → does (relations g) i st ≡ st′ → Standing (g .n) ws work′ (S′ .operands) (S′ .count) (S′ .end) st′ → Waiting g e c ws work′ S′ st′
+    → does (relations g) (itemOf i) st ≡ st′ → Standing (g .n) ws work′ (S′ .operands) (S′ .count) (S′ .end) st′ → Waiting g e c ws work′ S′ st′
 unfolding run
 waits-next {g} {c = c} st′ w d l = record {
   rest = ap (run (relations g) c) (sym d) ∙ w .rest;

@@ -1,61 +1,36 @@
--- Laws of letters: the pairs of a label's links, and the records in use.
+-- Laws of letters: the pairs of their links, and the records in use.
 --   links-below     the links of a book are of records below n
---   letter-crossed  the pairs of the links of one label, crossed forward, are the set of its letter
+--   letters-crossed the pairs of the links of letters are those that a step joins whose letter is one of them
 --   zero-used       each record in use joined to itself is zero steps
 --   used-below      the records in use are below n
 -- Assumes nothing.
 use mathlib.Core.Path.{_≡_, refl, sym, ap, _∙_, subst, fun-ext}
-use mathlib.Core.List.{List, [], _∷_, map}
-use mathlib.Core.Bool.{Bool, true, false, true≢false}
-use Prim.Native.Nat.{ℕ, zero, suc, _+_, _-_, _*_, _/_, _%_, _^_, _<_, _≤_}
-use native.Mathlib.Nat.{pow-suc, div-eq-of-lt}
-use native.Mathlib.Decide.{decLt, ℕ-discrete}
-use native.Mathlib.Omega.{arith}
-use lib.Dec.{eqb, ltb}
-use lib.Pow.{pow-add, pow-lt, shl-shr}
-use borrow.Author.Tests.{eqb-true, eq-eqb, le-ltb}
-use Rattle.book.specs.Basics.{pick, bit, In, here, there}
 use mathlib.Core.Logic.{⊎-elim}
+use mathlib.Core.List.{List, [], _∷_, map}
+use mathlib.Core.Bool.{Bool, true, false}
+use Prim.Native.Nat.{ℕ, _+_, _*_, _/_, _%_, _<_, _≤_, max}
+use native.Mathlib.Decide.{decLt}
+use native.Mathlib.Omega.{arith}
+use lib.Dec.{eqb}
+use borrow.Author.Tests.{eqb-true, eq-eqb, le-ltb}
+use Rattle.book.specs.Basics.{pick, In, here, there}
 use Rattle.book.specs.ListLaws.{in-none, in-front, in-map}
 use Rattle.book.specs.Book.{Book, present}
-use Rattle.book.specs.Sheets.{Fit}
 use Rattle.k2.specs.Bits.{digit, bitAt}
-use Rattle.k2.specs.PairSets.{Cells, pairWord, setOf, union, transpose, diagonal}
-use Rattle.k2.specs.PairSetLaws.{set-in, in-set, set-past}
-use Rattle.paths.specs.Expressions.{letter}
+use Rattle.k2.specs.PairSets.{pairWord, setOf, union, transpose, diagonal}
+use Rattle.k2.specs.PairSetLaws.{set-in, in-set, set-bit, set-past}
+use Rattle.paths.specs.Expressions.{Letter}
 use Rattle.paths.specs.Chains.{Graph, asked}
-use Rattle.paths.specs.Relations.{crossed, zeroSteps}
-use Rattle.paths.specs.RelationLaws.{crossed-letter}
+use Rattle.paths.specs.Relations.{crossedBy, zeroSteps}
+use Rattle.paths.specs.ChainLaws.{Inside}
+use Rattle.paths.specs.RelationLaws.{crossed-is, is-crossed}
 use Rattle.paths.specs.PairLaws.{fit-inside}
-use Rattle.register.specs.Links.{linkWord, Linked}
-use Rattle.rows.specs.Rows.{noPairs, linkPair, labelled, crossedWords}
-use Rattle.rows.specs.RowLaws.{union-right, transpose-none, labelled-none, set-none}
+use Rattle.reader.specs.Letters.{lettersIn}
+use Rattle.rows.specs.Rows.{linkPair, labelled, crossedWords}
 use Rattle.tree.specs.Inner.{LinksBelow}
 use Rattle.pairs.specs.Steps.{Lettered}
 
--- ---- the set that has one label
-alone-here : (l : ℕ) → digit (2 ^ l) l ≡ 1
-unfolding digit
-alone-here l =
-    let e : 1 * 2 ^ l ≡ 2 ^ l = omega arith in
-    ap (λ (x : ℕ). x % 2) (sym (ap (λ (x : ℕ). x / 2 ^ l) e) ∙ shl-shr 1 l)
-
-alone-other : (l k : ℕ) → (k ≡ l → ⊥) → digit (2 ^ l) k ≡ 0
-unfolding digit
-alone-other l k n = by (decLt k l)
-  where
-    by : Dec (k < l) → 2 ^ l / 2 ^ k % 2 ≡ 0
-    by (yes h) =
-        let j = l - k - 1 in
-        let e : l ≡ suc j + k = omega arith in
-        let p : 2 ^ l ≡ 2 ^ suc j * 2 ^ k = ap (λ (i : ℕ). 2 ^ i) e ∙ pow-add 2 (suc j) k in
-        let q : 2 ^ l / 2 ^ k ≡ 2 ^ suc j = ap (λ (x : ℕ). x / 2 ^ k) p ∙ shl-shr (2 ^ suc j) k in
-        rw q (omega (arith, pow-suc 2 j))
-    by (no h) =
-        let z : 2 ^ l / 2 ^ k ≡ 0 = div-eq-of-lt (pow-lt {i = l} {j = k} (omega (arith, n))) in
-        rw z refl
-
--- ---- the words of a label
+-- ---- the words of a set of labels
 -- a word that is kept is one of the words, and its label is in the set
 kept : (m : ℕ) (ws : List ℕ) (p : ℕ) → In p (map linkPair (labelled m ws)) → (w : ℕ) × In w ws × (p ≡ linkPair w) × (digit m (w / 1048576) ≡ 1)
 unfolding labelled
@@ -95,59 +70,73 @@ module _ (b : Book) (n : ℕ) (ws used : List ℕ) (L : Lettered b n ws used) wh
       let e : p ≡ k .0 .from * 1024 + k .0 .to = r .2 ∙ ap (λ (x : ℕ). x % 1048576) (k .1) ∙ omega (arith, f .from, f .to, f .label) in
       rw e (omega (arith, f .from, f .to), omega (arith, f .from, f .to))
 
-  module _ (l : ℕ) where
+  -- the pairs of the links whose label is in the set m
+  module _ (m : ℕ) where
     abbrev ps : List ℕ
-    ps = map linkPair (labelled (2 ^ l) ws)
+    ps = map linkPair (labelled m ws)
 
-    sound : (x y : ℕ) → y < 1024 → In (pairWord x y) ps → present (b .sheet) (record { from = x; label = l; to = y }) ≡ true
+    sound : (x y : ℕ) → 1 ≤ setOf ps x y → (l : ℕ) × (digit m l ≡ 1) × (present (b .sheet) (record { from = x; label = l; to = y }) ≡ true)
     unfolding linkPair
-    sound x y h i =
-        let r = kept (2 ^ l) ws (pairWord x y) i in
+    sound x y h =
+        let c : y < 1024 = near (decLt y 1024) in
+        let r = kept m ws (pairWord x y) (set-in ps x y h) in
         let k = L .linked .sound (r .0) (r .1) in
         let f = L .fit .links (k .0) (k .2) in
         let s = L .small in
         let d : r .0 / 1048576 ≡ k .0 .label = ap (λ (w : ℕ). w / 1048576) (k .1) ∙ omega (arith, f .from, f .to) in
-        let m : k .0 .label ≡ l = by (k .0 .label) (ℕ-discrete (k .0 .label) l) (sym (ap (digit (2 ^ l)) d) ∙ r .3) in
         let e : pairWord x y ≡ k .0 .from * 1024 + k .0 .to = r .2 ∙ ap (λ (w : ℕ). w % 1048576) (k .1) ∙ omega (arith, f .from, f .to, f .label) in
         let u : k .0 .from ≡ x = omega (arith, f .from, f .to) in
-        let v : k .0 .to ≡ y = omega (arith, f .from, f .to) in
-        subst (λ (i : ℕ). present (b .sheet) (record { from = x; label = l; to = i }) ≡ true) v
-        (subst (λ (i : ℕ). present (b .sheet) (record { from = i; label = l; to = k .0 .to }) ≡ true) u
-        (subst (λ (i : ℕ). present (b .sheet) (record { from = k .0 .from; label = i; to = k .0 .to }) ≡ true) m (k .2)))
+        let v : k .0 .to ≡ y = omega (arith, f .from, f .to) in (
+          k .0 .label,
+          sym (ap (digit m) d) ∙ r .3,
+          subst (λ (i : ℕ). present (b .sheet) (record { from = x; label = k .0 .label; to = i }) ≡ true) v
+              (subst (λ (i : ℕ). present (b .sheet) (record { from = i; label = k .0 .label; to = k .0 .to }) ≡ true) u (k .2)),
+        )
       where
-        by : (i : ℕ) → Dec (i ≡ l) → digit (2 ^ l) i ≡ 1 → i ≡ l
-        by i (yes e) q = e
-        by i (no e) q = absurd (let z : _≡_ {A = ℕ} 0 1 = sym (alone-other l i e) ∙ q in omega (arith, z))
+        near : Dec (y < 1024) → y < 1024
+        near (yes c) = c
+        near (no c) = absurd (omega (arith, set-past ps x y (omega arith)))
 
-    whole : (x y : ℕ) → present (b .sheet) (record { from = x; label = l; to = y }) ≡ true → In (pairWord x y) ps
+    whole : (l x y : ℕ) → digit m l ≡ 1 → present (b .sheet) (record { from = x; label = l; to = y }) ≡ true → setOf ps x y ≡ 1
     unfolding linkPair
-    whole x y e =
+    whole l x y q e =
         let f = L .fit .links _ e in
         let s = L .small in
         let w : ℕ = (l * 1024 + x) * 1024 + y in
         let d : w / 1048576 ≡ l = omega (arith, f .from, f .to) in
         let p : w % 1048576 ≡ pairWord x y = omega (arith, f .from, f .to) in
-        subst (λ (v : ℕ). In v ps) p (keep (2 ^ l) ws w (L .linked .whole _ e) (ap (digit (2 ^ l)) d ∙ alone-here l))
+        in-set ps x y (omega (arith, f .to)) (subst (λ (v : ℕ). In v ps) p (keep m ws w (L .linked .whole _ e) (ap (digit m) d ∙ q)))
 
-    label-set : setOf ps ≡ crossed g (letter l)
-    unfolding asked
-    label-set = fun-ext (λ x. fun-ext (λ y. at x y))
-      where
-        at : (x y : ℕ) → setOf ps x y ≡ crossed g (letter l) x y
-        at x y = go (present (b .sheet) (record { from = x; label = l; to = y })) refl ∙ sym (crossed-letter g (fit-inside b (L .fit)) l x y)
-          where
-            go : (t : Bool) → present (b .sheet) (record { from = x; label = l; to = y }) ≡ t → setOf ps x y ≡ bit (present (b .sheet) (record { from = x; label = l; to = y }))
-            go true e = in-set ps x y (omega (arith, L .fit .links _ e .to, L .small)) (whole x y e) ∙ rw e
-            go false e = none (decLt y 1024) (decLt 0 (setOf ps x y)) ∙ rw e
-              where
-                none : Dec (y < 1024) → Dec (0 < setOf ps x y) → setOf ps x y ≡ 0
-                none (yes c) (yes h) = absurd (true≢false (sym (sound x y c (set-in ps x y h)) ∙ e))
-                none (yes c) (no h) = omega arith
-                none (no c) h = set-past ps x y (omega arith)
+  -- the pairs of the links of letters, each crossed in its sense, are those that a step joins whose letter is one of them
+  pub letters-crossed : (forward against : ℕ) → crossedWords ws forward against ≡ crossedBy g (lettersIn forward against)
+  unfolding asked crossedWords lettersIn union transpose
+  letters-crossed forward against = fun-ext (λ x. fun-ext (λ y. by x y (decLt 0 (crossedBy g (lettersIn forward against) x y))))
+    where
+      I : Inside g
+      I = fit-inside b (L .fit)
 
-    pub letter-crossed : crossedWords ws (2 ^ l) 0 ≡ crossed g (letter l)
-    unfolding crossedWords
-    letter-crossed = rw (labelled-none ws, set-none, transpose-none) (union-right (setOf ps) ∙ label-set)
+      forth : (x y : ℕ) → 1 ≤ setOf (ps forward) x y → crossedBy g (lettersIn forward against) x y ≡ 1
+      forth x y h = let r = sound forward x y h in is-crossed g (lettersIn forward against) I (record { label = r .0; inverted = false }) x y (eq-eqb _ 1 (r .1)) (r .2)
+
+      back : (x y : ℕ) → 1 ≤ setOf (ps against) y x → crossedBy g (lettersIn forward against) x y ≡ 1
+      back x y h = let r = sound against y x h in is-crossed g (lettersIn forward against) I (record { label = r .0; inverted = true }) x y (eq-eqb _ 1 (r .1)) (r .2)
+
+      one : (x y : ℕ) (a : Letter) (s : Bool) → a .inverted ≡ s → eqb (digit (pick s against forward) (a .label)) 1 ≡ true
+          → present (b .sheet) (pick s (record { from = y; label = a .label; to = x }) (record { from = x; label = a .label; to = y })) ≡ true
+          → max (setOf (ps forward) x y) (setOf (ps against) y x) ≡ 1
+      one x y a true e q p = omega (arith, whole against (a .label) y x (eqb-true _ 1 q) p, set-bit (ps forward) x y)
+      one x y a false e q p = omega (arith, whole forward (a .label) x y (eqb-true _ 1 q) p, set-bit (ps against) y x)
+
+      by : (x y : ℕ) → Dec (0 < crossedBy g (lettersIn forward against) x y) → max (setOf (ps forward) x y) (setOf (ps against) y x) ≡ crossedBy g (lettersIn forward against) x y
+      by x y (yes h) =
+          let r = crossed-is g (lettersIn forward against) x y h in
+          one x y (r .0) (r .0 .inverted) refl (r .1) (r .2) ∙ sym (is-crossed g (lettersIn forward against) I (r .0) x y (r .1) (r .2))
+      by x y (no h) = go (decLt 0 (setOf (ps forward) x y)) (decLt 0 (setOf (ps against) y x))
+        where
+          go : Dec (0 < setOf (ps forward) x y) → Dec (0 < setOf (ps against) y x) → max (setOf (ps forward) x y) (setOf (ps against) y x) ≡ crossedBy g (lettersIn forward against) x y
+          go (yes k) j = absurd (omega (arith, forth x y k))
+          go (no k) (yes j) = absurd (omega (arith, back x y j))
+          go (no k) (no j) = omega arith
 
   pub zero-used : diagonal (bitAt used) ≡ zeroSteps g
   unfolding zeroSteps

@@ -9,25 +9,23 @@
 -- Assumes nothing.
 use mathlib.Core.Path.{_≡_, refl, sym, ap, _∙_, subst}
 use mathlib.Core.List.{List, [], _∷_}
-use mathlib.Core.Bool.{Bool, true, false}
 use Prim.Native.Nat.{ℕ, suc, _+_, _-_, _*_, _<_, _≤_}
 use native.Mathlib.Nat.{suc-mul}
 use native.Mathlib.Numerals.{add-one}
-use native.Mathlib.Decide.{decLt}
 use native.Mathlib.Omega.{arith}
-use lib.Dec.{eqb}
 use lib.ListN.{length, set, length-set}
 use lib.Seq.{getD-set-same, getD-set-other}
-use borrow.Author.Tests.{lt-ltb, le-ltb, eqb-false, eq-eqb, ne-eqb}
-use Rattle.paths.specs.Expressions.{Expr, symbol, letter, group, inverse, star, plus, optional, alternative, sequence, depth}
+use Rattle.paths.specs.Expressions.{Expr, symbol, group, inverse, star, plus, optional, alternative, sequence, depth}
 use Rattle.paths.specs.Grammar.{alternatives, Is}
-use Rattle.reader.specs.Code.{op-inverse, op-star, op-plus, op-optional, op-alternative, op-sequence, code, value, does, run}
+use Rattle.reader.specs.declared.items.Item.{Item}
+use Rattle.reader.specs.declared.items.Item.the-variants.{Letters, Inverse, Star, Plus, Optional, Alternative, Sequence}
+use Rattle.reader.specs.Code.{itemOf, code, value, does, run}
 use Rattle.reader.specs.Running.{operands, Runs, next}
 use Rattle.reader.specs.CodeLaws.{run-code, runs-code}
 use Rattle.pairs.specs.declared.Stack.{Stack}
 use Rattle.tree.specs.declared.operations.Operand.{Operand}
 use Rattle.tree.specs.Inner.{nothing}
-use Rattle.pairs.specs.Evaluation.{heights, operandAt, most-waiting, Totals, no-words, more-words, Placed, Room}
+use Rattle.pairs.specs.Evaluation.{heights, operandAt, most-waiting, Ready, Totals, no-words, more-words, Placed, Room}
 use Rattle.pairs.specs.EvaluationLaws.{runs-height}
 
 pub totals-below : {d k at : ℕ} {os : List Operand} → Totals d os k at → (j : ℕ) → k ≡ suc j
@@ -61,7 +59,7 @@ placed-put {d} {S} start j o P t h l =
 -- ---- the code
 value-heights : (e : Expr) → value heights e ≡ 0
 unfolding value heights
-value-heights (symbol (letter k)) = refl
+value-heights (symbol s) = refl
 value-heights (group e) = value-heights e
 value-heights (inverse e) = refl
 value-heights (star e) = refl
@@ -80,75 +78,37 @@ room-begins d e p h os l = record {
   placed = record { slots = l; totals = no-words };
 }
 
--- what the next number asks
-pub record Ready (i k : ℕ) : Type 0 where
-  pub number : i ≤ op-sequence
-  pub found : operands i ≤ k
-  pub few : k ≤ most-waiting
-  pub room : suc (k - operands i) ≤ most-waiting
-
--- a number takes its operands off the stack and puts one value on it
-height-letter : (i : ℕ) (st : List ℕ) → i < op-inverse → does heights i st ≡ 0 ∷ st
+-- an item takes its operands off the stack and puts one value on it
+height-after : (y : Item) (st : List ℕ) → operands y ≤ length st → length (does heights y st) ≡ suc (length st - operands y)
 unfolding does heights
-height-letter i st l = rw (
-  ne-eqb i op-inverse (λ e. omega arith),
-  ne-eqb i op-star (λ e. omega arith),
-  ne-eqb i op-plus (λ e. omega arith),
-  ne-eqb i op-optional (λ e. omega arith),
-  ne-eqb i op-alternative (λ e. omega arith),
-  ne-eqb i op-sequence (λ e. omega arith),
-)
+height-after (Letters forward against) st h = omega arith
+height-after Inverse [] h = absurd (omega arith)
+height-after Inverse (a ∷ st) h = omega arith
+height-after Star [] h = absurd (omega arith)
+height-after Star (a ∷ st) h = omega arith
+height-after Plus [] h = absurd (omega arith)
+height-after Plus (a ∷ st) h = omega arith
+height-after Optional [] h = absurd (omega arith)
+height-after Optional (a ∷ st) h = omega arith
+height-after Alternative [] h = absurd (omega arith)
+height-after Alternative (a ∷ []) h = absurd (omega arith)
+height-after Alternative (b ∷ a ∷ st) h = omega arith
+height-after Sequence [] h = absurd (omega arith)
+height-after Sequence (a ∷ []) h = absurd (omega arith)
+height-after Sequence (b ∷ a ∷ st) h = omega arith
 
-height-one : (i a : ℕ) (st : List ℕ) → op-inverse ≤ i → i < op-alternative → does heights i (a ∷ st) ≡ 0 ∷ st
-unfolding does heights
-height-one i a st l h = go (eqb i op-inverse) refl (eqb i op-star) refl (eqb i op-plus) refl
-  where
-    go : (t : Bool) → eqb i op-inverse ≡ t → (u : Bool) → eqb i op-star ≡ u → (v : Bool) → eqb i op-plus ≡ v → does heights i (a ∷ st) ≡ 0 ∷ st
-    go true e u f v q = rw e
-    go false e true f v q = rw (e, f)
-    go false e false f true q = rw (e, f, q)
-    go false e false f false q = rw (e, f, q, eq-eqb i op-optional (omega (arith, eqb-false i op-inverse e, eqb-false i op-star f, eqb-false i op-plus q)))
-
-height-two : (i a b : ℕ) (st : List ℕ) → op-alternative ≤ i → i ≤ op-sequence → does heights i (b ∷ a ∷ st) ≡ 0 ∷ st
-unfolding does heights
-height-two i a b st l h = go (eqb i op-alternative) refl
-  where
-    go : (t : Bool) → eqb i op-alternative ≡ t → does heights i (b ∷ a ∷ st) ≡ 0 ∷ st
-    go true e = rw (ne-eqb i op-inverse (λ q. omega arith), ne-eqb i op-star (λ q. omega arith), ne-eqb i op-plus (λ q. omega arith), ne-eqb i op-optional (λ q. omega arith), e)
-    go false e = rw (ne-eqb i op-inverse (λ q. omega arith), ne-eqb i op-star (λ q. omega arith), ne-eqb i op-plus (λ q. omega arith), ne-eqb i op-optional (λ q. omega arith), e, eq-eqb i op-sequence (omega (arith, eqb-false i op-alternative e)))
-
-pub operands-none : (i : ℕ) → i < op-inverse → operands i ≡ 0
-operands-none i h = rw (lt-ltb i op-inverse h)
-
-pub operands-one : (i : ℕ) → op-inverse ≤ i → i < op-alternative → operands i ≡ 1
-operands-one i l h = rw (le-ltb i op-inverse l, lt-ltb i op-alternative h)
-
-pub operands-two : (i : ℕ) → op-alternative ≤ i → operands i ≡ 2
-operands-two i l = rw (le-ltb i op-inverse (omega arith), le-ltb i op-alternative l)
-
-height-after : (i : ℕ) (st : List ℕ) → i ≤ op-sequence → operands i ≤ length st → length (does heights i st) ≡ suc (length st - operands i)
-height-after i st l h = go (decLt i op-inverse) (decLt i op-alternative) st h
-  where
-    go : Dec (i < op-inverse) → Dec (i < op-alternative) → (st : List ℕ) → operands i ≤ length st → length (does heights i st) ≡ suc (length st - operands i)
-    go (yes p) q st h = rw (height-letter i st p, operands-none i p) (omega arith)
-    go (no p) (yes q) [] h = absurd (omega (arith, operands-one i (omega arith) q))
-    go (no p) (yes q) (a ∷ st) h = rw (height-one i a st (omega arith) q, operands-one i (omega arith) q) (omega arith)
-    go (no p) (no q) [] h = absurd (omega (arith, operands-two i (omega arith)))
-    go (no p) (no q) (b ∷ []) h = absurd (omega (arith, operands-two i (omega arith)))
-    go (no p) (no q) (b ∷ a ∷ st) h = rw (height-two i a b st (omega arith) l, operands-two i (omega arith)) (omega arith)
-
-pub room-operands : {d i : ℕ} {c : List ℕ} {S : Stack} → Room d (i ∷ c) S → Ready i (S .count)
+pub room-operands : {d i : ℕ} {c : List ℕ} {S : Stack} → Room d (i ∷ c) S → Ready (itemOf i) (S .count)
 room-operands {i = i} r = go (r .runs) (r .count)
   where
-    go : {k : ℕ} {c : List ℕ} {st : List ℕ} → Runs heights most-waiting (i ∷ c) st → k ≡ length st → Ready i k
-    go {st = st} (next a b h q) e = rw e (record { number = a; found = b; few = h; room = omega (arith, runs-height heights q, height-after i st a b) })
+    go : {k : ℕ} {c : List ℕ} {st : List ℕ} → Runs heights most-waiting (i ∷ c) st → k ≡ length st → Ready (itemOf i) k
+    go {st = st} (next b h q) e = rw e (record { found = b; few = h; room = omega (arith, runs-height heights q, height-after (itemOf i) st b) })
 
-pub room-next : {d i : ℕ} {c : List ℕ} {S S′ : Stack} → Room d (i ∷ c) S → Placed d S′ → S′ .count ≡ suc (S .count - operands i) → Room d c S′
+pub room-next : {d i : ℕ} {c : List ℕ} {S S′ : Stack} → Room d (i ∷ c) S → Placed d S′ → S′ .count ≡ suc (S .count - operands (itemOf i)) → Room d c S′
 unfolding run
 room-next {d} {i} {c} {S} {S′} R P e = go (R .runs) (R .rest) (R .count)
   where
     go : {st : List ℕ} → Runs heights most-waiting (i ∷ c) st → run heights (i ∷ c) st ≡ 0 ∷ [] → S .count ≡ length st → Room d c S′
-    go {st} (next a b g q) f k = record { stack = does heights i st; rest = f; runs = q; count = e ∙ ap (λ (x : ℕ). suc (x - operands i)) k ∙ sym (height-after i st a b); placed = P }
+    go {st} (next b g q) f k = record { stack = does heights (itemOf i) st; rest = f; runs = q; count = e ∙ ap (λ (x : ℕ). suc (x - operands (itemOf i))) k ∙ sym (height-after (itemOf i) st b); placed = P }
 
 pub room-ends : {d : ℕ} {S : Stack} → Room d [] S → S .count ≡ 1
 unfolding run

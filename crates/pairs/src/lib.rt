@@ -2,11 +2,11 @@
 // rows, or as a list of pairs.
 ghost use mathlib.Core.Path.{_≡_};
 ghost use mathlib.Core.List.{List, [], _∷_};
-ghost use Prim.Native.Nat.{ℕ, _*_, _-_, _^_, _<_, _≤_};
+ghost use Prim.Native.Nat.{ℕ, _*_, _-_, _<_, _≤_};
 ghost use lib.ListN.{length, take};
 ghost use Rattle.book.specs.Basics.{bit};
 ghost use Rattle.book.specs.Book.{Book};
-ghost use Rattle.book.specs.Causes.{maxRecords, labels};
+ghost use Rattle.book.specs.Causes.{maxRecords};
 ghost use Rattle.k2.specs.Bits.{bitAt};
 ghost use Rattle.k2.specs.Trees.{treeUnit};
 ghost use Rattle.paths.specs.Expressions.{Expr};
@@ -14,13 +14,13 @@ ghost use Rattle.paths.specs.Grammar.{accepted};
 ghost use Rattle.paths.specs.Verdicts.{verdict};
 ghost use Rattle.paths.specs.Chains.{asked};
 ghost use Rattle.paths.specs.Relations.{cells};
-ghost use Rattle.reader.specs.Code.{op-inverse};
 ghost use Rattle.register.specs.Representation.{Represents};
 ghost use Rattle.rows.specs.Rows.{flat, pairsIn};
-ghost use Rattle.pairs.specs.Evaluation.{letterOperand, operationOf, pushed, turned, Room};
+ghost use Rattle.pairs.specs.Evaluation.{lettersOperand, onTop, belowTop, takenOne, takenTwo, pushed, turned, Ready, Placed};
 ghost use Rattle.pairs.specs.Steps.{Lettered, Takes, Goes, Coded, Going, Ends};
 ghost use Rattle.pairs.specs.Relating.{RelatingFor};
 ghost use Rattle.pairs.specs.Asking.{Handed, Relates, AsksPairs};
+use reader::Item;
 
 // The answer to a pair question: the number of pairs in all, or refused with the number of the cause.
 pub enum PairsAnswer {
@@ -41,7 +41,7 @@ struct Stack {
     end: usize,
 }
 
-// A number of the code with the operands that it takes off the stack, as a term; where their trees begin in the work, and how many operands stay.
+// An item of the code with the operands that it takes off the stack, as a term; where their trees begin in the work, and how many operands stay.
 struct Taken {
     term: tree::Term,
     start: usize,
@@ -60,89 +60,15 @@ fn bounded(size: usize, n: usize) -> usize
     size
 }
 
-// The set that has one label.
-fn only(label: u8) -> u32
-    requires { ⌜ label < labels ⌝ }
-    ensures { λ r. ⌜ r ≡ 2 ^ label ⌝ }
-{
-    1 << label
-}
-
-// A letter as an operand: its links, crossed forward, and no tree.
-fn letter(label: u8) -> tree::Operand
-    requires { ⌜ label < labels ⌝ }
-    ensures { λ r. ⌜ r ≡ letterOperand label ⌝ }
+// The operand of a symbol: the links of its letters, and no tree.
+fn letters(forward: u32, against: u32) -> tree::Operand
+    ensures { λ r. ⌜ r ≡ lettersOperand forward against ⌝ }
 {
     tree::Operand {
         size: 0,
         sense: tree::Sense::Plain,
-        forward: only(label),
-        against: 0,
-    }
-}
-
-// The operation of an operator; that of any other number is union.
-fn operation(op: u8) -> tree::Operation
-    ensures { λ r. ⌜ r ≡ operationOf op ⌝ }
-{
-    if op == reader::STAR {
-        return tree::Operation::Star;
-    }
-    if op == reader::PLUS {
-        return tree::Operation::Closure;
-    }
-    if op == reader::OPTIONAL {
-        return tree::Operation::Optional;
-    }
-    if op == reader::SEQUENCE {
-        return tree::Operation::Product;
-    }
-    tree::Operation::Union
-}
-
-// The operands of an operator taken off the stack. `^` is a union with nothing, its operand being read with the other sense.
-fn take_off(stack: Stack, op: u8) -> Taken
-    requires { ⌜ (op-inverse ≤ op) × ((d : ℕ) × (c : List ℕ) × Room d (op ∷ c) stack) ⌝ }
-    ensures { λ r. ⌜ ((d : ℕ) (c : List ℕ) → Room d (op ∷ c) stack → Takes d op stack r) ⌝ }
-{
-    let top = stack.count - 1;
-    let second = stack.operands[top];
-    let start = stack.end - second.size;
-    if op == reader::INVERSE {
-        let term = tree::Term {
-            operation: tree::Operation::Union,
-            first: tree::no_operand(),
-            second: tree::inverted(second),
-        };
-        return Taken {
-            term,
-            start,
-            below: top,
-        };
-    }
-    if op < reader::FIRST_BINARY {
-        let term = tree::Term {
-            operation: operation(op),
-            first: tree::no_operand(),
-            second,
-        };
-        return Taken {
-            term,
-            start,
-            below: top,
-        };
-    }
-    let below = top - 1;
-    let first = stack.operands[below];
-    let term = tree::Term {
-        operation: operation(op),
-        first,
-        second,
-    };
-    Taken {
-        term,
-        start: start - first.size,
-        below,
+        forward,
+        against,
     }
 }
 
@@ -170,7 +96,77 @@ fn inverse(stack: Stack) -> Stack
     next
 }
 
-// An operator but `^`; the part of work from its operands on is lent to the operation, whose outcome takes their place.
+// The operand on top, with an operation on it.
+fn on_one(stack: Stack, operation: tree::Operation) -> Taken
+    requires { ⌜ (1 ≤ stack .count) × (stack .count ≤ 19) × (length (stack .operands) ≡ 19) × (onTop stack .size ≤ stack .end) ⌝ }
+    ensures { λ r. ⌜ r ≡ takenOne operation stack ⌝ }
+{
+    let top = stack.count - 1;
+    let second = stack.operands[top];
+    let start = stack.end - second.size;
+    let term = tree::Term {
+        operation,
+        first: tree::no_operand(),
+        second,
+    };
+    Taken {
+        term,
+        start,
+        below: top,
+    }
+}
+
+// The two operands on top, with an operation on them.
+fn on_two(stack: Stack, operation: tree::Operation) -> Taken
+    requires { ⌜ (2 ≤ stack .count) × (stack .count ≤ 19) × (length (stack .operands) ≡ 19) × (onTop stack .size ≤ stack .end) × (belowTop stack .size ≤ stack .end - onTop stack .size) ⌝ }
+    ensures { λ r. ⌜ r ≡ takenTwo operation stack ⌝ }
+{
+    let top = stack.count - 1;
+    let second = stack.operands[top];
+    let start = stack.end - second.size;
+    let below = top - 1;
+    let first = stack.operands[below];
+    let term = tree::Term {
+        operation,
+        first,
+        second,
+    };
+    Taken {
+        term,
+        start: start - first.size,
+        below,
+    }
+}
+
+// An item with the operands that it takes off the stack. Letters take none, and are a union with nothing; so is `^`, its operand being read with the other
+// sense.
+fn take_off(stack: Stack, item: Item) -> Taken
+    requires { ⌜ Ready item (stack .count) × ((d : ℕ) × Placed d stack) ⌝ }
+    ensures { λ r. ⌜ ((d : ℕ) → Placed d stack → Takes d item stack r) ⌝ }
+{
+    match item {
+        Item::Letters(forward, against) => {
+            let term = tree::Term {
+                operation: tree::Operation::Union,
+                first: tree::no_operand(),
+                second: letters(forward, against),
+            };
+            Taken {
+                term,
+                start: stack.end,
+                below: stack.count,
+            }
+        }
+        Item::Inverse => on_one(inverse(stack), tree::Operation::Union),
+        Item::Star => on_one(stack, tree::Operation::Star),
+        Item::Plus => on_one(stack, tree::Operation::Closure),
+        Item::Optional => on_one(stack, tree::Operation::Optional),
+        Item::Alternative => on_two(stack, tree::Operation::Union),
+        Item::Sequence => on_two(stack, tree::Operation::Product),
+    }
+}
+
+// An operator; the part of work from its operands on is lent to the operation, whose outcome takes their place.
 fn operator(
     work: &mut [u64],
     n: usize,
@@ -178,13 +174,13 @@ fn operator(
     used: &[u64],
     rows: &mut [u64],
     stack: Stack,
-    op: u8,
+    item: Item,
 ) -> Stack
     requires { ⌜ (n ≤ maxRecords) × (32 * treeUnit n ≤ length (now work)) × (length (now used) ≡ 16) × (length (now rows) ≡ 16384)
-        × (op-inverse < op) × ((c : List ℕ) × Room (treeUnit n) (op ∷ c) stack) ⌝ }
-    ensures { λ r. ⌜ Goes n (now (links .entry)) (now (used .entry)) op (now (work .entry)) (now (work .exit)) stack r ⌝ }
+        × Ready item (stack .count) × Placed (treeUnit n) stack ⌝ }
+    ensures { λ r. ⌜ Goes n (now (links .entry)) (now (used .entry)) item (now (work .entry)) (now (work .exit)) stack r ⌝ }
 {
-    let taken = take_off(stack, op);
+    let taken = take_off(stack, item);
     let term = taken.term;
     let start = taken.start;
     let below = taken.below;
@@ -203,7 +199,7 @@ fn operator(
     next
 }
 
-// One number of the code.
+// One number of the code. Letters are put on the stack, and `^` turns what is on top: neither writes a tree.
 fn step(
     work: &mut [u64],
     n: usize,
@@ -211,19 +207,17 @@ fn step(
     used: &[u64],
     rows: &mut [u64],
     stack: Stack,
-    op: u8,
+    item: Item,
 ) -> Stack
     requires { ⌜ (n ≤ maxRecords) × (32 * treeUnit n ≤ length (now work)) × (length (now used) ≡ 16) × (length (now rows) ≡ 16384)
-        × ((c : List ℕ) × Room (treeUnit n) (op ∷ c) stack) ⌝ }
-    ensures { λ r. ⌜ Goes n (now (links .entry)) (now (used .entry)) op (now (work .entry)) (now (work .exit)) stack r ⌝ }
+        × Ready item (stack .count) × Placed (treeUnit n) stack ⌝ }
+    ensures { λ r. ⌜ Goes n (now (links .entry)) (now (used .entry)) item (now (work .entry)) (now (work .exit)) stack r ⌝ }
 {
-    if op < reader::FIRST_OPERATOR {
-        return push(stack, letter(op));
+    match item {
+        Item::Letters(forward, against) => push(stack, letters(forward, against)),
+        Item::Inverse => inverse(stack),
+        _ => operator(work, n, links, used, rows, stack, item),
     }
-    if op == reader::INVERSE {
-        return inverse(stack);
-    }
-    operator(work, n, links, used, rows, stack, op)
 }
 
 // All numbers of the code but the last; the operands that wait for that.
@@ -233,7 +227,7 @@ fn evaluate(
     links: &[u32],
     used: &[u64],
     rows: &mut [u64],
-    code: &[u8],
+    code: &[u64],
 ) -> Stack
     requires { ⌜ (n ≤ maxRecords) × (32 * treeUnit n ≤ length (now work)) × (length (now used) ≡ 16) × (length (now rows) ≡ 16384)
         × ((s : List ℕ) × (e : Expr) × Coded s e (now code)) ⌝ }
@@ -246,42 +240,43 @@ fn evaluate(
     };
     let mut i = 0;
     while i + 1 < code.len() {
-        stack = step(work, n, links, used, rows, stack, code[i]);
+        let item = reader::item_of(code[i]);
+        stack = step(work, n, links, used, rows, stack, item);
         i += 1;
     }
     stack
 }
 
 // The last number of the code: its value is left in rows, and no tree is made of it.
-fn last(work: &[u64], n: usize, links: &[u32], used: &[u64], rows: &mut [u64], stack: Stack, op: u8)
+fn last(
+    work: &[u64],
+    n: usize,
+    links: &[u32],
+    used: &[u64],
+    rows: &mut [u64],
+    stack: Stack,
+    item: Item,
+)
     requires { ⌜ (n ≤ maxRecords) × (32 * treeUnit n ≤ length (now work)) × (length (now used) ≡ 16) × (length (now rows) ≡ 16384)
-        × Room (treeUnit n) (op ∷ []) stack ⌝ }
-    ensures { λ _. ⌜ Ends n (now (links .entry)) (now (used .entry)) op (now (work .entry)) stack (now (rows .exit)) ⌝ }
+        × Ready item (stack .count) × Placed (treeUnit n) stack ⌝ }
+    ensures { λ _. ⌜ Ends n (now (links .entry)) (now (used .entry)) item (now (work .entry)) stack (now (rows .exit)) ⌝ }
 {
-    if op < reader::FIRST_OPERATOR {
-        let term = tree::Term {
-            operation: tree::Operation::Union,
-            first: tree::no_operand(),
-            second: letter(op),
-        };
-        tree::outcome_rows(term, work, n, links, used, rows);
-        return;
-    }
-    let taken = take_off(stack, op);
+    let taken = take_off(stack, item);
     let term = taken.term;
     let start = taken.start;
     tree::outcome_rows(term, &work[start..], n, links, used, rows);
 }
 
 // The whole code: its value is left in rows.
-fn run(work: &mut [u64], n: usize, links: &[u32], used: &[u64], rows: &mut [u64], code: &[u8])
+fn run(work: &mut [u64], n: usize, links: &[u32], used: &[u64], rows: &mut [u64], code: &[u64])
     requires { ⌜ (n ≤ maxRecords) × (32 * treeUnit n ≤ length (now work)) × (length (now used) ≡ 16) × (length (now rows) ≡ 16384)
         × ((s : List ℕ) × (e : Expr) × Coded s e (now code)) ⌝ }
     ensures { λ _. ⌜ ((b : Book) → Lettered b n (now (links .entry)) (now (used .entry)) → (s : List ℕ) (e : Expr) → Coded s e (now (code .entry))
         → bitAt (now (rows .exit)) ≡ flat (cells (asked b) e)) ⌝ }
 {
     let stack = evaluate(work, n, links, used, rows, code);
-    last(work, n, links, used, rows, stack, code[code.len() - 1]);
+    let item = reader::item_of(code[code.len() - 1]);
+    last(work, n, links, used, rows, stack, item);
 }
 
 // The records in use, as 1,024 bits: those below n that are not withdrawn.
@@ -304,7 +299,7 @@ fn in_use(register: register::Register, n: usize) -> [u64; 16]
 // The relation of an expression as rows, by its code: the first len numbers of the array.
 fn of_code(
     register: register::Register,
-    code: [u8; book::MAX_BYTES],
+    code: [u64; book::MAX_BYTES],
     len: usize,
     work: &mut [u64],
     rows: &mut [u64],

@@ -5,6 +5,9 @@
 --   then x k        reading goes on by k from what x has found
 --   readMark e l, readClose e l, invertRead e l
 --                   what follows e: at most one mark; the ) of a group; nothing, and a ^ stood before it
+--   readMember k l  the member of a negated set at the front of l; reading goes on by k
+--   membersIn f w l the members from l on up to the ), at most f of them, where w are read already
+--   readNegated l   a negated set, after its !
 --   alternativesIn f l, partsIn f l, partIn f l, atomIn f l
 --                   what a rule finds at the front of l, in at most f calls one inside another
 --   readAlternatives l, readParts l, readPart l, readAtom l
@@ -12,14 +15,14 @@
 --   readMoreAlternatives e l, readMoreParts e l
 --                   what they find at l, where e is read already
 -- Assumes nothing: these are definitions.
-use mathlib.Core.List.{List, [], _∷_}
+use mathlib.Core.List.{List, [], _∷_, _++_}
 use mathlib.Core.Bool.{Bool, true, false, _&&_}
 use Prim.Native.Nat.{ℕ, zero, suc, _+_, _-_, _*_}
 use lib.Dec.{leb, ltb, eqb}
 use lib.ListN.{length}
 use Rattle.book.specs.Causes.{labels}
-use Rattle.paths.specs.Expressions.{Expr, symbol, letter, group, inverse, star, plus, optional, alternative, sequence}
-use Rattle.paths.specs.Grammar.{bar, slash, hat, asterisk, plus-sign, question-mark, open-group, close-group, letter-a}
+use Rattle.paths.specs.Expressions.{Letter, letter, noneOf, Expr, symbol, group, inverse, star, plus, optional, alternative, sequence}
+use Rattle.paths.specs.Grammar.{bar, slash, hat, bang, asterisk, plus-sign, question-mark, open-group, close-group, letter-a}
 
 pub data Parse : Type 0 where
   got : Expr → List ℕ → Parse
@@ -56,6 +59,33 @@ readClose e l = elim (eqb (firstByte l) close-group) [ true ↦ got (group e) (r
 abbrev pub invertRead : Expr → List ℕ → Parse
 invertRead e l = got (inverse e) l
 
+-- a letter by its byte
+abbrev pub letterOf : Bool → ℕ → Letter
+letterOf inverted c = record { label = c - letter-a; inverted = inverted }
+
+abbrev pub readMember : (Letter → List ℕ → Parse) → List ℕ → Parse
+readMember k l =
+    elim (eqb (firstByte l) hat) [
+      | true ↦ elim (isLetter (firstByte (rest l))) [ true ↦ k (letterOf true (firstByte (rest l))) (rest (rest l)) | false ↦ fault ]
+      | false ↦ elim (isLetter (firstByte l)) [ true ↦ k (letterOf false (firstByte l)) (rest l) | false ↦ fault ]
+    ]
+
+unfoldable pub membersIn : ℕ → List Letter → List ℕ → Parse
+membersIn zero w l = fault
+membersIn (suc f) w l =
+    readMember (λ a r.
+    elim (eqb (firstByte r) bar) [
+      | true ↦ membersIn f (w ++ (a ∷ [])) (rest r)
+      | false ↦ elim (eqb (firstByte r) close-group) [ true ↦ got (symbol (noneOf (w ++ (a ∷ [])))) (rest r) | false ↦ fault ]
+    ]) l
+
+abbrev pub gotNegated : Letter → List ℕ → Parse
+gotNegated a r = got (symbol (noneOf (a ∷ []))) r
+
+-- a set has no more members than bytes
+abbrev pub readNegated : List ℕ → Parse
+readNegated l = elim (eqb (firstByte l) open-group) [ true ↦ membersIn (length l) [] (rest l) | false ↦ readMember gotNegated l ]
+
 unfoldable mutual
   pub alternativesIn : ℕ → List ℕ → Parse
   alternativesIn zero l = fault
@@ -82,7 +112,10 @@ unfoldable mutual
   atomIn (suc f) l =
       elim (eqb (firstByte l) open-group) [
         | true ↦ then (alternativesIn f (rest l)) readClose
-        | false ↦ elim (isLetter (firstByte l)) [ true ↦ got (symbol (letter (firstByte l - letter-a))) (rest l) | false ↦ fault ]
+        | false ↦ elim (isLetter (firstByte l)) [
+          | true ↦ got (symbol (letter (firstByte l - letter-a))) (rest l)
+          | false ↦ elim (eqb (firstByte l) bang) [ true ↦ readNegated (rest l) | false ↦ fault ]
+        ]
       ]
 
 -- four calls for each byte, and those from one rule to the next, are enough

@@ -5,7 +5,7 @@
 --                   what a rule's function finds is read by that rule
 --   shorter         what is left is shorter than what was lent
 -- Assumes nothing.
-use mathlib.Core.Path.{_≡_, refl, sym, ap, _∙_}
+use mathlib.Core.Path.{_≡_, refl, sym, ap, _∙_, subst}
 use mathlib.Core.List.{List, [], _∷_, _++_, append-assoc}
 use mathlib.Core.Bool.{Bool, true, false, _&&_}
 use Prim.Native.Nat.{ℕ, zero, suc, _+_, _-_, _<_}
@@ -14,9 +14,9 @@ use lib.Dec.{leb, ltb, eqb}
 use lib.ListN.{length, length-append}
 use borrow.Author.Tests.{eqb-true, leb-true, ltb-true}
 use Rattle.book.specs.Causes.{labels}
-use Rattle.paths.specs.Expressions.{Expr, alternative, sequence}
-use Rattle.paths.specs.Grammar.{bar, slash, hat, asterisk, plus-sign, question-mark, open-group, close-group, letter-a, Rule, alternatives, parts, part, marked, atom, Is, one-alternative, more-alternatives, one-part, more-parts, plain, inverted, bare, with-star, with-plus, with-optional, is-letter, is-group}
-use Rattle.paths.specs.Descent.{Parse, got, fault, firstByte, rest, isLetter, then, readMark, readClose, invertRead, alternativesIn, moreAlternativesIn, partsIn, morePartsIn, partIn, atomIn}
+use Rattle.paths.specs.Expressions.{Letter, Expr, alternative, sequence}
+use Rattle.paths.specs.Grammar.{bar, slash, hat, bang, asterisk, plus-sign, question-mark, open-group, close-group, letter-a, Member, plain-member, inverted-member, Members, one-member, more-members, Rule, alternatives, parts, part, marked, atom, Is, one-alternative, more-alternatives, one-part, more-parts, plain, inverted, bare, with-star, with-plus, with-optional, is-letter, is-negated, is-set, is-group}
+use Rattle.paths.specs.Descent.{Parse, got, fault, firstByte, rest, isLetter, then, readMark, readClose, invertRead, letterOf, readMember, membersIn, gotNegated, readNegated, alternativesIn, moreAlternativesIn, partsIn, morePartsIn, partIn, atomIn}
 
 pub data All (P : Expr → List ℕ → Type 0) : Parse → Type 0 where
   nothing : All P fault
@@ -65,6 +65,46 @@ sound-mark l₀ s e l d h =
     all-if (eqb (firstByte l) question-mark) _ _ (λ b. gives (s ++ (question-mark ∷ []), with-optional d, after l₀ s l [] (rest l) question-mark h (eat l question-mark (omega arith) b) refl)) (λ _.
     gives (s, bare d, h))))
 
+-- a member of a negated set, and what is done after it
+all-member : {P : Expr → List ℕ → Type 0} (l : List ℕ) (k : Letter → List ℕ → Parse) → ((s : List ℕ) (a : Letter) (r : List ℕ) → Member s a → l ≡ s ++ r → All P (k a r)) → All P (readMember k l)
+all-member l k h =
+    all-if (eqb (firstByte l) hat) _ _
+    (λ b. all-if (isLetter (firstByte (rest l))) _ _
+    (λ b′. let p = letter-byte (rest l) b′ in h (hat ∷ (letter-a + (firstByte (rest l) - letter-a)) ∷ []) (letterOf true (firstByte (rest l))) (rest (rest l)) (inverted-member (p .1)) (eat l hat (omega arith) b ∙ ap (λ (m : List ℕ). hat ∷ m) (p .0)))
+    (λ _. nothing))
+    (λ _. all-if (isLetter (firstByte l)) _ _
+    (λ b. let p = letter-byte l b in h ((letter-a + (firstByte l - letter-a)) ∷ []) (letterOf false (firstByte l)) (rest l) (plain-member (p .1)) (p .0))
+    (λ _. nothing))
+
+-- the members w were read of l₀, and l is left after them and a |
+data Before (l₀ : List ℕ) : List Letter → List ℕ → Type 0 where
+  first : Before l₀ [] l₀
+  next : {w : List Letter} {s l : List ℕ} → Members s w → l₀ ≡ s ++ (bar ∷ l) → Before l₀ w l
+
+one-more : {l₀ : List ℕ} {w : List Letter} {l t : List ℕ} {a : Letter} (r : List ℕ) → Before l₀ w l → Member t a → l ≡ t ++ r → (s : List ℕ) × Members s (w ++ (a ∷ [])) × (l₀ ≡ s ++ r)
+one-more {t = t} r first m e = (t, one-member m, e)
+one-more {t = t} r (next {s = s} d q) m e = (s ++ (bar ∷ t), more-members d m, q ∙ ap (λ (x : List ℕ). s ++ (bar ∷ x)) e ∙ sym (append-assoc s (bar ∷ t) r))
+
+sound-members : (f : ℕ) (w : List Letter) (l l₀ : List ℕ) → Before l₀ w l → All (By atom (bang ∷ open-group ∷ l₀)) (membersIn f w l)
+unfolding membersIn
+sound-members zero w l l₀ b = nothing
+sound-members (suc f) w l l₀ b = all-member l _ (λ t a r m e.
+    let g = one-more r b m e in
+    all-if (eqb (firstByte r) bar) _ _
+    (λ c. sound-members f (w ++ (a ∷ [])) (rest r) l₀ (next (g .1) (g .2 ∙ ap (λ (x : List ℕ). g .0 ++ x) (eat r bar (omega arith) c))))
+    (λ _. all-if (eqb (firstByte r) close-group) _ _
+    (λ c. gives (bang ∷ open-group ∷ (g .0 ++ (close-group ∷ [])), is-set (g .1), ap (λ (x : List ℕ). bang ∷ open-group ∷ x) (after l₀ (g .0) r [] (rest r) close-group (g .2) (eat r close-group (omega arith) c) refl)))
+    (λ _. nothing)))
+
+by-same : {R : Rule} {l m : List ℕ} {x : Parse} → l ≡ m → All (By R m) x → All (By R l) x
+by-same {R} {x = x} e h = subst (λ (n : List ℕ). All (By R n) x) (sym e) h
+
+sound-negated : (l : List ℕ) → All (By atom (bang ∷ l)) (readNegated l)
+sound-negated l =
+    all-if (eqb (firstByte l) open-group) _ _
+    (λ b. by-same (ap (λ (m : List ℕ). bang ∷ m) (eat l open-group (omega arith) b)) (sound-members (length l) [] (rest l) (rest l) first))
+    (λ _. all-member l gotNegated (λ s a r m e. gives (bang ∷ s, is-negated m, ap (λ (x : List ℕ). bang ∷ x) e)))
+
 mutual
   unfolding alternativesIn
 
@@ -109,7 +149,8 @@ mutual
       all-if (eqb (firstByte r) close-group) _ _
       (λ b′. gives (open-group ∷ (q .0 ++ (close-group ∷ [])), is-group (q .1), eat l open-group (omega arith) b ∙ ap (λ (m : List ℕ). open-group ∷ m) (after (rest l) (q .0) r [] (rest r) close-group (q .2) (eat r close-group (omega arith) b′) refl)))
       (λ _. nothing)))
-      (λ _. all-if (isLetter (firstByte l)) _ _ (λ b. gives ((letter-a + (firstByte l - letter-a)) ∷ [], is-letter (letter-byte l b .1), letter-byte l b .0)) (λ _. nothing))
+      (λ _. all-if (isLetter (firstByte l)) _ _ (λ b. gives ((letter-a + (firstByte l - letter-a)) ∷ [], is-letter (letter-byte l b .1), letter-byte l b .0)) (λ _.
+      all-if (eqb (firstByte l) bang) _ _ (λ b. by-same (eat l bang (omega arith) b) (sound-negated (rest l))) (λ _. nothing)))
 
 -- no rule takes the empty list
 some : {R : Rule} {s : List ℕ} {e : Expr} → Is R s e → 0 < length s
@@ -124,6 +165,8 @@ some (with-star {s} d) = omega (arith, length-append s (asterisk ∷ []))
 some (with-plus {s} d) = omega (arith, length-append s (plus-sign ∷ []))
 some (with-optional {s} d) = omega (arith, length-append s (question-mark ∷ []))
 some (is-letter h) = omega arith
+some (is-negated m) = omega arith
+some (is-set m) = omega arith
 some (is-group d) = omega arith
 
 pub shorter : (R : Rule) (l : List ℕ) (e : Expr) (r : List ℕ) → By R l e r → length r < length l

@@ -3,8 +3,8 @@
 --                   alternatives, with | between them
 --   parts-is, more-parts-slash, more-parts-end
 --                   parts, with / between them
---   part-hat, part-plain, atom-group, atom-letter, atom-fault
---                   a part with or without ^; a group, a letter, or neither
+--   part-hat, part-plain, atom-group, atom-letter, atom-negated, atom-fault
+--                   a part with or without ^; a group, a letter, a negated set, or none of them
 --   mark-star, mark-plus, mark-optional, mark-none
 --                   a mark, or none
 --   alternatives-sound
@@ -18,8 +18,8 @@ use native.Mathlib.Omega.{arith}
 use lib.Dec.{eqb}
 use lib.ListN.{length}
 use Rattle.paths.specs.Expressions.{Expr, symbol, letter, star, plus, optional, alternative, sequence}
-use Rattle.paths.specs.Grammar.{bar, slash, hat, asterisk, plus-sign, question-mark, open-group, letter-a, alternatives, parts, part}
-use Rattle.paths.specs.Descent.{Parse, got, fault, firstByte, rest, isLetter, then, readMark, readClose, invertRead, alternativesIn, moreAlternativesIn, partsIn, morePartsIn, partIn, atomIn, readAlternatives, readMoreAlternatives, readParts, readMoreParts, readPart, readAtom}
+use Rattle.paths.specs.Grammar.{bar, slash, hat, bang, asterisk, plus-sign, question-mark, open-group, letter-a, alternatives, parts, part}
+use Rattle.paths.specs.Descent.{Parse, got, fault, firstByte, rest, isLetter, then, readMark, readClose, invertRead, readNegated, alternativesIn, moreAlternativesIn, partsIn, morePartsIn, partIn, atomIn, readAlternatives, readMoreAlternatives, readParts, readMoreParts, readPart, readAtom}
 use Rattle.paths.specs.DescentSound.{eat, All, nothing, gives, By, shorter, sound-alternatives, sound-parts, sound-part}
 
 then-same : {Q : Expr → List ℕ → Type 0} {x : Parse} (k k′ : Expr → List ℕ → Parse) → All Q x → ((e : Expr) (r : List ℕ) → Q e r → k e r ≡ k′ e r) → then x k ≡ then x k′
@@ -141,7 +141,7 @@ pub part-plain : (l : List ℕ) → eqb (firstByte l) hat ≡ false → readPart
 unfolding readPart readAtom alternativesIn
 part-plain l b = if-false (eqb (firstByte l) hat) _ _ b
 
--- a group or a letter
+-- a group, a letter or a negated set
 pub atom-group : (l : List ℕ) → eqb (firstByte l) open-group ≡ true → readAtom l ≡ then (readAlternatives (rest l)) readClose
 unfolding readAtom readAlternatives alternativesIn
 atom-group l b =
@@ -152,9 +152,13 @@ pub atom-letter : (l : List ℕ) → eqb (firstByte l) open-group ≡ false → 
 unfolding readAtom alternativesIn
 atom-letter l b h = if-false (eqb (firstByte l) open-group) _ _ b ∙ if-true (isLetter (firstByte l)) _ _ h
 
-pub atom-fault : (l : List ℕ) → eqb (firstByte l) open-group ≡ false → isLetter (firstByte l) ≡ false → readAtom l ≡ fault
+pub atom-negated : (l : List ℕ) → eqb (firstByte l) open-group ≡ false → isLetter (firstByte l) ≡ false → eqb (firstByte l) bang ≡ true → readAtom l ≡ readNegated (rest l)
 unfolding readAtom alternativesIn
-atom-fault l b h = if-false (eqb (firstByte l) open-group) _ _ b ∙ if-false (isLetter (firstByte l)) _ _ h
+atom-negated l b h c = if-false (eqb (firstByte l) open-group) _ _ b ∙ if-false (isLetter (firstByte l)) _ _ h ∙ if-true (eqb (firstByte l) bang) _ _ c
+
+pub atom-fault : (l : List ℕ) → eqb (firstByte l) open-group ≡ false → isLetter (firstByte l) ≡ false → eqb (firstByte l) bang ≡ false → readAtom l ≡ fault
+unfolding readAtom alternativesIn
+atom-fault l b h c = if-false (eqb (firstByte l) open-group) _ _ b ∙ if-false (isLetter (firstByte l)) _ _ h ∙ if-false (eqb (firstByte l) bang) _ _ c
 
 -- a mark, or none
 pub mark-star : (e : Expr) (l : List ℕ) → eqb (firstByte l) asterisk ≡ true → readMark e l ≡ got (star e) (rest l)

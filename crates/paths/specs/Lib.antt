@@ -1,4 +1,5 @@
 pub mod Expressions
+pub mod SymbolLaws
 pub mod Grammar
 pub mod Words
 pub mod Chains

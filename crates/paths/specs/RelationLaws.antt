@@ -1,26 +1,26 @@
 -- The computed set of an expression is its relation.
---   crossed-is, crossed-letter
---                   the pairs that one step joins; for a label alone, the links of that label
+--   crossed-is, is-crossed, crossed-same
+--                   the pairs that one step joins, by the letters of a set
 --   cells-set       it is a set of pairs of records below n
 --   cells-rel, rel-cells
 --                   a cell is 1 exactly if the pair is in the relation
 --   cells-is        a cell is 1 exactly if the pair has a chain; cells-has says "not 0" for 1
 -- Assumes nothing.
-use mathlib.Core.Path.{_≡_, refl, sym, ap, _∙_, subst}
+use mathlib.Core.Path.{_≡_, refl, sym, ap, ap₂, _∙_, subst, fun-ext}
 use mathlib.Core.Logic.{_↔_, _⊎_, ⊎-elim}
-use mathlib.Core.Bool.{Bool, true, false, not, _&&_, false≢true}
+use mathlib.Core.Bool.{Bool, true, false}
 use Prim.Native.Nat.{ℕ, zero, suc, max, min, _≤_, _<_}
 use native.Mathlib.Omega.{arith}
 use native.Mathlib.Decide.{decLt}
-use lib.Dec.{eqb, ltb}
+use lib.Dec.{eqb}
 use borrow.Author.Tests.{eq-eqb, eqb-true}
 use Rattle.book.specs.Basics.{pick, bit}
-use Rattle.book.specs.SetLaws.{and-both}
+use Rattle.book.specs.Causes.{labels}
 use Rattle.k2.specs.PairSets.{Cells, IsSet, union, transpose, most, serves, product, OneOrMore, once as once-more, more, closure, diagonal}
 use Rattle.k2.specs.PairSetLaws.{one-of, bit-small, bit-on, on-bit, most-some, some-most, most-bit, most-none, union-set, product-set, transpose-set, closure-set, diagonal-set, product-middle, middle-product, closure-leads, leads-closure}
-use Rattle.paths.specs.Expressions.{Letter, Symbol, letter, standsFor, Expr, symbol, group, inverse, star, plus, optional, alternative, sequence}
+use Rattle.paths.specs.Expressions.{Letter, standsFor, Expr, symbol, group, inverse, star, plus, optional, alternative, sequence}
 use Rattle.paths.specs.Chains.{Graph, crossing, Has}
-use Rattle.paths.specs.Relations.{Rel, link, inside, swapped, left, right, joined, once, again, star-none, star-some, optional-none, optional-once, joins, crossed, zeroSteps, cells}
+use Rattle.paths.specs.Relations.{Rel, link, inside, swapped, left, right, joined, once, again, star-none, star-some, optional-none, optional-once, joins, crossedBy, zeroSteps, cells}
 use Rattle.paths.specs.ChainLaws.{Inside, crossing-in, crossing-label, rel-in-use, rel-has}
 
 -- ---- one step
@@ -40,97 +40,79 @@ joins-none true true h = absurd (h refl)
 joins-none true false h = refl
 joins-none false p h = refl
 
-module _ (g : Graph) (s : Symbol) where
+module _ (g : Graph) (f : Letter → Bool) where
   -- the pairs joined by a step over the label l, in either sense
   abbrev both-ways : ℕ → ℕ → ℕ → ℕ
-  both-ways x y l = max (joins g s (record { label = l; inverted = false }) x y) (joins g s (record { label = l; inverted = true }) x y)
+  both-ways x y l = max (joins g f (record { label = l; inverted = false }) x y) (joins g f (record { label = l; inverted = true }) x y)
 
   both-ways-lt : (x y l : ℕ) → both-ways x y l < 2
   both-ways-lt x y l =
       omega (
         arith,
-        joins-lt (standsFor s (record { label = l; inverted = false })) (g .present (crossing (record { label = l; inverted = false }) x y)),
-        joins-lt (standsFor s (record { label = l; inverted = true })) (g .present (crossing (record { label = l; inverted = true }) x y)),
+        joins-lt (f (record { label = l; inverted = false })) (g .present (crossing (record { label = l; inverted = false }) x y)),
+        joins-lt (f (record { label = l; inverted = true })) (g .present (crossing (record { label = l; inverted = true }) x y)),
       )
 
-  crossed-lt : (x y : ℕ) → crossed g s x y < 2
-  unfolding crossed
+  crossed-lt : (x y : ℕ) → crossedBy g f x y < 2
+  unfolding crossedBy
   crossed-lt x y = most-bit 26 (both-ways x y) (both-ways-lt x y)
 
-  pub crossed-is : (x y : ℕ) → 1 ≤ crossed g s x y → (a : Letter) × (standsFor s a ≡ true) × (g .present (crossing a x y) ≡ true)
-  unfolding crossed
+  pub crossed-is : (x y : ℕ) → 1 ≤ crossedBy g f x y → (a : Letter) × (f a ≡ true) × (g .present (crossing a x y) ≡ true)
+  unfolding crossedBy
   crossed-is x y h =
       let r = most-some 26 (both-ways x y) h in
       ⊎-elim (way false (r .0)) (way true (r .0))
-      (one-of (joins g s (record { label = r .0; inverted = false }) x y) (joins g s (record { label = r .0; inverted = true }) x y) (r .2))
+      (one-of (joins g f (record { label = r .0; inverted = false }) x y) (joins g f (record { label = r .0; inverted = true }) x y) (r .2))
     where
-      way : (b : Bool) (l : ℕ) → 1 ≤ joins g s (record { label = l; inverted = b }) x y → (a : Letter) × (standsFor s a ≡ true) × (g .present (crossing a x y) ≡ true)
+      way : (b : Bool) (l : ℕ) → 1 ≤ joins g f (record { label = l; inverted = b }) x y → (a : Letter) × (f a ≡ true) × (g .present (crossing a x y) ≡ true)
       way b l p =
           let a : Letter = record { label = l; inverted = b } in
-          let q = joins-on (standsFor s a) (g .present (crossing a x y)) p in
+          let q = joins-on (f a) (g .present (crossing a x y)) p in
           (a, q .0, q .1)
 
   module _ (I : Inside g) where
-    pub is-crossed : (a : Letter) (x y : ℕ) → standsFor s a ≡ true → g .present (crossing a x y) ≡ true → crossed g s x y ≡ 1
-    unfolding crossed
+    pub is-crossed : (a : Letter) (x y : ℕ) → f a ≡ true → g .present (crossing a x y) ≡ true → crossedBy g f x y ≡ 1
+    unfolding crossedBy
     is-crossed a x y h p =
         let q : 1 ≤ both-ways x y (a .label) = go (a .inverted) refl in
         omega (arith, some-most 26 (a .label) (both-ways x y) (crossing-label g I a x y p) q, most-bit 26 (both-ways x y) (both-ways-lt x y))
       where
-        on : (b : Bool) → a .inverted ≡ b → joins g s (record { label = a .label; inverted = b }) x y ≡ 1
+        on : (b : Bool) → a .inverted ≡ b → joins g f (record { label = a .label; inverted = b }) x y ≡ 1
         on b e =
             let k : a ≡ record { label = a .label; inverted = b } = ap (λ (c : Bool). record { label = a .label; inverted = c }) e in
-            on-joins (standsFor s (record { label = a .label; inverted = b })) (g .present (crossing (record { label = a .label; inverted = b }) x y))
-            (subst (λ (c : Letter). standsFor s c ≡ true) k h) (subst (λ (c : Letter). g .present (crossing c x y) ≡ true) k p)
+            on-joins (f (record { label = a .label; inverted = b })) (g .present (crossing (record { label = a .label; inverted = b }) x y))
+            (subst (λ (c : Letter). f c ≡ true) k h) (subst (λ (c : Letter). g .present (crossing c x y) ≡ true) k p)
 
         go : (b : Bool) → a .inverted ≡ b → 1 ≤ both-ways x y (a .label)
         go true e = omega (arith, on true e)
         go false e = omega (arith, on false e)
 
-    crossed-none : (x y : ℕ) → (g .inUse x ≡ true → g .inUse y ≡ true → ⊥) → crossed g s x y ≡ 0
-    crossed-none x y n = go (decLt 0 (crossed g s x y))
+    crossed-none : (x y : ℕ) → (g .inUse x ≡ true → g .inUse y ≡ true → ⊥) → crossedBy g f x y ≡ 0
+    crossed-none x y n = go (decLt 0 (crossedBy g f x y))
       where
-        go : Dec (0 < crossed g s x y) → crossed g s x y ≡ 0
+        go : Dec (0 < crossedBy g f x y) → crossedBy g f x y ≡ 0
         go (yes h) = let r = crossed-is x y h in let u = crossing-in g I (r .0) x y (r .2) in absurd (n (u .0) (u .1))
         go (no h) = omega arith
 
-    pub crossed-set : IsSet (g .n) (crossed g s)
+    pub crossed-set : IsSet (g .n) (crossedBy g f)
     crossed-set = record {
       bit = crossed-lt;
       row = λ x y h. crossed-none x y (λ u v. absurd (omega (arith, I .below x u)));
       column = λ x y h. crossed-none x y (λ u v. absurd (omega (arith, I .below y v)));
     }
 
--- a label stands for itself, plain, and for nothing else
-stands-itself : (k : ℕ) → standsFor (letter k) (record { label = k; inverted = false }) ≡ true
-unfolding standsFor
-stands-itself k = rw (eq-eqb k k refl)
+-- sets that have the same letters are crossed alike
+most-same : (n : ℕ) (f h : ℕ → ℕ) → ((l : ℕ) → l < n → f l ≡ h l) → most n f ≡ most n h
+unfolding most
+most-same zero f h e = refl
+most-same (suc n) f h e = ap₂ max (most-same n f h (λ l k. e l (omega arith))) (e n (omega arith))
 
-plain : (b : Bool) → not b ≡ true → b ≡ false
-plain true r = sym r
-plain false r = refl
-
-stands-only : (k : ℕ) (a : Letter) → standsFor (letter k) a ≡ true → a ≡ record { label = k; inverted = false }
-unfolding standsFor
-stands-only k a h =
-    let q = and-both (eqb (a .label) k) (not (a .inverted)) h in
-    let e : a .label ≡ k = eqb-true (a .label) k (q .0) in
-    let f : a .inverted ≡ false = plain (a .inverted) (q .1) in
-    λ i. record { label = e i; inverted = f i }
-
--- a label's pairs are its links
-pub crossed-letter : (g : Graph) → Inside g → (k x y : ℕ) → crossed g (letter k) x y ≡ bit (g .present (record { from = x; label = k; to = y }))
-crossed-letter g I k x y = go (g .present (record { from = x; label = k; to = y })) refl
-  where
-    go : (p : Bool) → g .present (record { from = x; label = k; to = y }) ≡ p → crossed g (letter k) x y ≡ bit p
-    go true e = is-crossed g (letter k) I (record { label = k; inverted = false }) x y (stands-itself k) e
-    go false e = none (decLt 0 (crossed g (letter k) x y))
-      where
-        none : Dec (0 < crossed g (letter k) x y) → crossed g (letter k) x y ≡ 0
-        none (yes h) =
-            let r = crossed-is g (letter k) x y h in
-            absurd (false≢true (sym e ∙ subst (λ (a : Letter). g .present (crossing a x y) ≡ true) (stands-only k (r .0) (r .1)) (r .2)))
-        none (no h) = omega arith
+pub crossed-same : (g : Graph) (f h : Letter → Bool) → ((a : Letter) → a .label < labels → f a ≡ h a) → crossedBy g f ≡ crossedBy g h
+unfolding crossedBy
+crossed-same g f h e = fun-ext (λ x. fun-ext (λ y. most-same labels _ _ (λ l k.
+    ap₂ max
+    (ap (λ (t : Bool). pick t (bit (g .present (crossing (record { label = l; inverted = false }) x y))) 0) (e (record { label = l; inverted = false }) k))
+    (ap (λ (t : Bool). pick t (bit (g .present (crossing (record { label = l; inverted = true }) x y))) 0) (e (record { label = l; inverted = true }) k)))))
 
 -- ---- zero steps
 module _ (g : Graph) where
@@ -154,7 +136,7 @@ module _ (g : Graph) where
     -- ---- the set of an expression
     pub cells-set : (e : Expr) → IsSet (g .n) (cells g e)
     unfolding cells
-    cells-set (symbol s) = crossed-set g s I
+    cells-set (symbol s) = crossed-set g (standsFor s) I
     cells-set (group e) = cells-set e
     cells-set (inverse e) = transpose-set (g .n) (cells g e) (cells-set e)
     cells-set (star e) = union-set (g .n) (closure (g .n) (cells g e)) (zeroSteps g) (closure-set (g .n) (g .n) (cells g e) (cells-set e)) zero-steps-set
@@ -185,7 +167,7 @@ module _ (g : Graph) where
 
     pub cells-rel : (e : Expr) (x y : ℕ) → cells g e x y ≡ 1 → Rel g e x y
     unfolding cells transpose
-    cells-rel (symbol s) x y h = let r = crossed-is g s x y (omega arith) in link (r .0) (r .1) (r .2)
+    cells-rel (symbol s) x y h = let r = crossed-is g (standsFor s) x y (omega arith) in link (r .0) (r .1) (r .2)
     cells-rel (group e) x y h = inside (cells-rel e x y h)
     cells-rel (inverse e) x y h = swapped (cells-rel e y x h)
     cells-rel (star e) x y h =
@@ -207,7 +189,7 @@ module _ (g : Graph) where
 
     pub rel-cells : {e : Expr} {x y : ℕ} → Rel g e x y → cells g e x y ≡ 1
     unfolding cells transpose union
-    rel-cells (link {s} a {x} {y} h p) = is-crossed g s I a x y h p
+    rel-cells (link {s} a {x} {y} h p) = is-crossed g (standsFor s) I a x y h p
     rel-cells (inside r) = rel-cells r
     rel-cells (swapped r) = rel-cells r
     rel-cells (left {e} {f} {x} {y} r) = omega (arith, rel-cells r, cells-set f .bit x y)

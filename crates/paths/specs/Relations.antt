@@ -1,6 +1,7 @@
 -- The meaning of an expression as a relation of records, and the pairs that have a chain.
 --   Rel g e x y     the relation
---   crossed g s     the pairs that one step joins, whose letter the symbol s stands for, as a set, computed
+--   crossedBy g f   the pairs that one step joins, whose letter is one of the set f, as a set, computed
+--   crossed g s     those whose letter the symbol s stands for
 --   zeroSteps g     zero steps: each record in use joined to itself, linked or not
 --   cells g e       the relation as a set of pairs, computed: 1 where Rel, else 0
 --   PairsAre g e l  the list l is the answer of a pair question: its numbers ascend, and they are the words of the pairs that have a chain
@@ -8,7 +9,7 @@
 -- Assumes nothing: these are definitions.
 use mathlib.Core.Path.{_≡_}
 use mathlib.Core.List.{List}
-use mathlib.Core.Bool.{true, false}
+use mathlib.Core.Bool.{Bool, true, false}
 use Prim.Native.Nat.{ℕ, max}
 use Rattle.book.specs.Basics.{pick, bit, In, Rises}
 use Rattle.book.specs.Causes.{labels}
@@ -37,12 +38,15 @@ pub data Rel (g : Graph) : Expr → ℕ → ℕ → Type 0 where
   optional-none : {e : Expr} {x : ℕ} → g .inUse x ≡ true → Rel g (optional e) x x
   optional-once : {e : Expr} {x y : ℕ} → Rel g e x y → Rel g (optional e) x y
 
--- whether a step that spells the letter a, one that s stands for, joins x to y
-abbrev pub joins : Graph → Symbol → Letter → Cells
-joins g s a x y = pick (standsFor s a) (bit (g .present (crossing a x y))) 0
+-- whether a step that spells the letter a, one of the set f, joins x to y
+abbrev pub joins : Graph → (Letter → Bool) → Letter → Cells
+joins g f a x y = pick (f a) (bit (g .present (crossing a x y))) 0
 
-unfoldable pub crossed : Graph → Symbol → Cells
-crossed g s x y = most labels (λ l. max (joins g s (record { label = l; inverted = false }) x y) (joins g s (record { label = l; inverted = true }) x y))
+unfoldable pub crossedBy : Graph → (Letter → Bool) → Cells
+crossedBy g f x y = most labels (λ l. max (joins g f (record { label = l; inverted = false }) x y) (joins g f (record { label = l; inverted = true }) x y))
+
+abbrev pub crossed : Graph → Symbol → Cells
+crossed g s = crossedBy g (standsFor s)
 
 unfoldable pub zeroSteps : Graph → Cells
 zeroSteps g = diagonal (λ x. bit (g .inUse x))

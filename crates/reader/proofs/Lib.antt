@@ -1,3 +1,4 @@
 pub mod Steps
+pub mod SymbolLaws
 pub mod Joining
 pub mod Answers

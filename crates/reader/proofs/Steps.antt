@@ -4,35 +4,41 @@
 --   marks, inverts           a mark after it, or none; a ^ before
 --   closes, not-closed, none-closed
 --                            the ) of a group
---   letter-there, no-atom    a letter, or no atom
+--   writes, writes-none      a symbol with its number
 --   group-is, hat-is, plain-is
 --                            what the descent reads at ( and at ^
---   fit, has-room, room-for-mark, room-for-hat, asks-kept, asks-next-byte, fits-after
+--   fit, has-room, has-place, room-for-mark, room-for-hat, room-for-symbol, asks-kept, asks-next-byte, fits-after
 --                            what the steps ask, and that it is met
 -- Assumes nothing.
-use mathlib.Core.Path.{_≡_, refl, sym, ap, _∙_, subst}
+use mathlib.Core.Path.{_≡_, refl, sym, ap, ap₂, _∙_, subst}
 use mathlib.Core.Logic.{_⊎_, ⊎-elim}
 use mathlib.Core.List.{List, [], _∷_, _++_}
 use mathlib.Core.Bool.{Bool, true, false, _&&_}
-use Prim.Native.Nat.{ℕ, zero, suc, _+_, _-_, _≤_, _<_}
+use Prim.Native.Nat.{ℕ, zero, suc, _+_, _-_, _*_, _%_, _^_, _≤_, _<_}
 use native.Mathlib.Numerals.{add-one}
 use native.Mathlib.Omega.{arith}
-use lib.Dec.{leb, ltb, eqb}
+use native.Mathlib.Nat.{one-mul}
+use lib.Dec.{lit<, leb, ltb, eqb}
 use lib.ListN.{length, drop, set, drop-of-length-le, length-append}
+use lib.Pow.{shl-exact}
 use lib.Seq.{sets}
 use borrow.Author.Tests.{eq-eqb, ne-eqb, le-leb, lt-leb, lt-ltb, le-ltb, ltb-true, ltb-false, eqb-true}
 use Rattle.book.specs.Basics.{pick}
 use Rattle.book.specs.Causes.{labels}
-use Rattle.paths.specs.Expressions.{Expr, symbol, letter, group, inverse, star, plus, optional, alternative, sequence, letters, depth}
+use Rattle.paths.specs.Expressions.{Symbol, letter, standsFor, Expr, symbol, group, inverse, star, plus, optional, alternative, sequence, letters, depth}
 use Rattle.paths.specs.Grammar.{hat, asterisk, plus-sign, question-mark, open-group, close-group, letter-a}
 use Rattle.paths.specs.Descent.{Parse, got, fault, firstByte, rest, isLetter, then, readMark, readClose, invertRead, readAlternatives, readPart, readAtom}
 use Rattle.paths.specs.DescentWhole.{if-true, if-false, atom-letter, atom-fault, atom-group, part-hat, part-plain, mark-star, mark-plus, mark-optional, mark-none}
-use Rattle.reader.specs.Code.{op-inverse, op-star, op-plus, op-optional, code}
+use Rattle.reader.specs.Code.{op-inverse, op-star, op-plus, op-optional, lettersNumber, code}
+use Rattle.reader.specs.LetterLaws.{letter-forward, letter-against}
 use Rattle.reader.specs.CodeLaws.{letters-code}
+use Rattle.reader.specs.declared.symbols.Letters.{Letters}
+use Rattle.reader.specs.declared.symbols.Symbol.{Symbol as Symbol-read}
+use Rattle.reader.specs.declared.symbols.Symbol.the-variants.{Read, Missing}
 use Rattle.reader.specs.declared.Spot.{Spot}
 use Rattle.reader.specs.declared.Parsed.{Parsed}
 use Rattle.reader.specs.declared.Parsed.the-variants.{Got, Fault}
-use Rattle.reader.specs.Progress.{Found, Done, none, some, Asks, Fit, Fits, RoomToWrap, Closes, markNumber, markOf, wrap, wrapCode}
+use Rattle.reader.specs.Progress.{Found, Done, none, some, StandsFor, Stands, missing, stands, Asks, Fit, no-mark, Fits, RoomToWrap, RoomToWrite, Closes, markNumber, markOf, wrap, wrapCode}
 
 -- one byte on
 rest-suc : (p : ℕ) (s : List ℕ) → rest (drop p s) ≡ drop (suc p) s
@@ -99,7 +105,7 @@ module _ {k : Expr → List ℕ → Parse} {s : List ℕ} {at n : ℕ} {b a : Li
 pub fit : {s : List ℕ} {r : Parsed} {q : Spot} → r ≡ Got q → Fits s r → Fit s q
 fit {s} h g = subst (Fits s) h g
 
-pub has-room : {space x : ℕ} (passed : ℕ) {r : Parsed} {q : Spot} → r ≡ Got q → RoomToWrap space x passed r → 0 < x → (q .end < space) × (q .at + passed ≤ space)
+pub has-room : {space x : ℕ} (passed : ℕ) {r : Parsed} {q : Spot} → r ≡ Got q → RoomToWrap space x passed r → (x ≡ no-mark → ⊥) → (q .end < space) × (q .at + passed ≤ space)
 has-room {space} {x} passed h g = subst (RoomToWrap space x passed) h g
 
 -- e′ is e with an operator of number x on it
@@ -126,8 +132,8 @@ one-more {n = n} {b = b} {a = a} {e = e} {q = q} x at′ p′ e′ f w h g =
 
 -- a mark
 data MarkIs (c : ℕ) : ℕ → Type 0 where
-  a-mark : {x : ℕ} (M : Expr → Expr) → 0 < c → 0 < x → ((e : Expr) (l : List ℕ) → firstByte l ≡ c → readMark e l ≡ got (M e) (rest l)) → ((e : Expr) → Wraps x e (M e)) → MarkIs c x
-  not-one : ((e : Expr) (l : List ℕ) → firstByte l ≡ c → readMark e l ≡ got e l) → MarkIs c 0
+  a-mark : {x : ℕ} (M : Expr → Expr) → 0 < c → (x ≡ no-mark → ⊥) → ((e : Expr) (l : List ℕ) → firstByte l ≡ c → readMark e l ≡ got (M e) (rest l)) → ((e : Expr) → Wraps x e (M e)) → MarkIs c x
+  not-one : ((e : Expr) (l : List ℕ) → firstByte l ≡ c → readMark e l ≡ got e l) → MarkIs c no-mark
 
 wraps-star : (e : Expr) → Wraps op-star e (star e)
 unfolding letters depth code
@@ -148,10 +154,10 @@ wraps-inverse e = record { letters-same = refl; depth-same = refl; code-more = r
 mark-is : (c : ℕ) → MarkIs c (markNumber c)
 mark-is c = go (eqb c asterisk) (eqb c plus-sign) (eqb c question-mark) refl refl refl
   where
-    go : (x y z : Bool) → eqb c asterisk ≡ x → eqb c plus-sign ≡ y → eqb c question-mark ≡ z → MarkIs c (pick x op-star (pick y op-plus (pick z op-optional 0)))
-    go true y z f g h = let v = eqb-true c asterisk f in a-mark {x = op-star} star (omega arith) (omega arith) (λ e l w. mark-star e l (ap (λ (t : ℕ). eqb t asterisk) w ∙ f)) wraps-star
-    go false true z f g h = let v = eqb-true c plus-sign g in a-mark {x = op-plus} plus (omega arith) (omega arith) (λ e l w. mark-plus e l (ap (λ (t : ℕ). eqb t asterisk) w ∙ f) (ap (λ (t : ℕ). eqb t plus-sign) w ∙ g)) wraps-plus
-    go false false true f g h = let v = eqb-true c question-mark h in a-mark {x = op-optional} optional (omega arith) (omega arith) (λ e l w. mark-optional e l (ap (λ (t : ℕ). eqb t asterisk) w ∙ f) (ap (λ (t : ℕ). eqb t plus-sign) w ∙ g) (ap (λ (t : ℕ). eqb t question-mark) w ∙ h)) wraps-optional
+    go : (x y z : Bool) → eqb c asterisk ≡ x → eqb c plus-sign ≡ y → eqb c question-mark ≡ z → MarkIs c (pick x op-star (pick y op-plus (pick z op-optional no-mark)))
+    go true y z f g h = let v = eqb-true c asterisk f in a-mark {x = op-star} star (omega arith) (λ z. omega arith) (λ e l w. mark-star e l (ap (λ (t : ℕ). eqb t asterisk) w ∙ f)) wraps-star
+    go false true z f g h = let v = eqb-true c plus-sign g in a-mark {x = op-plus} plus (omega arith) (λ z. omega arith) (λ e l w. mark-plus e l (ap (λ (t : ℕ). eqb t asterisk) w ∙ f) (ap (λ (t : ℕ). eqb t plus-sign) w ∙ g)) wraps-plus
+    go false false true f g h = let v = eqb-true c question-mark h in a-mark {x = op-optional} optional (omega arith) (λ z. omega arith) (λ e l w. mark-optional e l (ap (λ (t : ℕ). eqb t asterisk) w ∙ f) (ap (λ (t : ℕ). eqb t plus-sign) w ∙ g) (ap (λ (t : ℕ). eqb t question-mark) w ∙ h)) wraps-optional
     go false false false f g h = not-one (λ e l w. mark-none e l (ap (λ (t : ℕ). eqb t asterisk) w ∙ f) (ap (λ (t : ℕ). eqb t plus-sign) w ∙ g) (ap (λ (t : ℕ). eqb t question-mark) w ∙ h))
 
 mark-read : {s : List ℕ} {at n : ℕ} {b a : List ℕ} {x : Parse} {r : Parsed} → Done got s at n b a x r → Done got s at n b (wrapCode (markOf s r) r a) (then x readMark) (wrap (markOf s r) 1 r)
@@ -161,7 +167,7 @@ mark-read {s} {at} {n} {b} {a} {x} (some {q} e h f) = go (firstByte (drop (q .at
     go : (c y : ℕ) → firstByte (drop (q .at) s) ≡ c → MarkIs c y → Done got s at n b (wrapCode y (Got q) a) (then x readMark) (wrap y 1 (Got q))
     go c y w (a-mark M k j m u) =
         let inside = there s (q .at) c w k in
-        rw (ne-eqb y 0 (λ z. omega arith))
+        rw (ne-eqb y no-mark j)
         (some (M e) (ap (on readMark) h ∙ m e (drop (q .at) s) w ∙ ap (got (M e)) (rest-drop s (q .at))) (one-more y at (q .at + 1) (M e) f (u e) (omega arith) (omega arith)))
     go c y w (not-one m) = some e (ap (on readMark) h ∙ m e (drop (q .at) s) w) f
 
@@ -182,9 +188,9 @@ mark-room : {s : List ℕ} {at n space : ℕ} {b a : List ℕ} {x : Parse} {r : 
 mark-room (none h) u g = tt
 mark-room {s} {space = space} (some {q} e h f) u g = λ k. go (firstByte (drop (q .at) s)) (markNumber (firstByte (drop (q .at) s))) refl (mark-is _) k
   where
-    go : (c y : ℕ) → firstByte (drop (q .at) s) ≡ c → MarkIs c y → 0 < y → (q .end < space) × (q .at + 1 ≤ space)
+    go : (c y : ℕ) → firstByte (drop (q .at) s) ≡ c → MarkIs c y → (y ≡ no-mark → ⊥) → (q .end < space) × (q .at + 1 ≤ space)
     go c y w (a-mark M k j m v) i = let inside = there s (q .at) c w k in (omega (arith, f .end-is, f .short), omega arith)
-    go c y w (not-one m) i = absurd (omega arith)
+    go c y w (not-one m) i = absurd (i refl)
 
 pub room-for-mark : {s : List ℕ} {at n space : ℕ} {b a : List ℕ} {x : Parse} {r : Parsed} {y : ℕ} → y ≡ markOf s r → Done got s at n b a x r → n ≤ at → length s ≤ space → RoomToWrap space y 1 r
 room-for-mark h d u g = rw h (mark-room d u g)
@@ -219,29 +225,35 @@ not-closed {s} {q = q} is v at n b a x d = none (ap (on readClose) (gave is d .i
 pub none-closed : {s : List ℕ} {r : Parsed} → r ≡ Fault → Closes s r Fault
 none-closed h at n b a x d = none (ap (on readClose) (missed h d))
 
--- a letter
-letter-found : {s : List ℕ} {at n : ℕ} {b : List ℕ} (k : ℕ) → at < length s → Found s at n b (set b n k) (symbol (letter k)) (record { at = at + 1; end = n + 1; letters = 1; depth = 0 })
+-- a symbol, and its number
+symbol-found : {s : List ℕ} {at n : ℕ} {b : List ℕ} {x : Parse} {y : Symbol} {q : Letters} → StandsFor s at x y q
+    → Found s at n b (set b n (lettersNumber (q .forward) (q .against))) (symbol y) (record { at = q .at; end = n + 1; letters = 1; depth = 0 })
 unfolding letters depth code
-letter-found k i = record { inside = omega arith; short = omega arith; flat = omega arith; letters-are = refl; depth-is = refl; end-is = refl; written = refl }
+symbol-found {n = n} {b = b} h =
+    record { inside = h .inside; short = omega (arith, h .past); flat = omega (arith, h .past); letters-are = refl; depth-is = refl; end-is = refl; written = ap₂ (λ (y z : ℕ). set b n (lettersNumber y z)) (h .forward) (h .against) }
 
-pub letter-there : {s : List ℕ} {at n : ℕ} {b : List ℕ} (c : ℕ) → c ≡ firstByte (drop at s) → letter-a ≤ c → c < letter-a + labels → Done got s at n b (set b n (c - letter-a)) (readAtom (drop at s)) (Got (record { at = at + 1; end = n + 1; letters = 1; depth = 0 }))
-letter-there {s} {at} {n} {b} c v low high =
-    let is-one : (leb letter-a c && ltb c (letter-a + labels)) ≡ true = rw (le-leb letter-a c low, lt-ltb c (letter-a + labels) high) in
-    let byte : eqb (firstByte (drop at s)) open-group ≡ false = ne-eqb (firstByte (drop at s)) open-group (λ w. omega arith) in
-    some (symbol (letter (c - letter-a)))
-    (atom-letter (drop at s) byte (ap isLetter (sym v) ∙ is-one) ∙ ap (λ (t : ℕ). got (symbol (letter (t - letter-a))) (rest (drop at s))) (sym v) ∙ ap (got (symbol (letter (c - letter-a)))) (rest-drop s at))
-    (letter-found (c - letter-a) (there s at c (sym v) (omega arith)))
+abbrev Symbols : List ℕ → ℕ → Parse → Symbol-read → Type 0
+Symbols s at x Missing = x ≡ fault
+Symbols s at x (Read q) = (y : Symbol) × StandsFor s at x y q
 
--- a byte that begins no atom
-not-letter : (c : ℕ) → (c < letter-a) ⊎ (letter-a + labels ≤ c) → isLetter c ≡ false
-not-letter c h = ⊎-elim (λ k. ap (λ (b : Bool). b && ltb c (letter-a + labels)) (lt-leb letter-a c k)) (λ k. go (leb letter-a c) (ltb c (letter-a + labels)) (le-ltb c (letter-a + labels) k)) h
-  where
-    go : (a b : Bool) → b ≡ false → (a && b) ≡ false
-    go true b e = e
-    go false b e = refl
+symbols : {s : List ℕ} {at : ℕ} {x : Parse} {r : Symbol-read} → Stands s at x r → Symbols s at x r
+symbols (missing h) = h
+symbols (stands y h) = (y, h)
 
-pub no-atom : {s : List ℕ} {at n : ℕ} {b a : List ℕ} (c : ℕ) → c ≡ firstByte (drop at s) → (c ≡ open-group → ⊥) → (c < letter-a) ⊎ (letter-a + labels ≤ c) → Done got s at n b a (readAtom (drop at s)) Fault
-no-atom {s} {at} c v k h = none (atom-fault (drop at s) (ne-eqb _ _ (λ w. k (v ∙ w))) (ap isLetter (sym v) ∙ not-letter c h))
+pub writes : {n : ℕ} {b : List ℕ} {r : Symbol-read} {q : Letters} → r ≡ Read q → (s : List ℕ) (at : ℕ) (x : Parse) → Stands s at x r
+    → Done got s at n b (set b n (lettersNumber (q .forward) (q .against))) x (Got (record { at = q .at; end = n + 1; letters = 1; depth = 0 }))
+writes e s at x h = let z = subst (Symbols s at x) e (symbols h) in some (symbol (z .0)) (z .1 .is) (symbol-found (z .1))
+
+pub writes-none : {n : ℕ} {b : List ℕ} {r : Symbol-read} → r ≡ Missing → (s : List ℕ) (at : ℕ) (x : Parse) → Stands s at x r → Done got s at n b b x Fault
+writes-none e s at x h = none (subst (Symbols s at x) e (symbols h))
+
+pub has-place : {space n : ℕ} {r : Symbol-read} {q : Letters} → r ≡ Read q → RoomToWrite space n r → n < space
+has-place {space} {n} e h = subst (RoomToWrite space n) e h
+
+-- there is room for a symbol's number
+pub room-for-symbol : {s : List ℕ} {at n : ℕ} {a : List ℕ} {x : Parse} {r : Symbol-read} → Asks s at n a → Stands s at x r → RoomToWrite (length a) n r
+room-for-symbol k (missing h) = tt
+room-for-symbol k (stands y h) = omega (arith, h .past, h .inside, k .behind, k .space)
 
 -- what the descent reads at ( and at ^
 pub group-is : (s : List ℕ) (at : ℕ) → firstByte (drop at s) ≡ open-group → readAtom (drop at s) ≡ then (readAlternatives (drop (at + 1) s)) readClose

@@ -1,3 +1,5 @@
+pub mod Letters
+pub mod LetterLaws
 pub mod Code
 pub mod Running
 pub mod CodeLaws

@@ -5,7 +5,7 @@
 --   reads-as        what is read of a text that is to be accepted
 --   run-read        what was read, run on an empty stack of any kind of value, gives the expression's value
 --   few-read        with at most 19 values on the stack at once
---   operands-read   and as many as the next number takes, which is one of 0 to 31
+--   operands-read   and as many as the next number takes
 -- Assumes nothing.
 use mathlib.Core.Path.{_≡_, refl, sym, ap, _∙_}
 use mathlib.Core.List.{List, [], _∷_}
@@ -17,7 +17,7 @@ use Rattle.book.specs.Causes.{number, firstNumber}
 use Rattle.paths.specs.Expressions.{Expr}
 use Rattle.paths.specs.Grammar.{Verdict, accepted, long, outside, large, verdictCause}
 use Rattle.paths.specs.Verdicts.{verdict, accepted-is}
-use Rattle.reader.specs.Code.{op-sequence, code, Algebra, value, run}
+use Rattle.reader.specs.Code.{itemOf, code, Algebra, value, run}
 use Rattle.reader.specs.Running.{operands}
 use Rattle.reader.specs.CodeLaws.{run-code, few-places, enough-operands, code-short}
 use Rattle.reader.specs.declared.Answer.the-variants.{Accepted, Refused}
@@ -80,7 +80,7 @@ module _ {D : Type 0} (A : Algebra D) {text : List ℕ} {n : ℕ} {array : List 
   pub few-read : (i : ℕ) → i ≤ n → length (run A (take i array) []) ≤ 19
   few-read i k = rw (before i k) (omega (arith, few-places A (h .limits .syntax) i, h .limits .shallow))
 
-  pub operands-read : (i : ℕ) → i < n → (operands (getD array i 0) ≤ length (run A (take i array) [])) × (getD array i 0 ≤ op-sequence)
+  pub operands-read : (i : ℕ) → i < n → operands (itemOf (getD array i 0)) ≤ length (run A (take i array) [])
   operands-read i k =
       let same : getD array i 0 ≡ getD (code e) i 0 = sym (getD-take n array i 0 k) ∙ ap (λ (c : List ℕ). getD c i 0) (h .front) in
       rw (before i (omega arith), same) (enough-operands A (h .limits .syntax) i (omega (arith, h .end)))

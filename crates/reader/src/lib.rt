@@ -1,31 +1,31 @@
-// The expression reader: alternatives, sequences and parts read one another through a group, over lent bytes and a position.
-// What is written is the postfix code of the expression, in its own numbers. A code is no longer than its text, so there is always room.
+// The expression reader: alternatives, sequences and parts read one another through a group, over lent bytes and a position; symbols.rt has letters and
+// negated sets. What is written is the postfix code of the expression, in the numbers of items.rt. A code is no longer than its text, so there is always
+// room.
+mod items;
+mod symbols;
+
+use crate::items::ALTERNATIVE;
+use crate::items::INVERSE;
+use crate::items::NO_MARK;
+use crate::items::OPTIONAL;
+use crate::items::PLUS;
+use crate::items::SEQUENCE;
+use crate::items::STAR;
+use crate::items::letters_number;
+use crate::symbols::Symbol;
+use crate::symbols::peek;
+use crate::symbols::symbol_at;
 ghost use mathlib.Core.Path.{_≡_};
-ghost use Prim.Native.Nat.{_+_, _<_, max};
+ghost use mathlib.Core.List.{List};
+ghost use Prim.Native.Nat.{ℕ, _+_, _<_, max};
 ghost use lib.ListN.{length, drop, set, replicate};
 ghost use Rattle.book.specs.Causes.{maxBytes};
-ghost use Rattle.paths.specs.Descent.{got, firstByte, readAlternatives, readParts, readPart, readAtom};
+ghost use Rattle.paths.specs.Descent.{Parse, got, readAlternatives, readParts, readPart, readAtom};
 ghost use Rattle.reader.specs.Reads.{Reads};
 ghost use Rattle.reader.specs.declared.Answer.the-variants.{Refused};
-ghost use Rattle.reader.specs.Progress.{Done, Asks, Fits, RoomToJoin, RoomToWrap, Joins, Closes, comesNext, spotOf, markOf, wrap, wrapCode};
-
-// The numbers of a code: a label is its own number; then the operators, those on one operand first. `code` of specs/Code.antt has what they mean.
-pub const INVERSE: u8 = 26;
-
-pub const STAR: u8 = 27;
-
-pub const PLUS: u8 = 28;
-
-pub const OPTIONAL: u8 = 29;
-
-pub const ALTERNATIVE: u8 = 30;
-
-pub const SEQUENCE: u8 = 31;
-
-// The first number that is no label's, and the first of an operator on two operands.
-pub const FIRST_OPERATOR: u8 = INVERSE;
-
-pub const FIRST_BINARY: u8 = ALTERNATIVE;
+ghost use Rattle.reader.specs.Progress.{Done, Stands, Asks, Fits, RoomToJoin, RoomToWrap, RoomToWrite, Joins, Closes, comesNext, spotOf, markOf, wrap, wrapCode};
+pub use items::Item;
+pub use items::item_of;
 
 // The numbers of the causes, in the type of this crate's answers.
 const NO_EXPRESSION: u8 = book::NO_EXPRESSION as u8;
@@ -48,15 +48,8 @@ enum Parsed {
     Fault,
 }
 
-// The byte at a place, or 0 at the end.
-fn peek(s: &[u8], at: usize) -> u8
-    ensures { λ r. ⌜ r ≡ firstByte (drop at (now (s .entry))) ⌝ }
-{
-    if at < s.len() { s[at] } else { 0 }
-}
-
 // One number more at the end of the code.
-fn push(code: &mut [u8], n: usize, x: u8) -> usize
+fn push(code: &mut [u64], n: usize, x: u64) -> usize
     requires { ⌜ n < length (now code) ⌝ }
     ensures { λ r. ⌜ (r ≡ n + 1) × (now (code .exit) ≡ set (now (code .entry)) n x) ⌝ }
 {
@@ -96,7 +89,7 @@ fn ends_at(r: Parsed) -> Spot
 }
 
 // What was read first, and what was read next after an operator's byte, as one expression.
-fn joined(code: &mut [u8], first: Parsed, next: Parsed, x: u8) -> Parsed
+fn joined(code: &mut [u64], first: Parsed, next: Parsed, x: u64) -> Parsed
     requires { ⌜ RoomToJoin (length (now code)) first next ⌝ }
     ensures { λ r. ⌜ Joins x first next (now (code .entry)) (now (code .exit)) r ⌝ }
 {
@@ -116,7 +109,7 @@ fn joined(code: &mut [u8], first: Parsed, next: Parsed, x: u8) -> Parsed
 }
 
 // Sequences, with | between them.
-fn alternatives(s: &[u8], at: usize, code: &mut [u8], n: usize) -> Parsed
+fn alternatives(s: &[u8], at: usize, code: &mut [u64], n: usize) -> Parsed
     requires { ⌜ Asks (now s) at n (now code) ⌝ }
     ensures { λ r. ⌜ Done got (now (s .entry)) at n (now (code .entry)) (now (code .exit)) (readAlternatives (drop at (now (s .entry)))) r ⌝ }
 {
@@ -130,7 +123,7 @@ fn alternatives(s: &[u8], at: usize, code: &mut [u8], n: usize) -> Parsed
 }
 
 // Parts, with / between them.
-fn sequence(s: &[u8], at: usize, code: &mut [u8], n: usize) -> Parsed
+fn sequence(s: &[u8], at: usize, code: &mut [u64], n: usize) -> Parsed
     requires { ⌜ Asks (now s) at n (now code) ⌝ }
     ensures { λ r. ⌜ Done got (now (s .entry)) at n (now (code .entry)) (now (code .exit)) (readParts (drop at (now (s .entry)))) r ⌝ }
 {
@@ -144,7 +137,7 @@ fn sequence(s: &[u8], at: usize, code: &mut [u8], n: usize) -> Parsed
 }
 
 // An optional ^, then a letter or a group, then at most one mark. The mark belongs to the letter or group, and the ^ to both.
-fn part(s: &[u8], at: usize, code: &mut [u8], n: usize) -> Parsed
+fn part(s: &[u8], at: usize, code: &mut [u64], n: usize) -> Parsed
     requires { ⌜ Asks (now s) at n (now code) ⌝ }
     ensures { λ r. ⌜ Done got (now (s .entry)) at n (now (code .entry)) (now (code .exit)) (readPart (drop at (now (s .entry)))) r ⌝ }
 {
@@ -160,37 +153,42 @@ fn part(s: &[u8], at: usize, code: &mut [u8], n: usize) -> Parsed
     }
 }
 
-// A letter, or a group: inside its parentheses a whole expression again.
-fn atom(s: &[u8], at: usize, code: &mut [u8], n: usize) -> Parsed
+// A symbol, or a group: inside its parentheses a whole expression again.
+fn atom(s: &[u8], at: usize, code: &mut [u64], n: usize) -> Parsed
     requires { ⌜ Asks (now s) at n (now code) ⌝ }
     ensures { λ r. ⌜ Done got (now (s .entry)) at n (now (code .entry)) (now (code .exit)) (readAtom (drop at (now (s .entry)))) r ⌝ }
 {
-    let c = peek(s, at);
-    if c == b'(' {
+    if peek(s, at) == b'(' {
         let r = alternatives(s, at + 1, code, n);
         return closed(s, r);
     }
-    if c < b'a' {
+    let x = symbol_at(s, at);
+    written(code, n, x)
+}
+
+// A symbol's number written.
+fn written(code: &mut [u64], n: usize, x: Symbol) -> Parsed
+    requires { ⌜ RoomToWrite (length (now code)) n x ⌝ }
+    ensures { λ r. ⌜ ((s : List ℕ) (at : ℕ) (y : Parse) → Stands s at y x → Done got s at n (now (code .entry)) (now (code .exit)) y r) ⌝ }
+{
+    let Symbol::Read(q) = x else {
         return Parsed::Fault;
-    }
-    if b'z' < c {
-        return Parsed::Fault;
-    }
-    let end = push(code, n, c - b'a');
+    };
+    let end = push(code, n, letters_number(q.forward, q.against));
     Parsed::Got(Spot {
-        at: at + 1,
+        at: q.at,
         end,
         letters: 1,
         depth: 0,
     })
 }
 
-// The number of the mark's operator that comes after what was read, or 0 if no mark does.
-fn mark_after(s: &[u8], r: Parsed) -> u8
+// The number of the mark's operator that comes after what was read, or NO_MARK if none does.
+fn mark_after(s: &[u8], r: Parsed) -> u64
     ensures { λ x. ⌜ x ≡ markOf (now (s .entry)) r ⌝ }
 {
     let Parsed::Got(p) = r else {
-        return 0;
+        return NO_MARK;
     };
     let c = peek(s, p.at);
     if c == b'*' {
@@ -202,18 +200,18 @@ fn mark_after(s: &[u8], r: Parsed) -> u8
     if c == b'?' {
         return OPTIONAL;
     }
-    0
+    NO_MARK
 }
 
-// What was read with the operator of number x on it, its text `passed` bytes longer; as it is if x is 0.
-fn wrapped(code: &mut [u8], r: Parsed, x: u8, passed: usize) -> Parsed
+// What was read with the operator of number x on it, its text `passed` bytes longer; as it is if x is NO_MARK.
+fn wrapped(code: &mut [u64], r: Parsed, x: u64, passed: usize) -> Parsed
     requires { ⌜ RoomToWrap (length (now code)) x passed r ⌝ }
     ensures { λ q. ⌜ (q ≡ wrap x passed r) × (now (code .exit) ≡ wrapCode x r (now (code .entry))) ⌝ }
 {
     let Parsed::Got(p) = r else {
         return Parsed::Fault;
     };
-    if x == 0 {
+    if x == NO_MARK {
         return r;
     }
     let end = push(code, p.end, x);
@@ -254,7 +252,7 @@ pub enum Answer {
 // An answer with the code: zeros follow it, and stand alone with a refusal.
 pub struct Reading {
     pub answer: Answer,
-    pub code: [u8; book::MAX_BYTES],
+    pub code: [u64; book::MAX_BYTES],
 }
 
 // A refusal, with no code.
@@ -263,7 +261,7 @@ fn refused(number: u8) -> Reading
 {
     Reading {
         answer: Answer::Refused(number),
-        code: [0u8; book::MAX_BYTES],
+        code: [0u64; book::MAX_BYTES],
     }
 }
 
@@ -274,7 +272,7 @@ fn whole(s: &[u8]) -> Reading
     if book::MAX_BYTES < s.len() {
         return refused(TOO_MANY_BYTES);
     }
-    let mut code = [0u8; book::MAX_BYTES];
+    let mut code = [0u64; book::MAX_BYTES];
     let r = alternatives(s, 0, &mut code, 0);
     let Parsed::Got(q) = r else {
         return refused(NO_EXPRESSION);

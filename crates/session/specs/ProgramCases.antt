@@ -26,7 +26,7 @@ use Rattle.k2.specs.Trees.{rise, height, treeUnit}
 use Rattle.paths.specs.Expressions.{Expr, symbol, letter, sequence, standsFor, letters, depth}
 use Rattle.paths.specs.Grammar.{Verdict, accepted, long, outside, Judged, verdictCause}
 use Rattle.paths.specs.Chains.{asked, Step, spell, stepWords, Reply, none, chain, ChainIs, first-chain}
-use Rattle.paths.specs.Relations.{crossed, zeroSteps, cells, pairs}
+use Rattle.paths.specs.Relations.{crossedBy, zeroSteps, cells, pairs}
 use Rattle.paths.specs.Questions.{ReplyTo, pairsOf, pairsCauses, pairsAnswer, steps, chainCauses, chainAnswer}
 use Rattle.paths.specs.Descent.{alternativesIn, readAlternatives}
 use Rattle.paths.specs.Verdicts.{verdict, verdict-right}
@@ -101,7 +101,7 @@ unfolding bytes verdict readAlternatives alternativesIn letters depth
 last-right = (verdict-right (bytes "a/b"), asked-last)
 
 pub sample : Prints unopened input output
-unfolding input output twoBytes frameOf bytes number16 linkIn decode openAnswer nextSession printed answerText outcomeText okText refusedText pairsText chainText counted lines pairLine stepLine labelLetter senseSign decimal figures number firstNumber causes editAnswer edited turned undoAnswer undone answer next fresh after has without verdict readAlternatives alternativesIn letters depth verdictCause standsFor asked most crossed zeroSteps diagonal transpose union serves product via closure cells rowPairs rowsPairs listed pairs pairsOf pairsCauses pairsAnswer steps stepWords chainCauses chainAnswer rise height treeUnit
+unfolding input output twoBytes frameOf bytes number16 linkIn decode openAnswer nextSession printed answerText outcomeText okText refusedText pairsText chainText counted lines pairLine stepLine labelLetter senseSign decimal figures number firstNumber causes editAnswer edited turned undoAnswer undone answer next fresh after has without verdict readAlternatives alternativesIn letters depth verdictCause standsFor asked most crossedBy zeroSteps diagonal transpose union serves product via closure cells rowPairs rowsPairs listed pairs pairsOf pairsCauses pairsAnswer steps stepWords chainCauses chainAnswer rise height treeUnit
 sample =
     by (drop 3 output) long none refl refl refl tt
     (by (drop 6 output) long none refl refl refl tt
@@ -237,7 +237,7 @@ unfolding number firstNumber causes editAnswer edited turned undone next fresh a
 none-from-1 = (verdict-right (bytes "a*"), λ e h. withdrawn-none _ e 1 1 refl)
 
 pub struck-run : Prints unopened struck uses
-unfolding struck uses twoBytes frameOf bytes number16 linkIn decode openAnswer nextSession printed answerText outcomeText okText refusedText noneText pairsText chainText counted lines pairLine stepLine labelLetter senseSign decimal figures number firstNumber causes editAnswer edited turned undoAnswer undone answer next fresh after has without touched verdict readAlternatives alternativesIn letters depth verdictCause standsFor asked most crossed zeroSteps diagonal transpose union serves product via closure cells rowPairs rowsPairs listed pairs pairsOf pairsCauses pairsAnswer steps stepWords chainCauses chainAnswer rise height treeUnit
+unfolding struck uses twoBytes frameOf bytes number16 linkIn decode openAnswer nextSession printed answerText outcomeText okText refusedText noneText pairsText chainText counted lines pairLine stepLine labelLetter senseSign decimal figures number firstNumber causes editAnswer edited turned undoAnswer undone answer next fresh after has without touched verdict readAlternatives alternativesIn letters depth verdictCause standsFor asked most crossedBy zeroSteps diagonal transpose union serves product via closure cells rowPairs rowsPairs listed pairs pairsOf pairsCauses pairsAnswer steps stepWords chainCauses chainAnswer rise height treeUnit
 struck-run =
     by (drop 3 uses) long none refl refl refl tt
     (by (drop 6 uses) long none refl refl refl tt

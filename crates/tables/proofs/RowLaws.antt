@@ -14,33 +14,33 @@ use Rattle.automaton.specs.LevelLaws.{Which, less, same, more, which}
 use Rattle.tables.specs.Rows.{Joined, Mixed, inverseNumber, Turned}
 
 -- ---- joined
-pub joined-none : (rows : List ℕ) (from to : ℕ) → Joined rows from to 0 rows
+pub joined-none : (rows : List ℕ) (from : ℕ → ℕ) (to : ℕ) → Joined rows from to 0 rows
 joined-none rows from to = record { below = λ p q h. absurd (omega arith); above = λ p q h. refl }
 
-module _ {rows : List ℕ} {from to k : ℕ} {r : List ℕ} (I : Joined rows from to k r) where
-  pub joined-no : (On (digit from k) → ⊥) → Joined rows from to (k + 1) r
+module _ {rows : List ℕ} {from : ℕ → ℕ} {to k : ℕ} {r : List ℕ} (I : Joined rows from to k r) where
+  pub joined-no : (On (from k) → ⊥) → Joined rows from to (k + 1) r
   joined-no n = record { below = λ p q h. go p q h (which p k); above = λ p q h. I .above p q (omega arith) }
     where
-      go : (p q : ℕ) → p < k + 1 → Which p k → digit (getD r p 0) q ≡ max (digit (getD rows p 0) q) (min (digit from p) (digit to q))
+      go : (p q : ℕ) → p < k + 1 → Which p k → digit (getD r p 0) q ≡ max (digit (getD rows p 0) q) (min (from p) (digit to q))
       go p q h (less f) = I .below p q f
-      go p q h (same f) = rw f (I .above k q (omega arith) ∙ (let z : digit from k ≡ 0 = off (digit from k) n in omega arith))
+      go p q h (same f) = rw f (I .above k q (omega arith) ∙ (let z : from k ≡ 0 = off (from k) n in omega arith))
         where
           off : (d : ℕ) → (On d → ⊥) → d ≡ 0
           off zero n = refl
           off (suc d) n = absurd (n (omega arith))
       go p q h (more f) = absurd (omega arith)
 
-  pub joined-yes : On (digit from k) → k < length r → Joined rows from to (k + 1) (set r k (bitOr (getD r k 0) to))
-  joined-yes o l = record { below = λ p q h. go p q h (which p k); above = λ p q h. off p q (λ e. omega arith) ∙ I .above p q (omega arith) }
+  pub joined-yes : On (from k) → from k < 2 → k < length r → Joined rows from to (k + 1) (set r k (bitOr (getD r k 0) to))
+  joined-yes o small l = record { below = λ p q h. go p q h (which p k); above = λ p q h. off p q (λ e. omega arith) ∙ I .above p q (omega arith) }
     where
       off : (p q : ℕ) → (p ≡ k → ⊥) → digit (getD (set r k (bitOr (getD r k 0) to)) p 0) q ≡ digit (getD r p 0) q
       off p q n = ap (λ (x : ℕ). digit x q) (getD-set-other r k p (bitOr (getD r k 0) to) 0 n)
 
-      go : (p q : ℕ) → p < k + 1 → Which p k → digit (getD (set r k (bitOr (getD r k 0) to)) p 0) q ≡ max (digit (getD rows p 0) q) (min (digit from p) (digit to q))
+      go : (p q : ℕ) → p < k + 1 → Which p k → digit (getD (set r k (bitOr (getD r k 0) to)) p 0) q ≡ max (digit (getD rows p 0) q) (min (from p) (digit to q))
       go p q h (less f) = off p q (λ e. omega arith) ∙ I .below p q f
       go p q h (same f) =
           rw f (ap (λ (x : ℕ). digit x q) (getD-set-same r k (bitOr (getD r k 0) to) 0 l) ∙ digit-or (getD r k 0) to q
-          ∙ (let z = I .above k q (omega arith) in let a = digit-lt from k in let b = digit-lt to q in omega arith))
+          ∙ (let z = I .above k q (omega arith) in let b = digit-lt to q in omega arith))
       go p q h (more f) = absurd (omega arith)
 
 -- ---- mixed

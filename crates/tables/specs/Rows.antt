@@ -1,6 +1,8 @@
 -- What the helpers on tables of masks give, for the rows below k.
 --   Joined rows from to k r
---                   r is rows with the set `to` joined to the rows of the states in `from`
+--                   r is rows with the set `to` joined to the rows that `from` has
+--   letterDigit forward against c
+--                   whether the letter of number c is in the two sets, 1 or 0
 --   Mixed a b own k r
 --                   r has the rows of b at the states in own, and those of a elsewhere
 --   inverseNumber c the number of the same letter in the other sense
@@ -9,14 +11,23 @@
 -- Assumes nothing: these are definitions.
 use mathlib.Core.Path.{_≡_}
 use mathlib.Core.List.{List}
-use Prim.Native.Nat.{ℕ, _+_, _-_, _*_, _%_, _<_, _≤_, max, min}
+use Prim.Native.Nat.{ℕ, _+_, _-_, _*_, _/_, _%_, _<_, _≤_, max, min}
+use lib.Dec.{eqb}
 use lib.ListN.{getD}
+use Rattle.book.specs.Basics.{pick}
 use Rattle.k2.specs.Bits.{digit}
 use Rattle.automaton.specs.Automata.{On}
 
-pub record Joined (rows : List ℕ) (from to k : ℕ) (r : List ℕ) : Type 0 where
-  pub below : (p q : ℕ) → p < k → digit (getD r p 0) q ≡ max (digit (getD rows p 0) q) (min (digit from p) (digit to q))
+pub record Joined (rows : List ℕ) (from : ℕ → ℕ) (to k : ℕ) (r : List ℕ) : Type 0 where
+  pub below : (p q : ℕ) → p < k → digit (getD r p 0) q ≡ max (digit (getD rows p 0) q) (min (from p) (digit to q))
   pub above : (p q : ℕ) → k ≤ p → digit (getD r p 0) q ≡ digit (getD rows p 0) q
+
+-- the set that the letter of number c is looked for in, by its sense
+abbrev pub sideOf : ℕ → ℕ → ℕ → ℕ
+sideOf forward against c = pick (eqb (c % 2) 1) against forward
+
+abbrev pub letterDigit : ℕ → ℕ → ℕ → ℕ
+letterDigit forward against c = digit (sideOf forward against c) (c / 2)
 
 pub record Mixed (a b : List ℕ) (own k : ℕ) (r : List ℕ) : Type 0 where
   pub inside : (p : ℕ) → p < k → On (digit own p) → getD r p 0 ≡ getD b p 0

@@ -2,14 +2,16 @@
 ghost use mathlib.Core.Path.{_≡_};
 ghost use mathlib.Core.List.{List, _∷_};
 ghost use Prim.Native.Nat.{ℕ, _+_, _<_, _≤_};
-ghost use Rattle.book.specs.Causes.{labels, maxLetters};
-ghost use Rattle.paths.specs.Expressions.{Expr, symbol, letter, inverse, star, plus, optional, alternative, sequence};
+ghost use Rattle.book.specs.Causes.{maxLetters};
+ghost use Rattle.k2.specs.Bits.{digit};
+ghost use Rattle.paths.specs.Expressions.{Expr};
 ghost use Rattle.paths.specs.Verdicts.{InLimits};
 ghost use Rattle.reader.specs.Code.{code};
 ghost use Rattle.automaton.specs.Automata.{automaton};
 ghost use Rattle.automaton.specs.Masks.{Masked};
-ghost use Rattle.tables.specs.Rows.{Joined, Mixed, Turned};
-ghost use Rattle.tables.specs.Builds.{Holds, Next};
+ghost use Rattle.tables.specs.Rows.{Joined, sideOf, letterDigit, Mixed, Turned};
+ghost use Rattle.tables.specs.Builds.{Part, parts, Holds, Next};
+use reader::Item;
 
 // The tables so far: of each position those that may follow it and those that it may follow, of each letter those that it may enter; then the
 // stack, for each expression that waits its first, last and own positions and whether it has the empty word; how many wait, and the positions used.
@@ -27,7 +29,7 @@ pub struct Build {
 
 // `to` joined to the rows of the states in `from`.
 fn joined(rows: [u64; 64], from: u64, to: u64) -> [u64; 64]
-    ensures { λ r. ⌜ Joined rows from to 64 r ⌝ }
+    ensures { λ r. ⌜ Joined rows (digit from) to 64 r ⌝ }
 {
     let mut r = rows;
     let mut p = 0;
@@ -79,10 +81,32 @@ fn only(n: u64, x: u64) -> u64
     x
 }
 
-// A letter: one more position, entered by it.
-fn label(b: Build, k: usize) -> Build
-    requires { ⌜ (b .top < 19) × (b .used < maxLetters) × (k < labels) ⌝ }
-    ensures { λ r. ⌜ ((m : ℕ) (st : List Expr) → Holds b m st → Holds r (m + 1) (symbol (letter k) ∷ st)) ⌝ }
+// The set that the letter of number c is looked for in, by its sense.
+fn side_of(c: usize, forward: u32, against: u32) -> u32
+    ensures { λ r. ⌜ r ≡ sideOf forward against c ⌝ }
+{
+    if c % 2 == 1 { against } else { forward }
+}
+
+// `bit` joined to the rows of the letters in the two sets.
+fn entered(enter: [u64; 64], forward: u32, against: u32, bit: u64) -> [u64; 64]
+    ensures { λ r. ⌜ Joined enter (letterDigit forward against) bit 64 r ⌝ }
+{
+    let mut r = enter;
+    let mut c = 0;
+    while c < 64 {
+        if (side_of(c, forward, against) >> (c / 2)) % 2 == 1 {
+            r[c] = r[c] | bit;
+        }
+        c += 1;
+    }
+    r
+}
+
+// A symbol: one more position, entered by the letters that it stands for.
+fn symbol(b: Build, forward: u32, against: u32) -> Build
+    requires { ⌜ (b .top < 19) × (b .used < maxLetters) ⌝ }
+    ensures { λ r. ⌜ ((m : ℕ) (st : List Part) → Holds b m st → Holds r (m + 1) (parts .of forward against ∷ st)) ⌝ }
 {
     let mut r = b;
     let q = r.used + 1;
@@ -92,7 +116,9 @@ fn label(b: Build, k: usize) -> Build
     r.last[i] = bit;
     r.own[i] = bit;
     r.nullable[i] = 0;
-    r.enter[k * 2] = r.enter[k * 2] | bit;
+    let enter = r.enter;
+    let joint = entered(enter, forward, against, bit);
+    r.enter = joint;
     r.used = q;
     r.top = i + 1;
     r
@@ -101,7 +127,7 @@ fn label(b: Build, k: usize) -> Build
 // Alternatives: the two that wait become one.
 fn either(b: Build) -> Build
     requires { ⌜ (2 ≤ b .top) × (b .top ≤ 19) ⌝ }
-    ensures { λ r. ⌜ ((m : ℕ) (x y : Expr) (st : List Expr) → Holds b m (y ∷ x ∷ st) → Holds r m (alternative x y ∷ st)) ⌝ }
+    ensures { λ r. ⌜ ((m : ℕ) (x y : Part) (st : List Part) → Holds b m (y ∷ x ∷ st) → Holds r m (parts .either x y ∷ st)) ⌝ }
 {
     let mut r = b;
     let j = r.top - 1;
@@ -117,7 +143,7 @@ fn either(b: Build) -> Build
 // A sequence: besides, the first of the right may follow the last of the left.
 fn followed(b: Build) -> Build
     requires { ⌜ (2 ≤ b .top) × (b .top ≤ 19) ⌝ }
-    ensures { λ r. ⌜ ((m : ℕ) (x y : Expr) (st : List Expr) → Holds b m (y ∷ x ∷ st) → Holds r m (sequence x y ∷ st)) ⌝ }
+    ensures { λ r. ⌜ ((m : ℕ) (x y : Part) (st : List Part) → Holds b m (y ∷ x ∷ st) → Holds r m (parts .followed x y ∷ st)) ⌝ }
 {
     let mut r = b;
     let j = r.top - 1;
@@ -141,7 +167,7 @@ fn followed(b: Build) -> Build
 // One or more: the first may follow the last.
 fn repeated(b: Build) -> Build
     requires { ⌜ (1 ≤ b .top) × (b .top ≤ 19) ⌝ }
-    ensures { λ r. ⌜ ((m : ℕ) (x : Expr) (st : List Expr) → Holds b m (x ∷ st) → Holds r m (plus x ∷ st)) × (r .top ≡ b .top) ⌝ }
+    ensures { λ r. ⌜ ((m : ℕ) (x : Part) (st : List Part) → Holds b m (x ∷ st) → Holds r m (parts .repeated x ∷ st)) × (r .top ≡ b .top) ⌝ }
 {
     let mut r = b;
     let j = r.top - 1;
@@ -159,7 +185,7 @@ fn repeated(b: Build) -> Build
 // Once or not at all.
 fn maybe(b: Build) -> Build
     requires { ⌜ (1 ≤ b .top) × (b .top ≤ 19) ⌝ }
-    ensures { λ r. ⌜ ((m : ℕ) (x : Expr) (st : List Expr) → Holds b m (x ∷ st) → Holds r m (optional x ∷ st)) × ((m : ℕ) (x : Expr) (st : List Expr) → Holds b m (plus x ∷ st) → Holds r m (star x ∷ st)) ⌝ }
+    ensures { λ r. ⌜ ((m : ℕ) (x : Part) (st : List Part) → Holds b m (x ∷ st) → Holds r m (parts .maybe x ∷ st)) ⌝ }
 {
     let mut r = b;
     let j = r.top - 1;
@@ -170,7 +196,7 @@ fn maybe(b: Build) -> Build
 // Inverted: read backwards, each letter in its other sense.
 fn inverted(b: Build) -> Build
     requires { ⌜ (1 ≤ b .top) × (b .top ≤ 19) ⌝ }
-    ensures { λ r. ⌜ ((m : ℕ) (x : Expr) (st : List Expr) → Holds b m (x ∷ st) → Holds r m (inverse x ∷ st)) ⌝ }
+    ensures { λ r. ⌜ ((m : ℕ) (x : Part) (st : List Part) → Holds b m (x ∷ st) → Holds r m (parts .inverted x ∷ st)) ⌝ }
 {
     let mut r = b;
     let j = r.top - 1;
@@ -191,42 +217,33 @@ fn inverted(b: Build) -> Build
 }
 
 // One number of the code.
-fn step(b: Build, i: u8) -> Build
-    requires { ⌜ ((c : List ℕ) × (e : Expr) × Next b (i ∷ c) e) ⌝ }
-    ensures { λ r. ⌜ ((c : List ℕ) (e : Expr) → Next b (i ∷ c) e → Next r c e) ⌝ }
+fn step(b: Build, i: u64) -> Build
+    requires { ⌜ ((c : List ℕ) × (x : Part) × Next b (i ∷ c) x) ⌝ }
+    ensures { λ r. ⌜ ((c : List ℕ) (x : Part) → Next b (i ∷ c) x → Next r c x) ⌝ }
 {
-    if i < reader::FIRST_OPERATOR {
-        return label(b, i as usize);
+    let item = reader::item_of(i);
+    match item {
+        Item::Letters(forward, against) => symbol(b, forward, against),
+        Item::Inverse => inverted(b),
+        Item::Star => maybe(repeated(b)),
+        Item::Plus => repeated(b),
+        Item::Optional => maybe(b),
+        Item::Alternative => either(b),
+        Item::Sequence => followed(b),
     }
-    if i == reader::INVERSE {
-        return inverted(b);
-    }
-    if i == reader::STAR {
-        return maybe(repeated(b));
-    }
-    if i == reader::PLUS {
-        return repeated(b);
-    }
-    if i == reader::OPTIONAL {
-        return maybe(b);
-    }
-    if i == reader::ALTERNATIVE {
-        return either(b);
-    }
-    followed(b)
 }
 
 pub struct Tables {
     pub follow: [u64; 64],
     pub pred: [u64; 64],
     pub enter: [u64; 64],
-    pub fin: u64,
+    pub accepting: u64,
 }
 
 // The tables of the automaton of the expression whose code it is.
-pub fn tables_of(numbers: &[u8]) -> Tables
+pub fn tables_of(numbers: &[u64]) -> Tables
     requires { ⌜ ((text : List ℕ) × (e : Expr) × InLimits text e × (now numbers ≡ code e)) ⌝ }
-    ensures { λ r. ⌜ ((text : List ℕ) (e : Expr) → InLimits text e → now (numbers .entry) ≡ code e → Masked (r .follow) (r .pred) (r .enter) (r .fin) (automaton e)) ⌝ }
+    ensures { λ r. ⌜ ((text : List ℕ) (e : Expr) → InLimits text e → now (numbers .entry) ≡ code e → Masked (r .follow) (r .pred) (r .enter) (r .accepting) (automaton e)) ⌝ }
 {
     let mut b = Build {
         follow: [0; 64],
@@ -256,6 +273,6 @@ pub fn tables_of(numbers: &[u8]) -> Tables
         follow,
         pred,
         enter,
-        fin: last | nullable,
+        accepting: last | nullable,
     }
 }

@@ -6,18 +6,14 @@ ghost use Rattle.reader.specs.declared.Answer.the-variants.{Accepted};
 use reader::Answer;
 use reader::Reading;
 
-fn wide(x: u8) -> u64 {
-    x as u64
-}
-
 // The first n numbers, each after a space.
-fn write_numbers(code: &[u8], n: usize)
+fn write_numbers(code: &[u64], n: usize)
     requires { ⌜ n ≤ length (now code) ⌝ }
 {
     let mut i = 0;
     while i < n {
         io::write_all(libc::STDOUT_FILENO, b" ");
-        io::print_decimal(libc::STDOUT_FILENO, wide(code[i]));
+        io::print_decimal(libc::STDOUT_FILENO, code[i]);
         i += 1;
     }
 }
@@ -34,7 +30,7 @@ fn write_answer(r: Reading)
         }
         Answer::Refused(k) => {
             io::write_all(libc::STDOUT_FILENO, b": refused ");
-            io::print_decimal(libc::STDOUT_FILENO, wide(k));
+            io::print_decimal(libc::STDOUT_FILENO, k as u64);
         }
     }
     io::write_all(libc::STDOUT_FILENO, b"\n");
@@ -72,6 +68,48 @@ fn groups() {
     show(b"(^a)*");
     show(b"^(a/b)");
     show(b"(a|b|^a|^b)*");
+}
+
+// Negated sets: of one member and of many, under ^ and a mark.
+fn sets() {
+    show(b"!a");
+    show(b"!^a");
+    show(b"!(a|^b|c)");
+    show(b"!(a|a)");
+    show(b"^!a*");
+    show(b"!(a|b)/c");
+    show_as(
+        b"every letter left out",
+        b"!(a|b|c|d|e|f|g|h|i|j|k|l|m|n|o|p|q|r|s|t|u|v|w|x|y|z)",
+    );
+}
+
+// Sets at the limits and past them: the parentheses of a set are no group, and a set is one letter.
+fn limits_of_sets() {
+    show_as(b"a set at depth 8", b"((((((((!(a|b)))))))))");
+    show_as(b"a set at depth 9", b"(((((((((!(a|b))))))))))");
+    show_as(
+        b"63 sets",
+        b"!a/!a/!a/!a/!a/!a/!a/!a/!a/!a/!a/!a/!a/!a/!a/!a/!a/!a/!a/!a/!a/!a/!a/!a/!a/!a/!a/!a/!a/!a/!a/!a/!a/!a/!a/!a/!a/!a/!a/!a/!a/!a/!a/!a/!a/!a/!a/!a/!a/!a/!a/!a/!a/!a/!a/!a/!a/!a/!a/!a/!a/!a/!a",
+    );
+    show_as(
+        b"64 sets",
+        b"!a/!a/!a/!a/!a/!a/!a/!a/!a/!a/!a/!a/!a/!a/!a/!a/!a/!a/!a/!a/!a/!a/!a/!a/!a/!a/!a/!a/!a/!a/!a/!a/!a/!a/!a/!a/!a/!a/!a/!a/!a/!a/!a/!a/!a/!a/!a/!a/!a/!a/!a/!a/!a/!a/!a/!a/!a/!a/!a/!a/!a/!a/!a/!a",
+    );
+}
+
+// Sets that are none.
+fn faulty_sets() {
+    show(b"!");
+    show(b"!()");
+    show(b"!(a");
+    show(b"!(a|)");
+    show(b"!((a))");
+    show(b"!(a*)");
+    show(b"!(a/b)");
+    show(b"!!a");
+    show(b"!^^a");
+    show(b"^^!a");
 }
 
 // Texts at the limits and past them.
@@ -157,10 +195,13 @@ fn parts() {
 fn main() {
     operators();
     groups();
+    sets();
     limits();
+    limits_of_sets();
     limits_and_faults();
     foreign_bytes();
     misplaced_marks();
     missing_sides();
+    faulty_sets();
     parts();
 }

@@ -7,15 +7,8 @@
 //! missed; and of two chains of one length to a place, the smaller stays the smaller whatever follows.
 
 use crate::book::{Sheet, LABELS};
-use crate::expression::Expression;
+use crate::expression::{Expression, Letter};
 use std::collections::{BTreeMap, BTreeSet};
-
-/// What a step spells: a label, and whether its link is crossed against its sense.
-#[derive(Clone, Copy, Debug, PartialEq, Eq, PartialOrd, Ord)]
-pub struct Letter {
-    pub label: u32,
-    pub against: bool,
-}
 
 #[derive(Clone, Copy, Debug, PartialEq, Eq)]
 pub struct Step {
@@ -116,7 +109,8 @@ fn walked(before: &BTreeMap<Place, Option<(Place, u32)>>, place: Place) -> Vec<u
 
 /// A part of an expression without inverses of anything but letters; parts within it by their place in a list.
 enum Part {
-    Letter(Letter),
+    /// one letter, any of these
+    Letter(Vec<Letter>),
     Alternative(usize, usize),
     Sequence(usize, usize),
     /// zero or more
@@ -177,7 +171,19 @@ impl Parts {
         let part = match expression {
             Expression::Letter(label) => {
                 assert!(*label < LABELS);
-                Part::Letter(Letter { label: *label, against: inverse })
+                Part::Letter(vec![Letter { label: *label, against: inverse }])
+            }
+            Expression::NoneOf(members) => {
+                // A sense that no member has is not crossed; in one that a member has, every label but the members'.
+                let mut letters = Vec::new();
+                for against in [false, true] {
+                    if members.iter().any(|member| member.against == against) {
+                        let any = (0..LABELS).map(|label| Letter { label, against });
+                        letters.extend(any.filter(|letter| !members.contains(letter)));
+                    }
+                }
+                let exchanged = |letter: Letter| Letter { against: letter.against != inverse, ..letter };
+                Part::Letter(letters.into_iter().map(exchanged).collect())
             }
             Expression::Inverse(part) => return self.put(part, !inverse),
             Expression::Alternative(left, right) => {
@@ -198,12 +204,12 @@ impl Parts {
     }
 
     fn has_empty(&self, part: usize) -> bool {
-        match self.0[part] {
+        match &self.0[part] {
             Part::Letter(_) => false,
-            Part::Alternative(left, right) => self.has_empty(left) || self.has_empty(right),
-            Part::Sequence(left, right) => self.has_empty(left) && self.has_empty(right),
+            Part::Alternative(left, right) => self.has_empty(*left) || self.has_empty(*right),
+            Part::Sequence(left, right) => self.has_empty(*left) && self.has_empty(*right),
             Part::Star(_) | Part::Optional(_) => true,
-            Part::Plus { once, .. } => self.has_empty(once),
+            Part::Plus { once, .. } => self.has_empty(*once),
         }
     }
 
@@ -224,23 +230,21 @@ impl Parts {
     /// The same of the words that begin with a letter of this part, where `later` follows the part.
     fn after_part(&self, part: usize, later: &[usize], found: &mut BTreeSet<(Letter, Rest)>) {
         let before_later = |next: usize| [later, &[next]].concat();
-        match self.0[part] {
-            Part::Letter(letter) => {
-                found.insert((letter, later.to_vec()));
-            }
+        match &self.0[part] {
+            Part::Letter(letters) => found.extend(letters.iter().map(|&letter| (letter, later.to_vec()))),
             Part::Alternative(left, right) => {
-                self.after_part(left, later, found);
-                self.after_part(right, later, found);
+                self.after_part(*left, later, found);
+                self.after_part(*right, later, found);
             }
             Part::Sequence(left, right) => {
-                self.after_part(left, &before_later(right), found);
-                if self.has_empty(left) {
-                    self.after_part(right, later, found);
+                self.after_part(*left, &before_later(*right), found);
+                if self.has_empty(*left) {
+                    self.after_part(*right, later, found);
                 }
             }
-            Part::Star(once) => self.after_part(once, &before_later(part), found),
-            Part::Plus { once, star } => self.after_part(once, &before_later(star), found),
-            Part::Optional(once) => self.after_part(once, later, found),
+            Part::Star(once) => self.after_part(*once, &before_later(part), found),
+            Part::Plus { once, star } => self.after_part(*once, &before_later(*star), found),
+            Part::Optional(once) => self.after_part(*once, later, found),
         }
     }
 }

@@ -3,7 +3,9 @@
 //! ```text
 //! alternatives = sequence { "|" sequence }
 //! sequence     = part { "/" part }
-//! part         = [ "^" ] ( letter | "(" alternatives ")" ) [ "*" | "+" | "?" ]
+//! part         = [ "^" ] ( letter | set | "(" alternatives ")" ) [ "*" | "+" | "?" ]
+//! set          = "!" ( member | "(" member { "|" member } ")" )
+//! member       = [ "^" ] letter
 //! letter       = "a" | .. | "z"
 //! ```
 
@@ -13,10 +15,19 @@ pub const MAX_BYTES: usize = 256;
 pub const MAX_LETTERS: usize = 63;
 pub const MAX_DEPTH: usize = 8;
 
+/// A letter of a word: a label, and whether its link is crossed against its sense.
+#[derive(Clone, Copy, Debug, PartialEq, Eq, PartialOrd, Ord)]
+pub struct Letter {
+    pub label: u32,
+    pub against: bool,
+}
+
 /// An expression; a group is the expression that it holds.
 #[derive(Clone, Debug, PartialEq, Eq)]
 pub enum Expression {
     Letter(u32),
+    /// A negated set with its members, as they stand.
+    NoneOf(Vec<Letter>),
     Inverse(Box<Expression>),
     Star(Box<Expression>),
     Plus(Box<Expression>),
@@ -84,7 +95,7 @@ impl Reader<'_> {
 
     fn part(&mut self) -> Option<Expression> {
         let inverse = self.pass(b'^');
-        let mut part = self.letter_or_group()?;
+        let mut part = self.atom()?;
         if self.pass(b'*') {
             part = Expression::Star(Box::new(part));
         } else if self.pass(b'+') {
@@ -95,22 +106,39 @@ impl Reader<'_> {
         Some(if inverse { Expression::Inverse(Box::new(part)) } else { part })
     }
 
-    fn letter_or_group(&mut self) -> Option<Expression> {
-        let byte = self.next()?;
-        self.at += 1;
-        match byte {
-            b'a'..=b'z' => {
-                self.letters += 1;
-                Some(Expression::Letter(u32::from(byte - b'a')))
-            }
-            b'(' => {
-                self.depth += 1;
-                self.deepest = self.deepest.max(self.depth);
-                let held = self.alternatives()?;
-                self.depth -= 1;
-                self.pass(b')').then_some(held)
-            }
-            _ => None,
+    fn atom(&mut self) -> Option<Expression> {
+        if self.pass(b'(') {
+            self.depth += 1;
+            self.deepest = self.deepest.max(self.depth);
+            let held = self.alternatives()?;
+            self.depth -= 1;
+            return self.pass(b')').then_some(held);
         }
+        self.letters += 1;
+        if self.pass(b'!') {
+            return self.members().map(Expression::NoneOf);
+        }
+        self.label().map(Expression::Letter)
+    }
+
+    /// What a set leaves out: one member, or members in parentheses, which are no group.
+    fn members(&mut self) -> Option<Vec<Letter>> {
+        let many = self.pass(b'(');
+        let mut members = vec![self.member()?];
+        while many && self.pass(b'|') {
+            members.push(self.member()?);
+        }
+        (!many || self.pass(b')')).then_some(members)
+    }
+
+    fn member(&mut self) -> Option<Letter> {
+        let against = self.pass(b'^');
+        Some(Letter { label: self.label()?, against })
+    }
+
+    fn label(&mut self) -> Option<u32> {
+        let byte = self.next().filter(u8::is_ascii_lowercase)?;
+        self.at += 1;
+        Some(u32::from(byte - b'a'))
     }
 }

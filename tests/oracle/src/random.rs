@@ -50,9 +50,11 @@ impl Random {
 }
 
 /// Texts that are outside the grammar.
-const FAULTS: [&str; 33] = [
+const FAULTS: [&str; 51] = [
     "", "()", "a**", "^^a", "a|", "|a", "a||b", "a/", "/a", "a//b", "a b", " a", "a ", "A", "ab", "a^b", "(a", "a)",
-    ")a(", "*", "^", "a*+", "a+*", "a++", "a??", "a?*", "(a)(b)", "a(b)", "^*a", "a/|b", "(a|)", "a\n", "1",
+    ")a(", "*", "^", "a*+", "a+*", "a++", "a??", "a?*", "(a)(b)", "a(b)", "^*a", "a/|b", "(a|)", "a\n", "1", "!",
+    "!()", "!(a", "!(a|", "!(a|)", "!(|a)", "!((a))", "!(a*)", "!(a/b)", "!(!a)", "!!a", "!^^a", "^^!a", "!*a", "a!",
+    "!(^)", "!a!b", "!(a b)",
 ];
 
 /// An expression's text of any sort: mostly in the grammar and within the limits, now and then faulty, at a limit or
@@ -104,9 +106,25 @@ pub fn in_grammar(random: &mut Random, labels: &[u32], letters: usize, depth: us
         let held = in_grammar(random, labels, letters, depth - 1);
         part(random, &[b"(", &held[..], b")"].concat())
     } else {
-        let letter = letter(random, labels);
-        part(random, &[letter])
+        let symbol = symbol(random, labels);
+        part(random, &symbol)
     }
+}
+
+/// A letter, or now and then a negated set.
+fn symbol(random: &mut Random, labels: &[u32]) -> Vec<u8> {
+    if random.chance(80) {
+        return vec![letter(random, labels)];
+    }
+    let member = |random: &mut Random| {
+        let before: &[u8] = if random.chance(45) { b"^" } else { b"" };
+        [before, &[letter(random, labels)]].concat()
+    };
+    if random.chance(40) {
+        return [b"!", &member(random)[..]].concat();
+    }
+    let members: Vec<Vec<u8>> = (0..random.between(1, 4)).map(|_| member(random)).collect();
+    [b"!(", &members.join(&b'|')[..], b")"].concat()
 }
 
 fn letter(random: &mut Random, labels: &[u32]) -> u8 {
@@ -165,7 +183,7 @@ fn of_bytes(random: &mut Random, labels: &[u32], bytes: usize) -> Vec<u8> {
 
 /// A text with a byte taken out, put in or exchanged; every third time at its end.
 fn damaged(random: &mut Random, mut text: Vec<u8>) -> Vec<u8> {
-    let byte = random.pick(b"az|/^*+?()  A{`\0\xff");
+    let byte = random.pick(b"az|/^!!*+?()  A{`\0\xff");
     let last = text.len() - 1;
     let at = if random.chance(33) { last } else { random.between(0, last) };
     match random.below(3) {

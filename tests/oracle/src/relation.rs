@@ -120,6 +120,18 @@ impl Relation {
                 let links = sheet.links.iter().filter(|link| link.label == *label);
                 Relation::of(n, links.map(|link| (link.from, link.to)))
             }
+            Expression::NoneOf(members) => {
+                // Whether a link's label is left in this sense: there is a member of the sense, and none has the label.
+                let left = |against: bool, label: u32| {
+                    let mut named =
+                        members.iter().filter(|member| member.against == against).map(|member| member.label);
+                    named.clone().next().is_some() && named.all(|other| other != label)
+                };
+                let forward =
+                    sheet.links.iter().filter(|link| left(false, link.label)).map(|link| (link.from, link.to));
+                let against = sheet.links.iter().filter(|link| left(true, link.label)).map(|link| (link.to, link.from));
+                Relation::of(n, forward.chain(against))
+            }
             Expression::Inverse(part) => meant(part).transpose(),
             Expression::Alternative(left, right) => meant(left).union(&meant(right)),
             Expression::Sequence(left, right) => meant(left).product(&meant(right)),

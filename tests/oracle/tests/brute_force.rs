@@ -1,8 +1,8 @@
 //! Chains, pairs and trees against plain enumeration on tiny registers.
 
 use oracle::book::{Book, Call, Link};
-use oracle::chain::{Letter, Step};
-use oracle::expression::{self, Expression};
+use oracle::chain::Step;
+use oracle::expression::{self, Expression, Letter};
 use oracle::random::{self, Random};
 use oracle::relation::Relation;
 use oracle::{chain, tree};
@@ -11,6 +11,10 @@ use oracle::{chain, tree};
 fn spells(expression: &Expression, word: &[Letter]) -> bool {
     match expression {
         Expression::Letter(label) => word == [Letter { label: *label, against: false }],
+        Expression::NoneOf(members) => match word {
+            [letter] => members.iter().any(|member| member.against == letter.against) && !members.contains(letter),
+            _ => false,
+        },
         Expression::Inverse(part) => {
             let exchanged = |letter: &Letter| Letter { label: letter.label, against: !letter.against };
             spells(part, &word.iter().rev().map(exchanged).collect::<Vec<_>>())

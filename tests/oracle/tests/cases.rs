@@ -2,7 +2,7 @@
 
 use oracle::book::{Book, Call, Link};
 use oracle::chain::Step;
-use oracle::expression::{self, Expression};
+use oracle::expression::{self, Expression, Letter};
 use oracle::frame::{frame, Request};
 use oracle::relation::Relation;
 use oracle::tree::{self, Binary, Unary};
@@ -227,6 +227,54 @@ fn texts_in_and_outside_the_grammar() {
     for fault in ["", "()", "a**", "^^a", "a ", "A", "a|", "/a", "(a", "a)", "ab", "a^", "a?+", "^", "*", "a\u{e9}"] {
         assert_eq!(read(fault), Err(Refusal::Grammar), "{fault}");
     }
+}
+
+#[test]
+fn texts_of_negated_sets() {
+    let read = |text: &str| expression::read(text.as_bytes());
+    let (plain, inverted) = (|label| Letter { label, against: false }, |label| Letter { label, against: true });
+    let set = |members: &[Letter]| Box::new(Expression::NoneOf(members.to_vec()));
+    assert_eq!(read("!(a|^b|c)"), Ok(*set(&[plain(0), inverted(1), plain(2)])));
+    assert_eq!(read("^!^a*"), Ok(Expression::Inverse(Box::new(Expression::Star(set(&[inverted(0)]))))));
+    assert_eq!(read("!a|b"), Ok(Expression::Alternative(set(&[plain(0)]), Box::new(Expression::Letter(1)))));
+    let nested = |depth: usize| "(".repeat(depth) + "!(a|b)" + &")".repeat(depth);
+    assert!(read(&nested(8)).is_ok());
+    assert_eq!(read(&nested(9)), Err(Refusal::TooLong));
+    assert!(read(&vec!["!a"; 63].join("/")).is_ok());
+    assert_eq!(read(&vec!["!a"; 64].join("/")), Err(Refusal::TooLong));
+    assert!(read(&vec!["!(a|b)"; 36].join("/")).is_ok());
+    for fault in
+        ["!", "!()", "!(a", "!(a|)", "!(|a)", "!((a))", "!(a*)", "!(a/b)", "!!a", "!^^a", "^^!a", "!(!a)", "a!"]
+    {
+        assert_eq!(read(fault), Err(Refusal::Grammar), "{fault}");
+    }
+}
+
+/// All 26 plain members.
+const EVERY: &str = "!(a|b|c|d|e|f|g|h|i|j|k|l|m|n|o|p|q|r|s|t|u|v|w|x|y|z)";
+
+#[test]
+fn negated_sets() {
+    let sheet = cases_book();
+    assert_eq!(pairs(&sheet, "!a"), [(2, 0)]);
+    assert_eq!(pairs(&sheet, "!^a"), [(0, 2)]);
+    assert_eq!(pairs(&sheet, "!(a|^b)"), [(1, 0), (2, 0), (2, 1)]);
+    assert_eq!(pairs(&sheet, "^!^a"), [(2, 0)]);
+    assert_eq!(pairs(&sheet, "!a*"), [(0, 0), (1, 1), (2, 0), (2, 2), (3, 3)]);
+    assert_eq!(pairs(&sheet, EVERY), []);
+    assert_eq!(pairs(&sheet, &format!("({EVERY})*")), [(0, 0), (1, 1), (2, 2), (3, 3)]);
+    assert_eq!(chain(&sheet, 0, 0, "!c+").unwrap(), "a + 1, a + 2, b + 0");
+    assert_eq!(chain(&sheet, 0, 2, "!(c|^c)").unwrap(), "b - 2");
+    assert_eq!(chain(&sheet, 2, 1, "^!b").unwrap(), "a - 1");
+    assert_eq!(chain(&sheet, 0, 3, "(!(c|^c))*"), None);
+    let links = [(0, 0, 2), (0, 1, 1), (1, 0, 0), (1, 0, 3), (2, 0, 3), (0, 2, 1), (0, 2, 2), (3, 3, 0)];
+    let ties = book(4, &links);
+    assert_eq!(chain(&ties, 0, 3, "!d/a").unwrap(), "a + 2, a + 3");
+    assert_eq!(chain(&ties, 0, 3, "!(a|^b)/a").unwrap(), "a - 1, a + 3");
+    assert_eq!(chain(&ties, 0, 3, "!(a|^a)/a").unwrap(), "b + 1, a + 3");
+    assert_eq!(chain(&ties, 0, 3, "!(a|b)/a").unwrap(), "c + 1, a + 3");
+    assert_eq!(chain(&ties, 1, 0, "!(z|^z)").unwrap(), "a + 0");
+    assert_eq!(chain(&ties, 1, 0, "!(a|^z)").unwrap(), "b - 0");
 }
 
 #[test]

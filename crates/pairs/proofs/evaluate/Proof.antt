@@ -2,11 +2,11 @@
 -- rows are as long as they were. The measure is what is left of the code. Assumes nothing.
 use borrow.Author.Needs.{needs}
 use native.Mathlib.Omega.{arith}
-use mathlib.Core.Path.{_≡_, refl, _∙_, subst}
+use mathlib.Core.Path.{_≡_, refl, sym, _∙_, subst}
 use Prim.Native.Nat.{ℕ, _+_, _-_, _≤_}
 use lib.ListN.{length}
 use Rattle.pairs.specs.Steps.{Going}
-use Rattle.pairs.proofs.Running.{coded-some, going-begins, going-room, going-more}
+use Rattle.pairs.proofs.Running.{coded-some, going-begins, going-ready, going-more}
 use Rattle.pairs.proofs.evaluate.Statement.{statement}
 use Rattle.pairs.proofs.evaluate.Tie as tie
 use Rattle.pairs.proofs.evaluate.Reads as reads
@@ -36,16 +36,21 @@ loop-holds c =
 add-loop : tie.Need-add-loop Inv-loop μ-loop
 add-loop c = omega arith
 
--- src/lib.rt:247:57
-shared-slice-read-step : tie.Need-shared-slice-read-step Inv-loop μ-loop
-shared-slice-read-step c = omega arith
+mul-item-of : tie.Need-mul-item-of Inv-loop μ-loop
+mul-item-of c = omega arith
 
--- src/lib.rt:247:9
+shared-slice-read-item-of : tie.Need-shared-slice-read-item-of Inv-loop μ-loop
+shared-slice-read-item-of c = omega arith
+
+item-of-requires : tie.Need-item-of-requires Inv-loop μ-loop
+item-of-requires c κs = search needs
+
 step-requires : tie.Need-step-requires Inv-loop μ-loop
 step-requires c κs =
-    let l = c .before .before .before .before .loop in
-    let P = c .before .before .before .before .before .before .before .before .before .before .before .pre in
-    (P .0, omega (arith, l .inv .1, P .1), P .2, omega (arith, l .inv .2, P .3), (_, going-room _ _ _ _ (l .i) (omega arith) (l .inv .3)))
+    let l = c .before .before .before .before .before .loop in
+    let P = c .before .before .before .before .before .before .before .before .before .before .before .before .pre in
+    let r = going-ready _ _ _ _ (l .i) (omega arith) (l .inv .3) (sym (c .before .before .item-of .ensures)) in
+    (P .0, omega (arith, l .inv .1, P .1), P .2, omega (arith, l .inv .2, P .3), r .0, r .1)
 
 -- src/lib.rt:248:9
 add-i : tie.Need-add-i Inv-loop μ-loop
@@ -58,9 +63,9 @@ loop-less c = omega arith
 -- src/lib.rt:246:5
 loop-again : tie.Need-loop-again Inv-loop μ-loop
 loop-again c =
-    let l = c .before .before .before .before .before .before .before .before .before .loop in
+    let l = c .before .before .before .before .before .before .before .before .before .before .loop in
     let s = c .before .before .before .before .step in
-    (omega arith, s .kept .0 ∙ l .inv .1, s .kept .1 .1 .1 .1 .0 ∙ l .inv .2, going-more _ _ _ _ (l .i) (omega arith) (l .inv .3) (s .ensures))
+    (omega arith, s .kept .0 ∙ l .inv .1, s .kept .1 .1 .1 .1 .0 ∙ l .inv .2, going-more _ _ _ _ (l .i) (omega arith) (l .inv .3) (sym (c .before .before .before .before .before .before .before .item-of .ensures)) (s .ensures))
 
 -- src/lib.rt:228:1
 same-length : tie.Need-same-length Inv-loop μ-loop
@@ -86,7 +91,9 @@ evaluate-spec =
     no-operand-requires
     loop-holds
     add-loop
-    shared-slice-read-step
+    mul-item-of
+    shared-slice-read-item-of
+    item-of-requires
     step-requires
     add-i
     loop-less

@@ -16,11 +16,11 @@ use Rattle.pairs.proofs.take_off.Reads as take-off-reads
 use Rattle.tree.proofs.operate.Reads as operate-reads
 
 -- the operands taken off
-takes : (c : tie.After-take-off) → Takes (treeUnit (c .before .before .before .before .before .args .n)) (c .before .before .before .before .before .args .op) (c .before .before .before .before .before .args .stack) (c .take-off .result)
-takes c = c .take-off .ensures _ _ (c .before .before .before .before .before .pre .5 .1)
+takes : (c : tie.After-take-off) → Takes (treeUnit (c .before .before .before .before .before .args .n)) (c .before .before .before .before .before .args .item) (c .before .before .before .before .before .args .stack) (c .take-off .result)
+takes c = c .take-off .ensures _ (c .before .before .before .before .before .pre .5)
 
 early : (c : tie.After-take-off) → c .take-off .result .below ≤ 18
-early c = takes-early (c .before .before .before .before .before .pre .5 .1) (omega (arith, c .before .before .before .before .before .pre .4)) (takes c)
+early c = takes-early (c .before .before .before .before .before .pre .4) (takes c)
 
 starts : (c : tie.After-take-off) → c .take-off .result .start ≤ 18 * treeUnit (c .before .before .before .before .before .args .n)
 starts c = starts-early (takes c .totals) (early c)
@@ -86,8 +86,8 @@ returns c =
     let I = c .before .before .before .before .before .operate in
     let h : q .start ≤ length (a .work .now) = omega (arith, starts (c .before .before .before .before .before .before .before .before .before), P .1) in
     let kept : length (I .last .1 .0) ≡ length (take (length (a .work .now) - q .start) (drop (q .start) (a .work .now))) = I .kept .1 .0 in
-    goes-operator (a .n) (a .op) (a .links .now) (a .used .now) (a .work .now) (I .last .1 .0) (a .stack) q (I .result) (c .bounded .result) (P .4) (P .0) (P .1)
-    (takes (c .before .before .before .before .before .before .before .before .before)) h (c .bounded .ensures .0) (c .bounded .ensures .1) kept (length (a .rows .now)) (P .3) (I .ensures) (P .2) (early (c .before .before .before .before .before .before .before .before .before)) (P .5 .1)
+    goes-operator (a .n) (a .item) (a .links .now) (a .used .now) (a .work .now) (I .last .1 .0) (a .stack) q (I .result) (c .bounded .result) (P .0) (P .1)
+    (takes (c .before .before .before .before .before .before .before .before .before)) h (c .bounded .ensures .0) (c .bounded .ensures .1) kept (length (a .rows .now)) (P .3) (I .ensures) (P .2) (early (c .before .before .before .before .before .before .before .before .before)) (P .5 .slots)
 
 pub operator-spec : {M : Type 1} → statement M
 operator-spec =

@@ -1,8 +1,9 @@
 -- `run` runs all numbers but the last, and leaves the value of the last in rows. Assumes nothing.
 use native.Mathlib.Omega.{arith}
-use mathlib.Core.Path.{_≡_, _∙_}
+use mathlib.Core.Path.{_≡_, sym, _∙_}
+use Prim.Native.Nat.{_≤_}
 use lib.ListN.{length}
-use Rattle.pairs.proofs.Running.{coded-some, going-last, going-ends}
+use Rattle.pairs.proofs.Running.{coded-some, going-ready, going-ends}
 use borrow.Author.Needs.{needs}
 use Rattle.pairs.proofs.run.Statement.{statement}
 use Rattle.pairs.proofs.run.Tie as tie
@@ -15,23 +16,32 @@ use Rattle.pairs.proofs.last.Reads as last-reads
 evaluate-requires : tie.Need-evaluate-requires
 evaluate-requires c κs = search needs
 
--- src/lib.rt:297:50
-sub-last : tie.Need-sub-last
-sub-last c = coded-some (c .before .before .before .before .before .before .before .before .before .before .before .before .before .before .args .n) (c .before .before .before .before .before .before .before .before .before .before .before .before .before .before .args .links .now) (c .before .before .before .before .before .before .before .before .before .before .before .before .before .before .args .used .now) _ (c .before .before .before .before .before .before .before .before .before .before .before .before .before .before .pre .4 .2)
+-- the code has a number
+some : (c : tie.Start) → 1 ≤ length (c .args .code .now)
+some c = coded-some (c .args .n) (c .args .links .now) (c .args .used .now) _ (c .pre .4 .2)
 
--- src/lib.rt:297:45
-shared-slice-read-last : tie.Need-shared-slice-read-last
-shared-slice-read-last c = omega (arith, coded-some (c .before .before .before .before .before .before .before .before .before .before .before .before .before .before .before .args .n) (c .before .before .before .before .before .before .before .before .before .before .before .before .before .before .before .args .links .now) (c .before .before .before .before .before .before .before .before .before .before .before .before .before .before .before .args .used .now) _ (c .before .before .before .before .before .before .before .before .before .before .before .before .before .before .before .pre .4 .2))
+sub-item-of : tie.Need-sub-item-of
+sub-item-of c = some (c .before .before .before .before .before .before .before .before .before .before .before .before)
 
--- src/lib.rt:297:5
+mul-item-of : tie.Need-mul-item-of
+mul-item-of c = omega (arith, some (c .before .before .before .before .before .before .before .before .before .before .before .before))
+
+shared-slice-read-item-of : tie.Need-shared-slice-read-item-of
+shared-slice-read-item-of c = omega (arith, some (c .before .before .before .before .before .before .before .before .before .before .before .before .before))
+
+item-of-requires : tie.Need-item-of-requires
+item-of-requires c κs = search needs
+
 last-requires : tie.Need-last-requires
 last-requires c κs =
-    let a = c .before .before .before .before .before .before .before .before .before .before .before .before .before .before .before .args in
-    let P = c .before .before .before .before .before .before .before .before .before .before .before .before .before .before .before .pre in
-    let E = c .before .before .before .before .before .before .before .evaluate in
+    let a = c .before .before .before .before .before .before .before .before .before .before .before .before .before .before .before .before .args in
+    let P = c .before .before .before .before .before .before .before .before .before .before .before .before .before .before .before .before .pre in
+    let E = c .before .before .before .before .before .before .before .before .evaluate in
     let w : length (E .last .0) ≡ length (a .work .now) = E .kept .0 in
     let r : length (E .last .1 .1 .1 .1 .0) ≡ length (a .rows .now) = E .kept .1 .1 .1 .1 .0 in
-    (P .0, omega (arith, P .1), P .2, r ∙ P .3, going-last (a .n) (a .links .now) (a .used .now) _ (coded-some (a .n) (a .links .now) (a .used .now) _ (P .4 .2)) (E .ensures))
+    let h = some (c .before .before .before .before .before .before .before .before .before .before .before .before .before .before .before .before) in
+    let q = going-ready (a .n) (a .links .now) (a .used .now) _ _ (omega arith) (E .ensures) (sym (c .before .before .item-of .ensures)) in
+    (P .0, omega (arith, P .1), P .2, r ∙ P .3, q .0, q .1)
 
 -- src/lib.rt:283:1
 same-length : tie.Need-same-length
@@ -44,17 +54,18 @@ same-length-2 c = search needs
 -- src/lib.rt:283:1
 returns : tie.Need-returns
 returns c =
-    let a = c .before .before .before .before .before .before .before .before .before .before .before .before .before .before .before .before .before .before .args in
-    let P = c .before .before .before .before .before .before .before .before .before .before .before .before .before .before .before .before .before .before .pre in
-    going-ends (a .n) (a .links .now) (a .used .now) _ (coded-some (a .n) (a .links .now) (a .used .now) _ (P .4 .2)) (c .before .before .before .before .before .before .before .before .before .before .evaluate .ensures) (c .before .before .last .ensures)
+    let a = c .before .before .before .before .before .before .before .before .before .before .before .before .before .before .before .before .before .before .before .args in
+    going-ends (a .n) (a .links .now) (a .used .now) _ (some (c .before .before .before .before .before .before .before .before .before .before .before .before .before .before .before .before .before .before .before)) (sym (c .before .before .before .before .before .item-of .ensures)) (c .before .before .before .before .before .before .before .before .before .before .before .evaluate .ensures) (c .before .before .last .ensures)
 
 pub run-spec : {M : Type 1} → statement M
 run-spec =
     tie.close
     (tie.spec
     evaluate-requires
-    sub-last
-    shared-slice-read-last
+    sub-item-of
+    mul-item-of
+    shared-slice-read-item-of
+    item-of-requires
     last-requires
     same-length
     same-length-2

@@ -1,61 +1,72 @@
--- `step` goes by the number: a letter, `^`, an operator. Assumes nothing.
+-- `step` goes by the item: letters, `^`, an operator. Assumes nothing.
+use mathlib.Core.Path.{_≡_, sym, ap, _∙_, subst}
+use Prim.Native.Nat.{_<_, _≤_}
 use native.Mathlib.Omega.{arith}
-use mathlib.Core.Path.{sym, ap, subst, _∙_}
+use lib.ListN.{length}
+use borrow.Author.Needs.{needs}
+use Rattle.reader.specs.declared.items.Item.{Item}
+use Rattle.reader.specs.declared.items.Item.the-variants.{Letters, Inverse}
+use Rattle.reader.specs.Running.{operands}
 use Rattle.tree.specs.declared.operations.Operand.{Operand}
 use Rattle.pairs.specs.declared.Stack.{Stack}
 use Rattle.pairs.specs.Evaluation.{pushed}
 use Rattle.pairs.specs.Steps.{Goes}
-use Rattle.pairs.proofs.Stepping.{before-letter, before-some, goes-letter, goes-inverse}
-use borrow.Author.Needs.{needs}
+use Rattle.pairs.proofs.Stepping.{goes-letters, goes-inverse}
 use Rattle.pairs.proofs.step.Statement.{statement}
 use Rattle.pairs.proofs.step.Tie as tie
-use Rattle.pairs.proofs.step.Reads as reads
-use Rattle.pairs.proofs.step.Lts as lts
-use Rattle.pairs.proofs.inverse.Reads as inverse-reads
-use Rattle.pairs.proofs.letter.Reads as letter-reads
-use Rattle.pairs.proofs.operator.Reads as operator-reads
-use Rattle.pairs.proofs.push.Reads as push-reads
 
--- src/lib.rt:219:28
-letter-requires : tie.Need-letter-requires
-letter-requires c κs = search needs
+enum-known-item : tie.Need-enum-known-item
+enum-known-item c = search needs
 
--- src/lib.rt:219:9
+letters-requires : tie.Need-letters-requires
+letters-requires c κs = search needs
+
+-- there is room for an operand more
+room : (c : tie.After-item) → c .before .before .before .before .before .before .args .stack .count < 19
+room c = let o : operands (c .before .before .before .before .before .before .args .item) ≡ 0 = ap operands (c .item .given .1) in let r = c .before .before .before .before .before .before .pre .4 .room in omega arith
+
 push-requires : tie.Need-push-requires
-push-requires c κs = (before-letter (c .before .before .before .before .before .before .pre .4 .1) (omega arith), c .before .before .before .before .before .before .pre .4 .1 .placed .slots)
+push-requires c κs = (room (c .before .before), c .before .before .before .before .before .before .before .before .pre .5 .slots)
 
--- src/lib.rt:219:9
-returns : tie.Need-returns
-returns c =
-    let a = c .before .before .before .before .before .before .before .args in
-    subst (λ (S : Stack). Goes (a .n) (a .links .now) (a .used .now) (a .op) (a .work .now) (a .work .now) (a .stack) S)
-    (sym (c .push .ensures ∙ ap (λ (o : Operand). pushed o (a .stack .count) (a .stack .end) (a .stack)) (c .before .letter .ensures)))
-    (goes-letter (a .n) (a .op) (a .links .now) (a .used .now) (a .work .now) (a .stack) (c .before .before .if1 .taken) (c .before .before .before .before .before .before .before .pre .4 .1))
+enum-told : tie.Need-enum-told
+enum-told c = search needs
 
--- src/lib.rt:222:9
+-- `^` has an operand
+some : (c : tie.After-enum-told) → (1 ≤ c .before .before .before .before .before .before .args .stack .count) × (c .before .before .before .before .before .before .args .stack .count ≤ 19) × (length (c .before .before .before .before .before .before .args .stack .operands) ≡ 19)
+some c =
+    let o : operands (c .before .before .before .before .before .before .args .item) ≡ 1 = ap operands (c .enum-told .given .1) in
+    let f = c .before .before .before .before .before .before .pre .4 .found in
+    (omega arith, c .before .before .before .before .before .before .pre .4 .few, c .before .before .before .before .before .before .pre .5 .slots)
+
 inverse-requires : tie.Need-inverse-requires
-inverse-requires c κs = let b = before-some (c .before .before .before .before .before .before .pre .4 .1) (omega arith) in (b .0, b .1, c .before .before .before .before .before .before .pre .4 .1 .placed .slots)
+inverse-requires c κs = some c
 
--- src/lib.rt:222:9
-returns-2 : tie.Need-returns-2
-returns-2 c =
-    let a = c .before .before .before .before .before .before .before .args in
-    subst (λ (S : Stack). Goes (a .n) (a .links .now) (a .used .now) (a .op) (a .work .now) (a .work .now) (a .stack) S) (sym (c .inverse .ensures))
-    (goes-inverse (a .n) (a .op) (a .links .now) (a .used .now) (a .work .now) (a .stack) (c .before .if2 .taken) (c .before .before .before .before .before .before .before .pre .4 .1))
-
--- src/lib.rt:224:5
 operator-requires : tie.Need-operator-requires
 operator-requires c κs = search needs
 
--- src/lib.rt:205:1
+returns : tie.Need-returns
+returns c =
+    let a = c .before .before .before .before .before .before .before .before .before .args in
+    let q = c .before .before .before .item .given .0 in
+    subst (λ (y : Item). Goes (a .n) (a .links .now) (a .used .now) y (a .work .now) (a .work .now) (a .stack) (c .push .result)) (sym (c .before .before .before .item .given .1))
+    (subst (λ (S : Stack). Goes (a .n) (a .links .now) (a .used .now) (Letters (q .0) (q .1 .0)) (a .work .now) (a .work .now) (a .stack) S)
+    (sym (c .push .ensures ∙ ap (λ (o : Operand). pushed o (a .stack .count) (a .stack .end) (a .stack)) (c .before .letters .ensures)))
+    (goes-letters (a .n) (q .0) (q .1 .0) (a .links .now) (a .used .now) (a .work .now) (a .stack) (c .before .before .before .before .before .before .before .before .before .pre .5 .slots) (room (c .before .before .before))))
+
+returns-2 : tie.Need-returns-2
+returns-2 c =
+    let a = c .before .before .before .before .before .before .before .args in
+    let h = some (c .before) in
+    subst (λ (y : Item). Goes (a .n) (a .links .now) (a .used .now) y (a .work .now) (a .work .now) (a .stack) (c .inverse .result)) (sym (c .before .enum-told .given .1))
+    (subst (λ (S : Stack). Goes (a .n) (a .links .now) (a .used .now) Inverse (a .work .now) (a .work .now) (a .stack) S) (sym (c .inverse .ensures))
+    (goes-inverse (a .n) (a .links .now) (a .used .now) (a .work .now) (a .stack) (h .0) (h .1) (h .2)))
+
 same-length : tie.Need-same-length
 same-length c = search needs
 
--- src/lib.rt:205:1
 same-length-2 : tie.Need-same-length-2
 same-length-2 c = search needs
 
--- src/lib.rt:205:1
 returns-3 : tie.Need-returns-3
 returns-3 c = search needs
 
@@ -63,12 +74,14 @@ pub step-spec : {M : Type 1} → statement M
 step-spec =
     tie.close
     (tie.spec
-    letter-requires
+    enum-known-item
+    letters-requires
     push-requires
-    returns
+    enum-told
     inverse-requires
-    returns-2
     operator-requires
+    returns
+    returns-2
     same-length
     same-length-2
     returns-3)

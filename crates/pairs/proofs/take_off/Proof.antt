@@ -1,96 +1,134 @@
--- `take_off` finds the operands of its number, which the room for the code has (`before-some`, `before-two`). Assumes nothing.
+-- `take_off` goes by the item: how many operands it takes, and with which operation (`takes-letters`, `takes-inverse`, `takes-one`, `takes-two`). Assumes
+-- nothing.
+use mathlib.Core.Path.{_≡_, sym, ap, _∙_, subst}
+use Prim.Native.Nat.{ℕ, _≤_}
 use native.Mathlib.Omega.{arith}
-use Rattle.pairs.proofs.Stepping.{before-some, before-two, top-within, below-within, takes-inverse, takes-one, takes-two}
 use borrow.Author.Needs.{needs}
+use Rattle.reader.specs.declared.items.Item.{Item}
+use Rattle.reader.specs.Running.{operands}
+use Rattle.tree.specs.declared.operations.Operation.the-variants.{Union, Product, Closure, Optional, Star}
+use Rattle.tree.specs.declared.operations.Operand.{Operand}
+use Rattle.pairs.specs.declared.Stack.{Stack}
+use Rattle.pairs.specs.declared.Taken.{Taken}
+use Rattle.pairs.specs.Evaluation.{takenNone, takenOne, turned}
+use Rattle.pairs.specs.EvaluationLaws.{Unary, of-star, of-plus, of-optional, Binary, of-alternative, of-sequence, unary-one}
+use Rattle.pairs.specs.Steps.{Takes}
+use Rattle.pairs.proofs.Stepping.{has-one, has-turned, has-two, takes-letters, takes-inverse, takes-one, takes-two}
 use Rattle.pairs.proofs.take_off.Statement.{statement}
 use Rattle.pairs.proofs.take_off.Tie as tie
-use Rattle.pairs.proofs.take_off.Reads as reads
-use Rattle.pairs.proofs.take_off.Lts as lts
-use Rattle.pairs.proofs.operation.Reads as operation-reads
-use Rattle.tree.proofs.inverted.Reads as inverted-reads
-use Rattle.tree.proofs.no_operand.Reads as no-operand-reads
 
--- src/lib.rt:106:15
-sub-top : tie.Need-sub-top
-sub-top c = before-some (c .pre .1 .2) (c .pre .0) .0
+enum-known-item : tie.Need-enum-known-item
+enum-known-item c = search needs
 
--- src/lib.rt:107:18
-mul-second : tie.Need-mul-second
-mul-second c = omega (arith, before-some (c .pre .1 .2) (c .pre .0) .1)
-
--- src/lib.rt:107:18
-element-copy-out-second : tie.Need-element-copy-out-second
-element-copy-out-second c = omega (arith, before-some (c .pre .1 .2) (c .pre .0))
-
--- src/lib.rt:108:17
-sub-start : tie.Need-sub-start
-sub-start c = top-within (c .before .before .pre .1 .2) (c .before .before .pre .0)
-
--- src/lib.rt:112:20
 no-operand-requires : tie.Need-no-operand-requires
 no-operand-requires c κs = search needs
 
--- src/lib.rt:113:21
-inverted-requires : tie.Need-inverted-requires
-inverted-requires c κs = search needs
+letters-requires : tie.Need-letters-requires
+letters-requires c κs = search needs
 
--- src/lib.rt:115:9
+enum-told : tie.Need-enum-told
+enum-told c = search needs
+
+-- `^` has an operand
+inverts : (c : tie.After-enum-told) → 1 ≤ operands (c .before .before .args .item)
+inverts c = let o : operands (c .before .before .args .item) ≡ 1 = ap operands (c .enum-told .given .1) in omega arith
+
+inverse-requires : tie.Need-inverse-requires
+inverse-requires c κs = let h = has-one (c .before .before .pre .1 .1) (c .before .before .pre .0) (inverts c) in (h .0, h .1, h .2)
+
+on-one-requires : tie.Need-on-one-requires
+on-one-requires c κs = rw (c .inverse .ensures) (has-turned (c .before .before .before .pre .1 .1) (c .before .before .before .pre .0) (inverts (c .before)))
+
+enum-told-2 : tie.Need-enum-told-2
+enum-told-2 c = search needs
+
+is-star : (c : tie.After-enum-told2) → Unary (c .before .before .args .item) Star
+is-star c = subst (λ (y : Item). Unary y Star) (sym (c .enum-told2 .given .1)) of-star
+
+on-one-requires-2 : tie.Need-on-one-requires-2
+on-one-requires-2 c κs = has-one (c .before .before .pre .1 .1) (c .before .before .pre .0) (let o = unary-one (is-star c) in omega arith)
+
+enum-told-3 : tie.Need-enum-told-3
+enum-told-3 c = search needs
+
+is-plus : (c : tie.After-enum-told3) → Unary (c .before .before .args .item) Closure
+is-plus c = subst (λ (y : Item). Unary y Closure) (sym (c .enum-told3 .given .1)) of-plus
+
+on-one-requires-3 : tie.Need-on-one-requires-3
+on-one-requires-3 c κs = has-one (c .before .before .pre .1 .1) (c .before .before .pre .0) (let o = unary-one (is-plus c) in omega arith)
+
+enum-told-4 : tie.Need-enum-told-4
+enum-told-4 c = search needs
+
+is-optional : (c : tie.After-enum-told4) → Unary (c .before .before .args .item) Optional
+is-optional c = subst (λ (y : Item). Unary y Optional) (sym (c .enum-told4 .given .1)) of-optional
+
+on-one-requires-4 : tie.Need-on-one-requires-4
+on-one-requires-4 c κs = has-one (c .before .before .pre .1 .1) (c .before .before .pre .0) (let o = unary-one (is-optional c) in omega arith)
+
+enum-told-5 : tie.Need-enum-told-5
+enum-told-5 c = search needs
+
+is-alternative : (c : tie.After-enum-told5) → Binary (c .before .before .args .item) Union
+is-alternative c = subst (λ (y : Item). Binary y Union) (sym (c .enum-told5 .given .1)) of-alternative
+
+on-two-requires : tie.Need-on-two-requires
+on-two-requires c κs = has-two (c .before .before .pre .1 .1) (c .before .before .pre .0) (is-alternative c)
+
+enum-told-6 : tie.Need-enum-told-6
+enum-told-6 c = search needs
+
+is-sequence : (c : tie.After-enum-told6) → Binary (c .before .before .args .item) Product
+is-sequence c = subst (λ (y : Item). Binary y Product) (sym (c .enum-told6 .given .1)) of-sequence
+
+on-two-requires-2 : tie.Need-on-two-requires-2
+on-two-requires-2 c κs = has-two (c .before .before .pre .1 .1) (c .before .before .pre .0) (is-sequence c)
+
 returns : tie.Need-returns
-returns c = λ d k R. rw (c .before .no-operand .ensures, c .inverted .ensures) (takes-inverse R (c .before .before .if1 .taken))
+returns c = λ d P. rw (c .before .no-operand .ensures, c .letters .ensures) (takes-letters P (c .before .before .before .before .before .pre .0) _ _ (c .before .before .before .item .given .1))
 
--- src/lib.rt:123:24
-operation-requires : tie.Need-operation-requires
-operation-requires c κs = search needs
-
--- src/lib.rt:124:20
-no-operand-requires-2 : tie.Need-no-operand-requires-2
-no-operand-requires-2 c κs = search needs
-
--- src/lib.rt:127:9
 returns-2 : tie.Need-returns-2
-returns-2 c = λ d k R. rw (c .before .operation .ensures, c .no-operand2 .ensures) (takes-one R (omega (arith, c .before .before .before .before .before .before .pre .0, c .before .before .before .if1 .left)) (c .before .before .if2 .taken))
+returns-2 c = λ d P. rw (c .on-one .ensures, c .before .inverse .ensures) (takes-inverse P (c .before .before .before .before .pre .0) (c .before .before .enum-told .given .1))
 
--- src/lib.rt:133:17
-sub-below : tie.Need-sub-below
-sub-below c = omega (arith, before-two (c .before .before .before .before .pre .1 .2) (omega arith))
-
--- src/lib.rt:134:17
-mul-first : tie.Need-mul-first
-mul-first c = omega (arith, before-two (c .before .before .before .before .pre .1 .2) (omega arith) .1)
-
--- src/lib.rt:134:17
-element-copy-out-first : tie.Need-element-copy-out-first
-element-copy-out-first c = omega (arith, before-two (c .before .before .before .before .pre .1 .2) (omega arith))
-
--- src/lib.rt:136:20
-operation-requires-2 : tie.Need-operation-requires-2
-operation-requires-2 c κs = search needs
-
--- src/lib.rt:142:16
-sub-t12 : tie.Need-sub-t12
-sub-t12 c = below-within (c .before .before .before .before .before .before .before .pre .1 .2) (omega arith)
-
--- src/lib.rt:102:1
 returns-3 : tie.Need-returns-3
-returns-3 c = λ d k R. rw (c .before .operation2 .ensures) (takes-two R (omega arith))
+returns-3 c = λ d P. rw (c .on-one2 .ensures) (takes-one P (c .before .before .before .pre .0) (is-star (c .before)))
+
+returns-4 : tie.Need-returns-4
+returns-4 c = λ d P. rw (c .on-one3 .ensures) (takes-one P (c .before .before .before .pre .0) (is-plus (c .before)))
+
+returns-5 : tie.Need-returns-5
+returns-5 c = λ d P. rw (c .on-one4 .ensures) (takes-one P (c .before .before .before .pre .0) (is-optional (c .before)))
+
+returns-6 : tie.Need-returns-6
+returns-6 c = λ d P. rw (c .on-two .ensures) (takes-two P (c .before .before .before .pre .0) (is-alternative (c .before)))
+
+returns-7 : tie.Need-returns-7
+returns-7 c = λ d P. rw (c .on-two2 .ensures) (takes-two P (c .before .before .before .pre .0) (is-sequence (c .before)))
 
 pub take-off-spec : {M : Type 1} → statement M
 take-off-spec =
     tie.close
     (tie.spec
-    sub-top
-    mul-second
-    element-copy-out-second
-    sub-start
+    enum-known-item
     no-operand-requires
-    inverted-requires
+    letters-requires
+    enum-told
+    inverse-requires
+    on-one-requires
+    enum-told-2
+    on-one-requires-2
+    enum-told-3
+    on-one-requires-3
+    enum-told-4
+    on-one-requires-4
+    enum-told-5
+    on-two-requires
+    enum-told-6
+    on-two-requires-2
     returns
-    operation-requires
-    no-operand-requires-2
     returns-2
-    sub-below
-    mul-first
-    element-copy-out-first
-    operation-requires-2
-    sub-t12
-    returns-3)
+    returns-3
+    returns-4
+    returns-5
+    returns-6
+    returns-7)

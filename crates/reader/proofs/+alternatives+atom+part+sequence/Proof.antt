@@ -30,8 +30,7 @@ pub +alternatives+atom+part+sequence-spec : {M : Type 1} → statement M
     (alternatives.loop-again t) (alternatives.same-length t) (alternatives.returns t))
     (λ t. atom-lts.spec (atom.calls t) (atom-at t) atom-reads.Post
     (atom.peek-requires t) (atom.add-alternatives t) (atom.alternatives-requires t) (atom.closed-requires t) (atom.same-length t)
-    (atom.returns t) (atom.returns-2 t) (atom.returns-3 t) (atom.push-requires t) (atom.add-t15 t) (atom.same-length-2 t)
-    (atom.returns-4 t))
+    (atom.returns t) (atom.symbol-at-requires t) (atom.written-requires t) (atom.same-length-2 t) (atom.returns-2 t))
     (λ t. part-lts.spec (part.calls t) (part-at t) part-reads.Post
     (part.peek-requires t) (part.add-atom t) (part.atom-requires t) (part.mark-after-requires t) (part.wrapped-requires t)
     (part.wrapped-requires-2 t) (part.atom-requires-2 t) (part.mark-after-requires-2 t) (part.wrapped-requires-3 t) (part.same-length t)

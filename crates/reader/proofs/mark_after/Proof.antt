@@ -3,7 +3,7 @@ use mathlib.Core.Path.{_≡_, sym, ap, _∙_}
 use borrow.Author.Needs.{needs}
 use borrow.Author.Tests.{eq-eqb, ne-eqb}
 use Rattle.reader.specs.Code.{op-star, op-plus, op-optional}
-use Rattle.reader.specs.Progress.{markNumber, markOf}
+use Rattle.reader.specs.Progress.{no-mark, markNumber, markOf}
 use Rattle.reader.proofs.mark_after.Statement.{statement}
 use Rattle.reader.proofs.mark_after.Tie as tie
 
@@ -40,7 +40,7 @@ returns-4 c =
 
 returns-5 : tie.Need-returns-5
 returns-5 c =
-    let number : markNumber (c .before .before .before .peek .result) ≡ 0 = rw (ne-eqb _ _ (c .before .before .if1 .left), ne-eqb _ _ (c .before .if2 .left), ne-eqb _ _ (c .if3 .left)) in
+    let number : markNumber (c .before .before .before .peek .result) ≡ no-mark = rw (ne-eqb _ _ (c .before .before .if1 .left), ne-eqb _ _ (c .before .if2 .left), ne-eqb _ _ (c .if3 .left)) in
     sym number ∙ of-byte (c .before .before .before)
 
 pub mark-after-spec : {M : Type 1} → statement M

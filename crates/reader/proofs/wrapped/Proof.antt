@@ -1,4 +1,4 @@
--- `reader::wrapped` meets its contract: one number more, or none if it is 0. Assumes nothing.
+-- `reader::wrapped` meets its contract: one number more, or none if it is no mark's. Assumes nothing.
 use mathlib.Core.Path.{refl}
 use Prim.Native.Nat.{_+_, _<_, _≤_}
 use native.Mathlib.Omega.{arith}
@@ -23,7 +23,7 @@ returns-2 c = rw (c .before .before .r .given .1, eq-eqb _ _ (c .if1 .taken)) (r
 
 -- there is room for the number, and the place fits
 room : (c : tie.Else1) → (c .before .before .r .given .0 .0 .end < length (c .before .before .before .before .before .args .code .now)) × (c .before .before .r .given .0 .0 .at + c .before .before .before .before .before .args .passed ≤ length (c .before .before .before .before .before .args .code .now))
-room c = has-room (c .before .before .before .before .before .args .passed) (c .before .before .r .given .1) (c .before .before .before .before .before .pre) (omega (arith, c .if1 .left))
+room c = has-room (c .before .before .before .before .before .args .passed) (c .before .before .r .given .1) (c .before .before .before .before .before .pre) (c .if1 .left)
 
 push-requires : tie.Need-push-requires
 push-requires c κs = room (c .before) .0

@@ -12,7 +12,7 @@ use Rattle.tables.proofs.joined.Statement.{statement}
 use Rattle.tables.proofs.joined.Tie as tie
 
 abbrev Inv-loop : tie.InvT-loop
-Inv-loop from to r₀ p₀ r p = (p ≤ 64) × (length r ≡ 64) × Joined r₀ from to p r
+Inv-loop from to r₀ p₀ r p = (p ≤ 64) × (length r ≡ 64) × Joined r₀ (digit from) to p r
 
 abbrev μ-loop : tie.MeasureT-loop
 μ-loop from to r₀ p₀ r p = 64 - p
@@ -46,7 +46,7 @@ unfolding digit
 loop-again c =
     let l = c .before .before .loop in
     ⊎-elim
-    (λ w. (omega arith, rw (w .1) (simp length-set (l .inv .1)), rw (w .1) (joined-yes (l .inv .2) (omega (arith, w .0 .taken)) (omega arith))))
+    (λ w. (omega arith, rw (w .1) (simp length-set (l .inv .1)), rw (w .1) (joined-yes (l .inv .2) (omega (arith, w .0 .taken)) (omega arith) (omega arith))))
     (λ w. (omega arith, rw (w .1) (l .inv .1), rw (w .1) (joined-no (l .inv .2) (λ o. omega (arith, w .0 .left)))))
     (c .if1 .came)
 

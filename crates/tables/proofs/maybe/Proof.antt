@@ -3,8 +3,6 @@ use mathlib.Core.Path.{_≡_, refl}
 use native.Mathlib.Omega.{arith}
 use borrow.Author.Needs.{needs}
 use lib.ListN.{length}
-use Rattle.paths.specs.Expressions.{star, optional, letters}
-use Rattle.automaton.specs.Automata.{fragment}
 use Rattle.tables.proofs.BuildLaws.{holds-optional}
 use Rattle.tables.proofs.maybe.Statement.{statement}
 use Rattle.tables.proofs.maybe.Tie as tie
@@ -19,12 +17,9 @@ element-write-r : tie.Need-element-write-r
 element-write-r c = search needs
 
 returns : tie.Need-returns
-unfolding fragment letters
 returns c =
-    let k : length (c .args .b .nullable) ≡ 19 = search needs in (
-      (λ m x st H. holds-optional H (optional x) refl (λ o. refl) (omega arith) refl refl refl refl refl refl refl refl refl),
-      (λ m x st H. holds-optional H (star x) refl (λ o. refl) (omega arith) refl refl refl refl refl refl refl refl refl),
-    )
+    let k : length (c .args .b .nullable) ≡ 19 = search needs in
+    λ m x st H. holds-optional H (omega arith) refl refl refl refl refl refl refl refl refl
 
 pub maybe-spec : {M : Type 1} → statement M
 maybe-spec = tie.close (tie.spec sub-j mul-r element-write-r returns)

@@ -11,22 +11,24 @@ use lib.ListN.{drop, drop-of-length-le, length-replicate}
 use lib.Seq.{drop-cons}
 use Rattle.paths.specs.Expressions.{Expr}
 use Rattle.paths.specs.Verdicts.{InLimits}
-use Rattle.reader.specs.Code.{code}
-use Rattle.reader.specs.Running.{ungrouped}
-use Rattle.tables.specs.Builds.{Next}
-use Rattle.tables.proofs.RunLaws.{next-none, holds-none, zeros-at, at-end, masked, masked-ungrouped}
+use Rattle.reader.specs.Code.{code, value}
+use Rattle.tables.specs.Builds.{parts, Next}
+use Rattle.tables.proofs.RunLaws.{next-none, holds-none, zeros-at, at-end, masked, masked-part}
 use Rattle.tables.proofs.tables_of.Statement.{statement}
 use Rattle.tables.proofs.tables_of.Tie as tie
 
 abbrev Inv-loop : tie.InvT-loop
 Inv-loop numbers b₀ i₀ b i =
-    (i ≤ length numbers) × (length (b .follow) ≡ 64) × ((text : List ℕ) (e : Expr) → InLimits text e → numbers ≡ code e → Next b (drop i numbers) (ungrouped e))
+    (i ≤ length numbers) × (length (b .follow) ≡ 64) × ((text : List ℕ) (e : Expr) → InLimits text e → numbers ≡ code e → Next b (drop i numbers) (value parts e))
 
 abbrev μ-loop : tie.MeasureT-loop
 μ-loop numbers b₀ i₀ b i = length numbers - i
 
 loop-holds : tie.Need-loop-holds Inv-loop μ-loop
 loop-holds c = (omega arith, length-replicate {A = ℕ} 64 0, λ text e L q. next-none L q (holds-none _ _ _ (zeros-at 64) (zeros-at 64) (zeros-at 64) _ _ _ _))
+
+mul-step : tie.Need-mul-step Inv-loop μ-loop
+mul-step c = omega arith
 
 shared-slice-read-step : tie.Need-shared-slice-read-step Inv-loop μ-loop
 shared-slice-read-step c = omega arith
@@ -36,7 +38,7 @@ step-requires c κs =
     let p = c .before .before .before .before .pre in
     let s = c .before .before .before .before .args .numbers .now in
     let l = c .before .before .loop in
-    (drop (suc (l .i)) s, ungrouped (p .1), rw (drop-cons s (l .i) 0 (omega arith)) at (l .inv .2 (p .0) (p .1) (p .2) (p .3)))
+    (drop (suc (l .i)) s, value parts (p .1), rw (drop-cons s (l .i) 0 (omega arith)) at (l .inv .2 (p .0) (p .1) (p .2) (p .3)))
 
 add-i : tie.Need-add-i Inv-loop μ-loop
 add-i c = omega arith
@@ -48,7 +50,7 @@ loop-again : tie.Need-loop-again Inv-loop μ-loop
 loop-again c =
     let s = c .before .before .before .before .before .args .numbers .now in
     let l = c .before .before .before .loop in
-    (omega arith, search needs, λ text e L q. rw add-one (c .step .ensures (drop (suc (l .i)) s) (ungrouped e) (rw (drop-cons s (l .i) 0 (omega arith)) at (l .inv .2 text e L q))))
+    (omega arith, search needs, λ text e L q. rw add-one (c .step .ensures (drop (suc (l .i)) s) (value parts e) (rw (drop-cons s (l .i) 0 (omega arith)) at (l .inv .2 text e L q))))
 
 element-copy-out-first : tie.Need-element-copy-out-first Inv-loop μ-loop
 element-copy-out-first c = omega arith
@@ -71,7 +73,7 @@ returns c =
     let l = c .before .before .before .before .before .before .before .before .loop in
     λ text e L q. (
     let h = at-end (rw (drop-of-length-le s (let z : length s ≤ l .i = omega arith in z)) at (l .inv .2 text e L q)) in
-    masked-ungrouped e (masked {m = h .0} (h .1) (l .inv .1) (c .joined .ensures))
+    masked-part (L .syntax) (masked {m = h .0} (h .1) (l .inv .1) (c .joined .ensures))
     )
 
 pub tables-of-spec : {M : Type 1} → statement M
@@ -81,6 +83,7 @@ tables-of-spec =
     Inv-loop
     μ-loop
     loop-holds
+    mul-step
     shared-slice-read-step
     step-requires
     add-i

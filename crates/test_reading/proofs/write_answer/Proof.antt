@@ -32,8 +32,8 @@ slice-aggregate-write-all-2 c = search needs
 write-all-requires-2 : tie.Need-write-all-requires-2
 write-all-requires-2 c κs = search needs
 
-wide-requires : tie.Need-wide-requires
-wide-requires c κs = search needs
+cast-print-decimal : tie.Need-cast-print-decimal
+cast-print-decimal c = search needs
 
 print-decimal-requires : tie.Need-print-decimal-requires
 print-decimal-requires c κs = search needs
@@ -59,7 +59,7 @@ write-answer-spec =
     enum-known-answer-2
     slice-aggregate-write-all-2
     write-all-requires-2
-    wide-requires
+    cast-print-decimal
     print-decimal-requires
     slice-aggregate-write-all-3
     write-all-requires-3

@@ -1,40 +1,41 @@
--- The needs of `atom`: a group at a (, else a letter, else nothing. Assumes nothing.
+-- The needs of `atom`: a group at a (, else a symbol. Assumes nothing.
 use mathlib.Core.Path.{_≡_, sym, _∙_}
-use mathlib.Core.Logic.{inl, inr}
 use Prim.Native.Nat.{ℕ, _<_}
 use native.Mathlib.Omega.{arith}
 use lib.ListN.{length, drop}
 use borrow.Author.Needs.{needs}
 use Rattle.paths.specs.Grammar.{open-group}
-use Rattle.paths.specs.Descent.{firstByte}
-use Rattle.reader.proofs.Steps.{there, letter-there, no-atom, group-is, read-as, asks-next-byte, fits-after}
+use Rattle.paths.specs.Descent.{firstByte, readAtom}
+use Rattle.reader.specs.Progress.{Stands}
+use Rattle.reader.proofs.Steps.{there, group-is, read-as, asks-next-byte, fits-after, room-for-symbol}
 use Rattle.reader.proofs.+alternatives+atom+part+sequence.Proof.Ranks.{atom-at, alternatives-below}
 use Rattle.reader.proofs.alternatives.Reads as alternatives
 use Rattle.reader.proofs.atom.Reads as atom
 use Rattle.reader.proofs.closed.Reads as closed
-use Rattle.reader.proofs.peek.Reads as peek
-use Rattle.reader.proofs.push.Reads as push
+use Rattle.reader.proofs.symbols.peek.Reads as peek
+use Rattle.reader.proofs.symbols.symbol_at.Reads as symbol-at
+use Rattle.reader.proofs.written.Reads as written
 use Rattle.reader.proofs.+alternatives+atom+part+sequence.Lts-atom as atom-lts
 
 abbrev pub calls : ℕ → atom-lts.Claims
-calls t = (peek.Asked, peek.Learnt, alternatives-below t, alternatives.Post, closed.Asked, closed.Learnt, push.Asked, push.Learnt)
+calls t = (peek.Asked, peek.Learnt, alternatives-below t, alternatives.Post, closed.Asked, closed.Learnt, symbol-at.Asked, symbol-at.Learnt, written.Asked, written.Learnt)
 
 module _ (t : ℕ) where
-  -- the places of the code that a need looks back to, and the way to each: the start; where a ( comes; where a letter comes
+  -- the places of the code that a need looks back to, and the way to each: the start; where a ( comes; a symbol where none does
   abbrev Start : Type 0
   Start = atom-lts.Start (calls t) (atom-at t) atom.Post
 
   abbrev Open : Type 0
   Open = atom-lts.Then1 (calls t) (atom-at t) atom.Post
 
-  abbrev Letter : Type 0
-  Letter = atom-lts.Else3 (calls t) (atom-at t) atom.Post
+  abbrev Symbol : Type 0
+  Symbol = atom-lts.After-symbol-at (calls t) (atom-at t) atom.Post
 
   abbrev start : Open → Start
   start c = c .before .before .before .before
 
-  abbrev start-letter : Letter → Start
-  start-letter c = c .before .before .before .before .before .before
+  abbrev start-symbol : Symbol → Start
+  start-symbol c = c .before .before .before .before .before
 
   -- the ( stands inside the text
   is-open : (c : Open) → firstByte (drop (start c .args .at) (start c .args .s .now)) ≡ open-group
@@ -43,12 +44,9 @@ module _ (t : ℕ) where
   inside : (c : Open) → start c .args .at < length (start c .args .s .now)
   inside c = there (start c .args .s .now) (start c .args .at) open-group (is-open c) (omega arith)
 
-  -- a letter too, so that there is room for its number
-  inside-letter : (c : Letter) → (start-letter c .args .at < length (start-letter c .args .s .now)) × (start-letter c .args .n < length (start-letter c .args .code .now))
-  inside-letter c =
-      let asked = start-letter c .pre .1 in
-      let h = there (start-letter c .args .s .now) (start-letter c .args .at) _ (sym (c .before .before .before .peek .ensures)) (omega (arith, c .before .if2 .left)) in
-      (h, omega arith)
+  -- a symbol where no ( comes
+  stands : (c : Symbol) → Stands (start-symbol c .args .s .now) (start-symbol c .args .at) (readAtom (drop (start-symbol c .args .at) (start-symbol c .args .s .now))) (c .symbol-at .result)
+  stands c = c .symbol-at .ensures (λ e. c .before .if1 .left (c .before .before .peek .ensures ∙ e))
 
   pub peek-requires : atom-lts.Need-peek-requires (calls t) (atom-at t) atom.Post
   peek-requires c κs = search needs
@@ -70,22 +68,14 @@ module _ (t : ℕ) where
       let group = c .before .before .before .before .before in
       read-as (group-is (start group .args .s .now) (start group .args .at) (is-open group)) (c .closed .ensures _ _ _ _ _ (c .before .before .before .alternatives .ensures))
 
-  pub returns-2 : atom-lts.Need-returns-2 (calls t) (atom-at t) atom.Post
-  returns-2 c = no-atom _ (c .before .before .peek .ensures) (c .before .if1 .left) (inl (c .if2 .taken))
+  pub symbol-at-requires : atom-lts.Need-symbol-at-requires (calls t) (atom-at t) atom.Post
+  symbol-at-requires c κs = search needs
 
-  pub returns-3 : atom-lts.Need-returns-3 (calls t) (atom-at t) atom.Post
-  returns-3 c = no-atom _ (c .before .before .before .peek .ensures) (c .before .before .if1 .left) (inr (c .if3 .taken))
-
-  pub push-requires : atom-lts.Need-push-requires (calls t) (atom-at t) atom.Post
-  push-requires c κs = inside-letter (c .before) .1
-
-  pub add-t15 : atom-lts.Need-add-t15 (calls t) (atom-at t) atom.Post
-  add-t15 c = let h = inside-letter (c .before .before .before .before) in omega arith
+  pub written-requires : atom-lts.Need-written-requires (calls t) (atom-at t) atom.Post
+  written-requires c κs = room-for-symbol (start-symbol (c .before) .pre .1) (stands (c .before))
 
   pub same-length-2 : atom-lts.Need-same-length-2 (calls t) (atom-at t) atom.Post
-  same-length-2 c = c .before .before .push .kept .0
+  same-length-2 c = c .before .before .written .kept .0
 
-  pub returns-4 : atom-lts.Need-returns-4 (calls t) (atom-at t) atom.Post
-  returns-4 c =
-      rw (c .before .before .push .ensures .0, c .before .before .push .ensures .1)
-      (letter-there _ (c .before .before .before .before .before .before .before .peek .ensures) (omega (arith, c .before .before .before .before .before .if2 .left)) (omega (arith, c .before .before .before .before .if3 .left)))
+  pub returns-2 : atom-lts.Need-returns-2 (calls t) (atom-at t) atom.Post
+  returns-2 c = c .before .before .written .ensures _ _ _ (stands (c .before .before .before .before))

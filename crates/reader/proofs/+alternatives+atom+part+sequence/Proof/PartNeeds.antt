@@ -12,7 +12,7 @@ use Rattle.reader.proofs.+alternatives+atom+part+sequence.Proof.Ranks.{
 use Rattle.reader.proofs.part.Reads as part
 use Rattle.reader.proofs.atom.Reads as atom
 use Rattle.reader.proofs.mark_after.Reads as mark-after
-use Rattle.reader.proofs.peek.Reads as peek
+use Rattle.reader.proofs.symbols.peek.Reads as peek
 use Rattle.reader.proofs.wrapped.Reads as wrapped
 use Rattle.reader.proofs.+alternatives+atom+part+sequence.Lts-part as part-lts
 

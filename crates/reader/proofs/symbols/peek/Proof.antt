@@ -4,8 +4,8 @@ use lib.ListN.{drop-of-length-le}
 use lib.Seq.{drop-cons}
 use borrow.Author.Needs.{needs}
 use Rattle.paths.specs.Descent.{firstByte}
-use Rattle.reader.proofs.peek.Statement.{statement}
-use Rattle.reader.proofs.peek.Tie as tie
+use Rattle.reader.proofs.symbols.peek.Statement.{statement}
+use Rattle.reader.proofs.symbols.peek.Tie as tie
 
 shared-slice-read-result : tie.Need-shared-slice-read-result
 shared-slice-read-result c = search needs
