@@ -23,28 +23,28 @@ ghost use Rattle.test_trees.specs.Terms.{onTwo, onOne, anyLetter, below}
 // An operation on two trees, with no links. It has rows of its own.
 fn on_trees(
     operation: Operation,
-    la: usize,
+    first_size: usize,
     s: Sense,
-    lb: usize,
+    second_size: usize,
     t: Sense,
     work: &mut [u64],
     n: usize,
     used: &[u64],
 ) -> usize
-    ensures { λ r. ⌜ Operated (onTwo operation la s lb t) n [] (now (used .entry)) 16384 (now (work .entry)) (now (work .exit)) r ⌝ }
+    ensures { λ r. ⌜ Operated (onTwo operation first_size s second_size t) n [] (now (used .entry)) 16384 (now (work .entry)) (now (work .exit)) r ⌝ }
 {
     let links: [u32; 1] = [0; 1];
     let mut rows: [u64; 16384] = [0; 16384];
     let term = Term {
         operation,
         first: Operand {
-            size: la,
+            size: first_size,
             sense: s,
             forward: 0,
             against: 0,
         },
         second: Operand {
-            size: lb,
+            size: second_size,
             sense: t,
             forward: 0,
             against: 0,
@@ -56,28 +56,33 @@ fn on_trees(
 // The same with no record in use.
 fn on_two(
     operation: Operation,
-    la: usize,
+    first_size: usize,
     s: Sense,
-    lb: usize,
+    second_size: usize,
     t: Sense,
     work: &mut [u64],
     n: usize,
 ) -> usize
-    ensures { λ r. ⌜ Operated (onTwo operation la s lb t) n [] (replicate 16 0) 16384 (now (work .entry)) (now (work .exit)) r ⌝ }
+    ensures { λ r. ⌜ Operated (onTwo operation first_size s second_size t) n [] (replicate 16 0) 16384 (now (work .entry)) (now (work .exit)) r ⌝ }
 {
     let used: [u64; 16] = [0; 16];
-    on_trees(operation, la, s, lb, t, work, n, &used)
+    on_trees(operation, first_size, s, second_size, t, work, n, &used)
 }
 
 #[no_mangle]
-pub extern "C" fn tree_union_in(work: &mut [u64], n: usize, la: usize, lb: usize) -> usize
-    ensures { λ r. ⌜ Operated (onTwo Union la Plain lb Plain) n [] (replicate 16 0) 16384 (now (work .entry)) (now (work .exit)) r ⌝ }
+pub extern "C" fn tree_union_in(
+    work: &mut [u64],
+    n: usize,
+    first_size: usize,
+    second_size: usize,
+) -> usize
+    ensures { λ r. ⌜ Operated (onTwo Union first_size Plain second_size Plain) n [] (replicate 16 0) 16384 (now (work .entry)) (now (work .exit)) r ⌝ }
 {
     on_two(
         Operation::Union,
-        la,
+        first_size,
         Sense::Plain,
-        lb,
+        second_size,
         Sense::Plain,
         work,
         n,
@@ -85,14 +90,19 @@ pub extern "C" fn tree_union_in(work: &mut [u64], n: usize, la: usize, lb: usize
 }
 
 #[no_mangle]
-pub extern "C" fn tree_intersection_in(work: &mut [u64], n: usize, la: usize, lb: usize) -> usize
-    ensures { λ r. ⌜ Operated (onTwo Intersection la Plain lb Plain) n [] (replicate 16 0) 16384 (now (work .entry)) (now (work .exit)) r ⌝ }
+pub extern "C" fn tree_intersection_in(
+    work: &mut [u64],
+    n: usize,
+    first_size: usize,
+    second_size: usize,
+) -> usize
+    ensures { λ r. ⌜ Operated (onTwo Intersection first_size Plain second_size Plain) n [] (replicate 16 0) 16384 (now (work .entry)) (now (work .exit)) r ⌝ }
 {
     on_two(
         Operation::Intersection,
-        la,
+        first_size,
         Sense::Plain,
-        lb,
+        second_size,
         Sense::Plain,
         work,
         n,
@@ -100,14 +110,19 @@ pub extern "C" fn tree_intersection_in(work: &mut [u64], n: usize, la: usize, lb
 }
 
 #[no_mangle]
-pub extern "C" fn tree_difference_in(work: &mut [u64], n: usize, la: usize, lb: usize) -> usize
-    ensures { λ r. ⌜ Operated (onTwo Difference la Plain lb Plain) n [] (replicate 16 0) 16384 (now (work .entry)) (now (work .exit)) r ⌝ }
+pub extern "C" fn tree_difference_in(
+    work: &mut [u64],
+    n: usize,
+    first_size: usize,
+    second_size: usize,
+) -> usize
+    ensures { λ r. ⌜ Operated (onTwo Difference first_size Plain second_size Plain) n [] (replicate 16 0) 16384 (now (work .entry)) (now (work .exit)) r ⌝ }
 {
     on_two(
         Operation::Difference,
-        la,
+        first_size,
         Sense::Plain,
-        lb,
+        second_size,
         Sense::Plain,
         work,
         n,
@@ -118,27 +133,27 @@ pub extern "C" fn tree_difference_in(work: &mut [u64], n: usize, la: usize, lb: 
 pub extern "C" fn tree_product_in(
     work: &mut [u64],
     n: usize,
-    la: usize,
-    lb: usize,
-    sa: u8,
-    sb: u8,
+    first_size: usize,
+    second_size: usize,
+    first_sense: u8,
+    second_sense: u8,
 ) -> usize
-    ensures { λ r. ⌜ Operated (onTwo Product la (senseOf sa) lb (senseOf sb)) n [] (replicate 16 0) 16384 (now (work .entry)) (now (work .exit)) r ⌝ }
+    ensures { λ r. ⌜ Operated (onTwo Product first_size (senseOf first_sense) second_size (senseOf second_sense)) n [] (replicate 16 0) 16384 (now (work .entry)) (now (work .exit)) r ⌝ }
 {
-    let s = tree::sense_of(sa);
-    let t = tree::sense_of(sb);
-    on_two(Operation::Product, la, s, lb, t, work, n)
+    let s = tree::sense_of(first_sense);
+    let t = tree::sense_of(second_sense);
+    on_two(Operation::Product, first_size, s, second_size, t, work, n)
 }
 
 #[no_mangle]
-pub extern "C" fn tree_transpose_in(work: &mut [u64], n: usize, la: usize) -> usize
-    ensures { λ r. ⌜ Operated (onOne Union la Inverted) n [] (replicate 16 0) 16384 (now (work .entry)) (now (work .exit)) r ⌝ }
+pub extern "C" fn tree_transpose_in(work: &mut [u64], n: usize, first_size: usize) -> usize
+    ensures { λ r. ⌜ Operated (onOne Union first_size Inverted) n [] (replicate 16 0) 16384 (now (work .entry)) (now (work .exit)) r ⌝ }
 {
     on_two(
         Operation::Union,
         0,
         Sense::Plain,
-        la,
+        first_size,
         Sense::Inverted,
         work,
         n,
@@ -146,14 +161,14 @@ pub extern "C" fn tree_transpose_in(work: &mut [u64], n: usize, la: usize) -> us
 }
 
 #[no_mangle]
-pub extern "C" fn tree_closure_in(work: &mut [u64], n: usize, la: usize) -> usize
-    ensures { λ r. ⌜ Operated (onOne Closure la Plain) n [] (replicate 16 0) 16384 (now (work .entry)) (now (work .exit)) r ⌝ }
+pub extern "C" fn tree_closure_in(work: &mut [u64], n: usize, first_size: usize) -> usize
+    ensures { λ r. ⌜ Operated (onOne Closure first_size Plain) n [] (replicate 16 0) 16384 (now (work .entry)) (now (work .exit)) r ⌝ }
 {
     on_two(
         Operation::Closure,
         0,
         Sense::Plain,
-        la,
+        first_size,
         Sense::Plain,
         work,
         n,
@@ -173,8 +188,8 @@ fn mark(used: &mut [u64], n: usize)
 }
 
 #[no_mangle]
-pub extern "C" fn tree_identity_in(work: &mut [u64], n: usize, la: usize) -> usize
-    ensures { λ r. ⌜ (Roomy n (onOne Optional la Plain) (length (now (work .entry))) → (a : Cells) → IsSet n a → take la (now (work .entry)) ≡ treeWords n a
+pub extern "C" fn tree_identity_in(work: &mut [u64], n: usize, first_size: usize) -> usize
+    ensures { λ r. ⌜ (Roomy n (onOne Optional first_size Plain) (length (now (work .entry))) → (a : Cells) → IsSet n a → take first_size (now (work .entry)) ≡ treeWords n a
         → TreeAt n (union a (identity n)) (now (work .exit)) r) ⌝ }
 {
     if book::MAX_RECORDS < n {
@@ -186,7 +201,7 @@ pub extern "C" fn tree_identity_in(work: &mut [u64], n: usize, la: usize) -> usi
         Operation::Optional,
         0,
         Sense::Plain,
-        la,
+        first_size,
         Sense::Plain,
         work,
         n,
