@@ -23,28 +23,28 @@ ghost use Rattle.test_trees.specs.Terms.{onTwo, onOne, anyLetter, below}
 // An operation on two trees, with no links. It has rows of its own.
 fn on_trees(
     operation: Operation,
-    first_size: usize,
+    left: usize,
     s: Sense,
-    second_size: usize,
+    right: usize,
     t: Sense,
     work: &mut [u64],
     n: usize,
     used: &[u64],
 ) -> usize
-    ensures { λ r. ⌜ Operated (onTwo operation first_size s second_size t) n [] (now (used .entry)) 16384 (now (work .entry)) (now (work .exit)) r ⌝ }
+    ensures { λ r. ⌜ Operated (onTwo operation left s right t) n [] (now (used .entry)) 16384 (now (work .entry)) (now (work .exit)) r ⌝ }
 {
     let links: [u32; 1] = [0; 1];
     let mut rows: [u64; 16384] = [0; 16384];
     let term = Term {
         operation,
         first: Operand {
-            size: first_size,
+            size: left,
             sense: s,
             forward: 0,
             against: 0,
         },
         second: Operand {
-            size: second_size,
+            size: right,
             sense: t,
             forward: 0,
             against: 0,
@@ -56,33 +56,28 @@ fn on_trees(
 // The same with no record in use.
 fn on_two(
     operation: Operation,
-    first_size: usize,
+    left: usize,
     s: Sense,
-    second_size: usize,
+    right: usize,
     t: Sense,
     work: &mut [u64],
     n: usize,
 ) -> usize
-    ensures { λ r. ⌜ Operated (onTwo operation first_size s second_size t) n [] (replicate 16 0) 16384 (now (work .entry)) (now (work .exit)) r ⌝ }
+    ensures { λ r. ⌜ Operated (onTwo operation left s right t) n [] (replicate 16 0) 16384 (now (work .entry)) (now (work .exit)) r ⌝ }
 {
     let used: [u64; 16] = [0; 16];
-    on_trees(operation, first_size, s, second_size, t, work, n, &used)
+    on_trees(operation, left, s, right, t, work, n, &used)
 }
 
 #[no_mangle]
-pub extern "C" fn tree_union_in(
-    work: &mut [u64],
-    n: usize,
-    first_size: usize,
-    second_size: usize,
-) -> usize
-    ensures { λ r. ⌜ Operated (onTwo Union first_size Plain second_size Plain) n [] (replicate 16 0) 16384 (now (work .entry)) (now (work .exit)) r ⌝ }
+pub extern "C" fn tree_union_in(work: &mut [u64], n: usize, left: usize, right: usize) -> usize
+    ensures { λ r. ⌜ Operated (onTwo Union left Plain right Plain) n [] (replicate 16 0) 16384 (now (work .entry)) (now (work .exit)) r ⌝ }
 {
     on_two(
         Operation::Union,
-        first_size,
+        left,
         Sense::Plain,
-        second_size,
+        right,
         Sense::Plain,
         work,
         n,
@@ -93,16 +88,16 @@ pub extern "C" fn tree_union_in(
 pub extern "C" fn tree_intersection_in(
     work: &mut [u64],
     n: usize,
-    first_size: usize,
-    second_size: usize,
+    left: usize,
+    right: usize,
 ) -> usize
-    ensures { λ r. ⌜ Operated (onTwo Intersection first_size Plain second_size Plain) n [] (replicate 16 0) 16384 (now (work .entry)) (now (work .exit)) r ⌝ }
+    ensures { λ r. ⌜ Operated (onTwo Intersection left Plain right Plain) n [] (replicate 16 0) 16384 (now (work .entry)) (now (work .exit)) r ⌝ }
 {
     on_two(
         Operation::Intersection,
-        first_size,
+        left,
         Sense::Plain,
-        second_size,
+        right,
         Sense::Plain,
         work,
         n,
@@ -110,19 +105,14 @@ pub extern "C" fn tree_intersection_in(
 }
 
 #[no_mangle]
-pub extern "C" fn tree_difference_in(
-    work: &mut [u64],
-    n: usize,
-    first_size: usize,
-    second_size: usize,
-) -> usize
-    ensures { λ r. ⌜ Operated (onTwo Difference first_size Plain second_size Plain) n [] (replicate 16 0) 16384 (now (work .entry)) (now (work .exit)) r ⌝ }
+pub extern "C" fn tree_difference_in(work: &mut [u64], n: usize, left: usize, right: usize) -> usize
+    ensures { λ r. ⌜ Operated (onTwo Difference left Plain right Plain) n [] (replicate 16 0) 16384 (now (work .entry)) (now (work .exit)) r ⌝ }
 {
     on_two(
         Operation::Difference,
-        first_size,
+        left,
         Sense::Plain,
-        second_size,
+        right,
         Sense::Plain,
         work,
         n,
@@ -133,27 +123,35 @@ pub extern "C" fn tree_difference_in(
 pub extern "C" fn tree_product_in(
     work: &mut [u64],
     n: usize,
-    first_size: usize,
-    second_size: usize,
-    first_sense: u8,
-    second_sense: u8,
+    left: usize,
+    right: usize,
+    s: u8,
+    t: u8,
 ) -> usize
-    ensures { λ r. ⌜ Operated (onTwo Product first_size (senseOf first_sense) second_size (senseOf second_sense)) n [] (replicate 16 0) 16384 (now (work .entry)) (now (work .exit)) r ⌝ }
+    ensures { λ r. ⌜ Operated (onTwo Product left (senseOf s) right (senseOf t)) n [] (replicate 16 0) 16384 (now (work .entry)) (now (work .exit)) r ⌝ }
 {
-    let s = tree::sense_of(first_sense);
-    let t = tree::sense_of(second_sense);
-    on_two(Operation::Product, first_size, s, second_size, t, work, n)
+    let left_sense = tree::sense_of(s);
+    let right_sense = tree::sense_of(t);
+    on_two(
+        Operation::Product,
+        left,
+        left_sense,
+        right,
+        right_sense,
+        work,
+        n,
+    )
 }
 
 #[no_mangle]
-pub extern "C" fn tree_transpose_in(work: &mut [u64], n: usize, first_size: usize) -> usize
-    ensures { λ r. ⌜ Operated (onOne Union first_size Inverted) n [] (replicate 16 0) 16384 (now (work .entry)) (now (work .exit)) r ⌝ }
+pub extern "C" fn tree_transpose_in(work: &mut [u64], n: usize, left: usize) -> usize
+    ensures { λ r. ⌜ Operated (onOne Union left Inverted) n [] (replicate 16 0) 16384 (now (work .entry)) (now (work .exit)) r ⌝ }
 {
     on_two(
         Operation::Union,
         0,
         Sense::Plain,
-        first_size,
+        left,
         Sense::Inverted,
         work,
         n,
@@ -161,14 +159,14 @@ pub extern "C" fn tree_transpose_in(work: &mut [u64], n: usize, first_size: usiz
 }
 
 #[no_mangle]
-pub extern "C" fn tree_closure_in(work: &mut [u64], n: usize, first_size: usize) -> usize
-    ensures { λ r. ⌜ Operated (onOne Closure first_size Plain) n [] (replicate 16 0) 16384 (now (work .entry)) (now (work .exit)) r ⌝ }
+pub extern "C" fn tree_closure_in(work: &mut [u64], n: usize, left: usize) -> usize
+    ensures { λ r. ⌜ Operated (onOne Closure left Plain) n [] (replicate 16 0) 16384 (now (work .entry)) (now (work .exit)) r ⌝ }
 {
     on_two(
         Operation::Closure,
         0,
         Sense::Plain,
-        first_size,
+        left,
         Sense::Plain,
         work,
         n,
@@ -188,8 +186,8 @@ fn mark(used: &mut [u64], n: usize)
 }
 
 #[no_mangle]
-pub extern "C" fn tree_identity_in(work: &mut [u64], n: usize, first_size: usize) -> usize
-    ensures { λ r. ⌜ (Roomy n (onOne Optional first_size Plain) (length (now (work .entry))) → (a : Cells) → IsSet n a → take first_size (now (work .entry)) ≡ treeWords n a
+pub extern "C" fn tree_identity_in(work: &mut [u64], n: usize, left: usize) -> usize
+    ensures { λ r. ⌜ (Roomy n (onOne Optional left Plain) (length (now (work .entry))) → (a : Cells) → IsSet n a → take left (now (work .entry)) ≡ treeWords n a
         → TreeAt n (union a (identity n)) (now (work .exit)) r) ⌝ }
 {
     if book::MAX_RECORDS < n {
@@ -201,7 +199,7 @@ pub extern "C" fn tree_identity_in(work: &mut [u64], n: usize, first_size: usize
         Operation::Optional,
         0,
         Sense::Plain,
-        first_size,
+        left,
         Sense::Plain,
         work,
         n,
