@@ -59,7 +59,8 @@ module _ {r : Register} {c : Call} {o : Outcome} (s : Steps r c o) where
   module _ (text : List ℕ) (work : ℕ) (before : List ℕ) where
     refused-outcome : (k : ℕ) → o .answer ≡ Turned-down k → (b : Book) → Represents r b → previewAnswer b c (verdict text) work (length before) ≡ refused k
     unfolding previewAnswer
-    refused-outcome k e b R = rw (refused-as k e b R) (unless-refused k (pairsAnswer (next b c) (verdict text) work (length before)) (caused-positive (s .caused k e)))
+    refused-outcome k e b R =
+        rw (refused-as k e b R) (unless-refused k (pairsAnswer (next b c) (verdict text) work (length before)) (caused-positive (s .caused k e)))
 
     accepted-outcome : o .answer ≡ Done → (b : Book) → Represents r b
         → previewAnswer b c (verdict text) work (length before) ≡ pairsAnswer (next b c) (verdict text) work (length before)

@@ -76,8 +76,8 @@ module _ {p q : Register} {b c : Book} (P : Represents p b) (Q : Represents q c)
   graphs : asked b ≡ asked c
   graphs = same-graph b c (A .size) (A .links) (A .withdrawn)
 
-  pairs-alike : (v : Verdict) (work : ℕ) (before after after′ : List ℕ) (a a′ : PairsAnswer) → BookPairs b v work before after a → BookPairs c v work before after′ a′
-      → (a ≡ a′) × (after ≡ after′)
+  pairs-alike : (v : Verdict) (work : ℕ) (before after after′ : List ℕ) (a a′ : PairsAnswer) → BookPairs b v work before after a
+      → BookPairs c v work before after′ a′ → (a ≡ a′) × (after ≡ after′)
   pairs-alike v work before after after′ a a′ B C =
       let o = same-pairs b c (A .size) graphs v work (length before) in
       (tells-only o (B .tells) (C .tells), B .list ∙ ap (λ (u : Question·Outcome). listAfter u before) o ∙ sym (C .list))
@@ -91,7 +91,8 @@ module _ {p q : Register} {b c : Book} (P : Represents p b) (Q : Represents q c)
       let n = C .answers c Q t (subst (λ (g : Graph). ReplyTo g (verdict text) x y t) graphs (r .1)) in
       let o = same-chain b c (A .size) x y (verdict text) t work (length before) in
       let l : after ≡ after′ = m .1 ∙ ap (λ (u : Question·Outcome). listAfter u before) o ∙ sym (n .1) in
-      let h : length before ≤ length after = subst (λ (u : List ℕ). length before ≤ length u) (sym (m .1)) (list-long (chainAnswer b x y (verdict text) t work (length before)) before) in
+      let j = list-long (chainAnswer b x y (verdict text) t work (length before)) before in
+      let h : length before ≤ length after = subst (λ (u : List ℕ). length before ≤ length u) (sym (m .1)) j in
       let f = B .fits in
       let g = C .fits in
       (outcome-tell a a′ after (omega arith) (omega arith) (m .0 ∙ o ∙ sym (n .0) ∙ ap (outcomeOf a′) (sym l)), l)
