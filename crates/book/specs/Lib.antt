@@ -7,3 +7,5 @@ pub mod SetLaws
 pub mod BookLaws
 pub mod TotalLaws
 pub mod BookCases
+pub mod Orders
+pub mod OrderLaws

@@ -3,3 +3,5 @@ pub mod DemandLaws
 pub mod Inquiries
 pub mod Previews
 pub mod PreviewLaws
+pub mod TwoPeople
+pub mod TwoPeopleLaws

@@ -1,5 +1,6 @@
 -- Laws of previews.
 --   tells-only      an outcome is told by one answer
+--   accepted-as     an accepted call is accepted by every book that the register represents
 --   preview-refused a refused call's number, with the list as it was, is what a preview promises
 --   preview-asked   what the question gives on the register that an accepted call hands back is what a preview promises
 --   preview-same    a preview gives what the question gives on the register that the call hands back: of an accepted call the same answer and the same list;
@@ -52,13 +53,14 @@ module _ {r : Register} {c : Call} {o : Outcome} (s : Steps r c o) where
   refused-as : (k : ℕ) → o .answer ≡ Turned-down k → (b : Book) → Represents r b → answer b c ≡ k
   refused-as k e b R = sym (ap answerNumber (sym e ∙ s .answers b R) ∙ number-answer (answer b c))
 
-  accepted-as : o .answer ≡ Done → (b : Book) → Represents r b → answer b c ≡ 0
+  pub accepted-as : o .answer ≡ Done → (b : Book) → Represents r b → answer b c ≡ 0
   accepted-as e b R = sym (ap answerNumber (sym e ∙ s .answers b R) ∙ number-answer (answer b c))
 
   module _ (text : List ℕ) (work : ℕ) (before : List ℕ) where
     refused-outcome : (k : ℕ) → o .answer ≡ Turned-down k → (b : Book) → Represents r b → previewAnswer b c (verdict text) work (length before) ≡ refused k
     unfolding previewAnswer
-    refused-outcome k e b R = rw (refused-as k e b R) (unless-refused k (pairsAnswer (next b c) (verdict text) work (length before)) (caused-positive (s .caused k e)))
+    refused-outcome k e b R =
+        rw (refused-as k e b R) (unless-refused k (pairsAnswer (next b c) (verdict text) work (length before)) (caused-positive (s .caused k e)))
 
     accepted-outcome : o .answer ≡ Done → (b : Book) → Represents r b
         → previewAnswer b c (verdict text) work (length before) ≡ pairsAnswer (next b c) (verdict text) work (length before)

@@ -16,3 +16,4 @@ pub mod RelationLaws
 pub mod PairLaws
 pub mod Acceptance
 pub mod FirstChain
+pub mod GraphLaws

@@ -1,6 +1,7 @@
 //! Random histories: each edit's answer, then what the register holds, then questions.
 
 pub mod previews;
+pub mod two_people;
 
 use crate::engine::Answer;
 use crate::run::{Run, Size};

@@ -1,4 +1,6 @@
 -- `engine::previews::preview` meets its contract: a refused edit by `preview-refused`, an accepted one by `preview-asked`. Assumes nothing.
+use mathlib.Core.Path.{_≡_}
+use native.Mathlib.Omega.{arith}
 use borrow.Author.Needs.{needs}
 use Rattle.engine.specs.PreviewLaws.{preview-refused, preview-asked}
 use Rattle.engine.proofs.previews.preview.Statement.{statement}
@@ -11,7 +13,9 @@ number-of-requires : tie.Need-number-of-requires
 number-of-requires c κs = search needs
 
 returns : tie.Need-returns
-returns c = preview-refused (c .before .before .apply .ensures) _ _ _ _ (c .before .number-of .ensures) (c .if1 .taken)
+returns c =
+    let refused : c .before .number-of .result ≡ 0 → ⊥ = λ z. omega arith in
+    preview-refused (c .before .before .apply .ensures) _ _ _ _ (c .before .number-of .ensures) refused
 
 pairs-requires : tie.Need-pairs-requires
 pairs-requires c κs = search needs
@@ -23,7 +27,10 @@ same-length-2 : tie.Need-same-length-2
 same-length-2 c = search needs
 
 returns-2 : tie.Need-returns-2
-returns-2 c = preview-asked (c .before .before .before .before .before .before .before .before .before .before .apply .ensures) _ _ _ _ (c .before .before .before .before .before .before .before .before .before .number-of .ensures) (c .before .before .before .before .before .before .before .before .if1 .left) (c .before .before .before .before .pairs .ensures)
+returns-2 c =
+    let number = c .before .before .before .before .before .before .before .before .before .number-of in
+    let accepted : c .before .before .before .before .before .before .before .before .before .number-of .result ≡ 0 = omega arith in
+    preview-asked (c .before .before .before .before .before .before .before .before .before .before .apply .ensures) _ _ _ _ (number .ensures) accepted (c .before .before .before .before .pairs .ensures)
 
 pub preview-spec : {M : Type 1} → statement M
 preview-spec =
