@@ -4,6 +4,8 @@ pub mod Book
 pub mod Sheets
 pub mod ListLaws
 pub mod SetLaws
+pub mod RankLaws
+pub mod CloseLaws
 pub mod BookLaws
 pub mod TotalLaws
 pub mod BookCases
