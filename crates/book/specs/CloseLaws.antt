@@ -1,18 +1,18 @@
 -- Laws of closing up: the ends of links and the locked records are in use, the closed sheet fits, the totals stay, and an undo straight after finds none held.
 -- Assumes nothing.
-use mathlib.Core.Path.{_≡_, refl, sym, ap, _∙_, subst}
+use mathlib.Core.Path.{_≡_, refl, ap, subst}
 use mathlib.Core.List.{List, [], _∷_, map}
 use mathlib.Core.Bool.{Bool, true, false, not, _&&_, false≢true}
-use Prim.Native.Nat.{ℕ, zero, suc, _+_, _<_}
+use Prim.Native.Nat.{ℕ, zero, suc, _<_}
 use native.Mathlib.Omega.{arith}
 use lib.ListN.{length}
 use lib.Dec.{ltb, eqb}
 use borrow.Author.Tests.{ltb-true, lt-ltb}
-use Rattle.book.specs.Basics.{bit, has, tally}
+use Rattle.book.specs.Basics.{has, tally}
 use Rattle.book.specs.Causes.{none-held, number}
 use Rattle.book.specs.Book.{Link, sameLink, Sheet, Book, undo, close, present, isLocked, isWithdrawn, used, rank, renamedLink, closedSheet, closeAnswer, closed, undoAnswer, total, answer, next}
 use Rattle.book.specs.Sheets.{Distinct, Proper, Fit}
-use Rattle.book.specs.SetLaws.{eqb-test, sameLink-test, link-is, and-both, map-has, distinct-map}
+use Rattle.book.specs.SetLaws.{eqb-test, sameLink-test, link-is, and-both, has-map, map-has, distinct-map}
 use Rattle.book.specs.RankLaws.{rank-less, rank-apart}
 
 -- ---- records in use
@@ -34,6 +34,11 @@ length-map f [] = refl
 length-map f (x ∷ l) = ap suc (length-map f l)
 
 -- ---- the closed sheet
+-- a locked record's new number is locked
+pub closed-locked : (f : ℕ → ℕ) (s : Sheet) (r : ℕ) → isLocked s r ≡ true → isLocked (closedSheet f s) (f r) ≡ true
+unfolding closedSheet
+closed-locked f s r l = has-map eqb-test f r (s .locks) l
+
 pub closed-fit : (n : ℕ) (s : Sheet) → Fit n s → Fit (rank (used n s) n) (closedSheet (rank (used n s)) s)
 unfolding closedSheet has Distinct
 closed-fit n s f = record {
@@ -74,7 +79,7 @@ unfolding tally
 tally-map f t h [] = refl
 tally-map f t h (x ∷ l) = rw (h x, tally-map f t h l)
 
-closed-total : (f : ℕ → ℕ) (s : Sheet) (l : ℕ) → total (closedSheet f s) l ≡ total s l
+pub closed-total : (f : ℕ → ℕ) (s : Sheet) (l : ℕ) → total (closedSheet f s) l ≡ total s l
 unfolding total closedSheet
 closed-total f s l = tally-map (renamedLink f) (λ k. eqb (k .label) l) (λ k. refl) (s .links)
 

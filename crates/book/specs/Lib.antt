@@ -7,5 +7,6 @@ pub mod SetLaws
 pub mod RankLaws
 pub mod CloseLaws
 pub mod BookLaws
+pub mod GivenLaws
 pub mod TotalLaws
 pub mod BookCases

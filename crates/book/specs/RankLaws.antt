@@ -1,7 +1,7 @@
 -- Laws of ranks: the rank grows with the record, tells the records apart that pass the test, and every number below the count is the rank of one of them.
 --   nth u n i       of the records below n that pass the test u, the one whose rank is i
 -- Assumes nothing.
-use mathlib.Core.Path.{_≡_, refl, sym, ap, _∙_}
+use mathlib.Core.Path.{_≡_, refl, sym, ap, ap₂, _∙_}
 use mathlib.Core.Bool.{Bool, true, false, true≢false}
 use Prim.Native.Nat.{ℕ, zero, suc, _≤_, _<_}
 use native.Mathlib.Omega.{arith}
@@ -79,3 +79,9 @@ module _ (u : ℕ → Bool) where
   -- two records that pass the test have two ranks
   pub rank-apart : (n x y : ℕ) → u x ≡ true → u y ≡ true → x < n → y < n → rank u x ≡ rank u y → x ≡ y
   rank-apart n x y p q h l e = sym (nth-rank n x p h) ∙ ap (nth n) e ∙ nth-rank n y q l
+
+-- the rank is of the tests below
+pub rank-same : (u v : ℕ → Bool) (n : ℕ) → ((x : ℕ) → x < n → u x ≡ v x) → (x : ℕ) → x ≤ n → rank u x ≡ rank v x
+unfolding rank
+rank-same u v n h zero l = refl
+rank-same u v n h (suc x) l = ap₂ (λ (t : Bool) (k : ℕ). pick t (suc k) k) (h x (omega arith)) (rank-same u v n h x (omega arith))
