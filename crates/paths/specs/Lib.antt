@@ -16,3 +16,6 @@ pub mod RelationLaws
 pub mod PairLaws
 pub mod Acceptance
 pub mod FirstChain
+pub mod Renaming
+pub mod RenamingLaws
+pub mod ClosingLaws
