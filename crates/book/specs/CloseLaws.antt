@@ -1,18 +1,18 @@
 -- Laws of closing up: the ends of links and the locked records are in use, the closed sheet fits, the totals stay, and an undo straight after finds none held.
 -- Assumes nothing.
 use mathlib.Core.Path.{_≡_, refl, ap, subst}
-use mathlib.Core.List.{List, [], _∷_, map}
-use mathlib.Core.Bool.{Bool, true, false, not, _&&_, false≢true}
+use mathlib.Core.Bool.{Bool, true, false, not, false≢true}
 use Prim.Native.Nat.{ℕ, zero, suc, _<_}
 use native.Mathlib.Omega.{arith}
-use lib.ListN.{length}
 use lib.Dec.{ltb, eqb}
 use borrow.Author.Tests.{ltb-true, lt-ltb}
-use Rattle.book.specs.Basics.{has, tally}
+use Rattle.book.specs.Basics.{has}
 use Rattle.book.specs.Causes.{none-held, number}
-use Rattle.book.specs.Book.{Link, sameLink, Sheet, Book, undo, close, present, isLocked, isWithdrawn, used, rank, renamedLink, closedSheet, closeAnswer, closed, undoAnswer, total, answer, next}
+use Rattle.book.specs.Book.{Link, Sheet, Book, undo, close, present, isLocked, isWithdrawn, used, rank, renamedLink, closedSheet, closeAnswer, closed, undoAnswer, total, answer, next}
 use Rattle.book.specs.Sheets.{Distinct, Proper, Fit}
 use Rattle.book.specs.SetLaws.{eqb-test, sameLink-test, link-is, and-both, has-map, map-has, distinct-map}
+use Rattle.book.specs.ListLaws.{length-map}
+use Rattle.book.specs.TotalLaws.{tally-map}
 use Rattle.book.specs.RankLaws.{rank-less, rank-apart}
 
 -- ---- records in use
@@ -28,10 +28,6 @@ lock-used n s f r p = rw (lt-ltb r n (f .locks r p), f .free r p)
 -- two records in use have two new numbers
 pub used-apart : (n : ℕ) (s : Sheet) (x y : ℕ) → used n s x ≡ true → used n s y ≡ true → rank (used n s) x ≡ rank (used n s) y → x ≡ y
 used-apart n s x y p q = rank-apart (used n s) n x y p q (used-below n s x p) (used-below n s y q)
-
-length-map : {A B : Type 0} (f : A → B) (l : List A) → length (map f l) ≡ length l
-length-map f [] = refl
-length-map f (x ∷ l) = ap suc (length-map f l)
 
 -- ---- the closed sheet
 -- a locked record's new number is locked
@@ -74,14 +70,9 @@ pub close-then-undo : (b : Book) (room : ℕ) → answer b (close room) ≡ 0 �
 unfolding answer next closed undoAnswer
 close-then-undo b room e = ap (λ (k : ℕ). undoAnswer (closed k b .pile)) e
 
-tally-map : {A : Type 0} (f : A → A) (t : A → Bool) → ((x : A) → t (f x) ≡ t x) → (l : List A) → tally t (map f l) ≡ tally t l
-unfolding tally
-tally-map f t h [] = refl
-tally-map f t h (x ∷ l) = rw (h x, tally-map f t h l)
-
 pub closed-total : (f : ℕ → ℕ) (s : Sheet) (l : ℕ) → total (closedSheet f s) l ≡ total s l
 unfolding total closedSheet
-closed-total f s l = tally-map (renamedLink f) (λ k. eqb (k .label) l) (λ k. refl) (s .links)
+closed-total f s l = tally-map (λ k. eqb (k .label) l) (renamedLink f) (s .links) (λ k i. refl)
 
 -- the total of every label stays, whatever the answer
 pub close-total : (b : Book) (room l : ℕ) → total (next b (close room) .sheet) l ≡ total (b .sheet) l

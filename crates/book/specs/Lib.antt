@@ -4,9 +4,9 @@ pub mod Book
 pub mod Sheets
 pub mod ListLaws
 pub mod SetLaws
+pub mod TotalLaws
 pub mod RankLaws
 pub mod CloseLaws
 pub mod BookLaws
 pub mod GivenLaws
-pub mod TotalLaws
 pub mod BookCases

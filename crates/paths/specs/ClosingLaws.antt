@@ -15,6 +15,7 @@ use borrow.Author.Tests.{lt-ltb, le-ltb, lt-leb}
 use Rattle.book.specs.Basics.{has}
 use Rattle.book.specs.Causes.{short-work, firstNumber}
 use Rattle.book.specs.Book.{Link, Book, close, present, used, rank, renamedLink, closedSheet, closed, answer, next}
+use Rattle.book.specs.ListLaws.{length-map}
 use Rattle.book.specs.SetLaws.{sameLink-test, has-map, map-has}
 use Rattle.book.specs.Sheets.{Sound}
 use Rattle.book.specs.CloseLaws.{used-below, link-used, closed-fit}
@@ -31,10 +32,6 @@ use Rattle.paths.specs.Renaming.{renamedPair, renamedStep, renamedReply,
 use Rattle.paths.specs.RenamingLaws.{Renames, reply-renamed, none-back, pairs-renamed}
 
 -- ---- lists and outcomes renamed
-length-map : (f : ℕ → ℕ) (l : List ℕ) → length (map f l) ≡ length l
-length-map f [] = refl
-length-map f (x ∷ l) = ap suc (length-map f l)
-
 take-map : (f : ℕ → ℕ) (k : ℕ) (l : List ℕ) → take k (map f l) ≡ map f (take k l)
 take-map f zero l = refl
 take-map f (suc k) [] = refl

@@ -48,7 +48,7 @@ kind-none k f l t a b c d e g h =
     rw (ne-eqb k addKind a, ne-eqb k removeKind b, ne-eqb k lockKind c, ne-eqb k unlockKind d, ne-eqb k undoKind e, ne-eqb k withdrawKind g, ne-eqb k reinstateKind h)
 
 -- ---- one word more
-set-next : (told old : List ℕ) (i a : ℕ) → length told ≡ i → i < length old → set (told ++ drop i old) i a ≡ (told ++ (a ∷ [])) ++ drop (suc i) old
+pub set-next : (told old : List ℕ) (i a : ℕ) → length told ≡ i → i < length old → set (told ++ drop i old) i a ≡ (told ++ (a ∷ [])) ++ drop (suc i) old
 set-next told old i a e h = rw (drop-cons old i 0 h) (set-at told (getD old i 0) (drop (suc i) old) a i e ∙ sym (append-assoc told (a ∷ []) (drop (suc i) old)))
 
 module _ (b : Book) (ws : List ℕ) (i : ℕ) (h : i < length ws) where

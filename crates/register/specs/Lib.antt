@@ -9,7 +9,9 @@ pub mod Questions
 pub mod Lookups
 pub mod Words
 pub mod Inner
+pub mod Closing
 pub mod MarkLaws
 pub mod LinkLaws
 pub mod HistoryLaws
+pub mod LaidLaws
 pub mod WordLaws
