@@ -229,7 +229,7 @@ module _ {self : Register} {b : Book} (h : Represents self b) {r : Register} (c 
   abbrev ws : List ℕ
   ws = take (self .count) (self .links)
 
-  shut : Sheet
+  abbrev shut : Sheet
   shut = closedSheet (rank u) (b .sheet)
 
   -- a word of the register is that of a link whose ends are in use

@@ -34,9 +34,9 @@ givens-append b (close room ∷ cs) ds = ap (λ (l : List (List ℕ)). given b (
 pub length-givens : (b : Book) (cs : List Call) → length (givens b cs) ≡ closings cs
 unfolding givens tally isClose
 length-givens b [] = refl
-length-givens b (edit a ∷ cs) = length-givens (next b (edit a)) cs
-length-givens b (undo ∷ cs) = length-givens (next b undo) cs
-length-givens b (close room ∷ cs) = ap suc (length-givens (next b (close room)) cs)
+length-givens b (edit a ∷ cs) = omega (arith, length-givens (next b (edit a)) cs)
+length-givens b (undo ∷ cs) = omega (arith, length-givens (next b undo) cs)
+length-givens b (close room ∷ cs) = omega (arith, length-givens (next b (close room)) cs)
 
 -- none is longer than a register has records
 pub givens-short : (b : Book) (cs : List Call) → Sound b → All (λ g. length g ≤ maxRecords) (givens b cs)
@@ -44,7 +44,7 @@ unfolding givens
 givens-short b [] o = all-none
 givens-short b (edit a ∷ cs) o = givens-short (next b (edit a)) cs (next-sound b (edit a) o)
 givens-short b (undo ∷ cs) o = givens-short (next b undo) cs (next-sound b undo o)
-givens-short b (close room ∷ cs) o = all-more (omega (arith, given-length b room .0, o .small)) (givens-short (next b (close room)) cs (next-sound b (close room) o))
+givens-short b (close room ∷ cs) o = all-more {x = given b (close room)} (omega (arith, given-length b room .0, o .small)) (givens-short (next b (close room)) cs (next-sound b (close room) o))
 
 -- ---- a list written over a front
 length-over : (g l : List ℕ) → length g ≤ length l → length (over g l) ≡ length l

@@ -1,65 +1,86 @@
+-- `register::closing::tell` meets its contract. The loop's invariant: the numbers of the first i records stand, and then what stood there. The measure is the
+-- records left. Assumes nothing.
+use mathlib.Core.Path.{_≡_, refl, sym, ap, _∙_}
+use mathlib.Core.Logic.{⊎-elim}
+use mathlib.Core.List.{_++_}
+use mathlib.Core.Bool.{Bool, not}
+use Prim.Native.Nat.{ℕ, _-_, _≤_}
+use native.Mathlib.Omega.{arith}
+use borrow.Author.Needs.{needs}
+use lib.ListN.{length, drop, getD, length-set}
+use borrow.Author.Tests.{eq-eqb, ne-eqb}
+use Rattle.book.specs.Basics.{pick}
+use Rattle.book.specs.Book.{rank, noNumber, newNumbers}
+use Rattle.book.specs.RankLaws.{rank-le}
+use Rattle.register.specs.Marks.{withdrawnMark}
+use Rattle.register.specs.Closing.{inUse}
+use Rattle.register.proofs.Renumbering.{told-more, told-all}
 use Rattle.register.proofs.closing.tell.Statement.{statement}
 use Rattle.register.proofs.closing.tell.Tie as tie
-use Rattle.register.proofs.closing.tell.Reads as reads
-use Rattle.register.proofs.closing.tell.Lts as lts
 
 abbrev Inv-loop : tie.InvT-loop
-Inv-loop marks ranks n numbers₀ i₀ numbers i = ?
+Inv-loop marks ranks n numbers₀ i₀ numbers i = (i ≤ n) × (length numbers ≡ length numbers₀) × (numbers ≡ newNumbers (inUse marks) i ++ drop i numbers₀)
 
 abbrev μ-loop : tie.MeasureT-loop
-μ-loop marks ranks n numbers₀ i₀ numbers i = ?
+μ-loop marks ranks n numbers₀ i₀ numbers i = n - i
 
--- src/closing.rt:52:5
 loop-holds : tie.Need-loop-holds Inv-loop μ-loop
-loop-holds c = ?
+unfolding newNumbers
+loop-holds c = (omega arith, refl, refl)
 
--- src/closing.rt:54:12
 mul-if1 : tie.Need-mul-if1 Inv-loop μ-loop
-mul-if1 c = ?
+mul-if1 c = omega arith
 
--- src/closing.rt:54:12
 shared-slice-read-if1 : tie.Need-shared-slice-read-if1 Inv-loop μ-loop
-shared-slice-read-if1 c = ?
+shared-slice-read-if1 c = omega arith
 
--- src/closing.rt:55:22
 mul-number : tie.Need-mul-number Inv-loop μ-loop
-mul-number c = ?
+mul-number c = omega arith
 
--- src/closing.rt:55:22
 shared-slice-read-number : tie.Need-shared-slice-read-number Inv-loop μ-loop
-shared-slice-read-number c = ?
+shared-slice-read-number c = omega arith
 
--- src/closing.rt:55:22
 cast-number : tie.Need-cast-number Inv-loop μ-loop
-cast-number c = ?
+cast-number c =
+    let a = c .before .before .before .before .before .args in
+    let i = c .before .before .before .before .loop .i in
+    let p = c .before .before .before .before .before .pre in
+    omega (arith, p .1 i (omega (arith, p .3)), rank-le (inUse (a .marks .now)) i, p .3)
 
--- src/closing.rt:57:9
 mul-numbers : tie.Need-mul-numbers Inv-loop μ-loop
-mul-numbers c = ?
+mul-numbers c = omega arith
 
--- src/closing.rt:57:9
 slice-write-numbers : tie.Need-slice-write-numbers Inv-loop μ-loop
-slice-write-numbers c = ?
+slice-write-numbers c = omega arith
 
--- src/closing.rt:58:9
 add-i : tie.Need-add-i Inv-loop μ-loop
-add-i c = ?
+add-i c = omega arith
 
--- src/closing.rt:52:5
 loop-less : tie.Need-loop-less Inv-loop μ-loop
-loop-less c = ?
+loop-less c = omega arith
 
--- src/closing.rt:52:5
 loop-again : tie.Need-loop-again Inv-loop μ-loop
-loop-again c = ?
+loop-again c =
+    let l = c .before .before .before .loop in
+    let a = c .before .before .before .before .args in
+    let p = c .before .before .before .before .pre in
+    let ms = a .marks .now in
+    let n : c .if1 .number ≡ pick (inUse ms (l .i)) (rank (inUse ms) (l .i)) noNumber =
+    ⊎-elim
+    (λ w. w .2 ∙ p .1 (l .i) (omega (arith, p .3)) ∙ ap (λ (t : Bool). pick (not t) (rank (inUse ms) (l .i)) noNumber) (sym (ne-eqb (getD ms (l .i) 0) withdrawnMark (w .0 .taken))))
+    (λ w. w .1 ∙ ap (λ (t : Bool). pick (not t) (rank (inUse ms) (l .i)) noNumber) (sym (eq-eqb (getD ms (l .i) 0) withdrawnMark (w .0 .left))))
+    (c .if1 .came) in
+    (omega arith, simp length-set (l .inv .1), told-more ms (a .numbers .now) (l .numbers) (l .i) (c .if1 .number) (l .inv .2) (omega (arith, p .4)) n)
 
--- src/closing.rt:47:1
 same-length : tie.Need-same-length Inv-loop μ-loop
-same-length c = ?
+same-length c = c .before .loop .inv .1
 
--- src/closing.rt:47:1
 returns : tie.Need-returns Inv-loop μ-loop
-returns c = ?
+returns c =
+    let l = c .before .loop in
+    let a = c .before .before .args in
+    let e : l .i ≡ a .n = omega arith in
+    l .inv .2 ∙ ap (λ (k : ℕ). newNumbers (inUse (a .marks .now)) k ++ drop k (a .numbers .now)) e ∙ told-all (a .marks .now) (a .numbers .now) (a .n)
 
 pub tell-spec : {M : Type 1} → statement M
 tell-spec =

@@ -1,13 +1,14 @@
+-- `register::history::list_words` meets its contract: a word of the kind 12 is a closing up, and no other is. Assumes nothing.
+use borrow.Author.Tests.{eq-eqb, ne-eqb}
+use Rattle.book.specs.Basics.{tally}
+use Rattle.register.specs.History.{wordCall, entryCalls, isClose}
+use Rattle.register.proofs.Replaying.{kind-open}
 use Rattle.register.proofs.history.list_words.Statement.{statement}
 use Rattle.register.proofs.history.list_words.Tie as tie
-use Rattle.register.proofs.history.list_words.Reads as reads
-use Rattle.register.proofs.history.list_words.Lts as lts
 
--- src/history.rt:64:9
 returns : tie.Need-returns
 returns c = ?
 
--- src/history.rt:60:1
 returns-2 : tie.Need-returns-2
 returns-2 c = ?
 

@@ -1,48 +1,47 @@
+-- `register::history::lists_fit` meets its contract. The loop's invariant: what is left, and 1,024 for each closing up so far, is the length. The measure is the
+-- words left. Assumes nothing.
+use mathlib.Core.Path.{_≡_, refl, sym, ap, _∙_}
+use Prim.Native.Nat.{ℕ, _+_, _*_, _-_, _≤_}
+use native.Mathlib.Omega.{arith}
+use borrow.Author.Needs.{needs}
+use borrow.Author.Tests.{le-leb, lt-leb}
+use lib.ListN.{length as size, take}
+use lib.Seq.{take-all}
+use Rattle.register.specs.History.{callsOf, closings}
+use Rattle.register.proofs.Replaying.{closings-turn, closings-part}
 use Rattle.register.proofs.history.lists_fit.Statement.{statement}
 use Rattle.register.proofs.history.lists_fit.Tie as tie
-use Rattle.register.proofs.history.lists_fit.Reads as reads
-use Rattle.register.proofs.history.lists_fit.Lts as lts
-use Rattle.register.proofs.history.list_words.Reads as list-words-reads
 
 abbrev Inv-loop : tie.InvT-loop
-Inv-loop words length left₀ i₀ left i = ?
+Inv-loop words length left₀ i₀ left i = (i ≤ size words) × (left + 1024 * closings (callsOf (take i words)) ≡ length)
 
 abbrev μ-loop : tie.MeasureT-loop
-μ-loop words length left₀ i₀ left i = ?
+μ-loop words length left₀ i₀ left i = size words - i
 
--- src/history.rt:75:5
 loop-holds : tie.Need-loop-holds Inv-loop μ-loop
 loop-holds c = ?
 
--- src/history.rt:76:31
 mul-list-words : tie.Need-mul-list-words Inv-loop μ-loop
-mul-list-words c = ?
+mul-list-words c = omega arith
 
--- src/history.rt:76:31
 shared-slice-read-list-words : tie.Need-shared-slice-read-list-words Inv-loop μ-loop
-shared-slice-read-list-words c = ?
+shared-slice-read-list-words c = omega arith
 
--- src/history.rt:76:13
 list-words-requires : tie.Need-list-words-requires Inv-loop μ-loop
-list-words-requires c κs = ?
+list-words-requires c κs = search needs
 
--- src/history.rt:78:13
 returns : tie.Need-returns Inv-loop μ-loop
 returns c = ?
 
--- src/history.rt:81:9
 add-i : tie.Need-add-i Inv-loop μ-loop
-add-i c = ?
+add-i c = omega arith
 
--- src/history.rt:75:5
 loop-less : tie.Need-loop-less Inv-loop μ-loop
-loop-less c = ?
+loop-less c = omega arith
 
--- src/history.rt:75:5
 loop-again : tie.Need-loop-again Inv-loop μ-loop
 loop-again c = ?
 
--- src/history.rt:70:1
 returns-2 : tie.Need-returns-2 Inv-loop μ-loop
 returns-2 c = ?
 
