@@ -4,13 +4,13 @@ use mathlib.Core.Path.{_≡_, refl, sym, ap, ap₂, subst, _∙_}
 use mathlib.Core.Logic.{_⊎_, inl, inr, ⊎-elim}
 use mathlib.Core.List.{List, [], _∷_, _++_, map}
 use mathlib.Core.Bool.{Bool, true, false, not, true≢false}
-use Prim.Native.Nat.{ℕ, suc, _+_, _*_, _/_, _≤_, _<_}
+use Prim.Native.Nat.{ℕ, suc, _+_, _*_, _/_, _%_, _≤_, _<_}
 use native.Mathlib.Omega.{arith}
 use native.Mathlib.Numerals.{add-one}
 use native.Mathlib.Decide.{decLt}
 use lib.Dec.{eqb}
 use lib.ListN.{length, take, drop, getD, set}
-use lib.Seq.{getD-set-same, getD-set-other, take-suc, drop-cons, drop-at, getD-at, length-take-le}
+use lib.Seq.{getD-set-same, getD-set-other, take-suc, drop-cons, take-at, drop-at, getD-at, length-take-le}
 use borrow.Author.Tests.{eqb-true, eq-eqb, ne-eqb, lt-ltb, le-ltb}
 use Rattle.book.specs.Basics.{pick, In, has, Rises, over}
 use Rattle.book.specs.Causes.{none-in-use, short-list, number, Caused, firstNumber, maxRecords}
@@ -87,6 +87,20 @@ renamed-more f old now i e h =
     ∙ set-next (map f (take i old)) old i (f (getD old i 0)) l h
     ∙ ap (λ (k : List ℕ). k ++ drop (suc i) old) (sym m)
     ∙ ap (λ (j : ℕ). map f (take j old) ++ drop j old) (sym (add-one i))
+
+map-same : (f g : ℕ → ℕ) → ((w : ℕ) → f w ≡ g w) → (l : List ℕ) → map f l ≡ map g l
+map-same f g h [] = refl
+map-same f g h (x ∷ l) = ap₂ (λ (w : ℕ) (k : List ℕ). w ∷ k) (h x) (map-same f g h l)
+
+-- the words renamed by the ranks that were counted
+pub links-closed : (ms rs old new : List ℕ) (count : ℕ) → Ranked ms rs → count ≤ length old → new ≡ map (renamedWord (newOf rs)) (take count old) ++ drop count old
+    → take count new ≡ map (renamedWord (rank (inUse ms))) (take count old)
+links-closed ms rs old new count r h e =
+    ap (take count) e
+    ∙ take-at (map (renamedWord (newOf rs)) (take count old)) (drop count old) count (length-map (renamedWord (newOf rs)) (take count old) ∙ length-take-le count old h)
+    ∙ map-same (renamedWord (newOf rs)) (renamedWord (rank (inUse ms)))
+      (λ w. ap₂ (λ (x y : ℕ). (w / 1048576 * 1024 + x) * 1024 + y) (r (w / 1024 % 1024) (omega arith)) (r (w % 1024) (omega arith)))
+      (take count old)
 
 -- renaming keeps the order of words: by label, then from, then to
 pub renamed-less : (l m f g t w F G T W : ℕ) → g < 1024 → t < 1024 → w < 1024 → F < 1024 → G < 1024 → T < 1024 → W < 1024

@@ -1,6 +1,7 @@
 -- `register::Register::step` meets its contract, kind by kind, by `apply`; no other kind is a call. Assumes nothing.
 use mathlib.Core.Path.{refl}
 use borrow.Author.Needs.{needs}
+use borrow.Author.Tests.{ne-eqb}
 use Rattle.book.specs.Causes.{number}
 use Rattle.register.specs.Calls.{callOf}
 use Rattle.register.specs.History.{kindCall, wordCall}
@@ -40,37 +41,56 @@ apply-requires-7 c κs = search needs
 
 returns : tie.Need-returns
 unfolding wordCall kindCall callOf
-returns c = rw (c .before .match .keys1) (c .apply .ensures)
+returns c = rw (c .before .match .keys1) (c .apply .ensures, refl)
 
 returns-2 : tie.Need-returns-2
 unfolding wordCall kindCall callOf
-returns-2 c = rw (c .before .match .keys2) (c .apply2 .ensures)
+returns-2 c = rw (c .before .match .keys2) (c .apply2 .ensures, refl)
 
 returns-3 : tie.Need-returns-3
 unfolding wordCall kindCall callOf
-returns-3 c = rw (c .before .match .keys3) (c .apply3 .ensures)
+returns-3 c = rw (c .before .match .keys3) (c .apply3 .ensures, refl)
 
 returns-4 : tie.Need-returns-4
 unfolding wordCall kindCall callOf
-returns-4 c = rw (c .before .match .keys4) (c .apply4 .ensures)
+returns-4 c = rw (c .before .match .keys4) (c .apply4 .ensures, refl)
 
 returns-5 : tie.Need-returns-5
 unfolding wordCall kindCall callOf
-returns-5 c = rw (c .before .match .keys5) (c .apply5 .ensures)
+returns-5 c = rw (c .before .match .keys5) (c .apply5 .ensures, refl)
 
 returns-6 : tie.Need-returns-6
 unfolding wordCall kindCall callOf
-returns-6 c = rw (c .before .match .keys6) (c .apply6 .ensures)
+returns-6 c = rw (c .before .match .keys6) (c .apply6 .ensures, refl)
 
 returns-7 : tie.Need-returns-7
 unfolding wordCall kindCall callOf
-returns-7 c = rw (c .before .match .keys7) (c .apply7 .ensures)
+returns-7 c = rw (c .before .match .keys7) (c .apply7 .ensures, refl)
+
+room-for-requires : tie.Need-room-for-requires
+room-for-requires c κs = search needs
+
+slice-relend-prefix-close-up : tie.Need-slice-relend-prefix-close-up
+slice-relend-prefix-close-up c = c .room-for .ensures .within
+
+slice-aggregate-close-up : tie.Need-slice-aggregate-close-up
+slice-aggregate-close-up c = ?
+
+close-up-requires : tie.Need-close-up-requires
+close-up-requires c κs = search needs
+
+same-length : tie.Need-same-length
+same-length c = ?
 
 returns-8 : tie.Need-returns-8
+unfolding wordCall
+returns-8 c = ?
+
+returns-9 : tie.Need-returns-9
 unfolding wordCall number
-returns-8 c =
+returns-9 c =
     let r = c .match .rest in
-    rw (kind-none _ _ _ _ (r .0 .0 .0 .0 .0 .0 .1) (r .0 .0 .0 .0 .0 .1) (r .0 .0 .0 .0 .1) (r .0 .0 .0 .1) (r .0 .0 .1) (r .0 .1) (r .1)) (refl, refl)
+    rw (ne-eqb _ _ (r .1), kind-none _ _ _ _ (r .0 .0 .0 .0 .0 .0 .0 .1) (r .0 .0 .0 .0 .0 .0 .1) (r .0 .0 .0 .0 .0 .1) (r .0 .0 .0 .0 .1) (r .0 .0 .0 .1) (r .0 .0 .1) (r .0 .1)) (refl, refl, refl)
 
 pub step-spec : {M : Type 1} → statement M
 step-spec =
@@ -86,6 +106,10 @@ step-spec =
     apply-requires-5
     apply-requires-6
     apply-requires-7
+    room-for-requires
+    slice-relend-prefix-close-up
+    slice-aggregate-close-up
+    close-up-requires
     returns
     returns-2
     returns-3
@@ -93,4 +117,6 @@ step-spec =
     returns-5
     returns-6
     returns-7
-    returns-8)
+    same-length
+    returns-8
+    returns-9)

@@ -1,12 +1,14 @@
 -- `register::history::lists_fit` meets its contract. The loop's invariant: what is left, and 1,024 for each closing up so far, is the length. The measure is the
 -- words left. Assumes nothing.
-use mathlib.Core.Path.{_≡_, refl, sym, ap, _∙_}
-use Prim.Native.Nat.{ℕ, _+_, _*_, _-_, _≤_}
+use mathlib.Core.Path.{_≡_, sym, ap}
+use mathlib.Core.List.{List}
+use Prim.Native.Nat.{ℕ, _+_, _*_, _-_, _≤_, _<_}
 use native.Mathlib.Omega.{arith}
 use borrow.Author.Needs.{needs}
 use borrow.Author.Tests.{le-leb, lt-leb}
 use lib.ListN.{length as size, take}
 use lib.Seq.{take-all}
+use Rattle.book.specs.Basics.{tally}
 use Rattle.register.specs.History.{callsOf, closings}
 use Rattle.register.proofs.Replaying.{closings-turn, closings-part}
 use Rattle.register.proofs.history.lists_fit.Statement.{statement}
@@ -19,7 +21,8 @@ abbrev μ-loop : tie.MeasureT-loop
 μ-loop words length left₀ i₀ left i = size words - i
 
 loop-holds : tie.Need-loop-holds Inv-loop μ-loop
-loop-holds c = ?
+unfolding callsOf tally
+loop-holds c = (omega arith, omega arith)
 
 mul-list-words : tie.Need-mul-list-words Inv-loop μ-loop
 mul-list-words c = omega arith
@@ -31,7 +34,12 @@ list-words-requires : tie.Need-list-words-requires Inv-loop μ-loop
 list-words-requires c κs = search needs
 
 returns : tie.Need-returns Inv-loop μ-loop
-returns c = ?
+returns c =
+    let l = c .before .before .before .before .loop in
+    let ws = c .before .before .before .before .before .before .args .words .now in
+    let h : l .i < size ws = c .before .before .before .loop-test .taken in
+    sym (lt-leb (1024 * closings (callsOf ws)) (c .before .before .before .before .before .before .args .length)
+    (omega (arith, l .inv .1, c .before .list-words .ensures, closings-turn ws (l .i) h, closings-part ws (l .i + 1))))
 
 add-i : tie.Need-add-i Inv-loop μ-loop
 add-i c = omega arith
@@ -40,10 +48,18 @@ loop-less : tie.Need-loop-less Inv-loop μ-loop
 loop-less c = omega arith
 
 loop-again : tie.Need-loop-again Inv-loop μ-loop
-loop-again c = ?
+loop-again c =
+    let l = c .before .before .before .before .loop in
+    let ws = c .before .before .before .before .before .before .args .words .now in
+    let h : l .i < size ws = c .before .before .before .loop-test .taken in
+    (omega arith, omega (arith, l .inv .1, c .before .list-words .ensures, closings-turn ws (l .i) h, c .if1 .left))
 
 returns-2 : tie.Need-returns-2 Inv-loop μ-loop
-returns-2 c = ?
+returns-2 c =
+    let l = c .before .loop in
+    let ws = c .before .before .before .args .words .now in
+    let e : closings (callsOf (take (l .i) ws)) ≡ closings (callsOf ws) = ap (λ (k : List ℕ). closings (callsOf k)) (take-all (l .i) ws (omega arith)) in
+    sym (le-leb (1024 * closings (callsOf ws)) (c .before .before .before .args .length) (omega (arith, l .inv .1, e)))
 
 pub lists-fit-spec : {M : Type 1} → statement M
 lists-fit-spec =
