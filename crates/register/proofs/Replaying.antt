@@ -1,20 +1,24 @@
 -- Laws of replaying a list of words: its refusals, the kinds that are no call, and the numbers told and the book after one word more. Assumes nothing.
-use mathlib.Core.Path.{_≡_, refl, sym, ap, subst, _∙_}
+use mathlib.Core.Path.{_≡_, refl, sym, ap, ap₂, subst, _∙_}
 use mathlib.Core.List.{List, [], _∷_, _++_, append-assoc, append-nil}
 use mathlib.Core.Bool.{Bool, true, false, _||_}
 use Prim.Native.Nat.{ℕ, zero, suc, _+_, _*_, _≤_, _<_}
 use native.Mathlib.Numerals.{add-one}
 use native.Mathlib.Omega.{arith}
+use native.Mathlib.Decide.{decLt}
 use lib.Dec.{ltb, eqb}
-use lib.ListN.{length, take, drop, set, getD, take-append-drop}
-use lib.Seq.{take-suc, drop-cons, set-at, length-take-le}
+use lib.ListN.{length, take, drop, set, getD, take-append-drop, drop-of-length-le}
+use lib.Seq.{take-suc, take-all, take-at, drop-at, drop-cons, set-at, length-take-le}
 use borrow.Author.Tests.{lt-ltb, le-ltb, ne-eqb}
-use Rattle.book.specs.Basics.{pick, tally}
+use Rattle.book.specs.Basics.{pick, All, tally}
 use Rattle.book.specs.Causes.{number, firstNumber, maxRecords}
 use Rattle.book.specs.Book.{Book, add, remove, lock, unlock, withdraw, reinstate, Call, edit, undo, freshAnswer, after, givens}
 use Rattle.register.specs.History.{addKind, removeKind, lockKind, unlockKind, undoKind, withdrawKind, reinstateKind, is-call, no-call, kindCall, wordCall}
-use Rattle.register.specs.History.{entryNumber, entryNext, entryCalls, wordAnswers, callsOf, isClose, closings, replayNumber}
-use Rattle.register.specs.LaidLaws.{givens-append}
+use Rattle.register.specs.History.{entryNumber, entryNext, entryCalls, wordAnswers, callsOf, isClose, closings, roomMost, EntryCloses, laid, replayNumber}
+use Rattle.register.specs.LaidLaws.{givens-append, laid-past, laid-append}
+use Rattle.register.specs.Calls.{Closes}
+use Rattle.register.specs.declared.Register.{Register}
+use Rattle.register.specs.declared.Outcome.{Outcome}
 use Rattle.register.specs.Closing.{Roomed}
 use Rattle.register.specs.HistoryLaws.{after-append, after-entry, calls-append, word-answers-length, word-answers-append}
 
@@ -146,3 +150,42 @@ roomed room length k t e p q r = record {
   most = subst (λ (u : Bool). k ≤ pick u maxRecords room) (sym e) q;
   whole = subst (λ (u : Bool). k < pick u maxRecords room → k ≡ length) (sym e) r;
 }
+
+-- a closing up with the words that it uses, and the rest behind them
+pub entry-closes : (self : Register) (room k : ℕ) (before last : List ℕ) (out : Outcome) → Roomed room (length before) k → length last ≡ k → Closes self (take k before) last out
+    → EntryCloses self (roomMost room) (record { before = before; after = last ++ drop k before }) out
+entry-closes self room k before last out r l c = record {
+  closes = subst (λ (x : List ℕ). Closes self x (take (roomMost room) (last ++ drop k before)) out) (sym (lent .0)) (subst (λ (y : List ℕ). Closes self (take k before) y out) (sym (lent .1)) c);
+  past = lent .2;
+}
+  where
+    whole : k ≡ length before → k ≤ roomMost room → (take (roomMost room) before ≡ take k before) × (take (roomMost room) (last ++ drop k before) ≡ last) × (drop (roomMost room) (last ++ drop k before) ≡ drop (roomMost room) before)
+    whole e m =
+        let none : drop k before ≡ [] = drop-of-length-le before {i = k} (omega arith) in
+        let same : last ++ drop k before ≡ last = ap (λ (x : List ℕ). last ++ x) none ∙ append-nil last in (
+          take-all (roomMost room) before (omega arith) ∙ sym (take-all k before (omega arith)),
+          ap (take (roomMost room)) same ∙ take-all (roomMost room) last (omega arith),
+          ap (drop (roomMost room)) same ∙ drop-of-length-le last {i = roomMost room} (omega arith) ∙ sym (drop-of-length-le before {i = roomMost room} (omega arith)),
+        )
+
+    exact : k ≡ roomMost room → (take (roomMost room) before ≡ take k before) × (take (roomMost room) (last ++ drop k before) ≡ last) × (drop (roomMost room) (last ++ drop k before) ≡ drop (roomMost room) before)
+    exact e = (
+      ap (λ (i : ℕ). take i before) (sym e),
+      ap (λ (i : ℕ). take i (last ++ drop k before)) (sym e) ∙ take-at last (drop k before) k l,
+      ap (λ (i : ℕ). drop i (last ++ drop k before)) (sym e) ∙ drop-at last (drop k before) k l ∙ ap (λ (i : ℕ). drop i before) e,
+    )
+
+    go : Dec (k < roomMost room) → (take (roomMost room) before ≡ take k before) × (take (roomMost room) (last ++ drop k before) ≡ last) × (drop (roomMost room) (last ++ drop k before) ≡ drop (roomMost room) before)
+    go (yes h) = whole (r .whole h) (r .most)
+    go (no h) = exact (let m = r .most in omega arith)
+
+    lent : (take (roomMost room) before ≡ take k before) × (take (roomMost room) (last ++ drop k before) ≡ last) × (drop (roomMost room) (last ++ drop k before) ≡ drop (roomMost room) before)
+    lent = go (decLt k (roomMost room))
+
+-- the list after one word more: the part from its place on is what the entry gives of it
+pub laid-turn : (gs hs : List (List ℕ)) (l part : List ℕ) (at : ℕ) → All (λ g. length g ≤ maxRecords) gs → at ≡ maxRecords * length gs → at ≤ length l
+    → part ≡ laid hs (drop at (laid gs l)) → take at (laid gs l) ++ part ≡ laid (gs ++ hs) l
+laid-turn gs hs l part at a e h p =
+    let m : maxRecords * length gs ≤ length l = omega arith in
+    ap₂ (λ (i : ℕ) (x : List ℕ). take i (laid gs l) ++ x) e (p ∙ ap (laid hs) (ap (λ (i : ℕ). drop i (laid gs l)) e ∙ laid-past gs l a m))
+    ∙ sym (laid-append gs hs l a m)

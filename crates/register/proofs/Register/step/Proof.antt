@@ -1,11 +1,14 @@
 -- `register::Register::step` meets its contract, kind by kind, by `apply`; no other kind is a call. Assumes nothing.
-use mathlib.Core.Path.{refl}
+use mathlib.Core.Path.{_≡_, refl, sym, _∙_}
+use Prim.Native.Nat.{_%_}
+use lib.ListN.{length, take}
+use lib.Seq.{length-take-le}
 use borrow.Author.Needs.{needs}
-use borrow.Author.Tests.{ne-eqb}
+use borrow.Author.Tests.{eq-eqb, ne-eqb}
 use Rattle.book.specs.Causes.{number}
 use Rattle.register.specs.Calls.{callOf}
 use Rattle.register.specs.History.{kindCall, wordCall}
-use Rattle.register.proofs.Replaying.{kind-none}
+use Rattle.register.proofs.Replaying.{kind-none, entry-closes}
 use Rattle.register.proofs.Register.step.Statement.{statement}
 use Rattle.register.proofs.Register.step.Tie as tie
 
@@ -74,17 +77,24 @@ slice-relend-prefix-close-up : tie.Need-slice-relend-prefix-close-up
 slice-relend-prefix-close-up c = c .room-for .ensures .within
 
 slice-aggregate-close-up : tie.Need-slice-aggregate-close-up
-slice-aggregate-close-up c = ?
+slice-aggregate-close-up c = sym (length-take-le (c .before .room-for .result) (c .before .before .before .before .args .numbers .now) (c .before .room-for .ensures .within))
 
 close-up-requires : tie.Need-close-up-requires
 close-up-requires c κs = search needs
 
 same-length : tie.Need-same-length
-same-length c = ?
+same-length c = search needs
 
 returns-8 : tie.Need-returns-8
 unfolding wordCall
-returns-8 c = ?
+returns-8 c =
+    let a = c .before .before .before .before .before .before .before .args in
+    let m = c .before .before .before .before .room-for in
+    let o = c .before .before .close-up in
+    let k : length (o .last .1 .0) ≡ length (take (m .result) (a .numbers .now)) = o .kept .1 .0 in
+    rw (eq-eqb _ _ (c .before .before .before .before .before .match .keys8))
+    (entry-closes (a .self) (a .word % 1099511627776) (m .result) (a .numbers .now) (o .last .1 .0) (o .result) (m .ensures)
+    (k ∙ length-take-le (m .result) (a .numbers .now) (m .ensures .within)) (o .ensures))
 
 returns-9 : tie.Need-returns-9
 unfolding wordCall number
