@@ -99,8 +99,8 @@ links-closed ms rs old new count r h e =
     ap (take count) e
     ∙ take-at (map (renamedWord (newOf rs)) (take count old)) (drop count old) count (length-map (renamedWord (newOf rs)) (take count old) ∙ length-take-le count old h)
     ∙ map-same (renamedWord (newOf rs)) (renamedWord (rank (inUse ms)))
-      (λ w. ap₂ (λ (x y : ℕ). (w / 1048576 * 1024 + x) * 1024 + y) (r (w / 1024 % 1024) (omega arith)) (r (w % 1024) (omega arith)))
-      (take count old)
+    (λ w. ap₂ (λ (x y : ℕ). (w / 1048576 * 1024 + x) * 1024 + y) (r (w / 1024 % 1024) (omega arith)) (r (w % 1024) (omega arith)))
+    (take count old)
 
 -- renaming keeps the order of words: by label, then from, then to
 pub renamed-less : (l m f g t w F G T W : ℕ) → g < 1024 → t < 1024 → w < 1024 → F < 1024 → G < 1024 → T < 1024 → W < 1024

@@ -2,22 +2,26 @@
 use mathlib.Core.Path.{_≡_, refl, sym, ap, ap₂, subst, _∙_}
 use mathlib.Core.List.{List, [], _∷_, _++_, append-assoc, append-nil}
 use mathlib.Core.Bool.{Bool, true, false, _||_}
-use Prim.Native.Nat.{ℕ, zero, suc, _+_, _*_, _≤_, _<_}
+use Prim.Native.Nat.{ℕ, zero, suc, _+_, _*_, _-_, _≤_, _<_}
 use native.Mathlib.Numerals.{add-one}
 use native.Mathlib.Omega.{arith}
 use native.Mathlib.Decide.{decLt}
 use lib.Dec.{ltb, eqb}
-use lib.ListN.{length, take, drop, set, getD, take-append-drop, drop-of-length-le}
-use lib.Seq.{take-suc, take-all, take-at, drop-at, drop-cons, set-at, length-take-le}
+use lib.ListN.{length, take, drop, set, getD, take-append-drop, drop-of-length-le, length-drop}
+use lib.Seq.{drop-length, take-suc, take-all, take-at, drop-at, drop-cons, set-at, length-take-le}
+use borrow.Rule.Slice.PartMut.{putMid, post-is}
 use borrow.Author.Tests.{lt-ltb, le-ltb, ne-eqb}
-use Rattle.book.specs.Basics.{pick, All, tally}
+use Rattle.book.specs.Basics.{pick, tally}
 use Rattle.book.specs.Causes.{number, firstNumber, maxRecords}
-use Rattle.book.specs.Book.{Book, add, remove, lock, unlock, withdraw, reinstate, Call, edit, undo, freshAnswer, after, givens}
+use Rattle.book.specs.Book.{Book, add, remove, lock, unlock, withdraw, reinstate, Call, edit, undo, freshAnswer, fresh, after, givens}
+use Rattle.book.specs.Sheets.{Sound}
 use Rattle.register.specs.History.{addKind, removeKind, lockKind, unlockKind, undoKind, withdrawKind, reinstateKind, is-call, no-call, kindCall, wordCall}
-use Rattle.register.specs.History.{entryNumber, entryNext, entryCalls, wordAnswers, callsOf, isClose, closings, roomMost, EntryCloses, laid, replayNumber}
-use Rattle.register.specs.LaidLaws.{givens-append, laid-past, laid-append}
-use Rattle.register.specs.Calls.{Closes}
+use Rattle.register.specs.History.{entryNumber, entryNext, entryCalls, wordAnswers, callsOf, isClose, closings, roomMost, EntryCloses, laid, replayNumber, Replays}
+use Rattle.register.specs.LaidLaws.{givens-append, length-givens, givens-short, laid-past, laid-append}
+use Rattle.register.specs.Representation.{Represents}
+use Rattle.register.specs.Calls.{answerOf, Closes}
 use Rattle.register.specs.declared.Register.{Register}
+use Rattle.register.specs.declared.Answer.the-variants.{Refused}
 use Rattle.register.specs.declared.Outcome.{Outcome}
 use Rattle.register.specs.Closing.{Roomed}
 use Rattle.register.specs.HistoryLaws.{after-append, after-entry, calls-append, word-answers-length, word-answers-append}
@@ -51,6 +55,17 @@ module _ (n : ℕ) (ws told numbers : List ℕ) where
 
   pub replay-free : freshAnswer n ≡ 0 → length ws ≤ length told → maxRecords * closings (callsOf ws) ≤ length numbers → replayNumber n ws told numbers ≡ 0
   replay-free z h k = replay-rest z ∙ rw (le-ltb (length told) (length ws) h, le-ltb (length numbers) (maxRecords * closings (callsOf ws)) k)
+
+  -- a refused replay, with both lists as they were
+  pub replay-refused : (k : ℕ) {r : Register} → replayNumber n ws told numbers ≡ suc k → Represents r (fresh 0)
+      → Replays n ws (record { before = told; after = told }) (record { before = numbers; after = numbers }) (record { register = r; answer = Refused (suc k) })
+  replay-refused k e h = record {
+    answer = ap answerOf (sym e);
+    refused = λ _. (refl, refl, h);
+    told = λ z. absurd (omega arith);
+    given = λ z. absurd (omega arith);
+    book = λ z. absurd (omega arith);
+  }
 
 -- ---- kinds
 pub kind-none : (k f l t : ℕ) → (k ≡ addKind → ⊥) → (k ≡ removeKind → ⊥) → (k ≡ lockKind → ⊥) → (k ≡ unlockKind → ⊥) → (k ≡ undoKind → ⊥)
@@ -182,10 +197,26 @@ entry-closes self room k before last out r l c = record {
     lent : (take (roomMost room) before ≡ take k before) × (take (roomMost room) (last ++ drop k before) ≡ last) × (drop (roomMost room) (last ++ drop k before) ≡ drop (roomMost room) before)
     lent = go (decLt k (roomMost room))
 
--- the list after one word more: the part from its place on is what the entry gives of it
-pub laid-turn : (gs hs : List (List ℕ)) (l part : List ℕ) (at : ℕ) → All (λ g. length g ≤ maxRecords) gs → at ≡ maxRecords * length gs → at ≤ length l
-    → part ≡ laid hs (drop at (laid gs l)) → take at (laid gs l) ++ part ≡ laid (gs ++ hs) l
-laid-turn gs hs l part at a e h p =
-    let m : maxRecords * length gs ≤ length l = omega arith in
-    ap₂ (λ (i : ℕ) (x : List ℕ). take i (laid gs l) ++ x) e (p ∙ ap (laid hs) (ap (λ (i : ℕ). drop i (laid gs l)) e ∙ laid-past gs l a m))
-    ∙ sym (laid-append gs hs l a m)
+-- the part that is lent is the rest of the list
+pub rest-whole : (l : List ℕ) (at : ℕ) → take (length l - at) (drop at l) ≡ drop at l
+rest-whole l at = take-all (length l - at) (drop at l) (omega (arith, length-drop at l))
+
+put-rest : (l part : List ℕ) (at : ℕ) → at ≤ length l → putMid at (length l - at) l part ≡ take at l ++ part
+put-rest l part at h = ap (λ (k : List ℕ). take at l ++ k) (ap (λ (k : List ℕ). part ++ k) (post-is at (length l) l h ∙ drop-length l) ∙ append-nil part)
+
+-- the list of numbers after one word more: what its entry gives lies in the part from its place on
+pub numbers-turn : (b : Book) (ws : List ℕ) (i : ℕ) (h : i < length ws) → Sound b → (old now part : List ℕ) (at : ℕ)
+    → now ≡ laid (givens b (callsOf (take i ws))) old → at ≡ maxRecords * closings (callsOf (take i ws)) → at ≤ length old → length now ≡ length old
+    → part ≡ laid (givens (reached b ws i h) (entryCalls (wordCall (getD ws i 0)))) (drop at now)
+    → putMid at (length now - at) now part ≡ laid (givens b (callsOf (take (i + 1) ws))) old
+numbers-turn b ws i h o old now part at e p l m q =
+    let gs = givens b (callsOf (take i ws)) in
+    let hs = givens (reached b ws i h) (entryCalls (wordCall (getD ws i 0))) in
+    let short = givens-short b (callsOf (take i ws)) o in
+    let many : at ≡ maxRecords * length gs = p ∙ ap (λ (k : ℕ). maxRecords * k) (sym (length-givens b (callsOf (take i ws)))) in
+    let room : maxRecords * length gs ≤ length old = omega arith in
+    let past : drop at now ≡ drop (maxRecords * length gs) old = ap₂ (λ (j : ℕ) (x : List ℕ). drop j x) many e ∙ laid-past gs old short room in
+    put-rest now part at (omega arith)
+    ∙ ap₂ (λ (x y : List ℕ). x ++ y) (ap₂ (λ (j : ℕ) (x : List ℕ). take j x) many e) (q ∙ ap (laid hs) past)
+    ∙ sym (laid-append gs hs old short room)
+    ∙ ap (λ (x : List (List ℕ)). laid x old) (sym (givens-turn b ws i h))

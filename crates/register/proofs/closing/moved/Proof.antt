@@ -71,7 +71,7 @@ loop-again c =
       omega arith,
       ap length (w .2) ∙ simp length-set (l .inv .1),
       subst (Moved (a .marks .now) (a .ranks .now) (l .i + 1)) (sym (w .2))
-      (moved-lock (a .marks .now) (a .ranks .now) (l .moved) (l .i) (l .inv .2) (w .0 .taken) (omega (arith, l .inv .1, p .2 .below (l .i) (omega (arith, p .1))))),
+          (moved-lock (a .marks .now) (a .ranks .now) (l .moved) (l .i) (l .inv .2) (w .0 .taken) (omega (arith, l .inv .1, p .2 .below (l .i) (omega (arith, p .1))))),
     ))
     (λ w. (
       omega arith,
