@@ -1,3 +1,4 @@
 pub mod Host
+pub mod Histories
 pub mod Inner
 pub mod HostLaws

@@ -23,7 +23,7 @@ use Rattle.book.specs.CloseLaws.{link-used, closed-fit, closed-locked, closed-t
 use Rattle.book.specs.GivenLaws.{length-numbers, numbers-same}
 use Rattle.register.specs.Links.{linkWord, linkOf, labelUnit, wordTotal, Linked}
 use Rattle.register.specs.LinkLaws.{word-link}
-use Rattle.register.specs.Marks.{freeMark, lockMark, withdrawnMark}
+use Rattle.register.specs.Marks.{freeMark, lockMark, withdrawnMark, Marked}
 use Rattle.register.specs.MarkLaws.{shows-locked, shows-withdrawn, mark-by}
 use Rattle.register.specs.Packed.{markOf, Shows, Piled}
 use Rattle.register.specs.Counters.{InRange}
@@ -211,6 +211,7 @@ closes-refused self k list inside z told = record {
   steps = refuse-close self (length list) k inside z told;
   refused = λ _. refl;
   past = refl;
+  formed = λ e. absurd (done-refused (sym e));
   given = λ b h. ap (λ (g : List ℕ). over g list) (sym (given-none self (length list) k inside z told b h));
 }
 
@@ -219,6 +220,7 @@ closes-foreign self list none = record {
   steps = refuse-foreign self (close (length list)) none;
   refused = λ _. refl;
   past = refl;
+  formed = λ e. absurd (done-refused (sym e));
   given = λ b h. absurd (none (h .ranged));
 }
 
@@ -232,6 +234,14 @@ pub record Closed (self : Register) (r : Register) : Type 0 where
   pub top : r .top ≡ 0
   pub held : r .held ≡ 0
   pub totals : r .totals ≡ self .totals
+
+closed-ranged : (self r : Register) → InRange self → Closed self r → InRange r
+closed-ranged self r i c = record {
+  size = omega (arith, c .n, rank-le (inUse (self .marks)) (self .n), i .size);
+  count = omega (arith, c .count, i .count);
+  top = omega (arith, c .top);
+  held = omega (arith, c .held);
+}
 
 module _ {self : Register} {b : Book} (h : Represents self b) {r : Register} (c : Closed self r) where
   abbrev u : ℕ → Bool
@@ -374,12 +384,7 @@ module _ {self : Register} {b : Book} (h : Represents self b) {r : Register} (c 
   unfolding closed latest Piled
   closed-represents = record {
     size = c .n ∙ sym (count-marked h);
-    ranged = record {
-      size = omega (arith, c .n, rank-le v (self .n), h .ranged .size);
-      count = omega (arith, c .count, h .ranged .count);
-      top = omega (arith, c .top);
-      held = omega (arith, c .held);
-    };
+    ranged = closed-ranged self r (h .ranged) c;
     sheet = shut-shown;
     pile = subst (λ (k : ℕ). Piled (rank u (b .n)) (packedOf r) (latest (r .ring) (r .top) k) []) (sym (c .held)) tt;
     totals = λ l p. ap (λ (ts : List ℕ). getD ts l 0) (c .totals) ∙ h .totals l p ∙ sym (closed-total (rank u) (b .sheet) l);
@@ -408,6 +413,10 @@ module _ (self r : Register) (old new : List ℕ) (inside : InRange self) (some 
       ∙ numbers-same (used (b .n) (b .sheet)) (inUse (self .marks)) (b .n) (used-marked h) (b .n) (omega arith)
       ∙ ap (newNumbers (inUse (self .marks))) (sym (h .size))
 
+  -- the marks are free or locks
+  marks-right : Marked (r .marks)
+  marks-right y = ⊎-elim (λ p. omega (arith, p)) (λ p. omega (arith, p .0)) (c .marks .2 .from y)
+
   pub closes-accepted : Closes self old new (record { register = r; answer = Done })
   closes-accepted = record {
     steps = accept-close;
@@ -416,5 +425,6 @@ module _ (self r : Register) (old new : List ℕ) (inside : InRange self) (some 
         ap (drop (self .n)) told
         ∙ drop-at (newNumbers (inUse (self .marks)) (self .n)) (drop (length (newNumbers (inUse (self .marks)) (self .n))) old) (self .n) (length-numbers (inUse (self .marks)) (self .n))
         ∙ ap (λ (k : ℕ). drop k old) (length-numbers (inUse (self .marks)) (self .n));
+    formed = λ _. (closed-ranged self r inside c, marks-right);
     given = λ b h. told ∙ ap (λ (g : List ℕ). over g old) (sym (given-told b h));
   }

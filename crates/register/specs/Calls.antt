@@ -9,8 +9,9 @@
 --                   book's, and the register handed back represents the book after the call
 --   Closes self before after out
 --                   what closing up promises, lent a list that held before and holds after then: what `Steps` says of the call with a list so long; a
---                   refused one leaves the list as it was, and the words past the old n are as they were, whatever the register contains; and for every
---                   book that the register represents, the list that the book gives is written over the front
+--                   refused one leaves the list as it was, the words past the old n are as they were, and an accepted one hands back counters in range and
+--                   marks that are marks, whatever the register contains; and for every book that the register represents, the list that the book gives
+--                   is written over the front
 -- Assumes nothing: these are definitions.
 use mathlib.Core.Path.{_≡_}
 use mathlib.Core.List.{List}
@@ -19,6 +20,7 @@ use lib.ListN.{length, drop}
 use Rattle.book.specs.Basics.{over}
 use Rattle.book.specs.Causes.{not-open, number, Caused}
 use Rattle.book.specs.Book.{Book, add, remove, lock, unlock, withdraw, reinstate, Call as Book·Call, edit, undo, close, answer, next, given, freshAnswer, fresh}
+use Rattle.register.specs.Marks.{Marked}
 use Rattle.register.specs.Counters.{InRange}
 use Rattle.register.specs.Representation.{Represents}
 use Rattle.register.specs.declared.Register.{Register}
@@ -64,5 +66,6 @@ pub record Closes (self : Register) (before after : List ℕ) (out : Outcome) : 
   -- over any contents
   pub refused : (out .answer ≡ Done → ⊥) → after ≡ before
   pub past : drop (self .n) after ≡ drop (self .n) before
+  pub formed : out .answer ≡ Done → InRange (out .register) × Marked (out .register .marks)
   -- of a register that represents a book
   pub given : (b : Book) → Represents self b → after ≡ over (given b (close (length before))) before

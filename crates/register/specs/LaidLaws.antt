@@ -10,13 +10,14 @@ use lib.ListN.{length, take, drop, length-append, length-drop, take-append-drop}
 use lib.Seq.{length-take-le, take-at, drop-at, drop-append-le, take-append-add, drop-append-add, drop-drop}
 use borrow.Author.Tests.{ltb-true, ltb-false}
 use Rattle.book.specs.Basics.{pick, over, All, all-none, all-more, tally}
-use Rattle.book.specs.Causes.{maxRecords}
-use Rattle.book.specs.Book.{Book, Call, edit, undo, close, closed, closeAnswer, closeGiven, answer, next, given, after, givens}
-use Rattle.book.specs.BookLaws.{next-sound}
+use Rattle.book.specs.Causes.{bad-size, short-work, maxRecords}
+use Rattle.book.specs.Book.{Book, Call, edit, undo, close, closed, closeAnswer, closeGiven, answer, next, given, fresh, after, givens}
+use Rattle.book.specs.BookLaws.{first-none, next-sound, fresh-sound}
+use Rattle.book.specs.SetLaws.{or-neither}
 use Rattle.book.specs.GivenLaws.{room-same, given-length}
 use Rattle.book.specs.Sheets.{Sound}
 use Rattle.register.specs.Calls.{answerOf}
-use Rattle.register.specs.History.{Lent, Gives, none-given, more-given, Entry, is-call, no-call, entryNumber, entryNext, roomMost, EntrySteps, entryCalls, isClose, closings, laid, parts}
+use Rattle.register.specs.History.{Lent, Gives, none-given, more-given, Entry, is-call, no-call, entryNumber, entryNext, roomMost, EntrySteps, entryCalls, callsOf, isClose, closings, laid, parts, replayNumber, Replays}
 use Rattle.register.specs.HistoryLaws.{represents-sound}
 use Rattle.register.specs.Representation.{Represents}
 use Rattle.register.specs.declared.Register.{Register}
@@ -176,3 +177,24 @@ module _ (self : Register) (l : Lent) (out : Outcome) (b : Book) (h : Represents
       ∙ over-take g (l .before) j p (omega (arith, room-small room))
       ∙ sym (over-take g (l .before) maxRecords q m)
   entry-given no-call s k = s .2
+
+-- ---- of a replay
+replay-room : (n : ℕ) (words told numbers : List ℕ) → replayNumber n words told numbers ≡ 0 → (n ≤ maxRecords) × (maxRecords * closings (callsOf words) ≤ length numbers)
+unfolding replayNumber
+replay-room n words told numbers z =
+    let p = first-none bad-size _ _ z in
+    let q = first-none short-work _ _ (p .1) in
+    (ltb-false maxRecords n (or-neither (ltb n 1) (ltb maxRecords n) (p .0) .1), ltb-false (length numbers) _ (or-neither (ltb (length told) (length words)) _ (q .0) .1))
+
+-- each closing up among the calls has its list in its part of the numbers
+pub replayed-gives : {n : ℕ} {words : List ℕ} {list numbers : Lent} {out : Outcome} → Replays n words list numbers out → replayNumber n words (list .before) (numbers .before) ≡ 0
+    → Gives (givens (fresh n) (callsOf words)) (parts (closings (callsOf words)) numbers)
+replayed-gives {n} {words} {list} {numbers} r z =
+    let cs = callsOf words in
+    let gs = givens (fresh n) cs in
+    let m = replay-room n words (list .before) (numbers .before) z in
+    let l = length-givens (fresh n) cs in
+    let h : maxRecords * length gs ≤ length (numbers .before) = omega (arith, m .1) in
+    subst (λ (k : ℕ). Gives gs (parts k numbers)) l
+    (subst (λ (x : List ℕ). Gives gs (parts (length gs) (record { before = numbers .before; after = x }))) (sym (r .given z))
+    (laid-gives gs (numbers .before) (givens-short (fresh n) cs (fresh-sound n (m .0))) h))

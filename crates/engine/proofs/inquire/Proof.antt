@@ -8,6 +8,7 @@ use Rattle.book.specs.Book.{fresh, total}
 use Rattle.register.specs.Calls.{answerNumber}
 use Rattle.register.specs.History.{replayNumber}
 use Rattle.register.specs.HistoryLaws.{number-answer}
+use Rattle.register.specs.LaidLaws.{replayed-gives}
 use Rattle.register.specs.declared.Register.{Register}
 use Rattle.chains.specs.Replies.{Replies}
 use Rattle.pairs.specs.declared.PairsAnswer.the-variants.{Refused}
@@ -40,15 +41,16 @@ unfolding has fresh total tally
 returns c =
     let told = c .before .before .before .before .number-of .ensures in
     let p = c .before .before .before .before .before .before .before .before .replay .ensures in
-    let k : c .before .before .before .before .number-of .result ≡ replayNumber _ _ _ = told ∙ ap answerNumber (p .answer) ∙ number-answer _ in
+    let k : c .before .before .before .before .number-of .result ≡ replayNumber _ _ _ _ = told ∙ ap answerNumber (p .answer) ∙ number-answer _ in
     record {
       answer = p .answer;
       refused = λ n.
-          let e = p .refused n .1 in
+          let e = p .refused n .2 in
           record {
             pairs = ap Refused k;
             chain = ap Unanswered k;
-            numbers = p .refused n .0;
+            told = p .refused n .0;
+            given = p .refused n .1;
             list = refl;
             steps = refl;
             links = none-linked 0 _ (c .before .before .before .links .ensures .linked (fresh 0) e);
@@ -87,16 +89,17 @@ returns-2 c =
     let long = c .before .before .before .before .before .before .before .before .before .before .before .pairs .kept .1 .1 .0 in
     let asked = c .before .before .before .before .before .before .before .before .before .before .before .pairs .ensures in
     let p = c .before .before .before .before .before .before .before .before .before .before .before .before .before .before .before .before .before .before .before .before .before .before .replay .ensures in
-    let zero : replayNumber _ _ _ ≡ 0 = sym (number-answer _) ∙ sym (ap answerNumber (p .answer)) ∙ sym (c .before .before .before .before .before .before .before .before .before .before .before .before .before .before .before .before .before .before .number-of .ensures) ∙ c .before .before .before .before .before .before .before .before .before .before .before .before .before .before .if1 .left in
+    let zero : replayNumber _ _ _ _ ≡ 0 = sym (number-answer _) ∙ sym (ap answerNumber (p .answer)) ∙ sym (c .before .before .before .before .before .before .before .before .before .before .before .before .before .before .before .before .before .before .number-of .ensures) ∙ c .before .before .before .before .before .before .before .before .before .before .before .before .before .before .if1 .left in
     record {
       answer = p .answer;
       refused = λ n. absurd (n zero);
       made = λ z. record {
-        numbers = p .told z;
+        told = p .told z;
+        given = p .given z;
         pairs = asked .book _ (p .book z);
         chain = lent long replied .answers _ (p .book z);
         demand = claims _ (record { links = (_, c .before .before .before .before .before .before .before .before .before .before .before .before .before .before .before .before .before .links .ensures, refl); marks = c .before .before .before .before .before .before .before .before .before .before .before .before .before .before .before .before .marks .ensures; totals = c .before .before .before .before .before .before .before .before .before .before .before .before .before .before .before .totals .ensures; pairs = asked; chain = lent long replied })
-            (replayed-calls _ _ _ _ (p .told z)) (p .book z);
+            (replayed-calls _ _ _ _ (p .told z)) (replayed-gives p z) (p .book z);
       };
     }
 
