@@ -19,6 +19,9 @@ pub const NO_CHAIN: u64 = 1 << 32;
 /// What is added to the number of a refusal in a `u64` answer.
 pub const REFUSED: u64 = 1 << 33;
 
+/// What stands in the list of new numbers for a withdrawn record.
+pub const NO_NUMBER: u16 = u16::MAX;
+
 /// An answer of 0 or a number.
 pub fn done(answer: u32) -> Result<(), Refusal> {
     match answer {
@@ -165,6 +168,7 @@ extern "C" {
         work: *mut u64,
         work_len: usize,
     ) -> u64;
+    fn dating_close_up(state: *mut u32, state_len: usize, numbers: *mut u16, numbers_len: usize) -> u32;
 }
 
 // SAFETY, of each: the function is the declared one, and has no `requires`; it is proved to end, and to read and write nothing but the
@@ -336,4 +340,10 @@ pub fn tree_transpose(n: usize, a: &[u64], out: &mut [u64], work: &mut [u64]) ->
 
 pub fn tree_closure(n: usize, a: &[u64], out: &mut [u64], work: &mut [u64]) -> u64 {
     unsafe { dating_tree_closure(n, a.as_ptr(), a.len(), out.as_mut_ptr(), out.len(), work.as_mut_ptr(), work.len()) }
+}
+
+/// Closes up the numbers: 0, or 21 or 13. The list takes, for each old number ascending, the new one, or [`NO_NUMBER`] for a withdrawn record;
+/// it is at least as long as the old n.
+pub fn close_up(state: &mut [u32], numbers: &mut [u16]) -> u32 {
+    unsafe { dating_close_up(state.as_mut_ptr(), state.len(), numbers.as_mut_ptr(), numbers.len()) }
 }

@@ -1,5 +1,7 @@
 //! Random histories: each edit's answer, then what the register holds, then questions.
 
+pub mod closing;
+
 use crate::engine::Answer;
 use crate::run::{Run, Size};
 use oracle::book::{Book, Call, Link, LABELS, MAX_LINKS};
