@@ -81,26 +81,28 @@ module _ {c : Call} {before after : List ℕ} {k : ℕ} {r : Register} (w : Keep
 pub close-foreign : (ws list : List ℕ) → Foreign ws → Renumbers (record { before = ws; after = ws }) (record { before = list; after = list }) (number not-open)
 close-foreign ws list f = record { edits = edit-foreign (close (length list)) ws f; refused = λ _. refl; past = λ r k. refl; given = λ b h. absurd (f (h .0) (h .1)) }
 
-module _ {before after list list′ : List ℕ} {k : ℕ} {r : Register} (w : Keeps before r) {o : Outcome} (c : Closes r list list′ o) where
-  -- what is handed back has words, accepted or not
-  formed : (a : Answer) → o .answer ≡ a → InRange (o .register) × Marked (o .register .marks)
-  formed Done e = c .formed e
-  formed (Refused j) e =
-      let s = c .steps .refused (λ d. refused-done (sym e ∙ d)) in
-      (subst InRange (sym s) (w .ranged), subst (λ (q : Register). Marked (q .marks)) (sym s) (w .marked))
+-- what a closing up hands back has words, accepted or not
+formed : {before list list′ : List ℕ} {r : Register} {o : Outcome} → Keeps before r → Closes r list list′ o → (a : Answer) → o .answer ≡ a
+    → InRange (o .register) × Marked (o .register .marks)
+formed w c Done e = c .formed e
+formed w c (Refused j) e =
+    let s = c .steps .refused (λ d. refused-done (sym e ∙ d)) in
+    (subst InRange (sym s) (w .ranged), subst (λ (q : Register). Marked (q .marks)) (sym s) (w .marked))
 
-  list-left : Finishes o before after k → (k ≡ 0 → ⊥) → list′ ≡ list
-  list-left (refused n e a) z = c .refused n
-  list-left (kept n e v p) z = absurd (z e)
-  list-left (lost e a g) z = let m = formed (o .answer) refl in absurd (g (keeps-long w) (m .0) (m .1))
+list-left : {before after list list′ : List ℕ} {k : ℕ} {r : Register} {o : Outcome} → Keeps before r → Closes r list list′ o → Finishes o before after k
+    → (k ≡ 0 → ⊥) → list′ ≡ list
+list-left w c (refused n e a) z = c .refused n
+list-left w c (kept n e v p) z = absurd (z e)
+list-left {o = o} w c (lost e a g) z = let m = formed w c (o .answer) refl in absurd (g (keeps-long w) (m .0) (m .1))
 
-  pub close-kept : Finishes o before after k → Renumbers (record { before = before; after = after }) (record { before = list; after = list′ }) k
-  close-kept f = record {
-    edits = edit-kept w (c .steps) f;
-    refused = list-left f;
-    past = λ s v. subst (λ (q : Register). drop (q .n) list′ ≡ drop (q .n) list) (keeps-same w v) (c .past);
-    given = λ b h. c .given b (subst (λ (q : Register). Represents q b) (sym (keeps-same w (h .1))) (h .2));
-  }
+pub close-kept : {before after list list′ : List ℕ} {k : ℕ} {r : Register} {o : Outcome} → Keeps before r → Closes r list list′ o → Finishes o before after k
+    → Renumbers (record { before = before; after = after }) (record { before = list; after = list′ }) k
+close-kept {list = list} {list′} w c f = record {
+  edits = edit-kept w (c .steps) f;
+  refused = list-left w c f;
+  past = λ s v. subst (λ (q : Register). drop (q .n) list′ ≡ drop (q .n) list) (keeps-same w v) (c .past);
+  given = λ b h. c .given b (subst (λ (q : Register). Represents q b) (sym (keeps-same w (h .1))) (h .2));
+}
 
 -- ---- a fresh register
 -- the number of asking for one: by its size first, then by the room
