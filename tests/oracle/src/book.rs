@@ -111,7 +111,8 @@ impl Book {
             (0..self.n).map(|old| kept.iter().position(|&record| record == old).map(|at| at as u32)).collect();
         let new = |old: u32| numbers[old as usize].expect("a record with a link or a lock is in use");
         let Sheet { links, locked, .. } = &self.sheet;
-        let links = links.iter().map(|link| Link { from: new(link.from), label: link.label, to: new(link.to) }).collect();
+        let links =
+            links.iter().map(|link| Link { from: new(link.from), label: link.label, to: new(link.to) }).collect();
         let locked = locked.iter().map(|&record| new(record)).collect();
         self.sheet = Sheet { links, locked, withdrawn: BTreeSet::new() };
         self.n = kept.len() as u32;
