@@ -2,3 +2,5 @@ pub mod Host
 pub mod Histories
 pub mod Inner
 pub mod HostLaws
+pub mod Previews
+pub mod PreviewLaws

@@ -9,7 +9,8 @@ ghost use mathlib.Core.Path.{_≡_};
 ghost use Prim.Native.Nat.{_*_};
 ghost use lib.Dec.{leb};
 ghost use Rattle.book.specs.Causes.{maxRecords};
-ghost use Rattle.register.specs.History.{wordCall, EntrySteps, entryCalls, callsOf, closings, Replays};
+ghost use Rattle.register.specs.History.{kindCall, wordCall, EntrySteps, entryCalls, callsOf, closings, Replays};
+ghost use Rattle.register.specs.Entries.{entryOf};
 ghost use Rattle.register.specs.Closing.{Roomed};
 
 // The kinds of calls, numbered as the program's frames are; closing up has no frame.
@@ -39,6 +40,28 @@ const WORD_LABEL: u64 = WORD_RECORDS;
 const WORD_FROM: u64 = WORD_LABEL * WORD_LABELS;
 
 const WORD_KIND: u64 = WORD_FROM * WORD_RECORDS;
+
+// What a kind and arguments ask for: a call, or none.
+pub enum Entry {
+    Call(Call),
+    NoCall,
+}
+
+// The call of a kind; of a record alone, `from` is the record.
+pub fn entry_of(kind: u64, from: u16, label: u8, to: u16) -> Entry
+    ensures { λ r. ⌜ entryOf r ≡ kindCall «kind» from label to ⌝ }
+{
+    match kind {
+        ADD_KIND => Entry::Call(Call::Add(from, label, to)),
+        REMOVE_KIND => Entry::Call(Call::Remove(from, label, to)),
+        LOCK_KIND => Entry::Call(Call::Lock(from)),
+        UNLOCK_KIND => Entry::Call(Call::Unlock(from)),
+        UNDO_KIND => Entry::Call(Call::Undo),
+        WITHDRAW_KIND => Entry::Call(Call::Withdraw(from)),
+        REINSTATE_KIND => Entry::Call(Call::Reinstate(from)),
+        _ => Entry::NoCall,
+    }
+}
 
 // How many of the words of a list a closing up uses that is lent so many: no more than a register has records, and no more than there are.
 fn room_for(room: u64, length: usize) -> usize
@@ -89,22 +112,17 @@ impl Register {
         ensures { λ r. ⌜ EntrySteps self (wordCall «word») (record { before = now (numbers .entry); after = now (numbers .exit) }) r ⌝ }
     {
         let kind = word / WORD_KIND;
+        if kind == CLOSE_KIND {
+            let room = room_for(word % WORD_KIND, numbers.len());
+            return self.close_up(&mut numbers[..room]);
+        }
         let from = (word / WORD_FROM % WORD_RECORDS) as u16;
         let label = (word / WORD_LABEL % WORD_LABELS) as u8;
         let to = (word % WORD_RECORDS) as u16;
-        match kind {
-            ADD_KIND => self.apply(Call::Add(from, label, to)),
-            REMOVE_KIND => self.apply(Call::Remove(from, label, to)),
-            LOCK_KIND => self.apply(Call::Lock(from)),
-            UNLOCK_KIND => self.apply(Call::Unlock(from)),
-            UNDO_KIND => self.apply(Call::Undo),
-            WITHDRAW_KIND => self.apply(Call::Withdraw(from)),
-            REINSTATE_KIND => self.apply(Call::Reinstate(from)),
-            CLOSE_KIND => {
-                let room = room_for(word % WORD_KIND, numbers.len());
-                self.close_up(&mut numbers[..room])
-            }
-            _ => Outcome {
+        let entry = entry_of(kind, from, label, to);
+        match entry {
+            Entry::Call(call) => self.apply(call),
+            Entry::NoCall => Outcome {
                 register: self,
                 answer: Answer::Refused(book::UNKNOWN_KIND),
             },
