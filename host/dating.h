@@ -11,14 +11,14 @@
  *    1  n outside 1 to 1,024                       10  expression over 256 bytes, 63 letters or 8 deep
  *    2  record not below n                         11  lent tree not well formed
  *    3  label above 25                             12  work (or state) shorter than stated
- *    4  an end of the link, or the record to       13  chain or tree longer than its list
+ *    4  an end of the link, or the record to       13  chain, tree or new numbers longer than the list
  *       withdraw, is locked                        14  (programs only: frame broken)
  *    5  link present, or record locked or          15  kind unknown
  *       withdrawn, already                         16  the words are not those of a register
  *    6  link absent, record not locked, or         17  a link touches the record to withdraw
  *       record to reinstate in use                 18  a withdrawn record named in add, remove, lock or
  *    7  4,096 links present                            unlock
- *    8  no edit held that could be undone
+ *    8  no edit held that could be undone          21  no record in use
  *    9  expression outside the grammar
  *
  * tests/declarations.rs holds this file to the Rattle source.
@@ -41,6 +41,8 @@ extern "C" {
 #define DATING_NO_CHAIN (UINT64_C(1) << 32)
 /* Plus the number of a refusal. */
 #define DATING_REFUSED (UINT64_C(1) << 33)
+/* In a list of new numbers, what stands for a withdrawn record. */
+#define DATING_NO_NUMBER 65535
 
 /* A fresh register of n records at the front of the state: 0, 1, or 12 if it has fewer than DATING_STATE_WORDS words. */
 uint32_t dating_fresh(uint16_t n, uint32_t *state, size_t state_len);
@@ -94,6 +96,10 @@ uint64_t dating_tree_closure(size_t n, const uint64_t *a, size_t a_len, uint64_t
  * the question's. */
 uint64_t dating_preview(const uint32_t *state, size_t state_len, uint16_t kind, uint16_t from, uint8_t label, uint16_t to, const uint8_t *text,
                         size_t text_len, uint64_t *work, size_t work_len, uint32_t *list, size_t list_len);
+/* Closes up the numbers: the records in use are numbered from 0 in their old order, n is lowered to their count, and links, locks and totals follow. The list
+ * takes, for each old number ascending, the new one, or DATING_NO_NUMBER for a withdrawn record; words past the old n are left. Held edits are dropped. 21
+ * if no record is in use, then 13 if the list is shorter than the old n. */
+uint32_t dating_close_up(uint32_t *state, size_t state_len, uint16_t *numbers, size_t numbers_len);
 
 #ifdef __cplusplus
 }

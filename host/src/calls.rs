@@ -19,6 +19,9 @@ pub const NO_CHAIN: u64 = 1 << 32;
 /// What is added to the number of a refusal in a `u64` answer.
 pub const REFUSED: u64 = 1 << 33;
 
+/// What stands in the list of new numbers for a withdrawn record.
+pub const NO_NUMBER: u16 = u16::MAX;
+
 /// An answer of 0 or a number.
 pub fn done(answer: u32) -> Result<(), Refusal> {
     match answer {
@@ -179,6 +182,7 @@ extern "C" {
         list: *mut u32,
         list_len: usize,
     ) -> u64;
+    fn dating_close_up(state: *mut u32, state_len: usize, numbers: *mut u16, numbers_len: usize) -> u32;
 }
 
 // SAFETY, of each: the function is the declared one, and has no `requires`; it is proved to end, and to read and write nothing but the
@@ -372,4 +376,10 @@ pub fn preview(state: &[u32], kind: u16, from: u16, label: u8, to: u16, text: &[
             list.len(),
         )
     }
+}
+
+/// Closes up the numbers: 0, or 21 or 13. The list takes, for each old number ascending, the new one, or [`NO_NUMBER`] for a withdrawn record;
+/// it is at least as long as the old n.
+pub fn close_up(state: &mut [u32], numbers: &mut [u16]) -> u32 {
+    unsafe { dating_close_up(state.as_mut_ptr(), state.len(), numbers.as_mut_ptr(), numbers.len()) }
 }

@@ -31,6 +31,7 @@
 //! A call takes at most 464 KB of stack (listing a tree), a pair question 352, a chain question 144, an edit or undo 128.
 
 pub mod calls;
+mod closing;
 mod items;
 mod previews;
 mod refusal;

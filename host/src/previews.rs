@@ -53,7 +53,8 @@ impl Register {
         grow(&mut self.work, tree_work(n));
         grow(&mut self.list, most_pairs(n));
         let (kind, from, label, to) = edit.parts();
-        let total = counted(calls::preview(&self.words, kind, from, label, to, expression.as_ref(), &mut self.work, &mut self.list))?;
+        let total =
+            counted(calls::preview(&self.words, kind, from, label, to, expression.as_ref(), &mut self.work, &mut self.list))?;
         Ok(Pairs::new(&self.list, total))
     }
 

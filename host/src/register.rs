@@ -38,6 +38,10 @@ impl Register {
         &self.words
     }
 
+    pub(crate) fn words_mut(&mut self) -> &mut [u32] {
+        &mut self.words
+    }
+
     /// The number of records.
     pub fn size(&self) -> u16 {
         calls::size(&self.words) as u16

@@ -6,11 +6,13 @@
 --   has same x l    whether a member of l is the same as x, computed
 --   without x l     the members of l that are not the same as x
 --   tally t l       how many members of l pass the test t
+--   over ws l       the list l with the words ws written over its front
 --   Rises m l       the numbers of l ascend, each once, the first at least m
 -- Assumes nothing: these are definitions.
-use mathlib.Core.List.{List, [], _∷_}
+use mathlib.Core.List.{List, [], _∷_, _++_}
 use mathlib.Core.Bool.{Bool, true, false, _||_}
 use Prim.Native.Nat.{ℕ, suc, _+_, _≤_}
+use lib.ListN.{length, drop}
 
 abbrev pub pick {ℓ} : {A : Type ℓ} → Bool → A → A → A
 pick true x y = x
@@ -39,6 +41,9 @@ module _ {A : Type 0} (same : A → A → Bool) where
 unfoldable pub tally : {A : Type 0} → (A → Bool) → List A → ℕ
 tally t [] = 0
 tally t (x ∷ xs) = bit (t x) + tally t xs
+
+abbrev pub over : List ℕ → List ℕ → List ℕ
+over ws l = ws ++ drop (length ws) l
 
 pub data Rises : ℕ → List ℕ → Type 0 where
   ended : {m : ℕ} → Rises m []

@@ -1,5 +1,5 @@
 -- Cases of the plain book: the edits of the sample (S7.8), each number from 2 to 8, 17 and 18 with the first cause in order winning, what is not held,
--- 257 edits and 257 undos, and a full register. Assumes nothing.
+-- closing up with its 21 and 13, 257 edits and 257 undos, and a full register. Assumes nothing.
 use mathlib.Core.Path.{_≡_, refl, ap}
 use mathlib.Core.List.{List, [], _∷_, _++_, map}
 use mathlib.Core.Bool.{Bool, true, false}
@@ -9,7 +9,7 @@ use lib.ListN.{length, replicate}
 use borrow.Author.Tests.{lt-leb, le-leb}
 use Rattle.book.specs.Basics.{has, without, tally}
 use Rattle.book.specs.Causes.{number, firstNumber, maxLinks}
-use Rattle.book.specs.Book.{Link, sameLink, Sheet, add, remove, lock, unlock, withdraw, reinstate, Call, edit, undo, touched, causes, editAnswer, edited, turned, undoAnswer, undone, freshAnswer, total, totalNumber, answer, next, fresh, answers, after}
+use Rattle.book.specs.Book.{Link, sameLink, Sheet, add, remove, lock, unlock, withdraw, reinstate, Call, edit, undo, close, touched, causes, editAnswer, edited, turned, undoAnswer, undone, rank, closedSheet, closeCauses, closeAnswer, closed, newNumbers, closeGiven, freshAnswer, total, totalNumber, answer, next, given, fresh, answers, after, givens}
 use Rattle.book.specs.SetLaws.{sameLink-test}
 
 abbrev link : ℕ → ℕ → ℕ → Link
@@ -143,6 +143,33 @@ total-undo = refl
 total-3 : totalNumber 0 ∷ totalNumber 25 ∷ totalNumber 26 ∷ totalNumber 255 ∷ [] ≡ 0 ∷ 0 ∷ 3 ∷ 3 ∷ []
 unfolding totalNumber firstNumber number
 total-3 = refl
+
+-- ---- closing up, S14
+-- 21 with no record in use, before 13; and nothing changes: an undo takes the latest withdraw back
+close-21 : answers (fresh 2) (withdraws 0 ∷ withdraws 1 ∷ close 2 ∷ close 0 ∷ undo ∷ close 2 ∷ []) ≡ 0 ∷ 0 ∷ 21 ∷ 21 ∷ 0 ∷ 0 ∷ []
+unfolding answers answer next editAnswer firstNumber number causes edited turned undoAnswer undone rank closedSheet closeCauses closeAnswer closed fresh has without touched
+close-21 = refl
+
+-- 13 with a list shorter than the old n, however few records are in use; then the new n is the least
+close-13 : answers (fresh 4) (withdraws 1 ∷ withdraws 2 ∷ close 2 ∷ close 3 ∷ close 4 ∷ close 1 ∷ close 2 ∷ close 9 ∷ []) ≡ 0 ∷ 0 ∷ 13 ∷ 13 ∷ 0 ∷ 13 ∷ 0 ∷ 0 ∷ []
+unfolding answers answer next editAnswer firstNumber number causes edited turned undoAnswer undone rank closedSheet closeCauses closeAnswer closed fresh has without touched
+close-13 = refl
+
+-- the list of each closing up, refused ones too: by ascending old number, 65,535 for a withdrawn record
+close-given : givens (fresh 4) (withdraws 1 ∷ close 3 ∷ close 4 ∷ locks 0 ∷ undo ∷ close 3 ∷ []) ≡ [] ∷ (0 ∷ 65535 ∷ 1 ∷ 2 ∷ []) ∷ (0 ∷ 1 ∷ 2 ∷ []) ∷ []
+unfolding givens given answer next editAnswer firstNumber number causes edited turned undoAnswer undone rank closedSheet closeCauses closeAnswer closed newNumbers closeGiven fresh has without touched
+close-given = refl
+
+-- the count of records in use is the new n; a link and a lock follow their records, none is withdrawn, and nothing is held
+close-renamed : after (fresh 4) (withdraws 0 ∷ withdraws 2 ∷ adds 1 5 3 ∷ locks 3 ∷ close 4 ∷ [])
+    ≡ record { n = 2; sheet = record { links = link 0 5 1 ∷ []; locks = 1 ∷ []; withdrawn = [] }; pile = [] }
+unfolding after answer next editAnswer firstNumber number causes edited turned undoAnswer undone rank closedSheet closeCauses closeAnswer closed fresh has without touched
+close-renamed = refl
+
+-- with nothing withdrawn it renames nothing, and still drops the held edits: an undo straight after gives 8
+close-drops : answers (fresh 2) (locks 1 ∷ close 2 ∷ undo ∷ unlocks 1 ∷ undo ∷ undo ∷ []) ≡ 0 ∷ 0 ∷ 8 ∷ 0 ∷ 0 ∷ 8 ∷ []
+unfolding answers answer next editAnswer firstNumber number causes edited turned undoAnswer undone rank closedSheet closeCauses closeAnswer closed fresh has without touched
+close-drops = refl
 
 -- after 257 edits, 256 undos pass and the next gives 8
 unfoldable toggles : ℕ → List Call

@@ -2,16 +2,18 @@
 use mathlib.Core.Path.{_≡_, refl, sym, ap, _∙_, subst}
 use mathlib.Core.Logic.{_⊎_, inl, inr, ⊎-elim}
 use mathlib.Core.List.{List, [], _∷_, _++_}
-use mathlib.Core.Bool.{Bool, true, false, not, _||_, _&&_, false≢true, true≢false}
+use mathlib.Core.Bool.{Bool, true, false, not, _||_, false≢true, true≢false}
 use Prim.Native.Nat.{ℕ, zero, suc, _≤_, _<_}
 use native.Mathlib.Omega.{arith}
 use lib.ListN.{length, take}
 use lib.Dec.{leb, eqb}
 use borrow.Author.Tests.{leb-false, not-false, eq-eqb, eqb-true, ne-eqb}
 use Rattle.book.specs.Basics.{pick, In, here, there, has, without, All, all-none, all-more}
-use Rattle.book.specs.Causes.{Cause, bad-size, no-record, bad-label, locked-end, already, missing, full, none-held, no-expression, too-many-bytes, too-large, bad-tree, short-work, short-list, broken-frame, unknown-kind, not-open, touched-record, withdrawn-record, number, Caused, editOrder, firstNumber, InOrder, none-left, same-cause, passed-over, maxRecords, labels, maxLinks, maxHeld}
-use Rattle.book.specs.Book.{Link, sameLink, Sheet, Book, Edit, add, remove, lock, unlock, withdraw, reinstate, Call, edit, undo, present, isLocked, isWithdrawn, touched, causes, editAnswer, edited, turned, undoAnswer, undone, answer, next, fresh, answers, after}
+use Rattle.book.specs.Causes.{Cause, bad-size, no-record, bad-label, locked-end, already, missing, full, none-held, no-expression, too-many-bytes, too-large, bad-tree, short-work, short-list, broken-frame, unknown-kind, not-open, touched-record, withdrawn-record, none-in-use, number, Caused, editOrder, closeOrder, firstNumber, InOrder, none-left, same-cause, passed-over, maxRecords, labels, maxLinks, maxHeld}
+use Rattle.book.specs.Book.{Link, sameLink, Sheet, Book, Edit, add, remove, lock, unlock, withdraw, reinstate, Call, edit, undo, close, present, isLocked, isWithdrawn, touched, used, causes, editAnswer, edited, turned, undoAnswer, undone, closeCauses, closeAnswer, closed, answer, next, fresh, answers, after}
 use Rattle.book.specs.Sheets.{Distinct, Proper, Fit, Sound}
+use Rattle.book.specs.RankLaws.{rank-le}
+use Rattle.book.specs.CloseLaws.{closed-fit}
 use Rattle.book.specs.SetLaws.{sameLink-test, eqb-test, and-both, or-neither, or-true, has-in, in-has, has-without, absent-without, distinct-without, length-without}
 
 -- ---- causes
@@ -24,6 +26,10 @@ causes-in-order n s (lock r) = same-cause (same-cause (passed-over (passed-over 
 causes-in-order n s (unlock r) = same-cause (same-cause (passed-over (passed-over (passed-over (same-cause none-left)))))
 causes-in-order n s (withdraw r) = same-cause (passed-over (passed-over (same-cause (same-cause (passed-over (passed-over (same-cause none-left)))))))
 causes-in-order n s (reinstate r) = same-cause (passed-over (passed-over (passed-over (passed-over (same-cause none-left)))))
+
+pub close-in-order : (n : ℕ) (s : Sheet) (room : ℕ) → InOrder (closeCauses n s room) closeOrder
+unfolding closeCauses closeOrder
+close-in-order n s room = same-cause (same-cause none-left)
 
 -- no cause has the number of acceptance
 pub number-positive : (c : Cause) → 1 ≤ number c
@@ -47,6 +53,7 @@ number-positive unknown-kind = omega arith
 number-positive not-open = omega arith
 number-positive touched-record = omega arith
 number-positive withdrawn-record = omega arith
+number-positive none-in-use = omega arith
 
 pub caused-positive : {k : ℕ} → Caused k → 0 < k
 caused-positive c = omega (arith, number-positive (c .0), c .1)
@@ -81,6 +88,11 @@ refused-same b undo z = go (b .pile) z
     go : (ss : List Sheet) → (undoAnswer ss ≡ 0 → ⊥) → undone b ss ≡ b
     go [] z = unfold undone in refl
     go (s ∷ ss) z = absurd (z (unfold undoAnswer in refl))
+refused-same b (close room) z = go (closeAnswer (b .n) (b .sheet) room) z
+  where
+    go : (k : ℕ) → (k ≡ 0 → ⊥) → closed k b ≡ b
+    go zero z = absurd (z refl)
+    go (suc k) z = unfold closed in refl
 
 -- an undo after an accepted edit gives the sheet before it
 pub undo-back : (b : Book) (e : Edit) → answer b (edit e) ≡ 0 → next (next b (edit e)) undo .sheet ≡ b .sheet
@@ -267,10 +279,16 @@ unfolding undone
 undone-sound b [] o a = o
 undone-sound b (s ∷ ss) o (all-more p a) = record { small = o .small; sheet = p; pile = a }
 
+closed-sound : (b : Book) (z : ℕ) → Sound b → Sound (closed z b)
+unfolding closed
+closed-sound b zero o = record { small = omega (arith, o .small, rank-le (used (b .n) (b .sheet)) (b .n)); sheet = closed-fit (b .n) (b .sheet) (o .sheet); pile = all-none }
+closed-sound b (suc z) o = o
+
 pub next-sound : (b : Book) (c : Call) → Sound b → Sound (next b c)
 unfolding next
 next-sound b (edit e) o = turned-sound b (edited e (b .sheet)) _ _ o refl (edited-fit (b .n) (b .sheet) e (o .sheet))
 next-sound b undo o = undone-sound b (b .pile) o (o .pile)
+next-sound b (close room) o = closed-sound b _ o
 
 pub fresh-sound : (n : ℕ) → n ≤ maxRecords → Sound (fresh n)
 unfolding fresh has Distinct

@@ -4,8 +4,11 @@ pub mod Book
 pub mod Sheets
 pub mod ListLaws
 pub mod SetLaws
-pub mod BookLaws
 pub mod TotalLaws
+pub mod RankLaws
+pub mod CloseLaws
+pub mod BookLaws
+pub mod GivenLaws
 pub mod BookCases
 pub mod Orders
 pub mod OrderLaws

@@ -1,5 +1,5 @@
 -- Laws of membership in a list, and of ascending lists: two with the same members are equal. Assumes nothing.
-use mathlib.Core.Path.{_≡_, refl, sym, ap₂, subst}
+use mathlib.Core.Path.{_≡_, refl, sym, ap, ap₂, subst}
 use mathlib.Core.Logic.{_⊎_, inl, inr, ⊎-elim}
 use mathlib.Core.List.{List, [], _∷_, _++_, map}
 use Prim.Native.Nat.{ℕ, zero, suc, _≤_, _<_}
@@ -49,6 +49,10 @@ module _ {A B : Type 0} (f : A → B) where
   map-in here = here
   map-in (there h) = there (map-in h)
 
+  pub length-map : (l : List A) → length (map f l) ≡ length l
+  length-map [] = refl
+  length-map (x ∷ l) = ap suc (length-map l)
+
   pub in-map : {v : B} (l : List A) → In v (map f l) → (w : A) × In w l × (v ≡ f w)
   in-map [] h = absurd (in-none h refl)
   in-map (x ∷ l) h = ⊎-elim (λ e. (x, here, e)) (λ i. let r = in-map l i in (r .0, there (r .1), r .2)) (in-front h refl)
@@ -61,6 +65,12 @@ rises-least (rises h r) (there i) = omega (arith, rises-least r i)
 pub rises-from : {m k : ℕ} {l : List ℕ} → k ≤ m → Rises m l → Rises k l
 rises-from h ended = ended
 rises-from {m} {k} h (rises {w = w} g r) = rises {m = k} {w = w} (omega arith) r
+
+-- renamed so that the order stays
+pub rises-map : (f : ℕ → ℕ) {m k : ℕ} (l : List ℕ) → Rises m l → ((w v : ℕ) → In w l → In v l → w < v → f w < f v) → ((w : ℕ) → In w l → k ≤ f w) → Rises k (map f l)
+rises-map f [] ended g low = ended
+rises-map f {m} {k} (w ∷ l) (rises h r) g low =
+    rises {m = k} {w = f w} (low w here) (rises-map f l r (λ x y i j. g x y (there i) (there j)) (λ x i. g w x here (there i) (rises-least r i)))
 
 pub rises-same : {m k : ℕ} (l j : List ℕ) → Rises m l → Rises k j → ((w : ℕ) → In w l → In w j) → ((w : ℕ) → In w j → In w l) → l ≡ j
 rises-same [] [] r q f b = refl

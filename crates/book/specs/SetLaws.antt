@@ -1,6 +1,6 @@
--- Laws of lists taken as sets: what is in a list without a member, and lists in which every member stands once. Assumes nothing.
+-- Laws of lists taken as sets: what is in a list without a member, lists in which every member stands once, and lists renamed. Assumes nothing.
 use mathlib.Core.Path.{_≡_, refl, sym, ap, subst, _∙_}
-use mathlib.Core.List.{List, [], _∷_}
+use mathlib.Core.List.{List, [], _∷_, map}
 use mathlib.Core.Bool.{Bool, true, false, not, _||_, _&&_, false≢true, true≢false}
 use Prim.Native.Nat.{suc}
 use lib.ListN.{length}
@@ -9,6 +9,7 @@ use borrow.Author.Tests.{eq-eqb, eqb-true}
 use Rattle.book.specs.Basics.{pick, In, here, there, has, without}
 use Rattle.book.specs.Book.{Link, sameLink}
 use Rattle.book.specs.Sheets.{Distinct}
+use Rattle.book.specs.ListLaws.{map-in, in-map}
 
 pub and-both : (a b : Bool) → (a && b) ≡ true → (a ≡ true) × (b ≡ true)
 and-both true b e = (refl, e)
@@ -30,7 +31,7 @@ pub record EqualityTest {A : Type 0} (same : A → A → Bool) : Type 0 where
 pub eqb-test : EqualityTest eqb
 eqb-test = record { sound = eqb-true; reflexive = λ a. eq-eqb a a refl }
 
-link-is : (j k : Link) → j .from ≡ k .from → j .label ≡ k .label → j .to ≡ k .to → j ≡ k
+pub link-is : (j k : Link) → j .from ≡ k .from → j .label ≡ k .label → j .to ≡ k .to → j ≡ k
 link-is j k p q r = λ i. record { from = p i; label = q i; to = r i }
 
 pub sameLink-test : EqualityTest sameLink
@@ -113,3 +114,27 @@ module _ {A : Type 0} {same : A → A → Bool} (T : EqualityTest same) where
           → suc (length (pick t (without same x ys) (y ∷ without same x ys))) ≡ suc (length ys)
       go true q e ih = ap (λ (l : List A). suc (length l)) (without-absent x ys (ap (λ (v : A). has same v ys) (sym (T .sound y x q)) ∙ d .0))
       go false q e ih = ap suc (ih e)
+
+-- ---- a list with each member renamed
+module _ {A : Type 0} {same : A → A → Bool} (T : EqualityTest same) (f : A → A) where
+  pub has-map : (x : A) (l : List A) → has same x l ≡ true → has same (f x) (map f l) ≡ true
+  has-map x l e = in-has T (f x) (map f l) (map-in f (has-in T x l e))
+
+  pub map-has : (y : A) (l : List A) → has same y (map f l) ≡ true → (x : A) × (has same x l ≡ true) × (f x ≡ y)
+  map-has y l e = let r = in-map f l (has-in T y (map f l) e) in (r .0, in-has T (r .0) l (r .1), sym (r .2))
+
+  -- of a renaming that keeps the members apart
+  pub distinct-map : (l : List A) → Distinct same l → ((x y : A) → has same x l ≡ true → has same y l ≡ true → f x ≡ f y → x ≡ y) → Distinct same (map f l)
+  unfolding Distinct has
+  distinct-map [] d inj = tt
+  distinct-map (x ∷ l) d inj = (go (has same (f x) (map f l)) refl, distinct-map l (d .1) (λ a b p q. inj a b (later a p) (later b q)))
+    where
+      later : (a : A) → has same a l ≡ true → (same x a || has same a l) ≡ true
+      later a p = rw p (or-true (same x a))
+
+      go : (b : Bool) → has same (f x) (map f l) ≡ b → b ≡ false
+      go false e = refl
+      go true e =
+          let r = map-has (f x) l e in
+          let z : r .0 ≡ x = inj (r .0) x (later (r .0) (r .1)) (rw (T .reflexive x)) (r .2) in
+          absurd (true≢false (sym (r .1) ∙ ap (λ (v : A). has same v l) z ∙ d .0))

@@ -1,13 +1,13 @@
 -- Laws of totals: how many members of a list pass a test, without one of them too, and what each edit does to a sheet's totals. Assumes nothing.
-use mathlib.Core.Path.{_≡_, refl, sym, ap, _∙_}
-use mathlib.Core.List.{List, [], _∷_}
-use mathlib.Core.Bool.{Bool, true, false, not, _||_, false≢true}
+use mathlib.Core.Path.{_≡_, refl, sym, ap, ap₂, _∙_}
+use mathlib.Core.List.{List, [], _∷_, map}
+use mathlib.Core.Bool.{Bool, true, false, _||_, false≢true}
 use Prim.Native.Nat.{ℕ, _+_, _≤_, _<_}
 use native.Mathlib.Omega.{arith}
 use lib.ListN.{length}
-use lib.Dec.{leb, eqb}
+use lib.Dec.{eqb}
 use borrow.Author.Tests.{lt-leb, le-leb}
-use Rattle.book.specs.Basics.{pick, bit, has, without, tally}
+use Rattle.book.specs.Basics.{pick, bit, In, here, there, has, without, tally}
 use Rattle.book.specs.Causes.{bad-label, number, firstNumber, labels}
 use Rattle.book.specs.Book.{Link, sameLink, Sheet, add, remove, lock, unlock, withdraw, reinstate, present, edited, total, totalNumber}
 use Rattle.book.specs.Sheets.{Distinct}
@@ -23,6 +23,12 @@ module _ {A : Type 0} (t : A → Bool) where
   unfolding tally
   tally-le [] = omega arith
   tally-le (x ∷ xs) = omega (arith, bit-le (t x), tally-le xs)
+
+  -- renamed so that each passes as before
+  pub tally-map : (f : A → A) (l : List A) → ((x : A) → In x l → t (f x) ≡ t x) → tally t (map f l) ≡ tally t l
+  unfolding tally
+  tally-map f [] h = refl
+  tally-map f (x ∷ l) h = ap₂ (λ (p : Bool) (k : ℕ). bit p + k) (h x here) (tally-map f l (λ y i. h y (there i)))
 
   -- a member that stands once counts once
   pub tally-without : {same : A → A → Bool} → EqualityTest same → (x : A) (l : List A) → Distinct same l → has same x l ≡ true

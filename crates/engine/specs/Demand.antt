@@ -1,8 +1,8 @@
 -- Demand 3, undivided: what is claimed of every history, and of the questions asked after it. It speaks of the plain book, of chains and of words.
 --   PairsAsked      a pair question: its text, how many words of work were lent, the list as it was and as it is then, and the answer
 --   ChainAsked      a chain question: from, to, and the same
---   Transcript      a history and the questions after it: n, the calls, the number told to each, at the end the words of the links, the mark of
---                   each record (register `Marks`) and the total of each label, and the two questions asked then
+--   Transcript      a history and the questions after it: n, the calls, the number told to each, the list that each closing up was lent, at the end the words
+--                   of the links, the mark of each record (register `Marks`) and the total of each label, and the two questions asked then
 --   bookAfter i     the plain book after the calls of i, from a fresh one
 --   PairsAccepted b q e
 --                   the pair question q about the book b is accepted: its text is the expression e, and work is enough
@@ -13,7 +13,7 @@
 --   ChainSays g e q of an accepted chain question: where there is a chain there is a first of all chains, none shorter and none as short before it, and it
 --                   is handed out with the number of its steps, if the list takes it; none is said exactly if there is no chain of any length
 --   ChainClaim b q  so for every accepted chain question
---   Demand i        answers, links, locks, withdrawn records, totals and both questions are those of the plain book
+--   Demand i        answers, the lists that closings up gave, links, locks, withdrawn records, totals and both questions are those of the plain book
 -- Assumes nothing: these are definitions.
 use mathlib.Core.Path.{_≡_}
 use mathlib.Core.List.{List}
@@ -21,12 +21,13 @@ use Prim.Native.Nat.{ℕ, _≤_, _<_}
 use lib.ListN.{length, take, getD}
 use Rattle.book.specs.Basics.{In}
 use Rattle.book.specs.Causes.{labels}
-use Rattle.book.specs.Book.{Book, Call, isLocked, isWithdrawn, total, fresh, answers, after}
+use Rattle.book.specs.Book.{Book, Call, isLocked, isWithdrawn, total, fresh, answers, after, givens}
 use Rattle.paths.specs.Expressions.{Expr}
 use Rattle.paths.specs.Grammar.{accepted, Judged}
 use Rattle.paths.specs.Chains.{Graph, asked, Step, stepWords, Answers, First}
 use Rattle.paths.specs.Relations.{PairsAre}
 use Rattle.paths.specs.Questions.{pairsWork, chainWork, over}
+use Rattle.register.specs.History.{Lent, Gives}
 use Rattle.register.specs.Links.{Linked}
 use Rattle.register.specs.Marks.{lockMark, withdrawnMark, hasMark}
 use Rattle.pairs.specs.declared.PairsAnswer.{PairsAnswer}
@@ -55,6 +56,7 @@ pub record Transcript : Type 0 where
   pub n : ℕ
   pub calls : List Call
   pub told : List ℕ
+  pub lists : List Lent
   pub links : List ℕ
   pub marks : List ℕ
   pub totals : List ℕ
@@ -94,6 +96,7 @@ ChainClaim b q = (e : Expr) → ChainAccepted b q e → ChainSays (asked b) e q
 -- ---- the whole
 pub record Demand (i : Transcript) : Type 0 where
   pub answers : i .told ≡ answers (fresh (i .n)) (i .calls)
+  pub givens : Gives (givens (fresh (i .n)) (i .calls)) (i .lists)
   pub links : Linked (i .links) (bookAfter i .sheet)
   pub locks : (r : ℕ) → hasMark lockMark (i .marks) r ≡ isLocked (bookAfter i .sheet) r
   pub withdrawn : (r : ℕ) → hasMark withdrawnMark (i .marks) r ≡ isWithdrawn (bookAfter i .sheet) r

@@ -2,7 +2,7 @@
 --   pairs-claim, chain-claim
 --                   what the questions promise gives what is claimed of them
 --   faulty-kept     of a faulty expression: its number, and the list as it was
---   claims          answers and register of the book are all that is needed
+--   claims          answers, lists given and register of the book are all that is needed
 --   demand-3        for every n from 1 to 1,024, every list of calls, and every question asked of the register at the end
 --   replayed-calls  what `replay` tells the calls among its words is what the book answers
 --   none-linked     a fresh register shows no link
@@ -18,7 +18,7 @@ use lib.Seq.{length-take-le}
 use borrow.Author.Tests.{lt-leb, le-ltb}
 use Rattle.book.specs.Basics.{pick, bit, here, has}
 use Rattle.book.specs.Causes.{number, firstNumber, maxRecords}
-use Rattle.book.specs.Book.{Book, Call, fresh, answers, after, freshAnswer}
+use Rattle.book.specs.Book.{Book, Call, fresh, answers, after, givens, freshAnswer}
 use Rattle.paths.specs.Expressions.{Expr}
 use Rattle.paths.specs.Grammar.{Verdict, accepted, Judged, verdictCause}
 use Rattle.paths.specs.Chains.{asked, Step, stepWords, Answers, First, Reply, none, chain, ChainIs, no-chain, first-chain}
@@ -30,7 +30,7 @@ use Rattle.paths.specs.Questions.{Outcome, refused, paired, replied, unless, pa
 use Rattle.register.specs.Links.{Linked}
 use Rattle.register.specs.Representation.{Represents}
 use Rattle.register.specs.Calls.{Opens}
-use Rattle.register.specs.History.{CallsMade, wordCall, wordAnswers, isCall, callsOf, toldCalls}
+use Rattle.register.specs.History.{Gives, CallsMade, wordCall, wordAnswers, isCall, callsOf, toldCalls}
 use Rattle.register.specs.HistoryLaws.{history, word-answers-length, told-calls}
 use Rattle.register.specs.Questions.{Listing, MarkList}
 use Rattle.register.specs.declared.Register.{Register}
@@ -164,11 +164,12 @@ chain-claim {r} {b} R q Q e A =
 
 -- ---- the whole claim
 module _ {r : Register} (i : Transcript) (G : Gave r i) where
-  pub claims : i .told ≡ answers (fresh (i .n)) (i .calls) → Represents r (bookAfter i) → Demand i
-  claims a R =
+  pub claims : i .told ≡ answers (fresh (i .n)) (i .calls) → Gives (givens (fresh (i .n)) (i .calls)) (i .lists) → Represents r (bookAfter i) → Demand i
+  claims a g R =
       let l = G .links in
       record {
         answers = a;
+        givens = g;
         links = subst (λ (ws : List ℕ). Linked ws (bookAfter i .sheet)) (sym (l .2)) (l .1 .linked (bookAfter i) R);
         locks = G .marks .locked (bookAfter i) R;
         withdrawn = G .marks .withdrawn (bookAfter i) R;
@@ -177,12 +178,12 @@ module _ {r : Register} (i : Transcript) (G : Gave r i) where
         chain = chain-claim R (i .chain) (G .chain);
       }
 
-  pub demand-3 : {out : Told} → 1 ≤ i .n → i .n ≤ maxRecords → Opens (i .n) out → CallsMade (out .register) (i .calls) (i .told) r → Demand i
+  pub demand-3 : {out : Told} → 1 ≤ i .n → i .n ≤ maxRecords → Opens (i .n) out → CallsMade (out .register) (i .calls) (i .told) (i .lists) r → Demand i
   unfolding freshAnswer firstNumber number
   demand-3 l h O run =
       let z : freshAnswer (i .n) ≡ 0 = rw (le-ltb (i .n) 1 l, le-ltb maxRecords (i .n) h) in
       let o = history (i .n) (O .made z) run in
-      claims (o .0) (o .1)
+      claims (o .0) (o .1) (o .2)
 
 -- ---- of a replay
 -- of numbers told to words, and others after them, the calls are told the first

@@ -1,14 +1,16 @@
 -- What `inquire` promises: a history and the questions after it, made by one function; and what any calls gave, of which demand 3 is a theorem.
 --   Gave r t        the register r at the end of a history gave, read and asked, what the transcript t says (DemandLaws `demand-3`)
 --   linksShown r    the words of the links that an inquiry shows
---   Unasked k told told′ p c r
+--   Unasked k heard lists p c r
 --                   the history was refused with the number k, and no question asked: both are told that number, every list is as it was, and no link, no
 --                   lock, no withdrawn record and no total but 0 is shown
---   Inquired n words told told′ p c r
---                   the history was made: each word's number stands in the list `told`, whose words past them are as they were; both questions are
---                   answered as the plain book answers them, refusals too; and demand 3, of the calls among the words
---   Inquires n words told told′ p c r
---                   refused if n is outside 1 to 1,024 (1) or `told` is shorter than the answers (12), else made
+--   Inquired n words heard lists p c r
+--                   the history was made: each word's number stands in the list `heard`, whose words past them are as they were; the list of each closing
+--                   up in its 1,024 words of `lists`; both questions are answered as the plain book answers them, refusals too; and demand 3, of the
+--                   calls among the words
+--   Inquires n words heard lists p c r
+--                   refused if n is outside 1 to 1,024 (1), or `heard` is shorter than the answers or `lists` has fewer than 1,024 words for each closing
+--                   up (12), else made
 -- Assumes nothing: these are definitions.
 use mathlib.Core.Path.{_≡_}
 use mathlib.Core.List.{List, [], _++_}
@@ -16,10 +18,10 @@ use mathlib.Core.Bool.{false}
 use Prim.Native.Nat.{ℕ, _<_}
 use lib.ListN.{length, take, drop, getD}
 use Rattle.book.specs.Causes.{labels}
-use Rattle.book.specs.Book.{Book, fresh, after}
+use Rattle.book.specs.Book.{Book, fresh, after, givens}
 use Rattle.paths.specs.Verdicts.{verdict}
 use Rattle.register.specs.Calls.{answerOf}
-use Rattle.register.specs.History.{wordAnswers, callsOf, toldCalls, replayNumber}
+use Rattle.register.specs.History.{Lent, wordAnswers, callsOf, toldCalls, closings, laid, parts, replayNumber}
 use Rattle.register.specs.Marks.{lockMark, withdrawnMark, hasMark}
 use Rattle.register.specs.Questions.{Listing, MarkList, TotalList}
 use Rattle.register.specs.declared.Register.{Register}
@@ -41,10 +43,11 @@ pub record Gave (r : Register) (t : Transcript) : Type 0 where
 abbrev pub linksShown : Inquiry → List ℕ
 linksShown r = take (r .links .count) (r .links .words)
 
-pub record Unasked (k : ℕ) (told told′ : List ℕ) (p : PairsAsked) (c : ChainAsked) (r : Inquiry) : Type 0 where
+pub record Unasked (k : ℕ) (heard lists : Lent) (p : PairsAsked) (c : ChainAsked) (r : Inquiry) : Type 0 where
   pub pairs : p .answer ≡ Refused k
   pub chain : c .answer ≡ Unanswered k
-  pub numbers : told′ ≡ told
+  pub told : heard .after ≡ heard .before
+  pub given : lists .after ≡ lists .before
   pub list : p .after ≡ p .before
   pub steps : c .after ≡ c .before
   pub links : linksShown r ≡ []
@@ -52,13 +55,24 @@ pub record Unasked (k : ℕ) (told told′ : List ℕ) (p : PairsAsked) (c : Cha
   pub withdrawn : (x : ℕ) → hasMark withdrawnMark (r .marks) x ≡ false
   pub totals : (l : ℕ) → l < labels → getD (r .totals) l 0 ≡ 0
 
-pub record Inquired (n : ℕ) (words told told′ : List ℕ) (p : PairsAsked) (c : ChainAsked) (r : Inquiry) : Type 0 where
-  pub numbers : told′ ≡ wordAnswers (fresh n) words ++ drop (length words) told
+pub record Inquired (n : ℕ) (words : List ℕ) (heard lists : Lent) (p : PairsAsked) (c : ChainAsked) (r : Inquiry) : Type 0 where
+  pub told : heard .after ≡ wordAnswers (fresh n) words ++ drop (length words) (heard .before)
+  pub given : lists .after ≡ laid (givens (fresh n) (callsOf words)) (lists .before)
   pub pairs : BookPairs (after (fresh n) (callsOf words)) (verdict (p .text)) (p .work) (p .before) (p .after) (p .answer)
   pub chain : BookReplies (after (fresh n) (callsOf words)) (c .from) (c .to) (c .text) (c .work) (c .before) (c .after) (c .answer)
-  pub demand : Demand (record { n = n; calls = callsOf words; told = toldCalls words told′; links = linksShown r; marks = r .marks; totals = r .totals; pairs = p; chain = c })
+  pub demand : Demand (record {
+    n = n;
+    calls = callsOf words;
+    told = toldCalls words (heard .after);
+    lists = parts (closings (callsOf words)) lists;
+    links = linksShown r;
+    marks = r .marks;
+    totals = r .totals;
+    pairs = p;
+    chain = c;
+  })
 
-pub record Inquires (n : ℕ) (words told told′ : List ℕ) (p : PairsAsked) (c : ChainAsked) (r : Inquiry) : Type 0 where
-  pub answer : r .answer ≡ answerOf (replayNumber n words told)
-  pub refused : (replayNumber n words told ≡ 0 → ⊥) → Unasked (replayNumber n words told) told told′ p c r
-  pub made : replayNumber n words told ≡ 0 → Inquired n words told told′ p c r
+pub record Inquires (n : ℕ) (words : List ℕ) (heard lists : Lent) (p : PairsAsked) (c : ChainAsked) (r : Inquiry) : Type 0 where
+  pub answer : r .answer ≡ answerOf (replayNumber n words (heard .before) (lists .before))
+  pub refused : (replayNumber n words (heard .before) (lists .before) ≡ 0 → ⊥) → Unasked (replayNumber n words (heard .before) (lists .before)) heard lists p c r
+  pub made : replayNumber n words (heard .before) (lists .before) ≡ 0 → Inquired n words heard lists p c r

@@ -5,3 +5,4 @@ pub mod Previews
 pub mod PreviewLaws
 pub mod TwoPeople
 pub mod TwoPeopleLaws
+pub mod ClosingLaws

@@ -24,7 +24,7 @@ use Rattle.paths.specs.GraphLaws.{same-graph, same-pairs, same-chain, some-repl
 use Rattle.register.specs.Links.{linkWord, Linked}
 use Rattle.register.specs.Representation.{Represents}
 use Rattle.register.specs.Calls.{answerOf, Opens, Steps}
-use Rattle.register.specs.History.{CallsMade}
+use Rattle.register.specs.History.{Lent, CallsMade}
 use Rattle.register.specs.HistoryLaws.{history}
 use Rattle.register.specs.Questions.{totalOf, totalAnswer}
 use Rattle.register.specs.declared.Register.{Register}
@@ -148,10 +148,10 @@ two-people r b R short d e x y apart o o′ p p′ E =
     record { accepted = λ f g. both-done b R room x y apart E f g; same = λ f g. ends-same b R room x y apart E f g }
 
 -- of every register that calls made, from a fresh one of n records
-pub two-people-made : (n : ℕ) → 1 ≤ n → n ≤ maxRecords → (out : Outcome) → Opens n out → (cs : List Call) (told : List ℕ) (r : Register)
-    → CallsMade (out .register) cs told r → length (after (fresh n) cs .sheet .links) + 2 ≤ maxLinks → (d e : Edit) (x : Single d) (y : Single e)
+pub two-people-made : (n : ℕ) → 1 ≤ n → n ≤ maxRecords → (out : Outcome) → Opens n out → (cs : List Call) (told : List ℕ) (ls : List Lent) (r : Register)
+    → CallsMade (out .register) cs told ls r → length (after (fresh n) cs .sheet .links) + 2 ≤ maxLinks → (d e : Edit) (x : Single d) (y : Single e)
     → (linkIn x ≡ linkIn y → ⊥) → (o o′ p p′ : Outcome) → Entered r d e o o′ p p′ → NoAccount o o′ p p′
 unfolding freshAnswer firstNumber number
-two-people-made n l h out O cs told r run short d e x y apart o o′ p p′ E =
+two-people-made n l h out O cs told ls r run short d e x y apart o o′ p p′ E =
     let z : freshAnswer n ≡ 0 = rw (le-ltb n 1 l, le-ltb maxRecords n h) in
-    two-people r (after (fresh n) cs) (history n (O .made z) run .1) short d e x y apart o o′ p p′ E
+    two-people r (after (fresh n) cs) (history n (O .made z) run .2) short d e x y apart o o′ p p′ E

@@ -10,7 +10,7 @@ ghost use lib.ListN.{length};
 ghost use Rattle.book.specs.Book.{add, remove, lock, unlock, withdraw, reinstate, edit, undo};
 ghost use Rattle.k2.specs.PairSets.{union, intersection, difference, transpose, closure};
 ghost use Rattle.tree.specs.Calls.{productSensed, Answered, Listed, treeOf, listOf, treeOfOne, treeOfTwo};
-ghost use Rattle.register.specs.Calls.{callOf, Opens, Steps};
+ghost use Rattle.register.specs.Calls.{callOf, Opens, Steps, Closes};
 ghost use Rattle.register.specs.Questions.{Sized, Listing, Locking, Withdrawal, Totals};
 ghost use Rattle.pairs.specs.Asking.{AsksPairs, Relates};
 ghost use Rattle.chains.specs.Replies.{Replies};
@@ -85,6 +85,13 @@ pub fn apply(register: Register, call: Call) -> Outcome
     ensures { λ r. ⌜ Steps register (callOf call) r ⌝ }
 {
     register.apply(call)
+}
+
+// Closes up the numbers, and tells each old number's new one.
+pub fn close_up(register: Register, numbers: &mut [u16]) -> Outcome
+    ensures { λ r. ⌜ Closes register (now (numbers .entry)) (now (numbers .exit)) r ⌝ }
+{
+    register.close_up(numbers)
 }
 
 // The number of records.
@@ -244,24 +251,31 @@ pub struct Inquiry {
     pub chain: ChainAnswer,
 }
 
+// The records between which a chain is asked for.
+pub struct Ends {
+    pub from: u16,
+    pub to: u16,
+}
+
 // A whole history, its calls as words on a fresh register of n records, and then both questions about one expression: `told` takes the number told to
-// each word, `list` the pairs, `steps` the chain.
+// each word, `numbers` the list of each closing up with 1,024 words for each, `list` the pairs, `steps` the chain.
 pub fn inquire(
     n: u16,
     calls: &[u64],
     told: &mut [u32],
+    numbers: &mut [u16],
     text: &[u8],
-    from: u16,
-    to: u16,
+    ends: Ends,
     work: &mut [u64],
     list: &mut [u32],
     steps: &mut [u32],
 ) -> Inquiry
-    ensures { λ r. ⌜ Inquires n (now (calls .entry)) (now (told .entry)) (now (told .exit))
+    ensures { λ r. ⌜ Inquires n (now (calls .entry)) (record { before = now (told .entry); after = now (told .exit) })
+        (record { before = now (numbers .entry); after = now (numbers .exit) })
         (record { text = now (text .entry); work = length (now (work .entry)); before = now (list .entry); after = now (list .exit); answer = r .pairs })
         (record {
-          from = from;
-          to = to;
+          from = ends .from;
+          to = ends .to;
           text = now (text .entry);
           work = length (now (work .entry));
           before = now (steps .entry);
@@ -269,7 +283,9 @@ pub fn inquire(
           answer = r .chain;
         }) r ⌝ }
 {
-    let opened = register::replay(n, calls, told);
+    let from = ends.from;
+    let to = ends.to;
+    let opened = register::replay(n, calls, told, numbers);
     let answer = opened.answer;
     let register = opened.register;
     let number = register::number_of(answer);

@@ -12,9 +12,11 @@ use lib.ListN.{length, take, drop}
 use borrow.Author.Tests.{lt-ltb, le-ltb}
 use Rattle.book.specs.Basics.{pick, bit}
 use Rattle.book.specs.Causes.{short-work, not-open, number, Caused, firstNumber, maxRecords}
-use Rattle.book.specs.Book.{Book, Call, freshAnswer, fresh}
+use Rattle.book.specs.Book.{Book, Call, close, freshAnswer, fresh}
 use Rattle.register.specs.Representation.{Represents}
-use Rattle.register.specs.Calls.{answerOf, answerNumber, Opens, Steps}
+use Rattle.register.specs.Marks.{Marked}
+use Rattle.register.specs.Counters.{InRange}
+use Rattle.register.specs.Calls.{answerOf, answerNumber, Opens, Steps, Closes}
 use Rattle.register.specs.HistoryLaws.{number-answer}
 use Rattle.register.specs.Questions.{Sized, Listing, Locking, Withdrawal, Totals}
 use Rattle.register.specs.declared.TotalAnswer.{TotalAnswer}
@@ -24,10 +26,12 @@ use Rattle.register.specs.WordLaws.{keeps-long, keeps-same, load-done}
 use Rattle.register.specs.declared.Register.{Register}
 use Rattle.register.specs.declared.Outcome.{Outcome}
 use Rattle.register.specs.declared.Links.{Links}
+use Rattle.register.specs.declared.Answer.{Answer}
 use Rattle.register.specs.declared.Answer.the-variants.{Done, Refused}
 use Rattle.pairs.specs.Asking.{handed}
 use Rattle.pairs.specs.declared.PairsAnswer.the-variants.{Pairs}
 use Rattle.host.specs.Host.{freshNumber, Freshens, Edits, refusal, toldPairs, toldTotal, Told, Asked, Lists, Sizes, TellsLock, TellsWithdrawn, TellsTotal}
+use Rattle.host.specs.Histories.{Renumbers}
 use Rattle.host.specs.Inner.{Finishes, refused, kept, lost}
 
 -- a refused call is not accepted
@@ -72,6 +76,33 @@ module _ {c : Call} {before after : List ℕ} {k : ℕ} {r : Register} (w : Keep
 
       unmet : Steps r c (record { register = r; answer = answerOf (number not-open) })
       unmet = record { caused = λ j q. (not-open, sym (told-as q)); refused = λ _. refl; foreign = λ _. refl; answers = λ b h. absurd (none b h); follows = λ b h. absurd (none b h) }
+
+-- ---- closing up
+pub close-foreign : (ws list : List ℕ) → Foreign ws → Renumbers (record { before = ws; after = ws }) (record { before = list; after = list }) (number not-open)
+close-foreign ws list f = record { edits = edit-foreign (close (length list)) ws f; refused = λ _. refl; past = λ r k. refl; given = λ b h. absurd (f (h .0) (h .1)) }
+
+-- what a closing up hands back has words, accepted or not
+formed : {before list list′ : List ℕ} {r : Register} {o : Outcome} → Keeps before r → Closes r list list′ o → (a : Answer) → o .answer ≡ a
+    → InRange (o .register) × Marked (o .register .marks)
+formed w c Done e = c .formed e
+formed w c (Refused j) e =
+    let s = c .steps .refused (λ d. refused-done (sym e ∙ d)) in
+    (subst InRange (sym s) (w .ranged), subst (λ (q : Register). Marked (q .marks)) (sym s) (w .marked))
+
+list-left : {before after list list′ : List ℕ} {k : ℕ} {r : Register} {o : Outcome} → Keeps before r → Closes r list list′ o → Finishes o before after k
+    → (k ≡ 0 → ⊥) → list′ ≡ list
+list-left w c (refused n e a) z = c .refused n
+list-left w c (kept n e v p) z = absurd (z e)
+list-left {o = o} w c (lost e a g) z = let m = formed w c (o .answer) refl in absurd (g (keeps-long w) (m .0) (m .1))
+
+pub close-kept : {before after list list′ : List ℕ} {k : ℕ} {r : Register} {o : Outcome} → Keeps before r → Closes r list list′ o → Finishes o before after k
+    → Renumbers (record { before = before; after = after }) (record { before = list; after = list′ }) k
+close-kept {list = list} {list′} w c f = record {
+  edits = edit-kept w (c .steps) f;
+  refused = list-left w c f;
+  past = λ s v. subst (λ (q : Register). drop (q .n) list′ ≡ drop (q .n) list) (keeps-same w v) (c .past);
+  given = λ b h. c .given b (subst (λ (q : Register). Represents q b) (sym (keeps-same w (h .1))) (h .2));
+}
 
 -- ---- a fresh register
 -- the number of asking for one: by its size first, then by the room

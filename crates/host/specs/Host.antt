@@ -8,8 +8,6 @@
 --   Edits c before after k
 --                   what an edit or undo promises: over any words a refused one leaves them; words that are no register's are refused with 16; of a
 --                   register's words the number and the words after it are those of an outcome that the call c promises
---   Calls cs ws vs ks
---                   the calls cs, each given the words that the one before left, from the words ws on: the words vs at the end, and the numbers ks
 --   pastCounts      2^32, which no count reaches; told in place of one
 --   refusal k       a refusal told as a number of 64 bits
 --   toldPairs, toldChain, toldTotal, toldTree
@@ -69,10 +67,6 @@ pub record Edits (c : Call) (before after : List ℕ) (k : ℕ) : Type 0 where
   pub past : drop stateWords after ≡ drop stateWords before
   pub foreign : Foreign before → k ≡ number not-open
   pub steps : (r : Register) → Keeps before r → (o : Outcome) × Steps r c o × (k ≡ answerNumber (o .answer)) × Keeps after (o .register)
-
-pub data Calls : List Call → List ℕ → List ℕ → List ℕ → Type 0 where
-  none : {ws : List ℕ} → Calls [] ws ws []
-  then : {c : Call} {cs : List Call} {ws us vs ks : List ℕ} {k : ℕ} → Edits c ws us k → Calls cs us vs ks → Calls (c ∷ cs) ws vs (k ∷ ks)
 
 abbrev pub pastCounts : ℕ
 pastCounts = 4294967296

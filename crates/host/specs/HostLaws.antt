@@ -1,6 +1,6 @@
 -- What the promises over words say of the plain book. Assumes nothing.
 --   edits-book      the number is the book's answer, and the words then keep the next book
---   calls-book      so for a whole history of calls, each given the words that the call before left
+--   calls-book      so for a whole history of calls, each given the words that the call before left, with the lists that its closings up give
 --   pairs-book, chain-book
 --                   a question asked of words that keep a book: the number tells the book's answer, and the list is as that answer leaves it
 --   total-book      the total asked of words that keep a book
@@ -11,9 +11,10 @@ use mathlib.Core.List.{List, [], _∷_}
 use Prim.Native.Nat.{ℕ, _*_, _<_}
 use native.Mathlib.Omega.{arith}
 use lib.ListN.{length}
-use Rattle.book.specs.Book.{Book, Call, answer, next, answers, after}
+use Rattle.book.specs.Book.{Book, Call, answer, next, answers, after, givens}
 use Rattle.paths.specs.Verdicts.{verdict}
 use Rattle.register.specs.Calls.{answerNumber}
+use Rattle.register.specs.History.{Lent, Gives, none-given, more-given}
 use Rattle.register.specs.HistoryLaws.{number-answer}
 use Rattle.register.specs.Questions.{totalAnswer}
 use Rattle.register.specs.declared.TotalAnswer.{TotalAnswer}
@@ -26,20 +27,30 @@ use Rattle.chains.specs.declared.ChainAnswer.{ChainAnswer}
 use Rattle.chains.specs.declared.ChainAnswer.the-variants.{Chain, NoChain, Refused as Unchained}
 use Rattle.tree.specs.declared.listing.Answer.{Answer}
 use Rattle.tree.specs.declared.listing.Answer.the-variants.{Done, Refused as Untreed}
-use Rattle.host.specs.Host.{KeepsBook, Edits, Calls, none, then, pastCounts, toldPairs, toldChain, toldTotal, toldTree, Told, Asked, TellsTotal}
+use Rattle.host.specs.Histories.{Calls, none, then-edit, then-undo, then-close}
+use Rattle.host.specs.Host.{KeepsBook, Edits, pastCounts, toldPairs, toldChain, toldTotal, toldTree, Told, Asked, TellsTotal}
 
 pub edits-book : {c : Call} {ws vs : List ℕ} {k : ℕ} → Edits c ws vs k → (b : Book) → KeepsBook ws b → (k ≡ answer b c) × KeepsBook vs (next b c)
 edits-book e b h =
     let o = e .steps (h .0) (h .1) in
     (o .2 ∙ ap answerNumber (o .1 .answers b (h .2)) ∙ number-answer (answer b _), (o .0 .register, o .3, o .1 .follows b (h .2)))
 
-pub calls-book : {cs : List Call} {ws vs ks : List ℕ} → Calls cs ws vs ks → (b : Book) → KeepsBook ws b → (ks ≡ answers b cs) × KeepsBook vs (after b cs)
-unfolding answers after
-calls-book none b h = (refl, h)
-calls-book (then e r) b h =
+pub calls-book : {cs : List Call} {ws vs ks : List ℕ} {ls : List Lent} → Calls cs ws vs ks ls → (b : Book) → KeepsBook ws b
+    → (ks ≡ answers b cs) × Gives (givens b cs) ls × KeepsBook vs (after b cs)
+unfolding answers after givens
+calls-book none b h = (refl, none-given, h)
+calls-book (then-edit e r) b h =
     let f = edits-book e b h in
     let g = calls-book r (next b _) (f .1) in
-    ((λ i. f .0 i ∷ g .0 i), g .1)
+    ((λ i. f .0 i ∷ g .0 i), g .1, g .2)
+calls-book (then-undo e r) b h =
+    let f = edits-book e b h in
+    let g = calls-book r (next b _) (f .1) in
+    ((λ i. f .0 i ∷ g .0 i), g .1, g .2)
+calls-book (then-close l e r) b h =
+    let f = edits-book (e .edits) b h in
+    let g = calls-book r (next b _) (f .1) in
+    ((λ i. f .0 i ∷ g .0 i), more-given (e .given b h) (g .1), g .2)
 
 module _ {ws before after′ : List ℕ} {k : ℕ} (text : List ℕ) (work : ℕ) (b : Book) (h : KeepsBook ws b) where
   pub pairs-book : Asked ws (λ r. AsksPairs r text work before after′) toldPairs before after′ k → Told (BookPairs b (verdict text) work before after′) toldPairs k

@@ -1,4 +1,5 @@
 pub mod Host
+pub mod Histories
 pub mod Inner
 pub mod HostLaws
 pub mod Previews

@@ -10,7 +10,7 @@ use register::Outcome;
 use register::Register;
 
 // The outcome of an edit: its number, and the register's words if it was accepted.
-fn keep(outcome: Outcome, state: &mut [u32]) -> u32
+pub fn keep(outcome: Outcome, state: &mut [u32]) -> u32
     ensures { λ k. ⌜ Finishes outcome (now (state .entry)) (now (state .exit)) k ⌝ }
 {
     let answer = outcome.answer;

@@ -70,6 +70,18 @@ treeUnit-some n = omega (arith, treeUnit-size n, fullSize-power (height n), four
 pub treeUnit-most : (n : ℕ) → n ≤ 1024 → treeUnit n ≤ 21846
 treeUnit-most n l = omega (arith, treeUnit-size n, fullSize-most (height n) (height-most n l))
 
+-- of fewer records it is not more
+pub treeUnit-mono : (m n : ℕ) → m ≤ n → treeUnit m ≤ treeUnit n
+treeUnit-mono m n l =
+    let k : height m ≤ height n = height-is m .2 (height n) (height-is n .0) (omega (arith, height-is n .1)) in
+    omega (arith, treeUnit-size m, treeUnit-size n, fullSize-power (height m), fullSize-power (height n), four-mono (height m) (height n) k)
+  where
+    four-mono : (h j : ℕ) → h ≤ j → 4 ^ h ≤ 4 ^ j
+    four-mono h j k =
+        let s : 2 ^ h ≤ 2 ^ j = pow-mono k in
+        let t : 2 ^ h * 2 ^ h ≤ 2 ^ j * 2 ^ j = mul-le-mul s s in
+        rw (← square-power h, ← square-power j) t
+
 -- ---- the groups that are not all 0
 ifAny-length : (b : ℕ) (f : ℕ → ℕ) (p : ℕ) → length (ifAny b (fourOf f p)) ≡ 4 * min 1 b
 ifAny-length zero f p = refl

@@ -22,7 +22,7 @@ use lib.Dec.{eqb}
 use lib.ListN.{length}
 use Rattle.book.specs.Basics.{pick}
 use Rattle.book.specs.Causes.{number, unknown-kind}
-use Rattle.book.specs.Book.{Link, Edit, edit, undo, add, remove, lock, unlock, withdraw, reinstate}
+use Rattle.book.specs.Book.{Link, Edit, edit, undo, close, add, remove, lock, unlock, withdraw, reinstate}
 use Rattle.paths.specs.Grammar.{Verdict}
 use Rattle.paths.specs.Chains.{Reply}
 use Rattle.register.specs.History.{addKind, removeKind, lockKind, unlockKind, undoKind, withdrawKind, reinstateKind}
@@ -32,7 +32,7 @@ use Rattle.lines.specs.Typed.{Typed, nothing, saying, typed}
 unfoldable pub linkBytes : Link → List ℕ
 linkBytes k = twoBytes (k .from) ++ (k .label ∷ twoBytes (k .to))
 
--- a word that is not known gives the kind 0, and arguments that do not fit an undo with a body
+-- a word that is not known gives the kind 0, and arguments that do not fit an undo with a body; closing up has no frame, and is like a word not known
 unfoldable pub kindOf : Frame → ℕ
 kindOf (asks (opening n)) = openKind
 kindOf (asks (call (edit (add k)))) = addKind
@@ -42,6 +42,7 @@ kindOf (asks (call (edit (unlock r)))) = unlockKind
 kindOf (asks (call (edit (withdraw r)))) = withdrawKind
 kindOf (asks (call (edit (reinstate r)))) = reinstateKind
 kindOf (asks (call undo)) = undoKind
+kindOf (asks (call (close room))) = 0
 kindOf (asks (pairs t)) = pairsKind
 kindOf (asks (chain x y t)) = chainKind
 kindOf (asks (totalling l)) = totalKind
@@ -56,6 +57,7 @@ bodyOf (asks (call (edit (unlock r)))) = twoBytes r
 bodyOf (asks (call (edit (withdraw r)))) = twoBytes r
 bodyOf (asks (call (edit (reinstate r)))) = twoBytes r
 bodyOf (asks (call undo)) = []
+bodyOf (asks (call (close room))) = []
 bodyOf (asks (pairs t)) = t
 bodyOf (asks (chain x y t)) = twoBytes x ++ (twoBytes y ++ t)
 bodyOf (asks (totalling l)) = l ∷ []

@@ -16,7 +16,7 @@ use lib.Dec.{leb, ltb, eqb}
 use borrow.Author.Tests.{le-leb}
 use Rattle.book.specs.Basics.{pick}
 use Rattle.book.specs.Causes.{number, broken-frame, unknown-kind}
-use Rattle.book.specs.Book.{Link, Edit, edit, undo, add, remove, lock, unlock, withdraw, reinstate}
+use Rattle.book.specs.Book.{Link, Edit, edit, undo, close, add, remove, lock, unlock, withdraw, reinstate}
 use Rattle.paths.specs.Grammar.{Verdict}
 use Rattle.paths.specs.Chains.{Reply}
 use Rattle.report.specs.Report.{bytes}
@@ -30,26 +30,37 @@ use Rattle.lines.specs.Encoding.{linkBytes, kindOf, bodyOf, frameFor, se
 both : (n : ℕ) → n % 256 + 256 * (n / 256) ≡ n
 both n = omega arith
 
-pub decode-request : (q : Request) → decode (kindOf (asks q)) (bodyOf (asks q)) ≡ asks q
+-- a request that a frame can ask for: any but closing up
+abbrev pub Framed : Request → Type 0
+Framed (opening n) = Unit
+Framed (call (edit e)) = Unit
+Framed (call undo) = Unit
+Framed (call (close room)) = ⊥
+Framed (pairs t) = Unit
+Framed (chain x y t) = Unit
+Framed (totalling l) = Unit
+
+pub decode-request : (q : Request) → Framed q → decode (kindOf (asks q)) (bodyOf (asks q)) ≡ asks q
 unfolding decode kindOf bodyOf linkBytes twoBytes number16 linkIn
-decode-request (opening n) = rw (both n)
-decode-request (call (edit (add k))) = rw (both (k .from), both (k .to))
-decode-request (call (edit (remove k))) = rw (both (k .from), both (k .to))
-decode-request (call (edit (lock r))) = rw (both r)
-decode-request (call (edit (unlock r))) = rw (both r)
-decode-request (call (edit (withdraw r))) = rw (both r)
-decode-request (call (edit (reinstate r))) = rw (both r)
-decode-request (call undo) = refl
-decode-request (pairs t) = refl
-decode-request (chain x y t) =
+decode-request (opening n) f = rw (both n)
+decode-request (call (edit (add k))) f = rw (both (k .from), both (k .to))
+decode-request (call (edit (remove k))) f = rw (both (k .from), both (k .to))
+decode-request (call (edit (lock r))) f = rw (both r)
+decode-request (call (edit (unlock r))) f = rw (both r)
+decode-request (call (edit (withdraw r))) f = rw (both r)
+decode-request (call (edit (reinstate r))) f = rw (both r)
+decode-request (call undo) f = refl
+decode-request (call (close room)) f = absurd f
+decode-request (pairs t) f = refl
+decode-request (chain x y t) f =
     let enough : leb 4 (suc (suc (suc (suc (length t))))) ≡ true = le-leb 4 (suc (suc (suc (suc (length t))))) (omega arith) in
     rw (both x, both y, enough)
-decode-request (totalling l) = refl
+decode-request (totalling l) f = refl
 
 -- ---- what lines say
 -- a request whose text is within its limit, or one of the two faults
 pub data Sendable : Frame → Type 0 where
-  request : {q : Request} → length (bodyOf (asks q)) ≤ maxText + 4 → Sendable (asks q)
+  request : {q : Request} → Framed q → length (bodyOf (asks q)) ≤ maxText + 4 → Sendable (asks q)
   misfits : Sendable (faulty broken-frame)
   unknowns : Sendable (faulty unknown-kind)
 
@@ -57,9 +68,9 @@ pub data Sends : Typed → Type 0 where
   none : Sends nothing
   one : {f : Frame} → Sendable f → Sends (saying f)
 
-fits : (b : Bool) (q : Request) → length (bodyOf (asks q)) ≤ maxText + 4 → Sends (fitting b q)
-fits true q h = one (request h)
-fits false q h = one misfits
+fits : (b : Bool) (q : Request) → Framed q → length (bodyOf (asks q)) ≤ maxText + 4 → Sends (fitting b q)
+fits true q f h = one (request f h)
+fits false q f h = one misfits
 
 choose : (b : Bool) (t u : Typed) → Sends t → Sends u → Sends (pick b t u)
 choose true t u x y = x
@@ -69,9 +80,9 @@ length-link : (k : Link) → length (linkBytes k) ≡ 5
 unfolding linkBytes twoBytes
 length-link k = refl
 
-numbered-sends : (f : ℕ → Request) (r : List ℕ) → ((n : ℕ) → length (bodyOf (asks (f n))) ≡ 2) → Sends (numbered f r)
+numbered-sends : (f : ℕ → Request) (r : List ℕ) → ((n : ℕ) → Framed (f n)) → ((n : ℕ) → length (bodyOf (asks (f n))) ≡ 2) → Sends (numbered f r)
 unfolding numbered
-numbered-sends f r h = fits (isNumber (word r) && empty (rest r)) (f (numberOf (word r))) (omega (arith, h (numberOf (word r))))
+numbered-sends f r g h = fits (isNumber (word r) && empty (rest r)) (f (numberOf (word r))) (g (numberOf (word r))) (omega (arith, h (numberOf (word r))))
 
 linked-sends : (f : Link → Edit) (r : List ℕ) → ((k : Link) → length (bodyOf (asks (call (edit (f k))))) ≡ 5) → Sends (linked f r)
 unfolding linked
@@ -80,32 +91,32 @@ linked-sends f r h =
     let l = word (rest r) in
     let y = word (rest (rest r)) in
     let k : Link = record { from = numberOf x; label = labelOf l; to = numberOf y } in
-    fits (isNumber x && (isLabel l && (isNumber y && empty (rest (rest (rest r)))))) (call (edit (f k))) (omega (arith, h k))
+    fits (isNumber x && (isLabel l && (isNumber y && empty (rest (rest (rest r)))))) (call (edit (f k))) tt (omega (arith, h k))
 
 chained-sends : (r : List ℕ) → Sends (chained r)
 unfolding chained bodyOf twoBytes
 chained-sends r =
     let t = text (rest (rest r)) in
-    fits (isNumber (word r) && isNumber (word (rest r))) (chain (numberOf (word r)) (numberOf (word (rest r))) t) (omega (arith, length-text (rest (rest r))))
+    fits (isNumber (word r) && isNumber (word (rest r))) (chain (numberOf (word r)) (numberOf (word (rest r))) t) tt (omega (arith, length-text (rest (rest r))))
 
 lettered-sends : (r : List ℕ) → Sends (lettered r)
 unfolding lettered bodyOf
-lettered-sends r = fits (isLabel (word r) && empty (rest r)) (totalling (labelOf (word r))) (omega arith)
+lettered-sends r = fits (isLabel (word r) && empty (rest r)) (totalling (labelOf (word r))) tt (omega arith)
 
 requested-sends : (w r : List ℕ) → Sends (requested w r)
 unfolding requested alone bodyOf twoBytes
 requested-sends w r =
-    choose (sameBytes w (bytes "open")) _ _ (numbered-sends opening r (λ n. refl))
+    choose (sameBytes w (bytes "open")) _ _ (numbered-sends opening r (λ n. tt) (λ n. refl))
     (choose (sameBytes w (bytes "add")) _ _ (linked-sends add r length-link)
     (choose (sameBytes w (bytes "remove")) _ _ (linked-sends remove r length-link)
-    (choose (sameBytes w (bytes "lock")) _ _ (numbered-sends (λ x. call (edit (lock x))) r (λ n. refl))
-    (choose (sameBytes w (bytes "unlock")) _ _ (numbered-sends (λ x. call (edit (unlock x))) r (λ n. refl))
-    (choose (sameBytes w (bytes "undo")) _ _ (fits (empty r) (call undo) (omega arith))
-    (choose (sameBytes w (bytes "pairs")) _ _ (one (request {q = pairs (text r)} (omega (arith, length-text r))))
+    (choose (sameBytes w (bytes "lock")) _ _ (numbered-sends (λ x. call (edit (lock x))) r (λ n. tt) (λ n. refl))
+    (choose (sameBytes w (bytes "unlock")) _ _ (numbered-sends (λ x. call (edit (unlock x))) r (λ n. tt) (λ n. refl))
+    (choose (sameBytes w (bytes "undo")) _ _ (fits (empty r) (call undo) tt (omega arith))
+    (choose (sameBytes w (bytes "pairs")) _ _ (one (request {q = pairs (text r)} tt (omega (arith, length-text r))))
     (choose (sameBytes w (bytes "chain")) _ _ (chained-sends r)
     (choose (sameBytes w (bytes "total")) _ _ (lettered-sends r)
-    (choose (sameBytes w (bytes "withdraw")) _ _ (numbered-sends (λ x. call (edit (withdraw x))) r (λ n. refl))
-    (choose (sameBytes w (bytes "reinstate")) _ _ (numbered-sends (λ x. call (edit (reinstate x))) r (λ n. refl))
+    (choose (sameBytes w (bytes "withdraw")) _ _ (numbered-sends (λ x. call (edit (withdraw x))) r (λ n. tt) (λ n. refl))
+    (choose (sameBytes w (bytes "reinstate")) _ _ (numbered-sends (λ x. call (edit (reinstate x))) r (λ n. tt) (λ n. refl))
     (one unknowns)))))))))))
 
 begun-sends : (s : List ℕ) → Sends (begun s)
@@ -120,7 +131,7 @@ typed-sends s = choose (ltb maxLine (length s)) _ _ (one misfits) (begun-sends (
 -- ---- frames
 decode-sendable : {f : Frame} → Sendable f → decode (kindOf f) (bodyOf f) ≡ f
 unfolding decode kindOf bodyOf number
-decode-sendable (request {q} h) = decode-request q
+decode-sendable (request {q} f h) = decode-request q f
 decode-sendable misfits = refl
 decode-sendable unknowns = refl
 
@@ -157,7 +168,7 @@ frame-out n a b s i h =
 
 length-body : {f : Frame} → Sendable f → length (bodyOf f) ≤ maxBody
 unfolding bodyOf number
-length-body (request h) = omega arith
+length-body (request f h) = omega arith
 length-body misfits = omega arith
 length-body unknowns = omega arith
 

@@ -17,12 +17,11 @@
 -- Assumes nothing: these are definitions.
 use mathlib.Core.Path.{_≡_}
 use mathlib.Core.List.{List, [], _∷_, map}
-use mathlib.Core.Bool.{Bool, true, not, _&&_}
+use mathlib.Core.Bool.{Bool, true}
 use Prim.Native.Nat.{ℕ, _+_, _*_, _<_}
 use lib.ListN.{length}
-use lib.Dec.{ltb}
 use Rattle.book.specs.Basics.{pick, bit}
-use Rattle.book.specs.Book.{Link, Book, present, isWithdrawn}
+use Rattle.book.specs.Book.{Link, Book, present, used}
 use Rattle.paths.specs.Expressions.{Letter, Expr}
 use Rattle.paths.specs.Words.{Words}
 
@@ -32,7 +31,7 @@ pub record Graph : Type 0 where
   pub present : Link → Bool
 
 unfoldable pub asked : Book → Graph
-asked b = record { n = b .n; inUse = λ x. ltb x (b .n) && not (isWithdrawn (b .sheet) x); present = present (b .sheet) }
+asked b = record { n = b .n; inUse = used (b .n) (b .sheet); present = present (b .sheet) }
 
 pub record Step : Type 0 where
   pub spelt : Letter

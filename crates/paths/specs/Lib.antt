@@ -17,3 +17,6 @@ pub mod PairLaws
 pub mod Acceptance
 pub mod FirstChain
 pub mod GraphLaws
+pub mod Renaming
+pub mod RenamingLaws
+pub mod ClosingLaws

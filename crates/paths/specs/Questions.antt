@@ -20,6 +20,7 @@ use mathlib.Core.Bool.{Bool, _||_}
 use Prim.Native.Nat.{ℕ, zero, suc, _*_}
 use lib.ListN.{length, take, drop}
 use lib.Dec.{leb, ltb}
+pub use Rattle.book.specs.Basics.{over}
 use Rattle.book.specs.Causes.{Cause, no-record, short-work, short-list, firstNumber}
 use Rattle.book.specs.Book.{Book}
 use Rattle.k2.specs.Trees.{treeUnit}
@@ -72,10 +73,6 @@ chainCauses b x y v t work room =
 
 unfoldable pub chainAnswer : Book → ℕ → ℕ → Verdict → Reply → ℕ → ℕ → Outcome
 chainAnswer b x y v t work room = unless (firstNumber (chainCauses b x y v t work room)) (replied t)
-
--- the list l with the words ws written over its front
-abbrev pub over : List ℕ → List ℕ → List ℕ
-over ws l = ws ++ drop (length ws) l
 
 unfoldable pub listAfter : Outcome → List ℕ → List ℕ
 listAfter (refused k) l = l

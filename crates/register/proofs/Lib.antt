@@ -5,5 +5,6 @@ pub mod Ring
 pub mod Showing
 pub mod Stepping
 pub mod Replaying
+pub mod Renumbering
 pub mod Asking
 pub mod Keeping

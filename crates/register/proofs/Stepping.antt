@@ -26,11 +26,11 @@ use Rattle.register.proofs.Showing.{packedCauses, first-append, first-s
 
 -- ---- answers
 -- the number of a refusal is its own
-caused-as : {k : ℕ} → Caused k → (j : ℕ) → Refused k ≡ Refused j → Caused j
+pub caused-as : {k : ℕ} → Caused k → (j : ℕ) → Refused k ≡ Refused j → Caused j
 caused-as {k} c j e = let z : k ≡ j = cc in subst Caused z c
 
 -- an accepted call is not refused
-done-refused : {k : ℕ} → Done ≡ Refused k → ⊥
+pub done-refused : {k : ℕ} → Done ≡ Refused k → ⊥
 done-refused e = let z : _≡_ {A = ℕ} 0 1 = cc in omega arith
 
 -- ---- contents out of range, which represent no book

@@ -7,11 +7,20 @@
 --                   what a call promises: a refused one has the number of a cause and hands the register back as it was, whatever it contains, and
 --                   contents out of range are refused as those of no register; and for every book that the register represents, the answer is the
 --                   book's, and the register handed back represents the book after the call
+--   Closes self before after out
+--                   what closing up promises, lent a list that held before and holds after then: what `Steps` says of the call with a list so long; a
+--                   refused one leaves the list as it was, the words past the old n are as they were, and an accepted one hands back counters in range and
+--                   marks that are marks, whatever the register contains; and for every book that the register represents, the list that the book gives
+--                   is written over the front
 -- Assumes nothing: these are definitions.
 use mathlib.Core.Path.{_≡_}
+use mathlib.Core.List.{List}
 use Prim.Native.Nat.{ℕ, zero, suc}
+use lib.ListN.{length, drop}
+use Rattle.book.specs.Basics.{over}
 use Rattle.book.specs.Causes.{not-open, number, Caused}
-use Rattle.book.specs.Book.{Book, add, remove, lock, unlock, withdraw, reinstate, Call as Book·Call, edit, undo, answer, next, freshAnswer, fresh}
+use Rattle.book.specs.Book.{Book, add, remove, lock, unlock, withdraw, reinstate, Call as Book·Call, edit, undo, close, answer, next, given, freshAnswer, fresh}
+use Rattle.register.specs.Marks.{Marked}
 use Rattle.register.specs.Counters.{InRange}
 use Rattle.register.specs.Representation.{Represents}
 use Rattle.register.specs.declared.Register.{Register}
@@ -51,3 +60,12 @@ pub record Steps (self : Register) (c : Book·Call) (out : Outcome) : Type 0 whe
   -- of a register that represents a book
   pub answers : (b : Book) → Represents self b → out .answer ≡ answerOf (answer b c)
   pub follows : (b : Book) → Represents self b → Represents (out .register) (next b c)
+
+pub record Closes (self : Register) (before after : List ℕ) (out : Outcome) : Type 0 where
+  pub steps : Steps self (close (length before)) out
+  -- over any contents
+  pub refused : (out .answer ≡ Done → ⊥) → after ≡ before
+  pub past : drop (self .n) after ≡ drop (self .n) before
+  pub formed : out .answer ≡ Done → InRange (out .register) × Marked (out .register .marks)
+  -- of a register that represents a book
+  pub given : (b : Book) → Represents self b → after ≡ over (given b (close (length before))) before

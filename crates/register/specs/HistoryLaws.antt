@@ -1,17 +1,17 @@
--- The history theorem: whatever calls are made, refused ones included, the answers are the book's, and the register at the end represents the book at the end.
+-- The history theorem: whatever calls are made, refused ones included, the answers and the lists given are the book's, and the register at the end represents
+-- the book at the end.
 -- And laws of a history as words: the numbers told to words, the calls among them, and that every call has a word. Assumes nothing.
---   Small c         the arguments of the call are as wide as the frames': records of 16 bits, a label of 8
+--   Small c         the arguments of the call are as wide as the frames': records of 16 bits, a label of 8; and the length of a list has 40 bits
 --   Members e b     what the register e and the book b have in common, as sets: the links, each once, the totals, and the locks
 use mathlib.Core.Path.{_≡_, refl, ap, ap₂, sym, _∙_}
 use mathlib.Core.List.{List, [], _∷_, _++_, append-assoc}
-use mathlib.Core.Bool.{false}
 use Prim.Native.Nat.{ℕ, zero, suc, _+_, _*_, _/_, _%_, _≤_, _<_}
 use native.Mathlib.Omega.{arith}
 use lib.Dec.{eqb}
 use lib.ListN.{length, take, getD}
 use Rattle.book.specs.Basics.{pick, All, all-none, all-more}
 use Rattle.book.specs.Causes.{labels}
-use Rattle.book.specs.Book.{sameLink, Sheet, Book, add, remove, lock, unlock, withdraw, reinstate, Call, edit, undo, isLocked, isWithdrawn, total, answer, next, fresh, answers, after}
+use Rattle.book.specs.Book.{sameLink, Sheet, Book, add, remove, lock, unlock, withdraw, reinstate, Call, edit, undo, close, isLocked, isWithdrawn, total, answer, next, fresh, answers, after, givens}
 use Rattle.book.specs.BookLaws.{caused-positive}
 use Rattle.book.specs.Sheets.{Distinct, Fit, Sound}
 use Rattle.register.specs.Links.{Linked}
@@ -20,8 +20,9 @@ use Rattle.register.specs.Packed.{Packed, takeBack, Piled}
 use Rattle.register.specs.Representation.{heldWords, packedOf, Represents}
 use Rattle.register.specs.MarkLaws.{shows-locked, shows-withdrawn}
 use Rattle.register.specs.Calls.{answerOf, answerNumber, Steps}
-use Rattle.register.specs.History.{CallsMade, done, more, addKind, removeKind, lockKind, unlockKind, undoKind, withdrawKind, reinstateKind, kindCall, wordCall}
-use Rattle.register.specs.History.{Entry, is-call, no-call, entryNumber, entryNext, EntrySteps, entryCalls, isCall}
+use Rattle.register.specs.History.{Lent, CallsMade, done, more-edit, more-undo, more-close, Gives, none-given, more-given}
+use Rattle.register.specs.History.{addKind, removeKind, lockKind, unlockKind, undoKind, withdrawKind, reinstateKind, closeKind, kindCall, wordCall}
+use Rattle.register.specs.History.{Entry, is-call, no-call, entryNumber, entryNext, entryCalls, isCall}
 use Rattle.register.specs.History.{wordAnswers, callsOf, toldCalls, replayNumber, Replays}
 use Rattle.register.specs.declared.Register.{Register}
 use Rattle.register.specs.declared.Answer.{Answer}
@@ -40,21 +41,37 @@ answer-done a (suc k) e z = absurd (omega (arith, ap answerNumber e, z))
 pub not-zero : (self r : Register) (c : Call) → Steps self c (record { register = r; answer = Refused 0 }) → ⊥
 not-zero self r c s = let z : 1 ≤ 0 = caused-positive (s .caused 0 refl) in omega arith
 
-pub answered : {r e : Register} {cs : List Call} {told : List ℕ} → CallsMade r cs told e → (b : Book) → Represents r b → told ≡ answers b cs
-unfolding answers
-answered done b h = refl
-answered (more {c = c} out s run) b h =
-    ap₂ (λ (x : ℕ) (l : List ℕ). x ∷ l) (ap answerNumber (s .answers b h) ∙ number-answer (answer b c)) (answered run (next b c) (s .follows b h))
+told-more : (a : Answer) (k : ℕ) {told rest : List ℕ} → a ≡ answerOf k → told ≡ rest → answerNumber a ∷ told ≡ k ∷ rest
+told-more a k e t = ap₂ (λ (x : ℕ) (l : List ℕ). x ∷ l) (ap answerNumber e ∙ number-answer k) t
 
-pub kept : {r e : Register} {cs : List Call} {told : List ℕ} → CallsMade r cs told e → (b : Book) → Represents r b → Represents e (after b cs)
-unfolding after
-kept done b h = h
-kept (more out s run) b h = kept run (next b _) (s .follows b h)
+module _ {e : Register} where
+  pub answered : {r : Register} {cs : List Call} {told : List ℕ} {ls : List Lent} → CallsMade r cs told ls e → (b : Book) → Represents r b → told ≡ answers b cs
+  unfolding answers
+  answered done b h = refl
+  answered (more-edit {a = a} out s run) b h = told-more (out .answer) (answer b (edit a)) (s .answers b h) (answered run (next b (edit a)) (s .follows b h))
+  answered (more-undo out s run) b h = told-more (out .answer) (answer b undo) (s .answers b h) (answered run (next b undo) (s .follows b h))
+  answered (more-close l out s run) b h =
+      let c = close (length (l .before)) in
+      told-more (out .answer) (answer b c) (s .steps .answers b h) (answered run (next b c) (s .steps .follows b h))
+
+  pub kept : {r : Register} {cs : List Call} {told : List ℕ} {ls : List Lent} → CallsMade r cs told ls e → (b : Book) → Represents r b → Represents e (after b cs)
+  unfolding after
+  kept done b h = h
+  kept (more-edit out s run) b h = kept run (next b _) (s .follows b h)
+  kept (more-undo out s run) b h = kept run (next b _) (s .follows b h)
+  kept (more-close l out s run) b h = kept run (next b _) (s .steps .follows b h)
+
+  pub given-lent : {r : Register} {cs : List Call} {told : List ℕ} {ls : List Lent} → CallsMade r cs told ls e → (b : Book) → Represents r b → Gives (givens b cs) ls
+  unfolding givens
+  given-lent done b h = none-given
+  given-lent (more-edit out s run) b h = given-lent run (next b _) (s .follows b h)
+  given-lent (more-undo out s run) b h = given-lent run (next b _) (s .follows b h)
+  given-lent (more-close l out s run) b h = more-given (s .given b h) (given-lent run (next b _) (s .steps .follows b h))
 
 -- a history of any length from a fresh register
-pub history : (n : ℕ) {r e : Register} {cs : List Call} {told : List ℕ} → Represents r (fresh n) → CallsMade r cs told e
-    → (told ≡ answers (fresh n) cs) × Represents e (after (fresh n) cs)
-history n h run = (answered run (fresh n) h, kept run (fresh n) h)
+pub history : (n : ℕ) {r e : Register} {cs : List Call} {told : List ℕ} {ls : List Lent} → Represents r (fresh n) → CallsMade r cs told ls e
+    → (told ≡ answers (fresh n) cs) × Gives (givens (fresh n) cs) ls × Represents e (after (fresh n) cs)
+history n h run = (answered run (fresh n) h, given-lent run (fresh n) h, kept run (fresh n) h)
 
 -- ---- what the register at the end shows
 pub record Members (e : Register) (b : Book) : Type 0 where
@@ -84,12 +101,12 @@ members h =
       apart = s .fit .apart;
     }
 
-pub history-members : (n : ℕ) {r e : Register} {cs : List Call} {told : List ℕ} → Represents r (fresh n) → CallsMade r cs told e
-    → (told ≡ answers (fresh n) cs) × Members e (after (fresh n) cs)
-history-members n h run = let o = history n h run in (o .0, members (o .1))
+pub history-members : (n : ℕ) {r e : Register} {cs : List Call} {told : List ℕ} {ls : List Lent} → Represents r (fresh n) → CallsMade r cs told ls e
+    → (told ≡ answers (fresh n) cs) × Gives (givens (fresh n) cs) ls × Members e (after (fresh n) cs)
+history-members n h run = let o = history n h run in (o .0, o .1, members (o .2))
 
 -- the same of the code itself
-pub replay-members : {n : ℕ} {ws old new : List ℕ} {out : Outcome} → Replays n ws old new out → replayNumber n ws old ≡ 0
+pub replay-members : {n : ℕ} {ws : List ℕ} {list numbers : Lent} {out : Outcome} → Replays n ws list numbers out → replayNumber n ws (list .before) (numbers .before) ≡ 0
     → Members (out .register) (after (fresh n) (callsOf ws))
 replay-members r z = members (r .book z)
 
@@ -105,17 +122,6 @@ pub represents-sound : {r : Register} {b : Book} → Represents r b → Sound b
 represents-sound {r} {b} h = record { small = omega (arith, h .size, h .ranged .size); sheet = h .sheet .fit; pile = piled-fit (b .n) (packedOf r) (heldWords r) (b .pile) (h .pile) }
 
 -- ---- entries
-module _ (self : Register) (out : Outcome) where
-  pub entry-answers : (e : Entry) → EntrySteps self e out → (b : Book) → Represents self b → out .answer ≡ answerOf (entryNumber b e)
-  unfolding entryNumber
-  entry-answers (is-call c) s b h = s .answers b h
-  entry-answers no-call s b h = s .0
-
-  pub entry-follows : (e : Entry) → EntrySteps self e out → (b : Book) → Represents self b → Represents (out .register) (entryNext b e)
-  unfolding entryNext
-  entry-follows (is-call c) s b h = s .follows b h
-  entry-follows no-call s b h = rw (s .1) h
-
 pub after-append : (b : Book) (cs ds : List Call) → after b (cs ++ ds) ≡ after (after b cs) ds
 unfolding after
 after-append b [] ds = refl
@@ -158,18 +164,27 @@ told-calls b (w ∷ ws) = go (wordCall w) (told-calls (entryNext b (wordCall w))
     go (is-call c) h = ap (λ (l : List ℕ). answer b c ∷ l) h
     go no-call h = h
 
--- ---- every call that a frame can carry has a word
+-- ---- every call that a frame can carry has a word, and so has every closing up with a list whose length has 40 bits
 abbrev callWord : ℕ → ℕ → ℕ → ℕ → ℕ
 callWord k f l t = ((k * 65536 + f) * 256 + l) * 65536 + t
 
-word-of : (k f l t : ℕ) → f < 65536 → l < 256 → t < 65536 → wordCall (callWord k f l t) ≡ kindCall k f l t
+word-of : (k f l t : ℕ) → f < 65536 → l < 256 → t < 65536
+    → wordCall (callWord k f l t) ≡ pick (eqb k closeKind) (is-call (close ((f * 256 + l) * 65536 + t))) (kindCall k f l t)
 unfolding wordCall
 word-of k f l t p q r =
     let a : callWord k f l t / 1099511627776 ≡ k = omega arith in
     let b : callWord k f l t / 16777216 % 65536 ≡ f = omega arith in
     let c : callWord k f l t / 65536 % 256 ≡ l = omega arith in
     let d : callWord k f l t % 65536 ≡ t = omega arith in
-    rw (a, b, c, d)
+    let e : callWord k f l t % 1099511627776 ≡ (f * 256 + l) * 65536 + t = omega arith in
+    rw (a, b, c, d, e)
+
+room-of : (room : ℕ) → room < 1099511627776 → wordCall (closeKind * 1099511627776 + room) ≡ is-call (close room)
+unfolding wordCall
+room-of room h =
+    let a : (closeKind * 1099511627776 + room) / 1099511627776 ≡ closeKind = omega arith in
+    let e : (closeKind * 1099511627776 + room) % 1099511627776 ≡ room = omega arith in
+    rw (a, e)
 
 pub Small : Call → Type 0
 Small (edit (add k)) = (k .from < 65536) × (k .label < 256) × (k .to < 65536)
@@ -179,6 +194,7 @@ Small (edit (unlock r)) = r < 65536
 Small (edit (withdraw r)) = r < 65536
 Small (edit (reinstate r)) = r < 65536
 Small undo = Unit {0}
+Small (close room) = room < 1099511627776
 
 pub has-word : (c : Call) → Small c → (w : ℕ) × (wordCall w ≡ is-call c)
 unfolding Small kindCall
@@ -189,3 +205,4 @@ has-word (edit (unlock r)) h = (callWord unlockKind r 0 0, word-of unlockKind r 
 has-word (edit (withdraw r)) h = (callWord withdrawKind r 0 0, word-of withdrawKind r 0 0 h (omega arith) (omega arith))
 has-word (edit (reinstate r)) h = (callWord reinstateKind r 0 0, word-of reinstateKind r 0 0 h (omega arith) (omega arith))
 has-word undo h = (callWord undoKind 0 0 0, word-of undoKind 0 0 0 (omega arith) (omega arith) (omega arith))
+has-word (close room) h = (closeKind * 1099511627776 + room, room-of room h)

@@ -10,8 +10,10 @@ pub mod Questions
 pub mod Lookups
 pub mod Words
 pub mod Inner
+pub mod Closing
 pub mod MarkLaws
 pub mod LinkLaws
 pub mod HistoryLaws
 pub mod EntryLaws
+pub mod LaidLaws
 pub mod WordLaws

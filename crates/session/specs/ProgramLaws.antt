@@ -85,7 +85,7 @@ unfolding nextSession
 next-steady s (faulty c) h = h
 next-steady s (asks (opening n)) h = open-steady n s h (decLt n 1) (decLt programRecords n)
 next-steady unopened (asks (call c)) h = tt
-next-steady (opened b) (asks (call c)) h = (next-sound b c (h .0), rw (next-size b c) (h .1))
+next-steady (opened b) (asks (call c)) h = (next-sound b c (h .0), omega (arith, next-size b c, h .1))
 next-steady s (asks (pairs-asked u)) h = h
 next-steady s (asks (chain-asked x y u)) h = h
 next-steady s (asks (totalling k)) h = h

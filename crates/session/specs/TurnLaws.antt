@@ -10,7 +10,8 @@ use lib.Seq.{take-all}
 use lib.Dec.{ltb}
 use borrow.Author.Tests.{lt-ltb, le-ltb}
 use Rattle.book.specs.Causes.{Cause, bad-size, not-open, number, firstNumber, maxRecords}
-use Rattle.book.specs.Book.{Book, Sheet, Call, edit, undo, turned, undone, editAnswer, edited, answer, next, freshAnswer, fresh, total, totalNumber}
+use Rattle.book.specs.RankLaws.{rank-le}
+use Rattle.book.specs.Book.{Book, Sheet, Call, edit, undo, close, turned, undone, used, closed, editAnswer, edited, closeAnswer, answer, next, freshAnswer, fresh, total, totalNumber}
 use Rattle.paths.specs.Grammar.{Verdict}
 use Rattle.paths.specs.Chains.{asked, Reply}
 use Rattle.paths.specs.Questions.{Outcome, pairsAnswer, ReplyTo, chainAnswer, listAfter}
@@ -50,7 +51,7 @@ pub fresh-fine : (n : ℕ) → 1 ≤ n → n ≤ programRecords → freshAnswer 
 unfolding freshAnswer firstNumber number
 fresh-fine n h k = rw (le-ltb n 1 h, le-ltb maxRecords n (omega arith))
 
--- ---- a call keeps n
+-- ---- a call keeps n, or lowers it
 turned-size : (k : ℕ) (b : Book) (s : Sheet) → turned k b s .n ≡ b .n
 unfolding turned
 turned-size zero b s = refl
@@ -61,10 +62,16 @@ unfolding undone
 undone-size b [] = refl
 undone-size b (s ∷ ss) = refl
 
-pub next-size : (b : Book) (c : Call) → next b c .n ≡ b .n
+closed-size : (k : ℕ) (b : Book) → closed k b .n ≤ b .n
+unfolding closed
+closed-size zero b = rank-le (used (b .n) (b .sheet)) (b .n)
+closed-size (suc k) b = omega arith
+
+pub next-size : (b : Book) (c : Call) → next b c .n ≤ b .n
 unfolding next
-next-size b (edit e) = turned-size (editAnswer (b .n) (b .sheet) e) b (edited e (b .sheet))
-next-size b undo = undone-size b (b .pile)
+next-size b (edit e) = omega (arith, turned-size (editAnswer (b .n) (b .sheet) e) b (edited e (b .sheet)))
+next-size b undo = omega (arith, undone-size b (b .pile))
+next-size b (close room) = closed-size (closeAnswer (b .n) (b .sheet) room) b
 
 -- ---- what a frame promises
 module _ (st : State) (work : ℕ) (l l′ out out′ : List ℕ) (r : Framed) where
@@ -125,7 +132,7 @@ module _ (st : State) (work : ℕ) (l l′ out out′ : List ℕ) (r : Framed) w
   unfolding nextSession printed listLeft
   call-turns c o steps up up′ kept same w =
       open-turns (asks (call c)) up (w .fits) (as-it-was same)
-      (λ b x m. is-open up′ (rw kept (steps .follows b x)) (rw (next-size b c) m))
+      (λ b x m. is-open up′ (rw kept (steps .follows b x)) (omega (arith, next-size b c)))
       (λ b x v t q. (wrote-as (ap answerText (ap answerNumber (steps .answers b x) ∙ number-answer (answer b c))) w, same))
 
   -- the two questions, which leave the session as it was

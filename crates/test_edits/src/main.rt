@@ -1,4 +1,4 @@
-// Runs the register's calls and prints the answers: the edits of the sample (S7.8), as calls and as words, a register kept as words, every refusal that a
+// Runs the register's calls and prints the answers: the edits of the sample (S7.8), as calls and as words, closings up in a history, a register kept as words, every refusal that a
 // register can give, a record withdrawn and reinstated, 257 edits with 257 undos, and a register filled to 4,096 links with one more, of which a removed link's space is used again.
 use libc::STDOUT_FILENO;
 use register::Answer;
@@ -180,7 +180,7 @@ fn numbers(told: &[u32]) {
     }
 }
 
-// The word of a call, by its kind: 2 add, 3 remove, 4 lock, 5 unlock, 6 undo, 10 withdraw, 11 reinstate.
+// The word of a call, by its kind: 2 add, 3 remove, 4 lock, 5 unlock, 6 undo, 10 withdraw, 11 reinstate, 12 closing up with a list of to words.
 fn word(kind: u8, from: u16, label: u8, to: u16) -> u64 {
     ((kind as u64 * 65536 + from as u64) * 256 + label as u64) * 65536 + to as u64
 }
@@ -203,21 +203,63 @@ fn replayed() {
         18446744073709551615,
     ];
     let mut told = [99u32; 12];
-    let out = register::replay(4, &words, &mut told);
+    let mut none: [u16; 0] = [];
+    let out = register::replay(4, &words, &mut told, &mut none);
     let answer = out.answer;
     say(answer);
     numbers(&told);
     count(b"links", out.register.links().count);
     let mut few = [99u32; 8];
-    let out = register::replay(4, &words, &mut few);
+    let out = register::replay(4, &words, &mut few, &mut none);
     let answer = out.answer;
     say(answer);
     numbers(&few);
     count(b"records", out.register.size());
-    let out = register::replay(0, &words, &mut few);
+    let out = register::replay(0, &words, &mut few, &mut none);
     let answer = out.answer;
     say(answer);
     count(b"records", out.register.size());
+}
+
+// Closings up in a history of words, each with 1,024 words of one list: the first is refused with 13, and the words past the new numbers stay.
+fn closed_up() {
+    line(b"close up");
+    let words = [
+        word(2, 1, 0, 3),
+        word(10, 2, 0, 0),
+        word(12, 0, 0, 3),
+        word(12, 0, 0, 4),
+        word(6, 0, 0, 0),
+        word(4, 2, 0, 0),
+    ];
+    let mut told = [99u32; 7];
+    let mut new = [9u16; 2048];
+    let out = register::replay(4, &words, &mut told, &mut new);
+    let answer = out.answer;
+    say(answer);
+    numbers(&told);
+    count(b"records", out.register.size());
+    let refused = short(new[0]);
+    count(b"of a refused one", refused);
+    let first = short(new[1024]);
+    count(b"0 is", first);
+    let second = short(new[1025]);
+    count(b"1 is", second);
+    let third = short(new[1026]);
+    count(b"2 is", third);
+    let fourth = short(new[1027]);
+    count(b"3 is", fourth);
+    let past = short(new[1028]);
+    count(b"past", past);
+    let mut few = [9u16; 2047];
+    let out = register::replay(4, &words, &mut told, &mut few);
+    let answer = out.answer;
+    say(answer);
+    count(b"records", out.register.size());
+}
+
+fn short(x: u16) -> usize {
+    x as usize
 }
 
 fn wide(x: u32) -> usize {
@@ -365,6 +407,7 @@ fn full() {
 fn main() {
     sample();
     replayed();
+    closed_up();
     kept();
     refusals();
     withdrawn();

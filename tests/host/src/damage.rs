@@ -87,6 +87,13 @@ pub fn damaged(run: &mut Run, seed: u64, size: Size) {
             run.same_of(|| format!("{call:?} on words of no register"), &answer, &16);
         }
     }
+    for room in [0, 3, 1024, 1500] {
+        let refused = !possible(&words);
+        let answer = run.engine.close_up(&mut words, room);
+        if refused {
+            run.same("closing up words of no register", &answer, &Err(16));
+        }
+    }
     let possible = possible(&words);
     let text = in_grammar(random, &[0, 1, 25], 4, 2);
     let sized = run.engine.size(&words);

@@ -1,6 +1,8 @@
 //! The exported calls over lent space, each held to what is promised over any contents: it keeps to what it was lent, a
 //! refused call leaves state and list as they were, and words past an answer are not touched.
 
+mod closing;
+
 use crate::lent::{Lender, Word};
 use dating::calls;
 use oracle::book::Call;
@@ -42,6 +44,7 @@ pub struct Engine {
     first: Lender<u64>,
     second: Lender<u64>,
     tree: Lender<u64>,
+    numbers: Lender<u16>,
     /// What every list holds before a call is made of this, another number each time.
     filling: u64,
     pub calls: usize,
@@ -67,6 +70,7 @@ impl Engine {
             first: lender(heap, TREE),
             second: lender(heap, TREE),
             tree: lender(heap, TREE),
+            numbers: lender(heap, 2048),
             filling: 0,
             calls: 0,
             faults: Vec::new(),
@@ -81,9 +85,10 @@ impl Engine {
 
     fn intact(&mut self) {
         self.calls += 1;
-        let narrow = self.state.intact() && self.list.intact() && self.pairs.intact() && self.text.intact();
+        let narrow = self.state.intact() && self.list.intact() && self.pairs.intact();
+        let short = self.text.intact() && self.numbers.intact();
         let wide = [&self.work, &self.first, &self.second, &self.tree].into_iter().all(Lender::intact);
-        self.fault(narrow && wide, "writes before what it was lent");
+        self.fault(narrow && short && wide, "writes before what it was lent");
     }
 
     /// Changes the words of a register by a call on them. The answer is 0 or a number.
@@ -95,7 +100,7 @@ impl Engine {
         words.copy_from_slice(state);
         self.intact();
         self.fault(past, "changes a state past the register's words");
-        self.fault(answer <= 18, &format!("answers an edit with {answer}"));
+        self.fault(answer <= 18 || answer == 21, &format!("answers an edit with {answer}"));
         self.fault(answer == 0 || kept, &format!("changes the register and answers {answer}"));
         answer
     }

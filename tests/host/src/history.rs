@@ -2,6 +2,7 @@
 
 pub mod previews;
 pub mod two_people;
+pub mod closing;
 
 use crate::engine::Answer;
 use crate::run::{Run, Size};

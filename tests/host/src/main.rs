@@ -18,7 +18,7 @@ use std::time::Instant;
 type Kind = (&'static str, fn(&mut Run, u64, Size), Size, [u64; 3]);
 
 /// Each kind of case with its size, and how many there are: in the short run, in the long one, on the heap.
-const KINDS: [Kind; 16] = [
+const KINDS: &[Kind] = &[
     ("history of few records", history::history, Size(1, 64), [200, 1000, 3]),
     ("history of some records", history::history, Size(65, 256), [80, 500, 0]),
     ("history of many records", history::history, Size(257, 1024), [40, 300, 0]),
@@ -35,6 +35,8 @@ const KINDS: [Kind; 16] = [
     ("two people, few records", history::two_people::two_people, Size(1, 64), [40, 400, 1]),
     ("two people, many records", history::two_people::two_people, Size(65, 1024), [6, 60, 0]),
     ("two people, almost full", history::two_people::almost_full, Size(16, 256), [6, 60, 0]),
+    ("closings up, few records", history::closing::closings, Size(1, 64), [100, 1000, 3]),
+    ("closings up, many records", history::closing::closings, Size(65, 1024), [20, 200, 0]),
 ];
 
 /// What a call may take of the stack, and this program beside it.
@@ -61,7 +63,7 @@ fn run_all() -> ExitCode {
     let mut run = Run::new(name == "heap");
     let mut cases = 0;
     trees::sizes(&mut run);
-    for (kind, case, size, counts) in KINDS {
+    for &(kind, case, size, counts) in KINDS {
         let start = Instant::now();
         for seed in first..first + counts[place] {
             run.case = format!("{kind}, seed {seed}");

@@ -97,6 +97,29 @@ impl Book {
         Ok(())
     }
 
+    /// Closes up the numbers with a list of `room` words (S14): the records in use are numbered from 0 in their old order, and what was held is
+    /// dropped. The new number of each old one, none for a withdrawn record.
+    pub fn close_up(&mut self, room: usize) -> Result<Vec<Option<u32>>, Refusal> {
+        let kept: Vec<u32> = (0..self.n).filter(|record| !self.sheet.withdrawn.contains(record)).collect();
+        if kept.is_empty() {
+            return Err(Refusal::NoneInUse);
+        }
+        if room < self.n as usize {
+            return Err(Refusal::List);
+        }
+        let numbers: Vec<Option<u32>> =
+            (0..self.n).map(|old| kept.iter().position(|&record| record == old).map(|at| at as u32)).collect();
+        let new = |old: u32| numbers[old as usize].expect("a record with a link or a lock is in use");
+        let Sheet { links, locked, .. } = &self.sheet;
+        let links =
+            links.iter().map(|link| Link { from: new(link.from), label: link.label, to: new(link.to) }).collect();
+        let locked = locked.iter().map(|&record| new(record)).collect();
+        self.sheet = Sheet { links, locked, withdrawn: BTreeSet::new() };
+        self.n = kept.len() as u32;
+        self.pile.clear();
+        Ok(numbers)
+    }
+
     /// The first cause, in the order for edits (S6.6), to refuse an edit.
     pub fn first_cause(&self, edit: Call) -> Option<Refusal> {
         let Sheet { links, locked, withdrawn } = &self.sheet;

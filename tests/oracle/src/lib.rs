@@ -68,7 +68,7 @@ pub enum Refusal {
     Tree = 11,
     /// the lent work is shorter than stated
     Work = 12,
-    /// the chain or the tree is longer than its list
+    /// the chain or the tree is longer than its list; the list of new numbers is shorter than the old n
     List = 13,
     /// the frame is broken
     Frame = 14,
@@ -80,6 +80,8 @@ pub enum Refusal {
     Touched = 17,
     /// a withdrawn record named in add, remove, lock or unlock
     Withdrawn = 18,
+    /// closing up with no record in use
+    NoneInUse = 21,
 }
 
 impl Refusal {

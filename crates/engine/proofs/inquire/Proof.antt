@@ -8,6 +8,7 @@ use Rattle.book.specs.Book.{fresh, total}
 use Rattle.register.specs.Calls.{answerNumber}
 use Rattle.register.specs.History.{replayNumber}
 use Rattle.register.specs.HistoryLaws.{number-answer}
+use Rattle.register.specs.LaidLaws.{replayed-gives}
 use Rattle.register.specs.declared.Register.{Register}
 use Rattle.chains.specs.Replies.{Replies}
 use Rattle.pairs.specs.declared.PairsAnswer.the-variants.{Refused}
@@ -35,20 +36,24 @@ totals-requires c κs = search needs
 same-length : tie.Need-same-length
 same-length c = search needs
 
+same-length-2 : tie.Need-same-length-2
+same-length-2 c = search needs
+
 returns : tie.Need-returns
 unfolding has fresh total tally
 returns c =
     let told = c .before .before .before .before .number-of .ensures in
-    let p = c .before .before .before .before .before .before .before .before .replay .ensures in
-    let k : c .before .before .before .before .number-of .result ≡ replayNumber _ _ _ = told ∙ ap answerNumber (p .answer) ∙ number-answer _ in
+    let p = c .before .before .before .before .before .before .before .before .before .before .replay .ensures in
+    let k : c .before .before .before .before .number-of .result ≡ replayNumber _ _ _ _ = told ∙ ap answerNumber (p .answer) ∙ number-answer _ in
     record {
       answer = p .answer;
       refused = λ n.
-          let e = p .refused n .1 in
+          let e = p .refused n .2 in
           record {
             pairs = ap Refused k;
             chain = ap Unanswered k;
-            numbers = p .refused n .0;
+            told = p .refused n .0;
+            given = p .refused n .1;
             list = refl;
             steps = refl;
             links = none-linked 0 _ (c .before .before .before .links .ensures .linked (fresh 0) e);
@@ -65,9 +70,6 @@ pairs-requires c κs = search needs
 chain-requires : tie.Need-chain-requires
 chain-requires c κs = search needs
 
-same-length-2 : tie.Need-same-length-2
-same-length-2 c = search needs
-
 same-length-3 : tie.Need-same-length-3
 same-length-3 c = search needs
 
@@ -76,6 +78,12 @@ same-length-4 c = search needs
 
 same-length-5 : tie.Need-same-length-5
 same-length-5 c = search needs
+
+same-length-6 : tie.Need-same-length-6
+same-length-6 c = search needs
+
+same-length-7 : tie.Need-same-length-7
+same-length-7 c = search needs
 
 -- the questions are lent the same work
 lent : {e : Register} {x y : ℕ} {u : List ℕ} {k m : ℕ} {l l′ : List ℕ} {t : ChainAnswer} → k ≡ m → Replies e x y u k l l′ t → Replies e x y u m l l′ t
@@ -86,17 +94,26 @@ returns-2 c =
     let replied = c .before .before .before .before .chain .ensures in
     let long = c .before .before .before .before .before .before .before .before .before .before .before .pairs .kept .1 .1 .0 in
     let asked = c .before .before .before .before .before .before .before .before .before .before .before .pairs .ensures in
-    let p = c .before .before .before .before .before .before .before .before .before .before .before .before .before .before .before .before .before .before .before .before .before .before .replay .ensures in
-    let zero : replayNumber _ _ _ ≡ 0 = sym (number-answer _) ∙ sym (ap answerNumber (p .answer)) ∙ sym (c .before .before .before .before .before .before .before .before .before .before .before .before .before .before .before .before .before .before .number-of .ensures) ∙ c .before .before .before .before .before .before .before .before .before .before .before .before .before .before .if1 .left in
+    let p = c .before .before .before .before .before .before .before .before .before .before .before .before .before .before .before .before .before .before .before .before .before .before .before .before .replay .ensures in
+    let zero : replayNumber _ _ _ _ ≡ 0 = sym (number-answer _) ∙ sym (ap answerNumber (p .answer)) ∙ sym (c .before .before .before .before .before .before .before .before .before .before .before .before .before .before .before .before .before .before .number-of .ensures) ∙ c .before .before .before .before .before .before .before .before .before .before .before .before .before .before .if1 .left in
     record {
       answer = p .answer;
       refused = λ n. absurd (n zero);
       made = λ z. record {
-        numbers = p .told z;
+        told = p .told z;
+        given = p .given z;
         pairs = asked .book _ (p .book z);
         chain = lent long replied .answers _ (p .book z);
-        demand = claims _ (record { links = (_, c .before .before .before .before .before .before .before .before .before .before .before .before .before .before .before .before .before .links .ensures, refl); marks = c .before .before .before .before .before .before .before .before .before .before .before .before .before .before .before .before .marks .ensures; totals = c .before .before .before .before .before .before .before .before .before .before .before .before .before .before .before .totals .ensures; pairs = asked; chain = lent long replied })
-            (replayed-calls _ _ _ _ (p .told z)) (p .book z);
+        demand =
+            claims _
+            (record {
+              links = (_, c .before .before .before .before .before .before .before .before .before .before .before .before .before .before .before .before .before .links .ensures, refl);
+              marks = c .before .before .before .before .before .before .before .before .before .before .before .before .before .before .before .before .marks .ensures;
+              totals = c .before .before .before .before .before .before .before .before .before .before .before .before .before .before .before .totals .ensures;
+              pairs = asked;
+              chain = lent long replied;
+            })
+            (replayed-calls _ _ _ _ (p .told z)) (replayed-gives p z) (p .book z);
       };
     }
 
@@ -110,11 +127,13 @@ inquire-spec =
     marks-requires
     totals-requires
     same-length
+    same-length-2
     returns
     pairs-requires
     chain-requires
-    same-length-2
     same-length-3
     same-length-4
     same-length-5
+    same-length-6
+    same-length-7
     returns-2)

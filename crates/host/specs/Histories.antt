@@ -1,0 +1,34 @@
+-- What closing up promises of the words that a caller keeps, and a whole history over words.
+--   Renumbers state numbers k
+--                   what closing up promises of the words of a register and of the list it is lent, each as it was and as it is then: what `Edits` says of
+--                   the call with a list so long; over any words a refused one leaves the list; of a register's words those of the list past the old n
+--                   are as they were; and of words that keep a book, the list that the book gives is written over the front
+--   Calls cs ws vs ks ls
+--                   the calls cs, each given the words that the one before left, from the words ws on: the words vs at the end, the numbers ks, and the
+--                   lists ls that the closings up among them were lent
+-- Assumes nothing: these are definitions.
+use mathlib.Core.Path.{_≡_}
+use mathlib.Core.List.{List, [], _∷_}
+use Prim.Native.Nat.{ℕ}
+use lib.ListN.{length, drop}
+use Rattle.book.specs.Basics.{over}
+use Rattle.book.specs.Book.{Book, Edit, Call, edit, undo, close, given}
+use Rattle.register.specs.History.{Lent}
+use Rattle.register.specs.Words.{Keeps}
+use Rattle.register.specs.declared.Register.{Register}
+use Rattle.host.specs.Host.{KeepsBook, Edits}
+
+pub record Renumbers (state numbers : Lent) (k : ℕ) : Type 0 where
+  pub edits : Edits (close (length (numbers .before))) (state .before) (state .after) k
+  pub refused : (k ≡ 0 → ⊥) → numbers .after ≡ numbers .before
+  pub past : (r : Register) → Keeps (state .before) r → drop (r .n) (numbers .after) ≡ drop (r .n) (numbers .before)
+  pub given : (b : Book) → KeepsBook (state .before) b → numbers .after ≡ over (given b (close (length (numbers .before)))) (numbers .before)
+
+pub data Calls : List Call → List ℕ → List ℕ → List ℕ → List Lent → Type 0 where
+  none : {ws : List ℕ} → Calls [] ws ws [] []
+  then-edit : {a : Edit} {cs : List Call} {ws us vs ks : List ℕ} {ls : List Lent} {k : ℕ} → Edits (edit a) ws us k → Calls cs us vs ks ls
+      → Calls (edit a ∷ cs) ws vs (k ∷ ks) ls
+  then-undo : {cs : List Call} {ws us vs ks : List ℕ} {ls : List Lent} {k : ℕ} → Edits undo ws us k → Calls cs us vs ks ls
+      → Calls (undo ∷ cs) ws vs (k ∷ ks) ls
+  then-close : {cs : List Call} {ws us vs ks : List ℕ} {ls : List Lent} {k : ℕ} (l : Lent) → Renumbers (record { before = ws; after = us }) l k
+      → Calls cs us vs ks ls → Calls (close (length (l .before)) ∷ cs) ws vs (k ∷ ks) (l ∷ ls)
