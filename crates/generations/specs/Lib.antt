@@ -1,0 +1,3 @@
+pub mod Generations
+pub mod Inner
+pub mod Generating
