@@ -1,3 +1,4 @@
 pub mod Generations
 pub mod Inner
 pub mod Generating
+pub mod GenerationsLaws
