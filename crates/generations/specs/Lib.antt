@@ -2,3 +2,4 @@ pub mod Generations
 pub mod Inner
 pub mod Generating
 pub mod GenerationsLaws
+pub mod LoopLaws
