@@ -61,7 +61,7 @@ in-labelled m (v ∷ ws) w (there i) d = go (eqb (digit m (v / 1048576)) 1) (in-
 -- ---- a book's links
 module _ (b : Book) (F : Fit (b .n) (b .sheet)) (small : b .n ≤ 1024) (ws : List ℕ) (L : Linked ws (b .sheet)) (m : ℕ) (ls : List ℕ) (C : Contains m ls) where
   -- an arc is a link of the labels
-  Joins : ℕ → ℕ → Type 0
+  abbrev Joins : ℕ → ℕ → Type 0
   Joins x y = (l : ℕ) × (has eqb l ls ≡ true) × (asked b .present (record { from = x; label = l; to = y }) ≡ true)
 
   arc-link : {x y : ℕ} → Arc (labelled m ws) x y → Joins x y
@@ -142,7 +142,7 @@ module _ (b : Book) (F : Fit (b .n) (b .sheet)) (small : b .n ≤ 1024) (ws : Li
   I = fit-inside b F
 
   -- the records in use, as bits
-  used : List ℕ
+  abbrev used : List ℕ
   used = packed 16 (λ x. bit (asked b .inUse x))
 
   used-bits : bitAt used ≡ (λ x. bit (asked b .inUse x))

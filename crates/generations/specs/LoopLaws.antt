@@ -90,7 +90,7 @@ pub record PlainOf (ls : List ℕ) (a : Letter) : Type 0 where
   pub listed : In (a .label) ls
 
 -- an expression of plain letters of ls, by |, groups and + alone
-OnlyOf : List ℕ → Expr → Type 0
+unfoldable OnlyOf : List ℕ → Expr → Type 0
 OnlyOf ls (symbol (letter k)) = In k ls
 OnlyOf ls (symbol (noneOf w)) = ⊥
 OnlyOf ls (group e) = OnlyOf ls e
@@ -148,7 +148,7 @@ words-either e (l ∷ ls) d = words-either (alternative e (symbol (letter l))) l
 
 letter-word : (a : Letter) → a .inverted ≡ false → Words (symbol (letter (a .label))) (a ∷ [])
 unfolding standsFor
-letter-word a p = itself (rw (eq-eqb (a .label) (a .label) refl, p))
+letter-word a p = let e : standsFor (letter (a .label)) a ≡ true = rw (eq-eqb (a .label) (a .label) refl, p) in itself e
 
 in-either-word : (e : Expr) (ls : List ℕ) (a : Letter) → a .inverted ≡ false → (k : ℕ) → k ≡ a .label → In k ls → Words (either e ls) (a ∷ [])
 unfolding either

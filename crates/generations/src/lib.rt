@@ -84,7 +84,7 @@ fn first_joined(rows: &[u64], n: usize) -> usize
 // The smallest record below n that one or more links whose label is in the set lead back to; n if there is none.
 fn first_returning(words: &[u32], set: u32, n: usize) -> usize
     requires { ⌜ n ≤ maxRecords ⌝ }
-    ensures { λ r. ⌜ (IsSet n (crossedWords (now (words .entry)) set 0) → Smallest (Closed n (crossedWords (now (words .entry)) set 0)) n r) ⌝ }
+    ensures { λ r. ⌜ (r ≤ n) × (IsSet n (crossedWords (now (words .entry)) set 0) → Smallest (Closed n (crossedWords (now (words .entry)) set 0)) n r) ⌝ }
 {
     let mut rows = [0u64; 16384];
     rows::put_letters(words, set, 0, &mut rows);
