@@ -25,11 +25,12 @@ use Rattle.paths.specs.FirstChain.{has-first}
 use Rattle.paths.specs.Questions.{chainWork, ReplyTo, steps, chainCauses, chainAnswer, over}
 use Rattle.paths.specs.Questions as questions
 use Rattle.k2.specs.Bits.{digit}
+use Rattle.k2.specs.PairSets.{IsSet}
 use Rattle.register.specs.declared.Register.{Register}
 use Rattle.register.specs.Links.{Linked}
 use Rattle.register.specs.Marks.{hasMark, withdrawnMark}
 use Rattle.register.specs.Representation.{Represents}
-use Rattle.register.specs.Questions.{MarkList}
+use Rattle.register.specs.Questions.{Sized, MarkList}
 use Rattle.rows.specs.Rows.{labelled, places, crossedWords}
 use Rattle.report.specs.Written.{written as text-written, Wrote}
 use Rattle.chains.specs.declared.ChainAnswer.{ChainAnswer}
@@ -239,3 +240,22 @@ looped {self} {m} {x} {work} {text} {list} {list′} {r} P e = record {
         let k = chain-told b x hx work (length list) enough (verdict text) d a (stepWords ss) (ltb (length list) (length (stepWords ss))) refl in
         let w = told-loop b x hx work (length list) enough (verdict text) d a (stepWords ss) (ltb (length list) (length (stepWords ss))) list list′ r (z .0 ∙ k) (z .1 ∙ ap (λ (o : questions.Outcome). questions.listAfter o list) k) in
         (w .0 ∙ room-outcome (length list) (stepWords ss), w .1)
+
+-- ---- of a register
+module _ {self : Register} {n : ℕ} (S : Sized self n) (b : Book) (R : Represents self b) (ws : List ℕ) (L : Linked ws (b .sheet)) (m : ℕ) (ls : List ℕ) (C : Contains m ls) where
+  few : b .n ≤ 1024
+  few = let e = S .size b R in omega (arith, S .small)
+
+  pub book-numbers : (ds : List ℕ) → Right (labelled m ws) ds → ((y : ℕ) → y < n → 1 < getD ds y 0) → (ms : List ℕ) → MarkList self ms → GenerationsAre (asked b) ls (numbers (chosen ms ds n))
+  book-numbers ds A D ms M =
+      let e = S .size b R in
+      subst (λ (k : ℕ). GenerationsAre (asked b) ls (numbers (chosen ms ds k))) (sym e)
+      (numbers-are b (R .sheet .fit) few ws L m ls C ds A (λ y h. D y (omega arith)) ms (M .withdrawn b R))
+
+  pub book-loop : {r : ℕ} → ((z : ℕ) × Leads (labelled m ws) z z) → (IsSet n (crossedWords ws m 0) → Smallest (Closed n (crossedWords ws m 0)) n r)
+      → (ss : List Step) × FirstLoop (asked b) ls r ss × GenerationsAre (asked b) ls (loop (stepWords ss))
+  book-loop {r} z s =
+      let e = S .size b R in
+      let t : IsSet (b .n) (crossedWords ws m 0) → Smallest (Closed (b .n) (crossedWords ws m 0)) (b .n) r =
+      subst (λ (k : ℕ). IsSet k (crossedWords ws m 0) → Smallest (Closed k (crossedWords ws m 0)) k r) e s in
+      loop-is b (R .sheet .fit) few ws L m ls C z (t (links-set b (R .sheet .fit) few ws L m ls C))

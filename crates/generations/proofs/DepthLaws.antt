@@ -83,7 +83,7 @@ module _ (ds : List ℕ) (y v : ℕ) (hy : y < 1024) (l : y < length ds) where
   unfolding newCount newBit
   new-fewer e h =
       let z = ones-other (newBit (set ds y v)) (newBit ds) y 1024 (λ k n. ap (λ (a : ℕ). bit (eqb a 0)) (getD-set-other ds y k v 0 n))
-          (rw (getD-set-same ds y v 0 l) (new-some v h)) (rw e refl) hy in
+      (rw (getD-set-same ds y v 0 l) (new-some v h)) (rw e refl) hy in
       omega arith
 
   done-more : getD ds y 0 < 2 → 2 ≤ v → doneCount (set ds y v) ≡ suc (doneCount ds)

@@ -77,7 +77,7 @@ pub contains-more : (m : ℕ) (ls : List ℕ) (i : ℕ) → i < length ls → ge
 contains-more m ls i h g C l =
     let k : ℕ = getD ls i 0 in
     let e : has eqb l (take (i + 1) ls) ≡ (has eqb l (take i ls) || eqb k l) =
-        ap (λ (j : ℕ). has eqb l (take j ls)) (add-one i) ∙ ap (has eqb l) (take-suc ls i 0 h) ∙ has-last l (take i ls) k in
+    ap (λ (j : ℕ). has eqb l (take j ls)) (add-one i) ∙ ap (has eqb l) (take-suc ls i 0 h) ∙ has-last l (take i ls) k in
     ap (λ (v : ℕ). digit (bitOr m v) l) (one-shl k (omega arith)) ∙ digit-or-pow m k l ∙ go k (ℕ-discrete l k) ∙ ap bit (sym e)
   where
     go : (k : ℕ) → Dec (l ≡ k) → put k 1 (digit m) l ≡ bit (has eqb l (take i ls) || eqb k l)

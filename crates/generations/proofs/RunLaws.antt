@@ -76,10 +76,12 @@ module _ (b : Book) (F : Fit (b .n) (b .sheet)) (small : b .n ≤ 1024) (ws : Li
       let l : w / 1048576 ≡ k .label = ap (λ (q : Link). q .label) e in
       let fx : k .from ≡ x = sym (ap (λ (q : Link). q .from) e) ∙ a .2 in
       let ty : k .to ≡ y = sym (ap (λ (q : Link). q .to) e) ∙ a .3 in
-      let d : digit m (k .label) ≡ 1 = ap (digit m) (sym l) ∙ i .1 in
-      (k .label, bit-on (has eqb (k .label) ls) (let z = C (k .label) in omega arith),
+      let d : digit m (k .label) ≡ 1 = ap (digit m) (sym l) ∙ i .1 in (
+        k .label,
+        bit-on (has eqb (k .label) ls) (let z = C (k .label) in omega arith),
         subst (λ (v : ℕ). present (b .sheet) (record { from = x; label = k .label; to = v }) ≡ true) ty
-        (subst (λ (v : ℕ). present (b .sheet) (record { from = v; label = k .label; to = k .to }) ≡ true) fx (s .2)))
+            (subst (λ (v : ℕ). present (b .sheet) (record { from = v; label = k .label; to = k .to }) ≡ true) fx (s .2)),
+      )
 
   link-arc : {x y : ℕ} → Joins x y → Arc (labelled m ws) x y
   unfolding asked arcFrom arcTo

@@ -39,10 +39,12 @@ first-joined-requires c κs = search needs
 returns : tie.Need-returns
 returns c =
     let a = c .before .before .before .before .before .before .before .before .before .args in
-    let x : Cells = crossedWords (a .words .now) (a .set) 0 in
-    (c .first-joined .ensures .most, λ S. smallest-closed _ x (c .before .before .before .before .before .before .before .before .before .pre)
-    (c .before .before .before .close .ensures x S (c .before .before .before .before .before .before .put-letters .ensures noPairs (bits-none 16384 ∙ sym flat-none) ∙ ap flat (union-none x)))
-    (c .first-joined .ensures))
+    let x : Cells = crossedWords (a .words .now) (a .set) 0 in (
+      c .first-joined .ensures .most,
+      λ S. smallest-closed _ x (c .before .before .before .before .before .before .before .before .before .pre)
+          (c .before .before .before .close .ensures x S (c .before .before .before .before .before .before .put-letters .ensures noPairs (bits-none 16384 ∙ sym flat-none) ∙ ap flat (union-none x)))
+          (c .first-joined .ensures),
+    )
 
 pub first-returning-spec : {M : Type 1} → statement M
 first-returning-spec =

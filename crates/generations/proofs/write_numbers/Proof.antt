@@ -65,9 +65,13 @@ loop-again c =
     let a = c .before .before .before .before .args in
     let h = c .before .before .loop-test .taken in
     ⊎-elim
-    (λ w. (omega arith, omega (arith, w .3), rw (w .2) (simp length-set (l .inv .2)),
-        rw (w .2, w .3) (wrote-used (a .marks .now) (a .depths .now) (l .y) (l .inv .3) (w .0 .taken)
-        (omega (arith, l .inv .2, wrote-room (a .marks .now) (a .depths .now) (l .y) (l .inv .3) (a .n) h (w .0 .taken) (c .before .before .before .before .pre .4))))))
+    (λ w. (
+      omega arith,
+      omega (arith, w .3),
+      rw (w .2) (simp length-set (l .inv .2)),
+      rw (w .2, w .3) (wrote-used (a .marks .now) (a .depths .now) (l .y) (l .inv .3) (w .0 .taken)
+          (omega (arith, l .inv .2, wrote-room (a .marks .now) (a .depths .now) (l .y) (l .inv .3) (a .n) h (w .0 .taken) (c .before .before .before .before .pre .4)))),
+    ))
     (λ w. (omega arith, omega (arith, w .2), rw (w .1) (l .inv .2), rw (w .1, w .2) (wrote-out (a .marks .now) (a .depths .now) (l .y) (l .inv .3) (w .0 .left))))
     (c .if1 .came)
 

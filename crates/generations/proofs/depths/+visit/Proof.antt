@@ -136,7 +136,7 @@ visit-loop-again t c =
     let a = c .before .before .before .before .before .before .before .before .before .before .before .before .before .before .before .before .args in
     let e = c .before .before .before .before .before .before .before .before .before .before .before .if1 .left in
     let m = looking-more (a .links .now) (a .index .now) (w .4) (a .y) (a .depths .now) (w .2) (w .3) e (looked t (c .before .before .before .before .before .before .before .before .before)) (omega (arith, c .before .before .before .before .before .before .before .before .loop-test .taken))
-        (c .before .before .before .before .before .visit .ensures) (c .before .before .if2 .left) (c .before .before .before .before .before .visit .kept .1 .1 .1 .0) in
+    (c .before .before .before .before .before .visit .ensures) (c .before .before .if2 .left) (c .before .before .before .before .before .visit .kept .1 .1 .1 .0) in
     rw (c .next-arc .ensures, c .before .deeper .ensures) (back-looking e m)
 
 visit-mul-depths-2 : (t : ℕ) → visit-lts.Need-mul-depths-2 (visit-calls t) (visit-at t) visit.Post visit-Inv-loop visit-μ-loop
