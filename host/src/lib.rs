@@ -30,12 +30,14 @@
 //! A call takes at most 464 KB of stack (listing a tree), a pair question 352, a chain question 144, an edit or undo 128.
 
 pub mod calls;
+mod generations;
 mod items;
 mod refusal;
 mod register;
 mod space;
 mod tree;
 
+pub use generations::{Generations, Numbers};
 pub use items::{Link, Links, Pairs, Step, Steps};
 pub use refusal::Refusal;
 pub use register::Register;

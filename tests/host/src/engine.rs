@@ -184,7 +184,7 @@ impl Engine {
     }
 
     /// Asks a register for a list.
-    fn asked(
+    pub fn asked(
         &mut self,
         words: &[u32],
         text: &[u8],

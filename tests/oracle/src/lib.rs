@@ -9,6 +9,7 @@
 //! | `chain` | the first chain between two records | S4 Chains |
 //! | `tree` | k2-trees, well-formedness, the operations on trees | S5 Trees |
 //! | `question` | pair and chain questions with all their refusals | S6 Causes and numbers |
+//! | `generations` | the longest run to each record, or the first loop | S15 Generations |
 //! | `frame` | requests as frames, and frames read as requests | S7 The program |
 //! | `program` | the program: frames in, lines out | S7 The program |
 //! | `lines` | typed lines such as `add 0 a 1` to requests | – |
@@ -20,6 +21,7 @@ pub mod book;
 pub mod chain;
 pub mod expression;
 pub mod frame;
+pub mod generations;
 pub mod lines;
 pub mod program;
 pub mod question;
