@@ -24,6 +24,7 @@
 //! A call that cannot be done is refused with the first of its causes, a [`Refusal`], and then nothing is changed.
 //!
 //! * [`Register`]: edits, undo, and both questions
+//! * [`Generations`]: the longest run of links to each record, or the first loop
 //! * [`Trees`] and [`Tree`]: sets of pairs as k2-trees, and their algebra
 //! * [`calls`]: the engine's functions as they are exported, on plain slices
 //!

@@ -11,6 +11,12 @@ ghost use Rattle.rows.specs.Rows.{labelled, places};
 ghost use Rattle.generations.specs.Generations.{above};
 ghost use Rattle.generations.specs.Inner.{Contains, separatorAt, lettersAfter, loopText};
 
+// Labels are below this.
+const LABELS: u32 = book::LABELS as u32;
+
+// A link's word by this is its label.
+const LABEL_UNIT: u32 = 1048576;
+
 // The most bytes of the text of a loop: a letter and the byte before it for each label, and two more.
 pub const TEXT_BYTES: usize = 2 * book::LABELS + 2;
 
@@ -61,7 +67,7 @@ pub fn keep(words: &[u32], set: u32, kept: &mut [u32]) -> usize
     let mut i = 0;
     while i < words.len() {
         let word = words[i];
-        if in_set(set, word / 1048576) {
+        if in_set(set, word / LABEL_UNIT) {
             kept[count] = word;
             count += 1;
         }
@@ -77,7 +83,7 @@ fn put_letters(set: u32, text: &mut [u8]) -> usize
 {
     let mut count = 0;
     let mut label: u32 = 0;
-    while label < 26 {
+    while label < LABELS {
         if in_set(set, label) {
             text[count] = separator(count);
             text[count + 1] = b'a' + label as u8;

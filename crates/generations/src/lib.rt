@@ -22,6 +22,7 @@ use labels::keep;
 use labels::put_text;
 use labels::set_of;
 use register::Register;
+use register::WITHDRAWN_MARK;
 
 // How many numbers the list has; the steps of the loop that the list has; or the number of a cause.
 pub enum GenerationsAnswer {
@@ -29,9 +30,6 @@ pub enum GenerationsAnswer {
     Loop(usize),
     Refused(u32),
 }
-
-// The mark of a withdrawn record.
-const WITHDRAWN: u32 = 2;
 
 // How many of the records below n are in use, by their marks.
 fn count_in_use(marks: &[u32], n: usize) -> usize
@@ -41,7 +39,7 @@ fn count_in_use(marks: &[u32], n: usize) -> usize
     let mut count = 0;
     let mut y = 0;
     while y < n {
-        if marks[y] != WITHDRAWN {
+        if marks[y] != WITHDRAWN_MARK {
             count += 1;
         }
         y += 1;
@@ -57,7 +55,7 @@ fn write_numbers(marks: &[u32], depths: &[u32], n: usize, list: &mut [u32]) -> u
     let mut count = 0;
     let mut y = 0;
     while y < n {
-        if marks[y] != WITHDRAWN {
+        if marks[y] != WITHDRAWN_MARK {
             list[count] = depths[y] - 2;
             count += 1;
         }
