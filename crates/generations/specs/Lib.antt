@@ -3,3 +3,4 @@ pub mod Inner
 pub mod Generating
 pub mod GenerationsLaws
 pub mod LoopLaws
+pub mod GenerationsCases
