@@ -40,8 +40,16 @@ fn sheet(run: &mut Run, random: &mut Random, n: u32, loops: bool) -> (Book, Vec<
         order.swap(at, random.below(at + 1));
     }
     let labels = random.between(1, 26) as u32;
+    // The engine goes deepest where all records are one run that ends at record 0.
+    let deep = random.chance(20);
+    if deep {
+        order = (0..n).rev().collect();
+    }
     let most = random.pick(&[n as usize / 2, 2 * n as usize, 4 * n as usize, 4096]).min(4096);
     let mut calls = Vec::new();
+    if deep {
+        calls.extend(order.windows(2).map(|ends| Call::Add(Link { from: ends[0], label: 0, to: ends[1] })));
+    }
     for _ in 0..most {
         let (first, second) = (random.below(n as usize), random.below(n as usize));
         // Some sheets are one long run, others wide.
