@@ -119,9 +119,11 @@ pub fn damaged(run: &mut Run, seed: u64, size: Size) {
     let (_, mut words) = sheet(run, random, n, seed % 2 == 1);
     for _ in 0..random.between(1, 60) {
         let at = 4 + random.below(5402);
-        words[at] = random.pick(&[random.word() as u32, random.word() as u32 % (1 << 25), random.below(3) as u32]);
+        let word = random.word() as u32;
+        words[at] = random.pick(&[word, word % (1 << 25), word % 3]);
     }
-    words[1] = random.pick(&[words[1], 4096, random.below(4097) as u32]);
+    let count = random.below(4097) as u32;
+    words[1] = random.pick(&[words[1], 4096, count]);
     for list in [0, 5, 1024, 5000] {
         let labels = labels(random);
         let answer = asked(&mut run.engine, &words, &labels, Space { work: 65536, list });
