@@ -4,9 +4,10 @@
  * contents, and ends. What is written (state, list, out, tree, work) must not overlap what else is lent.
  *
  * A uint32_t answer is 0, or the number of a refusal, unless it says otherwise. A uint64_t answer is a total, or the number of words of the answer;
- * DATING_NO_CHAIN; or DATING_REFUSED plus the number of a refusal. Of links and pairs (dating_links, dating_pairs, dating_tree_list, dating_preview) it is the
- * total, of which the first min(total, list_len) are written; a chain or a tree that is longer than its list is refused. A refused call leaves state and list as
- * they were; words of a list past the answer, and of a state past DATING_STATE_WORDS, are never touched; work may hold anything after a call. The numbers:
+ * DATING_NO_CHAIN; DATING_LOOP plus the number of steps of a loop; or DATING_REFUSED plus the number of a refusal. Of links and pairs (dating_links,
+ * dating_pairs, dating_tree_list, dating_preview) it is the total, of which the first min(total, list_len) are written; any other answer that is longer than
+ * its list is refused. A refused call leaves state and list as they were; words of a list past the answer, and of a state past DATING_STATE_WORDS, are never
+ * touched; work may hold anything after a call. The numbers:
  *
  *    1  n outside 1 to 1,024                       10  expression over 256 bytes, 63 letters or 8 deep
  *    2  record not below n                         11  lent tree not well formed
@@ -39,6 +40,8 @@ extern "C" {
 #define DATING_WORK_WORDS 699072
 /* No chain of any length. */
 #define DATING_NO_CHAIN (UINT64_C(1) << 32)
+/* Plus the number of steps of a loop (dating_generations). */
+#define DATING_LOOP (UINT64_C(1) << 32)
 /* Plus the number of a refusal. */
 #define DATING_REFUSED (UINT64_C(1) << 33)
 /* In a list of new numbers, what stands for a withdrawn record. */
@@ -100,6 +103,13 @@ uint64_t dating_preview(const uint32_t *state, size_t state_len, uint16_t kind, 
  * takes, for each old number ascending, the new one, or DATING_NO_NUMBER for a withdrawn record; words past the old n are left. Held edits are dropped. 21
  * if no record is in use, then 13 if the list is shorter than the old n. */
 uint32_t dating_close_up(uint32_t *state, size_t state_len, uint16_t *numbers, size_t numbers_len);
+
+/* Of the links that have one of the labels, in any order and with repeats: how long the longest run of them that ends at each record is, crossed forward, a
+ * word to a record in use, ascending by record. If some record can return to itself by them, DATING_LOOP plus the number of steps instead: the first of the
+ * shortest such chains from the smallest record that can back to itself, as step words. Work of 64 * n words; a list of n words is long enough for the
+ * numbers. Refused with 3, 12 and 13, in this order. */
+uint64_t dating_generations(const uint32_t *state, size_t state_len, const uint8_t *labels, size_t labels_len, uint64_t *work, size_t work_len,
+                            uint32_t *list, size_t list_len);
 
 #ifdef __cplusplus
 }

@@ -1,7 +1,7 @@
 //! The engine's functions as they are exported from `crates/host`: numbers and slices.
 //!
 //! A `u32` answer is 0 or the number of a refusal. A `u64` answer is a total, or the number of words of the answer; [`NO_CHAIN`] if there is no
-//! chain; [`REFUSED`] + the number of a refusal. Links and pairs may be more than the list takes: the number is the total, of which the
+//! chain; [`LOOP`] + the number of steps of a loop; [`REFUSED`] + the number of a refusal. Links and pairs may be more than the list takes: the number is the total, of which the
 //! first min(total, list.len()) are written. A refused call leaves the state and the list as they were, and words of a list past
 //! the answer are never touched; work may hold anything after a call. A state may be longer than a register's words: its front is the
 //! register, and no call touches the words past it. Words that are no register's (too few, a counter out of range, a mark above 2) are
@@ -13,8 +13,17 @@ use crate::Refusal;
 /// 256 of held edits, 1,024 of marks (1 locked, 2 withdrawn), 26 of totals. Words saved before the totals, 5,380 of them, are refused with 16.
 pub const STATE_WORDS: usize = 5406;
 
+/// The marks of the records among a register's words.
+pub const MARKS: std::ops::Range<usize> = 4356..5380;
+
+/// The mark of a withdrawn record.
+pub const WITHDRAWN: u32 = 2;
+
 /// The answer to a chain question if there is no chain.
 pub const NO_CHAIN: u64 = 1 << 32;
+
+/// What is added to the number of steps of a loop in the answer of [`generations`].
+pub const LOOP: u64 = 1 << 32;
 
 /// What is added to the number of a refusal in a `u64` answer.
 pub const REFUSED: u64 = 1 << 33;
@@ -44,7 +53,16 @@ pub fn told(answer: u64) -> Result<Option<usize>, Refusal> {
     }
 }
 
-/// Every refusal has the number of a cause: so it is proved of every call (`caused` of `register/Calls`, `pairs/Asking`, `chains/Replies`; `Totals` of `register/Questions`).
+/// An answer of [`generations`]: whether it is a loop, and how many words it has; or refused.
+pub fn numbered(answer: u64) -> Result<(bool, usize), Refusal> {
+    match answer {
+        0..LOOP => Ok((false, answer as usize)),
+        LOOP..REFUSED => Ok((true, (answer - LOOP) as usize)),
+        _ => Err(refusal((answer - REFUSED) as u32)),
+    }
+}
+
+/// Every refusal has the number of a cause: so it is proved of every call (`caused` of `register/Calls`, `pairs/Asking`, `chains/Replies`, `generations/Generating`; `Totals` of `register/Questions`).
 fn refusal(number: u32) -> Refusal {
     Refusal::of(number).expect("a refusal has the number of a cause")
 }
@@ -183,6 +201,16 @@ extern "C" {
         list_len: usize,
     ) -> u64;
     fn dating_close_up(state: *mut u32, state_len: usize, numbers: *mut u16, numbers_len: usize) -> u32;
+    fn dating_generations(
+        state: *const u32,
+        state_len: usize,
+        labels: *const u8,
+        labels_len: usize,
+        work: *mut u64,
+        work_len: usize,
+        list: *mut u32,
+        list_len: usize,
+    ) -> u64;
 }
 
 // SAFETY, of each: the function is the declared one, and has no `requires`; it is proved to end, and to read and write nothing but the
@@ -382,4 +410,20 @@ pub fn preview(state: &[u32], kind: u16, from: u16, label: u8, to: u16, text: &[
 /// it is at least as long as the old n.
 pub fn close_up(state: &mut [u32], numbers: &mut [u16]) -> u32 {
     unsafe { dating_close_up(state.as_mut_ptr(), state.len(), numbers.as_mut_ptr(), numbers.len()) }
+}
+
+/// How many numbers; [`LOOP`] + the number of steps of the loop; [`REFUSED`] + the number of a refusal.
+pub fn generations(state: &[u32], labels: &[u8], work: &mut [u64], list: &mut [u32]) -> u64 {
+    unsafe {
+        dating_generations(
+            state.as_ptr(),
+            state.len(),
+            labels.as_ptr(),
+            labels.len(),
+            work.as_mut_ptr(),
+            work.len(),
+            list.as_mut_ptr(),
+            list.len(),
+        )
+    }
 }

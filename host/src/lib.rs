@@ -25,6 +25,7 @@
 //!
 //! * [`Register`]: edits, undo, and both questions
 //! * [`Edit`]: an edit by name, for a preview of what it would do to an answer
+//! * [`Generations`]: the longest run of links to each record, or the first loop
 //! * [`Trees`] and [`Tree`]: sets of pairs as k2-trees, and their algebra
 //! * [`calls`]: the engine's functions as they are exported, on plain slices
 //!
@@ -32,6 +33,7 @@
 
 pub mod calls;
 mod closing;
+mod generations;
 mod items;
 mod previews;
 mod refusal;
@@ -39,6 +41,7 @@ mod register;
 mod space;
 mod tree;
 
+pub use generations::{Generations, Numbers};
 pub use items::{Link, Links, Pairs, Step, Steps};
 pub use previews::Edit;
 pub use refusal::Refusal;

@@ -13,7 +13,7 @@ struct Function {
 }
 
 /// The modules of `crates/host/src` that export functions, in the order of the declarations.
-const MODULES: [&str; 5] = ["edits", "questions", "trees", "previews", "closing"];
+const MODULES: [&str; 6] = ["edits", "questions", "trees", "previews", "closing", "numbering"];
 
 /// Those that export none.
 const OTHERS: [&str; 2] = ["lib", "told"];

@@ -4,3 +4,5 @@ pub mod Inner
 pub mod HostLaws
 pub mod Previews
 pub mod PreviewLaws
+pub mod Generations
+pub mod GenerationsLaws

@@ -189,7 +189,7 @@ impl Engine {
     }
 
     /// Asks a register for a list.
-    fn asked(
+    pub fn asked(
         &mut self,
         words: &[u32],
         text: &[u8],

@@ -6,6 +6,7 @@
 
 mod damage;
 mod engine;
+mod generations;
 mod history;
 mod lent;
 mod run;
@@ -37,6 +38,9 @@ const KINDS: &[Kind] = &[
     ("two people, almost full", history::two_people::almost_full, Size(16, 256), [6, 60, 0]),
     ("closings up, few records", history::closing::closings, Size(1, 64), [100, 1000, 3]),
     ("closings up, many records", history::closing::closings, Size(65, 1024), [20, 200, 0]),
+    ("generations of few records", generations::generations, Size(1, 64), [200, 2000, 3]),
+    ("generations of many records", generations::generations, Size(65, 1024), [40, 300, 1]),
+    ("generations of damaged words", generations::damaged, Size(1, 1024), [60, 600, 3]),
 ];
 
 /// What a call may take of the stack, and this program beside it.
@@ -86,7 +90,7 @@ fn run_all() -> ExitCode {
     }
     let counts = &run.counts;
     println!(
-        "{cases} cases: {} edits, {} registers read, {} pair questions, {} chain questions, {} tree calls, {} damaged registers; \
+        "{cases} cases: {} edits, {} registers read, {} pair questions, {} chain questions, {} tree calls, {} damaged registers, {} generations; \
          {} calls, {} differences",
         counts.edits,
         counts.contents,
@@ -94,6 +98,7 @@ fn run_all() -> ExitCode {
         counts.chains,
         counts.trees,
         counts.damaged,
+        counts.generations,
         run.engine.calls,
         run.differences
     );

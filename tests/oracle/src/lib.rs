@@ -10,6 +10,7 @@
 //! | `tree` | k2-trees, well-formedness, the operations on trees | S5 Trees |
 //! | `question` | pair and chain questions with all their refusals | S6 Causes and numbers |
 //! | `preview` | pair questions on a copy where an edit was made | S12 Look before saving |
+//! | `generations` | the longest run to each record, or the first loop | S15 Generations |
 //! | `frame` | requests as frames, and frames read as requests | S7 The program |
 //! | `program` | the program: frames in, lines out | S7 The program |
 //! | `lines` | typed lines such as `add 0 a 1` to requests | – |
@@ -21,6 +22,7 @@ pub mod book;
 pub mod chain;
 pub mod expression;
 pub mod frame;
+pub mod generations;
 pub mod lines;
 pub mod preview;
 pub mod program;

@@ -1,0 +1,70 @@
+-- `count_in_use` looks at the marks in turn. The loop's invariant: the count is that of the records passed that are in use. The measure is how many are left.
+-- It rests on `count-used` and `count-out`. Assumes nothing.
+use mathlib.Core.Path.{_≡_, refl, sym, ap, _∙_, subst}
+use mathlib.Core.Logic.{⊎-elim}
+use mathlib.Core.List.{List}
+use Prim.Native.Nat.{ℕ, _≤_, _-_}
+use native.Mathlib.Omega.{arith}
+use borrow.Author.Needs.{needs}
+use lib.ListN.{length}
+use Rattle.generations.specs.Inner.{chosen}
+use Rattle.generations.proofs.NumberLaws.{count-used, count-out}
+use Rattle.generations.proofs.count_in_use.Statement.{statement}
+use Rattle.generations.proofs.count_in_use.Tie as tie
+use Rattle.generations.proofs.count_in_use.Reads as reads
+use Rattle.generations.proofs.count_in_use.Lts as lts
+
+abbrev Inv-loop : tie.InvT-loop
+Inv-loop marks n count₀ y₀ count y = (y ≤ n) × (count ≤ y) × ((ds : List ℕ) → count ≡ length (chosen marks ds y))
+
+abbrev μ-loop : tie.MeasureT-loop
+μ-loop marks n count₀ y₀ count y = n - y
+
+loop-holds : tie.Need-loop-holds Inv-loop μ-loop
+unfolding chosen
+loop-holds c = (omega arith, omega arith, λ ds. refl)
+
+mul-if1 : tie.Need-mul-if1 Inv-loop μ-loop
+mul-if1 c = omega arith
+
+shared-slice-read-if1 : tie.Need-shared-slice-read-if1 Inv-loop μ-loop
+shared-slice-read-if1 c = omega (arith, c .before .before .before .pre)
+
+add-count : tie.Need-add-count Inv-loop μ-loop
+add-count c = omega arith
+
+add-y : tie.Need-add-y Inv-loop μ-loop
+add-y c = omega arith
+
+loop-less : tie.Need-loop-less Inv-loop μ-loop
+loop-less c = omega arith
+
+loop-again : tie.Need-loop-again Inv-loop μ-loop
+loop-again c =
+    let l = c .before .before .before .loop in
+    let m : List ℕ = c .before .before .before .before .args .marks .now in
+    ⊎-elim
+    (λ w. (omega arith, omega (arith, w .1), λ ds. w .1 ∙ count-used m ds (l .count) (l .y) (w .0 .taken) (l .inv .2 ds)))
+    (λ w. (omega arith, omega (arith, w .1), λ ds. w .1 ∙ count-out m ds (l .count) (l .y) (w .0 .left) (l .inv .2 ds)))
+    (c .if1 .came)
+
+returns : tie.Need-returns Inv-loop μ-loop
+returns c =
+    let l = c .before .loop in
+    let e : l .y ≡ c .before .before .args .n = omega (arith, c .loop-test .left) in
+    λ ds. l .inv .2 ds ∙ ap (λ (y : ℕ). length (chosen (c .before .before .args .marks .now) ds y)) e
+
+pub count-in-use-spec : {M : Type 1} → statement M
+count-in-use-spec =
+    tie.close
+    (tie.spec
+    Inv-loop
+    μ-loop
+    loop-holds
+    mul-if1
+    shared-slice-read-if1
+    add-count
+    add-y
+    loop-less
+    loop-again
+    returns)

@@ -1,0 +1,100 @@
+-- `put_letters` goes over the labels 0 to 25. The loop's invariant: the letters of the set below the label are in the text (`Laid`). The measure is how many labels
+-- are left. It rests on `laid-yes` and `laid-no`. Assumes nothing.
+use mathlib.Core.Path.{_≡_, refl, sym, ap, _∙_, subst}
+use mathlib.Core.Logic.{⊎-elim}
+use Prim.Native.Nat.{ℕ, _≤_, _-_}
+use native.Mathlib.Omega.{arith}
+use borrow.Author.Needs.{needs}
+use lib.ListN.{length, length-set}
+use Rattle.k2.specs.Bits.{digit}
+use Rattle.rows.specs.Rows.{places}
+use Rattle.generations.proofs.LabelLaws.{Laid, laid-none, laid-yes, laid-no}
+use Rattle.generations.proofs.labels.put_letters.Statement.{statement}
+use Rattle.generations.proofs.labels.put_letters.Tie as tie
+use Rattle.generations.proofs.labels.put_letters.Reads as reads
+use Rattle.generations.proofs.labels.put_letters.Lts as lts
+use Rattle.generations.proofs.labels.in_set.Reads as in-set-reads
+use Rattle.generations.proofs.labels.separator.Reads as separator-reads
+
+abbrev Inv-loop : tie.InvT-loop
+Inv-loop set text₀ count₀ label₀ text count label = (label ≤ 26) × (length text ≡ length text₀) × Laid set label text count
+
+abbrev μ-loop : tie.MeasureT-loop
+μ-loop set text₀ count₀ label₀ text count label = 26 - label
+
+loop-holds : tie.Need-loop-holds Inv-loop μ-loop
+loop-holds c = (omega arith, refl, laid-none _ _)
+
+in-set-requires : tie.Need-in-set-requires Inv-loop μ-loop
+in-set-requires c κs = search needs
+
+separator-requires : tie.Need-separator-requires Inv-loop μ-loop
+separator-requires c κs = search needs
+
+slice-write-text : tie.Need-slice-write-text Inv-loop μ-loop
+slice-write-text c = omega (arith, c .before .before .before .before .loop .inv .1, c .before .before .before .before .loop .inv .2 .few, c .before .before .before .before .before .before .pre)
+
+cast-text : tie.Need-cast-text Inv-loop μ-loop
+cast-text c = omega arith
+
+add-text : tie.Need-add-text Inv-loop μ-loop
+add-text c = omega arith
+
+add-text-2 : tie.Need-add-text-2 Inv-loop μ-loop
+add-text-2 c = omega (arith, c .before .before .before .before .loop .inv .2 .few)
+
+slice-write-text-2 : tie.Need-slice-write-text-2 Inv-loop μ-loop
+slice-write-text-2 c =
+    let e = length-set (c .before .before .before .before .loop .text) (c .before .before .before .before .loop .count) (c .separator .result) in
+    omega (arith, e, c .before .before .before .before .loop .inv .1, c .before .before .before .before .loop .inv .2 .few, c .before .before .before .before .before .before .pre)
+
+add-count : tie.Need-add-count Inv-loop μ-loop
+add-count c = omega (arith, c .before .before .before .before .loop .inv .2 .few)
+
+add-label : tie.Need-add-label Inv-loop μ-loop
+add-label c = omega arith
+
+loop-less : tie.Need-loop-less Inv-loop μ-loop
+loop-less c = omega arith
+
+loop-again : tie.Need-loop-again Inv-loop μ-loop
+loop-again c =
+    let l = c .before .before .before .loop in
+    let e = c .before .in-set .ensures in
+    let h = c .before .before .loop-test .taken in
+    let room = l .inv .1 in
+    ⊎-elim
+    (λ w. (omega arith, rw (w .2) (simp (length-set, length-set) room), rw (w .2, w .3) (laid-yes (l .inv .2) (omega (arith, room, c .before .before .before .before .before .pre)) e (w .0 .taken) (w .1 .ensures))))
+    (λ w. (omega arith, rw (w .1) room, rw (w .1, w .2) (laid-no (l .inv .2) (omega (arith, room, c .before .before .before .before .before .pre)) e (w .0 .left))))
+    (c .if1 .came)
+
+same-length : tie.Need-same-length Inv-loop μ-loop
+same-length c = c .before .loop .inv .1
+
+returns : tie.Need-returns Inv-loop μ-loop
+returns c =
+    let l = c .before .loop in
+    let e : l .label ≡ 26 = omega (arith, c .loop-test .left) in
+    let L = rw e at (l .inv .2) in
+    (L .few, L .letters)
+
+pub put-letters-spec : {M : Type 1} → statement M
+put-letters-spec =
+    tie.close
+    (tie.spec
+    Inv-loop
+    μ-loop
+    loop-holds
+    in-set-requires
+    separator-requires
+    slice-write-text
+    cast-text
+    add-text
+    add-text-2
+    slice-write-text-2
+    add-count
+    add-label
+    loop-less
+    loop-again
+    same-length
+    returns)

@@ -1,0 +1,106 @@
+-- `write_numbers` looks at the records in turn. The loop's invariant: the numbers of those passed that are in use are written (`Wrote`). The measure is how many are
+-- left. It rests on `wrote-used` and `wrote-out`. Assumes nothing.
+use mathlib.Core.Path.{_≡_, refl, sym, ap, _∙_, subst}
+use mathlib.Core.Logic.{⊎-elim}
+use mathlib.Core.List.{List}
+use Prim.Native.Nat.{ℕ, _≤_, _-_}
+use native.Mathlib.Omega.{arith}
+use borrow.Author.Needs.{needs}
+use lib.ListN.{length, length-set}
+use Rattle.report.specs.Written.{Wrote}
+use Rattle.report.specs.WrittenLaws.{wrote-none}
+use Rattle.generations.specs.Inner.{chosen}
+use Rattle.generations.proofs.NumberLaws.{wrote-room, wrote-used, wrote-out}
+use Rattle.generations.proofs.write_numbers.Statement.{statement}
+use Rattle.generations.proofs.write_numbers.Tie as tie
+use Rattle.generations.proofs.write_numbers.Reads as reads
+use Rattle.generations.proofs.write_numbers.Lts as lts
+
+abbrev Inv-loop : tie.InvT-loop
+Inv-loop marks depths n list₀ count₀ y₀ list count y = (y ≤ n) × (count ≤ y) × (length list ≡ length list₀) × Wrote 0 (chosen marks depths y) list₀ list count
+
+abbrev μ-loop : tie.MeasureT-loop
+μ-loop marks depths n list₀ count₀ y₀ list count y = n - y
+
+loop-holds : tie.Need-loop-holds Inv-loop μ-loop
+unfolding chosen
+loop-holds c = (omega arith, omega arith, refl, wrote-none 0 _ (omega arith))
+
+mul-if1 : tie.Need-mul-if1 Inv-loop μ-loop
+mul-if1 c = omega arith
+
+shared-slice-read-if1 : tie.Need-shared-slice-read-if1 Inv-loop μ-loop
+shared-slice-read-if1 c = omega (arith, c .before .before .before .pre)
+
+mul-list : tie.Need-mul-list Inv-loop μ-loop
+mul-list c = omega arith
+
+shared-slice-read-list : tie.Need-shared-slice-read-list Inv-loop μ-loop
+shared-slice-read-list c = omega (arith, c .before .before .before .before .before .pre .2)
+
+sub-list : tie.Need-sub-list Inv-loop μ-loop
+sub-list c = omega (arith, c .before .before .before .before .before .pre .3 (c .before .before .before .before .loop .y) (c .before .before .before .loop-test .taken))
+
+mul-list-2 : tie.Need-mul-list-2 Inv-loop μ-loop
+mul-list-2 c = omega arith
+
+slice-write-list : tie.Need-slice-write-list Inv-loop μ-loop
+slice-write-list c =
+    let l = c .before .before .before .before .loop in
+    let a = c .before .before .before .before .before .args in
+    omega (arith, l .inv .2, wrote-room (a .marks .now) (a .depths .now) (l .y) (l .inv .3) (a .n) (c .before .before .before .loop-test .taken) (c .before .if1 .taken) (c .before .before .before .before .before .pre .4))
+
+add-count : tie.Need-add-count Inv-loop μ-loop
+add-count c = omega arith
+
+add-y : tie.Need-add-y Inv-loop μ-loop
+add-y c = omega arith
+
+loop-less : tie.Need-loop-less Inv-loop μ-loop
+loop-less c = omega arith
+
+loop-again : tie.Need-loop-again Inv-loop μ-loop
+loop-again c =
+    let l = c .before .before .before .loop in
+    let a = c .before .before .before .before .args in
+    let h = c .before .before .loop-test .taken in
+    ⊎-elim
+    (λ w. (
+      omega arith,
+      omega (arith, w .3),
+      rw (w .2) (simp length-set (l .inv .2)),
+      rw (w .2, w .3) (wrote-used (a .marks .now) (a .depths .now) (l .y) (l .inv .3) (w .0 .taken)
+          (omega (arith, l .inv .2, wrote-room (a .marks .now) (a .depths .now) (l .y) (l .inv .3) (a .n) h (w .0 .taken) (c .before .before .before .before .pre .4)))),
+    ))
+    (λ w. (omega arith, omega (arith, w .2), rw (w .1) (l .inv .2), rw (w .1, w .2) (wrote-out (a .marks .now) (a .depths .now) (l .y) (l .inv .3) (w .0 .left))))
+    (c .if1 .came)
+
+same-length : tie.Need-same-length Inv-loop μ-loop
+same-length c = c .before .loop .inv .2
+
+returns : tie.Need-returns Inv-loop μ-loop
+returns c =
+    let l = c .before .loop in
+    let e : l .y ≡ c .before .before .args .n = omega (arith, c .loop-test .left) in
+    subst (λ (y : ℕ). Wrote 0 (chosen (c .before .before .args .marks .now) (c .before .before .args .depths .now) y) (c .before .before .args .list .now) (l .list) (l .count)) e (l .inv .3)
+
+pub write-numbers-spec : {M : Type 1} → statement M
+write-numbers-spec =
+    tie.close
+    (tie.spec
+    Inv-loop
+    μ-loop
+    loop-holds
+    mul-if1
+    shared-slice-read-if1
+    mul-list
+    shared-slice-read-list
+    sub-list
+    mul-list-2
+    slice-write-list
+    add-count
+    add-y
+    loop-less
+    loop-again
+    same-length
+    returns)

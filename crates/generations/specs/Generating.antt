@@ -1,0 +1,52 @@
+-- What the call promises.
+--   outcomeOf r l   the outcome that the answer r says, with its words in the first of the list l
+--   answerLength r  how many words of the list are the answer's
+--   Generates self ls work list list′ r
+--                   over any contents: the answer fits the list, the words past it are as they were, all of them with a refusal, and a refusal has the
+--                   number of a cause. For every book that the register represents: the outcome is the book's, and so is the list
+--   Looped self m x work list list′ r
+--                   what the inner function promises that asks for the first loop of x over links whose label is in the set m: over any contents the same; for
+--                   every book and labels with a first loop, that loop, or 13 where the list is too short for it
+-- Assumes nothing: these are definitions.
+use mathlib.Core.Path.{_≡_}
+use mathlib.Core.List.{List, [], _∷_}
+use Prim.Native.Nat.{ℕ, _≤_}
+use lib.ListN.{length, take, drop}
+use lib.Dec.{ltb}
+use Rattle.book.specs.Causes.{Caused, short-list, firstNumber}
+use Rattle.book.specs.Book.{Book}
+use Rattle.paths.specs.Chains.{asked, Step, stepWords}
+use Rattle.paths.specs.Questions.{chainWork}
+use Rattle.register.specs.declared.Register.{Register}
+use Rattle.register.specs.Representation.{Represents}
+use Rattle.generations.specs.Generations.{FirstLoop, Outcome, refused, numbers, loop, unless, OutcomeIs, listAfter}
+use Rattle.generations.specs.Inner.{Contains}
+use Rattle.generations.specs.declared.GenerationsAnswer.{GenerationsAnswer}
+use Rattle.generations.specs.declared.GenerationsAnswer.the-variants.{Numbers, Loop, Refused}
+
+unfoldable pub outcomeOf : GenerationsAnswer → List ℕ → Outcome
+outcomeOf (Numbers k) l = numbers (take k l)
+outcomeOf (Loop k) l = loop (take k l)
+outcomeOf (Refused k) l = refused k
+
+unfoldable pub answerLength : GenerationsAnswer → ℕ
+answerLength (Numbers k) = k
+answerLength (Loop k) = k
+answerLength (Refused k) = 0
+
+pub record Generates (self : Register) (ls : List ℕ) (work : ℕ) (list list′ : List ℕ) (r : GenerationsAnswer) : Type 0 where
+  pub fits : answerLength r ≤ length list
+  pub past : drop (answerLength r) list′ ≡ drop (answerLength r) list
+  pub caused : (k : ℕ) → r ≡ Refused k → Caused k
+  pub outcome : (b : Book) → Represents self b → OutcomeIs b ls work (length list) (outcomeOf r list′)
+  pub after : (b : Book) → Represents self b → list′ ≡ listAfter (outcomeOf r list′) list
+
+abbrev pub loopOutcome : ℕ → List ℕ → Outcome
+loopOutcome room ws = unless (firstNumber ((short-list, ltb room (length ws)) ∷ [])) (loop ws)
+
+pub record Looped (self : Register) (m x work : ℕ) (list list′ : List ℕ) (r : GenerationsAnswer) : Type 0 where
+  pub fits : answerLength r ≤ length list
+  pub past : drop (answerLength r) list′ ≡ drop (answerLength r) list
+  pub caused : (k : ℕ) → r ≡ Refused k → Caused k
+  pub first : (b : Book) → Represents self b → chainWork (b .n) ≤ work → (ls : List ℕ) → Contains m ls → (ss : List Step) → FirstLoop (asked b) ls x ss
+      → (outcomeOf r list′ ≡ loopOutcome (length list) (stepWords ss)) × (list′ ≡ listAfter (outcomeOf r list′) list)

@@ -1,0 +1,117 @@
+-- What the inner functions promise.
+--   Contains m ls   the number m, as a set of labels, has the labels ls: bit l of it is set where l is one of them
+--   Arc cs x y      one of the links cs, whose words these are, leads from x to y
+--   Ran cs k y      a run of k of these links ends at y
+--   Top cs y m      the longest such run has m links
+--   Leads cs x y    one or more of these links lead from x to y
+--   entered         the depth of a record that is being looked at. Depths are 0 of a record not looked at yet, and 2 more than the length of its longest
+--                   run of one that is done
+--   Kept ds ds′     a depth that is not 0 stays
+--   Right cs ds     the depths of the records that are done are right
+--   doneBit ds, newBit ds
+--                   1 at the records that are done, and at those not looked at yet
+--   Bounded ds      no depth is above the number of records that are done, and 1
+--   Visited cs y ds ds′ r
+--                   y was looked at: its depth is r; no record is left entered that was not so before, unless y is; and if y is, some record leads to itself,
+--                   provided that y led to every record that was entered
+--   chosen ms ds y  of the records below y whose mark among ms is not that of a withdrawn one, the depths less 2, ascending by record
+--   Smallest P n r  r is the smallest number below n that has P, or n if none has
+--   Joined ws x, Closed n a x
+--                   the rows ws join x to itself; the closure of the set a does
+--   separatorAt p   the byte before a letter at the place p of the text
+--   loopText ls     the text (a|c)+ of the labels ls, here of 0 and 2
+-- Assumes nothing: these are definitions.
+use mathlib.Core.Path.{_≡_}
+use mathlib.Core.List.{List, [], _∷_, _++_}
+use Prim.Native.Nat.{ℕ, zero, suc, _+_, _-_, _*_, _<_, _≤_}
+use lib.ListN.{length, getD}
+use lib.Dec.{leb, eqb}
+use Rattle.book.specs.Basics.{pick, bit, has}
+use Rattle.k2.specs.Bits.{digit, bitAt, onesBelow}
+use Rattle.k2.specs.PairSets.{Cells, closure}
+use Rattle.paths.specs.Grammar.{bar, open-group, close-group, plus-sign, letter-a}
+use Rattle.register.specs.Marks.{hasMark, withdrawnMark}
+use Rattle.arcs.specs.Arcs.{arcFrom, arcTo}
+
+abbrev pub Contains : ℕ → List ℕ → Type 0
+Contains m ls = (l : ℕ) → digit m l ≡ bit (has eqb l ls)
+
+-- ---- links as arcs
+abbrev pub Arc : List ℕ → ℕ → ℕ → Type 0
+Arc cs x y = (j : ℕ) × (j < length cs) × (arcFrom cs j ≡ x) × (arcTo cs j ≡ y)
+
+pub data Ran (cs : List ℕ) : ℕ → ℕ → Type 0 where
+  stop : {y : ℕ} → Ran cs 0 y
+  on : {k x y : ℕ} → Arc cs x y → Ran cs k x → Ran cs (suc k) y
+
+pub record Top (cs : List ℕ) (y m : ℕ) : Type 0 where
+  pub run : Ran cs m y
+  pub most : (k : ℕ) → Ran cs k y → k ≤ m
+
+pub data Leads (cs : List ℕ) : ℕ → ℕ → Type 0 where
+  once : {x y : ℕ} → Arc cs x y → Leads cs x y
+  more : {x z y : ℕ} → Arc cs x z → Leads cs z y → Leads cs x y
+
+-- ---- depths
+abbrev pub entered : ℕ
+entered = 1
+
+abbrev pub Kept : List ℕ → List ℕ → Type 0
+Kept ds ds′ = (x : ℕ) → 0 < getD ds x 0 → getD ds′ x 0 ≡ getD ds x 0
+
+abbrev pub Right : List ℕ → List ℕ → Type 0
+Right cs ds = (x m : ℕ) → getD ds x 0 ≡ suc (suc m) → Top cs x m
+
+unfoldable pub doneBit : List ℕ → ℕ → ℕ
+doneBit ds x = bit (leb 2 (getD ds x 0))
+
+unfoldable pub newBit : List ℕ → ℕ → ℕ
+newBit ds x = bit (eqb (getD ds x 0) 0)
+
+unfoldable pub newCount : List ℕ → ℕ
+newCount ds = onesBelow (newBit ds) 1024
+
+unfoldable pub doneCount : List ℕ → ℕ
+doneCount ds = onesBelow (doneBit ds) 1024
+
+abbrev pub Bounded : List ℕ → Type 0
+Bounded ds = (x : ℕ) → getD ds x 0 ≤ suc (doneCount ds)
+
+pub record Visited (cs : List ℕ) (y : ℕ) (ds ds′ : List ℕ) (r : ℕ) : Type 0 where
+  pub depth : r ≡ getD ds′ y 0
+  pub seen : 0 < r
+  pub kept : Kept ds ds′
+  pub bounded : Bounded ds′
+  pub none-left : entered < r → (x : ℕ) → getD ds′ x 0 ≡ entered → getD ds x 0 ≡ entered
+  pub right : Right cs ds → Right cs ds′
+  pub leads : r ≡ entered → ((x : ℕ) → getD ds x 0 ≡ entered → Leads cs y x) → (z : ℕ) × Leads cs z z
+
+-- ---- what is written
+unfoldable pub chosen : List ℕ → List ℕ → ℕ → List ℕ
+chosen ms ds zero = []
+chosen ms ds (suc y) = chosen ms ds y ++ pick (hasMark withdrawnMark ms y) [] ((getD ds y 0 - 2) ∷ [])
+
+-- ---- the smallest record
+pub record Smallest (P : ℕ → Type 0) (n r : ℕ) : Type 0 where
+  pub most : r ≤ n
+  pub below : (x : ℕ) → x < r → P x → ⊥
+  pub holds : r < n → P r
+
+abbrev pub Joined : List ℕ → ℕ → Type 0
+Joined ws x = bitAt ws (x * 1024 + x) ≡ 1
+
+abbrev pub Closed : ℕ → Cells → ℕ → Type 0
+Closed n a x = closure n a x x ≡ 1
+
+-- ---- the text of a loop
+abbrev pub separatorAt : ℕ → ℕ
+separatorAt zero = open-group
+separatorAt (suc p) = bar
+
+-- each letter after a byte: a given one before the first, | before every other
+unfoldable pub lettersAfter : ℕ → List ℕ → List ℕ
+lettersAfter c [] = []
+lettersAfter c (l ∷ ls) = c ∷ (letter-a + l) ∷ lettersAfter bar ls
+
+unfoldable pub loopText : List ℕ → List ℕ
+loopText ls = lettersAfter open-group ls ++ (close-group ∷ plus-sign ∷ [])

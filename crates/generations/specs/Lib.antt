@@ -1,0 +1,6 @@
+pub mod Generations
+pub mod Inner
+pub mod Generating
+pub mod GenerationsLaws
+pub mod LoopLaws
+pub mod GenerationsCases

@@ -1,0 +1,57 @@
+-- `host::numbering::dating_generations` carries the promise of the call over to words. Assumes nothing.
+use mathlib.Core.Path.{refl}
+use native.Mathlib.Omega.{arith}
+use Rattle.book.specs.Causes.{number}
+use Rattle.host.proofs.Carrying.{load-none, load-some, asked-foreign, asked}
+use borrow.Author.Needs.{needs}
+use Rattle.host.proofs.numbering.dating_generations.Statement.{statement}
+use Rattle.host.proofs.numbering.dating_generations.Tie as tie
+use Rattle.host.proofs.numbering.dating_generations.Reads as reads
+use Rattle.host.proofs.numbering.dating_generations.Lts as lts
+use Rattle.generations.proofs.generations.Reads as generations-reads
+use Rattle.host.proofs.numbering.told_generations.Reads as told-generations-reads
+use Rattle.host.proofs.told.told_refusal.Reads as told-refusal-reads
+use Rattle.register.proofs.Register.load.Reads as load-reads
+use Rattle.register.proofs.number_of.Reads as number-of-reads
+
+load-requires : tie.Need-load-requires
+load-requires c κs = search needs
+
+number-of-requires : tie.Need-number-of-requires
+number-of-requires c κs = search needs
+
+told-refusal-requires : tie.Need-told-refusal-requires
+told-refusal-requires c κs = search needs
+
+returns : tie.Need-returns
+unfolding number
+returns c = asked-foreign (load-none (c .before .before .before .load .ensures) (c .before .before .number-of .ensures) (c .before .if1 .taken)) (c .told-refusal .ensures) refl
+
+generations-requires : tie.Need-generations-requires
+generations-requires c κs = search needs
+
+told-generations-requires : tie.Need-told-generations-requires
+told-generations-requires c κs = omega (arith, c .before .before .before .before .generations .ensures .fits)
+
+same-length : tie.Need-same-length
+same-length c = search needs
+
+same-length-2 : tie.Need-same-length-2
+same-length-2 c = search needs
+
+returns-2 : tie.Need-returns-2
+returns-2 c = asked (load-some (c .before .before .before .before .before .before .before .before .before .before .load .ensures) (c .before .before .before .before .before .before .before .before .before .number-of .ensures) (c .before .before .before .before .before .before .before .before .if1 .left)) (c .before .before .before .before .before .generations .result) (c .before .before .before .before .before .generations .ensures) (c .told-generations .ensures)
+
+pub dating-generations-spec : {M : Type 1} → statement M
+dating-generations-spec =
+    tie.close
+    (tie.spec
+    load-requires
+    number-of-requires
+    told-refusal-requires
+    returns
+    generations-requires
+    told-generations-requires
+    same-length
+    same-length-2
+    returns-2)
