@@ -1,0 +1,3 @@
+pub mod Support
+pub mod Inner
+pub mod SupportLaws
