@@ -6,8 +6,8 @@ use mathlib.Core.Bool.{Bool, true, false, not, _||_, _&&_, false≢true, true≢
 use Prim.Native.Nat.{ℕ, zero, suc, _+_, _-_, _*_, _≤_, _<_, min}
 use native.Mathlib.Decide.{decLt}
 use native.Mathlib.Omega.{arith}
-use lib.ListN.{length, take, drop, getD}
-use lib.Seq.{take-all, drop-at}
+use lib.ListN.{length, take, drop, getD, length-drop}
+use lib.Seq.{length-take-le, take-all, drop-at}
 use lib.Dec.{leb, ltb, eqb}
 use borrow.Author.Tests.{lt-ltb, le-ltb, le-leb, lt-leb, leb-false}
 use Rattle.book.specs.Basics.{pick, In}
@@ -176,7 +176,7 @@ book-refused {b} {core} {v} {anchors} {work} {k} {before} h e = record {
   list = sym (ap (λ (i : ℕ). listed i (fallenOf b v core anchors) before) e ∙ listed-refused k (fallenOf b v core anchors) before h);
 }
 
-pub refuses : {r : Register} {core : ℕ} {v : Verdict} {anchors : List ℕ} {work k : ℕ} {before : List ℕ} → Caused k
+refuses : {r : Register} {core : ℕ} {v : Verdict} {anchors : List ℕ} {work k : ℕ} {before : List ℕ} → Caused k
     → ((b : Book) → Represents r b → supportNumber b core v anchors work (length before) ≡ k) → SupportsFor r core v anchors work before before (Refused k)
 unfolding recordsLength
 refuses {k = k} c f = record {
@@ -185,6 +185,34 @@ refuses {k = k} c f = record {
   caused = λ j e. let z : k ≡ j = cc in subst Caused z c;
   book = λ b R. book-refused (caused-positive c) (f b R);
 }
+
+module _ {r : Register} {core n : ℕ} {v : Verdict} {anchors : List ℕ} {work : ℕ} {before : List ℕ} (size : (b : Book) → Represents r b → n ≡ b .n) where
+  pub refuses-core : n ≤ core → SupportsFor r core v anchors work before before (Refused 2)
+  unfolding number
+  refuses-core h = refuses (no-record, refl) (λ b R. number-core b core v anchors work (length before) (subst (λ (i : ℕ). i ≤ core) (size b R) h))
+
+  pub refuses-beyond : some (leb n) anchors ≡ true → SupportsFor r core v anchors work before before (Refused 2)
+  unfolding number
+  refuses-beyond h =
+      refuses (no-record, refl) (λ b R. number-beyond b core v anchors work (length before) (subst (λ (i : ℕ). some (leb i) anchors ≡ true) (size b R) h))
+
+  pub refuses-unordered : core < n → some (leb n) anchors ≡ false → orderly 0 anchors ≡ false → SupportsFor r core v anchors work before before (Refused 20)
+  unfolding number
+  refuses-unordered h a o = refuses (unordered-anchors, refl) (λ b R.
+      number-unordered b core v anchors work (length before) (subst (λ (i : ℕ). core < i) (size b R) h) (subst (λ (i : ℕ). some (leb i) anchors ≡ false) (size b R) a) o)
+
+-- ---- words handed over
+module _ (words : List ℕ) (count : ℕ) (fits : count ≤ length words) {l : List ℕ} (e : take count words ≡ l) where
+  counted : count ≡ length l
+  counted = sym (length-take-le count words fits) ∙ ap length e
+
+  pub handed-short : {before : List ℕ} → length before < count → Handed l before before (Refused 13)
+  unfolding number
+  handed-short {before} h = too-long (subst (λ (i : ℕ). length before < i) counted h) refl
+
+  pub handed-whole : {before after : List ℕ} → count ≤ length before → after ≡ over (take count words) before → Handed l before after (Records count)
+  handed-whole {before} {after} h q = subst (λ (i : ℕ). Handed l before after (Records i)) (sym counted)
+      (handed (subst (λ (i : ℕ). i ≤ length before) counted h) (q ∙ ap (λ (k : List ℕ). over k before) e))
 
 -- ---- the two marks compared
 module _ (r : Register) (core n : ℕ) (v : Verdict) (anchors : List ℕ) (work : ℕ) (before : List ℕ) (small : n ≤ maxRecords) (below : core < n) (within : some (leb n) anchors ≡ false)
@@ -212,7 +240,7 @@ module _ (r : Register) (core n : ℕ) (v : Verdict) (anchors : List ℕ) (work 
       declines (M .caused z) (λ b R e whole w. number-pairs b core v anchors work whole (length before) w (here-core b e) (here-anchors b e) o (M .number b R) z)
 
   module _ {rest : Register} {m : Marks} (M : Marked r v anchors work n m) (z : m .number ≡ 0) {p : Marks}
-      (P : (b : Book) → Represents r b → b .n ≤ maxRecords → Parted core b rest) (Q : Marked rest v anchors work n p) where
+      (P : (b : Book) → Represents r b → b .n ≤ maxRecords → Parted core b rest) {later : ℕ} (kept : later ≡ work) (Q : Marked rest v anchors later n p) where
     -- what is left of a register has the same numbers
     parted : (b : Book) → Represents r b → n ≡ b .n → Parted core b rest
     parted b R s = P b R (subst (λ (i : ℕ). i ≤ maxRecords) s small)
@@ -223,7 +251,7 @@ module _ (r : Register) (core n : ℕ) (v : Verdict) (anchors : List ℕ) (work 
         let B = parted b R s in
         let k : B .book .n ≡ b .n = ap (λ (g : Graph). g .n) (B .graph) in
         Q .number (B .book) (B .represents)
-        ∙ ap (λ (i : ℕ). firstNumber (verdictCause v ++ ((short-work, ltb work (pairsWork i)) ∷ []))) k ∙ sym (M .number b R) ∙ z
+        ∙ ap₂ (λ (i j : ℕ). firstNumber (verdictCause v ++ ((short-work, ltb j (pairsWork i)) ∷ []))) k kept ∙ sym (M .number b R) ∙ z
 
     -- so that it is refused of no book's register
     pub second-refused : (p .number ≡ 0 → ⊥) → Compares r core n v anchors work before before (Refused (p .number))
@@ -261,8 +289,8 @@ module _ (r : Register) (core n : ℕ) (v : Verdict) (anchors : List ℕ) (work 
     unfolding recordsLength firstNumber number
     handed-over {after} (too-long h e) = subst (λ (l : List ℕ). Compares r core n v anchors work before l (Refused 13)) (sym e)
         (declines (short-list, refl) (λ b R s whole w.
-            let K = known b R s whole w in
-            K .number ∙ ap (λ (t : Bool). pick t 13 0) (lt-ltb (length before) (length (fallenOf b v core anchors)) (subst (λ (l : List ℕ). length before < length l) (K .fallen) h))))
+        let K = known b R s whole w in
+        K .number ∙ ap (λ (t : Bool). pick t 13 0) (lt-ltb (length before) (length (fallenOf b v core anchors)) (subst (λ (l : List ℕ). length before < length l) (K .fallen) h))))
     handed-over {after} (handed h e) = record {
       fits = h;
       past = ap (drop (length lost-ones)) e ∙ drop-at lost-ones (drop (length lost-ones) before) (length lost-ones) refl;
@@ -289,6 +317,9 @@ part-short work u c h = go (decLt work (32 * u + c))
     go : Dec (work < 32 * u + c) → ltb work (32 * u + c) ≡ ltb (work - min work c) (32 * u)
     go (yes l) = lt-ltb work (32 * u + c) l ∙ sym (lt-ltb (work - min work c) (32 * u) (omega arith))
     go (no l) = le-ltb work (32 * u + c) (omega arith) ∙ sym (le-ltb (work - min work c) (32 * u) (omega arith))
+
+pub part-length : (ws : List ℕ) (s m : ℕ) → s ≡ min (length ws) m → length (take (length ws - s) (drop s ws)) ≡ length ws - min (length ws) m
+part-length ws s m e = length-take-le (length ws - s) (drop s ws) (omega (arith, length-drop s ws)) ∙ ap (λ (i : ℕ). length ws - i) e
 
 pub supports : {r : Register} {core n : ℕ} {v : Verdict} {anchors : List ℕ} {work part : ℕ} {before after : List ℕ} {a : SupportAnswer}
     → ((b : Book) → Represents r b → n ≡ b .n) → part ≡ work - min work (chainWork n) → Compares r core n v anchors part before after a

@@ -107,7 +107,13 @@ fn joined_records(rows: &[u64], anchors: &[u16], n: usize) -> [bool; book::MAX_R
 }
 
 // Of each record of a register, whether it has a chain to some anchor.
-fn mark_records(register: Register, text: &[u8], anchors: &[u16], work: &mut [u64], n: usize) -> Marks
+fn mark_records(
+    register: Register,
+    text: &[u8],
+    anchors: &[u16],
+    work: &mut [u64],
+    n: usize,
+) -> Marks
     requires { ⌜ (n ≤ maxRecords) × (some (leb n) (now anchors) ≡ false) ⌝ }
     ensures { λ r. ⌜ Marked register (verdict (now (text .entry))) (now (anchors .entry)) (length (now (work .entry))) n r ⌝ }
 {
@@ -182,7 +188,12 @@ fn loses(had: bool, has: bool, core: bool) -> bool
 }
 
 // The records but the core that the first marks have and the second have not.
-fn fallen(before: [bool; book::MAX_RECORDS], after: [bool; book::MAX_RECORDS], core: usize, n: usize) -> Found
+fn fallen(
+    before: [bool; book::MAX_RECORDS],
+    after: [bool; book::MAX_RECORDS],
+    core: usize,
+    n: usize,
+) -> Found
     requires { ⌜ (n ≤ maxRecords) × (length before ≡ maxRecords) × (length after ≡ maxRecords) ⌝ }
     ensures { λ r. ⌜ (r .count ≤ maxRecords) × (length (r .words) ≡ maxRecords) × (take (r .count) (r .words) ≡ chosen (Lost before after core) n) ⌝ }
 {

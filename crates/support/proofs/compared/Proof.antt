@@ -1,3 +1,8 @@
+-- `compared` hands over the records that the first marks have and the second have not, by the promises of the calls in their order (Answering). Assumes nothing.
+use native.Mathlib.Omega.{arith}
+use mathlib.Core.Path.{_≡_, refl, sym, ap, subst, _∙_}
+use lib.ListN.{length}
+use Rattle.support.proofs.Answering.{first-refused, second-refused, handed-over}
 use borrow.Author.Needs.{needs}
 use Rattle.support.proofs.compared.Statement.{statement}
 use Rattle.support.proofs.compared.Tie as tie
@@ -7,49 +12,45 @@ use Rattle.support.proofs.hand_over.Reads as hand-over-reads
 use Rattle.support.proofs.mark_records.Reads as mark-records-reads
 use Rattle.support.proofs.without_core.Reads as without-core-reads
 
--- src/lib.rt:250:9
 mark-records-requires : tie.Need-mark-records-requires
 mark-records-requires c κs = search needs
 
--- src/lib.rt:252:9
 same-length : tie.Need-same-length
 same-length c = search needs
 
--- src/lib.rt:252:9
 returns : tie.Need-returns
-returns c = ?
+returns c = let p = c .before .before .before .before .before .before .before .before .before .before .pre in
+    first-refused _ _ _ _ _ _ _ (p .0) (p .1) (p .2) (p .3) (c .before .before .before .before .mark-records .ensures) (c .if1 .taken)
 
--- src/lib.rt:254:9
 without-core-requires : tie.Need-without-core-requires
 without-core-requires c κs = search needs
 
--- src/lib.rt:255:9
 mark-records-requires-2 : tie.Need-mark-records-requires-2
 mark-records-requires-2 c κs = search needs
 
--- src/lib.rt:257:9
 same-length-2 : tie.Need-same-length-2
 same-length-2 c = search needs
 
--- src/lib.rt:257:9
 returns-2 : tie.Need-returns-2
-returns-2 c = ?
+returns-2 c = let p = c .before .before .before .before .before .before .before .before .before .before .before .before .before .before .before .before .before .pre in
+    let m = c .before .before .before .before .before .before .before .before .before .before .before .mark-records in
+    let kept : length (m .last .1 .1 .1 .0) ≡ length (c .before .before .before .before .before .before .before .before .before .before .before .before .before .before .before .before .before .args .work .now) = m .kept .1 .1 .1 .0 in
+    second-refused _ _ _ _ _ _ _ (p .0) (p .1) (p .2) (p .3) (m .ensures) (c .before .before .before .before .before .before .before .if1 .left) (c .before .before .before .before .before .before .without-core .ensures) kept (c .before .before .before .before .mark-records2 .ensures) (c .if2 .taken)
 
--- src/lib.rt:261:5
 hand-over-requires : tie.Need-hand-over-requires
-hand-over-requires c κs = ?
+hand-over-requires c κs = (c .before .before .before .before .before .before .before .before .before .before .before .before .before .before .before .before .before .before .before .before .pre .0, c .before .before .before .before .before .before .before .before .before .before .before .before .before .before .mark-records .ensures .long, c .before .before .before .before .before .before .before .mark-records2 .ensures .long)
 
--- src/lib.rt:238:1
 same-length-3 : tie.Need-same-length-3
 same-length-3 c = search needs
 
--- src/lib.rt:238:1
 same-length-4 : tie.Need-same-length-4
 same-length-4 c = search needs
 
--- src/lib.rt:238:1
 returns-3 : tie.Need-returns-3
-returns-3 c = ?
+returns-3 c = let p = c .before .before .before .before .before .before .before .before .before .before .before .before .before .before .before .before .before .before .before .before .before .before .before .pre in
+    let m = c .before .before .before .before .before .before .before .before .before .before .before .before .before .before .before .before .before .mark-records in
+    let kept : length (m .last .1 .1 .1 .0) ≡ length (c .before .before .before .before .before .before .before .before .before .before .before .before .before .before .before .before .before .before .before .before .before .before .before .args .work .now) = m .kept .1 .1 .1 .0 in
+    handed-over _ _ _ _ _ _ _ (p .0) (p .1) (p .2) (p .3) (m .ensures) (c .before .before .before .before .before .before .before .before .before .before .before .before .before .if1 .left) (c .before .before .before .before .before .before .before .before .before .before .before .before .without-core .ensures) kept (c .before .before .before .before .before .before .before .before .before .before .mark-records2 .ensures) (c .before .before .hand-over .ensures)
 
 pub compared-spec : {M : Type 1} → statement M
 compared-spec =

@@ -1,8 +1,9 @@
 -- `fallen` goes over the records. The loop's invariant: the words written are the records below x that are lost. The measure is the records left. Assumes nothing.
 use native.Mathlib.Omega.{arith}
 use mathlib.Core.Bool.{Bool, false, not, _&&_}
+use mathlib.Core.List.{List}
 use mathlib.Core.Logic.{⊎-elim}
-use mathlib.Core.Path.{_≡_, refl, sym, ap, subst, _∙_}
+use mathlib.Core.Path.{_≡_, refl, sym, ap, ap₂, _∙_}
 use Prim.Native.Nat.{ℕ, _+_, _-_, _≤_, _<_}
 use lib.ListN.{length, length-set, take, getD}
 use borrow.Author.Needs.{needs}
@@ -54,7 +55,29 @@ loop-less : tie.Need-loop-less Inv-loop μ-loop
 loop-less c = omega arith
 
 loop-again : tie.Need-loop-again Inv-loop μ-loop
-loop-again c = ⊎-elim (λ w. ?) (λ w. ?) (c .if1 .came)
+unfolding lost
+loop-again c = let l = c .before .before .before .loop in
+    let a = c .before .before .before .before .args in
+    let t = lost (a .t1) (a .t2) (a .core) in
+    let small = l .inv .1 in
+    let few = l .inv .2 in
+    ⊎-elim
+    (λ w. (
+      omega arith,
+      l .inv .1,
+      omega (arith, w .2),
+      ap length (w .1) ∙ length-set (l .words) (l .count) (l .x) ∙ l .inv .3,
+      ap₂ (λ (k : ℕ) (ws : List ℕ). take k ws) (w .2) (w .1)
+          ∙ chosen-more t (l .words) (l .count) (l .x) (l .inv .4) (omega (arith, l .inv .3)) (sym (c .before .loses .ensures) ∙ w .0 .taken),
+    ))
+    (λ w. (
+      omega arith,
+      l .inv .1,
+      omega (arith, w .2),
+      ap length (w .1) ∙ l .inv .3,
+      ap₂ (λ (k : ℕ) (ws : List ℕ). take k ws) (w .2) (w .1) ∙ chosen-passed t (l .words) (l .count) (l .x) (l .inv .4) (sym (c .before .loses .ensures) ∙ w .0 .left),
+    ))
+    (c .if1 .came)
 
 returns : tie.Need-returns Inv-loop μ-loop
 returns c = let l = c .before .loop in

@@ -1,3 +1,10 @@
+-- `hand_over` refuses a list that is shorter than the records found, and writes them over its front else. Assumes nothing.
+use native.Mathlib.Omega.{arith}
+use mathlib.Core.Path.{_≡_, refl, sym, ap, subst, _∙_}
+use Prim.Native.Nat.{ℕ, _≤_, _<_}
+use lib.ListN.{length, take}
+use lib.Seq.{length-take-le}
+use Rattle.support.proofs.Answering.{handed-short, handed-whole}
 use borrow.Author.Needs.{needs}
 use Rattle.support.proofs.hand_over.Statement.{statement}
 use Rattle.support.proofs.hand_over.Tie as tie
@@ -6,33 +13,30 @@ use Rattle.support.proofs.hand_over.Lts as lts
 use Rattle.support.proofs.fallen.Reads as fallen-reads
 use Rattle.support.proofs.write.Reads as write-reads
 
--- src/lib.rt:227:9
 fallen-requires : tie.Need-fallen-requires
 fallen-requires c κs = search needs
 
--- src/lib.rt:231:9
 returns : tie.Need-returns
-returns c = ?
+returns c = let f = c .before .before .fallen in
+    handed-short (f .result .words) (f .result .count) (omega (arith, f .ensures .0, f .ensures .1)) (f .ensures .2) (c .if1 .taken)
 
--- src/lib.rt:233:11
 array-share-prefix-words : tie.Need-array-share-prefix-words
 array-share-prefix-words c = search needs
 
--- src/lib.rt:233:11
 slice-aggregate-write : tie.Need-slice-aggregate-write
-slice-aggregate-write c = ?
+slice-aggregate-write c = let f = c .before .before .before .fallen in sym (length-take-le (f .result .count) (f .result .words) (omega (arith, f .ensures .0, f .ensures .1)))
 
--- src/lib.rt:233:5
 write-requires : tie.Need-write-requires
-write-requires c κs = ?
+write-requires c κs = let f = c .before .before .before .before .fallen in
+    let e = length-take-le (f .result .count) (f .result .words) (omega (arith, f .ensures .0, f .ensures .1)) in
+    omega (arith, e, c .before .before .if1 .left)
 
--- src/lib.rt:217:1
 same-length : tie.Need-same-length
 same-length c = search needs
 
--- src/lib.rt:217:1
 returns-2 : tie.Need-returns-2
-returns-2 c = ?
+returns-2 c = let f = c .before .before .before .before .before .before .before .fallen in
+    handed-whole (f .result .words) (f .result .count) (omega (arith, f .ensures .0, f .ensures .1)) (f .ensures .2) (c .before .before .before .before .before .if1 .left) (c .before .before .write .ensures)
 
 pub hand-over-spec : {M : Type 1} → statement M
 hand-over-spec =

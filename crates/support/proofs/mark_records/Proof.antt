@@ -39,9 +39,9 @@ same-length-2 c = search needs
 
 returns-2 : tie.Need-returns-2
 returns-2 c = let r = c .before .before .before .before .before .before .before .relation in
-    let a = c .before .before .before .before .before .before .before .before .before .before .before .before .before .args in
+    let start = c .before .before .before .before .before .before .before .before .before .before .before .before .before in
     let j = c .joined-records .ensures in
-    marks-made refl (r .ensures) (c .before .before .enum-told .given .1) (c .before .before .before .before .before .before .before .before .before .before .before .before .before .pre .0) (c .before .before .before .before .before .before .before .before .before .before .before .before .before .pre .1) ? _ (j .0) (j .1)
+    marks-made refl (r .ensures) (c .before .before .enum-told .given .1) (start .pre .0) (start .pre .1) (r .kept .1 .1 .1 .0) _ (j .0) (j .1)
 
 pub mark-records-spec : {M : Type 1} → statement M
 mark-records-spec =

@@ -1,3 +1,14 @@
+-- `sole_support`: each refusal by the causes' order, and the rest by the promise of `compared`, whose part of the work is short exactly if the whole is. Assumes
+-- nothing.
+use native.Mathlib.Omega.{arith}
+use mathlib.Core.Path.{_≡_, refl, sym, ap, subst, _∙_}
+use mathlib.Core.Bool.{true, false}
+use borrow.Author.Tests.{not-true, not-false}
+use Prim.Native.Nat.{ℕ, _≤_, _<_}
+use lib.Dec.{leb}
+use Rattle.book.specs.Causes.{no-record, unordered-anchors, number}
+use Rattle.support.specs.Support.{some}
+use Rattle.support.proofs.Answering.{refuses-core, refuses-beyond, refuses-unordered, part-length, supports}
 use borrow.Author.Needs.{needs}
 use Rattle.support.proofs.sole_support.Statement.{statement}
 use Rattle.support.proofs.sole_support.Tie as tie
@@ -9,65 +20,50 @@ use Rattle.support.proofs.beyond.Reads as beyond-reads
 use Rattle.support.proofs.compared.Reads as compared-reads
 use Rattle.support.proofs.spared.Reads as spared-reads
 
--- src/lib.rt:273:9
 size-requires : tie.Need-size-requires
 size-requires c κs = search needs
 
--- src/lib.rt:275:9
 returns : tie.Need-returns
-returns c = ?
+returns c = refuses-core (c .before .size .ensures .size) (c .if1 .taken)
 
--- src/lib.rt:277:8
 beyond-requires : tie.Need-beyond-requires
 beyond-requires c κs = search needs
 
--- src/lib.rt:278:9
 returns-2 : tie.Need-returns-2
-returns-2 c = ?
+returns-2 c = refuses-beyond (c .before .before .before .size .ensures .size) (sym (c .before .beyond .ensures) ∙ c .if2 .taken)
 
--- src/lib.rt:280:9
 ascending-requires : tie.Need-ascending-requires
 ascending-requires c κs = search needs
 
--- src/lib.rt:281:9
 returns-3 : tie.Need-returns-3
-returns-3 c = ?
+returns-3 c = refuses-unordered (c .before .before .before .before .before .size .ensures .size) (c .before .before .before .before .if1 .left) (sym (c .before .before .before .beyond .ensures) ∙ c .before .before .if2 .left) (sym (c .before .ascending .ensures) ∙ not-true (c .before .ascending .result) (c .if3 .taken))
 
--- src/lib.rt:283:9
 spared-requires : tie.Need-spared-requires
 spared-requires c κs = search needs
 
--- src/lib.rt:284:48
 mul-compared : tie.Need-mul-compared
 mul-compared c = search needs
 
--- src/lib.rt:284:48
 sub-compared : tie.Need-sub-compared
 sub-compared c = search needs
 
--- src/lib.rt:284:48
 part-compared-start : tie.Need-part-compared-start
 part-compared-start c = search needs
 
--- src/lib.rt:284:48
 part-compared-end : tie.Need-part-compared-end
 part-compared-end c = search needs
 
--- src/lib.rt:284:5
 compared-requires : tie.Need-compared-requires
-compared-requires c κs = ?
+compared-requires c κs = (c .before .before .before .before .before .before .before .before .size .ensures .small, c .before .before .before .before .before .before .before .if1 .left, sym (c .before .before .before .before .before .before .beyond .ensures) ∙ c .before .before .before .before .before .if2 .left, sym (c .before .before .before .before .ascending .ensures) ∙ not-false (c .before .before .before .before .ascending .result) (c .before .before .before .if3 .left))
 
--- src/lib.rt:263:1
 same-length : tie.Need-same-length
 same-length c = search needs
 
--- src/lib.rt:263:1
 same-length-2 : tie.Need-same-length-2
 same-length-2 c = search needs
 
--- src/lib.rt:263:1
 returns-4 : tie.Need-returns-4
-returns-4 c = ?
+returns-4 c = supports (c .before .before .before .before .before .before .before .before .before .before .before .before .before .size .ensures .size) (part-length (c .before .before .before .before .before .before .before .before .before .before .before .before .before .before .before .before .before .before .args .work .now) _ _ (c .before .before .before .before .before .before .before .spared .ensures)) (c .before .before .before .before .compared .ensures)
 
 pub sole-support-spec : {M : Type 1} → statement M
 sole-support-spec =

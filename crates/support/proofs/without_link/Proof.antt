@@ -48,10 +48,10 @@ returns-2 c = let a = c .before .before .before .before .before .before .args in
     let touch = c .before .before .before .before .before .touching in
     let e = not-false (touch .result) (c .before .before .before .before .if1 .left) in
     λ b R.
-        subst (Represents (c .before .remove .result .register))
-        (sym (ap (λ (t : Bool). pick t (cutLink (wordLink (a .word)) b) b) (sym (touch .ensures) ∙ e)))
-        (c .before .remove .ensures .follows (next (next b (edit (unlock (k .from)))) (edit (unlock (k .to))))
-        (c .before .before .unlock2 .ensures .follows (next b (edit (unlock (k .from)))) (c .before .before .before .unlock .ensures .follows b R)))
+    subst (Represents (c .before .remove .result .register))
+    (sym (ap (λ (t : Bool). pick t (cutLink (wordLink (a .word)) b) b) (sym (touch .ensures) ∙ e)))
+    (c .before .remove .ensures .follows (next (next b (edit (unlock (k .from)))) (edit (unlock (k .to))))
+    (c .before .before .unlock2 .ensures .follows (next b (edit (unlock (k .from)))) (c .before .before .before .unlock .ensures .follows b R)))
 
 pub without-link-spec : {M : Type 1} → statement M
 without-link-spec =
