@@ -41,7 +41,7 @@ pub fn told(answer: u64) -> Result<Option<usize>, Refusal> {
     }
 }
 
-/// Every refusal has the number of a cause: so it is proved of every call (`caused` of `register/Calls`, `pairs/Asking`, `chains/Replies`; `Totals` of `register/Questions`).
+/// Every refusal has the number of a cause: so it is proved of every call (`caused` of `register/Calls`, `pairs/Asking`, `chains/Replies`, `support/Support`; `Totals` of `register/Questions`).
 fn refusal(number: u32) -> Refusal {
     Refusal::of(number).expect("a refusal has the number of a cause")
 }
@@ -164,6 +164,19 @@ extern "C" {
         out_len: usize,
         work: *mut u64,
         work_len: usize,
+    ) -> u64;
+    fn dating_sole_support(
+        state: *const u32,
+        state_len: usize,
+        core: u16,
+        text: *const u8,
+        text_len: usize,
+        anchors: *const u16,
+        anchors_len: usize,
+        work: *mut u64,
+        work_len: usize,
+        list: *mut u32,
+        list_len: usize,
     ) -> u64;
 }
 
@@ -336,4 +349,22 @@ pub fn tree_transpose(n: usize, a: &[u64], out: &mut [u64], work: &mut [u64]) ->
 
 pub fn tree_closure(n: usize, a: &[u64], out: &mut [u64], work: &mut [u64]) -> u64 {
     unsafe { dating_tree_closure(n, a.as_ptr(), a.len(), out.as_mut_ptr(), out.len(), work.as_mut_ptr(), work.len()) }
+}
+
+pub fn sole_support(state: &[u32], core: u16, text: &[u8], anchors: &[u16], work: &mut [u64], list: &mut [u32]) -> u64 {
+    unsafe {
+        dating_sole_support(
+            state.as_ptr(),
+            state.len(),
+            core,
+            text.as_ptr(),
+            text.len(),
+            anchors.as_ptr(),
+            anchors.len(),
+            work.as_mut_ptr(),
+            work.len(),
+            list.as_mut_ptr(),
+            list.len(),
+        )
+    }
 }

@@ -25,10 +25,11 @@ pub enum Refusal {
     NotOpened = 16,
     Touched = 17,
     Withdrawn = 18,
+    Anchors = 20,
 }
 
 /// Every cause, by ascending number, with its meaning.
-const CAUSES: [(Refusal, &str); 18] = [
+const CAUSES: [(Refusal, &str); 19] = [
     (Refusal::Size, "the number of records is outside 1 to 1,024"),
     (Refusal::Record, "a record is not below the number of records"),
     (Refusal::Label, "the label is above 25: it is no letter from a to z"),
@@ -41,29 +42,29 @@ const CAUSES: [(Refusal, &str); 18] = [
     (Refusal::Limits, "the expression is over 256 bytes, 63 letters or 8 deep"),
     (Refusal::Tree, "the tree is not well formed"),
     (Refusal::Work, "the work is shorter than stated"),
-    (Refusal::List, "the chain or the tree is longer than its list"),
+    (Refusal::List, "the chain, the tree or the records that fall are longer than their list"),
     (Refusal::Frame, "the frame is broken"),
     (Refusal::Kind, "the kind is unknown"),
     (Refusal::NotOpened, "no register is opened: the words are not those of a register"),
     (Refusal::Touched, "a link touches the record to withdraw"),
     (Refusal::Withdrawn, "the record is withdrawn"),
+    (Refusal::Anchors, "the anchors are out of order or repeated"),
 ];
 
 impl Refusal {
-    /// The cause with this number, from 1 to 18.
+    /// The cause with this number, if there is one.
     pub fn of(number: u32) -> Option<Refusal> {
-        let (cause, _) = CAUSES.get((number as usize).checked_sub(1)?)?;
-        Some(*cause)
+        CAUSES.iter().map(|&(cause, _)| cause).find(|cause| cause.number() == number)
     }
 
-    /// From 1 to 18.
+    /// Its number.
     pub fn number(self) -> u32 {
         self as u32
     }
 
     /// What the number means.
     pub fn meaning(self) -> &'static str {
-        CAUSES[self as usize - 1].1
+        CAUSES.iter().find(|(cause, _)| *cause == self).map_or("", |&(_, meaning)| meaning)
     }
 }
 
@@ -81,11 +82,11 @@ mod tests {
 
     #[test]
     fn numbers_and_causes_belong_together() {
-        for number in 1..=18 {
-            let cause = Refusal::of(number).unwrap();
-            assert_eq!((cause.number(), CAUSES[number as usize - 1].0), (number, cause));
+        for (cause, meaning) in CAUSES {
+            assert_eq!((Refusal::of(cause.number()), cause.meaning()), (Some(cause), meaning));
         }
-        assert_eq!((Refusal::of(0), Refusal::of(19), Refusal::of(u32::MAX)), (None, None, None));
+        assert!(CAUSES.windows(2).all(|two| two[0].0.number() < two[1].0.number()));
+        assert_eq!((Refusal::of(0), Refusal::of(99), Refusal::of(u32::MAX)), (None, None, None));
         assert_eq!(Refusal::Withdrawn.to_string(), "refused 18: the record is withdrawn");
     }
 }

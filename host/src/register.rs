@@ -11,9 +11,9 @@ use std::fmt::{self, Debug, Formatter};
 /// 0.5 MB and 0.3 MB (chains), of which the system gives what is written to. [`pairs_in`](Register::pairs_in) and
 /// [`chain_in`](Register::chain_in) take the caller's space instead.
 pub struct Register {
-    words: Box<[u32]>,
-    work: Vec<u64>,
-    list: Vec<u32>,
+    pub(crate) words: Box<[u32]>,
+    pub(crate) work: Vec<u64>,
+    pub(crate) list: Vec<u32>,
 }
 
 impl Register {
@@ -208,7 +208,7 @@ fn label(letter: char) -> u8 {
 }
 
 /// Room for so many words.
-fn grow<T: Clone + Default>(space: &mut Vec<T>, words: usize) {
+pub(crate) fn grow<T: Clone + Default>(space: &mut Vec<T>, words: usize) {
     if space.len() < words {
         *space = vec![T::default(); words];
     }

@@ -103,6 +103,7 @@ pub fn damaged(run: &mut Run, seed: u64, size: Size) {
                 run.engine.links(&words, list),
                 run.engine.pairs(&words, &text, Space { work: pairs, list }),
                 run.engine.chain(&words, from, to, &text, Space { work: chains, list }),
+                run.engine.sole_support(&words, from, &text, &[to as u16], Space { work: pairs + chains, list }),
             ];
             for answer in answers {
                 if !possible {

@@ -28,6 +28,13 @@ impl Word for u8 {
     }
 }
 
+impl Word for u16 {
+    const BEFORE: u16 = 0xa7b3;
+    fn of(number: u64) -> u16 {
+        number as u16
+    }
+}
+
 impl Word for u32 {
     const BEFORE: u32 = 0xa7b3_c5d9;
     fn of(number: u64) -> u32 {

@@ -9,6 +9,7 @@
 //! | `chain` | the first chain between two records | S4 Chains |
 //! | `tree` | k2-trees, well-formedness, the operations on trees | S5 Trees |
 //! | `question` | pair and chain questions with all their refusals | S6 Causes and numbers |
+//! | `support` | sole support with all its refusals | S16 Sole support |
 //! | `frame` | requests as frames, and frames read as requests | S7 The program |
 //! | `program` | the program: frames in, lines out | S7 The program |
 //! | `lines` | typed lines such as `add 0 a 1` to requests | – |
@@ -25,6 +26,7 @@ pub mod program;
 pub mod question;
 pub mod random;
 pub mod relation;
+pub mod support;
 pub mod tree;
 
 /// The most records a register has.
@@ -66,7 +68,7 @@ pub enum Refusal {
     Tree = 11,
     /// the lent work is shorter than stated
     Work = 12,
-    /// the chain or the tree is longer than its list
+    /// the chain, the tree or the records that fall are longer than their list
     List = 13,
     /// the frame is broken
     Frame = 14,
@@ -78,6 +80,8 @@ pub enum Refusal {
     Touched = 17,
     /// a withdrawn record named in add, remove, lock or unlock
     Withdrawn = 18,
+    /// anchors out of order or repeated
+    Anchors = 20,
 }
 
 impl Refusal {
