@@ -2,3 +2,4 @@ pub mod Host
 pub mod Inner
 pub mod HostLaws
 pub mod Support
+pub mod SupportLaws

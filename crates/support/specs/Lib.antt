@@ -1,3 +1,4 @@
 pub mod Support
 pub mod Inner
 pub mod SupportLaws
+pub mod SupportCases

@@ -10,13 +10,14 @@
 --                   the computed test of a chain to some anchor is `Held`
 --   fallen-are      fallen g e core anchors ascends, and its members are exactly the records that fall
 --   fallen-only     no other list is so
+--   history-fallen  so of the book after every history
 --   fallen-none     no anchors, no records
 --   core-never      the core is not among them
 --   support-in-order
 --                   the causes stand in the order of S16.4
 -- Assumes nothing.
 use mathlib.Core.Path.{_≡_, refl, sym, ap, ap₂, _∙_, subst}
-use mathlib.Core.Logic.{_⊎_, inl, inr, ⊎-elim}
+use mathlib.Core.Logic.{⊎-elim}
 use mathlib.Core.List.{List, [], _∷_, _++_, append-nil}
 use mathlib.Core.Bool.{Bool, true, false, not, _||_, _&&_, false≢true, true≢false}
 use Prim.Native.Nat.{ℕ, zero, suc, _≤_, _<_}
@@ -25,17 +26,17 @@ use lib.ListN.{length}
 use lib.Dec.{leb, ltb, eqb}
 use borrow.Author.Tests.{eq-eqb, eqb-true, eqb-false, ne-eqb, le-leb, leb-true, not-true}
 use Rattle.book.specs.Basics.{pick, In, here, there, Rises, ended, rises}
-use Rattle.book.specs.Causes.{supportOrder, InOrder, same-cause}
-use Rattle.book.specs.Book.{Link, Book}
-use Rattle.book.specs.ListLaws.{in-left, in-right, in-either, in-none, in-one, rises-least, rises-same}
+use Rattle.book.specs.Causes.{supportOrder, InOrder, same-cause, maxRecords}
+use Rattle.book.specs.Book.{Link, Book, Call, fresh, after}
+use Rattle.book.specs.ListLaws.{in-left, in-right, in-either, in-none, in-one, rises-same}
 use Rattle.book.specs.SetLaws.{and-both, or-true}
 use Rattle.paths.specs.Expressions.{Expr}
 use Rattle.paths.specs.Grammar.{Verdict}
-use Rattle.paths.specs.Chains.{Graph, Has}
+use Rattle.paths.specs.Chains.{Graph, asked}
 use Rattle.paths.specs.Relations.{cells}
 use Rattle.paths.specs.ChainLaws.{Inside}
 use Rattle.paths.specs.RelationLaws.{cells-is}
-use Rattle.paths.specs.PairLaws.{text-in-order}
+use Rattle.paths.specs.PairLaws.{history-inside, text-in-order}
 use Rattle.support.specs.Support.{touches, without, Held, Falls, FallenAre, some, chosen, reaches, falls, fallen, orderly, supportWork, fallenOf, supportCauses}
 
 -- ---- tests of members
@@ -191,6 +192,10 @@ module _ (g : Graph) (I : Inside g) (e : Expr) (core : ℕ) (anchors : List ℕ)
 
   pub core-never : In core (fallen g e core anchors) → ⊥
   core-never h = fallen-are .sound core h .other refl
+
+pub history-fallen : (n : ℕ) → n ≤ maxRecords → (cs : List Call) (e : Expr) (core : ℕ) (anchors : List ℕ)
+    → FallenAre (asked (after (fresh n) cs)) e core anchors (fallen (asked (after (fresh n) cs)) e core anchors)
+history-fallen n h cs e core anchors = fallen-are (asked (after (fresh n) cs)) (history-inside n h cs) e core anchors
 
 pub fallen-none : (g : Graph) (e : Expr) (core : ℕ) → fallen g e core [] ≡ []
 unfolding fallen falls reaches some chosen
