@@ -2,6 +2,6 @@
 // slices. The calls stand by subject in edits.rt, questions.rt, trees.rt and sole_support.rt; told.rt has how an answer is told as one number.
 mod edits;
 mod questions;
+mod sole_support;
 mod told;
 mod trees;
-mod sole_support;

@@ -35,12 +35,5 @@ pub extern "C" fn dating_sole_support(
     if register::number_of(answer) != 0 {
         return told_refusal(book::NOT_OPEN);
     }
-    told_support(support::sole_support(
-        loaded.register,
-        core,
-        text,
-        anchors,
-        work,
-        list,
-    ))
+    told_support(support::sole_support(loaded.register, core, text, anchors, work, list))
 }

@@ -2,7 +2,7 @@
 -- Assumes nothing.
 use mathlib.Core.Path.{_≡_, refl, sym, ap, ap₂, _∙_, subst}
 use mathlib.Core.List.{List, [], _∷_, _++_}
-use mathlib.Core.Bool.{Bool, true, false, not, _||_, _&&_, false≢true, true≢false}
+use mathlib.Core.Bool.{Bool, true, false, not, _||_, _&&_}
 use Prim.Native.Nat.{ℕ, zero, suc, _+_, _-_, _*_, _≤_, _<_, min}
 use native.Mathlib.Decide.{decLt}
 use native.Mathlib.Omega.{arith}
@@ -10,20 +10,19 @@ use lib.ListN.{length, take, drop, getD, length-drop}
 use lib.Seq.{length-take-le, take-all, drop-at}
 use lib.Dec.{leb, ltb, eqb}
 use borrow.Author.Tests.{lt-ltb, le-ltb, le-leb, lt-leb, leb-false}
-use Rattle.book.specs.Basics.{pick, In}
+use Rattle.book.specs.Basics.{pick}
 use Rattle.book.specs.Causes.{Cause, no-record, unordered-anchors, short-work, short-list, number, Caused, firstNumber, maxRecords}
 use Rattle.book.specs.Book.{Book}
 use Rattle.book.specs.BookLaws.{caused-positive}
 use Rattle.k2.specs.Bits.{bitAt}
-use Rattle.k2.specs.PairSets.{Cells, pairWord}
+use Rattle.k2.specs.PairSets.{pairWord}
 use Rattle.k2.specs.Trees.{treeUnit}
 use Rattle.k2.specs.SizeLaws.{treeUnit-some}
 use Rattle.paths.specs.Expressions.{Expr}
 use Rattle.paths.specs.Grammar.{Verdict, accepted, long, outside, large, verdictCause}
 use Rattle.paths.specs.Chains.{Graph, asked}
 use Rattle.paths.specs.Relations.{cells}
-use Rattle.paths.specs.Questions.{Outcome, refused, paired, unless, pairsWork, chainWork, pairsOf, pairsCauses, over}
-use Rattle.rows.specs.Rows.{flat}
+use Rattle.paths.specs.Questions.{Outcome, refused, paired, unless, pairsWork, chainWork, pairsCauses, over}
 use Rattle.rows.specs.RowLaws.{flat-at}
 use Rattle.register.specs.Representation.{Represents}
 use Rattle.register.specs.declared.Register.{Register}
@@ -33,7 +32,7 @@ use Rattle.pairs.specs.declared.PairsAnswer.the-variants.{Pairs, Refused as Dec
 use Rattle.support.specs.declared.SupportAnswer.{SupportAnswer}
 use Rattle.support.specs.declared.SupportAnswer.the-variants.{Records, Refused}
 use Rattle.support.specs.declared.Marks.{Marks}
-use Rattle.support.specs.Support.{without, some, chosen, reaches, falls, fallen, orderly, supportWork, fallenOf, supportCauses, supportNumber, answered, listed, supportAnswer, BookSupports, recordsLength, SupportsFor}
+use Rattle.support.specs.Support.{without, some, chosen, reaches, falls, fallen, orderly, supportWork, fallenOf, supportCauses, supportNumber, answered, listed, BookSupports, recordsLength, SupportsFor}
 use Rattle.support.specs.SupportLaws.{some-same, some-none, chosen-same}
 use Rattle.support.specs.Inner.{joinedBy, lost, Marked, Parted, Handed, too-long, handed, Compares}
 

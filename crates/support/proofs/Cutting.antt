@@ -1,21 +1,20 @@
 -- Laws of the links taken out: what an unlock and a removal leave of a book, and the graph once every word of its links has been cut. Assumes nothing.
 use mathlib.Core.Path.{_≡_, refl, sym, ap, ap₂, _∙_, subst, fun-ext}
-use mathlib.Core.Logic.{_⊎_, inl, inr, ⊎-elim}
 use mathlib.Core.List.{List, [], _∷_, _++_}
-use mathlib.Core.Bool.{Bool, true, false, not, _||_, _&&_, false≢true, true≢false}
-use Prim.Native.Nat.{ℕ, zero, suc, _+_, _*_, _/_, _%_, _≤_, _<_}
+use mathlib.Core.Bool.{Bool, true, false, not, _&&_, true≢false}
+use Prim.Native.Nat.{ℕ, _+_, _/_, _%_, _≤_, _<_}
 use native.Mathlib.Numerals.{add-one}
 use native.Mathlib.Omega.{arith}
 use lib.ListN.{length, take, getD}
 use lib.Seq.{take-suc}
-use lib.Dec.{leb, ltb, eqb}
+use lib.Dec.{ltb}
 use borrow.Author.Tests.{lt-leb}
-use Rattle.book.specs.Basics.{pick, In, here, there, has}
+use Rattle.book.specs.Basics.{pick, In, here, there}
 use Rattle.book.specs.Causes.{maxRecords, labels, number, firstNumber}
-use Rattle.book.specs.Book.{Link, sameLink, Sheet, Book, remove, unlock, edit, present, isLocked, isWithdrawn, causes, editAnswer, edited, turned, next}
+use Rattle.book.specs.Book.{Link, sameLink, Book, remove, unlock, edit, present, isLocked, isWithdrawn, causes, editAnswer, edited, turned, next}
 use Rattle.book.specs.Sheets.{Proper, Fit}
-use Rattle.book.specs.SetLaws.{eqb-test, sameLink-test, and-both, has-without, without-self, absent-without}
-use Rattle.paths.specs.Chains.{Graph, asked}
+use Rattle.book.specs.SetLaws.{eqb-test, sameLink-test, has-without, without-self, absent-without}
+use Rattle.paths.specs.Chains.{asked}
 use Rattle.register.specs.Links.{linkWord, Linked}
 use Rattle.support.specs.Support.{touches, without}
 use Rattle.support.specs.Inner.{wordLink, cutLink, cut, cutAll}

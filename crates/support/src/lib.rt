@@ -15,6 +15,19 @@ ghost use Rattle.support.specs.Inner.{wordLink, cut, joinedBy, lost as L
 use pairs::PairsAnswer;
 use register::Register;
 
+// The rows of a relation: a bit for each pair, in words of 64.
+const WORD_BITS: usize = 64;
+
+const ROW_WORDS: usize = book::MAX_RECORDS * book::MAX_RECORDS / WORD_BITS;
+
+// A link's word is (label * 1024 + from) * 1024 + to.
+const FROM_UNIT: u32 = book::MAX_RECORDS as u32;
+
+const LABEL_UNIT: u32 = FROM_UNIT * FROM_UNIT;
+
+// The words of work for each record beside those of a pair question.
+const RECORD_WORDS: usize = 64;
+
 // The answer: how many records fall, which the list has; or the number of a cause.
 pub enum SupportAnswer {
     Records(usize),
@@ -69,12 +82,12 @@ fn joined(rows: &[u64], from: usize, to: usize) -> bool
     requires { ⌜ (from < maxRecords) × (to < 65536) ⌝ }
     ensures { λ r. ⌜ r ≡ eqb (joinedBy (now (rows .entry)) from to) 1 ⌝ }
 {
-    let p = from * 1024 + to;
-    let q = p / 64;
+    let p = from * book::MAX_RECORDS + to;
+    let q = p / WORD_BITS;
     if rows.len() <= q {
         return false;
     }
-    (rows[q] >> (p % 64)) % 2 == 1
+    (rows[q] >> (p % WORD_BITS)) % 2 == 1
 }
 
 // Whether the rows of a relation join a record to some anchor.
@@ -117,7 +130,7 @@ fn mark_records(
     requires { ⌜ (n ≤ maxRecords) × (some (leb n) (now anchors) ≡ false) ⌝ }
     ensures { λ r. ⌜ Marked register (verdict (now (text .entry))) (now (anchors .entry)) (length (now (work .entry))) n r ⌝ }
 {
-    let mut rows: [u64; 16384] = [0; 16384];
+    let mut rows: [u64; ROW_WORDS] = [0; ROW_WORDS];
     let answer = engine::relation(register, text, work, &mut rows);
     match answer {
         PairsAnswer::Refused(number) => Marks {
@@ -146,12 +159,12 @@ fn touching(from: u16, to: u16, core: u16) -> bool
 fn without_link(register: Register, core: u16, word: u32) -> Register
     ensures { λ r. ⌜ ((b : Book) → Represents register b → Represents r (cut core (wordLink word) b)) ⌝ }
 {
-    let from = (word / 1024 % 1024) as u16;
-    let to = (word % 1024) as u16;
+    let from = (word / FROM_UNIT % FROM_UNIT) as u16;
+    let to = (word % FROM_UNIT) as u16;
     if !touching(from, to, core) {
         return register;
     }
-    let label = (word / 1048576 % 256) as u8;
+    let label = (word / LABEL_UNIT % 256) as u8;
     let first = engine::unlock(register, from);
     let second = engine::unlock(first.register, to);
     let removed = engine::remove(second.register, from, label, to);
@@ -277,14 +290,14 @@ fn spared(len: usize, n: usize) -> usize
     requires { ⌜ n ≤ maxRecords ⌝ }
     ensures { λ r. ⌜ r ≡ min len (chainWork n) ⌝ }
 {
-    if len < 64 * n {
+    if len < RECORD_WORDS * n {
         return len;
     }
-    64 * n
+    RECORD_WORDS * n
 }
 
 // The records that lose every chain to the anchors when the links of the core are gone, ascending; how many they are.
-// The work of a pair question is lent on from word 64 * n, so that the engine refuses it exactly when the whole is short.
+// The work of a pair question is lent on from word RECORD_WORDS * n, so that the engine refuses it exactly when the whole is short.
 pub fn sole_support(
     register: Register,
     core: u16,

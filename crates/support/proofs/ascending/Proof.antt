@@ -4,13 +4,10 @@ use native.Mathlib.Omega.{arith}
 use mathlib.Core.Path.{_≡_, refl, sym, _∙_}
 use Prim.Native.Nat.{_-_, _≤_}
 use lib.ListN.{length, drop}
-use borrow.Author.Needs.{needs}
 use Rattle.support.specs.Support.{orderly}
 use Rattle.support.proofs.Walking.{order-broken, order-next, order-past}
 use Rattle.support.proofs.ascending.Statement.{statement}
 use Rattle.support.proofs.ascending.Tie as tie
-use Rattle.support.proofs.ascending.Reads as reads
-use Rattle.support.proofs.ascending.Lts as lts
 
 abbrev Inv-loop : tie.InvT-loop
 Inv-loop records least₀ i₀ least i = (i ≤ length records) × (orderly 0 records ≡ orderly least (drop i records))

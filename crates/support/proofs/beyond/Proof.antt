@@ -5,14 +5,11 @@ use mathlib.Core.Path.{_≡_, refl, sym, _∙_}
 use Prim.Native.Nat.{_-_, _≤_}
 use lib.Dec.{leb}
 use lib.ListN.{length, drop}
-use borrow.Author.Needs.{needs}
 use borrow.Author.Tests.{le-leb, lt-leb}
 use Rattle.support.specs.Support.{some}
 use Rattle.support.proofs.Walking.{some-found, some-next, some-past}
 use Rattle.support.proofs.beyond.Statement.{statement}
 use Rattle.support.proofs.beyond.Tie as tie
-use Rattle.support.proofs.beyond.Reads as reads
-use Rattle.support.proofs.beyond.Lts as lts
 
 abbrev Inv-loop : tie.InvT-loop
 Inv-loop records n i₀ i = (i ≤ length records) × (some (leb n) records ≡ some (leb n) (drop i records))

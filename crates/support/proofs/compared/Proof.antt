@@ -1,16 +1,10 @@
 -- `compared` hands over the records that the first marks have and the second have not, by the promises of the calls in their order (Answering). Assumes nothing.
-use native.Mathlib.Omega.{arith}
-use mathlib.Core.Path.{_≡_, refl, sym, ap, subst, _∙_}
+use mathlib.Core.Path.{_≡_}
 use lib.ListN.{length}
 use Rattle.support.proofs.Answering.{first-refused, second-refused, handed-over}
 use borrow.Author.Needs.{needs}
 use Rattle.support.proofs.compared.Statement.{statement}
 use Rattle.support.proofs.compared.Tie as tie
-use Rattle.support.proofs.compared.Reads as reads
-use Rattle.support.proofs.compared.Lts as lts
-use Rattle.support.proofs.hand_over.Reads as hand-over-reads
-use Rattle.support.proofs.mark_records.Reads as mark-records-reads
-use Rattle.support.proofs.without_core.Reads as without-core-reads
 
 mark-records-requires : tie.Need-mark-records-requires
 mark-records-requires c κs = search needs

@@ -1,11 +1,10 @@
 -- `fallen` goes over the records. The loop's invariant: the words written are the records below x that are lost. The measure is the records left. Assumes nothing.
 use native.Mathlib.Omega.{arith}
-use mathlib.Core.Bool.{Bool, false, not, _&&_}
 use mathlib.Core.List.{List}
 use mathlib.Core.Logic.{⊎-elim}
 use mathlib.Core.Path.{_≡_, refl, sym, ap, ap₂, _∙_}
-use Prim.Native.Nat.{ℕ, _+_, _-_, _≤_, _<_}
-use lib.ListN.{length, length-set, take, getD}
+use Prim.Native.Nat.{ℕ, _-_, _≤_}
+use lib.ListN.{length, length-set, take}
 use borrow.Author.Needs.{needs}
 use Rattle.book.specs.Causes.{maxRecords}
 use Rattle.support.specs.Support.{chosen}
@@ -13,9 +12,6 @@ use Rattle.support.specs.Inner.{lost}
 use Rattle.support.proofs.Walking.{chosen-more, chosen-passed}
 use Rattle.support.proofs.fallen.Statement.{statement}
 use Rattle.support.proofs.fallen.Tie as tie
-use Rattle.support.proofs.fallen.Reads as reads
-use Rattle.support.proofs.fallen.Lts as lts
-use Rattle.support.proofs.loses.Reads as loses-reads
 
 abbrev Inv-loop : tie.InvT-loop
 Inv-loop core n before after words₀ count₀ x₀ words count x = (x ≤ n) × (n ≤ maxRecords) × (count ≤ x) × (length words ≡ maxRecords) × (take count words ≡ chosen (lost before after core) x)

@@ -1,17 +1,11 @@
 -- `hand_over` refuses a list that is shorter than the records found, and writes them over its front else. Assumes nothing.
 use native.Mathlib.Omega.{arith}
-use mathlib.Core.Path.{_≡_, refl, sym, ap, subst, _∙_}
-use Prim.Native.Nat.{ℕ, _≤_, _<_}
-use lib.ListN.{length, take}
+use mathlib.Core.Path.{sym}
 use lib.Seq.{length-take-le}
 use Rattle.support.proofs.Answering.{handed-short, handed-whole}
 use borrow.Author.Needs.{needs}
 use Rattle.support.proofs.hand_over.Statement.{statement}
 use Rattle.support.proofs.hand_over.Tie as tie
-use Rattle.support.proofs.hand_over.Reads as reads
-use Rattle.support.proofs.hand_over.Lts as lts
-use Rattle.support.proofs.fallen.Reads as fallen-reads
-use Rattle.support.proofs.write.Reads as write-reads
 
 fallen-requires : tie.Need-fallen-requires
 fallen-requires c κs = search needs

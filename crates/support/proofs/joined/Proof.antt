@@ -8,8 +8,6 @@ use Rattle.support.specs.Inner.{joinedBy}
 use borrow.Author.Needs.{needs}
 use Rattle.support.proofs.joined.Statement.{statement}
 use Rattle.support.proofs.joined.Tie as tie
-use Rattle.support.proofs.joined.Reads as reads
-use Rattle.support.proofs.joined.Lts as lts
 
 mul-p : tie.Need-mul-p
 mul-p c = search needs

@@ -1,9 +1,8 @@
 -- `joined_records` goes over the records. The loop's invariant: the records below x are marked as they are joined. The measure is the records left. Assumes nothing.
 use native.Mathlib.Omega.{arith}
-use native.Mathlib.Decide.{decLt}
-use mathlib.Core.Bool.{Bool, false}
-use mathlib.Core.Path.{_≡_, refl, sym, ap, subst, _∙_}
-use Prim.Native.Nat.{ℕ, _+_, _-_, _≤_, _<_}
+use mathlib.Core.Bool.{false}
+use mathlib.Core.Path.{_≡_, refl, _∙_}
+use Prim.Native.Nat.{ℕ, _-_, _≤_, _<_}
 use lib.ListN.{length, length-set, getD}
 use Rattle.book.specs.Causes.{maxRecords}
 use Rattle.support.specs.Support.{reaches}
@@ -11,9 +10,6 @@ use Rattle.support.specs.Inner.{joinedBy}
 use Rattle.support.proofs.Walking.{marked-more}
 use Rattle.support.proofs.joined_records.Statement.{statement}
 use Rattle.support.proofs.joined_records.Tie as tie
-use Rattle.support.proofs.joined_records.Reads as reads
-use Rattle.support.proofs.joined_records.Lts as lts
-use Rattle.support.proofs.joined_to_some.Reads as joined-to-some-reads
 
 abbrev Inv-loop : tie.InvT-loop
 Inv-loop rows anchors n records₀ x₀ records x = (x ≤ n) × (n ≤ maxRecords) × (length records ≡ maxRecords) × ((y : ℕ) → y < x → getD records y false ≡ reaches (joinedBy rows) anchors y)

@@ -5,15 +5,11 @@ use mathlib.Core.Path.{_≡_, refl, sym, _∙_}
 use Prim.Native.Nat.{_-_, _≤_}
 use lib.Dec.{eqb}
 use lib.ListN.{length, drop}
-use borrow.Author.Needs.{needs}
 use Rattle.support.specs.Support.{some, reaches}
 use Rattle.support.specs.Inner.{joinedBy}
 use Rattle.support.proofs.Walking.{some-found, some-next, some-past}
 use Rattle.support.proofs.joined_to_some.Statement.{statement}
 use Rattle.support.proofs.joined_to_some.Tie as tie
-use Rattle.support.proofs.joined_to_some.Reads as reads
-use Rattle.support.proofs.joined_to_some.Lts as lts
-use Rattle.support.proofs.joined.Reads as joined-reads
 
 abbrev Inv-loop : tie.InvT-loop
 Inv-loop rows «record» anchors i₀ i = (i ≤ length anchors) × (reaches (joinedBy rows) anchors «record» ≡ some (λ a. eqb (joinedBy rows «record» a) 1) (drop i anchors))

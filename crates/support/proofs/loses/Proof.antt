@@ -1,12 +1,10 @@
 -- `loses`: each return computed from the test that led to it. Assumes nothing.
-use mathlib.Core.Path.{_≡_, refl, sym, ap, _∙_}
+use mathlib.Core.Path.{sym, ap, _∙_}
 use mathlib.Core.Bool.{Bool, not, _&&_}
 use borrow.Author.Tests.{not-true, not-false}
 use borrow.Author.Needs.{needs}
 use Rattle.support.proofs.loses.Statement.{statement}
 use Rattle.support.proofs.loses.Tie as tie
-use Rattle.support.proofs.loses.Reads as reads
-use Rattle.support.proofs.loses.Lts as lts
 
 returns : tie.Need-returns
 returns c = search needs

@@ -1,14 +1,9 @@
 -- `mark_records` asks the engine for the relation, and marks the records by its rows (`marks-refused`, `marks-made`). Assumes nothing.
-use mathlib.Core.Path.{_≡_, refl, sym, ap, subst, _∙_}
-use lib.ListN.{length}
+use mathlib.Core.Path.{refl}
 use Rattle.support.proofs.Answering.{marks-refused, marks-made}
 use borrow.Author.Needs.{needs}
 use Rattle.support.proofs.mark_records.Statement.{statement}
 use Rattle.support.proofs.mark_records.Tie as tie
-use Rattle.support.proofs.mark_records.Reads as reads
-use Rattle.support.proofs.mark_records.Lts as lts
-use Rattle.engine.proofs.relation.Reads as relation-reads
-use Rattle.support.proofs.joined_records.Reads as joined-records-reads
 
 slice-aggregate-relation : tie.Need-slice-aggregate-relation
 slice-aggregate-relation c = search needs

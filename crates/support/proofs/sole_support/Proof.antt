@@ -1,24 +1,11 @@
 -- `sole_support`: each refusal by the causes' order, and the rest by the promise of `compared`, whose part of the work is short exactly if the whole is. Assumes
 -- nothing.
-use native.Mathlib.Omega.{arith}
-use mathlib.Core.Path.{_≡_, refl, sym, ap, subst, _∙_}
-use mathlib.Core.Bool.{true, false}
+use mathlib.Core.Path.{sym, _∙_}
 use borrow.Author.Tests.{not-true, not-false}
-use Prim.Native.Nat.{ℕ, _≤_, _<_}
-use lib.Dec.{leb}
-use Rattle.book.specs.Causes.{no-record, unordered-anchors, number}
-use Rattle.support.specs.Support.{some}
 use Rattle.support.proofs.Answering.{refuses-core, refuses-beyond, refuses-unordered, part-length, supports}
 use borrow.Author.Needs.{needs}
 use Rattle.support.proofs.sole_support.Statement.{statement}
 use Rattle.support.proofs.sole_support.Tie as tie
-use Rattle.support.proofs.sole_support.Reads as reads
-use Rattle.support.proofs.sole_support.Lts as lts
-use Rattle.engine.proofs.size.Reads as size-reads
-use Rattle.support.proofs.ascending.Reads as ascending-reads
-use Rattle.support.proofs.beyond.Reads as beyond-reads
-use Rattle.support.proofs.compared.Reads as compared-reads
-use Rattle.support.proofs.spared.Reads as spared-reads
 
 size-requires : tie.Need-size-requires
 size-requires c κs = search needs

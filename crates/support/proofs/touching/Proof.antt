@@ -1,12 +1,10 @@
 -- `touching`: each return computed from the test that led to it. Assumes nothing.
-use mathlib.Core.Path.{_≡_, refl, sym, ap, _∙_}
+use mathlib.Core.Path.{sym, ap}
 use mathlib.Core.Bool.{Bool, _||_}
 use lib.Dec.{eqb}
 use borrow.Author.Tests.{eq-eqb, ne-eqb}
 use Rattle.support.proofs.touching.Statement.{statement}
 use Rattle.support.proofs.touching.Tie as tie
-use Rattle.support.proofs.touching.Reads as reads
-use Rattle.support.proofs.touching.Lts as lts
 
 returns : tie.Need-returns
 returns c = let a = c .before .args in sym (ap (λ (t : Bool). t || eqb (a .to) (a .core)) (eq-eqb (a .from) (a .core) (c .if1 .taken)))

@@ -1,9 +1,9 @@
 -- `without_core` cuts the words of the links one after another. The loop's invariant: what is left represents the book with the words done cut. The measure is the
 -- words left. It rests on `cut-graph`. Assumes nothing.
 use native.Mathlib.Omega.{arith}
-use mathlib.Core.Path.{_≡_, refl, sym, ap, subst, _∙_}
+use mathlib.Core.Path.{_≡_, subst}
 use Prim.Native.Nat.{ℕ, _-_, _≤_}
-use lib.ListN.{length, take}
+use lib.ListN.{take}
 use borrow.Author.Needs.{needs}
 use Rattle.book.specs.Book.{Book}
 use Rattle.engine.specs.BookLaws.{represented-fit}
@@ -12,10 +12,6 @@ use Rattle.support.specs.Inner.{cutAll}
 use Rattle.support.proofs.Cutting.{cut-next, cut-graph}
 use Rattle.support.proofs.without_core.Statement.{statement}
 use Rattle.support.proofs.without_core.Tie as tie
-use Rattle.support.proofs.without_core.Reads as reads
-use Rattle.support.proofs.without_core.Lts as lts
-use Rattle.engine.proofs.links.Reads as links-reads
-use Rattle.support.proofs.without_link.Reads as without-link-reads
 
 abbrev Inv-loop : tie.InvT-loop
 Inv-loop core words count rest₀ i₀ rest i = (i ≤ count) × ((b : Book) → Represents rest₀ b → Represents rest (cutAll core (take i words) b))

@@ -1,19 +1,14 @@
 -- `without_link` edits the register as `cut` does the book: each call follows the book by its own promise, accepted or refused. Assumes nothing.
-use mathlib.Core.Path.{_≡_, sym, ap, subst, _∙_}
+use mathlib.Core.Path.{sym, ap, subst, _∙_}
 use mathlib.Core.Bool.{Bool}
 use Rattle.book.specs.Basics.{pick}
-use Rattle.book.specs.Book.{Book, remove, unlock, edit, next}
+use Rattle.book.specs.Book.{remove, unlock, edit, next}
 use Rattle.register.specs.Representation.{Represents}
 use Rattle.support.specs.Inner.{wordLink, cutLink}
 use borrow.Author.Tests.{not-true, not-false}
 use borrow.Author.Needs.{needs}
 use Rattle.support.proofs.without_link.Statement.{statement}
 use Rattle.support.proofs.without_link.Tie as tie
-use Rattle.support.proofs.without_link.Reads as reads
-use Rattle.support.proofs.without_link.Lts as lts
-use Rattle.engine.proofs.remove.Reads as remove-reads
-use Rattle.engine.proofs.unlock.Reads as unlock-reads
-use Rattle.support.proofs.touching.Reads as touching-reads
 
 cast-from : tie.Need-cast-from
 cast-from c = search needs

@@ -1,6 +1,6 @@
 -- `write` goes word by word. The loop's invariant: the first i words are pasted over the list's front. The measure is the words left. Assumes nothing.
 use native.Mathlib.Omega.{arith}
-use mathlib.Core.Path.{_≡_, refl, sym, _∙_}
+use mathlib.Core.Path.{_≡_, refl}
 use Prim.Native.Nat.{_-_, _≤_}
 use lib.ListN.{length, length-set}
 use lib.Seq.{paste, paste-zero}
@@ -8,8 +8,6 @@ use borrow.Author.Needs.{needs}
 use Rattle.support.proofs.Walking.{paste-next, paste-over}
 use Rattle.support.proofs.write.Statement.{statement}
 use Rattle.support.proofs.write.Tie as tie
-use Rattle.support.proofs.write.Reads as reads
-use Rattle.support.proofs.write.Lts as lts
 
 abbrev Inv-loop : tie.InvT-loop
 Inv-loop words list₀ i₀ list i = (i ≤ length words) × (length list ≡ length list₀) × (length words ≤ length list₀) × (list ≡ paste list₀ 0 words i)
