@@ -11,8 +11,8 @@ fn main() -> Result<(), Refusal> {
     // A locked core is asked about like any other.
     register.lock(2)?;
     for core in 2..9 {
-        let fallen: Vec<u16> = register.sole_support(core, "(o|^o)+", &[0, 1])?.collect();
-        println!("without core {core}: {fallen:?} lose their date");
+        let fallen: Vec<u16> = register.sole_support(core, "(o|^o)*", &[0, 1])?.collect();
+        println!("lost with core {core}: {fallen:?}");
     }
     Ok(())
 }
