@@ -1,4 +1,5 @@
 -- Sole support: which records would lose every chain to the anchors if one core did.
+--   touches core k  whether the link k touches the core, at either end
 --   without core g  the graph g with every link that touches the core gone; the core itself stays in use
 --   Held g e anchors x
 --                   the record x has a chain to some anchor that spells a word of e
@@ -17,15 +18,19 @@
 --                   the answer asked of the book b, if the text is an expression
 --   supportCauses, supportNumber
 --                   the causes against the question, in their order, and the number of the first, or 0
---   supportAnswer   the answer of the question: how many records fall, or refused with a number
---   supportList     what the list holds then: the records that fall, and the words past them as they were; all as it was if the question is refused
+--   answered k l, supportAnswer
+--                   the answer whose number is k, if l fall: how many they are, or refused with k; so the answer of the question
+--   listed k l before, supportList
+--                   what the list holds then: the records that fall, and the words past them as they were; all as it was if the question is refused
 --   BookSupports b core v anchors work before after a
 --                   asked of the book b with a text of the verdict v, so many words of work and a list that held `before`: the answer a and the list, which
 --                   holds `after`, are the book's
 --   recordsLength a how many words of the list are the answer's
---   Supports r core text anchors work before after a
+--   SupportsFor r core v anchors work before after a
 --                   asked of the register r. Over any contents: the answer fits the list, the words past it are as they were, all of them with a refusal,
 --                   whose number is a cause's. For every book that the register represents: answer and list are the book's
+--   Supports r core text anchors work before after a
+--                   the same of a text
 -- Assumes nothing: these are definitions.
 use mathlib.Core.Path.{_≡_}
 use mathlib.Core.List.{List, [], _∷_, _++_}
@@ -49,7 +54,6 @@ use Rattle.support.specs.declared.SupportAnswer.{SupportAnswer}
 use Rattle.support.specs.declared.SupportAnswer.the-variants.{Records, Refused}
 
 -- ---- what falls
--- whether a link touches a record
 abbrev pub touches : ℕ → Link → Bool
 touches core k = eqb (k .from) core || eqb (k .to) core
 
@@ -113,7 +117,6 @@ module _ (b : Book) (core : ℕ) (v : Verdict) (anchors : List ℕ) (work room :
   unfoldable pub supportNumber : ℕ
   supportNumber = firstNumber supportCauses
 
--- the answer whose number is k
 abbrev pub answered : ℕ → List ℕ → SupportAnswer
 answered zero l = Records (length l)
 answered (suc k) l = Refused (suc k)
