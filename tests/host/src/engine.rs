@@ -83,7 +83,11 @@ impl Engine {
 
     fn intact(&mut self) {
         self.calls += 1;
-        let narrow = self.state.intact() && self.list.intact() && self.pairs.intact() && self.text.intact() && self.anchors.intact();
+        let narrow = self.state.intact()
+            && self.list.intact()
+            && self.pairs.intact()
+            && self.text.intact()
+            && self.anchors.intact();
         let wide = [&self.work, &self.first, &self.second, &self.tree].into_iter().all(Lender::intact);
         self.fault(narrow && wide, "writes before what it was lent");
     }
@@ -220,7 +224,14 @@ impl Engine {
         self.asked(words, text, space, |state, text, work, list| calls::chain(state, from, to, text, work, list))
     }
 
-    pub fn sole_support(&mut self, words: &[u32], core: u32, text: &[u8], anchors: &[u16], space: Space) -> Answer<u32> {
+    pub fn sole_support(
+        &mut self,
+        words: &[u32],
+        core: u32,
+        text: &[u8],
+        anchors: &[u16],
+        space: Space,
+    ) -> Answer<u32> {
         self.listed(
             |engine| &mut engine.list,
             space.list,

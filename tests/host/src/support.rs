@@ -89,8 +89,11 @@ pub fn support(run: &mut Run, seed: u64, size: Size) {
         let lent: Vec<u16> = anchors.iter().map(|&anchor| anchor as u16).collect();
         for space in spaces(work(n), expected.as_ref().map_or(0, Vec::len)) {
             let answer = run.engine.sole_support(&made.words, core, &text, &lent, space);
-            let expected = within(n, &expected, space).map(|words| Some(Listed::from(words))).map_err(|refusal| refusal.number().into());
-            let asked = || format!("sole support of {core}, `{}` to {anchors:?} in {space:?}", String::from_utf8_lossy(&text));
+            let expected = within(n, &expected, space)
+                .map(|words| Some(Listed::from(words)))
+                .map_err(|refusal| refusal.number().into());
+            let asked =
+                || format!("sole support of {core}, `{}` to {anchors:?} in {space:?}", String::from_utf8_lossy(&text));
             run.same_of(asked, &answer, &expected);
             run.counts.supports += 1;
         }

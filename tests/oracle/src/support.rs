@@ -18,8 +18,16 @@ fn without(sheet: &Sheet, core: u32) -> Sheet {
 }
 
 /// The records but the core that reach some anchor, and none without the core's links.
-fn falling(n: u32, core: u32, anchors: &[u32], before: impl Fn(u32, u32) -> bool, after: impl Fn(u32, u32) -> bool) -> Vec<u32> {
-    let falls = |&x: &u32| x != core && anchors.iter().any(|&anchor| before(x, anchor)) && !anchors.iter().any(|&anchor| after(x, anchor));
+fn falling(
+    n: u32,
+    core: u32,
+    anchors: &[u32],
+    before: impl Fn(u32, u32) -> bool,
+    after: impl Fn(u32, u32) -> bool,
+) -> Vec<u32> {
+    let falls = |&x: &u32| {
+        x != core && anchors.iter().any(|&anchor| before(x, anchor)) && !anchors.iter().any(|&anchor| after(x, anchor))
+    };
     (0..n).filter(falls).collect()
 }
 
