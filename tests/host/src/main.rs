@@ -31,9 +31,9 @@ const KINDS: [Kind; 14] = [
     ("trees of many records", trees::trees, Size(257, 1024), [16, 100, 0]),
     ("damaged words, few records", damage::damaged, Size(1, 64), [400, 5000, 20]),
     ("damaged words, many records", damage::damaged, Size(65, 1024), [100, 1500, 1]),
-    ("sole support, few records", support::support, Size(1, 24), [400, 4000, 3]),
+    ("sole support, few records", support::support, Size(1, 24), [1000, 6000, 3]),
     ("sole support, some records", support::support, Size(25, 256), [60, 500, 0]),
-    ("sole support, many records", support::support, Size(900, 1024), [12, 100, 0]),
+    ("sole support, many records", support::support, Size(900, 1024), [30, 150, 0]),
 ];
 
 /// What a call may take of the stack, and this program beside it.
@@ -83,7 +83,7 @@ fn run_all() -> ExitCode {
     }
     let counts = &run.counts;
     println!(
-        "{cases} cases: {} edits, {} registers read, {} pair questions, {} chain questions, {} tree calls, {} damaged registers, {} of sole support; \
+        "{cases} cases: {} edits, {} registers read, {} pair questions, {} chain questions, {} tree calls, {} damaged registers, {} of sole support ({} records fall); \
          {} calls, {} differences",
         counts.edits,
         counts.contents,
@@ -92,6 +92,7 @@ fn run_all() -> ExitCode {
         counts.trees,
         counts.damaged,
         counts.supports,
+        counts.fallen,
         run.engine.calls,
         run.differences
     );

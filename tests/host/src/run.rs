@@ -13,6 +13,8 @@ pub struct Counts {
     pub trees: usize,
     pub damaged: usize,
     pub supports: usize,
+    /// The records that fell in all accepted questions of sole support.
+    pub fallen: usize,
 }
 
 /// From how many records to how many.

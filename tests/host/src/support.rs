@@ -96,6 +96,7 @@ pub fn support(run: &mut Run, seed: u64, size: Size) {
                 || format!("sole support of {core}, `{}` to {anchors:?} in {space:?}", String::from_utf8_lossy(&text));
             run.same_of(asked, &answer, &expected);
             run.counts.supports += 1;
+            run.counts.fallen += answer.ok().flatten().map_or(0, |fallen| fallen.total);
         }
     }
 }
