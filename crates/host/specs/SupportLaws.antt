@@ -1,10 +1,10 @@
 -- Sole support asked of words that keep a book.
 --   support-book    the number tells the book's answer, and the list is as that answer leaves it
---   support-told    a number below 2^33 tells so many records
+--   support-told    a number that is no refusal tells so many records
 -- Assumes nothing.
 use mathlib.Core.Path.{_≡_, ap, _∙_}
 use mathlib.Core.List.{List}
-use Prim.Native.Nat.{ℕ, _<_}
+use Prim.Native.Nat.{ℕ, _*_, _<_}
 use native.Mathlib.Omega.{arith}
 use lib.ListN.{length}
 use Rattle.book.specs.Book.{Book}
@@ -12,7 +12,7 @@ use Rattle.paths.specs.Verdicts.{verdict}
 use Rattle.support.specs.Support.{supportAnswer, supportList, Supports}
 use Rattle.support.specs.declared.SupportAnswer.{SupportAnswer}
 use Rattle.support.specs.declared.SupportAnswer.the-variants.{Records, Refused}
-use Rattle.host.specs.Host.{KeepsBook, Asked}
+use Rattle.host.specs.Host.{KeepsBook, pastCounts, Asked}
 use Rattle.host.specs.Support.{toldSupport}
 
 pub support-book : {ws before after : List ℕ} {k : ℕ} (core : ℕ) (text anchors : List ℕ) (work : ℕ) (b : Book) → KeepsBook ws b
@@ -23,6 +23,6 @@ support-book core text anchors work b h q =
     let s = t .1 .book b (h .2) in
     (t .2 ∙ ap toldSupport (s .answer), s .list)
 
-pub support-told : (a : SupportAnswer) (k : ℕ) → toldSupport a ≡ k → k < 8589934592 → a ≡ Records k
+pub support-told : (a : SupportAnswer) (k : ℕ) → toldSupport a ≡ k → k < 2 * pastCounts → a ≡ Records k
 support-told (Records j) k e l = ap Records e
 support-told (Refused j) k e l = absurd (omega arith)
