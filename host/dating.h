@@ -12,15 +12,15 @@
  *    1  n outside 1 to 1,024                       10  expression over 256 bytes, 63 letters or 8 deep
  *    2  record not below n                         11  lent tree not well formed
  *    3  label above 25                             12  work (or state) shorter than stated
- *    4  an end of the link, or the record to       13  chain, tree or new numbers longer than the list
+ *    4  an end of the link, or the record to       13  chain, loop, tree or numbers longer than the list
  *       withdraw, is locked                        14  (programs only: frame broken)
  *    5  link present, or record locked or          15  kind unknown
  *       withdrawn, already                         16  the words are not those of a register
  *    6  link absent, record not locked, or         17  a link touches the record to withdraw
  *       record to reinstate in use                 18  a withdrawn record named in add, remove, lock or
  *    7  4,096 links present                            unlock
- *    8  no edit held that could be undone          21  no record in use
- *    9  expression outside the grammar
+ *    8  no edit held that could be undone          20  anchors out of order or repeated
+ *    9  expression outside the grammar             21  no record in use
  *
  * tests/declarations.rs holds this file to the Rattle source.
  */
@@ -37,7 +37,7 @@ extern "C" {
 /* The words of a register. Words saved before the totals were kept, 5,380 of them, are refused with 16: a register is built again by its edits. */
 #define DATING_STATE_WORDS 5406
 /* The words of work that are enough for every call with n records up to 1,024. */
-#define DATING_WORK_WORDS 699072
+#define DATING_WORK_WORDS 764608
 /* No chain of any length. */
 #define DATING_NO_CHAIN (UINT64_C(1) << 32)
 /* Plus the number of steps of a loop (dating_generations). */
@@ -110,6 +110,11 @@ uint32_t dating_close_up(uint32_t *state, size_t state_len, uint16_t *numbers, s
  * numbers. Refused with 3, 12 and 13, in this order. */
 uint64_t dating_generations(const uint32_t *state, size_t state_len, const uint8_t *labels, size_t labels_len, uint64_t *work, size_t work_len,
                             uint32_t *list, size_t list_len);
+
+/* Sole support: the records but the core, ascending, that have a chain to some anchor and none to any once the links that touch the core are gone. Locks
+ * play no part. Anchors ascend, each once. Work of 32 * D + 64 * n words. */
+uint64_t dating_sole_support(const uint32_t *state, size_t state_len, uint16_t core, const uint8_t *text, size_t text_len, const uint16_t *anchors,
+                             size_t anchors_len, uint64_t *work, size_t work_len, uint32_t *list, size_t list_len);
 
 #ifdef __cplusplus
 }

@@ -62,7 +62,7 @@ pub fn numbered(answer: u64) -> Result<(bool, usize), Refusal> {
     }
 }
 
-/// Every refusal has the number of a cause: so it is proved of every call (`caused` of `register/Calls`, `pairs/Asking`, `chains/Replies`, `generations/Generating`; `Totals` of `register/Questions`).
+/// Every refusal has the number of a cause: so it is proved of every call (`caused` of `register/Calls`, `pairs/Asking`, `chains/Replies`, `generations/Generating`, `support/Support`; `Totals` of `register/Questions`).
 fn refusal(number: u32) -> Refusal {
     Refusal::of(number).expect("a refusal has the number of a cause")
 }
@@ -206,6 +206,19 @@ extern "C" {
         state_len: usize,
         labels: *const u8,
         labels_len: usize,
+        work: *mut u64,
+        work_len: usize,
+        list: *mut u32,
+        list_len: usize,
+    ) -> u64;
+    fn dating_sole_support(
+        state: *const u32,
+        state_len: usize,
+        core: u16,
+        text: *const u8,
+        text_len: usize,
+        anchors: *const u16,
+        anchors_len: usize,
         work: *mut u64,
         work_len: usize,
         list: *mut u32,
@@ -420,6 +433,24 @@ pub fn generations(state: &[u32], labels: &[u8], work: &mut [u64], list: &mut [u
             state.len(),
             labels.as_ptr(),
             labels.len(),
+            work.as_mut_ptr(),
+            work.len(),
+            list.as_mut_ptr(),
+            list.len(),
+        )
+    }
+}
+
+pub fn sole_support(state: &[u32], core: u16, text: &[u8], anchors: &[u16], work: &mut [u64], list: &mut [u32]) -> u64 {
+    unsafe {
+        dating_sole_support(
+            state.as_ptr(),
+            state.len(),
+            core,
+            text.as_ptr(),
+            text.len(),
+            anchors.as_ptr(),
+            anchors.len(),
             work.as_mut_ptr(),
             work.len(),
             list.as_mut_ptr(),

@@ -1,4 +1,4 @@
-//! What answers consist of: pairs, steps and links, read from the words that the engine wrote.
+//! What answers consist of: pairs, steps, links and records, read from the words that the engine wrote.
 
 use std::fmt::{self, Display, Formatter};
 
@@ -106,6 +106,11 @@ items! {
 items! {
     /// The links of a register, ascending by letter, then from, then to.
     Links, Link, link
+}
+
+items! {
+    /// Records, ascending, each once.
+    Records, u16, record
 }
 
 #[cfg(test)]

@@ -23,13 +23,13 @@
 //!
 //! A call that cannot be done is refused with the first of its causes, a [`Refusal`], and then nothing is changed.
 //!
-//! * [`Register`]: edits, undo, and both questions
+//! * [`Register`]: edits, undo, both questions, and sole support
 //! * [`Edit`]: an edit by name, for a preview of what it would do to an answer
 //! * [`Generations`]: the longest run of links to each record, or the first loop
 //! * [`Trees`] and [`Tree`]: sets of pairs as k2-trees, and their algebra
 //! * [`calls`]: the engine's functions as they are exported, on plain slices
 //!
-//! A call takes at most 464 KB of stack (listing a tree), a pair question 352, a chain question 144, an edit or undo 128.
+//! A call takes at most 464 KB of stack (listing a tree), sole support 448, a pair question 352, a chain question 144, an edit or undo 128.
 
 pub mod calls;
 mod closing;
@@ -39,12 +39,13 @@ mod previews;
 mod refusal;
 mod register;
 mod space;
+mod support;
 mod tree;
 
 pub use generations::{Generations, Numbers};
-pub use items::{Link, Links, Pairs, Step, Steps};
+pub use items::{Link, Links, Pairs, Records, Step, Steps};
 pub use previews::Edit;
 pub use refusal::Refusal;
 pub use register::Register;
-pub use space::{chain_work, longest_chain, most_pairs, tree_words, tree_work};
+pub use space::{chain_work, longest_chain, most_pairs, support_work, tree_words, tree_work};
 pub use tree::{Sense, Tree, Trees};

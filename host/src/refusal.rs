@@ -25,6 +25,7 @@ pub enum Refusal {
     NotOpened = 16,
     Touched = 17,
     Withdrawn = 18,
+    Anchors = 20,
     NoneInUse = 21,
 }
 
@@ -42,12 +43,13 @@ const CAUSES: &[(Refusal, &str)] = &[
     (Refusal::Limits, "the expression is over 256 bytes, 63 letters or 8 deep"),
     (Refusal::Tree, "the tree is not well formed"),
     (Refusal::Work, "the work is shorter than stated"),
-    (Refusal::List, "the chain, the tree or the new numbers are longer than their list"),
+    (Refusal::List, "the chain, the loop, the tree or the numbers are longer than their list"),
     (Refusal::Frame, "the frame is broken"),
     (Refusal::Kind, "the kind is unknown"),
     (Refusal::NotOpened, "no register is opened: the words are not those of a register"),
     (Refusal::Touched, "a link touches the record to withdraw"),
     (Refusal::Withdrawn, "the record is withdrawn"),
+    (Refusal::Anchors, "the anchors are out of order or repeated"),
     (Refusal::NoneInUse, "no record is in use"),
 ];
 

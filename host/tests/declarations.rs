@@ -13,7 +13,7 @@ struct Function {
 }
 
 /// The modules of `crates/host/src` that export functions, in the order of the declarations.
-const MODULES: [&str; 6] = ["edits", "questions", "trees", "previews", "closing", "numbering"];
+const MODULES: [&str; 7] = ["edits", "questions", "trees", "previews", "closing", "numbering", "sole_support"];
 
 /// Those that export none.
 const OTHERS: [&str; 2] = ["lib", "told"];
@@ -190,7 +190,7 @@ fn constants_are_the_same() {
         line.unwrap_or_else(|| panic!("{name} is not defined")).to_string()
     };
     assert_eq!(defined("DATING_STATE_WORDS"), dating::calls::STATE_WORDS.to_string());
-    assert_eq!(defined("DATING_WORK_WORDS"), dating::tree_work(1024).to_string());
+    assert_eq!(defined("DATING_WORK_WORDS"), dating::support_work(1024).to_string());
     assert_eq!(defined("DATING_NO_NUMBER"), dating::calls::NO_NUMBER.to_string());
     let power = |number: u64| format!("(UINT64_C(1) << {})", number.trailing_zeros());
     assert_eq!(defined("DATING_NO_CHAIN"), power(dating::calls::NO_CHAIN));

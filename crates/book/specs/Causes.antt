@@ -3,7 +3,7 @@
 --   allCauses       every cause, in the order of this file
 --   number c        the number of a cause
 --   Caused k        k is the number of a cause
---   editOrder, questionOrder, treeOrder, closeOrder
+--   editOrder, questionOrder, treeOrder, closeOrder, supportOrder
 --                   the causes of each kind of call, in the order in which they are looked for
 --   firstNumber cs  of causes, each with whether it is there: the number of the first that is there, or 0 if none is
 --   InOrder cs os   the causes cs are some of the order os, in that order
@@ -55,13 +55,15 @@ pub data Cause : Type 0 where
   touched-record : Cause
   -- a withdrawn record named in add, remove, lock or unlock
   withdrawn-record : Cause
+  -- anchors out of order or repeated
+  unordered-anchors : Cause
   -- closing up with no record in use
   none-in-use : Cause
 
 unfoldable pub allCauses : List Cause
 allCauses =
     bad-size ∷ no-record ∷ bad-label ∷ locked-end ∷ already ∷ missing ∷ full ∷ none-held ∷ no-expression ∷ too-many-bytes ∷ too-large ∷ bad-tree ∷ short-work ∷
-    short-list ∷ broken-frame ∷ unknown-kind ∷ not-open ∷ touched-record ∷ withdrawn-record ∷ none-in-use ∷ []
+    short-list ∷ broken-frame ∷ unknown-kind ∷ not-open ∷ touched-record ∷ withdrawn-record ∷ unordered-anchors ∷ none-in-use ∷ []
 
 unfoldable pub number : Cause → ℕ
 number bad-size = 1
@@ -83,13 +85,14 @@ number unknown-kind = 15
 number not-open = 16
 number touched-record = 17
 number withdrawn-record = 18
+number unordered-anchors = 20
 number none-in-use = 21
 
 abbrev pub Caused : ℕ → Type 0
 Caused k = (c : Cause) × (k ≡ number c)
 
 -- the orders: edits 2, 18, 3, 4, 5, 6, 7, 17; questions 2, 10 for bytes, 9, 10 for letters and depth, 12, 13; trees 1, 2, 11, 12, 13;
--- closing up 21, 13
+-- closing up 21, 13; sole support 2, 20, 10 for bytes, 9, 10 for letters and depth, 12, 13
 unfoldable pub editOrder : List Cause
 editOrder = no-record ∷ withdrawn-record ∷ bad-label ∷ locked-end ∷ already ∷ missing ∷ full ∷ touched-record ∷ []
 
@@ -101,6 +104,9 @@ treeOrder = bad-size ∷ no-record ∷ bad-tree ∷ short-work ∷ short-list �
 
 unfoldable pub closeOrder : List Cause
 closeOrder = none-in-use ∷ short-list ∷ []
+
+unfoldable pub supportOrder : List Cause
+supportOrder = no-record ∷ unordered-anchors ∷ too-many-bytes ∷ no-expression ∷ too-large ∷ short-work ∷ short-list ∷ []
 
 unfoldable pub firstNumber : List (Cause × Bool) → ℕ
 firstNumber [] = 0

@@ -1,3 +1,4 @@
+pub mod BookLaws
 pub mod Demand
 pub mod DemandLaws
 pub mod Inquiries

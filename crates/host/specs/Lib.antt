@@ -6,3 +6,5 @@ pub mod Previews
 pub mod PreviewLaws
 pub mod Generations
 pub mod GenerationsLaws
+pub mod Support
+pub mod SupportLaws

@@ -1,9 +1,10 @@
 // The engine for Rust and C: the caller keeps a register as 5,406 words, at the front of a state that may be longer, and every call takes numbers and
-// slices. The calls stand by subject in edits.rt, questions.rt, trees.rt, previews.rt, closing.rt and numbering.rt; told.rt has how an answer is told as one number.
+// slices. The calls stand by subject in edits.rt, questions.rt, trees.rt, previews.rt, closing.rt, numbering.rt and sole_support.rt; told.rt has how an answer is told as one number.
 mod closing;
 mod edits;
 mod numbering;
 mod previews;
 mod questions;
+mod sole_support;
 mod told;
 mod trees;

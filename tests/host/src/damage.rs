@@ -110,6 +110,7 @@ pub fn damaged(run: &mut Run, seed: u64, size: Size) {
                 run.engine.links(&words, list),
                 run.engine.pairs(&words, &text, Space { work: pairs, list }),
                 run.engine.chain(&words, from, to, &text, Space { work: chains, list }),
+                run.engine.sole_support(&words, from, &text, &[to as u16], Space { work: pairs + chains, list }),
             ];
             let edit = (random.pick(&[2, 3, 4, 5, 6, 10, 11]), from as u16, random.below(27) as u8, to as u16);
             let preview = run.engine.preview(&words, edit, &text, Space { work: pairs, list });

@@ -33,11 +33,12 @@ pub type Answer<T> = Result<Option<Listed<T>>, u32>;
 /// The longest list lent.
 pub const LONGEST: usize = 1024 * 1024 + 64;
 const TREE: usize = 21_846 + 64;
-const WORK: usize = 32 * 21_846 + 64;
+const WORK: usize = 32 * 21_846 + 64 * 1024 + 64;
 
 pub struct Engine {
     state: Lender<u32>,
     text: Lender<u8>,
+    anchors: Lender<u16>,
     work: Lender<u64>,
     list: Lender<u32>,
     pairs: Lender<u32>,
@@ -64,6 +65,7 @@ impl Engine {
         Engine {
             state: lender(heap, 8192),
             text: lender(heap, 4096),
+            anchors: lender(heap, 4096),
             work: lender(heap, WORK),
             list: lender(heap, LONGEST),
             pairs: lender(heap, LONGEST),
@@ -86,7 +88,7 @@ impl Engine {
     fn intact(&mut self) {
         self.calls += 1;
         let narrow = self.state.intact() && self.list.intact() && self.pairs.intact();
-        let short = self.text.intact() && self.numbers.intact();
+        let short = self.text.intact() && self.numbers.intact() && self.anchors.intact();
         let wide = [&self.work, &self.first, &self.second, &self.tree].into_iter().all(Lender::intact);
         self.fault(narrow && short && wide, "writes before what it was lent");
     }
@@ -182,7 +184,7 @@ impl Engine {
             Told::Count(total) => Ok(Some(Listed { total, words })),
             Told::NoChain => Ok(None),
             Told::Refused(number) => {
-                self.fault((1..=18).contains(&number), &format!("refuses with {number}"));
+                self.fault((1..=18).contains(&number) || number == 20, &format!("refuses with {number}"));
                 Err(number)
             }
         }
@@ -229,6 +231,28 @@ impl Engine {
         self.asked(words, text, space, |state, text, work, list| {
             calls::preview(state, kind, from, label, to, text, work, list)
         })
+    }
+
+    pub fn sole_support(
+        &mut self,
+        words: &[u32],
+        core: u32,
+        text: &[u8],
+        anchors: &[u16],
+        space: Space,
+    ) -> Answer<u32> {
+        self.listed(
+            |engine| &mut engine.list,
+            space.list,
+            |engine, list| {
+                let (state, lent) = (engine.state.lend_words(words), engine.text.lend_words(text));
+                let named = engine.anchors.lend_words(anchors);
+                let answer = calls::sole_support(state, core as u16, lent, named, engine.work.lend(space.work), list);
+                let kept = state == words && lent == text && named == anchors;
+                engine.fault(kept, "sole support changes the register, the text or the anchors");
+                answer
+            },
+        )
     }
 
     pub fn make(&mut self, n: usize, pairs: &[u32], space: Space) -> Answer<u64> {

@@ -10,6 +10,7 @@ mod generations;
 mod history;
 mod lent;
 mod run;
+mod support;
 mod trees;
 
 use run::{Run, Size};
@@ -41,6 +42,9 @@ const KINDS: &[Kind] = &[
     ("generations of few records", generations::generations, Size(1, 64), [200, 2000, 3]),
     ("generations of many records", generations::generations, Size(65, 1024), [40, 300, 1]),
     ("generations of damaged words", generations::damaged, Size(1, 1024), [60, 600, 3]),
+    ("sole support, few records", support::support, Size(1, 24), [1000, 6000, 3]),
+    ("sole support, some records", support::support, Size(25, 256), [60, 500, 0]),
+    ("sole support, many records", support::support, Size(900, 1024), [30, 150, 0]),
 ];
 
 /// What a call may take of the stack, and this program beside it.
@@ -90,7 +94,7 @@ fn run_all() -> ExitCode {
     }
     let counts = &run.counts;
     println!(
-        "{cases} cases: {} edits, {} registers read, {} pair questions, {} chain questions, {} tree calls, {} damaged registers, {} generations; \
+        "{cases} cases: {} edits, {} registers read, {} pair questions, {} chain questions, {} tree calls, {} damaged registers, {} generations, {} of sole support ({} records fall); \
          {} calls, {} differences",
         counts.edits,
         counts.contents,
@@ -99,6 +103,8 @@ fn run_all() -> ExitCode {
         counts.trees,
         counts.damaged,
         counts.generations,
+        counts.supports,
+        counts.fallen,
         run.engine.calls,
         run.differences
     );

@@ -13,6 +13,9 @@ pub struct Counts {
     pub trees: usize,
     pub damaged: usize,
     pub generations: usize,
+    pub supports: usize,
+    /// The records that fell in all accepted questions of sole support.
+    pub fallen: usize,
 }
 
 /// From how many records to how many.

@@ -11,6 +11,7 @@
 //! | `question` | pair and chain questions with all their refusals | S6 Causes and numbers |
 //! | `preview` | pair questions on a copy where an edit was made | S12 Look before saving |
 //! | `generations` | the longest run to each record, or the first loop | S15 Generations |
+//! | `support` | sole support with all its refusals | S16 Sole support |
 //! | `frame` | requests as frames, and frames read as requests | S7 The program |
 //! | `program` | the program: frames in, lines out | S7 The program |
 //! | `lines` | typed lines such as `add 0 a 1` to requests | – |
@@ -29,6 +30,7 @@ pub mod program;
 pub mod question;
 pub mod random;
 pub mod relation;
+pub mod support;
 pub mod tree;
 
 /// The most records a register has.
@@ -70,7 +72,7 @@ pub enum Refusal {
     Tree = 11,
     /// the lent work is shorter than stated
     Work = 12,
-    /// the chain or the tree is longer than its list; the list of new numbers is shorter than the old n
+    /// the chain, the loop, the tree or the numbers are longer than their list; the list of new numbers is shorter than the old n
     List = 13,
     /// the frame is broken
     Frame = 14,
@@ -84,6 +86,8 @@ pub enum Refusal {
     Withdrawn = 18,
     /// closing up with no record in use
     NoneInUse = 21,
+    /// anchors out of order or repeated
+    Anchors = 20,
 }
 
 impl Refusal {

@@ -1,0 +1,49 @@
+-- `host::sole_support::dating_sole_support` carries the promise of the question over to words. Assumes nothing.
+use mathlib.Core.Path.{refl}
+use Rattle.book.specs.Causes.{number}
+use Rattle.host.proofs.Carrying.{load-none, load-some, asked-foreign, asked}
+use borrow.Author.Needs.{needs}
+use Rattle.host.proofs.sole_support.dating_sole_support.Statement.{statement}
+use Rattle.host.proofs.sole_support.dating_sole_support.Tie as tie
+
+load-requires : tie.Need-load-requires
+load-requires c κs = search needs
+
+number-of-requires : tie.Need-number-of-requires
+number-of-requires c κs = search needs
+
+told-refusal-requires : tie.Need-told-refusal-requires
+told-refusal-requires c κs = search needs
+
+returns : tie.Need-returns
+unfolding number
+returns c = asked-foreign (load-none (c .before .before .before .load .ensures) (c .before .before .number-of .ensures) (c .before .if1 .taken)) (c .told-refusal .ensures) refl
+
+sole-support-requires : tie.Need-sole-support-requires
+sole-support-requires c κs = search needs
+
+told-support-requires : tie.Need-told-support-requires
+told-support-requires c κs = search needs
+
+same-length : tie.Need-same-length
+same-length c = search needs
+
+same-length-2 : tie.Need-same-length-2
+same-length-2 c = search needs
+
+returns-2 : tie.Need-returns-2
+returns-2 c = asked (load-some (c .before .before .before .before .before .before .before .before .before .before .load .ensures) (c .before .before .before .before .before .before .before .before .before .number-of .ensures) (c .before .before .before .before .before .before .before .before .if1 .left)) (c .before .before .before .before .before .sole-support .result) (c .before .before .before .before .before .sole-support .ensures) (c .told-support .ensures)
+
+pub dating-sole-support-spec : {M : Type 1} → statement M
+dating-sole-support-spec =
+    tie.close
+    (tie.spec
+    load-requires
+    number-of-requires
+    told-refusal-requires
+    returns
+    sole-support-requires
+    told-support-requires
+    same-length
+    same-length-2
+    returns-2)

@@ -1,0 +1,3 @@
+mod Walking
+mod Cutting
+mod Answering

@@ -1,0 +1,63 @@
+-- `compared` hands over the records that the first marks have and the second have not, by the promises of the calls in their order (Answering). Assumes nothing.
+use mathlib.Core.Path.{_≡_}
+use lib.ListN.{length}
+use Rattle.support.proofs.Answering.{first-refused, second-refused, handed-over}
+use borrow.Author.Needs.{needs}
+use Rattle.support.proofs.compared.Statement.{statement}
+use Rattle.support.proofs.compared.Tie as tie
+
+mark-records-requires : tie.Need-mark-records-requires
+mark-records-requires c κs = search needs
+
+same-length : tie.Need-same-length
+same-length c = search needs
+
+returns : tie.Need-returns
+returns c = let p = c .before .before .before .before .before .before .before .before .before .before .pre in
+    first-refused _ _ _ _ _ _ _ (p .0) (p .1) (p .2) (p .3) (c .before .before .before .before .mark-records .ensures) (c .if1 .taken)
+
+without-core-requires : tie.Need-without-core-requires
+without-core-requires c κs = search needs
+
+mark-records-requires-2 : tie.Need-mark-records-requires-2
+mark-records-requires-2 c κs = search needs
+
+same-length-2 : tie.Need-same-length-2
+same-length-2 c = search needs
+
+returns-2 : tie.Need-returns-2
+returns-2 c = let p = c .before .before .before .before .before .before .before .before .before .before .before .before .before .before .before .before .before .pre in
+    let m = c .before .before .before .before .before .before .before .before .before .before .before .mark-records in
+    let kept : length (m .last .1 .1 .1 .0) ≡ length (c .before .before .before .before .before .before .before .before .before .before .before .before .before .before .before .before .before .args .work .now) = m .kept .1 .1 .1 .0 in
+    second-refused _ _ _ _ _ _ _ (p .0) (p .1) (p .2) (p .3) (m .ensures) (c .before .before .before .before .before .before .before .if1 .left) (c .before .before .before .before .before .before .without-core .ensures) kept (c .before .before .before .before .mark-records2 .ensures) (c .if2 .taken)
+
+hand-over-requires : tie.Need-hand-over-requires
+hand-over-requires c κs = (c .before .before .before .before .before .before .before .before .before .before .before .before .before .before .before .before .before .before .before .before .pre .0, c .before .before .before .before .before .before .before .before .before .before .before .before .before .before .mark-records .ensures .long, c .before .before .before .before .before .before .before .mark-records2 .ensures .long)
+
+same-length-3 : tie.Need-same-length-3
+same-length-3 c = search needs
+
+same-length-4 : tie.Need-same-length-4
+same-length-4 c = search needs
+
+returns-3 : tie.Need-returns-3
+returns-3 c = let p = c .before .before .before .before .before .before .before .before .before .before .before .before .before .before .before .before .before .before .before .before .before .before .before .pre in
+    let m = c .before .before .before .before .before .before .before .before .before .before .before .before .before .before .before .before .before .mark-records in
+    let kept : length (m .last .1 .1 .1 .0) ≡ length (c .before .before .before .before .before .before .before .before .before .before .before .before .before .before .before .before .before .before .before .before .before .before .before .args .work .now) = m .kept .1 .1 .1 .0 in
+    handed-over _ _ _ _ _ _ _ (p .0) (p .1) (p .2) (p .3) (m .ensures) (c .before .before .before .before .before .before .before .before .before .before .before .before .before .if1 .left) (c .before .before .before .before .before .before .before .before .before .before .before .before .without-core .ensures) kept (c .before .before .before .before .before .before .before .before .before .before .mark-records2 .ensures) (c .before .before .hand-over .ensures)
+
+pub compared-spec : {M : Type 1} → statement M
+compared-spec =
+    tie.close
+    (tie.spec
+    mark-records-requires
+    same-length
+    returns
+    without-core-requires
+    mark-records-requires-2
+    same-length-2
+    returns-2
+    hand-over-requires
+    same-length-3
+    same-length-4
+    returns-3)

@@ -1,0 +1,73 @@
+-- `sole_support`: each refusal by the causes' order, and the rest by the promise of `compared`, whose part of the work is short exactly if the whole is. Assumes
+-- nothing.
+use mathlib.Core.Path.{sym, _∙_}
+use borrow.Author.Tests.{not-true, not-false}
+use Rattle.support.proofs.Answering.{refuses-core, refuses-beyond, refuses-unordered, part-length, supports}
+use borrow.Author.Needs.{needs}
+use Rattle.support.proofs.sole_support.Statement.{statement}
+use Rattle.support.proofs.sole_support.Tie as tie
+
+size-requires : tie.Need-size-requires
+size-requires c κs = search needs
+
+returns : tie.Need-returns
+returns c = refuses-core (c .before .size .ensures .size) (c .if1 .taken)
+
+beyond-requires : tie.Need-beyond-requires
+beyond-requires c κs = search needs
+
+returns-2 : tie.Need-returns-2
+returns-2 c = refuses-beyond (c .before .before .before .size .ensures .size) (sym (c .before .beyond .ensures) ∙ c .if2 .taken)
+
+ascending-requires : tie.Need-ascending-requires
+ascending-requires c κs = search needs
+
+returns-3 : tie.Need-returns-3
+returns-3 c = refuses-unordered (c .before .before .before .before .before .size .ensures .size) (c .before .before .before .before .if1 .left) (sym (c .before .before .before .beyond .ensures) ∙ c .before .before .if2 .left) (sym (c .before .ascending .ensures) ∙ not-true (c .before .ascending .result) (c .if3 .taken))
+
+spared-requires : tie.Need-spared-requires
+spared-requires c κs = search needs
+
+mul-compared : tie.Need-mul-compared
+mul-compared c = search needs
+
+sub-compared : tie.Need-sub-compared
+sub-compared c = search needs
+
+part-compared-start : tie.Need-part-compared-start
+part-compared-start c = search needs
+
+part-compared-end : tie.Need-part-compared-end
+part-compared-end c = search needs
+
+compared-requires : tie.Need-compared-requires
+compared-requires c κs = (c .before .before .before .before .before .before .before .before .size .ensures .small, c .before .before .before .before .before .before .before .if1 .left, sym (c .before .before .before .before .before .before .beyond .ensures) ∙ c .before .before .before .before .before .if2 .left, sym (c .before .before .before .before .ascending .ensures) ∙ not-false (c .before .before .before .before .ascending .result) (c .before .before .before .if3 .left))
+
+same-length : tie.Need-same-length
+same-length c = search needs
+
+same-length-2 : tie.Need-same-length-2
+same-length-2 c = search needs
+
+returns-4 : tie.Need-returns-4
+returns-4 c = supports (c .before .before .before .before .before .before .before .before .before .before .before .before .before .size .ensures .size) (part-length (c .before .before .before .before .before .before .before .before .before .before .before .before .before .before .before .before .before .before .args .work .now) _ _ (c .before .before .before .before .before .before .before .spared .ensures)) (c .before .before .before .before .compared .ensures)
+
+pub sole-support-spec : {M : Type 1} → statement M
+sole-support-spec =
+    tie.close
+    (tie.spec
+    size-requires
+    returns
+    beyond-requires
+    returns-2
+    ascending-requires
+    returns-3
+    spared-requires
+    mul-compared
+    sub-compared
+    part-compared-start
+    part-compared-end
+    compared-requires
+    same-length
+    same-length-2
+    returns-4)

@@ -1,0 +1,4 @@
+pub mod Support
+pub mod Inner
+pub mod SupportLaws
+pub mod SupportCases

@@ -1,0 +1,323 @@
+// Sole support: which records would lose every chain to the anchors if one core did. A product above the engine: it reads and edits a register by the
+// engine's calls alone, and its proofs rest on what they promise.
+ghost use mathlib.Core.Path.{_≡_};
+ghost use mathlib.Core.Bool.{true, false, not, _||_, _&&_};
+ghost use Prim.Native.Nat.{ℕ, _<_, _≤_, min};
+ghost use lib.Dec.{leb, eqb};
+ghost use lib.ListN.{length, take, getD};
+ghost use Rattle.book.specs.Causes.{maxRecords};
+ghost use Rattle.book.specs.Book.{Book};
+ghost use Rattle.paths.specs.Questions.{chainWork, over};
+ghost use Rattle.paths.specs.Verdicts.{verdict};
+ghost use Rattle.register.specs.Representation.{Represents};
+ghost use Rattle.support.specs.Support.{some, chosen, reaches, orderly, Supports};
+ghost use Rattle.support.specs.Inner.{wordLink, cut, joinedBy, lost as Lost, Marked, Parted, Handed, Compares};
+use pairs::PairsAnswer;
+use register::Register;
+
+// The rows of a relation: a bit for each pair, in words of 64.
+const WORD_BITS: usize = 64;
+
+const ROW_WORDS: usize = book::MAX_RECORDS * book::MAX_RECORDS / WORD_BITS;
+
+// A link's word is (label * 1024 + from) * 1024 + to.
+const FROM_UNIT: u32 = book::MAX_RECORDS as u32;
+
+const LABEL_UNIT: u32 = FROM_UNIT * FROM_UNIT;
+
+// The words of work for each record beside those of a pair question.
+const RECORD_WORDS: usize = 64;
+
+// The answer: how many records fall, which the list has; or the number of a cause.
+pub enum SupportAnswer {
+    Records(usize),
+    Refused(u32),
+}
+
+// Of each record, whether it has a chain to some anchor; the number of a refusal, or 0.
+struct Marks {
+    records: [bool; book::MAX_RECORDS],
+    number: u32,
+}
+
+// The records that fall, ascending, as the first count of words.
+struct Found {
+    words: [u32; book::MAX_RECORDS],
+    count: usize,
+}
+
+// Whether some record of a list is not below n.
+fn beyond(records: &[u16], n: usize) -> bool
+    ensures { λ r. ⌜ r ≡ some (leb n) (now (records .entry)) ⌝ }
+{
+    let mut i = 0;
+    while i < records.len() {
+        if n <= records[i] as usize {
+            return true;
+        }
+        i += 1;
+    }
+    false
+}
+
+// Whether the records of a list ascend, each once.
+fn ascending(records: &[u16]) -> bool
+    ensures { λ r. ⌜ r ≡ orderly 0 (now (records .entry)) ⌝ }
+{
+    let mut least: usize = 0;
+    let mut i = 0;
+    while i < records.len() {
+        let x = records[i] as usize;
+        if x < least {
+            return false;
+        }
+        least = x + 1;
+        i += 1;
+    }
+    true
+}
+
+// Whether the rows of a relation have a pair.
+fn joined(rows: &[u64], from: usize, to: usize) -> bool
+    requires { ⌜ (from < maxRecords) × (to < 65536) ⌝ }
+    ensures { λ r. ⌜ r ≡ eqb (joinedBy (now (rows .entry)) from to) 1 ⌝ }
+{
+    let p = from * book::MAX_RECORDS + to;
+    let q = p / WORD_BITS;
+    if rows.len() <= q {
+        return false;
+    }
+    (rows[q] >> (p % WORD_BITS)) % 2 == 1
+}
+
+// Whether the rows of a relation join a record to some anchor.
+fn joined_to_some(rows: &[u64], record: usize, anchors: &[u16]) -> bool
+    requires { ⌜ «record» < maxRecords ⌝ }
+    ensures { λ r. ⌜ r ≡ reaches (joinedBy (now (rows .entry))) (now (anchors .entry)) «record» ⌝ }
+{
+    let mut i = 0;
+    while i < anchors.len() {
+        if joined(rows, record, anchors[i] as usize) {
+            return true;
+        }
+        i += 1;
+    }
+    false
+}
+
+// Of each record below n, whether the rows of a relation join it to some anchor.
+fn joined_records(rows: &[u64], anchors: &[u16], n: usize) -> [bool; book::MAX_RECORDS]
+    requires { ⌜ n ≤ maxRecords ⌝ }
+    ensures { λ r. ⌜ (length r ≡ maxRecords) × ((x : ℕ) → x < n → getD r x false ≡ reaches (joinedBy (now (rows .entry))) (now (anchors .entry)) x) ⌝ }
+{
+    let mut records: [bool; book::MAX_RECORDS] = [false; book::MAX_RECORDS];
+    let mut x = 0;
+    while x < n {
+        records[x] = joined_to_some(rows, x, anchors);
+        x += 1;
+    }
+    records
+}
+
+// Of each record of a register, whether it has a chain to some anchor.
+fn mark_records(
+    register: Register,
+    text: &[u8],
+    anchors: &[u16],
+    work: &mut [u64],
+    n: usize,
+) -> Marks
+    requires { ⌜ (n ≤ maxRecords) × (some (leb n) (now anchors) ≡ false) ⌝ }
+    ensures { λ r. ⌜ Marked register (verdict (now (text .entry))) (now (anchors .entry)) (length (now (work .entry))) n r ⌝ }
+{
+    let mut rows: [u64; ROW_WORDS] = [0; ROW_WORDS];
+    let answer = engine::relation(register, text, work, &mut rows);
+    match answer {
+        PairsAnswer::Refused(number) => Marks {
+            records: [false; book::MAX_RECORDS],
+            number,
+        },
+        PairsAnswer::Pairs(_) => Marks {
+            records: joined_records(&rows, anchors, n),
+            number: 0,
+        },
+    }
+}
+
+// Whether a link touches the core, by its ends.
+fn touching(from: u16, to: u16, core: u16) -> bool
+    ensures { λ r. ⌜ r ≡ (eqb from core || eqb to core) ⌝ }
+{
+    if from == core {
+        return true;
+    }
+    to == core
+}
+
+// The register without the link of a word, if that touches the core. Its ends are unlocked first, since locks play no part; of an end that is not locked the
+// answer is a refusal, and changes nothing.
+fn without_link(register: Register, core: u16, word: u32) -> Register
+    ensures { λ r. ⌜ ((b : Book) → Represents register b → Represents r (cut core (wordLink word) b)) ⌝ }
+{
+    let from = (word / FROM_UNIT % FROM_UNIT) as u16;
+    let to = (word % FROM_UNIT) as u16;
+    if !touching(from, to, core) {
+        return register;
+    }
+    let label = (word / LABEL_UNIT % 256) as u8;
+    let first = engine::unlock(register, from);
+    let second = engine::unlock(first.register, to);
+    let removed = engine::remove(second.register, from, label, to);
+    removed.register
+}
+
+// The register without the links that touch the core.
+fn without_core(register: Register, core: u16) -> Register
+    ensures { λ r. ⌜ ((b : Book) → Represents register b → b .n ≤ maxRecords → Parted core b r) ⌝ }
+{
+    let links = engine::links(register);
+    let words = links.words;
+    let count = links.count;
+    let mut rest = register;
+    let mut i = 0;
+    while i < count {
+        rest = without_link(rest, core, words[i]);
+        i += 1;
+    }
+    rest
+}
+
+// Whether a record is lost that was marked, or not, and is marked, or not: never the core.
+fn loses(had: bool, has: bool, core: bool) -> bool
+    ensures { λ r. ⌜ r ≡ (not core && (had && not has)) ⌝ }
+{
+    if core {
+        return false;
+    }
+    if !had {
+        return false;
+    }
+    !has
+}
+
+// The records but the core that the first marks have and the second have not.
+fn fallen(
+    before: [bool; book::MAX_RECORDS],
+    after: [bool; book::MAX_RECORDS],
+    core: usize,
+    n: usize,
+) -> Found
+    requires { ⌜ (n ≤ maxRecords) × (length before ≡ maxRecords) × (length after ≡ maxRecords) ⌝ }
+    ensures { λ r. ⌜ (r .count ≤ maxRecords) × (length (r .words) ≡ maxRecords) × (take (r .count) (r .words) ≡ chosen (Lost before after core) n) ⌝ }
+{
+    let mut words: [u32; book::MAX_RECORDS] = [0; book::MAX_RECORDS];
+    let mut count = 0;
+    let mut x = 0;
+    while x < n {
+        let had = before[x];
+        let has = after[x];
+        if loses(had, has, x == core) {
+            words[count] = x as u32;
+            count += 1;
+        }
+        x += 1;
+    }
+    Found { words, count }
+}
+
+// The first words of an array written over the front of a list.
+fn write(words: &[u32], list: &mut [u32])
+    requires { ⌜ length (now words) ≤ length (now list) ⌝ }
+    ensures { λ _. ⌜ now (list .exit) ≡ over (now (words .entry)) (now (list .entry)) ⌝ }
+{
+    let mut i = 0;
+    while i < words.len() {
+        list[i] = words[i];
+        i += 1;
+    }
+}
+
+// The records that fall handed over, if the list takes them all.
+fn hand_over(
+    before: [bool; book::MAX_RECORDS],
+    after: [bool; book::MAX_RECORDS],
+    core: usize,
+    n: usize,
+    list: &mut [u32],
+) -> SupportAnswer
+    requires { ⌜ (n ≤ maxRecords) × (length before ≡ maxRecords) × (length after ≡ maxRecords) ⌝ }
+    ensures { λ a. ⌜ Handed (chosen (Lost before after core) n) (now (list .entry)) (now (list .exit)) a ⌝ }
+{
+    let found = fallen(before, after, core, n);
+    let count = found.count;
+    let words = found.words;
+    if list.len() < count {
+        return SupportAnswer::Refused(book::SHORT_LIST);
+    }
+    write(&words[..count], list);
+    SupportAnswer::Records(count)
+}
+
+// With a core and anchors that are not refused: the records of the register marked, and those of what is left of it without the core's links.
+fn compared(
+    register: Register,
+    core: u16,
+    n: usize,
+    text: &[u8],
+    anchors: &[u16],
+    work: &mut [u64],
+    list: &mut [u32],
+) -> SupportAnswer
+    requires { ⌜ (n ≤ maxRecords) × (core < n) × (some (leb n) (now anchors) ≡ false) × (orderly 0 (now anchors) ≡ true) ⌝ }
+    ensures { λ a. ⌜ Compares register core n (verdict (now (text .entry))) (now (anchors .entry)) (length (now (work .entry))) (now (list .entry)) (now (list .exit)) a ⌝ }
+{
+    let before = mark_records(register, text, anchors, work, n);
+    if before.number != 0 {
+        return SupportAnswer::Refused(before.number);
+    }
+    let rest = without_core(register, core);
+    let after = mark_records(rest, text, anchors, work, n);
+    if after.number != 0 {
+        return SupportAnswer::Refused(after.number);
+    }
+    let had = before.records;
+    let has = after.records;
+    hand_over(had, has, core as usize, n, list)
+}
+
+// Where the part of work begins that is lent on: past 64 words for each record, or at its end if there are not so many.
+fn spared(len: usize, n: usize) -> usize
+    requires { ⌜ n ≤ maxRecords ⌝ }
+    ensures { λ r. ⌜ r ≡ min len (chainWork n) ⌝ }
+{
+    if len < RECORD_WORDS * n {
+        return len;
+    }
+    RECORD_WORDS * n
+}
+
+// The records that lose every chain to the anchors when the links of the core are gone, ascending; how many they are.
+// The work of a pair question is lent on from word RECORD_WORDS * n, so that the engine refuses it exactly when the whole is short.
+pub fn sole_support(
+    register: Register,
+    core: u16,
+    text: &[u8],
+    anchors: &[u16],
+    work: &mut [u64],
+    list: &mut [u32],
+) -> SupportAnswer
+    ensures { λ a. ⌜ Supports register core (now (text .entry)) (now (anchors .entry)) (length (now (work .entry))) (now (list .entry)) (now (list .exit)) a ⌝ }
+{
+    let n = engine::size(register);
+    if n <= core as usize {
+        return SupportAnswer::Refused(book::NO_RECORD);
+    }
+    if beyond(anchors, n) {
+        return SupportAnswer::Refused(book::NO_RECORD);
+    }
+    if !ascending(anchors) {
+        return SupportAnswer::Refused(book::UNORDERED_ANCHORS);
+    }
+    let start = spared(work.len(), n);
+    compared(register, core, n, text, anchors, &mut work[start..], list)
+}

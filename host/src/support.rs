@@ -1,0 +1,43 @@
+//! Sole support: what would fall with a core.
+
+use crate::calls::{self, counted};
+use crate::register::grow;
+use crate::space::support_work;
+use crate::{Records, Refusal, Register};
+
+impl Register {
+    /// The records but the core that have a chain to some anchor, and none to any once the links that touch the core are gone. Locks play no
+    /// part, and the register is unchanged. The anchors ascend, each once.
+    ///
+    /// ```
+    /// # let mut register = dating::Register::fresh(5)?;
+    /// register.add(1, 'o', 0)?;
+    /// register.add(2, 'o', 1)?;
+    /// register.add(3, 'o', 1)?;
+    /// register.add(3, 'o', 4)?;
+    /// register.add(4, 'o', 0)?;
+    /// assert_eq!(register.sole_support(1, "o+", &[0])?.collect::<Vec<_>>(), [2]);
+    /// assert_eq!(register.sole_support(1, "o+", &[4, 0]).err(), Some(dating::Refusal::Anchors));
+    /// # Ok::<(), dating::Refusal>(())
+    /// ```
+    pub fn sole_support(&mut self, core: u16, expression: impl AsRef<[u8]>, anchors: &[u16]) -> Result<Records<'_>, Refusal> {
+        let n = self.size();
+        grow(&mut self.work, support_work(n));
+        grow(&mut self.list, n.into());
+        let total = counted(calls::sole_support(&self.words, core, expression.as_ref(), anchors, &mut self.work, &mut self.list))?;
+        Ok(Records::new(&self.list, total))
+    }
+
+    /// The same in lent space: work of [`support_work`] words, and a list, which is left as it was with a refusal.
+    pub fn sole_support_in<'a>(
+        &self,
+        core: u16,
+        expression: impl AsRef<[u8]>,
+        anchors: &[u16],
+        work: &mut [u64],
+        list: &'a mut [u32],
+    ) -> Result<Records<'a>, Refusal> {
+        let total = counted(calls::sole_support(&self.words, core, expression.as_ref(), anchors, work, list))?;
+        Ok(Records::new(list, total))
+    }
+}
