@@ -1,3 +1,5 @@
 pub mod Pages
 pub mod PageCalls
 pub mod Lines
+pub mod LineLaws
+pub mod ReadLaws

@@ -1,6 +1,7 @@
 -- Pages line by line, for the functions that lay and read one line after the other. Nobody has to believe these: LineLaws and ReadLaws say what they are.
 --   lineBytes, pairWords, mostLines
 --                   the bytes of a line with its line feed; the number after every pair word; the lines that all of them fill
+--   Small ws        every word of ws is below that number
 --   pairsBefore i   how many pairs stand on the lines before line i, if they are full
 --   linesOf k       the lines of k pairs
 --   lineWith text i ws
@@ -56,6 +57,9 @@ pairWords = 1048576
 
 abbrev pub mostLines : ℕ
 mostLines = 177726
+
+abbrev pub Small : List ℕ → Type 0
+Small ws = (i : ℕ) → i < length ws → getD ws i 0 < pairWords
 
 unfoldable pub pairsBefore : ℕ → ℕ
 pairsBefore i = 6 * (i - (i + 59) / 60)
