@@ -143,11 +143,11 @@ words-few-from (suc f) t = go (eqb (getD t 4 0) space) (words-few-from f (drop 1
     go false h = omega arith
 
 -- ---- the lines of pages
-words-head : (bytes : List ℕ) (i : ℕ) → i % 60 ≡ 0 → wordsAt bytes i ≡ []
+pub words-head : (bytes : List ℕ) (i : ℕ) → i % 60 ≡ 0 → wordsAt bytes i ≡ []
 unfolding wordsAt
 words-head bytes i e = rw (eq-eqb (i % 60) 0 e)
 
-words-pairs : (bytes : List ℕ) (i : ℕ) → 0 < i % 60 → wordsAt bytes i ≡ cellWords 6 (drop (73 * i) bytes)
+pub words-pairs : (bytes : List ℕ) (i : ℕ) → 0 < i % 60 → wordsAt bytes i ≡ cellWords 6 (drop (73 * i) bytes)
 unfolding wordsAt
 words-pairs bytes i h = rw (ne-eqb (i % 60) 0 (λ e. omega arith))
 

@@ -3,7 +3,7 @@
 ghost use mathlib.Core.Path.{_≡_};
 ghost use mathlib.Core.Bool.{true};
 ghost use mathlib.Core.List.{List};
-ghost use Prim.Native.Nat.{ℕ, _+_, _-_, _*_, _/_, _≤_, _<_};
+ghost use Prim.Native.Nat.{ℕ, _+_, _-_, _*_, _/_, _≤_, _<_, min};
 ghost use lib.ListN.{length, take, drop, getD};
 ghost use Rattle.k2.specs.Bits.{bitAt};
 ghost use Rattle.paths.specs.Expressions.{Expr};
@@ -117,15 +117,22 @@ fn put_pair_line(words: &[u32], count: usize, out: &mut [u8], at: usize) -> usiz
     report::put_byte(b'\n', out, end)
 }
 
+// How many bytes of so long a text a head shows.
+fn shown_bytes(len: usize) -> usize
+    ensures { λ r. ⌜ r ≡ min 60 len ⌝ }
+{
+    if TEXT_WIDTH < len {
+        return TEXT_WIDTH;
+    }
+    len
+}
+
 // The head of a page, the first being 0.
 fn put_head_line(text: &[u8], page: usize, out: &mut [u8], at: usize) -> usize
     requires { ⌜ (page ≤ 177726) × (at + 73 ≤ length (now out)) ⌝ }
     ensures { λ r. ⌜ Wrote at (headLine (now (text .entry)) page) (now (out .entry)) (now (out .exit)) r ⌝ }
 {
-    let mut shown = text.len();
-    if TEXT_WIDTH < shown {
-        shown = TEXT_WIDTH;
-    }
+    let shown = shown_bytes(text.len());
     let mut end = report::put_text(&text[..shown], out, at);
     end = put_blanks(TEXT_WIDTH - shown, out, end);
     end = put_right(NUMBER_WIDTH, (page + 1) as u64, out, end);
@@ -137,11 +144,10 @@ fn lines_of(pairs: usize) -> usize
     requires { ⌜ pairs ≤ 1048576 ⌝ }
     ensures { λ r. ⌜ r ≡ linesOf pairs ⌝ }
 {
-    let mut heads = (pairs + (PAGE_PAIRS - 1)) / PAGE_PAIRS;
-    if heads == 0 {
-        heads = 1;
+    if pairs == 0 {
+        return 1;
     }
-    heads + (pairs + (LINE_PAIRS - 1)) / LINE_PAIRS
+    (pairs + (PAGE_PAIRS - 1)) / PAGE_PAIRS + (pairs + (LINE_PAIRS - 1)) / LINE_PAIRS
 }
 
 // Where a search for the pairs of a line ended, and how many it found.

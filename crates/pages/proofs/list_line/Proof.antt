@@ -1,42 +1,50 @@
+-- `list_line`: a head has no pairs, a pair line those of its cells. Assumes nothing.
+use mathlib.Core.Path.{_≡_, refl, ap, sym, subst, _∙_}
+use Prim.Native.Nat.{ℕ, _+_, _*_, _≤_, _<_}
+use native.Mathlib.Omega.{arith}
+use denote.Ref.{now}
+use lib.ListN.{length, take, drop}
+use lib.Seq.{length-take-le}
+use Rattle.report.specs.Written.{Wrote}
+use Rattle.report.specs.WrittenLaws.{wrote-none, wrote-as}
+use Rattle.pages.specs.Lines.{wordsAt, cellWords}
+use Rattle.pages.specs.ReadLaws.{words-head, words-pairs}
 use borrow.Author.Needs.{needs}
 use Rattle.pages.proofs.list_line.Statement.{statement}
 use Rattle.pages.proofs.list_line.Tie as tie
-use Rattle.pages.proofs.list_line.Reads as reads
-use Rattle.pages.proofs.list_line.Lts as lts
-use Rattle.pages.proofs.cells_at.Reads as cells-at-reads
-use Rattle.pages.proofs.put_words.Reads as put-words-reads
 
--- src/lib.rt:415:9
 returns : tie.Need-returns
-returns c = ?
+returns c =     let s = c .before .before .before in
+    wrote-as (sym (words-head (now (s .args .pages)) (s .args .i) (c .if1 .taken))) (wrote-none (s .args .at) (now (s .args .list)) (omega (arith, s .pre .1)))
 
--- src/lib.rt:418:33
 mul-cells-at : tie.Need-mul-cells-at
-mul-cells-at c = search needs
+mul-cells-at c = let s = c .before .before .before in omega (arith, s .pre .0)
 
--- src/lib.rt:418:43
 slice-aggregate-cells-at : tie.Need-slice-aggregate-cells-at
-slice-aggregate-cells-at c = search needs
+slice-aggregate-cells-at c = refl
 
--- src/lib.rt:418:9
 cells-at-requires : tie.Need-cells-at-requires
-cells-at-requires c κs = search needs
+cells-at-requires c κs = let s = c .before .before .before .before in (omega (arith, s .pre .0), refl)
 
--- src/lib.rt:419:15
 slice-aggregate-put-words : tie.Need-slice-aggregate-put-words
-slice-aggregate-put-words c = search needs
+slice-aggregate-put-words c = sym (c .before .before .cells-at .kept .1 .1 .0)
 
--- src/lib.rt:419:5
 put-words-requires : tie.Need-put-words-requires
-put-words-requires c κs = ?
+put-words-requires c κs =     let s = c .before .before .before .before .before .before .before .before in
+    let q = c .before .before .before .cells-at in
+    let k : length (q .last .1 .1 .0) ≡ 6 = q .kept .1 .1 .0 in
+    let n : length (take (q .result) (q .last .1 .1 .0)) ≡ q .result = length-take-le (q .result) (q .last .1 .1 .0) (omega (arith, q .ensures .0)) in
+    let e : take (q .result) (q .last .1 .1 .0) ≡ wordsAt (now (s .args .pages)) (s .args .i) = q .ensures .1 ∙ sym (words-pairs (now (s .args .pages)) (s .args .i) (omega (arith, c .before .before .before .before .before .if1 .left))) in
+    (omega (arith, q .ensures .0), omega (arith, s .pre .1, ap length e))
 
--- src/lib.rt:410:1
 same-length : tie.Need-same-length
 same-length c = search needs
 
--- src/lib.rt:410:1
 returns-2 : tie.Need-returns-2
-returns-2 c = ?
+returns-2 c =     let s = c .before .before .before .before .before .before .before .before .before .before .before in
+    let q = c .before .before .before .before .before .before .cells-at in
+    let e : take (q .result) (q .last .1 .1 .0) ≡ wordsAt (now (s .args .pages)) (s .args .i) = q .ensures .1 ∙ sym (words-pairs (now (s .args .pages)) (s .args .i) (omega (arith, c .before .before .before .before .before .before .before .before .if1 .left))) in
+    wrote-as e (c .before .before .put-words .ensures)
 
 pub list-line-spec : {M : Type 1} → statement M
 list-line-spec =

@@ -1,26 +1,32 @@
+-- `put_record`: the number, and a blank. Assumes nothing.
+use mathlib.Core.Path.{_≡_}
+use Prim.Native.Nat.{_+_}
+use native.Mathlib.Omega.{arith}
 use borrow.Author.Needs.{needs}
+use denote.Ref.{now}
+use lib.ListN.{length}
+use Rattle.report.specs.WrittenLaws.{wrote-then}
+use Rattle.pages.specs.Pages.{recordCell}
+use Rattle.pages.specs.LineLaws.{record-figures, length-right}
 use Rattle.pages.proofs.put_record.Statement.{statement}
 use Rattle.pages.proofs.put_record.Tie as tie
-use Rattle.pages.proofs.put_record.Reads as reads
-use Rattle.pages.proofs.put_record.Lts as lts
-use Rattle.pages.proofs.put_right.Reads as put-right-reads
-use Rattle.report.proofs.put_byte.Reads as put-byte-reads
 
--- src/lib.rt:91:9
 put-right-requires : tie.Need-put-right-requires
-put-right-requires c κs = ?
+put-right-requires c κs = let s = c .before .before in (record-figures (s .args .x) (s .pre .0), omega (arith, s .pre .1))
 
--- src/lib.rt:92:5
 put-byte-requires : tie.Need-put-byte-requires
-put-byte-requires c κs = ?
+put-byte-requires c κs =
+    let s = c .before .before .before .before .before .before in
+    let p = c .before .before .before .put-right in
+    let k : length (p .last .1 .1 .0) ≡ length (now (s .args .out)) = p .kept .1 .1 .0 in
+    omega (arith, p .ensures .place, length-right 5 (s .args .x) (record-figures (s .args .x) (s .pre .0)), s .pre .1)
 
--- src/lib.rt:87:1
 same-length : tie.Need-same-length
 same-length c = search needs
 
--- src/lib.rt:87:1
 returns : tie.Need-returns
-returns c = ?
+unfolding recordCell
+returns c = wrote-then (c .before .before .before .before .before .before .put-right .ensures) (c .before .before .put-byte .ensures)
 
 pub put-record-spec : {M : Type 1} → statement M
 put-record-spec = tie.close (tie.spec put-right-requires put-byte-requires same-length returns)

@@ -1,0 +1,3 @@
+pub mod Writing
+pub mod Gathering
+pub mod Reading
