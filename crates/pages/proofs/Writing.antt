@@ -1,14 +1,14 @@
 -- Laws of laying a line: what is written one after the other is the line. Assumes nothing.
 use mathlib.Core.Path.{_≡_, refl, sym, ap, ap₂, _∙_}
-use mathlib.Core.List.{List, [], _∷_, _++_}
+use mathlib.Core.List.{List, [], _∷_, _++_, append-nil}
 use Prim.Native.Nat.{ℕ, _+_, _-_, _*_, _≤_, _<_, min}
 use native.Mathlib.Nat.{add-assoc}
 use native.Mathlib.Decide.{decLt}
 use native.Mathlib.Omega.{arith}
-use lib.ListN.{length, take, getD, set, length-take, replicate-append-replicate}
+use lib.ListN.{length, take, drop, getD, set, length-append, length-take, drop-of-length-le, replicate-append-replicate}
 use lib.Seq.{take-all, length-take-le, getD-take}
 use Rattle.report.specs.Report.{space, newline, line, lines}
-use Rattle.report.specs.Written.{Wrote}
+use Rattle.report.specs.Written.{Wrote, written}
 use Rattle.report.specs.WrittenLaws.{wrote-byte, wrote-then, wrote-as}
 use Rattle.pages.specs.Pages.{blanks, padded, rightAligned, pairCell, pairLine, headLine}
 use Rattle.pages.specs.Lines.{pairWords, Small}
@@ -42,3 +42,14 @@ unfolding headLine padded
 wrote-head text n page e a b c d =
     let f : n ≡ length (take 60 text) = e ∙ sym (length-take 60 text) in
     wrote-as (ap₂ (λ (u : List ℕ) (v : ℕ). line ((u ++ blanks (60 - v)) ++ rightAligned 12 (page + 1))) (shown-take text n e) f) (wrote-then (wrote-then (wrote-then a b) c) d)
+
+-- a line written into a space of its length is that space
+pub wrote-whole : {t l m : List ℕ} {q : ℕ} → length m ≡ 73 → length t ≡ 73 → Wrote 0 t l m q → m ≡ t
+unfolding written
+wrote-whole {t} {l} {m} e n w =
+    let a = length-append t (drop (0 + length t) l) in
+    let z : length (drop (0 + length t) l) ≡ 0 = omega (arith, ap length (w .contents)) in
+    w .contents ∙ ap (λ (r : List ℕ). t ++ r) (none-left z) ∙ append-nil t
+  where
+    none-left : {r : List ℕ} → length r ≡ 0 → r ≡ []
+    none-left {r} z = drop-of-length-le r {i = 0} (omega arith)

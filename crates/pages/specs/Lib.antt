@@ -3,3 +3,4 @@ pub mod PageCalls
 pub mod Lines
 pub mod LineLaws
 pub mod ReadLaws
+pub mod PageCallLaws

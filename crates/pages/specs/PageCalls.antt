@@ -20,7 +20,8 @@
 --   readCauses v c room, readOutcome v c room
 --                   the causes against reading, in their order, and its outcome, with a text of the verdict v, bytes that hold c and a list of so many words
 --   ReadsPages text bytes before after a
---                   of lent pages and a list that held `before`: the answer a tells the outcome, and the list, which holds `after`, is that outcome's
+--                   of lent bytes and a list that held `before`: if the text is an expression, `content` is what the bytes hold; the answer a tells the outcome,
+--                   and the list, which holds `after`, is that outcome's
 -- Assumes nothing: these are definitions.
 use mathlib.Core.Path.{_≡_}
 use mathlib.Core.List.{List, [], _∷_, _++_}
@@ -30,7 +31,8 @@ use lib.Dec.{ltb}
 use lib.ListN.{length, drop}
 use Rattle.book.specs.Causes.{Cause, no-expression, too-many-bytes, too-large, broken-frame, short-list, Caused, firstNumber}
 use Rattle.book.specs.Book.{Book}
-use Rattle.paths.specs.Grammar.{Verdict, verdictCause}
+use Rattle.paths.specs.Expressions.{Expr}
+use Rattle.paths.specs.Grammar.{Verdict, accepted, verdictCause}
 use Rattle.paths.specs.Verdicts.{verdict}
 use Rattle.paths.specs.Questions.{pairsOf, pairsCauses, over}
 use Rattle.register.specs.Representation.{Represents}
@@ -111,6 +113,6 @@ pub data TellsPairs : Filled → ReadAnswer → Type 0 where
 
 pub record ReadsPages (text bytes before after : List ℕ) (a : ReadAnswer) : Type 0 where
   pub content : Content
-  pub holds : Holds text bytes content
+  pub holds : (e : Expr) → verdict text ≡ accepted e → Holds text bytes content
   pub tells : TellsPairs (readOutcome (verdict text) content (length before)) a
   pub list : after ≡ spaceAfter (readOutcome (verdict text) content (length before)) before

@@ -332,6 +332,17 @@ struct Checked {
     next: u32,
 }
 
+// How many pairs pair line i of so many lines has at least: six if it is not the last.
+fn least_pairs(i: usize, lines: usize) -> usize
+    requires { ⌜ i < lines ⌝ }
+    ensures { λ r. ⌜ ((i + 1 < lines) → r ≡ 6) × (r ≤ 6) × ((0 < r) → (i + 1 < lines)) ⌝ }
+{
+    if i + 1 < lines {
+        return LINE_PAIRS;
+    }
+    0
+}
+
 // Line i of so many, where the pairs before it are below `low`.
 fn check_line(text: &[u8], pages: &[u8], i: usize, lines: usize, low: u32) -> Checked
     requires { ⌜ (i < lines) × (lines ≤ 177726) × (73 * lines ≤ length (now pages)) × (low ≤ 1048576) ⌝ }
@@ -349,10 +360,8 @@ fn check_line(text: &[u8], pages: &[u8], i: usize, lines: usize, low: u32) -> Ch
     }
     let mut words: [u32; 6] = [0; 6];
     let count = cells_at(pages, LINE * i, &mut words);
-    if count < LINE_PAIRS {
-        if i + 1 < lines {
-            return fallen;
-        }
+    if count < least_pairs(i, lines) {
+        return fallen;
     }
     let next = rising(&words, count, low);
     if PAST_PAIRS < next {

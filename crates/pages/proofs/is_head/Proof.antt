@@ -1,30 +1,38 @@
+-- `is_head`: the line is laid beside the pages (`wrote-line`), and compared. Assumes nothing.
+use mathlib.Core.Path.{_≡_, refl, ap, sym, subst, _∙_}
+use mathlib.Core.List.{List, [], _∷_, _++_}
+use Prim.Native.Nat.{ℕ, _+_, _-_, _*_, _/_, _%_, _≤_, _<_}
+use native.Mathlib.Omega.{arith}
+use denote.Ref.{now}
+use lib.ListN.{length, take, drop, getD}
+
+use lib.Seq.{length-take-le}
+use Rattle.pages.specs.Pages.{pairLine, headLine}
+use Rattle.pages.specs.LineLaws.{length-head-line, length-pair-line}
+use Rattle.pages.proofs.Writing.{small-take, wrote-whole}
 use borrow.Author.Needs.{needs}
 use Rattle.pages.proofs.is_head.Statement.{statement}
 use Rattle.pages.proofs.is_head.Tie as tie
-use Rattle.pages.proofs.is_head.Reads as reads
-use Rattle.pages.proofs.is_head.Lts as lts
-use Rattle.pages.proofs.put_head_line.Reads as put-head-line-reads
-use Rattle.pages.proofs.same_line.Reads as same-line-reads
 
--- src/lib.rt:308:31
 slice-aggregate-put-head-line : tie.Need-slice-aggregate-put-head-line
-slice-aggregate-put-head-line c = search needs
+slice-aggregate-put-head-line c = refl
 
--- src/lib.rt:308:5
 put-head-line-requires : tie.Need-put-head-line-requires
-put-head-line-requires c κs = search needs
+put-head-line-requires c κs = let s = c .before .before .before in (s .pre .0, omega arith)
 
--- src/lib.rt:309:15
 slice-aggregate-same-line : tie.Need-slice-aggregate-same-line
-slice-aggregate-same-line c = search needs
+slice-aggregate-same-line c = let q = c .before .before .put-head-line in let k : length (q .last .1 .1 .0) ≡ 73 = q .kept .1 .1 .0 in sym k
 
--- src/lib.rt:309:5
 same-line-requires : tie.Need-same-line-requires
-same-line-requires c κs = search needs
+same-line-requires c κs = let s = c .before .before .before .before .before .before in let q = c .before .before .put-head-line in let k : length (q .last .1 .1 .0) ≡ 73 = q .kept .1 .1 .0 in (k, s .pre .1)
 
--- src/lib.rt:302:1
 returns : tie.Need-returns
-returns c = ?
+returns c =     let s = c .before .before .before .before .before .before .before in
+    let q = c .before .before .before .put-head-line in
+    let k : length (q .last .1 .1 .0) ≡ 73 = q .kept .1 .1 .0 in
+    let e : q .last .1 .1 .0 ≡ headLine (now (s .args .text)) (s .args .page) = wrote-whole k (length-head-line (now (s .args .text)) (s .args .page) (s .pre .0)) (q .ensures) in
+    let r = c .same-line .ensures in
+    (λ t. r .0 t ∙ e, λ t. r .1 (t ∙ sym e))
 
 pub is-head-spec : {M : Type 1} → statement M
 is-head-spec =

@@ -1,30 +1,38 @@
+-- `is_pair_line`: the line is laid beside the pages (`wrote-line`), and compared. Assumes nothing.
+use mathlib.Core.Path.{_≡_, refl, ap, sym, subst, _∙_}
+use mathlib.Core.List.{List, [], _∷_, _++_}
+use Prim.Native.Nat.{ℕ, _+_, _-_, _*_, _/_, _%_, _≤_, _<_}
+use native.Mathlib.Omega.{arith}
+use denote.Ref.{now}
+use lib.ListN.{length, take, drop, getD}
+
+use lib.Seq.{length-take-le}
+use Rattle.pages.specs.Pages.{pairLine, headLine}
+use Rattle.pages.specs.LineLaws.{length-head-line, length-pair-line}
+use Rattle.pages.proofs.Writing.{small-take, wrote-whole}
 use borrow.Author.Needs.{needs}
 use Rattle.pages.proofs.is_pair_line.Statement.{statement}
 use Rattle.pages.proofs.is_pair_line.Tie as tie
-use Rattle.pages.proofs.is_pair_line.Reads as reads
-use Rattle.pages.proofs.is_pair_line.Lts as lts
-use Rattle.pages.proofs.put_pair_line.Reads as put-pair-line-reads
-use Rattle.pages.proofs.same_line.Reads as same-line-reads
 
--- src/lib.rt:319:33
 slice-aggregate-put-pair-line : tie.Need-slice-aggregate-put-pair-line
-slice-aggregate-put-pair-line c = search needs
+slice-aggregate-put-pair-line c = refl
 
--- src/lib.rt:319:5
 put-pair-line-requires : tie.Need-put-pair-line-requires
-put-pair-line-requires c κs = search needs
+put-pair-line-requires c κs = let s = c .before .before .before in (s .pre .0, s .pre .1, s .pre .2, omega arith)
 
--- src/lib.rt:320:15
 slice-aggregate-same-line : tie.Need-slice-aggregate-same-line
-slice-aggregate-same-line c = search needs
+slice-aggregate-same-line c = let q = c .before .before .put-pair-line in let k : length (q .last .1 .1 .0) ≡ 73 = q .kept .1 .1 .0 in sym k
 
--- src/lib.rt:320:5
 same-line-requires : tie.Need-same-line-requires
-same-line-requires c κs = search needs
+same-line-requires c κs = let s = c .before .before .before .before .before .before in let q = c .before .before .put-pair-line in let k : length (q .last .1 .1 .0) ≡ 73 = q .kept .1 .1 .0 in (k, s .pre .3)
 
--- src/lib.rt:313:1
 returns : tie.Need-returns
-returns c = ?
+returns c =     let s = c .before .before .before .before .before .before .before in
+    let q = c .before .before .before .put-pair-line in
+    let k : length (q .last .1 .1 .0) ≡ 73 = q .kept .1 .1 .0 in
+    let e : q .last .1 .1 .0 ≡ pairLine (take (s .args .count) (now (s .args .words))) = wrote-whole k (length-pair-line (take (s .args .count) (now (s .args .words))) (small-take (now (s .args .words)) (s .args .count) (s .pre .1) (s .pre .2)) (omega (arith, s .pre .0, length-take-le (s .args .count) (now (s .args .words)) (s .pre .1)))) (q .ensures) in
+    let r = c .same-line .ensures in
+    (λ t. r .0 t ∙ e, λ t. r .1 (t ∙ sym e))
 
 pub is-pair-line-spec : {M : Type 1} → statement M
 is-pair-line-spec =

@@ -1,54 +1,54 @@
+-- `print` makes the rows, and lays their pairs out. Assumes nothing.
+use mathlib.Core.Path.{_≡_, refl, ap, sym, subst, _∙_}
+use Prim.Native.Nat.{ℕ, _+_, _≤_, _<_}
+use native.Mathlib.Omega.{arith}
+use denote.Ref.{now}
+use lib.ListN.{length, take, drop}
+
+use lib.Seq.{take-all}
+use Rattle.pages.proofs.Answering.{prints-refused, prints-laid}
 use borrow.Author.Needs.{needs}
 use Rattle.pages.proofs.print.Statement.{statement}
 use Rattle.pages.proofs.print.Tie as tie
-use Rattle.pages.proofs.print.Reads as reads
-use Rattle.pages.proofs.print.Lts as lts
-use Rattle.engine.proofs.relation.Reads as relation-reads
-use Rattle.pages.proofs.lay_out.Reads as lay-out-reads
 
--- src/lib.rt:218:58
 slice-aggregate-relation : tie.Need-slice-aggregate-relation
 slice-aggregate-relation c = search needs
 
--- src/lib.rt:218:9
 relation-requires : tie.Need-relation-requires
 relation-requires c κs = search needs
 
--- src/lib.rt:220:30
 enum-known-related : tie.Need-enum-known-related
 enum-known-related c = search needs
 
--- src/lib.rt:221:48
 enum-told : tie.Need-enum-told
 enum-told c = search needs
 
--- src/lib.rt:221:48
 slice-aggregate-lay-out : tie.Need-slice-aggregate-lay-out
 slice-aggregate-lay-out c = search needs
 
--- src/lib.rt:221:34
 lay-out-requires : tie.Need-lay-out-requires
 lay-out-requires c κs = search needs
 
--- src/lib.rt:214:1
 same-length : tie.Need-same-length
 same-length c = search needs
 
--- src/lib.rt:214:1
 returns : tie.Need-returns
-returns c = ?
+returns c =     let s = c .before .before .before .before .before .before .before .before .before .before .before .before in
+    let t = c .before .before .before .before .before .before .relation in
+    prints-refused (s .args .register) (now (s .args .text)) (length (now (s .args .work))) _ (t .last .1 .1 .1 .0) (now (s .args .pages)) refl (c .before .related .given .1) (t .ensures)
 
--- src/lib.rt:214:1
 same-length-2 : tie.Need-same-length-2
 same-length-2 c = search needs
 
--- src/lib.rt:214:1
 same-length-3 : tie.Need-same-length-3
 same-length-3 c = search needs
 
--- src/lib.rt:214:1
 returns-2 : tie.Need-returns-2
-returns-2 c = ?
+returns-2 c =     let s = c .before .before .before .before .before .before .before .before .before .before .before .before .before .before .before .before in
+    let t = c .before .before .before .before .before .before .before .before .before .before .relation in
+    let k : length (t .last .1 .1 .1 .0) ≡ 16384 = t .kept .1 .1 .1 .0 in
+    prints-laid (s .args .register) (now (s .args .text)) (length (now (s .args .work))) _ (t .last .1 .1 .1 .0) (now (s .args .pages)) refl (c .before .before .before .before .before .enum-told .given .1)
+    (take-all 16384 (t .last .1 .1 .1 .0) (omega arith)) (t .ensures) (c .before .before .lay-out .ensures)
 
 pub print-spec : {M : Type 1} → statement M
 print-spec =

@@ -1,55 +1,56 @@
+-- `put_line`: a head, or the next six pairs (`laid-head`, `laid-pairs`). Assumes nothing.
+use mathlib.Core.Path.{_≡_, refl, ap, sym, subst, _∙_}
+use mathlib.Core.List.{List, [], _∷_, _++_}
+use Prim.Native.Nat.{ℕ, _+_, _-_, _*_, _/_, _%_, _≤_, _<_}
+use native.Mathlib.Omega.{arith}
+use denote.Ref.{now}
+use lib.ListN.{length, take, drop, getD}
+
+use Rattle.k2.specs.Bits.{bitAt}
+use Rattle.pages.proofs.Laying.{laid-head, laid-pairs}
 use borrow.Author.Needs.{needs}
 use Rattle.pages.proofs.put_line.Statement.{statement}
 use Rattle.pages.proofs.put_line.Tie as tie
-use Rattle.pages.proofs.put_line.Reads as reads
-use Rattle.pages.proofs.put_line.Lts as lts
-use Rattle.pages.proofs.gather.Reads as gather-reads
-use Rattle.pages.proofs.put_head_line.Reads as put-head-line-reads
-use Rattle.pages.proofs.put_pair_line.Reads as put-pair-line-reads
 
--- src/lib.rt:178:50
 mul-put-head-line : tie.Need-mul-put-head-line
 mul-put-head-line c = search needs
 
--- src/lib.rt:178:9
 put-head-line-requires : tie.Need-put-head-line-requires
-put-head-line-requires c κs = search needs
+put-head-line-requires c κs = let s = c .before .before .before .before .before in (omega (arith, s .pre .0), omega (arith, s .pre .2))
 
--- src/lib.rt:179:9
 same-length : tie.Need-same-length
 same-length c = search needs
 
--- src/lib.rt:179:9
 returns : tie.Need-returns
-returns c = ?
+returns c =     let s = c .before .before .before .before .before .before .before .before in
+    laid-head (bitAt (now (s .args .rows))) (now (s .args .text)) (s .args .i) (s .args .place) (c .before .before .before .before .if1 .taken) (omega (arith, s .pre .0)) (s .pre .1) (c .before .before .put-head-line .ensures)
 
--- src/lib.rt:182:37
 slice-aggregate-gather : tie.Need-slice-aggregate-gather
-slice-aggregate-gather c = search needs
+slice-aggregate-gather c = refl
 
--- src/lib.rt:182:9
 gather-requires : tie.Need-gather-requires
-gather-requires c κs = search needs
+gather-requires c κs = let s = c .before .before .before .before .before in (s .pre .1, refl)
 
--- src/lib.rt:184:19
 slice-aggregate-put-pair-line : tie.Need-slice-aggregate-put-pair-line
-slice-aggregate-put-pair-line c = search needs
+slice-aggregate-put-pair-line c = let g = c .before .before .gather in let k : length (g .last .1 .1 .0) ≡ 6 = g .kept .1 .1 .0 in sym k
 
--- src/lib.rt:184:39
 mul-put-pair-line : tie.Need-mul-put-pair-line
 mul-put-pair-line c = search needs
 
--- src/lib.rt:184:5
 put-pair-line-requires : tie.Need-put-pair-line-requires
-put-pair-line-requires c κs = search needs
+put-pair-line-requires c κs =     let s = c .before .before .before .before .before .before .before .before .before in
+    let g = c .before .before .before .gather in
+    let k : length (g .last .1 .1 .0) ≡ 6 = g .kept .1 .1 .0 in
+    (g .ensures .few, omega (arith, g .ensures .few), g .ensures .small, omega (arith, s .pre .2))
 
--- src/lib.rt:173:1
 same-length-2 : tie.Need-same-length-2
 same-length-2 c = search needs
 
--- src/lib.rt:173:1
 returns-2 : tie.Need-returns-2
-returns-2 c = ?
+returns-2 c =     let s = c .before .before .before .before .before .before .before .before .before .before .before .before in
+    let g = c .before .before .before .before .before .before .gather in
+    let k : length (g .last .1 .1 .0) ≡ 6 = g .kept .1 .1 .0 in
+    laid-pairs (bitAt (now (s .args .rows))) (now (s .args .text)) (s .args .i) (s .args .place) (omega (arith, c .before .before .before .before .before .before .before .before .if1 .left)) k (g .ensures) (c .before .before .put-pair-line .ensures)
 
 pub put-line-spec : {M : Type 1} → statement M
 put-line-spec =

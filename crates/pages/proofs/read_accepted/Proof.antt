@@ -1,42 +1,46 @@
+-- `read_accepted`: the pages are judged, and then their pairs listed. Assumes nothing.
+use mathlib.Core.Path.{_≡_, refl, ap, sym, subst, _∙_}
+use Prim.Native.Nat.{ℕ, _+_, _≤_, _<_}
+use native.Mathlib.Omega.{arith}
+use denote.Ref.{now}
+use lib.ListN.{length, take, drop}
+
+use Rattle.pages.specs.Lines.{wordsBefore}
+use Rattle.pages.proofs.Answering.{reads-broken, reads-short, reads-pairs}
+use Rattle.pages.proofs.Checking.{judged-length}
 use borrow.Author.Needs.{needs}
 use Rattle.pages.proofs.read_accepted.Statement.{statement}
 use Rattle.pages.proofs.read_accepted.Tie as tie
-use Rattle.pages.proofs.read_accepted.Reads as reads
-use Rattle.pages.proofs.read_accepted.Lts as lts
-use Rattle.pages.proofs.judge.Reads as judge-reads
-use Rattle.pages.proofs.list_lines.Reads as list-lines-reads
 
--- src/lib.rt:439:9
 judge-requires : tie.Need-judge-requires
 judge-requires c κs = search needs
 
--- src/lib.rt:441:30
 enum-told : tie.Need-enum-told
 enum-told c = search needs
 
--- src/lib.rt:442:28
 enum-known-judgement : tie.Need-enum-known-judgement
 enum-known-judgement c = search needs
 
--- src/lib.rt:444:17
 returns : tie.Need-returns
-returns c = ?
+returns c =     let s = c .before .before .before .before .before .before .before .before in
+    λ e v. reads-short (now (s .args .text)) (now (s .args .pages)) (now (s .args .list)) e v (c .before .before .judgement .given .1) (c .before .before .before .before .judge .ensures) (c .if1 .taken)
 
--- src/lib.rt:446:13
 list-lines-requires : tie.Need-list-lines-requires
-list-lines-requires c κs = ?
+list-lines-requires c κs =     let s = c .before .before .before .before .before .before .before .before .before in
+    let e = judged-length (now (s .args .text)) (now (s .args .pages)) (c .before .before .before .judgement .given .1) (c .before .before .before .before .before .judge .ensures) in
+    (omega arith, omega (arith, e, c .before .if1 .left))
 
--- src/lib.rt:436:1
 returns-2 : tie.Need-returns-2
-returns-2 c = ?
+returns-2 c =     let s = c .before .before .before .before .before .before in
+    λ e v. reads-broken (now (s .args .text)) (now (s .args .pages)) (now (s .args .list)) e v (c .enum-told .given .1) (c .before .before .judge .ensures)
 
--- src/lib.rt:436:1
 same-length : tie.Need-same-length
 same-length c = search needs
 
--- src/lib.rt:436:1
 returns-3 : tie.Need-returns-3
-returns-3 c = ?
+returns-3 c =     let s = c .before .before .before .before .before .before .before .before .before .before .before .before in
+    λ e v. reads-pairs (now (s .args .text)) (now (s .args .pages)) (now (s .args .list)) e v (c .before .before .before .before .before .before .judgement .given .1) (c .before .before .before .before .before .before .before .before .judge .ensures) (c .before .before .before .before .if1 .left)
+    (c .before .before .list-lines .ensures)
 
 pub read-accepted-spec : {M : Type 1} → statement M
 read-accepted-spec =
