@@ -49,7 +49,7 @@ module _ (f : ℕ → ℕ) (text : List ℕ) (i p : ℕ) {before after : List �
         in-range = l;
         lays = λ ws a. (
           subst (λ (q : ℕ). Wrote (73 * i) (lineOf text ws i) before after q) z (wrote-as (sym (line-head text (take 6 (drop (pairsBefore i) ws)) i e)) w),
-          ap (λ (n : ℕ). drop n ws) (before-head i e) ∙ a
+          ap (λ (n : ℕ). drop n ws) (before-head i e) ∙ a,
         );
       }
 
@@ -65,8 +65,8 @@ module _ (f : ℕ → ℕ) (text : List ℕ) (i p : ℕ) {before after : List �
         in-range = G .in-range;
         lays = λ ws a. (
           subst (λ (q : ℕ). Wrote (73 * i) (lineOf text ws i) before after q) z
-          (wrote-as (sym (line-pairs text (take 6 (drop (pairsBefore i) ws)) i e ∙ ap pairLine (ap (take 6) a ∙ s .0))) w),
-          ap (λ (n : ℕ). drop n ws) (before-pairs i e) ∙ sym (drop-drop 6 (pairsBefore i) ws) ∙ ap (drop 6) a ∙ s .1
+              (wrote-as (sym (line-pairs text (take 6 (drop (pairsBefore i) ws)) i e ∙ ap pairLine (ap (take 6) a ∙ s .0))) w),
+          ap (λ (n : ℕ). drop n ws) (before-pairs i e) ∙ sym (drop-drop 6 (pairsBefore i) ws) ∙ ap (drop 6) a ∙ s .1,
         );
       }
 

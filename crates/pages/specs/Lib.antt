@@ -4,3 +4,4 @@ pub mod Lines
 pub mod LineLaws
 pub mod ReadLaws
 pub mod PageCallLaws
+pub mod RoundTrips

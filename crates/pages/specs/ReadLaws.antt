@@ -173,9 +173,10 @@ before-all k = omega arith
 module _ (text ws : List ℕ) (s : Small ws) (few : length ws ≤ pairWords) where
   line-ahead : (i : ℕ) → i < linesOf (length ws) → (rest : List ℕ) × (drop (73 * i) (pages text ws) ≡ lineOf text ws i ++ rest)
   line-ahead i h =
-      let n = linesOf (length ws) in
-      (joined (λ j. lineOf text ws (i + (1 + j))) (n - (1 + i)),
-      ap (drop (73 * i)) (pages-lines text ws) ∙ drop-joined (lineOf text ws) 73 n i (λ j l. length-line text ws j s (omega (arith, lines-most (length ws) few))) h)
+      let n = linesOf (length ws) in (
+        joined (λ j. lineOf text ws (i + (1 + j))) (n - (1 + i)),
+        ap (drop (73 * i)) (pages-lines text ws) ∙ drop-joined (lineOf text ws) 73 n i (λ j l. length-line text ws j s (omega (arith, lines-most (length ws) few))) h,
+      )
 
   pub line-bytes : (i : ℕ) → i < linesOf (length ws) → byteLine (pages text ws) i ≡ lineOf text ws i
   line-bytes i h =

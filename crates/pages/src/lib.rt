@@ -354,7 +354,10 @@ fn check_line(text: &[u8], pages: &[u8], i: usize, lines: usize, low: u32) -> Ch
     };
     if i % PAGE_LINES == 0 {
         if is_head(text, i / PAGE_LINES, pages, LINE * i) {
-            return Checked { count: 0, next: low };
+            return Checked {
+                count: 0,
+                next: low,
+            };
         }
         return fallen;
     }

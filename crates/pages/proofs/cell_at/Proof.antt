@@ -31,7 +31,7 @@ add-result c = omega (arith, c .before .record-at .ensures .1, c .record-at2 .en
 
 returns : tie.Need-returns
 unfolding cellWord
-returns c =     let s = c .before .before .before in
+returns c = let s = c .before .before .before in
     let l = now (s .args .pages) in
     let e : s .args .at + 5 + 1 ≡ s .args .at + 6 = omega arith in
     ap₂ (λ (x y : ℕ). x * 1024 + y) (c .before .record-at .ensures .0)

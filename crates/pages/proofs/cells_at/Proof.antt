@@ -22,7 +22,7 @@ abbrev μ-loop : tie.MeasureT-loop
 μ-loop pages at words₀ k₀ words k = 6 - k
 
 loop-holds : tie.Need-loop-holds Inv-loop μ-loop
-loop-holds c =     let s = c .before .before in
+loop-holds c = let s = c .before .before in
     let e : s .args .at ≡ s .args .at + 12 * 0 = omega arith in
     (omega arith, refl, ap (λ (n : ℕ). cellWords 6 (drop n (now (s .args .pages)))) e)
 
@@ -45,7 +45,7 @@ same-length : tie.Need-same-length Inv-loop μ-loop
 same-length c = c .before .before .before .loop .inv .1
 
 returns : tie.Need-returns Inv-loop μ-loop
-returns c =     let s = c .before .before .before .before .before .before in
+returns c = let s = c .before .before .before .before .before .before in
     let here = c .before .before .before .loop in
     (here .inv .0, sym (here .inv .2 ∙ ap (λ (t : List ℕ). take (here .k) (here .words) ++ t) (cells-end (now (s .args .pages)) (s .args .at) (here .k) (c .before .before .loop-test .taken) (c .if1 .taken)) ∙ append-nil (take (here .k) (here .words))))
 
@@ -65,7 +65,7 @@ loop-less : tie.Need-loop-less Inv-loop μ-loop
 loop-less c = omega (arith, c .before .before .before .loop-test .taken)
 
 loop-again : tie.Need-loop-again Inv-loop μ-loop
-loop-again c =     let s = c .before .before .before .before .before .before .before in
+loop-again c = let s = c .before .before .before .before .before .before .before in
     let here = c .before .before .before .before .loop in
     let l = now (s .args .pages) in
     let h = c .before .before .before .loop-test .taken in
@@ -75,8 +75,8 @@ loop-again c =     let s = c .before .before .before .before .before .before .be
       omega arith,
       simp length-set (here .inv .1),
       here .inv .2 ∙ ap (λ (t : List ℕ). take (here .k) (here .words) ++ t) (cells-next l (s .args .at) (here .k) h (c .before .if1 .left) ∙ ap (λ (v : ℕ). v ∷ rest) (sym (c .cell-at .ensures)))
-      ∙ sym (append-assoc (take (here .k) (here .words)) (w ∷ []) rest)
-      ∙ ap (λ (t : List ℕ). t ++ rest) (sym (take-suc-set (here .words) (here .k) w n) ∙ ap (λ (i : ℕ). take i (set (here .words) (here .k) w)) (sym (add-one (here .k)))),
+          ∙ sym (append-assoc (take (here .k) (here .words)) (w ∷ []) rest)
+          ∙ ap (λ (t : List ℕ). t ++ rest) (sym (take-suc-set (here .words) (here .k) w n) ∙ ap (λ (i : ℕ). take i (set (here .words) (here .k) w)) (sym (add-one (here .k)))),
     )
 
 same-length-2 : tie.Need-same-length-2 Inv-loop μ-loop
@@ -84,7 +84,7 @@ same-length-2 c = c .before .loop .inv .1
 
 returns-2 : tie.Need-returns-2 Inv-loop μ-loop
 unfolding cellWords
-returns-2 c =     let s = c .before .before .before .before in
+returns-2 c = let s = c .before .before .before .before in
     let here = c .before .loop in
     let z : 6 - here .k ≡ 0 = omega (arith, c .loop-test .left) in
     (here .inv .0, sym (here .inv .2 ∙ ap (λ (f : ℕ). take (here .k) (here .words) ++ cellWords f (drop (s .args .at + 12 * here .k) (now (s .args .pages)))) z ∙ append-nil (take (here .k) (here .words))))

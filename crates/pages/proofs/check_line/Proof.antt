@@ -36,11 +36,11 @@ is-head-requires : tie.Need-is-head-requires
 is-head-requires c κs = search needs
 
 returns : tie.Need-returns
-returns c =     let s = c .before .before .before .before .before in
+returns c = let s = c .before .before .before .before .before in
     head-stands (now (s .args .text)) (now (s .args .pages)) (s .args .i) (s .args .lines) (s .args .low) (c .before .before .if1 .taken) (s .pre .3) (c .before .is-head .ensures .0 (c .if2 .taken))
 
 returns-2 : tie.Need-returns-2
-returns-2 c =     let s = c .before .before .before .before .before in
+returns-2 c = let s = c .before .before .before .before .before in
     let f : c .before .is-head .result ≡ false = c .if2 .left in
     head-falls (now (s .args .text)) (now (s .args .pages)) (s .args .i) (s .args .lines) (s .args .low) (c .before .before .if1 .taken) (λ e. not-both (c .before .is-head .ensures .1 e) f)
 
@@ -57,7 +57,7 @@ least-pairs-requires : tie.Need-least-pairs-requires
 least-pairs-requires c κs = search needs
 
 returns-3 : tie.Need-returns-3
-returns-3 c =     let s = c .before .before .before .before .before .before .before .before in
+returns-3 c = let s = c .before .before .before .before .before .before .before .before in
     let w = words (c .before .before .before) in
     let l = c .before .least-pairs .ensures in
     short-falls (now (s .args .text)) (now (s .args .pages)) (s .args .i) (s .args .lines) (s .args .low) (omega (arith, c .before .before .before .before .before .if1 .left)) _ (w .1)
@@ -70,7 +70,7 @@ rising-requires : tie.Need-rising-requires
 rising-requires c κs = search needs
 
 returns-4 : tie.Need-returns-4
-returns-4 c =     let s = c .before .before .before .before .before .before .before .before .before .before .before in
+returns-4 c = let s = c .before .before .before .before .before .before .before .before .before .before .before in
     let w = words (c .before .before .before .before .before .before) in
     rising-falls (now (s .args .text)) (now (s .args .pages)) (s .args .i) (s .args .lines) (s .args .low) (omega (arith, c .before .before .before .before .before .before .before .before .if1 .left)) _ (w .1)
     (c .before .rising .ensures) (c .if4 .taken)
@@ -82,13 +82,13 @@ mul-is-pair-line : tie.Need-mul-is-pair-line
 mul-is-pair-line c = search needs
 
 is-pair-line-requires : tie.Need-is-pair-line-requires
-is-pair-line-requires c κs =     let s = c .before .before .before .before .before .before .before .before .before .before .before .before in
+is-pair-line-requires c κs = let s = c .before .before .before .before .before .before .before .before .before .before .before .before in
     let w = words (c .before .before .before .before .before .before .before) in
     let q = c .before .before .before .before .before .before .before .cells-at in
     (q .ensures .0, w .0, rising-small (q .last .1 .1 .0) (q .result) (w .0) (c .before .before .rising .ensures) (c .before .if4 .left), omega (arith, s .pre .0, s .pre .2))
 
 returns-5 : tie.Need-returns-5
-returns-5 c =     let s = c .before .before .before .before .before .before .before .before .before .before .before .before .before .before in
+returns-5 c = let s = c .before .before .before .before .before .before .before .before .before .before .before .before .before .before in
     let w = words (c .before .before .before .before .before .before .before .before .before) in
     let l = c .before .before .before .before .before .before .before .least-pairs .ensures in
     let q = c .before .before .before .before .before .before .before .before .before .cells-at in
@@ -98,7 +98,7 @@ returns-5 c =     let s = c .before .before .before .before .before .before .bef
     (λ h. omega (arith, w .2, q .ensures .0, l .0 h, c .before .before .before .before .before .before .if3 .left)))
 
 returns-6 : tie.Need-returns-6
-returns-6 c =     let s = c .before .before .before .before .before .before .before .before .before .before .before .before .before .before in
+returns-6 c = let s = c .before .before .before .before .before .before .before .before .before .before .before .before .before .before in
     let w = words (c .before .before .before .before .before .before .before .before .before) in
     let f : c .before .is-pair-line .result ≡ false = c .if5 .left in
     line-falls (now (s .args .text)) (now (s .args .pages)) (s .args .i) (s .args .lines) (s .args .low) (omega (arith, c .before .before .before .before .before .before .before .before .before .before .before .if1 .left)) _ (w .1)

@@ -13,7 +13,7 @@ use Rattle.pages.proofs.gather.Statement.{statement}
 use Rattle.pages.proofs.gather.Tie as tie
 
 abbrev Inv-loop : tie.InvT-loop
-Inv-loop rows from words₀ count₀ place₀ words count place =     (count ≤ 6) × (place ≤ pairWords) × (length words ≡ length words₀) × ((i : ℕ) → i < count → getD words i 0 < pairWords)
+Inv-loop rows from words₀ count₀ place₀ words count place = (count ≤ 6) × (place ≤ pairWords) × (length words ≡ length words₀) × ((i : ℕ) → i < count → getD words i 0 < pairWords)
     × (ahead (bitAt rows) from (pairWords - from) ≡ take count words ++ ahead (bitAt rows) place (pairWords - place))
 
 abbrev μ-loop : tie.MeasureT-loop
@@ -29,7 +29,7 @@ same-length : tie.Need-same-length Inv-loop μ-loop
 same-length c = c .before .before .before .loop .inv .2
 
 returns : tie.Need-returns Inv-loop μ-loop
-returns c =     let s = c .before .before .before .before .before .before in
+returns c = let s = c .before .before .before .before .before .before in
     let here = c .before .before .before .loop in
     let f = bitAt (now (s .args .rows)) in
     let n = c .before .next in
@@ -62,7 +62,7 @@ loop-less : tie.Need-loop-less Inv-loop μ-loop
 loop-less c = omega (arith, c .before .before .loop-test .taken)
 
 loop-again : tie.Need-loop-again Inv-loop μ-loop
-loop-again c =     let s = c .before .before .before .before .before .before in
+loop-again c = let s = c .before .before .before .before .before .before in
     let here = c .before .before .before .loop in
     let f = bitAt (now (s .args .rows)) in
     let n = c .before .next in
@@ -79,7 +79,7 @@ same-length-2 : tie.Need-same-length-2 Inv-loop μ-loop
 same-length-2 c = c .before .loop .inv .2
 
 returns-2 : tie.Need-returns-2 Inv-loop μ-loop
-returns-2 c =     let here = c .before .loop in
+returns-2 c = let here = c .before .loop in
     record { few = here .inv .0; in-range = here .inv .1; small = here .inv .3; found = here .inv .4; all = λ h. absurd (omega (arith, c .loop-test .left)) }
 
 pub gather-spec : {M : Type 1} → statement M

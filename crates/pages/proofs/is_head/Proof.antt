@@ -5,7 +5,6 @@ use Prim.Native.Nat.{ℕ, _+_, _-_, _*_, _/_, _%_, _≤_, _<_}
 use native.Mathlib.Omega.{arith}
 use denote.Ref.{now}
 use lib.ListN.{length, take, drop, getD}
-
 use lib.Seq.{length-take-le}
 use Rattle.pages.specs.Pages.{pairLine, headLine}
 use Rattle.pages.specs.LineLaws.{length-head-line, length-pair-line}
@@ -27,7 +26,7 @@ same-line-requires : tie.Need-same-line-requires
 same-line-requires c κs = let s = c .before .before .before .before .before .before in let q = c .before .before .put-head-line in let k : length (q .last .1 .1 .0) ≡ 73 = q .kept .1 .1 .0 in (k, s .pre .1)
 
 returns : tie.Need-returns
-returns c =     let s = c .before .before .before .before .before .before .before in
+returns c = let s = c .before .before .before .before .before .before .before in
     let q = c .before .before .before .put-head-line in
     let k : length (q .last .1 .1 .0) ≡ 73 = q .kept .1 .1 .0 in
     let e : q .last .1 .1 .0 ≡ headLine (now (s .args .text)) (s .args .page) = wrote-whole k (length-head-line (now (s .args .text)) (s .args .page) (s .pre .0)) (q .ensures) in

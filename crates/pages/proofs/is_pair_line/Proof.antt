@@ -5,7 +5,6 @@ use Prim.Native.Nat.{ℕ, _+_, _-_, _*_, _/_, _%_, _≤_, _<_}
 use native.Mathlib.Omega.{arith}
 use denote.Ref.{now}
 use lib.ListN.{length, take, drop, getD}
-
 use lib.Seq.{length-take-le}
 use Rattle.pages.specs.Pages.{pairLine, headLine}
 use Rattle.pages.specs.LineLaws.{length-head-line, length-pair-line}
@@ -27,7 +26,7 @@ same-line-requires : tie.Need-same-line-requires
 same-line-requires c κs = let s = c .before .before .before .before .before .before in let q = c .before .before .put-pair-line in let k : length (q .last .1 .1 .0) ≡ 73 = q .kept .1 .1 .0 in (k, s .pre .3)
 
 returns : tie.Need-returns
-returns c =     let s = c .before .before .before .before .before .before .before in
+returns c = let s = c .before .before .before .before .before .before .before in
     let q = c .before .before .before .put-pair-line in
     let k : length (q .last .1 .1 .0) ≡ 73 = q .kept .1 .1 .0 in
     let e : q .last .1 .1 .0 ≡ pairLine (take (s .args .count) (now (s .args .words))) = wrote-whole k (length-pair-line (take (s .args .count) (now (s .args .words))) (small-take (now (s .args .words)) (s .args .count) (s .pre .1) (s .pre .2)) (omega (arith, s .pre .0, length-take-le (s .args .count) (now (s .args .words)) (s .pre .1)))) (q .ensures) in

@@ -7,7 +7,6 @@ use Prim.Native.Nat.{ℕ, _+_, _-_, _*_, _/_, _%_, _≤_, _<_}
 use native.Mathlib.Omega.{arith}
 use denote.Ref.{now}
 use lib.ListN.{length, take, drop, getD}
-
 use Rattle.pages.specs.Pages.{joined}
 use Rattle.pages.specs.Lines.{pairWords, linesOf, wordsAt, wordsBefore, after, Stands, Judged}
 use Rattle.pages.specs.declared.Judgement.the-variants.{Listing}
@@ -54,7 +53,7 @@ check-line-requires : tie.Need-check-line-requires Inv-loop μ-loop
 check-line-requires c κs = let here = c .before .loop in (c .loop-test .taken, omega (arith, c .before .before .if2 .left), omega (arith, c .before .before .before .if1 .left), here .inv .3)
 
 returns-3 : tie.Need-returns-3 Inv-loop μ-loop
-returns-3 c =     let s = c .before .before .before .before .before .before .before .before .before in
+returns-3 c = let s = c .before .before .before .before .before .before .before .before .before in
     let here = c .before .before .before .before .loop in
     let bytes = now (s .args .pages) in
     let text = now (s .args .text) in
@@ -72,7 +71,7 @@ loop-less : tie.Need-loop-less Inv-loop μ-loop
 loop-less c = omega (arith, c .before .before .before .before .loop-test .taken)
 
 loop-again : tie.Need-loop-again Inv-loop μ-loop
-loop-again c =     let s = c .before .before .before .before .before .before .before .before .before .before in
+loop-again c = let s = c .before .before .before .before .before .before .before .before .before .before in
     let here = c .before .before .before .before .before .loop in
     let bytes = now (s .args .pages) in
     let text = now (s .args .text) in
@@ -87,14 +86,14 @@ loop-again c =     let s = c .before .before .before .before .before .before .be
     )
 
 lines-of-requires : tie.Need-lines-of-requires Inv-loop μ-loop
-lines-of-requires c κs =     let s = c .before .before .before .before .before .before in
+lines-of-requires c κs = let s = c .before .before .before .before .before .before in
     let here = c .before .loop in
     let bytes = now (s .args .pages) in
     let e = all-lines c in
     omega (arith, here .inv .1, ap (λ (n : ℕ). length (wordsBefore bytes n)) e, few-pairs (now (s .args .text)) bytes (length bytes / 73) refl (λ k h. here .inv .5 k (omega arith)))
 
 returns-4 : tie.Need-returns-4 Inv-loop μ-loop
-returns-4 c =     let s = c .before .before .before .before .before .before .before .before in
+returns-4 c = let s = c .before .before .before .before .before .before .before .before in
     let here = c .before .before .before .loop in
     let bytes = now (s .args .pages) in
     let e = all-lines (c .before .before) in
@@ -102,7 +101,7 @@ returns-4 c =     let s = c .before .before .before .before .before .before .bef
     bad-lines (now (s .args .text)) bytes (length bytes / 73) refl (λ q. c .if4 .taken (c .before .lines-of .ensures ∙ ap linesOf z ∙ q))
 
 returns-5 : tie.Need-returns-5 Inv-loop μ-loop
-returns-5 c =     let s = c .before .before .before .before .before .before .before .before in
+returns-5 c = let s = c .before .before .before .before .before .before .before .before in
     let here = c .before .before .before .loop in
     let bytes = now (s .args .pages) in
     let text = now (s .args .text) in

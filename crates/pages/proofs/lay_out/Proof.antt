@@ -5,7 +5,6 @@ use Prim.Native.Nat.{ℕ, _+_, _-_, _*_, _/_, _%_, _≤_, _<_}
 use native.Mathlib.Omega.{arith}
 use denote.Ref.{now}
 use lib.ListN.{length, take, drop, getD}
-
 use Rattle.rows.specs.Rows.{pairsIn}
 use Rattle.pages.specs.Pages.{pages}
 use Rattle.pages.specs.Lines.{linesOf, LaidOut, no-room, laid-out}
@@ -36,12 +35,12 @@ mul-if1 : tie.Need-mul-if1
 mul-if1 c = let l = long c in omega (arith, l .0, l .1)
 
 returns : tie.Need-returns
-returns c =     let s = c .before .before .before .before .before .before in
+returns c = let s = c .before .before .before .before .before .before in
     let l = long (c .before) in
     no-room (omega (arith, l .2, c .if1 .taken)) refl
 
 put-pages-requires : tie.Need-put-pages-requires
-put-pages-requires c κs =     let l = long (c .before .before) in
+put-pages-requires c κs = let l = long (c .before .before) in
     (l .0, omega (arith, c .before .if1 .left))
 
 mul-t5 : tie.Need-mul-t5
@@ -51,7 +50,7 @@ same-length : tie.Need-same-length
 same-length c = search needs
 
 returns-2 : tie.Need-returns-2
-returns-2 c =     let s = c .before .before .before .before .before .before .before .before .before .before in
+returns-2 c = let s = c .before .before .before .before .before .before .before .before .before .before in
     let l = long (c .before .before .before .before .before) in
     let q = c .before .before .put-pages in
     subst (λ (n : ℕ). LaidOut (now (s .args .text)) (pairsIn 1024 (now (s .args .rows))) (now (s .args .out)) (q .last .1 .1 .1 .0) (Bytes n)) (l .2)

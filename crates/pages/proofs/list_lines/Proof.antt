@@ -24,7 +24,7 @@ unfolding joined
 loop-holds c = let s = c .before .before in (omega arith, refl, wrote-none 0 (now (s .args .list)) (omega arith))
 
 list-line-requires : tie.Need-list-line-requires Inv-loop μ-loop
-list-line-requires c κs =     let s = c .before .before .before .before .before in
+list-line-requires c κs = let s = c .before .before .before .before .before in
     let here = c .before .before .loop in
     let h = c .before .loop-test .taken in
     (omega (arith, s .pre .0), omega (arith, s .pre .1, here .inv .1, here .inv .2 .place, joined-fits (wordsAt (now (s .args .pages))) (here .i) (s .args .lines) h))
@@ -36,7 +36,7 @@ loop-less : tie.Need-loop-less Inv-loop μ-loop
 loop-less c = omega (arith, c .before .before .before .before .loop-test .taken)
 
 loop-again : tie.Need-loop-again Inv-loop μ-loop
-loop-again c =     let s = c .before .before .before .before .before .before .before .before in
+loop-again c = let s = c .before .before .before .before .before .before .before .before in
     let here = c .before .before .before .before .before .loop in
     let q = c .before .before .list-line in
     let k : length (q .last .1 .1 .0) ≡ length (here .list) = q .kept .1 .1 .0 in
@@ -46,7 +46,7 @@ same-length : tie.Need-same-length Inv-loop μ-loop
 same-length c = c .before .loop .inv .1
 
 returns : tie.Need-returns Inv-loop μ-loop
-returns c =     let s = c .before .before .before .before in
+returns c = let s = c .before .before .before .before in
     let here = c .before .loop in
     let e : here .i ≡ s .args .lines = omega (arith, here .inv .0, c .loop-test .left) in
     wrote-front (subst (λ (n : ℕ). Wrote 0 (wordsBefore (now (s .args .pages)) n) (now (s .args .list)) (here .list) (here .end)) e (here .inv .2))

@@ -4,7 +4,6 @@ use Prim.Native.Nat.{ℕ, _+_, _≤_, _<_}
 use native.Mathlib.Omega.{arith}
 use denote.Ref.{now}
 use lib.ListN.{length, take, drop}
-
 use lib.Seq.{take-all}
 use Rattle.pages.proofs.Answering.{prints-refused, prints-laid}
 use borrow.Author.Needs.{needs}
@@ -33,7 +32,7 @@ same-length : tie.Need-same-length
 same-length c = search needs
 
 returns : tie.Need-returns
-returns c =     let s = c .before .before .before .before .before .before .before .before .before .before .before .before in
+returns c = let s = c .before .before .before .before .before .before .before .before .before .before .before .before in
     let t = c .before .before .before .before .before .before .relation in
     prints-refused (s .args .register) (now (s .args .text)) (length (now (s .args .work))) _ (t .last .1 .1 .1 .0) (now (s .args .pages)) refl (c .before .related .given .1) (t .ensures)
 
@@ -44,7 +43,7 @@ same-length-3 : tie.Need-same-length-3
 same-length-3 c = search needs
 
 returns-2 : tie.Need-returns-2
-returns-2 c =     let s = c .before .before .before .before .before .before .before .before .before .before .before .before .before .before .before .before in
+returns-2 c = let s = c .before .before .before .before .before .before .before .before .before .before .before .before .before .before .before .before in
     let t = c .before .before .before .before .before .before .before .before .before .before .relation in
     let k : length (t .last .1 .1 .1 .0) ≡ 16384 = t .kept .1 .1 .1 .0 in
     prints-laid (s .args .register) (now (s .args .text)) (length (now (s .args .work))) _ (t .last .1 .1 .1 .0) (now (s .args .pages)) refl (c .before .before .before .before .before .enum-told .given .1)

@@ -5,7 +5,6 @@ use Prim.Native.Nat.{ℕ, _+_, _-_, _*_, _/_, _%_, _≤_, _<_}
 use native.Mathlib.Omega.{arith}
 use denote.Ref.{now}
 use lib.ListN.{length, take, drop, getD}
-
 use Rattle.k2.specs.Bits.{bitAt}
 use Rattle.pages.proofs.Laying.{laid-head, laid-pairs}
 use borrow.Author.Needs.{needs}
@@ -22,7 +21,7 @@ same-length : tie.Need-same-length
 same-length c = search needs
 
 returns : tie.Need-returns
-returns c =     let s = c .before .before .before .before .before .before .before .before in
+returns c = let s = c .before .before .before .before .before .before .before .before in
     laid-head (bitAt (now (s .args .rows))) (now (s .args .text)) (s .args .i) (s .args .place) (c .before .before .before .before .if1 .taken) (omega (arith, s .pre .0)) (s .pre .1) (c .before .before .put-head-line .ensures)
 
 slice-aggregate-gather : tie.Need-slice-aggregate-gather
@@ -38,7 +37,7 @@ mul-put-pair-line : tie.Need-mul-put-pair-line
 mul-put-pair-line c = search needs
 
 put-pair-line-requires : tie.Need-put-pair-line-requires
-put-pair-line-requires c κs =     let s = c .before .before .before .before .before .before .before .before .before in
+put-pair-line-requires c κs = let s = c .before .before .before .before .before .before .before .before .before in
     let g = c .before .before .before .gather in
     let k : length (g .last .1 .1 .0) ≡ 6 = g .kept .1 .1 .0 in
     (g .ensures .few, omega (arith, g .ensures .few), g .ensures .small, omega (arith, s .pre .2))
@@ -47,7 +46,7 @@ same-length-2 : tie.Need-same-length-2
 same-length-2 c = search needs
 
 returns-2 : tie.Need-returns-2
-returns-2 c =     let s = c .before .before .before .before .before .before .before .before .before .before .before .before in
+returns-2 c = let s = c .before .before .before .before .before .before .before .before .before .before .before .before in
     let g = c .before .before .before .before .before .before .gather in
     let k : length (g .last .1 .1 .0) ≡ 6 = g .kept .1 .1 .0 in
     laid-pairs (bitAt (now (s .args .rows))) (now (s .args .text)) (s .args .i) (s .args .place) (omega (arith, c .before .before .before .before .before .before .before .before .if1 .left)) k (g .ensures) (c .before .before .put-pair-line .ensures)

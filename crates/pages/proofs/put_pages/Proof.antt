@@ -6,7 +6,6 @@ use Prim.Native.Nat.{ℕ, _+_, _-_, _*_, _/_, _%_, _≤_, _<_}
 use native.Mathlib.Omega.{arith}
 use denote.Ref.{now}
 use lib.ListN.{length, take, drop, getD}
-
 use Rattle.k2.specs.Bits.{bitAt}
 use Rattle.rows.specs.Rows.{pairsIn}
 use Rattle.report.specs.Written.{Wrote}
@@ -30,11 +29,11 @@ abbrev μ-loop : tie.MeasureT-loop
 
 loop-holds : tie.Need-loop-holds Inv-loop μ-loop
 unfolding joined pairsBefore
-loop-holds c =     let s = c .before .before .before in
+loop-holds c = let s = c .before .before .before in
     (omega arith, refl, omega arith, rows-ahead (now (s .args .rows)), wrote-none 0 (now (s .args .out)) (omega arith))
 
 put-line-requires : tie.Need-put-line-requires Inv-loop μ-loop
-put-line-requires c κs =     let s = c .before .before .before .before .before .before in
+put-line-requires c κs = let s = c .before .before .before .before .before .before in
     let here = c .before .before .loop in
     let h = c .before .loop-test .taken in
     let ws = pairsIn 1024 (now (s .args .rows)) in
@@ -47,7 +46,7 @@ loop-less : tie.Need-loop-less Inv-loop μ-loop
 loop-less c = omega (arith, c .before .before .before .before .loop-test .taken)
 
 loop-again : tie.Need-loop-again Inv-loop μ-loop
-loop-again c =     let s = c .before .before .before .before .before .before .before .before .before in
+loop-again c = let s = c .before .before .before .before .before .before .before .before .before in
     let here = c .before .before .before .before .before .loop in
     let q = c .before .before .put-line in
     let ws = pairsIn 1024 (now (s .args .rows)) in
@@ -59,14 +58,14 @@ loop-again c =     let s = c .before .before .before .before .before .before .be
       q .ensures .in-range,
       l .1,
       subst (λ (n : ℕ). Wrote 0 (joined (lineOf (now (s .args .text)) ws) (here .i + 1)) (now (s .args .out)) (q .last .1 .1 .1 .1 .0) n) e
-      (wrote-as (sym (joined-next (lineOf (now (s .args .text)) ws) (here .i))) (wrote-then (here .inv .4) (l .0))),
+          (wrote-as (sym (joined-next (lineOf (now (s .args .text)) ws) (here .i))) (wrote-then (here .inv .4) (l .0))),
     )
 
 same-length : tie.Need-same-length Inv-loop μ-loop
 same-length c = c .before .loop .inv .1
 
 returns : tie.Need-returns Inv-loop μ-loop
-returns c =     let s = c .before .before .before .before .before in
+returns c = let s = c .before .before .before .before .before in
     let here = c .before .loop in
     let text = now (s .args .text) in
     let ws = pairsIn 1024 (now (s .args .rows)) in

@@ -41,7 +41,7 @@ loop-less : tie.Need-loop-less Inv-loop μ-loop
 loop-less c = omega (arith, c .before .loop-test .taken)
 
 loop-again : tie.Need-loop-again Inv-loop μ-loop
-loop-again c =     let s = c .before .before .before in
+loop-again c = let s = c .before .before .before in
     let here = c .before .before .loop in
     let h = c .before .loop-test .taken in
     (omega arith, simp length-set (here .inv .1), wrote-more (s .args .at) (here .i) (now (s .args .words)) (now (s .args .list)) (here .list) (here .inv .2) (omega (arith, s .pre .0)) (omega (arith, s .pre .1, here .inv .1)))
@@ -53,7 +53,7 @@ same-length : tie.Need-same-length Inv-loop μ-loop
 same-length c = c .before .loop .inv .1
 
 returns : tie.Need-returns Inv-loop μ-loop
-returns c =     let s = c .before .before in
+returns c = let s = c .before .before in
     let here = c .before .loop in
     let e : here .i ≡ s .args .count = omega (arith, here .inv .0, c .loop-test .left) in
     subst (λ (n : ℕ). Wrote (s .args .at) (take n (now (s .args .words))) (now (s .args .list)) (here .list) (s .args .at + here .i)) e (here .inv .2)

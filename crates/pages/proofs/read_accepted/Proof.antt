@@ -4,7 +4,6 @@ use Prim.Native.Nat.{ℕ, _+_, _≤_, _<_}
 use native.Mathlib.Omega.{arith}
 use denote.Ref.{now}
 use lib.ListN.{length, take, drop}
-
 use Rattle.pages.specs.Lines.{wordsBefore}
 use Rattle.pages.proofs.Answering.{reads-broken, reads-short, reads-pairs}
 use Rattle.pages.proofs.Checking.{judged-length}
@@ -22,23 +21,23 @@ enum-known-judgement : tie.Need-enum-known-judgement
 enum-known-judgement c = search needs
 
 returns : tie.Need-returns
-returns c =     let s = c .before .before .before .before .before .before .before .before in
+returns c = let s = c .before .before .before .before .before .before .before .before in
     λ e v. reads-short (now (s .args .text)) (now (s .args .pages)) (now (s .args .list)) e v (c .before .before .judgement .given .1) (c .before .before .before .before .judge .ensures) (c .if1 .taken)
 
 list-lines-requires : tie.Need-list-lines-requires
-list-lines-requires c κs =     let s = c .before .before .before .before .before .before .before .before .before in
+list-lines-requires c κs = let s = c .before .before .before .before .before .before .before .before .before in
     let e = judged-length (now (s .args .text)) (now (s .args .pages)) (c .before .before .before .judgement .given .1) (c .before .before .before .before .before .judge .ensures) in
     (omega arith, omega (arith, e, c .before .if1 .left))
 
 returns-2 : tie.Need-returns-2
-returns-2 c =     let s = c .before .before .before .before .before .before in
+returns-2 c = let s = c .before .before .before .before .before .before in
     λ e v. reads-broken (now (s .args .text)) (now (s .args .pages)) (now (s .args .list)) e v (c .enum-told .given .1) (c .before .before .judge .ensures)
 
 same-length : tie.Need-same-length
 same-length c = search needs
 
 returns-3 : tie.Need-returns-3
-returns-3 c =     let s = c .before .before .before .before .before .before .before .before .before .before .before .before in
+returns-3 c = let s = c .before .before .before .before .before .before .before .before .before .before .before .before in
     λ e v. reads-pairs (now (s .args .text)) (now (s .args .pages)) (now (s .args .list)) e v (c .before .before .before .before .before .before .judgement .given .1) (c .before .before .before .before .before .before .before .before .judge .ensures) (c .before .before .before .before .if1 .left)
     (c .before .before .list-lines .ensures)
 

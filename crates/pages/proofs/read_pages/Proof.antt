@@ -4,7 +4,6 @@ use Prim.Native.Nat.{ℕ, _+_, _≤_, _<_}
 use native.Mathlib.Omega.{arith}
 use denote.Ref.{now}
 use lib.ListN.{length, take, drop}
-
 use Rattle.pages.proofs.Answering.{reads-refused, reads-accepted}
 use borrow.Author.Needs.{needs}
 use Rattle.pages.proofs.read_pages.Statement.{statement}
@@ -26,7 +25,7 @@ read-accepted-requires : tie.Need-read-accepted-requires
 read-accepted-requires c κs = search needs
 
 returns : tie.Need-returns
-returns c =     let s = c .before .before .before .before .before .before .before in
+returns c = let s = c .before .before .before .before .before .before .before in
     let t = c .before .before .before .read in
     reads-refused (now (s .args .text)) (now (s .args .pages)) (now (s .args .list)) _ (sym (t .ensures .answered) ∙ c .before .answer .given .1)
 
@@ -34,7 +33,7 @@ same-length : tie.Need-same-length
 same-length c = search needs
 
 returns-2 : tie.Need-returns-2
-returns-2 c =     let s = c .before .before .before .before .before .before .before .before .before .before in
+returns-2 c = let s = c .before .before .before .before .before .before .before .before .before .before in
     let t = c .before .before .before .before .before .before .read in
     reads-accepted (now (s .args .text)) (now (s .args .pages)) (now (s .args .list)) (sym (t .ensures .answered) ∙ c .before .before .before .before .enum-told .given .1) (c .before .before .read-accepted .ensures)
 

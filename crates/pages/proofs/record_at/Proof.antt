@@ -43,14 +43,14 @@ loop-less : tie.Need-loop-less Inv-loop μ-loop
 loop-less c = omega (arith, c .before .loop-test .taken)
 
 loop-again : tie.Need-loop-again Inv-loop μ-loop
-loop-again c =     let s = c .before .before .before in
+loop-again c = let s = c .before .before .before in
     let here = c .before .before .loop in
     let l = now (s .args .pages) in
     let m = value-more (drop (s .args .at) l) (here .i) (omega (arith, length-drop (s .args .at) l, s .pre, c .before .loop-test .taken)) in
     (omega (arith, c .before .loop-test .taken), omega (arith, m, here .inv .1, getD-drop (s .args .at) l (here .i) 0))
 
 returns : tie.Need-returns Inv-loop μ-loop
-returns c =     let s = c .before .before in
+returns c = let s = c .before .before in
     let here = c .before .loop in
     let l = now (s .args .pages) in
     let e : here .i ≡ 5 = omega (arith, here .inv .0, c .loop-test .left) in

@@ -32,7 +32,7 @@ add-result : tie.Need-add-result Inv-loop μ-loop
 add-result c = omega arith
 
 returns : tie.Need-returns Inv-loop μ-loop
-returns c =     let s = c .before .before .before .before in
+returns c = let s = c .before .before .before .before in
     let here = c .before .before .before .loop in
     down (λ W. let r = rising-not (now (s .args .words)) (s .args .low) (here .i) (s .args .count) (c .before .before .loop-test .taken) (s .pre .0) W in omega (arith, r .0, here .inv .1, c .if1 .taken))
 
@@ -40,7 +40,7 @@ add-result-2 : tie.Need-add-result-2 Inv-loop μ-loop
 add-result-2 c = omega arith
 
 returns-2 : tie.Need-returns-2 Inv-loop μ-loop
-returns-2 c =     let s = c .before .before .before .before .before in
+returns-2 c = let s = c .before .before .before .before .before in
     let here = c .before .before .before .before .loop in
     down (λ W. let r = rising-not (now (s .args .words)) (s .args .low) (here .i) (s .args .count) (c .before .before .before .loop-test .taken) (s .pre .0) W in omega (arith, r .1, c .if2 .taken))
 
@@ -54,13 +54,13 @@ loop-less : tie.Need-loop-less Inv-loop μ-loop
 loop-less c = omega (arith, c .before .before .before .loop-test .taken)
 
 loop-again : tie.Need-loop-again Inv-loop μ-loop
-loop-again c =     let s = c .before .before .before .before .before in
+loop-again c = let s = c .before .before .before .before .before in
     let here = c .before .before .before .before .loop in
     let r = rising-more (now (s .args .words)) (s .args .low) (here .i) (omega (arith, s .pre .0, c .before .before .before .loop-test .taken)) (here .inv .2) (omega (arith, here .inv .1, c .before .if1 .left)) (c .if2 .left) in
     (omega (arith, c .before .before .before .loop-test .taken), sym (r .0), r .1)
 
 returns-3 : tie.Need-returns-3 Inv-loop μ-loop
-returns-3 c =     let s = c .before .before in
+returns-3 c = let s = c .before .before in
     let here = c .before .loop in
     let ws = now (s .args .words) in
     let e : here .i ≡ s .args .count = omega (arith, here .inv .0, c .loop-test .left) in
