@@ -89,6 +89,14 @@ uint64_t dating_tree_product(size_t n, const uint64_t *a, size_t a_len, uint8_t 
 uint64_t dating_tree_transpose(size_t n, const uint64_t *a, size_t a_len, uint64_t *out, size_t out_len, uint64_t *work, size_t work_len);
 uint64_t dating_tree_closure(size_t n, const uint64_t *a, size_t a_len, uint64_t *out, size_t out_len, uint64_t *work, size_t work_len);
 
+/* The pairs that the expression joins, as printed pages of lines of 72 bytes and a line feed: the bytes written. A space that cannot hold every page is
+ * refused with 13; k pairs take 73 * (k / 6 rounded up + heads) bytes, where heads is k / 354 rounded up, and at least 1. Work as for pairs. */
+uint64_t dating_pages(const uint32_t *state, size_t state_len, const uint8_t *text, size_t text_len, uint64_t *work, size_t work_len, uint8_t *pages,
+                      size_t pages_len);
+/* The pairs that pages show, ascending: their number. Bytes that are not the pages of the expression and some ascending list of different pairs are
+ * refused with 14, a list that is too short for them with 13. */
+uint64_t dating_read_pages(const uint8_t *text, size_t text_len, const uint8_t *pages, size_t pages_len, uint32_t *list, size_t list_len);
+
 #ifdef __cplusplus
 }
 #endif

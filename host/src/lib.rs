@@ -31,11 +31,13 @@
 
 pub mod calls;
 mod items;
+mod pages;
 mod refusal;
 mod register;
 mod space;
 mod tree;
 
+pub use pages::{page_bytes, read_pages};
 pub use items::{Link, Links, Pairs, Step, Steps};
 pub use refusal::Refusal;
 pub use register::Register;

@@ -1,3 +1,5 @@
 pub mod Host
 pub mod Inner
 pub mod HostLaws
+pub mod PageHost
+pub mod PageHostLaws

@@ -8,6 +8,7 @@ mod damage;
 mod engine;
 mod history;
 mod lent;
+mod pages;
 mod run;
 mod trees;
 
@@ -18,7 +19,7 @@ use std::time::Instant;
 type Kind = (&'static str, fn(&mut Run, u64, Size), Size, [u64; 3]);
 
 /// Each kind of case with its size, and how many there are: in the short run, in the long one, on the heap.
-const KINDS: [Kind; 11] = [
+const KINDS: [Kind; 15] = [
     ("history of few records", history::history, Size(1, 64), [200, 1000, 3]),
     ("history of some records", history::history, Size(65, 256), [80, 500, 0]),
     ("history of many records", history::history, Size(257, 1024), [40, 300, 0]),
@@ -28,6 +29,10 @@ const KINDS: [Kind; 11] = [
     ("trees of few records", trees::trees, Size(1, 64), [300, 3000, 3]),
     ("trees of some records", trees::trees, Size(65, 256), [60, 400, 0]),
     ("trees of many records", trees::trees, Size(257, 1024), [16, 100, 0]),
+    ("pages of few records", pages::printed, Size(1, 64), [150, 1500, 3]),
+    ("pages of many records", pages::printed, Size(65, 1024), [12, 100, 0]),
+    ("every place of some pages", pages::every_place, Size(1, 1024), [12, 24, 0]),
+    ("a million pairs printed", pages::million, Size(1024, 1024), [1, 1, 0]),
     ("damaged words, few records", damage::damaged, Size(1, 64), [400, 5000, 20]),
     ("damaged words, many records", damage::damaged, Size(65, 1024), [100, 1500, 1]),
 ];
@@ -79,13 +84,14 @@ fn run_all() -> ExitCode {
     }
     let counts = &run.counts;
     println!(
-        "{cases} cases: {} edits, {} registers read, {} pair questions, {} chain questions, {} tree calls, {} damaged registers; \
+        "{cases} cases: {} edits, {} registers read, {} pair questions, {} chain questions, {} tree calls, {} pages printed or read, {} damaged registers; \
          {} calls, {} differences",
         counts.edits,
         counts.contents,
         counts.pairs,
         counts.chains,
         counts.trees,
+        counts.pages,
         counts.damaged,
         run.engine.calls,
         run.differences
