@@ -7,6 +7,7 @@ use oracle::book::{Book, Call, Link};
 use oracle::random::{expression, in_grammar, Random};
 use oracle::relation::Relation;
 use oracle::{expression as expressions, pages, tree, Listed, Refusal, Space};
+use std::time::Instant;
 
 /// What is expected of bytes or pairs in such space.
 fn within<T: Clone>(answer: &Result<Vec<T>, Refusal>, work: usize, space: Space) -> Answer<T> {
@@ -124,6 +125,27 @@ pub fn every_place(run: &mut Run, seed: u64, _: Size) {
     }
 }
 
+/// Prints how long printing and reading take, beside the oracle's, which are plain programs. The printer's time has the question in it.
+fn speed(run: &mut Run, words: &[u32], text: &[u8], all: &[u32], bytes: &[u8]) {
+    fn timed<T>(call: impl FnOnce() -> T) -> (T, f64) {
+        let start = Instant::now();
+        let answer = call();
+        (answer, start.elapsed().as_secs_f64() * 1e3)
+    }
+    let (mut work, mut space, mut list) = (vec![0; tree::work(1024)], vec![0; bytes.len()], vec![0; all.len()]);
+    let (asked, question) = timed(|| dating::calls::pairs(words, text, &mut work, &mut list));
+    let (printed, printing) = timed(|| dating::calls::pages(words, text, &mut work, &mut space));
+    let (found, reading) = timed(|| dating::calls::read_pages(text, &space, &mut list));
+    let (plain, plain_printing) = timed(|| pages::print(text, all));
+    let (plain_found, plain_reading) = timed(|| pages::read(text, &plain, all.len()));
+    run.same("a million pairs timed", &(asked, printed, found), &(all.len() as u64, bytes.len() as u64, all.len() as u64));
+    run.same("and by the plain program", &(plain == space, plain_found.as_deref() == Ok(&list[..])), &(true, true));
+    println!(
+        "a million pairs, ms: the question {question:.0}, printed {printing:.0} with the question in it, read {reading:.0}; \
+         a plain program prints {plain_printing:.0}, reads {plain_reading:.0}"
+    );
+}
+
 /// Every pair of 1,024 records: 12,973,998 bytes.
 pub fn million(run: &mut Run, _: u64, _: Size) {
     let n = 1024;
@@ -147,6 +169,7 @@ pub fn million(run: &mut Run, _: u64, _: Size) {
         run.same("a million pairs read", &answer, &within(&Ok(all.clone()), 0, Space { work: 0, list }));
         run.counts.pages += 1;
     }
+    speed(run, &words, text, &all, &bytes);
     let mut other = bytes;
     let last = other.len() - 3;
     other[last] ^= 1;
