@@ -2,7 +2,7 @@
 // slices. The calls stand by subject in edits.rt, questions.rt and trees.rt; told.rt has how an answer is told as one number, printing.rt
 // the printed page.
 mod edits;
+mod printing;
 mod questions;
 mod told;
 mod trees;
-mod printing;

@@ -22,7 +22,7 @@ same-length c = search needs
 
 returns : tie.Need-returns
 returns c = let s = c .before .before .before .before .before .before .before .before in
-    laid-head (bitAt (now (s .args .rows))) (now (s .args .text)) (s .args .i) (s .args .place) (c .before .before .before .before .if1 .taken) (omega (arith, s .pre .0)) (s .pre .1) (c .before .before .put-head-line .ensures)
+    laid-head (bitAt (now (s .args .rows))) (now (s .args .text)) (s .args .i) (s .args .place) (omega (arith, c .before .before .before .before .if1 .taken)) (omega (arith, s .pre .0)) (s .pre .1) (c .before .before .put-head-line .ensures)
 
 slice-aggregate-gather : tie.Need-slice-aggregate-gather
 slice-aggregate-gather c = refl

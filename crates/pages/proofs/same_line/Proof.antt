@@ -35,7 +35,7 @@ returns c = let s = c .before .before .before .before .before in
     let l = now (s .args .pages) in (
       λ e. absurd (let z : _≡_ {A = ℕ} 0 1 = cc in omega arith),
       λ e. absurd (c .if1 .taken
-          (sym (getD-take 73 (drop (s .args .at) l) (here .i) 0 (c .before .before .before .loop-test .taken) ∙ getD-drop (s .args .at) l (here .i) 0) ∙ ap (λ (t : List ℕ). getD t (here .i) 0) e)),
+          (sym (getD-take 73 (drop (s .args .at) l) (here .i) 0 (omega (arith, c .before .before .before .loop-test .taken)) ∙ getD-drop (s .args .at) l (here .i) 0) ∙ ap (λ (t : List ℕ). getD t (here .i) 0) e)),
     )
 
 add-i : tie.Need-add-i Inv-loop μ-loop
