@@ -11,14 +11,14 @@
  *    1  n outside 1 to 1,024                       10  expression over 256 bytes, 63 letters or 8 deep
  *    2  record not below n                         11  lent tree not well formed
  *    3  label above 25                             12  work (or state) shorter than stated
- *    4  an end of the link, or the record to       13  chain or tree longer than its list
- *       withdraw, is locked                        14  (programs only: frame broken)
- *    5  link present, or record locked or          15  (programs only: kind unknown)
- *       withdrawn, already                         16  the words are not those of a register
- *    6  link absent, record not locked, or         17  a link touches the record to withdraw
- *       record to reinstate in use                 18  a withdrawn record named in add, remove, lock or
- *    7  4,096 links present                            unlock
- *    8  no edit held that could be undone
+ *    4  an end of the link, or the record to       13  chain, tree, pages or pairs of pages longer than
+ *       withdraw, is locked                            their list or space
+ *    5  link present, or record locked or          14  bytes that are not the pages of the expression
+ *       withdrawn, already                         15  (programs only: kind unknown)
+ *    6  link absent, record not locked, or         16  the words are not those of a register
+ *       record to reinstate in use                 17  a link touches the record to withdraw
+ *    7  4,096 links present                        18  a withdrawn record named in add, remove, lock or
+ *    8  no edit held that could be undone              unlock
  *    9  expression outside the grammar
  *
  * tests/declarations.rs holds this file to the Rattle source.

@@ -3,7 +3,7 @@
 --   bytes-told, read-told
 --                   which answer a number tells
 --   exported-round  what the exported printer wrote, the exported reader gives back as the book's pairs
-use mathlib.Core.Path.{_≡_, refl, sym, ap, subst, _∙_}
+use mathlib.Core.Path.{_≡_, sym, ap, subst, _∙_}
 use mathlib.Core.List.{List}
 use Prim.Native.Nat.{ℕ, _≤_, _<_}
 use native.Mathlib.Omega.{arith}

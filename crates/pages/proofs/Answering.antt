@@ -1,11 +1,11 @@
 -- The answers of the two calls, in plain variables. Assumes nothing.
 use mathlib.Core.Path.{_≡_, refl, sym, ap, subst, _∙_}
-use mathlib.Core.List.{List, [], _∷_, _++_}
-use Prim.Native.Nat.{ℕ, _+_, _*_, _/_, _%_, _≤_, _<_}
+use mathlib.Core.List.{List}
+use Prim.Native.Nat.{ℕ, _*_, _/_, _%_, _≤_, _<_}
 use native.Mathlib.Omega.{arith}
-use lib.ListN.{length, take, drop, length-append}
-use lib.Seq.{take-all, drop-at}
-use Rattle.book.specs.Causes.{short-list, broken-frame, number, Caused, maxRecords}
+use lib.ListN.{length, take, drop}
+use lib.Seq.{drop-at}
+use Rattle.book.specs.Causes.{short-list, number, Caused}
 use Rattle.book.specs.Book.{Book}
 use Rattle.k2.specs.Bits.{bitAt}
 use Rattle.k2.specs.PairSets.{IsSet}
@@ -26,12 +26,12 @@ use Rattle.rows.specs.RowLaws.{places-gap, pairs-in}
 use Rattle.pairs.specs.declared.PairsAnswer.{PairsAnswer}
 use Rattle.pairs.specs.declared.PairsAnswer.the-variants.{Pairs as Told, Refused as Turned}
 use Rattle.pairs.specs.Asking.{Tells, rowWords, relationAnswer, RelatesFor}
-use Rattle.pages.specs.Pages.{pages, IsPages}
-use Rattle.pages.specs.PageCalls.{Filled, refused, filled, spaceAfter, printOutcome, TellsBytes, told-number, told-bytes, BookPrints, bytesWritten, Prints, Content, listing, nothing, Holds, are-pages, no-pages, readOutcome, TellsPairs, told-refusal, told-pairs, ReadsPages}
+use Rattle.pages.specs.Pages.{pages}
+use Rattle.pages.specs.PageCalls.{Filled, refused, filled, spaceAfter, printOutcome, told-number, told-bytes, BookPrints, bytesWritten, Prints, Content, listing, nothing, are-pages, no-pages, readOutcome, TellsPairs, told-refusal, told-pairs, ReadsPages}
 use Rattle.pages.specs.PageCallLaws.{tells-number, Asked, asked-enough, print-refused, print-short, print-filled, read-refused, read-broken, read-short, read-filled}
 use Rattle.pages.specs.Lines.{wordsBefore, LaidOut, no-room, laid-out, Judged, good, bad}
 use Rattle.pages.specs.declared.PagesAnswer.{PagesAnswer}
-use Rattle.pages.specs.declared.PagesAnswer.the-variants.{Bytes, Refused}
+use Rattle.pages.specs.declared.PagesAnswer.the-variants.{Refused}
 use Rattle.pages.specs.declared.ReadAnswer.{ReadAnswer}
 use Rattle.pages.specs.declared.ReadAnswer.the-variants.{Pairs, Refused as Declined}
 use Rattle.pages.specs.declared.Judgement.{Judgement}

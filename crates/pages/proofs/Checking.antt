@@ -1,14 +1,14 @@
 -- Laws of judging: a line stands or falls by what was found of it; lines that all stand are pages, and pages have no line that falls. Assumes nothing.
 use mathlib.Core.Path.{_≡_, refl, sym, ap, subst, _∙_}
-use mathlib.Core.List.{List, [], _∷_, _++_}
+use mathlib.Core.List.{List}
 use Prim.Native.Nat.{ℕ, _+_, _*_, _/_, _%_, _≤_, _<_}
-use native.Mathlib.Decide.{decLt, ℕ-discrete}
+use native.Mathlib.Decide.{decLt}
 use native.Mathlib.Omega.{arith}
 use lib.ListN.{length, take, drop, getD, length-append}
 use lib.Seq.{length-take-le, getD-take}
 use Rattle.k2.specs.PairSetLaws.{Within, ends, within-length}
-use Rattle.pages.specs.Pages.{joined, pairLine, headLine, IsPages}
-use Rattle.pages.specs.Lines.{pairWords, mostLines, linesOf, lineWith, cellWords, byteLine, wordsAt, wordsBefore, after, Stands, Rising, up, down, Line, stands, falls, Judged, good, bad}
+use Rattle.pages.specs.Pages.{pairLine, headLine}
+use Rattle.pages.specs.Lines.{pairWords, mostLines, linesOf, cellWords, byteLine, wordsAt, wordsBefore, after, Stands, Rising, up, down, Line, stands, falls, Judged, good, bad}
 use Rattle.pages.specs.LineLaws.{line-head, line-pairs, joined-next}
 use Rattle.pages.specs.ReadLaws.{words-head, words-pairs, after-le, after-append, within-small, AsPages, pages-stand, stand-within, stand-pages}
 use Rattle.pages.specs.declared.Judgement.{Judgement}

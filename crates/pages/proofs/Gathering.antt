@@ -1,13 +1,13 @@
 -- Laws of the search for the pairs of a line: what is ahead of a place, past a gap, at a bit, and of all. Assumes nothing.
-use mathlib.Core.Path.{_≡_, refl, sym, ap, _∙_}
+use mathlib.Core.Path.{_≡_, sym, ap, _∙_}
 use mathlib.Core.List.{List, [], _∷_, _++_, append-assoc, append-nil}
 use Prim.Native.Nat.{ℕ, zero, suc, _+_, _-_, _≤_, _<_}
-use native.Mathlib.Nat.{add-zero, add-suc, suc-add, zero-add}
+use native.Mathlib.Nat.{add-zero, suc-add, zero-add}
 use native.Mathlib.Numerals.{add-one}
 use native.Mathlib.Decide.{decLt}
 use native.Mathlib.Omega.{arith}
-use lib.ListN.{length, take, drop, getD, set, length-append, length-drop}
-use lib.Seq.{take-suc-set, getD-set-same, getD-set-other, take-at, drop-at, take-all, length-take-le, drop-drop}
+use lib.ListN.{length, take, getD, set}
+use lib.Seq.{take-suc-set, getD-set-same, getD-set-other}
 use Rattle.k2.specs.PairSets.{ifSet}
 use Rattle.bits.specs.BitSets.{Gap}
 use Rattle.rows.specs.Rows.{places}

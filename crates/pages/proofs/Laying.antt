@@ -1,8 +1,7 @@
 -- Laws of laying the pages out: a line from the rows' pairs that are ahead, and how many bytes all take. Assumes nothing.
 use mathlib.Core.Path.{_≡_, refl, sym, ap, subst, _∙_}
-use mathlib.Core.List.{List, [], _∷_, _++_, append-nil}
+use mathlib.Core.List.{List, _++_, append-nil}
 use Prim.Native.Nat.{ℕ, zero, suc, _+_, _-_, _*_, _/_, _%_, _≤_, _<_}
-use native.Mathlib.Nat.{add-zero}
 use native.Mathlib.Decide.{decLt}
 use native.Mathlib.Omega.{arith}
 use lib.ListN.{length, take, drop, drop-of-length-le}
@@ -10,12 +9,12 @@ use lib.Seq.{take-at, drop-at, take-all, drop-drop, length-take-le}
 use Rattle.k2.specs.Bits.{bitAt}
 use Rattle.k2.specs.PairSets.{ifSet}
 use Rattle.k2.specs.PairSetLaws.{Within, ends, goes, within-append, within-length}
-use Rattle.rows.specs.Rows.{places, pairsIn}
+use Rattle.rows.specs.Rows.{pairsIn}
 use Rattle.report.specs.Written.{Wrote}
 use Rattle.report.specs.WrittenLaws.{wrote-as}
 use Rattle.pages.specs.Pages.{pairLine, headLine, pages}
-use Rattle.pages.specs.Lines.{pairWords, mostLines, linesOf, pairsBefore, lineOf, Small, ahead, Gathered, Laid}
-use Rattle.pages.specs.LineLaws.{line-head, line-pairs, length-head-line, length-pair-line, length-pages, lines-most}
+use Rattle.pages.specs.Lines.{pairWords, mostLines, linesOf, pairsBefore, lineOf, ahead, Gathered, Laid}
+use Rattle.pages.specs.LineLaws.{line-head, line-pairs, length-head-line, length-pair-line, length-pages}
 use Rattle.pages.specs.ReadLaws.{before-head, before-pairs, within-small}
 use Rattle.pages.proofs.Writing.{small-take}
 use Rattle.pages.proofs.Gathering.{places-all}

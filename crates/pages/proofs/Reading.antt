@@ -1,15 +1,13 @@
 -- Laws of the functions that read a line: figures, cells, ascending words, and what is written of them. Assumes nothing.
 use mathlib.Core.Path.{_≡_, refl, sym, ap, subst, _∙_}
-use mathlib.Core.List.{List, [], _∷_, _++_, append-assoc, append-nil}
-use Prim.Native.Nat.{ℕ, zero, suc, _+_, _-_, _*_, _%_, _≤_, _<_}
+use mathlib.Core.List.{List, [], _∷_, _++_}
+use Prim.Native.Nat.{ℕ, suc, _+_, _-_, _*_, _%_, _≤_, _<_}
 use native.Mathlib.Nat.{zero-add}
 use native.Mathlib.Numerals.{add-one}
 use native.Mathlib.Omega.{arith}
 use borrow.Author.Tests.{eq-eqb, ne-eqb}
-use lib.Dec.{eqb}
 use lib.ListN.{length, take, drop, getD, length-append, length-take}
 use lib.Seq.{take-suc, take-take, split-at, getD-drop, getD-take, drop-drop, length-take-le}
-use Rattle.book.specs.Basics.{pick}
 use Rattle.k2.specs.PairSetLaws.{Within, ends, goes, within-length}
 use Rattle.paths.specs.Questions.{over}
 use Rattle.report.specs.Report.{space}

@@ -12,16 +12,14 @@
 use mathlib.Core.Path.{_≡_, refl, sym, ap, ap₂, _∙_}
 use mathlib.Core.List.{List, [], _∷_, _++_, append-assoc, append-nil}
 use Prim.Native.Nat.{ℕ, zero, suc, _+_, _-_, _*_, _/_, _%_, _≤_, _<_, max, min}
-use native.Mathlib.Nat.{add-zero, add-suc, add-assoc}
+use native.Mathlib.Nat.{add-zero, add-suc}
 use native.Mathlib.Numerals.{add-one}
 use native.Mathlib.Decide.{decLt, ℕ-discrete}
 use native.Mathlib.Omega.{arith}
 use borrow.Author.Tests.{eq-eqb, ne-eqb}
-use lib.Dec.{eqb}
-use lib.ListN.{length, take, drop, getD, replicate, length-append, length-take, length-drop, length-replicate, drop-of-length-le}
-use lib.Seq.{take-at, drop-at, take-add, take-take, take-nil, drop-drop, length-take-le, getD-take, getD-drop}
-use Rattle.book.specs.Basics.{pick}
-use Rattle.report.specs.Report.{space, newline, figure-0, decimal, line, lines}
+use lib.ListN.{length, take, drop, length-append, length-take, length-drop, length-replicate, drop-of-length-le}
+use lib.Seq.{drop-at, take-add, take-take, take-nil, drop-drop, length-take-le, getD-take, getD-drop}
+use Rattle.report.specs.Report.{newline, figure-0, decimal, lines}
 use Rattle.report.specs.ReportLaws.{decimal-small, decimal-more, length-decimal}
 use Rattle.pages.specs.Pages.{joined, part, parts, blanks, padded, rightAligned, recordCell, pairCell, pairLine, headLine, page, pages}
 use Rattle.pages.specs.Lines.{pairWords, mostLines, pairsBefore, linesOf, lineWith, lineOf, Small}

@@ -9,8 +9,8 @@
 --   Asked, asked-enough
 --                   what is so where a relation's pairs are told
 -- Assumes nothing.
-use mathlib.Core.Path.{_≡_, refl, sym, ap, subst, _∙_}
-use mathlib.Core.Bool.{Bool, true, false}
+use mathlib.Core.Path.{_≡_, refl, sym, ap, _∙_}
+use mathlib.Core.Bool.{Bool}
 use mathlib.Core.List.{List, [], _∷_, _++_}
 use Prim.Native.Nat.{ℕ, _*_, _≤_, _<_}
 use native.Mathlib.Decide.{decLt}
@@ -18,7 +18,7 @@ use native.Mathlib.Omega.{arith}
 use borrow.Author.Tests.{lt-ltb, le-ltb}
 use lib.Dec.{ltb}
 use lib.ListN.{length}
-use Rattle.book.specs.Causes.{Cause, short-work, short-list, questionOrder, number, firstNumber, InOrder, none-left, same-cause, passed-over}
+use Rattle.book.specs.Causes.{short-work, short-list, questionOrder, number, firstNumber, InOrder, none-left, same-cause, passed-over}
 use Rattle.book.specs.Book.{Book}
 use Rattle.k2.specs.Trees.{treeUnit}
 use Rattle.paths.specs.Expressions.{Expr}

@@ -14,22 +14,22 @@
 use mathlib.Core.Path.{_≡_, refl, sym, ap, ap₂, subst, _∙_}
 use mathlib.Core.Bool.{Bool, true, false}
 use mathlib.Core.List.{List, [], _∷_, _++_, append-assoc, append-nil}
-use Prim.Native.Nat.{ℕ, zero, suc, _+_, _-_, _*_, _/_, _%_, _≤_, _<_, max, min}
-use native.Mathlib.Nat.{add-zero, add-suc, add-assoc}
+use Prim.Native.Nat.{ℕ, zero, suc, _+_, _-_, _*_, _/_, _%_, _≤_, _<_}
+use native.Mathlib.Nat.{add-zero}
 use native.Mathlib.Numerals.{add-one}
 use native.Mathlib.Decide.{decLt, ℕ-discrete}
 use native.Mathlib.Omega.{arith}
 use borrow.Author.Tests.{eq-eqb, ne-eqb, lt-ltb, le-ltb}
 use lib.Dec.{eqb}
-use lib.ListN.{length, take, drop, getD, replicate, length-append, length-take, length-drop, length-replicate, getD-replicate, List·getD-append, take-append-drop}
-use lib.Seq.{take-at, drop-at, take-add, take-all, drop-drop, length-take-le, getD-at, take-append-le, drop-append-le, drop-append-add}
-use Rattle.book.specs.Basics.{pick, In, here, there, Rises, ended, rises}
+use lib.ListN.{length, take, drop, getD, length-append, length-take, length-drop, length-replicate, getD-replicate, List·getD-append, take-append-drop}
+use lib.Seq.{take-at, drop-at, take-add, take-all, length-take-le, getD-at}
+use Rattle.book.specs.Basics.{pick, In, here, there, Rises, rises}
 use Rattle.k2.specs.PairSets.{PairsBelow}
 use Rattle.k2.specs.PairSetLaws.{Within, ends, goes, within-rises, within-length}
-use Rattle.report.specs.Report.{space, newline, figure-0, figures, decimal, line, lines}
-use Rattle.pages.specs.Pages.{joined, parts, blanks, padded, rightAligned, recordCell, pairCell, pairLine, headLine, pages, IsPages}
+use Rattle.report.specs.Report.{space, newline, figure-0, figures, decimal, lines}
+use Rattle.pages.specs.Pages.{joined, blanks, padded, rightAligned, recordCell, pairCell, pairLine, pages, IsPages}
 use Rattle.pages.specs.Lines.{pairWords, mostLines, pairsBefore, linesOf, lineWith, lineOf, Small, valueFrom, value, cellWord, cellWords, byteLine, wordsAt, wordsBefore, after, Stands}
-use Rattle.pages.specs.LineLaws.{right-small, right-more, length-right, record-figures, length-record, length-cell, length-cells, joined-same, joined-add, joined-first, joined-next, joined-parts, length-joined, drop-joined, pages-lines, line-head, line-pairs, lines-most, small-part, length-line, length-pages}
+use Rattle.pages.specs.LineLaws.{right-small, right-more, length-right, record-figures, length-record, length-cell, length-cells, joined-same, joined-add, joined-first, joined-next, joined-parts, drop-joined, pages-lines, line-head, line-pairs, lines-most, small-part, length-line, length-pages}
 
 -- ---- figures
 pub value-append : (v : ℕ) (s t : List ℕ) → valueFrom v (s ++ t) ≡ valueFrom (valueFrom v s) t

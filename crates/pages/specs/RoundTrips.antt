@@ -5,13 +5,13 @@
 --   read-print      what was read, printed, gives the bytes
 -- Assumes nothing.
 use mathlib.Core.Path.{_≡_, refl, sym, ap, subst, _∙_}
-use mathlib.Core.List.{List, [], _∷_, _++_}
+use mathlib.Core.List.{List}
 use Prim.Native.Nat.{ℕ, _*_, _≤_, _<_}
 use native.Mathlib.Decide.{decLt}
 use native.Mathlib.Omega.{arith}
 use lib.ListN.{length, take, drop}
 use lib.Seq.{take-at}
-use Rattle.book.specs.Basics.{In, Rises}
+use Rattle.book.specs.Basics.{Rises}
 use Rattle.book.specs.Causes.{maxRecords, number, firstNumber}
 use Rattle.book.specs.Book.{Book}
 use Rattle.k2.specs.PairSets.{PairsBelow}
@@ -28,7 +28,7 @@ use Rattle.register.specs.declared.Register.{Register}
 use Rattle.pairs.specs.Asking.{relationAnswer, relationCauses, rowWords}
 use Rattle.pairs.specs.AskingLaws.{relation-short}
 use Rattle.pages.specs.Pages.{pages, IsPages}
-use Rattle.pages.specs.PageCalls.{Filled, refused, filled, spaceAfter, printOutcome, TellsBytes, told-number, told-bytes, BookPrints, Prints, Content, listing, nothing, Holds, are-pages, no-pages, wordsIn, isNothing, readCauses, readOutcome, TellsPairs, told-refusal, told-pairs, ReadsPages}
+use Rattle.pages.specs.PageCalls.{Filled, refused, filled, spaceAfter, printOutcome, TellsBytes, told-number, told-bytes, Prints, Content, listing, nothing, Holds, are-pages, no-pages, readCauses, readOutcome, TellsPairs, told-refusal, told-pairs, ReadsPages}
 use Rattle.pages.specs.PageCallLaws.{print-refused, print-short, print-filled, read-broken, read-short, read-filled}
 use Rattle.pages.specs.Lines.{linesOf, wordsBefore}
 use Rattle.pages.specs.ReadLaws.{pages-stand}

@@ -1,6 +1,6 @@
 -- The proof of the cycle of calls {put_right}. The measure is the number. The figures are those of the tenth part in a width of one less, and then the last one
 -- (`right-more`); a single one has blanks before it (`right-small`). Assumes nothing.
-use mathlib.Core.Path.{_≡_, ap, sym, _∙_}
+use mathlib.Core.Path.{_≡_, ap, sym}
 use Prim.Native.Nat.{ℕ, _+_, _-_, _/_, _<_, _≤_}
 use native.Mathlib.Omega.{arith}
 use denote.Ref.{now}

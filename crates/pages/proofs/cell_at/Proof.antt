@@ -1,13 +1,12 @@
 -- `cell_at`: the two numbers. Assumes nothing.
-use mathlib.Core.Path.{_≡_, refl, ap, ap₂, sym, _∙_}
+use mathlib.Core.Path.{_≡_, ap, ap₂, sym, _∙_}
 use mathlib.Core.List.{List}
 use Prim.Native.Nat.{ℕ, _+_, _*_}
 use native.Mathlib.Omega.{arith}
 use denote.Ref.{now}
-use lib.ListN.{length, take, drop}
+use lib.ListN.{take, drop}
 use lib.Seq.{drop-drop}
 use Rattle.pages.specs.Lines.{value, cellWord}
-use borrow.Author.Needs.{needs}
 use Rattle.pages.proofs.cell_at.Statement.{statement}
 use Rattle.pages.proofs.cell_at.Tie as tie
 

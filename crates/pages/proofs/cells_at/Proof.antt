@@ -1,15 +1,14 @@
 -- `cells_at`: the loop's invariant is that the words of the line are the k found, and then those of the cells from cell k on; the measure is how many cells are left.
 -- A turn is one cell more (`cells-next`), a blank cell the end (`cells-end`). Assumes nothing.
-use mathlib.Core.Path.{_≡_, refl, ap, ap₂, sym, subst, _∙_}
+use mathlib.Core.Path.{_≡_, refl, ap, sym, _∙_}
 use mathlib.Core.List.{List, [], _∷_, _++_, append-nil, append-assoc}
 use Prim.Native.Nat.{ℕ, _+_, _-_, _*_, _≤_, _<_}
-use native.Mathlib.Nat.{add-zero}
 use native.Mathlib.Numerals.{add-one}
 use native.Mathlib.Omega.{arith}
 use denote.Ref.{now}
-use lib.ListN.{length, take, drop, getD, set, length-set}
+use lib.ListN.{length, take, drop, set, length-set}
 use lib.Seq.{take-suc-set}
-use Rattle.pages.specs.Lines.{cellWord, cellWords}
+use Rattle.pages.specs.Lines.{cellWords}
 use Rattle.pages.proofs.Reading.{cells-end, cells-next}
 use Rattle.pages.proofs.cells_at.Statement.{statement}
 use Rattle.pages.proofs.cells_at.Tie as tie

@@ -1,13 +1,12 @@
 -- `check_line`: a head, or a pair line; it stands or falls by what was found of it (`proofs/Checking`). Assumes nothing.
-use mathlib.Core.Path.{_≡_, refl, ap, sym, subst, _∙_}
+use mathlib.Core.Path.{_≡_, subst}
 use mathlib.Core.Bool.{Bool, true, false}
-use mathlib.Core.List.{List}
-use Prim.Native.Nat.{ℕ, _+_, _*_, _/_, _%_, _≤_, _<_}
+use Prim.Native.Nat.{ℕ, _*_, _≤_}
 use native.Mathlib.Omega.{arith}
 use denote.Ref.{now}
 use lib.ListN.{length, take, drop}
 use lib.Seq.{length-take-le}
-use Rattle.pages.specs.Lines.{pairWords, cellWords, Line}
+use Rattle.pages.specs.Lines.{cellWords, Line}
 use Rattle.pages.proofs.Checking.{rising-small, head-stands, head-falls, short-falls, rising-falls, line-falls, line-stands}
 use borrow.Author.Needs.{needs}
 use Rattle.pages.proofs.check_line.Statement.{statement}

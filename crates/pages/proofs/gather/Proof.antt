@@ -1,6 +1,6 @@
 -- `gather`: the loop's invariant is that what is ahead of the start is the words found, and then what is ahead of the place reached; the measure is how many more
 -- fit a line. A turn finds one more (`gathered-more`). Assumes nothing.
-use mathlib.Core.Path.{_≡_, refl, ap, sym, _∙_}
+use mathlib.Core.Path.{_≡_, refl, ap, _∙_}
 use mathlib.Core.List.{List, [], _++_}
 use Prim.Native.Nat.{ℕ, _+_, _-_, _≤_, _<_}
 use native.Mathlib.Omega.{arith}

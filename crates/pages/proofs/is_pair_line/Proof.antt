@@ -1,15 +1,13 @@
 -- `is_pair_line`: the line is laid beside the pages (`wrote-line`), and compared. Assumes nothing.
-use mathlib.Core.Path.{_≡_, refl, ap, sym, subst, _∙_}
-use mathlib.Core.List.{List, [], _∷_, _++_}
-use Prim.Native.Nat.{ℕ, _+_, _-_, _*_, _/_, _%_, _≤_, _<_}
+use mathlib.Core.Path.{_≡_, refl, sym, _∙_}
+use Prim.Native.Nat.{_-_}
 use native.Mathlib.Omega.{arith}
 use denote.Ref.{now}
-use lib.ListN.{length, take, drop, getD}
+use lib.ListN.{length, take}
 use lib.Seq.{length-take-le}
-use Rattle.pages.specs.Pages.{pairLine, headLine}
-use Rattle.pages.specs.LineLaws.{length-head-line, length-pair-line}
+use Rattle.pages.specs.Pages.{pairLine}
+use Rattle.pages.specs.LineLaws.{length-pair-line}
 use Rattle.pages.proofs.Writing.{small-take, wrote-whole}
-use borrow.Author.Needs.{needs}
 use Rattle.pages.proofs.is_pair_line.Statement.{statement}
 use Rattle.pages.proofs.is_pair_line.Tie as tie
 

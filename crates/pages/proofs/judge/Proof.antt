@@ -2,11 +2,10 @@
 -- how many lines are left. Pages have no line that falls (`bad-line`), and lines that all stand, as many as their pairs take, are pages (`good-lines`).
 -- Assumes nothing.
 use mathlib.Core.Path.{_≡_, refl, ap, sym, subst, _∙_}
-use mathlib.Core.List.{List, [], _∷_, _++_}
-use Prim.Native.Nat.{ℕ, _+_, _-_, _*_, _/_, _%_, _≤_, _<_}
+use Prim.Native.Nat.{ℕ, _-_, _*_, _/_, _≤_, _<_}
 use native.Mathlib.Omega.{arith}
 use denote.Ref.{now}
-use lib.ListN.{length, take, drop, getD}
+use lib.ListN.{length}
 use Rattle.pages.specs.Pages.{joined}
 use Rattle.pages.specs.Lines.{pairWords, linesOf, wordsAt, wordsBefore, after, Stands, Judged}
 use Rattle.pages.specs.declared.Judgement.the-variants.{Listing}

@@ -1,10 +1,9 @@
 -- `lay_out`: as many lines as the rows' pairs take, if there is room. Assumes nothing.
 use mathlib.Core.Path.{_≡_, refl, ap, sym, subst, _∙_}
-use mathlib.Core.List.{List, [], _∷_, _++_}
-use Prim.Native.Nat.{ℕ, _+_, _-_, _*_, _/_, _%_, _≤_, _<_}
+use Prim.Native.Nat.{ℕ, _-_, _*_, _≤_}
 use native.Mathlib.Omega.{arith}
 use denote.Ref.{now}
-use lib.ListN.{length, take, drop, getD}
+use lib.ListN.{length}
 use Rattle.rows.specs.Rows.{pairsIn}
 use Rattle.pages.specs.Pages.{pages}
 use Rattle.pages.specs.Lines.{linesOf, LaidOut, no-room, laid-out}

@@ -1,13 +1,11 @@
 -- `list_line`: a head has no pairs, a pair line those of its cells. Assumes nothing.
-use mathlib.Core.Path.{_≡_, refl, ap, sym, subst, _∙_}
-use Prim.Native.Nat.{ℕ, _+_, _*_, _≤_, _<_}
+use mathlib.Core.Path.{_≡_, refl, ap, sym, _∙_}
 use native.Mathlib.Omega.{arith}
 use denote.Ref.{now}
-use lib.ListN.{length, take, drop}
+use lib.ListN.{length, take}
 use lib.Seq.{length-take-le}
-use Rattle.report.specs.Written.{Wrote}
 use Rattle.report.specs.WrittenLaws.{wrote-none, wrote-as}
-use Rattle.pages.specs.Lines.{wordsAt, cellWords}
+use Rattle.pages.specs.Lines.{wordsAt}
 use Rattle.pages.specs.ReadLaws.{words-head, words-pairs}
 use borrow.Author.Needs.{needs}
 use Rattle.pages.proofs.list_line.Statement.{statement}

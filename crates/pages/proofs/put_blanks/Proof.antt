@@ -1,5 +1,5 @@
 -- `put_blanks`: the invariant is that i blanks are written, the measure is what is left. A turn is one blank more (`wrote-blank`). Assumes nothing.
-use mathlib.Core.Path.{_≡_, refl, ap, subst}
+use mathlib.Core.Path.{_≡_, refl, subst}
 use Prim.Native.Nat.{ℕ, _+_, _-_, _≤_}
 use native.Mathlib.Nat.{add-zero}
 use native.Mathlib.Omega.{arith}

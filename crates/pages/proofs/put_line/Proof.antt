@@ -1,10 +1,9 @@
 -- `put_line`: a head, or the next six pairs (`laid-head`, `laid-pairs`). Assumes nothing.
-use mathlib.Core.Path.{_≡_, refl, ap, sym, subst, _∙_}
-use mathlib.Core.List.{List, [], _∷_, _++_}
-use Prim.Native.Nat.{ℕ, _+_, _-_, _*_, _/_, _%_, _≤_, _<_}
+use mathlib.Core.Path.{_≡_, refl, sym}
+use Prim.Native.Nat.{_-_}
 use native.Mathlib.Omega.{arith}
 use denote.Ref.{now}
-use lib.ListN.{length, take, drop, getD}
+use lib.ListN.{length}
 use Rattle.k2.specs.Bits.{bitAt}
 use Rattle.pages.proofs.Laying.{laid-head, laid-pairs}
 use borrow.Author.Needs.{needs}

@@ -1,16 +1,14 @@
 -- `put_pages`: the loop's invariant is that the lines before line i are laid, and the pairs of the others are ahead of `place`; the measure is how many lines are
 -- left. In the end the lines are the pages (`pages-lines`). Assumes nothing.
 use mathlib.Core.Path.{_≡_, refl, ap, sym, subst, _∙_}
-use mathlib.Core.List.{List, [], _∷_, _++_}
-use Prim.Native.Nat.{ℕ, _+_, _-_, _*_, _/_, _%_, _≤_, _<_}
+use Prim.Native.Nat.{ℕ, _+_, _-_, _*_, _≤_}
 use native.Mathlib.Omega.{arith}
 use denote.Ref.{now}
-use lib.ListN.{length, take, drop, getD}
+use lib.ListN.{length, drop}
 use Rattle.k2.specs.Bits.{bitAt}
 use Rattle.rows.specs.Rows.{pairsIn}
 use Rattle.report.specs.Written.{Wrote}
 use Rattle.report.specs.WrittenLaws.{wrote-none, wrote-as, wrote-then}
-use Rattle.paths.specs.Questions.{over}
 use Rattle.pages.specs.Pages.{joined, pages}
 use Rattle.pages.specs.Lines.{pairWords, pairsBefore, linesOf, lineOf, ahead}
 use Rattle.pages.specs.LineLaws.{joined-next, pages-lines, lines-most}

@@ -1,9 +1,8 @@
 -- `put_pair_line`: the loop's invariant is that the cells of the first i words are written, 12 bytes each; the measure is the number of words left. Then blanks and
 -- the line feed (`wrote-pairs`). Assumes nothing.
-use mathlib.Core.Path.{_≡_, refl, ap, sym, subst, _∙_}
-use Prim.Native.Nat.{ℕ, _+_, _-_, _*_, _≤_, _<_}
+use mathlib.Core.Path.{_≡_, refl, subst, _∙_}
+use Prim.Native.Nat.{ℕ, _+_, _-_, _*_, _≤_}
 use native.Mathlib.Omega.{arith}
-use borrow.Author.Needs.{needs}
 use denote.Ref.{now}
 use lib.ListN.{length, take, getD, length-replicate}
 use Rattle.report.specs.Report.{space, lines}

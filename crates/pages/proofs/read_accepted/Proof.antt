@@ -1,10 +1,6 @@
 -- `read_accepted`: the pages are judged, and then their pairs listed. Assumes nothing.
-use mathlib.Core.Path.{_≡_, refl, ap, sym, subst, _∙_}
-use Prim.Native.Nat.{ℕ, _+_, _≤_, _<_}
 use native.Mathlib.Omega.{arith}
 use denote.Ref.{now}
-use lib.ListN.{length, take, drop}
-use Rattle.pages.specs.Lines.{wordsBefore}
 use Rattle.pages.proofs.Answering.{reads-broken, reads-short, reads-pairs}
 use Rattle.pages.proofs.Checking.{judged-length}
 use borrow.Author.Needs.{needs}

@@ -1,9 +1,6 @@
 -- `read_pages`: the text's number, or the pages read. Assumes nothing.
-use mathlib.Core.Path.{_≡_, refl, ap, sym, subst, _∙_}
-use Prim.Native.Nat.{ℕ, _+_, _≤_, _<_}
-use native.Mathlib.Omega.{arith}
+use mathlib.Core.Path.{sym, _∙_}
 use denote.Ref.{now}
-use lib.ListN.{length, take, drop}
 use Rattle.pages.proofs.Answering.{reads-refused, reads-accepted}
 use borrow.Author.Needs.{needs}
 use Rattle.pages.proofs.read_pages.Statement.{statement}

@@ -1,10 +1,10 @@
 -- `record_at`: the loop's invariant is that v is the value of the first i bytes; the measure is how many are left. A turn is one figure more (`value-more`).
 -- Assumes nothing.
-use mathlib.Core.Path.{_≡_, refl, ap, sym, subst, _∙_}
-use Prim.Native.Nat.{ℕ, _+_, _-_, _*_, _%_, _≤_, _<_}
+use mathlib.Core.Path.{_≡_, refl, ap, _∙_}
+use Prim.Native.Nat.{ℕ, _-_, _≤_}
 use native.Mathlib.Omega.{arith}
 use denote.Ref.{now}
-use lib.ListN.{length, take, drop, getD, length-drop}
+use lib.ListN.{take, drop, length-drop}
 use lib.Seq.{getD-drop}
 use Rattle.pages.specs.Lines.{valueFrom, value}
 use Rattle.pages.proofs.Reading.{value-more, record-small}

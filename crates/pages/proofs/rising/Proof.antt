@@ -1,11 +1,10 @@
 -- `rising`: the loop's invariant is that the first i words ascend, and `next` is the number after them; the measure is how many are left. A turn is one word more
 -- (`rising-more`); a word that does not ascend is one that no ascending list has (`rising-not`). Assumes nothing.
 use mathlib.Core.Path.{_≡_, refl, ap, sym, subst, _∙_}
-use mathlib.Core.List.{List}
-use Prim.Native.Nat.{ℕ, _+_, _-_, _≤_, _<_}
+use Prim.Native.Nat.{ℕ, _-_, _≤_}
 use native.Mathlib.Omega.{arith}
 use denote.Ref.{now}
-use lib.ListN.{length, take, getD}
+use lib.ListN.{take}
 use Rattle.k2.specs.PairSetLaws.{Within, ends}
 use Rattle.pages.specs.Lines.{pairWords, after, Rising, up, down}
 use Rattle.pages.proofs.Reading.{rising-more, rising-not}

@@ -1,12 +1,11 @@
 -- `same_line`: the loop's invariant is that the first i bytes are the same; the measure is how many are left. Assumes nothing.
 use mathlib.Core.Path.{_≡_, refl, ap, ap₂, sym, subst, _∙_}
-use mathlib.Core.Bool.{true, false}
 use mathlib.Core.List.{List, [], _∷_, _++_}
-use Prim.Native.Nat.{ℕ, _+_, _-_, _≤_, _<_}
+use Prim.Native.Nat.{ℕ, _+_, _-_, _≤_}
 use native.Mathlib.Numerals.{add-one}
 use native.Mathlib.Omega.{arith}
 use denote.Ref.{now}
-use lib.ListN.{length, take, drop, getD, length-drop}
+use lib.ListN.{take, drop, getD, length-drop}
 use lib.Seq.{take-suc, take-all, getD-drop, getD-take}
 use Rattle.pages.proofs.same_line.Statement.{statement}
 use Rattle.pages.proofs.same_line.Tie as tie
