@@ -5,3 +5,4 @@ pub mod LineLaws
 pub mod ReadLaws
 pub mod PageCallLaws
 pub mod RoundTrips
+pub mod PageCases
