@@ -175,7 +175,14 @@ extern "C" {
         pages: *mut u8,
         pages_len: usize,
     ) -> u64;
-    fn dating_read_pages(text: *const u8, text_len: usize, pages: *const u8, pages_len: usize, list: *mut u32, list_len: usize) -> u64;
+    fn dating_read_pages(
+        text: *const u8,
+        text_len: usize,
+        pages: *const u8,
+        pages_len: usize,
+        list: *mut u32,
+        list_len: usize,
+    ) -> u64;
 }
 
 // SAFETY, of each: the function is the declared one, and has no `requires`; it is proved to end, and to read and write nothing but the

@@ -24,6 +24,7 @@
 //! A call that cannot be done is refused with the first of its causes, a [`Refusal`], and then nothing is changed.
 //!
 //! * [`Register`]: edits, undo, and both questions
+//! * [`Register::pages`] and [`read_pages`]: the answer of a pair question as printed pages, and the pairs read back
 //! * [`Trees`] and [`Tree`]: sets of pairs as k2-trees, and their algebra
 //! * [`calls`]: the engine's functions as they are exported, on plain slices
 //!
@@ -37,8 +38,8 @@ mod register;
 mod space;
 mod tree;
 
-pub use pages::{page_bytes, read_pages};
 pub use items::{Link, Links, Pairs, Step, Steps};
+pub use pages::{page_bytes, read_pages};
 pub use refusal::Refusal;
 pub use register::Register;
 pub use space::{chain_work, longest_chain, most_pairs, tree_words, tree_work};

@@ -85,7 +85,11 @@ impl Engine {
 
     fn intact(&mut self) {
         self.calls += 1;
-        let narrow = self.state.intact() && self.list.intact() && self.pairs.intact() && self.text.intact() && self.pages.intact();
+        let narrow = self.state.intact()
+            && self.list.intact()
+            && self.pairs.intact()
+            && self.text.intact()
+            && self.pages.intact();
         let wide = [&self.work, &self.first, &self.second, &self.tree].into_iter().all(Lender::intact);
         self.fault(narrow && wide, "writes before what it was lent");
     }

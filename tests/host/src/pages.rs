@@ -34,7 +34,22 @@ fn damaged(run: &mut Run, random: &mut Random, text: &[u8], bytes: &[u8]) {
     for _ in 0..12 {
         let mut other = bytes.to_vec();
         let at = random.below(other.len());
-        other[at] = random.pick(&[b' ', b'0', b'1', b'9', b'+', b'-', b'\t', b'\r', b'\n', b'a', 0, 255, other[at] ^ 1, other[at] ^ 16]);
+        other[at] = random.pick(&[
+            b' ',
+            b'0',
+            b'1',
+            b'9',
+            b'+',
+            b'-',
+            b'\t',
+            b'\r',
+            b'\n',
+            b'a',
+            0,
+            255,
+            other[at] ^ 1,
+            other[at] ^ 16,
+        ]);
         read(run, "a byte changed", text, &other);
     }
     for cut in [0, 1, 72, 73, 74, bytes.len() - 1, bytes.len().saturating_sub(73)] {
@@ -74,12 +89,17 @@ pub fn printed(run: &mut Run, seed: u64, size: Size) {
     }
     let text = if random.chance(20) { expression(random, &[0, 1, 2]) } else { in_grammar(random, &[0, 1, 2], 40, 3) };
     let read_text = expressions::read(&text);
-    let related = read_text.as_ref().map_err(|&refusal| refusal).map(|e| Relation::meant(n, book.sheet(), e).pair_words());
+    let related =
+        read_text.as_ref().map_err(|&refusal| refusal).map(|e| Relation::meant(n, book.sheet(), e).pair_words());
     let expected = related.as_ref().map(|words| pages::print(&text, words)).map_err(|&refusal| refusal);
     let length = expected.as_ref().map_or(0, Vec::len);
     for space in spaces(tree::work(n), length) {
         let answer = run.engine.pages(&words, &text, space);
-        run.same_of(|| format!("pages of `{}` in {space:?}", String::from_utf8_lossy(&text)), &answer, &within(&expected, tree::work(n), space));
+        run.same_of(
+            || format!("pages of `{}` in {space:?}", String::from_utf8_lossy(&text)),
+            &answer,
+            &within(&expected, tree::work(n), space),
+        );
         run.counts.pages += 1;
     }
     if let Ok(bytes) = &expected {
@@ -107,7 +127,8 @@ fn some_pages(random: &mut Random, text: &[u8], count: usize) -> Vec<u8> {
 pub fn every_place(run: &mut Run, seed: u64, _: Size) {
     let random = &mut Random::new(seed);
     let count = [0, 1, 5, 6, 7, 12, 353, 354, 355, 360, 708, 709][seed as usize % 12];
-    let text: &[u8] = if seed % 3 == 0 { b"a/(b|^c)*" } else { b"(a|b|c|d|e|f|g|h|i|j|k|l|m|n|o|p|q|r|s|t|u|v|w|x|y|z)/a/b/c/d/e/f" };
+    let text: &[u8] =
+        if seed % 3 == 0 { b"a/(b|^c)*" } else { b"(a|b|c|d|e|f|g|h|i|j|k|l|m|n|o|p|q|r|s|t|u|v|w|x|y|z)/a/b/c/d/e/f" };
     let bytes = some_pages(random, text, count);
     read(run, "pages", text, &bytes);
     let list = count + 1;
@@ -138,7 +159,11 @@ fn speed(run: &mut Run, words: &[u32], text: &[u8], all: &[u32], bytes: &[u8]) {
     let (found, reading) = timed(|| dating::calls::read_pages(text, &space, &mut list));
     let (plain, plain_printing) = timed(|| pages::print(text, all));
     let (plain_found, plain_reading) = timed(|| pages::read(text, &plain, all.len()));
-    run.same("a million pairs timed", &(asked, printed, found), &(all.len() as u64, bytes.len() as u64, all.len() as u64));
+    run.same(
+        "a million pairs timed",
+        &(asked, printed, found),
+        &(all.len() as u64, bytes.len() as u64, all.len() as u64),
+    );
     run.same("and by the plain program", &(plain == space, plain_found.as_deref() == Ok(&list[..])), &(true, true));
     println!(
         "a million pairs, ms: the question {question:.0}, printed {printing:.0} with the question in it, read {reading:.0}; \

@@ -58,7 +58,9 @@ fn pairs(line: &[u8]) -> Option<Vec<u32>> {
 fn is_head(text: &[u8], page: usize, line: &[u8]) -> bool {
     let (front, back) = line.split_at(SHOWN);
     let shown = text.len().min(SHOWN);
-    front[..shown] == text[..shown] && front[shown..].iter().all(|&byte| byte == b' ') && number(back) == u32::try_from(page).ok()
+    front[..shown] == text[..shown]
+        && front[shown..].iter().all(|&byte| byte == b' ')
+        && number(back) == u32::try_from(page).ok()
 }
 
 /// What bytes hold as pages of the text, if they are such.
