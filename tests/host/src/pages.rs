@@ -132,7 +132,7 @@ pub fn every_place(run: &mut Run, seed: u64, _: Size) {
     let bytes = some_pages(random, text, count);
     read(run, "pages", text, &bytes);
     let list = count + 1;
-    let others = [b' ', b'0', b'1', b'2', b'9', b'+', b'\t', b'\r', b'\n', 0];
+    let others = [b' ', b'0', b'1', b'9', b'+', b'\n'];
     for at in 0..bytes.len() {
         let mut other = bytes.clone();
         let values: Vec<u8> = if bytes.len() < 1000 { (0..=255).collect() } else { others.to_vec() };
