@@ -12,8 +12,8 @@
  *    1  n outside 1 to 1,024                       10  expression over 256 bytes, 63 letters or 8 deep
  *    2  record not below n                         11  lent tree not well formed
  *    3  label above 25                             12  work (or state) shorter than stated
- *    4  an end of the link, or the record to       13  chain, loop, tree or numbers longer than the list
- *       withdraw, is locked                        14  (programs only: frame broken)
+ *    4  an end of the link, or the record to       13  chain, loop, tree, numbers or pages longer than the space for them
+ *       withdraw, is locked                        14  not the pages of the expression (in programs: frame broken)
  *    5  link present, or record locked or          15  kind unknown
  *       withdrawn, already                         16  the words are not those of a register
  *    6  link absent, record not locked, or         17  a link touches the record to withdraw
@@ -115,6 +115,14 @@ uint64_t dating_generations(const uint32_t *state, size_t state_len, const uint8
  * play no part. Anchors ascend, each once. Work of 32 * D + 64 * n words. */
 uint64_t dating_sole_support(const uint32_t *state, size_t state_len, uint16_t core, const uint8_t *text, size_t text_len, const uint16_t *anchors,
                              size_t anchors_len, uint64_t *work, size_t work_len, uint32_t *list, size_t list_len);
+
+/* The pairs that the expression joins, as printed pages of lines of 72 bytes and a line feed: the bytes written. A space that cannot hold every page is
+ * refused with 13; k pairs take 73 * (k / 6 rounded up + heads) bytes, where heads is k / 354 rounded up, and at least 1. Work as for pairs. */
+uint64_t dating_pages(const uint32_t *state, size_t state_len, const uint8_t *text, size_t text_len, uint64_t *work, size_t work_len, uint8_t *pages,
+                      size_t pages_len);
+/* The pairs that pages show, ascending: their number. Bytes that are not the pages of the expression and some ascending list of different pairs are
+ * refused with 14, a list that is too short for them with 13. */
+uint64_t dating_read_pages(const uint8_t *text, size_t text_len, const uint8_t *pages, size_t pages_len, uint32_t *list, size_t list_len);
 
 #ifdef __cplusplus
 }

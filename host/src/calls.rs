@@ -224,6 +224,24 @@ extern "C" {
         list: *mut u32,
         list_len: usize,
     ) -> u64;
+    fn dating_pages(
+        state: *const u32,
+        state_len: usize,
+        text: *const u8,
+        text_len: usize,
+        work: *mut u64,
+        work_len: usize,
+        pages: *mut u8,
+        pages_len: usize,
+    ) -> u64;
+    fn dating_read_pages(
+        text: *const u8,
+        text_len: usize,
+        pages: *const u8,
+        pages_len: usize,
+        list: *mut u32,
+        list_len: usize,
+    ) -> u64;
 }
 
 // SAFETY, of each: the function is the declared one, and has no `requires`; it is proved to end, and to read and write nothing but the
@@ -457,4 +475,26 @@ pub fn sole_support(state: &[u32], core: u16, text: &[u8], anchors: &[u16], work
             list.len(),
         )
     }
+}
+
+/// The pages of a pair question's answer: how many bytes they are. A space that cannot hold every page is refused with 13.
+pub fn pages(state: &[u32], text: &[u8], work: &mut [u64], pages: &mut [u8]) -> u64 {
+    unsafe {
+        dating_pages(
+            state.as_ptr(),
+            state.len(),
+            text.as_ptr(),
+            text.len(),
+            work.as_mut_ptr(),
+            work.len(),
+            pages.as_mut_ptr(),
+            pages.len(),
+        )
+    }
+}
+
+/// The pairs that pages of the expression show: how many they are. Bytes that are not its pages and those of some ascending list of pairs are
+/// refused with 14, and a list that cannot take every pair with 13.
+pub fn read_pages(text: &[u8], pages: &[u8], list: &mut [u32]) -> u64 {
+    unsafe { dating_read_pages(text.as_ptr(), text.len(), pages.as_ptr(), pages.len(), list.as_mut_ptr(), list.len()) }
 }

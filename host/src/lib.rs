@@ -24,6 +24,7 @@
 //! A call that cannot be done is refused with the first of its causes, a [`Refusal`], and then nothing is changed.
 //!
 //! * [`Register`]: edits, undo, both questions, and sole support
+//! * [`Register::pages`] and [`read_pages`]: the answer of a pair question as printed pages, and the pairs read back
 //! * [`Edit`]: an edit by name, for a preview of what it would do to an answer
 //! * [`Generations`]: the longest run of links to each record, or the first loop
 //! * [`Trees`] and [`Tree`]: sets of pairs as k2-trees, and their algebra
@@ -36,6 +37,7 @@ mod closing;
 mod generations;
 mod items;
 mod previews;
+mod pages;
 mod refusal;
 mod register;
 mod space;
@@ -44,6 +46,7 @@ mod tree;
 
 pub use generations::{Generations, Numbers};
 pub use items::{Link, Links, Pairs, Records, Step, Steps};
+pub use pages::{page_bytes, read_pages};
 pub use previews::Edit;
 pub use refusal::Refusal;
 pub use register::Register;

@@ -8,3 +8,5 @@ pub mod Generations
 pub mod GenerationsLaws
 pub mod Support
 pub mod SupportLaws
+pub mod PageHost
+pub mod PageHostLaws

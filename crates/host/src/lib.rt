@@ -4,6 +4,7 @@ mod closing;
 mod edits;
 mod numbering;
 mod previews;
+mod printing;
 mod questions;
 mod sole_support;
 mod told;

@@ -7,7 +7,7 @@ ghost use Rattle.report.specs.Report.{decimal, counted, pairLine, stepLi
 ghost use Rattle.report.specs.Written.{Wrote};
 ghost use mathlib.Core.Path.{_≡_};
 
-fn put_byte(b: u8, out: &mut [u8], at: usize) -> usize
+pub fn put_byte(b: u8, out: &mut [u8], at: usize) -> usize
     requires { ⌜ at < length (now out) ⌝ }
     ensures { λ r. ⌜ Wrote at (b ∷ []) (now (out .entry)) (now (out .exit)) r ⌝ }
 {

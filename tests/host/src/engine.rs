@@ -32,6 +32,8 @@ pub type Answer<T> = Result<Option<Listed<T>>, u32>;
 
 /// The longest list lent.
 pub const LONGEST: usize = 1024 * 1024 + 64;
+/// The bytes of every pair on pages.
+const PAGES: usize = 12_973_998 + 64;
 const TREE: usize = 21_846 + 64;
 const WORK: usize = 32 * 21_846 + 64 * 1024 + 64;
 
@@ -46,6 +48,7 @@ pub struct Engine {
     second: Lender<u64>,
     tree: Lender<u64>,
     numbers: Lender<u16>,
+    pages: Lender<u8>,
     /// What every list holds before a call is made of this, another number each time.
     filling: u64,
     pub calls: usize,
@@ -73,6 +76,7 @@ impl Engine {
             second: lender(heap, TREE),
             tree: lender(heap, TREE),
             numbers: lender(heap, 2048),
+            pages: lender(heap, PAGES),
             filling: 0,
             calls: 0,
             faults: Vec::new(),
@@ -88,7 +92,7 @@ impl Engine {
     fn intact(&mut self) {
         self.calls += 1;
         let narrow = self.state.intact() && self.list.intact() && self.pairs.intact();
-        let short = self.text.intact() && self.numbers.intact() && self.anchors.intact();
+        let short = self.text.intact() && self.numbers.intact() && self.anchors.intact() && self.pages.intact();
         let wide = [&self.work, &self.first, &self.second, &self.tree].into_iter().all(Lender::intact);
         self.fault(narrow && short && wide, "writes before what it was lent");
     }
@@ -304,6 +308,36 @@ impl Engine {
                 let answer = call(n, first, tree, engine.work.lend(space.work));
                 let kept = first == a;
                 engine.fault(kept, "changes a lent tree");
+                answer
+            },
+        )
+    }
+
+    /// The pages of a pair question's answer; the space takes so many bytes.
+    pub fn pages(&mut self, words: &[u32], text: &[u8], space: Space) -> Answer<u8> {
+        self.listed(
+            |engine| &mut engine.pages,
+            space.list,
+            |engine, pages| {
+                let (state, lent) = (engine.state.lend_words(words), engine.text.lend_words(text));
+                let answer = calls::pages(state, lent, engine.work.lend(space.work), pages);
+                let kept = state == words && lent == text;
+                engine.fault(kept, "printing changes the register or the text");
+                answer
+            },
+        )
+    }
+
+    /// The pairs that pages show.
+    pub fn read_pages(&mut self, text: &[u8], pages: &[u8], list: usize) -> Answer<u32> {
+        self.listed(
+            |engine| &mut engine.list,
+            list,
+            |engine, list| {
+                let (lent, bytes) = (engine.text.lend_words(text), engine.pages.lend_words(pages));
+                let answer = calls::read_pages(lent, bytes, list);
+                let kept = lent == text && bytes == pages;
+                engine.fault(kept, "reading changes the text or the pages");
                 answer
             },
         )

@@ -9,6 +9,7 @@ mod engine;
 mod generations;
 mod history;
 mod lent;
+mod pages;
 mod run;
 mod support;
 mod trees;
@@ -30,6 +31,10 @@ const KINDS: &[Kind] = &[
     ("trees of few records", trees::trees, Size(1, 64), [300, 3000, 3]),
     ("trees of some records", trees::trees, Size(65, 256), [60, 400, 0]),
     ("trees of many records", trees::trees, Size(257, 1024), [16, 100, 0]),
+    ("pages of few records", pages::printed, Size(1, 64), [150, 1500, 3]),
+    ("pages of many records", pages::printed, Size(65, 1024), [12, 100, 0]),
+    ("every place of some pages", pages::every_place, Size(1, 1024), [12, 24, 0]),
+    ("a million pairs printed", pages::million, Size(1024, 1024), [1, 1, 0]),
     ("damaged words, few records", damage::damaged, Size(1, 64), [400, 5000, 20]),
     ("damaged words, many records", damage::damaged, Size(65, 1024), [100, 1500, 1]),
     ("previews of few records", history::previews::previews, Size(1, 64), [100, 1000, 2]),
@@ -94,13 +99,14 @@ fn run_all() -> ExitCode {
     }
     let counts = &run.counts;
     println!(
-        "{cases} cases: {} edits, {} registers read, {} pair questions, {} chain questions, {} tree calls, {} damaged registers, {} generations, {} of sole support ({} records fall); \
+        "{cases} cases: {} edits, {} registers read, {} pair questions, {} chain questions, {} tree calls, {} pages printed or read, {} damaged registers, {} generations, {} of sole support ({} records fall); \
          {} calls, {} differences",
         counts.edits,
         counts.contents,
         counts.pairs,
         counts.chains,
         counts.trees,
+        counts.pages,
         counts.damaged,
         counts.generations,
         counts.supports,

@@ -11,6 +11,7 @@ pub struct Counts {
     pub pairs: usize,
     pub chains: usize,
     pub trees: usize,
+    pub pages: usize,
     pub damaged: usize,
     pub generations: usize,
     pub supports: usize,

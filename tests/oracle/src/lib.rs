@@ -15,6 +15,7 @@
 //! | `frame` | requests as frames, and frames read as requests | S7 The program |
 //! | `program` | the program: frames in, lines out | S7 The program |
 //! | `lines` | typed lines such as `add 0 a 1` to requests | – |
+//! | `pages` | the printed page: its printer and its reader | S17 The printed page |
 //! | `random` | random numbers, expressions and sessions, each the same for the same seed | – |
 //!
 //! Everything here is meant to be plainly right first, and fast enough for n up to 1,024 second.
@@ -26,6 +27,7 @@ pub mod frame;
 pub mod generations;
 pub mod lines;
 pub mod preview;
+pub mod pages;
 pub mod program;
 pub mod question;
 pub mod random;
@@ -72,9 +74,9 @@ pub enum Refusal {
     Tree = 11,
     /// the lent work is shorter than stated
     Work = 12,
-    /// the chain, the loop, the tree or the numbers are longer than their list; the list of new numbers is shorter than the old n
+    /// the chain, the loop, the tree or the numbers are longer than their list; a space cannot hold every page, or a list every pair that pages show; the list of new numbers is shorter than the old n
     List = 13,
-    /// the frame is broken
+    /// the frame is broken; bytes that are not the pages of the expression and some list
     Frame = 14,
     /// the kind is unknown
     Kind = 15,

@@ -1,0 +1,51 @@
+-- `read_accepted`: the pages are judged, and then their pairs listed. Assumes nothing.
+use native.Mathlib.Omega.{arith}
+use denote.Ref.{now}
+use Rattle.pages.proofs.Answering.{reads-broken, reads-short, reads-pairs}
+use Rattle.pages.proofs.Checking.{judged-length}
+use borrow.Author.Needs.{needs}
+use Rattle.pages.proofs.read_accepted.Statement.{statement}
+use Rattle.pages.proofs.read_accepted.Tie as tie
+
+judge-requires : tie.Need-judge-requires
+judge-requires c κs = search needs
+
+enum-told : tie.Need-enum-told
+enum-told c = search needs
+
+enum-known-judgement : tie.Need-enum-known-judgement
+enum-known-judgement c = search needs
+
+returns : tie.Need-returns
+returns c = let s = c .before .before .before .before .before .before .before .before in
+    λ e v. reads-short (now (s .args .text)) (now (s .args .pages)) (now (s .args .list)) e v (c .before .before .judgement .given .1) (c .before .before .before .before .judge .ensures) (c .if1 .taken)
+
+list-lines-requires : tie.Need-list-lines-requires
+list-lines-requires c κs = let s = c .before .before .before .before .before .before .before .before .before in
+    let e = judged-length (now (s .args .text)) (now (s .args .pages)) (c .before .before .before .judgement .given .1) (c .before .before .before .before .before .judge .ensures) in
+    (omega arith, omega (arith, e, c .before .if1 .left))
+
+returns-2 : tie.Need-returns-2
+returns-2 c = let s = c .before .before .before .before .before .before in
+    λ e v. reads-broken (now (s .args .text)) (now (s .args .pages)) (now (s .args .list)) e v (c .enum-told .given .1) (c .before .before .judge .ensures)
+
+same-length : tie.Need-same-length
+same-length c = search needs
+
+returns-3 : tie.Need-returns-3
+returns-3 c = let s = c .before .before .before .before .before .before .before .before .before .before .before .before in
+    λ e v. reads-pairs (now (s .args .text)) (now (s .args .pages)) (now (s .args .list)) e v (c .before .before .before .before .before .before .judgement .given .1) (c .before .before .before .before .before .before .before .before .judge .ensures) (c .before .before .before .before .if1 .left)
+    (c .before .before .list-lines .ensures)
+
+pub read-accepted-spec : {M : Type 1} → statement M
+read-accepted-spec =
+    tie.close
+    (tie.spec
+    judge-requires
+    enum-told
+    enum-known-judgement
+    returns
+    list-lines-requires
+    returns-2
+    same-length
+    returns-3)

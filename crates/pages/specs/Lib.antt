@@ -1,0 +1,8 @@
+pub mod Pages
+pub mod PageCalls
+pub mod Lines
+pub mod LineLaws
+pub mod ReadLaws
+pub mod PageCallLaws
+pub mod RoundTrips
+pub mod PageCases

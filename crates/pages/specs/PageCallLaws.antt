@@ -1,0 +1,136 @@
+-- Laws of the two calls: which outcome it is, by the verdict, the lent lengths and what the bytes hold.
+--   print-refused   refused as the pair question is
+--   print-short, print-filled
+--                   13, or the pages
+--   print-in-order, read-in-order
+--                   the causes stand in their order
+--   read-refused, read-broken, read-short, read-filled
+--                   the verdict's number, 14, 13, or the pairs
+--   Asked, asked-enough
+--                   what is so where a relation's pairs are told
+-- Assumes nothing.
+use mathlib.Core.Path.{_≡_, refl, sym, ap, _∙_}
+use mathlib.Core.Bool.{Bool}
+use mathlib.Core.List.{List, [], _∷_, _++_}
+use Prim.Native.Nat.{ℕ, _*_, _≤_, _<_}
+use native.Mathlib.Decide.{decLt}
+use native.Mathlib.Omega.{arith}
+use borrow.Author.Tests.{lt-ltb, le-ltb}
+use lib.Dec.{ltb}
+use lib.ListN.{length}
+use Rattle.book.specs.Causes.{short-work, short-list, questionOrder, number, firstNumber, InOrder, none-left, same-cause, passed-over}
+use Rattle.book.specs.Book.{Book}
+use Rattle.k2.specs.Trees.{treeUnit}
+use Rattle.paths.specs.Expressions.{Expr}
+use Rattle.paths.specs.Grammar.{Verdict, accepted, long, outside, large, verdictCause}
+use Rattle.paths.specs.Chains.{asked}
+use Rattle.paths.specs.Relations.{pairs}
+use Rattle.paths.specs.Verdicts.{verdict}
+use Rattle.paths.specs.Questions.{Outcome, refused as turned, paired, pairsOf, pairsCauses}
+use Rattle.reader.specs.Reads.{readAnswer}
+use Rattle.reader.specs.declared.Answer.the-variants.{Refused as Faulty}
+use Rattle.pairs.specs.declared.PairsAnswer.{PairsAnswer}
+use Rattle.pairs.specs.declared.PairsAnswer.the-variants.{Pairs, Refused}
+use Rattle.pairs.specs.Asking.{Tells, told-number, told-pairs, rowWords, relationAnswer, relationCauses}
+use Rattle.pairs.specs.AskingLaws.{relation-short, relation-paired}
+use Rattle.pages.specs.Pages.{pages}
+use Rattle.pages.specs.PageCalls.{refused, filled, printCauses, printOutcome, Content, listing, nothing, wordsIn, isNothing, readOrder, readCauses, readOutcome}
+
+-- ---- printing
+pub tells-number : {o : Outcome} {a : PairsAnswer} {k : ℕ} → a ≡ Refused k → Tells o a → o ≡ turned k
+tells-number {k = k} e (told-number {k = j}) = let z : j ≡ k = cc in ap turned z
+tells-number e told-pairs = absurd (let z : _≡_ {A = ℕ} 0 1 = cc in omega arith)
+
+pub record Asked (b : Book) (v : Verdict) (work : ℕ) : Type 0 where
+  pub syntax : Expr
+  pub is : v ≡ accepted syntax
+  pub enough : 32 * treeUnit (b .n) ≤ work
+
+tells-pairs : {o : Outcome} {a : PairsAnswer} {t k : ℕ} → a ≡ Pairs t → Tells o a → o ≡ turned k → ⊥
+tells-pairs e told-number q = let z : _≡_ {A = ℕ} 0 1 = cc in omega arith
+tells-pairs e told-pairs q = let z : _≡_ {A = ℕ} 0 1 = cc in omega arith
+
+-- where the pairs of a relation are told, the text is an expression and the work enough
+pub asked-enough : (b : Book) (v : Verdict) (work t : ℕ) {a : PairsAnswer} → a ≡ Pairs t → Tells (relationAnswer b v work rowWords) a → Asked b v work
+unfolding relationAnswer relationCauses verdictCause firstNumber number
+asked-enough b (accepted e) work t q T = go (decLt work (32 * treeUnit (b .n)))
+  where
+    go : Dec (work < 32 * treeUnit (b .n)) → Asked b (accepted e) work
+    go (yes h) = absurd (tells-pairs q T (relation-short b work rowWords e h))
+    go (no h) = record { syntax = e; is = refl; enough = omega arith }
+asked-enough b long work t q T = absurd (tells-pairs q T refl)
+asked-enough b outside work t q T = absurd (tells-pairs q T refl)
+asked-enough b large work t q T = absurd (tells-pairs q T refl)
+
+number-same : {j k : ℕ} → turned j ≡ turned k → j ≡ k
+number-same e = cc
+
+paired-refused : {t k : ℕ} {ws : List ℕ} → paired t ws ≡ turned k → ⊥
+paired-refused e = let z : _≡_ {A = ℕ} 0 1 = cc in omega arith
+
+module _ (b : Book) (text : List ℕ) (work room : ℕ) where
+  module _ (e : Expr) (v : verdict text ≡ accepted e) where
+    print-little : work < 32 * treeUnit (b .n) → printOutcome b text work room ≡ refused 12
+    unfolding printOutcome printCauses pairsCauses verdictCause firstNumber number
+    print-little h = rw (v, lt-ltb work (32 * treeUnit (b .n)) h)
+
+    module _ (h : 32 * treeUnit (b .n) ≤ work) where
+      pub print-short : room < length (pages text (pairs (asked b) e)) → printOutcome b text work room ≡ refused 13
+      unfolding printOutcome printCauses pairsCauses verdictCause firstNumber number pairsOf
+      print-short l = rw (v, le-ltb work (32 * treeUnit (b .n)) h, lt-ltb room (length (pages text (pairs (asked b) e))) l)
+
+      pub print-filled : length (pages text (pairs (asked b) e)) ≤ room → printOutcome b text work room ≡ filled (pages text (pairs (asked b) e))
+      unfolding printOutcome printCauses pairsCauses verdictCause firstNumber number pairsOf
+      print-filled l = rw (v, le-ltb work (32 * treeUnit (b .n)) h, le-ltb room (length (pages text (pairs (asked b) e))) l)
+
+  -- printing is refused as the relation is
+  pub print-refused : (k : ℕ) (v : Verdict) → verdict text ≡ v → relationAnswer b v work rowWords ≡ turned k → printOutcome b text work room ≡ refused k
+  unfolding relationAnswer relationCauses printOutcome printCauses pairsCauses verdictCause firstNumber number
+  print-refused k long v q = let z : 10 ≡ k = number-same q in rw v (ap refused z)
+  print-refused k outside v q = let z : 9 ≡ k = number-same q in rw v (ap refused z)
+  print-refused k large v q = let z : 10 ≡ k = number-same q in rw v (ap refused z)
+  print-refused k (accepted e) v q = go (decLt work (32 * treeUnit (b .n)))
+    where
+      go : Dec (work < 32 * treeUnit (b .n)) → printOutcome b text work room ≡ refused k
+      go (yes h) = print-little e v h ∙ ap refused (number-same (sym (relation-short b work rowWords e h) ∙ q))
+      go (no h) = absurd (paired-refused (sym (relation-paired b work rowWords e (omega arith) (omega arith)) ∙ q))
+
+  pub print-in-order : InOrder (printCauses b text work room) questionOrder
+  unfolding printCauses pairsCauses questionOrder verdictCause
+  print-in-order = go (verdict text)
+    where
+      t : Bool
+      t = ltb room (length (pages text (pairsOf b (verdict text))))
+
+      go : (v : Verdict) → InOrder ((verdictCause v ++ ((short-work, ltb work (32 * treeUnit (b .n))) ∷ [])) ++ ((short-list, t) ∷ [])) questionOrder
+      go (accepted e) = passed-over (passed-over (passed-over (passed-over (same-cause (same-cause none-left)))))
+      go long = passed-over (same-cause (passed-over (passed-over (same-cause (same-cause none-left)))))
+      go outside = passed-over (passed-over (same-cause (passed-over (same-cause (same-cause none-left)))))
+      go large = passed-over (passed-over (passed-over (same-cause (same-cause (same-cause none-left)))))
+
+-- ---- reading
+pub read-refused : (v : Verdict) (k : ℕ) (c : Content) (room : ℕ) → readAnswer v ≡ Faulty k → readOutcome v c room ≡ refused k
+unfolding readOutcome readCauses verdictCause firstNumber number readAnswer
+read-refused (accepted e) k c room q = absurd (let z : _≡_ {A = ℕ} 0 1 = cc in omega arith)
+read-refused long k c room q = let z : 10 ≡ k = cc in ap refused z
+read-refused outside k c room q = let z : 9 ≡ k = cc in ap refused z
+read-refused large k c room q = let z : 10 ≡ k = cc in ap refused z
+
+pub read-broken : (e : Expr) (room : ℕ) → readOutcome (accepted e) nothing room ≡ refused 14
+unfolding readOutcome readCauses verdictCause isNothing wordsIn firstNumber number
+read-broken e room = refl
+
+pub read-short : (e : Expr) (l : List ℕ) (room : ℕ) → room < length l → readOutcome (accepted e) (listing l) room ≡ refused 13
+unfolding readOutcome readCauses verdictCause isNothing wordsIn firstNumber number
+read-short e l room h = rw (lt-ltb room (length l) h)
+
+pub read-filled : (e : Expr) (l : List ℕ) (room : ℕ) → length l ≤ room → readOutcome (accepted e) (listing l) room ≡ filled l
+unfolding readOutcome readCauses verdictCause isNothing wordsIn firstNumber number
+read-filled e l room h = rw (le-ltb room (length l) h)
+
+pub read-in-order : (v : Verdict) (c : Content) (room : ℕ) → InOrder (readCauses v c room) readOrder
+unfolding readCauses readOrder verdictCause
+read-in-order (accepted e) c room = passed-over (passed-over (passed-over (same-cause (same-cause none-left))))
+read-in-order long c room = same-cause (passed-over (passed-over (same-cause (same-cause none-left))))
+read-in-order outside c room = passed-over (same-cause (passed-over (same-cause (same-cause none-left))))
+read-in-order large c room = passed-over (passed-over (same-cause (same-cause (same-cause none-left))))
