@@ -1,0 +1,214 @@
+// Pair questions by rows of bits: an expression's code is run on a stack of relations, which lie one after another in the lent work, each as n rows
+// of bits, 64 columns to a word, with a mask of each row's words in use (crate `grid`). The last one left is listed.
+ghost use mathlib.Core.Path.{_≡_};
+ghost use mathlib.Core.List.{List};
+ghost use Prim.Native.Nat.{ℕ, _+_, _-_, _*_, _/_, _<_, _≤_};
+ghost use lib.ListN.{length, take};
+ghost use Rattle.book.specs.Book.{Book};
+ghost use Rattle.book.specs.Causes.{maxRecords};
+ghost use lib.Dec.{eqb};
+ghost use Rattle.k2.specs.Bits.{digit};
+ghost use Rattle.k2.specs.PairSets.{union};
+ghost use Rattle.paths.specs.Expressions.{Expr};
+ghost use Rattle.paths.specs.Grammar.{accepted};
+ghost use Rattle.paths.specs.Verdicts.{verdict};
+ghost use Rattle.paths.specs.Chains.{asked};
+ghost use Rattle.paths.specs.Relations.{crossedBy};
+ghost use Rattle.reader.specs.Letters.{lettersIn};
+ghost use Rattle.reader.specs.Running.{operands};
+ghost use Rattle.grid.specs.Grid.{first, second};
+ghost use Rattle.pairs.specs.Evaluation.{Ready};
+ghost use Rattle.pairs.specs.Steps.{Lettered, Coded};
+ghost use Rattle.rowpairs.specs.Asking.{rowWidth, rowsWork, AsksRowsFor, AsksRows};
+ghost use Rattle.rowpairs.specs.Evaluation.{Space, Lent, outcomeOf, Goes, ValueFirst};
+use reader::Item;
+
+// The masks of 20 relations of 1,024 rows, and one more: 19 that wait, one as scratch, and a row of a product.
+const MASKS: usize = 20481;
+
+// The words of a row of n columns.
+fn row_width(n: usize) -> usize
+    requires { ⌜ n ≤ maxRecords ⌝ }
+    ensures { λ r. ⌜ r ≡ rowWidth n ⌝ }
+{
+    (n + 63) / 64
+}
+
+// Does the set have the label?
+fn has_label(set: u32, label: u8) -> bool
+    requires { ⌜ label < 26 ⌝ }
+    ensures { λ r. ⌜ r ≡ eqb (digit set label) 1 ⌝ }
+{
+    (set >> label) % 2 == 1
+}
+
+// The links of letters put into the first relation: those of the labels of the first set crossed forward, those of the second against their sense.
+fn put_letters(
+    links: &[u32],
+    forward: u32,
+    against: u32,
+    cells: &mut [u64],
+    masks: &mut [u16],
+    n: usize,
+    w: usize,
+)
+    requires { ⌜ Space n w (length (now cells)) (length (now masks)) ⌝ }
+    ensures { λ _. ⌜ ((b : Book) (used : List ℕ) → Lettered b n (now (links .entry)) used
+        → first n w (now (cells .exit)) (now (masks .exit))
+            ≡ union (first n w (now (cells .entry)) (now (masks .entry))) (crossedBy (asked b) (lettersIn forward against))) ⌝ }
+{
+    let mut label: u8 = 0;
+    while label < 26 {
+        if has_label(forward, label) {
+            grid::put_words(register::label_part(links, label), cells, masks, n, w);
+        }
+        if has_label(against, label) {
+            grid::put_turned(register::label_part(links, label), cells, masks, n, w);
+        }
+        label += 1;
+    }
+}
+
+// One item of the code, on the operands that lie at the front of the two parts; its value takes the place of the first.
+fn operate(
+    links: &[u32],
+    used: &[u64],
+    cells: &mut [u64],
+    masks: &mut [u16],
+    n: usize,
+    w: usize,
+    item: Item,
+)
+    requires { ⌜ Space n w (length (now cells)) (length (now masks)) ⌝ }
+    ensures { λ _. ⌜ ((b : Book) → Lettered b n (now (links .entry)) (now (used .entry))
+        → first n w (now (cells .exit)) (now (masks .exit))
+            ≡ outcomeOf (asked b) item (first n w (now (cells .entry)) (now (masks .entry))) (second n w (now (cells .entry)) (now (masks .entry)))) ⌝ }
+{
+    match item {
+        Item::Letters(forward, against) => {
+            grid::start(masks, n);
+            put_letters(links, forward, against, cells, masks, n, w);
+        }
+        Item::Inverse => grid::turn(cells, masks, n, w),
+        Item::Star => {
+            grid::close(cells, masks, n, w);
+            grid::put_diagonal(used, cells, masks, n, w);
+        }
+        Item::Plus => grid::close(cells, masks, n, w),
+        Item::Optional => grid::put_diagonal(used, cells, masks, n, w),
+        Item::Alternative => grid::unite(cells, masks, n, w),
+        Item::Sequence => grid::compose(cells, masks, n, w),
+    }
+}
+
+// How many of the relations that wait stay below an item's operands.
+fn left_below(count: usize, item: Item) -> usize
+    requires { ⌜ operands item ≤ count ⌝ }
+    ensures { λ r. ⌜ r ≡ count - operands item ⌝ }
+{
+    match item {
+        Item::Letters(_, _) => count,
+        Item::Inverse => count - 1,
+        Item::Star => count - 1,
+        Item::Plus => count - 1,
+        Item::Optional => count - 1,
+        Item::Alternative => count - 2,
+        Item::Sequence => count - 2,
+    }
+}
+
+// One number of the code, with so many relations waiting; how many wait then.
+fn step(
+    links: &[u32],
+    used: &[u64],
+    cells: &mut [u64],
+    masks: &mut [u16],
+    n: usize,
+    count: usize,
+    item: Item,
+) -> usize
+    requires { ⌜ Lent n (length (now cells)) (length (now masks)) × Ready item count ⌝ }
+    ensures { λ r. ⌜ Goes n (now (links .entry)) (now (used .entry)) item (now (cells .entry)) (now (cells .exit)) (now (masks .entry)) (now (masks .exit)) count r ⌝ }
+{
+    let w = row_width(n);
+    let unit = n * w;
+    let below = left_below(count, item);
+    let start = below * unit;
+    let mark = below * n;
+    operate(
+        links,
+        used,
+        &mut cells[start..],
+        &mut masks[mark..],
+        n,
+        w,
+        item,
+    );
+    below + 1
+}
+
+// The whole code: its value is left as the first relation.
+fn run(
+    links: &[u32],
+    used: &[u64],
+    cells: &mut [u64],
+    masks: &mut [u16],
+    n: usize,
+    code: &[u64],
+)
+    requires { ⌜ Lent n (length (now cells)) (length (now masks)) × ((s : List ℕ) × (e : Expr) × Coded s e (now code)) ⌝ }
+    ensures { λ _. ⌜ ValueFirst n (now (links .entry)) (now (used .entry)) (now (code .entry)) (now (cells .exit)) (now (masks .exit)) ⌝ }
+{
+    let mut count = 0;
+    let mut i = 0;
+    while i < code.len() {
+        let item = reader::item_of(code[i]);
+        count = step(links, used, cells, masks, n, count, item);
+        i += 1;
+    }
+}
+
+// The answer by the code of an expression: the first len numbers of the array.
+fn of_code(
+    register: register::Register,
+    code: [u64; book::MAX_BYTES],
+    len: usize,
+    work: &mut [u64],
+    list: &mut [u32],
+) -> pairs::PairsAnswer
+    requires { ⌜ (len ≤ length code) × ((s : List ℕ) × (e : Expr) × Coded s e (take len code)) ⌝ }
+    ensures { λ a. ⌜ ((s : List ℕ) (e : Expr) → Coded s e (take len code)
+        → AsksRowsFor register (accepted e) (length (now (work .entry))) (now (list .entry)) (now (list .exit)) a) ⌝ }
+{
+    let n = register.size();
+    let w = row_width(n);
+    if work.len() < 32 * (n * w) {
+        return pairs::PairsAnswer::Refused(book::SHORT_WORK);
+    }
+    let links = register.links();
+    let count = links.count;
+    let array = links.words;
+    let used = pairs::in_use(register, n);
+    let mut masks: [u16; MASKS] = [0; MASKS];
+    run(&array[..count], &used, work, &mut masks, n, &code[..len]);
+    let total = grid::list(work, &masks, n, w, list);
+    pairs::PairsAnswer::Pairs(total)
+}
+
+// The pairs that have a chain, as `pairs::pairs` gives them: ascending, each once, as many as the list takes; how many they are in all.
+pub fn pairs_by_rows(
+    register: register::Register,
+    text: &[u8],
+    work: &mut [u64],
+    list: &mut [u32],
+) -> pairs::PairsAnswer
+    ensures { λ a. ⌜ AsksRows register (now (text .entry)) (length (now (work .entry))) (now (list .entry)) (now (list .exit)) a ⌝ }
+{
+    let reading = reader::read(text);
+    let answer = reading.answer;
+    let code = reading.code;
+    match answer {
+        reader::Answer::Refused(k) => pairs::PairsAnswer::Refused(k as u32),
+        reader::Answer::Accepted(len) => of_code(register, code, len, work, list),
+    }
+}
