@@ -1,0 +1,63 @@
+// Pairs put into the first relation of a part: those of links by their labels, and each record in use joined to itself.
+use crate::row::put;
+ghost use mathlib.Core.Path.{_≡_};
+ghost use mathlib.Core.List.{List};
+ghost use Prim.Native.Nat.{ℕ, _*_, _≤_, _<_};
+ghost use lib.ListN.{length};
+ghost use Rattle.k2.specs.Bits.{bitAt};
+ghost use Rattle.k2.specs.PairSets.{union, diagonal};
+ghost use Rattle.rows.specs.Rows.{noPairs, crossedWords};
+ghost use Rattle.grid.specs.Grid.{within, first};
+ghost use Rattle.grid.specs.Steps.{withPair};
+
+// The first relation made empty.
+pub fn start(masks: &mut [u16], n: usize)
+    requires { ⌜ n ≤ length (now masks) ⌝ }
+    ensures { λ _. ⌜ ((w : ℕ) (ws : List ℕ) → first n w ws (now (masks .exit)) ≡ noPairs) ⌝ }
+{
+    let mut x = 0;
+    while x < n {
+        masks[x] = 0;
+        x += 1;
+    }
+}
+
+// The pair (x, y) put into the first relation, if both records are below n.
+fn put_pair(cells: &mut [u64], masks: &mut [u16], n: usize, w: usize, x: usize, y: usize)
+    requires { ⌜ (n ≤ 1024) × (w ≤ 16) × (n ≤ w * 64) × (n * w ≤ length (now cells)) × (n ≤ length (now masks)) × (x < n) × (y < n) ⌝ }
+    ensures { λ _. ⌜ first n w (now (cells .exit)) (now (masks .exit)) ≡ withPair x y (first n w (now (cells .entry)) (now (masks .entry))) ⌝ }
+{
+    put(cells, masks, x, x * w, y / 64, 1 << (y % 64));
+}
+
+// Each record below n that is in use joined to itself.
+pub fn put_diagonal(used: &[u64], cells: &mut [u64], masks: &mut [u16], n: usize, w: usize)
+    requires { ⌜ (n ≤ 1024) × (w ≤ 16) × (n ≤ w * 64) × (n * w ≤ length (now cells)) × (n ≤ length (now masks)) ⌝ }
+    ensures { λ _. ⌜ first n w (now (cells .exit)) (now (masks .exit))
+        ≡ union (first n w (now (cells .entry)) (now (masks .entry))) (within n (diagonal (bitAt (now (used .entry))))) ⌝ }
+{
+    let mut x = 0;
+    while x < n {
+        if bits::bit(used, x) == 1 {
+            put_pair(cells, masks, n, w, x, x);
+        }
+        x += 1;
+    }
+}
+
+// The pairs of link words put into the first relation, if both records are below n: of links whose label is in `forward` as they are, of those whose
+// label is in `against` exchanged. A link's word is label * 1048576 + from * 1024 + to.
+// STUB, to come: requires { ⌜ (n ≤ 1024) × (w ≤ 16) × (n ≤ w * 64) × (n * w ≤ length (now cells)) × (n ≤ length (now masks)) ⌝ }
+pub fn put_letters(
+    words: &[u32],
+    forward: u32,
+    against: u32,
+    cells: &mut [u64],
+    masks: &mut [u16],
+    n: usize,
+    w: usize,
+)
+    requires { ⌜ ⊥ ⌝ }
+    ensures { λ _. ⌜ first n w (now (cells .exit)) (now (masks .exit))
+        ≡ union (first n w (now (cells .entry)) (now (masks .entry))) (within n (crossedWords (now (words .entry)) forward against)) ⌝ }
+{}
