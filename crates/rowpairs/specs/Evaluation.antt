@@ -5,6 +5,9 @@
 --                   what the whole question is lent: enough for 32 relations, and for the masks of 20 and one more
 --   outcomeOf g y a b
 --                   the value of the item y on its operands in the graph g: a, or a and b, or none
+--   Operates n w links used y ws ws′ ms ms′
+--                   an operation on the relations at the front of ws and ms: for every book whose links and records in use these are, it has left the value of the
+--                   item y as the first
 --   relationAt n ws ms k
 --                   the relation at place k of the work ws, its masks being in ms
 --   lying n ws ms k the relations at the first k places, the last one first
@@ -32,7 +35,7 @@ use Rattle.reader.specs.declared.items.Item.the-variants.{Letters, Inverse, Sta
 use Rattle.reader.specs.Letters.{lettersIn}
 use Rattle.reader.specs.Code.{does, run}
 use Rattle.reader.specs.Running.{operands, Runs}
-use Rattle.grid.specs.Grid.{first}
+use Rattle.grid.specs.Grid.{first, second}
 use Rattle.pairs.specs.Evaluation.{relations, heights, most-waiting}
 use Rattle.pairs.specs.Steps.{Lettered, Coded}
 use Rattle.rowpairs.specs.Asking.{rowWidth}
@@ -57,6 +60,9 @@ outcomeOf g Plus a b = closure (g .n) a
 outcomeOf g Optional a b = union a (zeroSteps g)
 outcomeOf g Alternative a b = union a b
 outcomeOf g Sequence a b = product (g .n) a b
+
+abbrev pub Operates : (n w : ℕ) → (links used : List ℕ) → Item → (ws ws′ ms ms′ : List ℕ) → Type 0
+Operates n w links used y ws ws′ ms ms′ = (b : Book) → Lettered b n links used → first n w ws′ ms′ ≡ outcomeOf (asked b) y (first n w ws ms) (second n w ws ms)
 
 unfoldable pub relationAt : (n : ℕ) → List ℕ → List ℕ → ℕ → Cells
 relationAt n ws ms k = first n (rowWidth n) (drop (k * (n * rowWidth n)) ws) (drop (k * n) ms)

@@ -6,8 +6,6 @@ ghost use Prim.Native.Nat.{ℕ, _+_, _-_, _*_, _/_, _<_, _≤_};
 ghost use lib.ListN.{length, take};
 ghost use Rattle.book.specs.Book.{Book};
 ghost use Rattle.book.specs.Causes.{maxRecords};
-ghost use lib.Dec.{eqb};
-ghost use Rattle.k2.specs.Bits.{digit};
 ghost use Rattle.k2.specs.PairSets.{union};
 ghost use Rattle.paths.specs.Expressions.{Expr};
 ghost use Rattle.paths.specs.Grammar.{accepted};
@@ -16,11 +14,11 @@ ghost use Rattle.paths.specs.Chains.{asked};
 ghost use Rattle.paths.specs.Relations.{crossedBy};
 ghost use Rattle.reader.specs.Letters.{lettersIn};
 ghost use Rattle.reader.specs.Running.{operands};
-ghost use Rattle.grid.specs.Grid.{first, second};
+ghost use Rattle.grid.specs.Grid.{first};
 ghost use Rattle.pairs.specs.Evaluation.{Ready};
 ghost use Rattle.pairs.specs.Steps.{Lettered, Coded};
 ghost use Rattle.rowpairs.specs.Asking.{rowWidth, rowsWork, AsksRowsFor, AsksRows};
-ghost use Rattle.rowpairs.specs.Evaluation.{Space, Lent, outcomeOf, Goes, ValueFirst};
+ghost use Rattle.rowpairs.specs.Evaluation.{Space, Lent, Operates, Goes, ValueFirst};
 use reader::Item;
 
 // The masks of 20 relations of 1,024 rows, and one more: 19 that wait, one as scratch, and a row of a product.
@@ -32,14 +30,6 @@ fn row_width(n: usize) -> usize
     ensures { λ r. ⌜ r ≡ rowWidth n ⌝ }
 {
     (n + 63) / 64
-}
-
-// Does the set have the label?
-fn has_label(set: u32, label: u8) -> bool
-    requires { ⌜ label < 26 ⌝ }
-    ensures { λ r. ⌜ r ≡ eqb (digit set label) 1 ⌝ }
-{
-    (set >> label) % 2 == 1
 }
 
 // The links of letters put into the first relation: those of the labels of the first set crossed forward, those of the second against their sense.
@@ -57,16 +47,7 @@ fn put_letters(
         → first n w (now (cells .exit)) (now (masks .exit))
             ≡ union (first n w (now (cells .entry)) (now (masks .entry))) (crossedBy (asked b) (lettersIn forward against))) ⌝ }
 {
-    let mut label: u8 = 0;
-    while label < 26 {
-        if has_label(forward, label) {
-            grid::put_words(register::label_part(links, label), cells, masks, n, w);
-        }
-        if has_label(against, label) {
-            grid::put_turned(register::label_part(links, label), cells, masks, n, w);
-        }
-        label += 1;
-    }
+    grid::put_letters(links, forward, against, cells, masks, n, w);
 }
 
 // One item of the code, on the operands that lie at the front of the two parts; its value takes the place of the first.
@@ -80,16 +61,14 @@ fn operate(
     item: Item,
 )
     requires { ⌜ Space n w (length (now cells)) (length (now masks)) ⌝ }
-    ensures { λ _. ⌜ ((b : Book) → Lettered b n (now (links .entry)) (now (used .entry))
-        → first n w (now (cells .exit)) (now (masks .exit))
-            ≡ outcomeOf (asked b) item (first n w (now (cells .entry)) (now (masks .entry))) (second n w (now (cells .entry)) (now (masks .entry)))) ⌝ }
+    ensures { λ _. ⌜ Operates n w (now (links .entry)) (now (used .entry)) item (now (cells .entry)) (now (cells .exit)) (now (masks .entry)) (now (masks .exit)) ⌝ }
 {
     match item {
         Item::Letters(forward, against) => {
             grid::start(masks, n);
             put_letters(links, forward, against, cells, masks, n, w);
         }
-        Item::Inverse => grid::turn(cells, masks, n, w),
+        Item::Inverse => grid::transpose(cells, masks, n, w),
         Item::Star => {
             grid::close(cells, masks, n, w);
             grid::put_diagonal(used, cells, masks, n, w);
@@ -101,19 +80,18 @@ fn operate(
     }
 }
 
-// How many of the relations that wait stay below an item's operands.
-fn left_below(count: usize, item: Item) -> usize
-    requires { ⌜ operands item ≤ count ⌝ }
-    ensures { λ r. ⌜ r ≡ count - operands item ⌝ }
+// How many relations an item takes.
+fn operands_of(item: Item) -> usize
+    ensures { λ r. ⌜ r ≡ operands item ⌝ }
 {
     match item {
-        Item::Letters(_, _) => count,
-        Item::Inverse => count - 1,
-        Item::Star => count - 1,
-        Item::Plus => count - 1,
-        Item::Optional => count - 1,
-        Item::Alternative => count - 2,
-        Item::Sequence => count - 2,
+        Item::Letters(_, _) => 0,
+        Item::Inverse => 1,
+        Item::Star => 1,
+        Item::Plus => 1,
+        Item::Optional => 1,
+        Item::Alternative => 2,
+        Item::Sequence => 2,
     }
 }
 
@@ -132,7 +110,7 @@ fn step(
 {
     let w = row_width(n);
     let unit = n * w;
-    let below = left_below(count, item);
+    let below = count - operands_of(item);
     let start = below * unit;
     let mark = below * n;
     operate(

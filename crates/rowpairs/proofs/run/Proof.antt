@@ -1,59 +1,72 @@
+-- `run` runs the code number by number. The loop's invariant: the first i numbers have been run (`Going`), and work and masks are as long as they were. The measure is
+-- what is left of the code. Assumes nothing.
+use native.Mathlib.Omega.{arith}
+use borrow.Author.Needs.{needs}
+use mathlib.Core.Path.{_≡_, refl, sym, _∙_}
+use Prim.Native.Nat.{_-_, _≤_}
+use lib.ListN.{length}
+use Rattle.rowpairs.specs.Evaluation.{Going}
+use Rattle.rowpairs.proofs.Running.{going-begins, going-ready, going-more, going-ends}
 use Rattle.rowpairs.proofs.run.Statement.{statement}
 use Rattle.rowpairs.proofs.run.Tie as tie
-use Rattle.rowpairs.proofs.run.Reads as reads
-use Rattle.rowpairs.proofs.run.Lts as lts
-use Rattle.reader.proofs.item_of.Reads as item-of-reads
-use Rattle.rowpairs.proofs.step.Reads as step-reads
 
 abbrev Inv-loop : tie.InvT-loop
-Inv-loop links used cells₀ masks₀ n code count₀ i₀ cells masks count i = ?
+Inv-loop links used cells₀ masks₀ n code count₀ i₀ cells masks count i = (i ≤ length code) × (length cells ≡ length cells₀) × (length masks ≡ length masks₀) × Going n links used code cells masks count i
 
 abbrev μ-loop : tie.MeasureT-loop
-μ-loop links used cells₀ masks₀ n code count₀ i₀ cells masks count i = ?
+μ-loop links used cells₀ masks₀ n code count₀ i₀ cells masks count i = length code - i
 
--- src/lib.rt:164:5
+-- src/lib.rt:142:5
 loop-holds : tie.Need-loop-holds Inv-loop μ-loop
-loop-holds c = ?
+loop-holds c = (omega arith, refl, refl, going-begins _ _ _ _ (c .before .before .before .before .before .pre .1 .2) _ _)
 
--- src/lib.rt:165:36
+-- src/lib.rt:143:36
 mul-item-of : tie.Need-mul-item-of Inv-loop μ-loop
-mul-item-of c = ?
+mul-item-of c = omega arith
 
--- src/lib.rt:165:36
+-- src/lib.rt:143:36
 shared-slice-read-item-of : tie.Need-shared-slice-read-item-of Inv-loop μ-loop
-shared-slice-read-item-of c = ?
+shared-slice-read-item-of c = omega arith
 
--- src/lib.rt:165:13
+-- src/lib.rt:143:13
 item-of-requires : tie.Need-item-of-requires Inv-loop μ-loop
-item-of-requires c κs = ?
+item-of-requires c κs = search needs
 
--- src/lib.rt:166:9
+-- src/lib.rt:144:9
 step-requires : tie.Need-step-requires Inv-loop μ-loop
-step-requires c κs = ?
+step-requires c κs = 
+    let l = c .before .before .before .before .before .loop in
+    let P = c .before .before .before .before .before .before .before .before .before .before .before .pre .0 in
+    (record { small = P .small; words = omega (arith, l .inv .1, P .words); marks = omega (arith, l .inv .2, P .marks) }, going-ready _ _ _ _ (l .i) (omega arith) (l .inv .3) (sym (c .before .before .item-of .ensures)))
 
--- src/lib.rt:167:9
+-- src/lib.rt:145:9
 add-i : tie.Need-add-i Inv-loop μ-loop
-add-i c = ?
+add-i c = omega arith
 
--- src/lib.rt:164:5
+-- src/lib.rt:142:5
 loop-less : tie.Need-loop-less Inv-loop μ-loop
-loop-less c = ?
+loop-less c = omega arith
 
--- src/lib.rt:164:5
+-- src/lib.rt:142:5
 loop-again : tie.Need-loop-again Inv-loop μ-loop
-loop-again c = ?
+loop-again c = 
+    let l = c .before .before .before .before .before .before .before .before .before .before .loop in
+    let s = c .before .before .before .before .step in
+    (omega arith, s .kept .1 .1 .0 ∙ l .inv .1, s .kept .1 .1 .1 .0 ∙ l .inv .2, going-more _ _ _ _ (l .i) (omega arith) (l .inv .3) (sym (c .before .before .before .before .before .before .before .item-of .ensures)) (s .ensures))
 
--- src/lib.rt:151:1
+-- src/lib.rt:129:1
 same-length : tie.Need-same-length Inv-loop μ-loop
-same-length c = ?
+same-length c = c .before .loop .inv .1
 
--- src/lib.rt:151:1
+-- src/lib.rt:129:1
 same-length-2 : tie.Need-same-length-2 Inv-loop μ-loop
-same-length-2 c = ?
+same-length-2 c = c .before .loop .inv .2
 
--- src/lib.rt:151:1
+-- src/lib.rt:129:1
 returns : tie.Need-returns Inv-loop μ-loop
-returns c = ?
+returns c = 
+    let l = c .before .loop in
+    going-ends _ _ _ _ (omega arith) (l .inv .3)
 
 pub run-spec : {M : Type 1} → statement M
 run-spec =

@@ -1,0 +1,4 @@
+pub mod Operating
+pub mod Stepping
+pub mod Running
+pub mod Answering
