@@ -1,5 +1,5 @@
 -- The whole code, in plain variables: how it begins, goes on and ends. Assumes nothing.
-use mathlib.Core.Path.{_≡_, refl, sym, ap, _∙_, subst}
+use mathlib.Core.Path.{_≡_, refl, sym, ap, ap₂, _∙_, subst}
 use mathlib.Core.List.{List, [], _∷_}
 use Prim.Native.Nat.{ℕ, zero, suc, _+_, _-_, _*_, _<_, _≤_}
 use native.Mathlib.Numerals.{add-one}
@@ -78,7 +78,10 @@ module _ (n : ℕ) (links used c : List ℕ) where
       tail-same : {x y : Cells} {xs ys : List Cells} → x ∷ xs ≡ y ∷ ys → xs ≡ ys
       tail-same e = cc
 
+      at-first : first n (rowWidth n) ws ms ≡ relationAt n ws ms 0
+      at-first = ap₂ (λ (i j : ℕ). first n (rowWidth n) (drop i ws) (drop j ms)) (let z : 0 ≡ 0 * (n * rowWidth n) = omega arith in z) (let z : 0 ≡ 0 * n = omega arith in z)
+
       alone : {v : Cells} (k : ℕ) → lying n ws ms k ≡ v ∷ [] → first n (rowWidth n) ws ms ≡ v
       alone zero e = absurd (let z : _≡_ {A = ℕ} 0 1 = ap length e in omega arith)
-      alone (suc zero) e = head-same e
+      alone (suc zero) e = at-first ∙ head-same e
       alone (suc (suc j)) e = absurd (let z : _≡_ {A = ℕ} (length (lying n ws ms (suc j))) 0 = ap length (tail-same e) in omega arith)

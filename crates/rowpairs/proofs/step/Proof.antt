@@ -61,15 +61,15 @@ part-operate-end c = search needs
 
 -- src/lib.rt:120:9
 mul-operate-2 : tie.Need-mul-operate-2
-mul-operate-2 c = omega (arith, marks c .before, c .before .before .before .before .before .before .before .pre .0 .small)
+mul-operate-2 c = omega (arith, marks (c .before), c .before .before .before .before .before .before .before .pre .0 .small)
 
 -- src/lib.rt:120:9
 sub-operate-2 : tie.Need-sub-operate-2
-sub-operate-2 c = omega (arith, marks c .before, c .before .before .before .before .before .before .before .pre .0 .marks)
+sub-operate-2 c = omega (arith, marks (c .before), c .before .before .before .before .before .before .before .pre .0 .marks)
 
 -- src/lib.rt:120:9
 part-operate-start-2 : tie.Need-part-operate-start-2
-part-operate-start-2 c = omega (arith, marks c .before, c .before .before .before .before .before .before .before .pre .0 .marks)
+part-operate-start-2 c = omega (arith, marks (c .before), c .before .before .before .before .before .before .before .pre .0 .marks)
 
 -- src/lib.rt:120:9
 part-operate-end-2 : tie.Need-part-operate-end-2
@@ -77,11 +77,11 @@ part-operate-end-2 c = search needs
 
 -- src/lib.rt:116:5
 operate-requires : tie.Need-operate-requires
-operate-requires c κs = lent-space _ _ _ _ _ (c .before .before .before .row-width .ensures) (c .before .before .before .before .before .before .before .before .pre .0) (early c .before .before)
+operate-requires c κs = lent-space _ _ _ _ _ (c .before .before .before .row-width .ensures) (c .before .before .before .before .before .before .before .before .pre .0) (early (c .before .before))
 
 -- src/lib.rt:125:5
 add-result : tie.Need-add-result
-add-result c = omega (arith, early c .before .before .before .before .before .before .before)
+add-result c = omega (arith, early (c .before .before .before .before .before .before .before))
 
 -- src/lib.rt:99:1
 same-length : tie.Need-same-length
@@ -98,7 +98,7 @@ returns c =
     let o = c .before .before .before .before .operate in
     let f = c .before .before .before .before .before .before .before .before .before .before .before .before .before .pre .1 .found in
     let e = c .before .before .before .before .before .before .before .operands-of .ensures in
-    goes-part (a .n) (a .links .now) (a .used .now) (a .item) (a .cells .now) (o .last .1 .1 .0) (a .masks .now) (o .last .1 .1 .1 .0) (a .count) _ _ (c .before .before .before .before .before .before .before .before .row-width .ensures) (omega arith) (c .before .before .before .before .before .before .before .before .before .before .before .before .before .pre .0) (early c .before .before .before .before .before .before .before) (o .ensures)
+    goes-part (a .n) (a .links .now) (a .used .now) (a .item) (a .cells .now) (o .last .1 .1 .0) (a .masks .now) (o .last .1 .1 .1 .0) (a .count) _ _ (c .before .before .before .before .before .before .before .before .row-width .ensures) (omega arith) (c .before .before .before .before .before .before .before .before .before .before .before .before .before .pre .0) (early (c .before .before .before .before .before .before .before)) (o .ensures)
 
 pub step-spec : {M : Type 1} → statement M
 step-spec =
