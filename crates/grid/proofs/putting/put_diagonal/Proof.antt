@@ -1,9 +1,9 @@
 -- `put_diagonal` goes record by record. The loop's invariant: the records below x are joined to themselves. The measure is the records left.
 -- Assumes nothing.
 use Prim.Native.Nat.{ℕ, _<_, _≤_, _+_, _-_}
-use Rattle.grid.proofs.Pairs.{more-pair, within-bit, union-empty, diagonal-none, diagonal-one, diagonal-else, diagonal-skip, within-twice}
+use Rattle.grid.proofs.Pairs.{put-more, union-empty, diagonal-none, diagonal-more, diagonal-skip, within-twice}
 use Rattle.grid.specs.Grid.{first, within}
-use Rattle.grid.specs.Steps.{withPair}
+use Rattle.grid.specs.Steps.{onePair}
 use Rattle.k2.specs.BitLaws.{bit-lt}
 use Rattle.k2.specs.Bits.{bitAt}
 use Rattle.k2.specs.PairSets.{Cells, union, diagonal}
@@ -32,7 +32,7 @@ bit-requires : tie.Need-bit-requires Inv-loop μ-loop
 bit-requires c κs = tt
 
 put-pair-requires : tie.Need-put-pair-requires Inv-loop μ-loop
-put-pair-requires c κs = (omega arith, omega arith, omega arith, omega arith, omega arith, omega arith, omega arith)
+put-pair-requires c κs = omega arith
 
 add-x : tie.Need-add-x Inv-loop μ-loop
 add-x c = omega arith
@@ -46,19 +46,20 @@ loop-again c =
     let l = c .before .before .before .loop in
     let f = bitAt (a .used .now) in
     let r = c .before .bit in
-    let xl : l .x < a .n = omega arith in
+    let A : Cells = first (a .n) (a .w) (a .cells .now) (a .masks .now) in
     ⊎-elim
     (λ v. (
       omega arith,
       rw (v .8) (v .3 .kept .0 ∙ l .inv .1),
       rw (v .9) (v .3 .kept .1 .0 ∙ l .inv .2),
-      rw (v .8, v .9) (v .3 .ensures ∙ ap (withPair (l .x) (l .x)) (l .inv .3) ∙ more-pair (a .n) (l .x) (l .x) _ _ _ (within-bit (a .n) (a .w) (a .cells .now) (a .masks .now)) xl xl (diagonal-one f (l .x) (sym (r .ensures) ∙ v .0 .taken)) (λ s t h k q. diagonal-else f (l .x) s t q)),
+      rw (v .8, v .9) (v .3 .ensures ∙ ap (λ (s : Cells). union s (within (a .n) (onePair (l .x) (l .x)))) (l .inv .3) ∙ put-more (a .n) A _ _
+      ∙ ap (λ (s : Cells). union A (within (a .n) s)) (diagonal-more f (l .x) (sym (r .ensures) ∙ v .0 .taken))),
     ))
     (λ v. (
       omega arith,
       rw (v .1) (l .inv .1),
       rw (v .2) (l .inv .2),
-      rw (v .1, v .2) (l .inv .3 ∙ ap (λ (s : Cells). union (first (a .n) (a .w) (a .cells .now) (a .masks .now)) (within (a .n) s)) (diagonal-skip f (l .x) (omega (arith, r .ensures, v .0 .left, bit-lt (a .used .now) (l .x))))),
+      rw (v .1, v .2) (l .inv .3 ∙ ap (λ (s : Cells). union A (within (a .n) s)) (diagonal-skip f (l .x) (omega (arith, r .ensures, v .0 .left, bit-lt (a .used .now) (l .x))))),
     ))
     (c .if1 .came)
 
