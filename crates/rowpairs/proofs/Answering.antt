@@ -1,5 +1,5 @@
 -- The answer to a pair question by rows, in plain variables. Assumes nothing.
-use mathlib.Core.Path.{_≡_, refl, sym, ap, _∙_, subst}
+use mathlib.Core.Path.{_≡_, refl, sym, ap, ap₂, _∙_, subst}
 use mathlib.Core.List.{List, _++_}
 use Prim.Native.Nat.{ℕ, _*_, _≤_, _<_}
 use native.Mathlib.Omega.{arith}
@@ -45,34 +45,34 @@ pub faulty-text : (r : Register) (v : Verdict) (work k : ℕ) (before : List ℕ
 faulty-text r v work k before e = declines r v work k before (faulty-caused v k e) (λ b R. rows-refused b work (length before) v k e)
 
 module _ (r : Register) (e : Expr) (n work : ℕ) (before : List ℕ) (size : (b : Book) → Represents r b → n ≡ b .n) where
-  pub little-work : work < rowsWork n → AsksRowsFor r (accepted e) work before before (Refused 12)
+  pub little-work : {w : ℕ} → w ≡ rowWidth n → work < 32 * (n * w) → AsksRowsFor r (accepted e) work before before (Refused 12)
   unfolding number
-  little-work h =
+  little-work q h =
       declines r (accepted e) work 12 before (short-work, refl)
-      (λ b R. rows-short b work (length before) e (subst (λ (i : ℕ). work < rowsWork i) (size b R) h))
+      (λ b R. rows-short b work (length before) e (subst (λ (i : ℕ). work < rowsWork i) (size b R) (subst (λ (w : ℕ). work < 32 * (n * w)) q h)))
 
   -- ---- the pairs of the value handed over
-  pub listed-value : (s links used code ws ms after : List ℕ) (t : ℕ) → n ≤ maxRecords → rowsWork n ≤ work
+  pub listed-value : (s links used code ws ms after : List ℕ) (t w : ℕ) → w ≡ rowWidth n → n ≤ maxRecords → 32 * (n * w) ≤ work
       → ((b : Book) → Represents r b → Linked links (b .sheet)) → ((b : Book) → Represents r b → n ≡ b .n → bitAt used ≡ (λ x. bit (asked b .inUse x))) → Coded s e code
       → ValueFirst n links used code ws ms
-      → t ≡ length (listed n (first n (rowWidth n) ws ms))
-      → after ≡ take (length before) (listed n (first n (rowWidth n) ws ms)) ++ drop (length (listed n (first n (rowWidth n) ws ms))) before
+      → t ≡ length (listed n (first n w ws ms))
+      → after ≡ take (length before) (listed n (first n w ws ms)) ++ drop (length (listed n (first n w ws ms))) before
       → AsksRowsFor r (accepted e) work before after (Pairs t)
   unfolding pairs asked
-  listed-value s links used code ws ms after t small h linked bits C made total written =
-      let H : Handed (listed n (first n (rowWidth n) ws ms)) before after (Pairs t) = subst (λ (k : ℕ). Handed (listed n (first n (rowWidth n) ws ms)) before after (Pairs k)) (sym total) (handed (written ∙ first-over (listed n (first n (rowWidth n) ws ms)) before)) in
+  listed-value s links used code ws ms after t w width small h linked bits C made total written =
+      let H : Handed (listed n (first n w ws ms)) before after (Pairs t) = subst (λ (k : ℕ). Handed (listed n (first n w ws ms)) before after (Pairs k)) (sym total) (handed (written ∙ first-over (listed n (first n w ws ms)) before)) in
       record {
         past = handed-past H;
         unchanged = λ k q. handed-some H k q;
         caused = λ k q. handed-some H k q;
-        book = λ b R. rows-handed b e work (subst (λ (i : ℕ). rowsWork i ≤ work) (size b R) h) (subst (λ (l : List ℕ). Handed l before after (Pairs t)) (value b R) H);
+        book = λ b R. rows-handed b e work (subst (λ (i : ℕ). rowsWork i ≤ work) (size b R) (subst (λ (v : ℕ). 32 * (n * v) ≤ work) width h)) (subst (λ (l : List ℕ). Handed l before after (Pairs t)) (value b R) H);
       }
     where
-      value : (b : Book) → Represents r b → listed n (first n (rowWidth n) ws ms) ≡ pairs (asked b) e
+      value : (b : Book) → Represents r b → listed n (first n w ws ms) ≡ pairs (asked b) e
       value b R =
           let z : n ≡ b .n = size b R in
           let L : Lettered b n links used = record { size = z; small = subst (λ (i : ℕ). i ≤ maxRecords) z small; fit = R .sheet .fit; linked = linked b R; in-use = bits b R z } in
-          ap (λ (i : ℕ). listed i (first n (rowWidth n) ws ms)) z ∙ ap (listed (b .n)) (made .value b L s e C)
+          ap₂ (λ (i v : ℕ). listed i (first n v ws ms)) z width ∙ ap (listed (b .n)) (made .value b L s e C)
 
 pub same-verdict : (r : Register) (v : Verdict) (e : Expr) (work : ℕ) (before after : List ℕ) (a : PairsAnswer) → v ≡ accepted e → AsksRowsFor r (accepted e) work before after a → AsksRowsFor r v work before after a
 same-verdict r v e work before after a d A = subst (λ (w : Verdict). AsksRowsFor r w work before after a) (sym d) A

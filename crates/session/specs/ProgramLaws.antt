@@ -116,9 +116,9 @@ room-enough outside c d short k room h = absurd (omega arith)
 room-enough large c d short k room h = absurd (omega arith)
 
 -- by rows or by trees
-either-length : {o p : Outcome} {l : List ℕ} (t : Bool) → length (listAfter o l) ≡ length l → length (listAfter p l) ≡ length l → length (listAfter (pick t o p) l) ≡ length l
-either-length true h k = h
-either-length false h k = k
+either-length : (o p : Outcome) (l : List ℕ) (t : Bool) → length (listAfter o l) ≡ length l → length (listAfter p l) ≡ length l → length (listAfter (pick t o p) l) ≡ length l
+either-length o p l true h k = h
+either-length o p l false h k = k
 
 pub length-left : (work : ℕ) (l : List ℕ) (s : Session) (f : Frame) (v : Verdict) (t : Reply) → length (listLeft work l s f v t) ≡ length l
 unfolding listLeft programPairs rowsAnswer pairsAnswer chainAnswer chainCauses
@@ -133,7 +133,7 @@ length-left work l (opened b) (asks (opening n)) v t = refl
 length-left work l (opened b) (asks (call c)) v t = refl
 length-left work l (opened b) (asks (totalling k)) v t = refl
 length-left work l (opened b) (asks (pairs-asked u)) v t =
-    either-length (leb (b .n) rowRecords)
+    either-length (rowsAnswer b v work (length l)) (pairsAnswer b v work (length l)) l (leb (b .n) rowRecords)
     (length-pairs (firstNumber (rowsCauses b v work)) (length (pairsOf b v)) (pairsOf b v) l)
     (length-pairs (firstNumber (pairsCauses b v work)) (length (pairsOf b v)) (pairsOf b v) l)
 length-left work l (opened b) (asks (chain-asked x y u)) v t =

@@ -1,14 +1,18 @@
+-- `of_code` tests its space, reads the register's links and records in use, runs the code, and lists the relation that it leaves. Assumes nothing.
+use native.Mathlib.Omega.{arith}
+use mathlib.Core.Path.{_≡_, sym, subst}
+use Prim.Native.Nat.{ℕ, _*_, _≤_}
+use lib.ListN.{length, take}
+use lib.Seq.{length-take-le}
+use Rattle.rowpairs.specs.Asking.{rowWidth}
+use Rattle.rowpairs.proofs.Stepping.{unit-le}
+use Rattle.rowpairs.proofs.Answering.{little-work, listed-value}
 use borrow.Author.Needs.{needs}
 use Rattle.rowpairs.proofs.of_code.Statement.{statement}
 use Rattle.rowpairs.proofs.of_code.Tie as tie
-use Rattle.rowpairs.proofs.of_code.Reads as reads
-use Rattle.rowpairs.proofs.of_code.Lts as lts
-use Rattle.grid.proofs.list.Reads as list-reads
-use Rattle.pairs.proofs.in_use.Reads as in-use-reads
-use Rattle.register.proofs.Register.links.Reads as links-reads
-use Rattle.register.proofs.Register.size.Reads as size-reads
-use Rattle.rowpairs.proofs.row_width.Reads as row-width-reads
-use Rattle.rowpairs.proofs.run.Reads as run-reads
+
+in-words : (c : tie.After-links) → c .links .result .count ≤ length (c .links .result .words)
+in-words c = let o = c .links .ensures in omega (arith, o .few, o .long)
 
 -- src/lib.rt:161:9
 size-requires : tie.Need-size-requires
@@ -20,15 +24,15 @@ row-width-requires c κs = search needs
 
 -- src/lib.rt:163:27
 mul-if1 : tie.Need-mul-if1
-mul-if1 c = ?
+mul-if1 c = let w : c .row-width .result ≡ rowWidth (c .before .size .result) = c .row-width .ensures in rw w (omega (arith, unit-le (c .before .size .result) (c .before .size .ensures .small)))
 
 -- src/lib.rt:163:21
 mul-if1-2 : tie.Need-mul-if1-2
-mul-if1-2 c = ?
+mul-if1-2 c = let w : c .row-width .result ≡ rowWidth (c .before .size .result) = c .row-width .ensures in rw w (omega (arith, unit-le (c .before .size .result) (c .before .size .ensures .small)))
 
 -- src/lib.rt:164:9
 returns : tie.Need-returns
-returns c = ?
+returns c = λ s e q. little-work (c .before .before .before .before .before .args .register) e (c .before .before .size .result) _ _ (c .before .before .size .ensures .size) (c .before .row-width .ensures) (c .if1 .taken)
 
 -- src/lib.rt:166:9
 links-requires : tie.Need-links-requires
@@ -44,7 +48,7 @@ array-share-prefix-array c = search needs
 
 -- src/lib.rt:171:9
 slice-aggregate-run : tie.Need-slice-aggregate-run
-slice-aggregate-run c = ?
+slice-aggregate-run c = sym (length-take-le _ _ (in-words (c .before .before .before)))
 
 -- src/lib.rt:171:26
 slice-aggregate-run-2 : tie.Need-slice-aggregate-run-2
@@ -60,11 +64,17 @@ array-share-prefix-code c = search needs
 
 -- src/lib.rt:171:54
 slice-aggregate-run-4 : tie.Need-slice-aggregate-run-4
-slice-aggregate-run-4 c = ?
+slice-aggregate-run-4 c = sym (length-take-le _ _ (c .before .before .before .before .before .before .before .before .before .before .before .before .before .pre .0))
 
 -- src/lib.rt:171:5
 run-requires : tie.Need-run-requires
-run-requires c κs = ?
+run-requires c κs = 
+    let small = c .before .before .before .before .before .before .before .before .before .before .size .ensures .small in
+    (record {
+      small = small;
+      words = subst (λ (w : ℕ). 32 * (c .before .before .before .before .before .before .before .before .before .before .size .result * w) ≤ length (c .before .before .before .before .before .before .before .before .before .before .before .before .before .args .work .now)) (c .before .before .before .before .before .before .before .before .before .row-width .ensures) (omega (arith, c .before .before .before .before .before .before .before .before .if1 .left));
+      marks = omega (arith, small);
+    }, c .before .before .before .before .before .before .before .before .before .before .before .before .before .pre .1)
 
 -- src/lib.rt:172:34
 slice-aggregate-list : tie.Need-slice-aggregate-list
@@ -84,7 +94,14 @@ same-length-2 c = search needs
 
 -- src/lib.rt:150:1
 returns-2 : tie.Need-returns-2
-returns-2 c = ?
+returns-2 c = 
+    let a = c .before .before .before .before .before .before .before .before .before .before .before .before .before .before .before .before .before .before .before .before .before .before .before .args in
+    let n = c .before .before .before .before .before .before .before .before .before .before .before .before .before .before .before .before .before .before .before .before .size in
+    let l = c .before .before .before .before .before .before .before .before .before .before .before .before .before .before .before .before .before .links in
+    let m = c .before .before .before .before .before .before .before .before .before .run in
+    let t = c .before .before .list in
+    λ s e q. listed-value (a .register) e (n .result) _ (a .list .now) (n .ensures .size) s (take (l .result .count) (l .result .words)) (c .before .before .before .before .before .before .before .before .before .before .before .before .before .before .before .in-use .result) _
+    (m .last .1 .1 .0) (m .last .1 .1 .1 .0) (t .last .1 .1 .1 .1 .0) (t .result) _ (c .before .before .before .before .before .before .before .before .before .before .before .before .before .before .before .before .before .before .before .row-width .ensures) (n .ensures .small) (omega (arith, c .before .before .before .before .before .before .before .before .before .before .before .before .before .before .before .before .before .before .if1 .left)) (l .ensures .linked) (c .before .before .before .before .before .before .before .before .before .before .before .before .before .before .before .in-use .ensures) q (m .ensures) (t .ensures .0) (t .ensures .1)
 
 pub of-code-spec : {M : Type 1} → statement M
 of-code-spec =

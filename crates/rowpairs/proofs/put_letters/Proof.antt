@@ -9,7 +9,7 @@ use Rattle.rowpairs.proofs.put_letters.Tie as tie
 
 -- src/lib.rt:50:5
 put-letters-requires : tie.Need-put-letters-requires
-put-letters-requires c κs = ?
+put-letters-requires c κs = search needs
 
 -- src/lib.rt:36:1
 same-length : tie.Need-same-length

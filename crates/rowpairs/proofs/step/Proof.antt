@@ -77,7 +77,9 @@ part-operate-end-2 c = search needs
 
 -- src/lib.rt:116:5
 operate-requires : tie.Need-operate-requires
-operate-requires c κs = lent-space _ _ _ _ _ (c .before .before .before .row-width .ensures) (c .before .before .before .before .before .before .before .before .pre .0) (early (c .before .before))
+operate-requires c κs =
+    let a = c .before .before .before .before .before .before .before .before .args in
+    lent-space (a .n) _ _ (a .cells .now) (a .masks .now) (c .before .before .before .row-width .ensures) (c .before .before .before .before .before .before .before .before .pre .0) (early (c .before .before))
 
 -- src/lib.rt:125:5
 add-result : tie.Need-add-result
