@@ -5,3 +5,4 @@ pub mod Columns
 pub mod Closures
 pub mod Products
 pub mod Pairs
+pub mod Lists

@@ -1,6 +1,8 @@
 // The bits of one word: the lowest, the next above one, and a word put into another.
 ghost use mathlib.Core.Path.{_≡_};
-ghost use Prim.Native.Nat.{ℕ, _+_, _<_, max, min};
+ghost use Prim.Native.Nat.{ℕ, _+_, _*_, _<_, max, min};
+ghost use lib.Dec.{ltb};
+ghost use Rattle.book.specs.Basics.{pick};
 ghost use Rattle.k2.specs.Bits.{digit};
 ghost use Rattle.grid.specs.Steps.{Lowest};
 
@@ -29,4 +31,19 @@ pub fn join(mask: u16, c: usize, old: u64, v: u64) -> u64
         return old | v;
     }
     v
+}
+
+// Of word c of a row, the bits of the columns below n.
+pub fn cut(word: u64, c: usize, n: usize) -> u64
+    requires { ⌜ c < 16 ⌝ }
+    ensures { λ r. ⌜ ((j : ℕ) → j < 64 → digit r j ≡ pick (ltb (c * 64 + j) n) (digit word j) 0) ⌝ }
+{
+    let at = c * 64;
+    if n <= at {
+        return 0;
+    }
+    if at + 64 <= n {
+        return word;
+    }
+    word % (1 << (n - at))
 }
