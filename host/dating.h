@@ -89,6 +89,10 @@ uint64_t dating_tree_product(size_t n, const uint64_t *a, size_t a_len, uint8_t 
 uint64_t dating_tree_transpose(size_t n, const uint64_t *a, size_t a_len, uint64_t *out, size_t out_len, uint64_t *work, size_t work_len);
 uint64_t dating_tree_closure(size_t n, const uint64_t *a, size_t a_len, uint64_t *out, size_t out_len, uint64_t *work, size_t work_len);
 
+/* The pairs as dating_pairs gives them, by the engine on rows of bits. Work of 32 * n * w words, where w is n / 64, rounded up. */
+uint64_t dating_pairs_by_rows(const uint32_t *state, size_t state_len, const uint8_t *text, size_t text_len, uint64_t *work, size_t work_len,
+                              uint32_t *list, size_t list_len);
+
 #ifdef __cplusplus
 }
 #endif

@@ -165,6 +165,16 @@ extern "C" {
         work: *mut u64,
         work_len: usize,
     ) -> u64;
+    fn dating_pairs_by_rows(
+        state: *const u32,
+        state_len: usize,
+        text: *const u8,
+        text_len: usize,
+        work: *mut u64,
+        work_len: usize,
+        list: *mut u32,
+        list_len: usize,
+    ) -> u64;
 }
 
 // SAFETY, of each: the function is the declared one, and has no `requires`; it is proved to end, and to read and write nothing but the
@@ -336,4 +346,20 @@ pub fn tree_transpose(n: usize, a: &[u64], out: &mut [u64], work: &mut [u64]) ->
 
 pub fn tree_closure(n: usize, a: &[u64], out: &mut [u64], work: &mut [u64]) -> u64 {
     unsafe { dating_tree_closure(n, a.as_ptr(), a.len(), out.as_mut_ptr(), out.len(), work.as_mut_ptr(), work.len()) }
+}
+
+/// The pair words as [`pairs`] gives them, by the engine on rows of bits. Work: [`rows_work`](crate::rows_work).
+pub fn pairs_by_rows(state: &[u32], text: &[u8], work: &mut [u64], list: &mut [u32]) -> u64 {
+    unsafe {
+        dating_pairs_by_rows(
+            state.as_ptr(),
+            state.len(),
+            text.as_ptr(),
+            text.len(),
+            work.as_mut_ptr(),
+            work.len(),
+            list.as_mut_ptr(),
+            list.len(),
+        )
+    }
 }

@@ -29,6 +29,7 @@
 //!
 //! A call takes at most 464 KB of stack (listing a tree), a pair question 352, a chain question 144, an edit or undo 128.
 
+mod by_rows;
 pub mod calls;
 mod items;
 mod refusal;
@@ -39,5 +40,5 @@ mod tree;
 pub use items::{Link, Links, Pairs, Step, Steps};
 pub use refusal::Refusal;
 pub use register::Register;
-pub use space::{chain_work, longest_chain, most_pairs, tree_words, tree_work};
+pub use space::{chain_work, longest_chain, most_pairs, rows_work, tree_words, tree_work};
 pub use tree::{Sense, Tree, Trees};

@@ -1,7 +1,7 @@
 //! The register.
 
 use crate::calls::{self, counted, done, told, STATE_WORDS};
-use crate::space::{chain_work, longest_chain, most_pairs, tree_work};
+use crate::space::{chain_work, longest_chain};
 use crate::{Links, Pairs, Refusal, Steps};
 use std::fmt::{self, Debug, Formatter};
 
@@ -11,9 +11,9 @@ use std::fmt::{self, Debug, Formatter};
 /// 0.5 MB and 0.3 MB (chains), of which the system gives what is written to. [`pairs_in`](Register::pairs_in) and
 /// [`chain_in`](Register::chain_in) take the caller's space instead.
 pub struct Register {
-    words: Box<[u32]>,
-    work: Vec<u64>,
-    list: Vec<u32>,
+    pub(crate) words: Box<[u32]>,
+    pub(crate) work: Vec<u64>,
+    pub(crate) list: Vec<u32>,
 }
 
 impl Register {
@@ -119,7 +119,8 @@ impl Register {
         Ok(Links::new(&self.list, total))
     }
 
-    /// The pairs of records that the expression joins.
+    /// The pairs of records that the expression joins, by the faster of the two engines: [`pairs_by_rows`](Register::pairs_by_rows), for
+    /// every register. [`pairs_by_trees`](Register::pairs_by_trees) gives the same pairs.
     ///
     /// ```
     /// # let mut register = dating::Register::fresh(3)?;
@@ -129,11 +130,7 @@ impl Register {
     /// # Ok::<(), dating::Refusal>(())
     /// ```
     pub fn pairs(&mut self, expression: impl AsRef<[u8]>) -> Result<Pairs<'_>, Refusal> {
-        let n = self.size();
-        grow(&mut self.work, tree_work(n));
-        grow(&mut self.list, most_pairs(n));
-        let total = counted(calls::pairs(&self.words, expression.as_ref(), &mut self.work, &mut self.list))?;
-        Ok(Pairs::new(&self.list, total))
+        self.pairs_by_rows(expression)
     }
 
     /// The first of the shortest chains from one record to another that spell a word of the expression; none if there is no chain.
@@ -208,7 +205,7 @@ fn label(letter: char) -> u8 {
 }
 
 /// Room for so many words.
-fn grow<T: Clone + Default>(space: &mut Vec<T>, words: usize) {
+pub(crate) fn grow<T: Clone + Default>(space: &mut Vec<T>, words: usize) {
     if space.len() < words {
         *space = vec![T::default(); words];
     }

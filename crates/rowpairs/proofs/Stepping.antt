@@ -62,6 +62,11 @@ module _ (n k cells masks : ℕ) (L : Lent n cells masks) (early : k ≤ 18) whe
     marks = omega (arith, mark-le, L .marks);
   }
 
+-- what the list is lent
+pub list-space : (n w cells masks : ℕ) → w ≡ rowWidth n → n ≤ maxRecords → 32 * (n * w) ≤ cells → 20 * n < masks
+    → (n ≤ 1024) × (w ≤ 16) × (n ≤ w * 64) × (n * w ≤ cells) × (n ≤ masks)
+list-space n w cells masks e h l m = (h, rw e (width-le n h), rw e (width-wide n), omega arith, omega arith)
+
 -- ---- a slice with a part of it, from a place on, changed
 module _ (xs part : List ℕ) (start : ℕ) (h : start ≤ length xs) where
   abbrev changed : List ℕ

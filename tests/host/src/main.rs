@@ -79,11 +79,12 @@ fn run_all() -> ExitCode {
     }
     let counts = &run.counts;
     println!(
-        "{cases} cases: {} edits, {} registers read, {} pair questions, {} chain questions, {} tree calls, {} damaged registers; \
+        "{cases} cases: {} edits, {} registers read, {} pair questions, {} by rows, {} chain questions, {} tree calls, {} damaged registers; \
          {} calls, {} differences",
         counts.edits,
         counts.contents,
         counts.pairs,
+        counts.rows,
         counts.chains,
         counts.trees,
         counts.damaged,

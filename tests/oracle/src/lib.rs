@@ -25,6 +25,7 @@ pub mod program;
 pub mod question;
 pub mod random;
 pub mod relation;
+pub mod rows;
 pub mod tree;
 
 /// The most records a register has.

@@ -5,7 +5,7 @@ use Prim.Native.Nat.{ℕ, _*_, _≤_}
 use lib.ListN.{length, take}
 use lib.Seq.{length-take-le}
 use Rattle.rowpairs.specs.Asking.{rowWidth}
-use Rattle.rowpairs.proofs.Stepping.{unit-le}
+use Rattle.rowpairs.proofs.Stepping.{unit-le, list-space}
 use Rattle.rowpairs.proofs.Answering.{little-work, listed-value}
 use borrow.Author.Needs.{needs}
 use Rattle.rowpairs.proofs.of_code.Statement.{statement}
@@ -82,7 +82,12 @@ slice-aggregate-list c = search needs
 
 -- src/lib.rt:172:9
 list-requires : tie.Need-list-requires
-list-requires c κs = ?
+list-requires c κs =
+    let n = c .before .before .before .before .before .before .before .before .before .before .before .before .before .before .before .before .before .size in
+    let m = c .before .before .before .before .before .before .run in
+    let k : length (m .last .1 .1 .0) ≡ length (c .before .before .before .before .before .before .before .before .before .before .before .before .before .before .before .before .before .before .before .before .args .work .now) = m .kept .1 .1 .0 in
+    let j : length (m .last .1 .1 .1 .0) ≡ 20481 = m .kept .1 .1 .1 .0 in
+    list-space (n .result) _ _ _ (c .before .before .before .before .before .before .before .before .before .before .before .before .before .before .before .before .row-width .ensures) (n .ensures .small) (omega (arith, c .before .before .before .before .before .before .before .before .before .before .before .before .before .before .before .if1 .left)) (omega (arith, n .ensures .small))
 
 -- src/lib.rt:150:1
 same-length : tie.Need-same-length

@@ -23,7 +23,7 @@ pairs-by-rows-requires : tie.Need-pairs-by-rows-requires
 pairs-by-rows-requires c κs = search needs
 
 told-pairs-requires : tie.Need-told-pairs-requires
-told-pairs-by-rows-requires c κs = search needs
+told-pairs-requires c κs = search needs
 
 same-length : tie.Need-same-length
 same-length c = search needs
