@@ -22,7 +22,7 @@ enum-told c = search needs
 
 -- src/lib.rt:71:26
 transpose-requires : tie.Need-transpose-requires
-transpose-requires c κs = ?
+transpose-requires c κs = search needs
 
 -- src/lib.rt:73:25
 enum-told-2 : tie.Need-enum-told-2
