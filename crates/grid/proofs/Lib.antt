@@ -6,3 +6,4 @@ pub mod Closures
 pub mod Products
 pub mod Pairs
 pub mod Lists
+pub mod Turns

@@ -58,10 +58,10 @@ module _ (n w x : ℕ) (ws ms : List ℕ) (nl : n ≤ w * 64) (xl : x < n) where
       (λ y. most-none (min r n) (linked n w ws ms x y) (λ z l. gap-linked 0 r y (unfold firstRows in (L .gap)) z (omega arith) (omega arith)))
 
   -- the next column, found in the words as they are
-  pub gathered-lowest : (ws′ : List ℕ) → ((k : ℕ) → k < n * w + n * w → getD ws′ k 0 ≡ getD ws k 0) → (lo r : ℕ) → r ≤ w * 64
+  pub lowest-kept : (ws′ : List ℕ) → ((k : ℕ) → k < n * w → getD ws′ k 0 ≡ getD ws k 0) → (lo r : ℕ) → r ≤ w * 64
       → Lowest (rowOf ws′ (x * w) (getD ms x 0)) lo (w * 64) r → Lowest (firstRows w ws ms x) lo (w * 64) r
   unfolding firstRows
-  gathered-lowest ws′ e lo r h L = record {
+  lowest-kept ws′ e lo r h L = record {
     low = L .low;
     gap = λ k a b. sym (same k (omega arith)) ∙ L .gap k a b;
     hit = λ l. sym (same r l) ∙ L .hit l;

@@ -40,7 +40,15 @@ fn list_word(word: u64, at: usize, out: &mut [u32], t: usize) -> usize
 }
 
 // The pairs of row x with the mask, in the columns below n, written from place t on. The place after them.
-fn list_row(cells: &[u64], mask: u16, n: usize, w: usize, x: usize, out: &mut [u32], t: usize) -> usize
+fn list_row(
+    cells: &[u64],
+    mask: u16,
+    n: usize,
+    w: usize,
+    x: usize,
+    out: &mut [u32],
+    t: usize,
+) -> usize
     requires { ⌜ (n ≤ 1024) × (w ≤ 16) × (n ≤ w * 64) × (n * w ≤ length (now cells)) × (x < n) × (t ≤ 1048576) ⌝ }
     ensures { λ r. ⌜ (r ≤ t + 1024)
         × Grown t r (columns (cutRow n (rowOf (now (cells .entry)) (x * w) mask)) (x * 1024) n) (now (out .entry)) (now (out .exit)) ⌝ }

@@ -63,7 +63,15 @@ fn has_label(labels: u32, label: u32) -> bool
 }
 
 // The pair of one link's word put in, as `put_letters` does.
-fn put_word(word: u32, forward: u32, against: u32, cells: &mut [u64], masks: &mut [u16], n: usize, w: usize)
+fn put_word(
+    word: u32,
+    forward: u32,
+    against: u32,
+    cells: &mut [u64],
+    masks: &mut [u16],
+    n: usize,
+    w: usize,
+)
     requires { ⌜ (n ≤ 1024) × (w ≤ 16) × (n ≤ w * 64) × (n * w ≤ length (now cells)) × (n ≤ length (now masks)) ⌝ }
     ensures { λ _. ⌜ first n w (now (cells .exit)) (now (masks .exit))
         ≡ union (first n w (now (cells .entry)) (now (masks .entry))) (within n (crossedWords (word ∷ []) forward against)) ⌝ }
@@ -80,7 +88,15 @@ fn put_word(word: u32, forward: u32, against: u32, cells: &mut [u64], masks: &mu
 
 // The pairs of link words put into the first relation, if both records are below n: of links whose label is in `forward` as they are, of those whose
 // label is in `against` exchanged. A link's word is label * 1048576 + from * 1024 + to.
-pub fn put_letters(words: &[u32], forward: u32, against: u32, cells: &mut [u64], masks: &mut [u16], n: usize, w: usize)
+pub fn put_letters(
+    words: &[u32],
+    forward: u32,
+    against: u32,
+    cells: &mut [u64],
+    masks: &mut [u16],
+    n: usize,
+    w: usize,
+)
     requires { ⌜ (n ≤ 1024) × (w ≤ 16) × (n ≤ w * 64) × (n * w ≤ length (now cells)) × (n ≤ length (now masks)) ⌝ }
     ensures { λ _. ⌜ first n w (now (cells .exit)) (now (masks .exit))
         ≡ union (first n w (now (cells .entry)) (now (masks .entry))) (within n (crossedWords (now (words .entry)) forward against)) ⌝ }

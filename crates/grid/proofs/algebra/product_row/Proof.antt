@@ -2,7 +2,7 @@
 -- column of row x or past them all. The measure is the columns left. Assumes nothing.
 use Prim.Native.Nat.{ℕ, _<_, _≤_, _+_, _*_, _-_}
 use Rattle.grid.proofs.Grids.{rows-apart, unit-fits}
-use Rattle.grid.proofs.Products.{Gathered, gathered-none, gathered-lowest, gathered-more, gathered-all}
+use Rattle.grid.proofs.Products.{Gathered, gathered-none, lowest-kept, gathered-more, gathered-all}
 use Rattle.grid.specs.Grid.{firstRows}
 use borrow.Author.Needs.{needs}
 use lib.ListN.{length, getD}
@@ -100,7 +100,7 @@ loop-again c =
     let zl : l .z < a .n = omega arith in
     let s = rows-apart (l .z) (a .n) (a .w) zl in
     let N = m .ensures (inr (omega (arith, s))) in
-    let P = gathered-lowest (a .n) (a .w) (a .x) (a .cells .now) (a .masks .now) nl xl _ (λ k h. N .below k h ∙ l .inv .4 .below k h) (l .z + 1) (c .next2 .result) (L .0) (L .1) in (
+    let P = lowest-kept (a .n) (a .w) (a .x) (a .cells .now) (a .masks .now) nl xl _ (λ k h. N .below k (omega arith) ∙ l .inv .4 .below k (omega arith)) (l .z + 1) (c .next2 .result) (L .0) (L .1) in (
       L .0,
       P .hit,
       m .kept .0 ∙ l .inv .2,

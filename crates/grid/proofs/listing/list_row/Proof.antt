@@ -100,10 +100,11 @@ same-length c = search needs
 returns : tie.Need-returns Inv-loop μ-loop
 returns c =
     let a = c .before .before .before .before .before .args in
-    let l = c .before .loop in
-    (omega (arith, l .inv .1),
+    let l = c .before .loop in (
+      omega (arith, l .inv .1),
       grown-to (a .t) (l .s) _ _ (a .out .now) (l .out)
-      (cut-all (a .n) (a .w) (a .x * a .w) (a .mask) (a .x) (a .cells .now) (l .c) (a .x * 1024) (omega arith)) (l .inv .3))
+          (cut-all (a .n) (a .w) (a .x * a .w) (a .mask) (a .x) (a .cells .now) (l .c) (a .x * 1024) (omega arith)) (l .inv .3),
+    )
 
 pub list-row-spec : {M : Type 1} → statement M
 list-row-spec =

@@ -53,7 +53,7 @@ loop-again c =
       rw (v .8) (v .3 .kept .0 ∙ l .inv .1),
       rw (v .9) (v .3 .kept .1 .0 ∙ l .inv .2),
       rw (v .8, v .9) (v .3 .ensures ∙ ap (λ (s : Cells). union s (within (a .n) (onePair (l .x) (l .x)))) (l .inv .3) ∙ put-more (a .n) A _ _
-      ∙ ap (λ (s : Cells). union A (within (a .n) s)) (diagonal-more f (l .x) (sym (r .ensures) ∙ v .0 .taken))),
+          ∙ ap (λ (s : Cells). union A (within (a .n) s)) (diagonal-more f (l .x) (sym (r .ensures) ∙ v .0 .taken))),
     ))
     (λ v. (
       omega arith,

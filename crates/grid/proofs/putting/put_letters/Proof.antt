@@ -53,7 +53,7 @@ loop-again c =
       p .kept .1 .1 .1 .0 ∙ l .inv .1,
       p .kept .1 .1 .1 .1 .0 ∙ l .inv .2,
       p .ensures ∙ ap (λ (s : Cells). union s (within (a .n) (crossedWords (getD ws (l .i) 0 ∷ []) (a .forward) (a .against)))) (l .inv .3)
-      ∙ put-more (a .n) A _ _ ∙ ap (λ (s : Cells). union A (within (a .n) s)) (crossed-next ws (l .i) (a .forward) (a .against) il),
+          ∙ put-more (a .n) A _ _ ∙ ap (λ (s : Cells). union A (within (a .n) s)) (crossed-next ws (l .i) (a .forward) (a .against) il),
     )
 
 same-length : tie.Need-same-length Inv-loop μ-loop
