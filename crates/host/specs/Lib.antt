@@ -1,3 +1,4 @@
 pub mod Host
 pub mod Inner
 pub mod HostLaws
+pub mod ByRows
