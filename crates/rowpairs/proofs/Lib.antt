@@ -2,3 +2,4 @@ pub mod Operating
 pub mod Stepping
 pub mod Running
 pub mod Answering
+pub mod Lettering

@@ -138,7 +138,7 @@ module _ (n : ℕ) (ws ms : List ℕ) (k : ℕ) where
 module _ (n : ℕ) (links used : List ℕ) (y : Item) (ws part ms marks : List ℕ) (m k : ℕ) (is : m ≡ k + operands y)
     (a : k * (n * rowWidth n) ≤ length ws) (b : k * n ≤ length ms)
     (made : (book : Book) → Lettered book n links used → first n (rowWidth n) part marks
-        ≡ outcomeOf (asked book) y (first n (rowWidth n) (drop (k * (n * rowWidth n)) ws) (drop (k * n) ms)) (second n (rowWidth n) (drop (k * (n * rowWidth n)) ws) (drop (k * n) ms))) where
+    ≡ outcomeOf (asked book) y (first n (rowWidth n) (drop (k * (n * rowWidth n)) ws) (drop (k * n) ms)) (second n (rowWidth n) (drop (k * (n * rowWidth n)) ws) (drop (k * n) ms))) where
   abbrev ws′ : List ℕ
   ws′ = changed ws part (k * (n * rowWidth n)) a
 

@@ -18,11 +18,15 @@ ghost use Rattle.grid.specs.Grid.{first};
 ghost use Rattle.pairs.specs.Evaluation.{Ready};
 ghost use Rattle.pairs.specs.Steps.{Lettered, Coded};
 ghost use Rattle.rowpairs.specs.Asking.{rowWidth, rowsWork, AsksRowsFor, AsksRows};
+ghost use Rattle.rowpairs.specs.Labels.{everyIf};
 ghost use Rattle.rowpairs.specs.Evaluation.{Space, Lent, Operates, Goes, ValueFirst};
 use reader::Item;
 
 // The masks of 20 relations of 1,024 rows, and one more: 19 that wait, one as scratch, and a row of a product.
 const MASKS: usize = 20481;
+
+// The set of all 26 labels.
+const EVERY_LABEL: u32 = 67108863;
 
 // The words of a row of n columns.
 fn row_width(n: usize) -> usize
@@ -30,6 +34,17 @@ fn row_width(n: usize) -> usize
     ensures { λ r. ⌜ r ≡ rowWidth n ⌝ }
 {
     (n + 63) / 64
+}
+
+// Every label if the set has this one, else none.
+fn every_if(set: u32, label: u8) -> u32
+    requires { ⌜ label < 26 ⌝ }
+    ensures { λ r. ⌜ r ≡ everyIf set label ⌝ }
+{
+    if (set >> label) % 2 == 1 {
+        return EVERY_LABEL;
+    }
+    0
 }
 
 // The links of letters put into the first relation: those of the labels of the first set crossed forward, those of the second against their sense.
@@ -45,9 +60,18 @@ fn put_letters(
     requires { ⌜ Space n w (length (now cells)) (length (now masks)) ⌝ }
     ensures { λ _. ⌜ ((b : Book) (used : List ℕ) → Lettered b n (now (links .entry)) used
         → first n w (now (cells .exit)) (now (masks .exit))
-            ≡ union (first n w (now (cells .entry)) (now (masks .entry))) (crossedBy (asked b) (lettersIn forward against))) ⌝ }
+        ≡ union (first n w (now (cells .entry)) (now (masks .entry))) (crossedBy (asked b) (lettersIn forward against))) ⌝ }
 {
-    grid::put_letters(links, forward, against, cells, masks, n, w);
+    let mut label: u8 = 0;
+    while label < 26 {
+        let plain = every_if(forward, label);
+        let turned = every_if(against, label);
+        if plain + turned != 0 {
+            let part = register::label_part(links, label);
+            grid::put_letters(part, plain, turned, cells, masks, n, w);
+        }
+        label += 1;
+    }
 }
 
 // One item of the code, on the operands that lie at the front of the two parts; its value takes the place of the first.
@@ -126,14 +150,7 @@ fn step(
 }
 
 // The whole code: its value is left as the first relation.
-fn run(
-    links: &[u32],
-    used: &[u64],
-    cells: &mut [u64],
-    masks: &mut [u16],
-    n: usize,
-    code: &[u64],
-)
+fn run(links: &[u32], used: &[u64], cells: &mut [u64], masks: &mut [u16], n: usize, code: &[u64])
     requires { ⌜ Lent n (length (now cells)) (length (now masks)) × ((s : List ℕ) × (e : Expr) × Coded s e (now code)) ⌝ }
     ensures { λ _. ⌜ ValueFirst n (now (links .entry)) (now (used .entry)) (now (code .entry)) (now (cells .exit)) (now (masks .exit)) ⌝ }
 {

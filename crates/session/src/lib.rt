@@ -305,12 +305,7 @@ fn put_listing(answer: PairsAnswer, list: &[u32], out: &mut [u8]) -> usize
 }
 
 // The answer to a pair question of an opened book: by rows of bits for up to 32 records, by trees above.
-fn answer_pairs(
-    register: Register,
-    text: &[u8],
-    work: &mut [u64],
-    list: &mut [u32],
-) -> PairsAnswer
+fn answer_pairs(register: Register, text: &[u8], work: &mut [u64], list: &mut [u32]) -> PairsAnswer
     ensures { λ a. ⌜ AnswersPairs register (now (text .entry)) (length (now (work .entry))) (now (list .entry)) (now (list .exit)) a ⌝ }
 {
     if engine::size(register) <= ROW_RECORDS {

@@ -68,13 +68,15 @@ slice-aggregate-run-4 c = sym (length-take-le _ _ (c .before .before .before .be
 
 -- src/lib.rt:171:5
 run-requires : tie.Need-run-requires
-run-requires c κs = 
-    let small = c .before .before .before .before .before .before .before .before .before .before .size .ensures .small in
-    (record {
-      small = small;
-      words = subst (λ (w : ℕ). 32 * (c .before .before .before .before .before .before .before .before .before .before .size .result * w) ≤ length (c .before .before .before .before .before .before .before .before .before .before .before .before .before .args .work .now)) (c .before .before .before .before .before .before .before .before .before .row-width .ensures) (omega (arith, c .before .before .before .before .before .before .before .before .if1 .left));
-      marks = omega (arith, small);
-    }, c .before .before .before .before .before .before .before .before .before .before .before .before .before .pre .1)
+run-requires c κs =
+    let small = c .before .before .before .before .before .before .before .before .before .before .size .ensures .small in (
+      record {
+        small = small;
+        words = subst (λ (w : ℕ). 32 * (c .before .before .before .before .before .before .before .before .before .before .size .result * w) ≤ length (c .before .before .before .before .before .before .before .before .before .before .before .before .before .args .work .now)) (c .before .before .before .before .before .before .before .before .before .row-width .ensures) (omega (arith, c .before .before .before .before .before .before .before .before .if1 .left));
+        marks = omega (arith, small);
+      },
+      c .before .before .before .before .before .before .before .before .before .before .before .before .before .pre .1,
+    )
 
 -- src/lib.rt:172:34
 slice-aggregate-list : tie.Need-slice-aggregate-list
@@ -99,7 +101,7 @@ same-length-2 c = search needs
 
 -- src/lib.rt:150:1
 returns-2 : tie.Need-returns-2
-returns-2 c = 
+returns-2 c =
     let a = c .before .before .before .before .before .before .before .before .before .before .before .before .before .before .before .before .before .before .before .before .before .before .before .args in
     let n = c .before .before .before .before .before .before .before .before .before .before .before .before .before .before .before .before .before .before .before .before .size in
     let l = c .before .before .before .before .before .before .before .before .before .before .before .before .before .before .before .before .before .links in

@@ -78,7 +78,7 @@ same-length-2 c = search needs
 
 -- src/lib.rt:54:1
 returns : tie.Need-returns
-returns c = 
+returns c =
     let a = c .before .before .before .before .before .before .before .before .before .before .before .before .before .before .before .before .before .before .args in
     let p = c .before .before .before .before .put-letters in
     let q = c .before .before .before .before .before .before .before .before .before .before .before .before .item .given .0 in
@@ -95,7 +95,7 @@ same-length-4 c = search needs
 
 -- src/lib.rt:54:1
 returns-2 : tie.Need-returns-2
-returns-2 c = 
+returns-2 c =
     let a = c .before .before .before .before .before .before .before .before .before .before .before .before .before .args in
     let p = c .before .before .before .before .transpose in
     does-inverse (a .n) (a .w) (a .links .now) (a .used .now) (a .cells .now) (p .last .0) (a .masks .now) (p .last .1 .0) (a .item) (c .before .before .before .before .before .before .before .enum-told .given .1) (p .ensures)
@@ -110,7 +110,7 @@ same-length-6 c = search needs
 
 -- src/lib.rt:54:1
 returns-3 : tie.Need-returns-3
-returns-3 c = 
+returns-3 c =
     let a = c .before .before .before .before .before .before .before .before .before .before .before .before .before .before .before .before .before .before .before .before .args in
     let p = c .before .before .before .before .put-diagonal in
     does-star (a .n) (a .w) (a .links .now) (a .used .now) (a .cells .now) (p .last .1 .0) (a .masks .now) (p .last .1 .1 .0) (a .item) _ (c .before .before .before .before .before .before .before .before .before .before .before .before .before .before .enum-told2 .given .1)
@@ -126,7 +126,7 @@ same-length-8 c = search needs
 
 -- src/lib.rt:54:1
 returns-4 : tie.Need-returns-4
-returns-4 c = 
+returns-4 c =
     let a = c .before .before .before .before .before .before .before .before .before .before .before .before .before .args in
     let p = c .before .before .before .before .close2 in
     does-plus (a .n) (a .w) (a .links .now) (a .used .now) (a .cells .now) (p .last .0) (a .masks .now) (p .last .1 .0) (a .item) (c .before .before .before .before .before .before .before .enum-told3 .given .1) (p .ensures)
@@ -141,7 +141,7 @@ same-length-10 c = search needs
 
 -- src/lib.rt:54:1
 returns-5 : tie.Need-returns-5
-returns-5 c = 
+returns-5 c =
     let a = c .before .before .before .before .before .before .before .before .before .before .before .before .before .args in
     let p = c .before .before .before .before .put-diagonal2 in
     does-optional (a .n) (a .w) (a .links .now) (a .used .now) (a .cells .now) (p .last .1 .0) (a .masks .now) (p .last .1 .1 .0) (a .item) (c .before .before .before .before .before .before .before .enum-told4 .given .1) (p .ensures)
@@ -156,7 +156,7 @@ same-length-12 c = search needs
 
 -- src/lib.rt:54:1
 returns-6 : tie.Need-returns-6
-returns-6 c = 
+returns-6 c =
     let a = c .before .before .before .before .before .before .before .before .before .before .before .before .before .args in
     let p = c .before .before .before .before .unite in
     does-alternative (a .n) (a .w) (a .links .now) (a .used .now) (a .cells .now) (p .last .0) (a .masks .now) (p .last .1 .0) (a .item) (c .before .before .before .before .before .before .before .enum-told5 .given .1) (p .ensures)
@@ -171,7 +171,7 @@ same-length-14 c = search needs
 
 -- src/lib.rt:54:1
 returns-7 : tie.Need-returns-7
-returns-7 c = 
+returns-7 c =
     let a = c .before .before .before .before .before .before .before .before .before .before .before .before .before .args in
     let p = c .before .before .before .before .compose in
     does-sequence (a .n) (a .w) (a .links .now) (a .used .now) (a .cells .now) (p .last .0) (a .masks .now) (p .last .1 .0) (a .item) (c .before .before .before .before .before .before .before .enum-told6 .given .1) (p .ensures)

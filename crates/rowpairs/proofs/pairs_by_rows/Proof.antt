@@ -36,7 +36,7 @@ enum-known-answer-2 c = search needs
 
 -- src/lib.rt:190:42
 of-code-requires : tie.Need-of-code-requires
-of-code-requires c κs = 
+of-code-requires c κs =
     let a = read (c .before .before .before) in
     let k : length (c .before .before .before .before .before .before .read .result .code) ≡ 256 = search needs in
     (omega (arith, a .1 .fits), (c .before .before .before .before .before .before .before .before .before .before .args .text .now, a .0, coded (c .before .before .before)))
@@ -55,7 +55,7 @@ same-length-2 c = search needs
 
 -- src/lib.rt:177:1
 returns-2 : tie.Need-returns-2
-returns-2 c = 
+returns-2 c =
     let a = read (c .before .before .before .before .before .before .before .before) in
     same-verdict _ _ (a .0) _ _ _ _ (a .1 .is) (c .before .before .before .before .of-code .ensures (c .before .before .before .before .before .before .before .before .before .before .before .before .before .before .before .args .text .now) (a .0) (coded (c .before .before .before .before .before .before .before .before)))
 

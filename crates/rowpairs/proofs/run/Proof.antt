@@ -34,7 +34,7 @@ item-of-requires c κs = search needs
 
 -- src/lib.rt:144:9
 step-requires : tie.Need-step-requires Inv-loop μ-loop
-step-requires c κs = 
+step-requires c κs =
     let l = c .before .before .before .before .before .loop in
     let P = c .before .before .before .before .before .before .before .before .before .before .before .pre .0 in
     (record { small = P .small; words = omega (arith, l .inv .1, P .words); marks = omega (arith, l .inv .2, P .marks) }, going-ready _ _ _ _ (l .i) (omega arith) (l .inv .3) (sym (c .before .before .item-of .ensures)))
@@ -49,7 +49,7 @@ loop-less c = omega arith
 
 -- src/lib.rt:142:5
 loop-again : tie.Need-loop-again Inv-loop μ-loop
-loop-again c = 
+loop-again c =
     let l = c .before .before .before .before .before .before .before .before .before .before .loop in
     let s = c .before .before .before .before .step in
     (omega arith, s .kept .1 .1 .0 ∙ l .inv .1, s .kept .1 .1 .1 .0 ∙ l .inv .2, going-more _ _ _ _ (l .i) (omega arith) (l .inv .3) (sym (c .before .before .before .before .before .before .before .item-of .ensures)) (s .ensures))
@@ -64,7 +64,7 @@ same-length-2 c = c .before .loop .inv .2
 
 -- src/lib.rt:129:1
 returns : tie.Need-returns Inv-loop μ-loop
-returns c = 
+returns c =
     let l = c .before .loop in
     going-ends _ _ _ _ (omega arith) (l .inv .3)
 

@@ -1,0 +1,40 @@
+-- The links of letters, label by label.
+--   everyLabel      the set of all 26 labels
+--   everyIf m l     that set if the label l is in the set m of labels, else the set of none
+--   steppedBy g f l the pairs that one step joins, whose letter is of the label l and one of the set f
+--   steppedBelow g f k
+--                   the same for the labels below k
+--   PutBelow n w links forward against ws ms ws′ ms′ k
+--                   into the first relation of ws and ms the links of the letters whose labels are below k have been put, for every book whose links these are
+-- Assumes nothing: these are definitions.
+use mathlib.Core.Path.{_≡_}
+use mathlib.Core.List.{List}
+use Prim.Native.Nat.{ℕ, max}
+use lib.Dec.{eqb}
+use mathlib.Core.Bool.{Bool, true, false}
+use Rattle.book.specs.Basics.{pick}
+use Rattle.k2.specs.Bits.{digit}
+use Rattle.book.specs.Book.{Book}
+use Rattle.k2.specs.PairSets.{Cells, union, most}
+use Rattle.paths.specs.Expressions.{Letter}
+use Rattle.paths.specs.Chains.{Graph, asked}
+use Rattle.paths.specs.Relations.{joins}
+use Rattle.reader.specs.Letters.{lettersIn}
+use Rattle.grid.specs.Grid.{first}
+use Rattle.pairs.specs.Steps.{Lettered}
+
+abbrev pub everyLabel : ℕ
+everyLabel = 67108863
+
+unfoldable pub everyIf : ℕ → ℕ → ℕ
+everyIf m l = pick (eqb (digit m l) 1) everyLabel 0
+
+unfoldable pub steppedBy : Graph → (Letter → Bool) → ℕ → Cells
+steppedBy g f l x y = max (joins g f (record { label = l; inverted = false }) x y) (joins g f (record { label = l; inverted = true }) x y)
+
+unfoldable pub steppedBelow : Graph → (Letter → Bool) → ℕ → Cells
+steppedBelow g f k x y = most k (λ l. steppedBy g f l x y)
+
+abbrev pub PutBelow : (n w : ℕ) → (links : List ℕ) → (forward against : ℕ) → (ws ms ws′ ms′ : List ℕ) → ℕ → Type 0
+PutBelow n w links forward against ws ms ws′ ms′ k =
+    (b : Book) (used : List ℕ) → Lettered b n links used → first n w ws′ ms′ ≡ union (first n w ws ms) (steppedBelow (asked b) (lettersIn forward against) k)
