@@ -1,17 +1,20 @@
 -- The whole code, in plain variables: how it begins, goes on and ends. Assumes nothing.
-use mathlib.Core.Path.{_≡_, refl, sym, ap, ap₂, _∙_, subst}
+use mathlib.Core.Path.{_≡_, refl, sym, ap, ap₂, _∙_, subst, fun-ext}
 use mathlib.Core.List.{List, [], _∷_}
-use Prim.Native.Nat.{ℕ, zero, suc, _+_, _-_, _*_, _<_, _≤_}
+use Prim.Native.Nat.{ℕ, zero, suc, _+_, _-_, _*_, _<_, _≤_, max}
 use native.Mathlib.Numerals.{add-one}
 use native.Mathlib.Omega.{arith}
 use lib.ListN.{length, drop, getD, drop-of-length-le}
 use lib.Seq.{drop-cons}
 use Rattle.book.specs.Book.{Book}
-use Rattle.k2.specs.PairSets.{Cells}
+use Rattle.book.specs.Causes.{labels}
+use Rattle.k2.specs.PairSets.{Cells, transpose, most}
 use Rattle.paths.specs.Expressions.{Expr}
-use Rattle.paths.specs.Chains.{asked}
-use Rattle.paths.specs.Relations.{cells}
+use Rattle.paths.specs.Chains.{Graph, asked}
+use Rattle.paths.specs.Relations.{crossedBy, cells}
 use Rattle.reader.specs.declared.items.Item.{Item}
+use Rattle.reader.specs.declared.items.Item.the-variants.{Letters, Inverse}
+use Rattle.reader.specs.Letters.{lettersIn}
 use Rattle.reader.specs.Code.{itemOf, does, run}
 use Rattle.reader.specs.Running.{operands, Runs, next}
 use Rattle.reader.specs.CodeLaws.{run-code, runs-code}
@@ -21,7 +24,8 @@ use Rattle.pairs.specs.EvaluationLaws.{value-cells, runs-height}
 use Rattle.pairs.specs.RoomLaws.{height-after}
 use Rattle.pairs.specs.Steps.{Lettered, Coded}
 use Rattle.rowpairs.specs.Asking.{rowWidth}
-use Rattle.rowpairs.specs.Evaluation.{relationAt, lying, Goes, Height, Going, ValueFirst}
+use Rattle.rowpairs.specs.Evaluation.{relationAt, lying, Goes, Reading, one-number, turned-letters, Height, Going, ValueFirst}
+use Rattle.rowpairs.specs.declared.Next.{Next}
 
 -- ---- the height of the stack, whatever the contents are
 -- the next number finds its operands, and there is room for its value
@@ -36,6 +40,18 @@ height-next {i} {k} {k′} {c} H e = go (H .runs) (H .count)
   where
     go : {st : List ℕ} → Runs heights most-waiting (i ∷ c) st → k ≡ length st → Height c k′
     go {st} (next b h q) l = record { stack = does heights (itemOf i) st; runs = q; count = e ∙ ap (λ (x : ℕ). suc (x - operands (itemOf i))) l ∙ sym (height-after (itemOf i) st b) }
+
+-- ---- letters and `^`
+turned-crossed : (g : Graph) (forward against : ℕ) → transpose (crossedBy g (lettersIn forward against)) ≡ crossedBy g (lettersIn against forward)
+unfolding transpose crossedBy lettersIn
+turned-crossed g forward against = fun-ext (λ x. fun-ext (λ y. ap (most labels) (fun-ext (λ l. swap _ _))))
+  where
+    swap : (u v : ℕ) → max u v ≡ max v u
+    swap u v = omega arith
+
+turned-does : (g : Graph) (forward against : ℕ) (st : List Cells) → does (relations g) Inverse (does (relations g) (Letters forward against) st) ≡ does (relations g) (Letters against forward) st
+unfolding does relations
+turned-does g forward against st = ap (λ (a : Cells). a ∷ st) (turned-crossed g forward against)
 
 -- ---- the whole code
 module _ (n : ℕ) (links used c : List ℕ) where
@@ -66,6 +82,40 @@ module _ (n : ℕ) (links used c : List ℕ) where
           ∙ ap (λ (x : List ℕ). run (relations (asked b)) x (lying n ws ms k)) (sym next-number)
           ∙ G .rest b L s e q;
     })
+
+    -- some numbers are read, and no more than there are
+    pub reading-used : {q : Next} → Reading c i q → (1 ≤ q .used) × (q .used ≤ 2) × (i + q .used ≤ length c)
+    reading-used (one-number is) = (omega arith, omega arith, omega arith)
+    reading-used (turned-letters is more then) = (omega arith, omega arith, omega arith)
+
+    pub reading-ready : {q : Next} → Reading c i q → Ready (q .item) k
+    reading-ready (one-number is) = going-ready is
+    reading-ready (turned-letters is more then) =
+        let r = going-ready is in record { found = r .found; few = r .few; room = r .room }
+
+    pub reading-more : {q : Next} {ws′ ms′ : List ℕ} {k′ : ℕ} → Reading c i q → Goes n links used (q .item) ws ws′ ms ms′ k k′ → Going n links used c ws′ ms′ k′ (i + q .used)
+    unfolding run
+    reading-more (one-number is) S = going-more is S
+    reading-more {ws′ = ws′} {ms′} {k′} (turned-letters {forward} {against} is more then) S =
+        let e : i + 2 ≡ suc (suc i) = omega arith in
+        let s : i + 1 ≡ suc i = omega arith in
+        let inverse : itemOf (getD c (suc i) 0) ≡ Inverse = subst (λ (j : ℕ). itemOf (getD c j 0) ≡ Inverse) s then in
+        let second : drop (suc i) c ≡ getD c (suc i) 0 ∷ drop (suc (suc i)) c = drop-cons c (suc i) 0 (omega arith) in
+        let o : operands (itemOf (getD c i 0)) ≡ 0 = ap operands is in
+        let u : operands (itemOf (getD c (suc i) 0)) ≡ 1 = ap operands inverse in
+        let H : Height (drop (suc i) c) (suc k) = height-next next-height (omega arith) in
+        subst (λ (j : ℕ). Going n links used c ws′ ms′ k′ j) (sym e) (record {
+          height = height-next (subst (λ (x : List ℕ). Height x (suc k)) second H) (S .count ∙ omega arith);
+          rest = λ b L s f q.
+              let g : Graph = asked b in
+              let st : List Cells = lying n ws ms k in
+              let done : does (relations g) (itemOf (getD c (suc i) 0)) (does (relations g) (itemOf (getD c i 0)) st) ≡ lying n ws′ ms′ k′ =
+              ap₂ (λ (x y : Item). does (relations g) x (does (relations g) y st)) inverse is ∙ turned-does g forward against st ∙ S .value b L in
+              ap (run (relations g) (drop (suc (suc i)) c)) (sym done)
+              ∙ ap (λ (x : List ℕ). run (relations g) x (does (relations g) (itemOf (getD c i 0)) st)) (sym second)
+              ∙ ap (λ (x : List ℕ). run (relations g) x st) (sym next-number)
+              ∙ G .rest b L s f q;
+        })
 
   -- one relation is left, and it is the value
   pub going-ends : {ws ms : List ℕ} {k i : ℕ} → length c ≤ i → Going n links used c ws ms k i → ValueFirst n links used c ws ms

@@ -14,6 +14,8 @@
 --   Goes n links used y ws ws′ ms ms′ k k′
 --                   one number of the code, which is the item y: k relations wait before it and k′ after it; for every book whose links and records in use these
 --                   are, it has done to them what the item does
+--   Reading c i q   what is read of the code c at place i: an item, and how many numbers it was read from; `^` right after letters is read with them, and exchanges
+--                   their two sets
 --   Height c k      k relations wait, the code c is left to run on as many, and it never wants more than 19
 --   Going n links used c ws ms k i
 --                   the first i numbers of the code c have been run, and k relations wait
@@ -23,7 +25,7 @@
 use mathlib.Core.Path.{_≡_}
 use mathlib.Core.List.{List, [], _∷_}
 use Prim.Native.Nat.{ℕ, zero, suc, _+_, _-_, _*_, _<_, _≤_}
-use lib.ListN.{length, drop}
+use lib.ListN.{length, drop, getD}
 use Rattle.book.specs.Book.{Book}
 use Rattle.book.specs.Causes.{maxRecords}
 use Rattle.k2.specs.PairSets.{Cells, union, transpose, product, closure}
@@ -33,12 +35,13 @@ use Rattle.paths.specs.Relations.{crossedBy, zeroSteps, cells}
 use Rattle.reader.specs.declared.items.Item.{Item}
 use Rattle.reader.specs.declared.items.Item.the-variants.{Letters, Inverse, Star, Plus, Optional, Alternative, Sequence}
 use Rattle.reader.specs.Letters.{lettersIn}
-use Rattle.reader.specs.Code.{does, run}
+use Rattle.reader.specs.Code.{itemOf, does, run}
 use Rattle.reader.specs.Running.{operands, Runs}
 use Rattle.grid.specs.Grid.{first, second}
 use Rattle.pairs.specs.Evaluation.{relations, heights, most-waiting}
 use Rattle.pairs.specs.Steps.{Lettered, Coded}
 use Rattle.rowpairs.specs.Asking.{rowWidth}
+use Rattle.rowpairs.specs.declared.Next.{Next}
 
 pub record Space (n w cells masks : ℕ) : Type 0 where
   pub small : n ≤ maxRecords
@@ -74,6 +77,11 @@ lying n ws ms (suc k) = relationAt n ws ms k ∷ lying n ws ms k
 pub record Goes (n : ℕ) (links used : List ℕ) (y : Item) (ws ws′ ms ms′ : List ℕ) (k k′ : ℕ) : Type 0 where
   pub count : k′ ≡ suc (k - operands y)
   pub value : (b : Book) → Lettered b n links used → does (relations (asked b)) y (lying n ws ms k) ≡ lying n ws′ ms′ k′
+
+pub data Reading (c : List ℕ) (i : ℕ) : Next → Type 0 where
+  one-number : {y : Item} → itemOf (getD c i 0) ≡ y → Reading c i (record { item = y; used = 1 })
+  turned-letters : {forward against : ℕ} → itemOf (getD c i 0) ≡ Letters forward against → i + 1 < length c → itemOf (getD c (i + 1) 0) ≡ Inverse
+      → Reading c i (record { item = Letters against forward; used = 2 })
 
 pub record Height (c : List ℕ) (k : ℕ) : Type 0 where
   pub stack : List ℕ

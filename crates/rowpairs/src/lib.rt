@@ -3,7 +3,8 @@
 ghost use mathlib.Core.Path.{_≡_};
 ghost use mathlib.Core.List.{List};
 ghost use Prim.Native.Nat.{ℕ, _+_, _-_, _*_, _/_, _<_, _≤_};
-ghost use lib.ListN.{length, take};
+ghost use lib.ListN.{length, take, getD};
+ghost use mathlib.Core.Bool.{true};
 ghost use Rattle.book.specs.Book.{Book};
 ghost use Rattle.book.specs.Causes.{maxRecords};
 ghost use Rattle.k2.specs.PairSets.{union};
@@ -12,6 +13,8 @@ ghost use Rattle.paths.specs.Grammar.{accepted};
 ghost use Rattle.paths.specs.Verdicts.{verdict};
 ghost use Rattle.paths.specs.Chains.{asked};
 ghost use Rattle.paths.specs.Relations.{crossedBy};
+ghost use Rattle.reader.specs.declared.items.Item.the-variants.{Inverse};
+ghost use Rattle.reader.specs.Code.{itemOf};
 ghost use Rattle.reader.specs.Letters.{lettersIn};
 ghost use Rattle.reader.specs.Running.{operands};
 ghost use Rattle.grid.specs.Grid.{first};
@@ -19,7 +22,7 @@ ghost use Rattle.pairs.specs.Evaluation.{Ready};
 ghost use Rattle.pairs.specs.Steps.{Lettered, Coded};
 ghost use Rattle.rowpairs.specs.Asking.{rowWidth, rowsWork, AsksRowsFor, AsksRows};
 ghost use Rattle.rowpairs.specs.Labels.{everyIf};
-ghost use Rattle.rowpairs.specs.Evaluation.{Space, Lent, Operates, Goes, ValueFirst};
+ghost use Rattle.rowpairs.specs.Evaluation.{Space, Lent, Operates, Goes, Reading, ValueFirst};
 use reader::Item;
 
 // The masks of 20 relations of 1,024 rows, and one more: 19 that wait, one as scratch, and a row of a product.
@@ -27,6 +30,12 @@ const MASKS: usize = 20481;
 
 // The set of all 26 labels.
 const EVERY_LABEL: u32 = 67108863;
+
+// An item of the code, and how many of its numbers it was read from.
+struct Next {
+    item: Item,
+    used: usize,
+}
 
 // The words of a row of n columns.
 fn row_width(n: usize) -> usize
@@ -149,6 +158,38 @@ fn step(
     below + 1
 }
 
+// Is the number at place i of the code `^`?
+fn inverts(code: &[u64], i: usize) -> bool
+    ensures { λ r. ⌜ (r ≡ true → (i < length (now (code .entry))) × (itemOf (getD (now (code .entry)) i 0) ≡ Inverse)) ⌝ }
+{
+    if code.len() <= i {
+        return false;
+    }
+    let item = reader::item_of(code[i]);
+    match item {
+        Item::Inverse => true,
+        _ => false,
+    }
+}
+
+// The item at place i of the code. `^` right after letters is read with them: their links are crossed in the other sense.
+fn next_item(code: &[u64], i: usize) -> Next
+    requires { ⌜ i < length (now code) ⌝ }
+    ensures { λ r. ⌜ Reading (now (code .entry)) i r ⌝ }
+{
+    let item = reader::item_of(code[i]);
+    if !inverts(code, i + 1) {
+        return Next { item, used: 1 };
+    }
+    match item {
+        Item::Letters(forward, against) => Next {
+            item: Item::Letters(against, forward),
+            used: 2,
+        },
+        _ => Next { item, used: 1 },
+    }
+}
+
 // The whole code: its value is left as the first relation.
 fn run(links: &[u32], used: &[u64], cells: &mut [u64], masks: &mut [u16], n: usize, code: &[u64])
     requires { ⌜ Lent n (length (now cells)) (length (now masks)) × ((s : List ℕ) × (e : Expr) × Coded s e (now code)) ⌝ }
@@ -157,9 +198,10 @@ fn run(links: &[u32], used: &[u64], cells: &mut [u64], masks: &mut [u16], n: usi
     let mut count = 0;
     let mut i = 0;
     while i < code.len() {
-        let item = reader::item_of(code[i]);
+        let next = next_item(code, i);
+        let item = next.item;
         count = step(links, used, cells, masks, n, count, item);
-        i += 1;
+        i += next.used;
     }
 }
 
