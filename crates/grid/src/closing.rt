@@ -1,55 +1,119 @@
-// The closure of the first relation of a part, in place.
-use crate::row::column;
+// The closure of the first relation of a part, in place, record by record: each row is closed by a search over the rows as they are, where the row
+// of a record that is closed stands for all that it leads to.
 use crate::row::merge;
+use crate::row::put;
+use crate::words::above;
+use crate::words::cut;
+use crate::words::lacking;
+use crate::words::lowest;
 ghost use mathlib.Core.Path.{_≡_};
-ghost use Prim.Native.Nat.{_+_, _*_, _/_, _≤_, _<_};
+ghost use Prim.Native.Nat.{ℕ, _+_, _*_, _/_, _%_, _^_, _≤_, _<_, max};
 ghost use lib.Dec.{eqb};
 ghost use lib.ListN.{length};
 ghost use Rattle.book.specs.Basics.{pick};
-ghost use Rattle.k2.specs.PairSets.{via, closure};
-ghost use Rattle.grid.specs.Grid.{rowOf, first};
+ghost use Rattle.k2.specs.Bits.{bitAt};
+ghost use Rattle.k2.specs.PairSets.{Cells, IsSet, closure};
+ghost use Rattle.grid.specs.Grid.{rowOf, firstRows, first};
+ghost use Rattle.grid.specs.Steps.{wordAt, Merged, Fresh, Half};
 
-// Column m of row x at place b with the mask; 0 for row m itself.
-fn leads(cells: &[u64], mask: u16, b: usize, m: usize, x: usize) -> u64
-    requires { ⌜ (m < 1024) × (b + m / 64 < length (now cells)) ⌝ }
-    ensures { λ r. ⌜ r ≡ pick (eqb x m) 0 (rowOf (now (cells .entry)) b mask m) ⌝ }
+// A column below n of the row at place b with the mask that is not seen, that is, not in the row after the relation; n or more if there is none.
+fn fresh(cells: &[u64], mask: u16, seen: u16, n: usize, w: usize, b: usize) -> usize
+    requires { ⌜ (n ≤ 1024) × (w ≤ 16) × (n ≤ w * 64) × (n * w + w ≤ length (now cells)) × (b + w ≤ n * w) ⌝ }
+    ensures { λ r. ⌜ Fresh n (rowOf (now (cells .entry)) b mask) (rowOf (now (cells .entry)) (n * w) seen) r ⌝ }
 {
-    if x == m {
-        return 0;
-    }
-    column(cells, mask, b, m)
-}
-
-// Row m put into each other row of the first relation that has column m.
-fn lead_over(cells: &mut [u64], masks: &mut [u16], n: usize, w: usize, m: usize)
-    requires { ⌜ (n ≤ 1024) × (w ≤ 16) × (n ≤ w * 64) × (n * w ≤ length (now cells)) × (n ≤ length (now masks)) × (m < n) ⌝ }
-    ensures { λ _. ⌜ first n w (now (cells .exit)) (now (masks .exit)) ≡ via m (first n w (now (cells .entry)) (now (masks .entry))) ⌝ }
-{
-    let f = m * w;
-    let mut x = 0;
-    let mut b = 0;
-    while x < n {
-        let mask = masks[x];
-        if leads(cells, mask, b, m, x) == 1 {
-            let source = masks[m];
-            merge(cells, masks, w, x, b, source, f);
+    let words = mask as u64;
+    let at = n * w;
+    let mut c = lowest(words);
+    while c < w {
+        let word = lacking(cells[b + c], seen, c, cells[at + c]);
+        let left = cut(word, c, n);
+        if left != 0 {
+            return c * 64 + lowest(left);
         }
-        b += w;
-        x += 1;
+        c = above(words, c);
+    }
+    n
+}
+
+// Record z is seen, and, if its row is whole, all that it leads to.
+fn mark(cells: &mut [u64], masks: &mut [u16], n: usize, w: usize, z: usize, whole: u64)
+    requires { ⌜ (n ≤ 1024) × (w ≤ 16) × (n ≤ w * 64) × (n * w + w ≤ length (now cells)) × (n < length (now masks)) × (z < n) ⌝ }
+    ensures { λ _. ⌜ Merged w n (n * w)
+        (λ y. max (pick (eqb whole 1) (firstRows w (now (cells .entry)) (now (masks .entry)) z y) 0) (wordAt (z / 64) (2 ^ (z % 64)) y))
+        (now (cells .entry)) (now (masks .entry)) (now (cells .exit)) (now (masks .exit)) ⌝ }
+{
+    let at = n * w;
+    if whole == 1 {
+        let source = masks[z];
+        merge(cells, masks, w, n, at, source, z * w);
+    }
+    put(cells, masks, n, at, z / 64, 1 << (z % 64));
+}
+
+// Row z put into row x.
+fn lead_on(cells: &mut [u64], masks: &mut [u16], n: usize, w: usize, x: usize, z: usize)
+    requires { ⌜ (n ≤ 1024) × (w ≤ 16) × (n ≤ w * 64) × (n * w + w ≤ length (now cells)) × (n < length (now masks)) × (x < n) × (z < n) ⌝ }
+    ensures { λ _. ⌜ Merged w x (x * w) (firstRows w (now (cells .entry)) (now (masks .entry)) z)
+        (now (cells .entry)) (now (masks .entry)) (now (cells .exit)) (now (masks .exit)) ⌝ }
+{
+    if x == z {
+        return;
+    }
+    let source = masks[z];
+    merge(cells, masks, w, x, x * w, source, z * w);
+}
+
+// Row x closed, if the rows of the records that are closed are. The row after the relation has what the search has seen.
+fn close_row(cells: &mut [u64], masks: &mut [u16], n: usize, w: usize, x: usize, closed: &[u64])
+    requires { ⌜ (n ≤ 1024) × (w ≤ 16) × (n ≤ w * 64) × (n * w + w ≤ length (now cells)) × (n < length (now masks)) × (x < n) ⌝ }
+    ensures { λ _. ⌜ ((u y : ℕ) → u < n → y < n → (u ≡ x → ⊥)
+        → firstRows w (now (cells .exit)) (now (masks .exit)) u y ≡ firstRows w (now (cells .entry)) (now (masks .entry)) u y)
+        × ((a : Cells) → IsSet n a → Half n a (bitAt (now (closed .entry))) (firstRows w (now (cells .entry)) (now (masks .entry)))
+        → bitAt (now (closed .entry)) x ≡ 0 → (y : ℕ) → y < n → firstRows w (now (cells .exit)) (now (masks .exit)) x y ≡ closure n a x y) ⌝ }
+{
+    masks[n] = 0;
+    let b = x * w;
+    let mut z = fresh(cells, masks[x], masks[n], n, w, b);
+    while z < n {
+        mark(cells, masks, n, w, z, bits::bit(closed, z));
+        lead_on(cells, masks, n, w, x, z);
+        z = fresh(cells, masks[x], masks[n], n, w, b);
     }
 }
 
-// One or more steps of the first relation, in place, by Warshall's rounds: over each record in turn whose row is not empty.
+// Row x closed, unless it is.
+fn close_once(
+    cells: &mut [u64],
+    masks: &mut [u16],
+    n: usize,
+    w: usize,
+    x: usize,
+    closed: &mut [u64],
+)
+    requires { ⌜ (n ≤ 1024) × (w ≤ 16) × (n ≤ w * 64) × (n * w + w ≤ length (now cells)) × (n < length (now masks)) × (length (now closed) ≡ 16) ⌝ }
+    ensures { λ _. ⌜ ((a : Cells) → IsSet n a → Half n a (bitAt (now (closed .entry))) (firstRows w (now (cells .entry)) (now (masks .entry)))
+        → Half n a (bitAt (now (closed .exit))) (firstRows w (now (cells .exit)) (now (masks .exit))))
+        × ((u : ℕ) → bitAt (now (closed .entry)) u ≡ 1 → bitAt (now (closed .exit)) u ≡ 1) × (x < n → bitAt (now (closed .exit)) x ≡ 1) ⌝ }
+{
+    if n <= x {
+        return;
+    }
+    if bits::bit(closed, x) == 1 {
+        return;
+    }
+    close_row(cells, masks, n, w, x, closed);
+    bits::set_bit(closed, x);
+}
+
+// One or more steps of the first relation. The row and the mask after it are used.
 pub fn close(cells: &mut [u64], masks: &mut [u16], n: usize, w: usize)
     requires { ⌜ (n ≤ 1024) × (w ≤ 16) × (n ≤ w * 64) × (n * w + w ≤ length (now cells)) × (n < length (now masks)) ⌝ }
     ensures { λ _. ⌜ first n w (now (cells .exit)) (now (masks .exit)) ≡ closure n (first n w (now (cells .entry)) (now (masks .entry))) ⌝ }
 {
-    let mut m = 0;
-    while m < n {
-        let mask = masks[m];
-        if mask != 0 {
-            lead_over(cells, masks, n, w, m);
-        }
-        m += 1;
+    let mut closed: [u64; 16] = [0; 16];
+    let mut x = 0;
+    while x < n {
+        close_once(cells, masks, n, w, x, &mut closed);
+        x += 1;
     }
 }

@@ -1,59 +1,59 @@
--- `close` goes over the records in turn. The loop's invariant: the pairs that lead through the records below m are in. The measure is the records
--- left. It rests on `close-more` and `close-skip`. Assumes nothing.
-use Prim.Native.Nat.{ℕ, _<_, _≤_, _+_, _*_, _-_, _/_}
-use Rattle.grid.proofs.Closures.{close-none, close-more, close-skip}
-use Rattle.grid.specs.Grid.{first}
-use Rattle.k2.specs.PairSets.{closure}
-use borrow.Author.Needs.{needs}
-use lib.ListN.{length, getD}
-use mathlib.Core.Logic.{⊎-elim}
-use mathlib.Core.Path.{_≡_, refl, sym, ap, _∙_}
+-- `close` goes record by record. The loop's invariant: the rows of the records below x are closed, and each row is closed or as it was (`Half`). The
+-- measure is the records left. Assumes nothing.
+use mathlib.Core.Path.{_≡_, refl, sym, ap, ap₂, subst, _∙_}
+use Prim.Native.Nat.{ℕ, _+_, _*_, _-_, _/_, _%_, _^_, _≤_, _<_, min, max}
 use native.Mathlib.Omega.{arith}
+use borrow.Author.Needs.{needs}
+use lib.ListN.{length}
+use Rattle.k2.specs.Bits.{bitAt}
+use Rattle.k2.specs.PairSets.{Cells, IsSet}
+use Rattle.bits.specs.BitSetLaws.{bits-none}
+use Rattle.bits.specs.BitSets.{none}
+use Rattle.grid.specs.Grid.{first, firstRows}
+use Rattle.grid.specs.GridLaws.{first-set}
+use Rattle.grid.specs.Steps.{Half}
+use Rattle.grid.proofs.Closures.{half-none, half-all, all-next}
 use Rattle.grid.proofs.closing.close.Statement.{statement}
 use Rattle.grid.proofs.closing.close.Tie as tie
 
 abbrev Inv-loop : tie.InvT-loop
-Inv-loop cells₀ masks₀ n w m₀ cells masks m = (m ≤ n) × (length cells ≡ length cells₀) × (length masks ≡ length masks₀) × (first n w cells masks ≡ closure m (first n w cells₀ masks₀))
+Inv-loop cells₀ masks₀ n w closed₀ x₀ cells masks closed x =
+    (x ≤ n) × (length cells ≡ length cells₀) × (length masks ≡ length masks₀) × (length closed ≡ 16)
+    × Half n (first n w cells₀ masks₀) (bitAt closed) (firstRows w cells masks) × ((u : ℕ) → u < x → bitAt closed u ≡ 1)
 
 abbrev μ-loop : tie.MeasureT-loop
-μ-loop cells₀ masks₀ n w m₀ cells masks m = n - m
+μ-loop cells₀ masks₀ n w closed₀ x₀ cells masks closed x = n - x
 
 loop-holds : tie.Need-loop-holds Inv-loop μ-loop
-loop-holds c = (omega arith, refl, refl, close-none _)
+loop-holds c =
+    let a = c .before .before .args in
+    (omega arith, refl, refl, refl, half-none (a .n) (a .w) (a .cells .now) (a .masks .now) _ (λ u. unfold none in (ap (λ (f : ℕ → ℕ). f u) (bits-none 16))), λ u h. absurd (omega arith))
 
-mul-mask : tie.Need-mul-mask Inv-loop μ-loop
-mul-mask c = omega arith
+slice-aggregate-close-once : tie.Need-slice-aggregate-close-once Inv-loop μ-loop
+slice-aggregate-close-once c = omega arith
 
-slice-read-mask : tie.Need-slice-read-mask Inv-loop μ-loop
-slice-read-mask c = omega arith
+close-once-requires : tie.Need-close-once-requires Inv-loop μ-loop
+close-once-requires c κs = omega arith
 
-lead-over-requires : tie.Need-lead-over-requires Inv-loop μ-loop
-lead-over-requires c κs = omega arith
-
-add-m : tie.Need-add-m Inv-loop μ-loop
-add-m c = omega arith
+add-x : tie.Need-add-x Inv-loop μ-loop
+add-x c = omega arith
 
 loop-less : tie.Need-loop-less Inv-loop μ-loop
 loop-less c = omega arith
 
 loop-again : tie.Need-loop-again Inv-loop μ-loop
 loop-again c =
-    let a = c .before .before .before .before .before .before .args in
-    let l = c .before .before .before .loop in
-    ⊎-elim
-    (λ v. (
+    let a = c .before .before .before .before .before .before .before .before .before .before .before .before .before .args in
+    let l = c .before .before .before .before .before .before .before .before .before .before .loop in
+    let m = c .before .before .before .before .before .close-once in
+    let xl : l .x < a .n = omega arith in (
       omega arith,
-      rw (v .8) (v .3 .kept .0 ∙ l .inv .1),
-      rw (v .9) (v .3 .kept .1 .0 ∙ l .inv .2),
-      rw (v .8, v .9) (v .3 .ensures ∙ close-more (l .m) _ _ (l .inv .3)),
-    ))
-    (λ v. (
-      omega arith,
-      rw (v .1) (l .inv .1),
-      rw (v .2) (l .inv .2),
-      rw (v .1, v .2) (close-skip (a .n) (a .w) (l .cells) (l .masks) (l .m) _ (omega arith) (v .0 .left) (l .inv .3)),
-    ))
-    (c .if1 .came)
+      m .kept .0 ∙ l .inv .1,
+      m .kept .1 .0 ∙ l .inv .2,
+      m .kept .1 .1 .1 .1 .1 .0 ∙ l .inv .3,
+      m .ensures .0 (first (a .n) (a .w) (a .cells .now) (a .masks .now)) (first-set (a .n) (a .w) (a .cells .now) (a .masks .now)) (l .inv .4),
+      all-next (bitAt (l .closed)) _ (l .x) (l .inv .5) (m .ensures .1) (m .ensures .2 xl),
+    )
 
 same-length : tie.Need-same-length Inv-loop μ-loop
 same-length c = search needs
@@ -65,8 +65,8 @@ returns : tie.Need-returns Inv-loop μ-loop
 returns c =
     let a = c .before .before .before .before .args in
     let l = c .before .loop in
-    let e : l .m ≡ a .n = omega arith in
-    l .inv .3 ∙ ap (λ (k : ℕ). closure k (first (a .n) (a .w) (a .cells .now) (a .masks .now))) e
+    half-all (a .n) (a .w) (first (a .n) (a .w) (a .cells .now) (a .masks .now)) (bitAt (l .closed)) (l .cells) (l .masks)
+    (first-set (a .n) (a .w) (a .cells .now) (a .masks .now)) (l .inv .4) (λ u h. l .inv .5 u (omega arith))
 
 pub close-spec : {M : Type 1} → statement M
 close-spec =
@@ -75,10 +75,9 @@ close-spec =
     Inv-loop
     μ-loop
     loop-holds
-    mul-mask
-    slice-read-mask
-    lead-over-requires
-    add-m
+    slice-aggregate-close-once
+    close-once-requires
+    add-x
     loop-less
     loop-again
     same-length
