@@ -1,6 +1,6 @@
 -- The answer to a pair question by rows, in plain variables. Assumes nothing.
 use mathlib.Core.Path.{_≡_, refl, sym, ap, ap₂, _∙_, subst}
-use mathlib.Core.List.{List, _++_}
+use mathlib.Core.List.{List, _++_, map}
 use Prim.Native.Nat.{ℕ, _*_, _≤_, _<_}
 use native.Mathlib.Omega.{arith}
 use lib.ListN.{length, take, drop}
@@ -28,7 +28,10 @@ use Rattle.pairs.specs.AskingLaws.{faulty-caused, handed-past, handed-some}
 use Rattle.pairs.specs.Steps.{Lettered, Coded}
 use Rattle.rowpairs.specs.Asking.{rowWidth, rowsWork, rowsAnswer, BookRows, AsksRowsFor}
 use Rattle.rowpairs.specs.AskingLaws.{rows-refused, rows-short, rows-handed}
+use Rattle.rows.specs.Rows.{linkPair}
+use Rattle.rowpairs.specs.Labels.{Alone, LetterListed}
 use Rattle.rowpairs.specs.Evaluation.{ValueFirst}
+use Rattle.rowpairs.proofs.Alone.{some-used, letter-listed}
 
 -- ---- refused
 declines : (r : Register) (v : Verdict) (work k : ℕ) (before : List ℕ) → Caused k → ((b : Book) → Represents r b → rowsAnswer b v work (length before) ≡ refused k)
@@ -73,6 +76,25 @@ module _ (r : Register) (e : Expr) (n work : ℕ) (before : List ℕ) (size : (b
           let z : n ≡ b .n = size b R in
           let L : Lettered b n links used = record { size = z; small = subst (λ (i : ℕ). i ≤ maxRecords) z small; fit = R .sheet .fit; linked = linked b R; in-use = bits b R z } in
           ap₂ (λ (i v : ℕ). listed i (first n v ws ms)) z width ∙ ap (listed (b .n)) (made .value b L s e C)
+
+  -- ---- a letter alone
+  pub alone-asks : (l : ℕ) (s links code after : List ℕ) (t w : ℕ) → w ≡ rowWidth n → n ≤ maxRecords → 32 * (n * w) ≤ work
+      → ((b : Book) → Represents r b → Linked links (b .sheet)) → Coded s e code → Alone l code → LetterListed links l before after t → AsksRowsFor r (accepted e) work before after (Pairs t)
+  alone-asks l s links code after t w width small h linked C A T =
+      let ps : List ℕ = map linkPair (T .part) in
+      let H : Handed ps before after (Pairs t) = subst (λ (k : ℕ). Handed ps before after (Pairs k)) (sym (T .total)) (handed (T .written ∙ first-over ps before)) in
+      record {
+        past = handed-past H;
+        unchanged = λ k q. handed-some H k q;
+        caused = λ k q. handed-some H k q;
+        book = λ b R.
+            let z : n ≡ b .n = size b R in
+            let few : b .n ≤ maxRecords = subst (λ (i : ℕ). i ≤ maxRecords) z small in
+            let u = some-used b few in
+            let L : Lettered b n links (u .0) = record { size = z; small = few; fit = R .sheet .fit; linked = linked b R; in-use = u .1 } in
+            rows-handed b e work (subst (λ (i : ℕ). rowsWork i ≤ work) z (subst (λ (v : ℕ). 32 * (n * v) ≤ work) width h))
+            (subst (λ (x : List ℕ). Handed x before after (Pairs t)) (letter-listed b n links (u .0) L l (T .part) (T .of-label) s e code C A) H);
+      }
 
 pub same-verdict : (r : Register) (v : Verdict) (e : Expr) (work : ℕ) (before after : List ℕ) (a : PairsAnswer) → v ≡ accepted e → AsksRowsFor r (accepted e) work before after a → AsksRowsFor r v work before after a
 same-verdict r v e work before after a d A = subst (λ (w : Verdict). AsksRowsFor r w work before after a) (sym d) A

@@ -67,25 +67,25 @@ module _ (b : Book) (n : ℕ) (links used : List ℕ) (L : Lettered b n links us
       let e : w / 1048576 ≡ k .0 .label = ap (λ (v : ℕ). v / 1048576) (k .1) ∙ omega (arith, f .from, f .to) in
       omega (arith, f .label)
 
-  below : PairsBelow n (map linkPair part)
+  pub below : PairsBelow n (map linkPair part)
   below p h = let r = in-map linkPair part h in links-below b n links used L p (subst (λ (v : ℕ). In v (map linkPair links)) (sym (r .2)) (map-in linkPair (in-part (r .1))))
 
-  pairs : PairsOf (b .sheet) l (map linkPair part)
+  pub part-pairs : PairsOf (b .sheet) l (map linkPair part)
   unfolding linkPair
-  pairs = P .pairs (b .n) (b .sheet) (L .small) (L .fit) (L .linked)
+  part-pairs = P .pairs (b .n) (b .sheet) (L .small) (L .fit) (L .linked)
 
-  part-set : (x y : ℕ) → setOf (map linkPair part) x y ≡ bit (present (b .sheet) (record { from = x; label = l; to = y }))
+  pub part-set : (x y : ℕ) → setOf (map linkPair part) x y ≡ bit (present (b .sheet) (record { from = x; label = l; to = y }))
   part-set x y = go (present (b .sheet) (record { from = x; label = l; to = y })) refl (decLt 0 (setOf (map linkPair part) x y))
     where
       go : (t : Bool) → present (b .sheet) (record { from = x; label = l; to = y }) ≡ t → Dec (0 < setOf (map linkPair part) x y) → setOf (map linkPair part) x y ≡ bit t
-      go true e d = let f = L .fit .links _ e in let s = L .small in in-set (map linkPair part) x y (omega (arith, f .to)) (pairs .whole x y e)
+      go true e d = let f = L .fit .links _ e in let s = L .small in in-set (map linkPair part) x y (omega (arith, f .to)) (part-pairs .whole x y e)
       go false e (no d) = omega arith
       go false e (yes d) = absurd (same (decLt y 1024))
         where
           same : Dec (y < 1024) → ⊥
           same (no k) = omega (arith, set-past (map linkPair part) x y (omega arith))
           same (yes k) =
-              let r = pairs .sound (pairWord x y) (set-in (map linkPair part) x y d) in
+              let r = part-pairs .sound (pairWord x y) (set-in (map linkPair part) x y d) in
               let f = L .fit .links _ (r .3) in
               let s = L .small in
               let u : r .0 ≡ x = omega (arith, f .to, r .2) in

@@ -3,3 +3,4 @@ pub mod Stepping
 pub mod Running
 pub mod Answering
 pub mod Lettering
+pub mod Alone

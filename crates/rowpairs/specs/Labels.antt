@@ -6,10 +6,14 @@
 --                   the same for the labels below k
 --   PutBelow n w links forward against ws ms ws′ ms′ k
 --                   into the first relation of ws and ms the links of the letters whose labels are below k have been put, for every book whose links these are
+--   Alone l c       the code c is one number, that of the plain letter of the label l
+--   LetterListed links l before after r
+--                   the pairs of the part of the label l of the links have been written to a list that held `before`, as many as it takes; they are r
 -- Assumes nothing: these are definitions.
 use mathlib.Core.Path.{_≡_}
-use mathlib.Core.List.{List}
-use Prim.Native.Nat.{ℕ, max}
+use mathlib.Core.List.{List, map, _++_}
+use Prim.Native.Nat.{ℕ, _^_, max}
+use lib.ListN.{length, take, drop, getD}
 use lib.Dec.{eqb}
 use mathlib.Core.Bool.{Bool, true, false}
 use Rattle.book.specs.Basics.{pick}
@@ -19,7 +23,11 @@ use Rattle.k2.specs.PairSets.{Cells, union, most}
 use Rattle.paths.specs.Expressions.{Letter}
 use Rattle.paths.specs.Chains.{Graph, asked}
 use Rattle.paths.specs.Relations.{joins}
+use Rattle.reader.specs.declared.items.Item.the-variants.{Letters}
+use Rattle.reader.specs.Code.{itemOf}
 use Rattle.reader.specs.Letters.{lettersIn}
+use Rattle.register.specs.Lookups.{LabelPart}
+use Rattle.rows.specs.Rows.{linkPair}
 use Rattle.grid.specs.Grid.{first}
 use Rattle.pairs.specs.Steps.{Lettered}
 
@@ -38,3 +46,13 @@ steppedBelow g f k x y = most k (λ l. steppedBy g f l x y)
 abbrev pub PutBelow : (n w : ℕ) → (links : List ℕ) → (forward against : ℕ) → (ws ms ws′ ms′ : List ℕ) → ℕ → Type 0
 PutBelow n w links forward against ws ms ws′ ms′ k =
     (b : Book) (used : List ℕ) → Lettered b n links used → first n w ws′ ms′ ≡ union (first n w ws ms) (steppedBelow (asked b) (lettersIn forward against) k)
+
+pub record Alone (l : ℕ) (c : List ℕ) : Type 0 where
+  pub single : length c ≡ 1
+  pub letter : itemOf (getD c 0 0) ≡ Letters (2 ^ l) 0
+
+pub record LetterListed (links : List ℕ) (l : ℕ) (before after : List ℕ) (r : ℕ) : Type 0 where
+  pub part : List ℕ
+  pub of-label : LabelPart links l part
+  pub total : r ≡ length (map linkPair part)
+  pub written : after ≡ take (length before) (map linkPair part) ++ drop (length (map linkPair part)) before

@@ -1,9 +1,10 @@
 // Pair questions by rows of bits: an expression's code is run on a stack of relations, which lie one after another in the lent work, each as n rows
 // of bits, 64 columns to a word, with a mask of each row's words in use (crate `grid`). The last one left is listed.
 ghost use mathlib.Core.Path.{_≡_};
-ghost use mathlib.Core.List.{List};
-ghost use Prim.Native.Nat.{ℕ, _+_, _-_, _*_, _/_, _<_, _≤_};
-ghost use lib.ListN.{length, take, getD};
+ghost use mathlib.Core.List.{List, map, _++_};
+ghost use mathlib.Core.Logic.{_⊎_};
+ghost use Prim.Native.Nat.{ℕ, _+_, _-_, _*_, _/_, _^_, _<_, _≤_};
+ghost use lib.ListN.{length, take, drop, getD};
 ghost use mathlib.Core.Bool.{true};
 ghost use Rattle.book.specs.Book.{Book};
 ghost use Rattle.book.specs.Causes.{maxRecords};
@@ -17,16 +18,20 @@ ghost use Rattle.reader.specs.declared.items.Item.the-variants.{Inverse};
 ghost use Rattle.reader.specs.Code.{itemOf};
 ghost use Rattle.reader.specs.Letters.{lettersIn};
 ghost use Rattle.reader.specs.Running.{operands};
+ghost use Rattle.rows.specs.Rows.{linkPair};
 ghost use Rattle.grid.specs.Grid.{first};
 ghost use Rattle.pairs.specs.Evaluation.{Ready};
 ghost use Rattle.pairs.specs.Steps.{Lettered, Coded};
 ghost use Rattle.rowpairs.specs.Asking.{rowWidth, rowsWork, AsksRowsFor, AsksRows};
-ghost use Rattle.rowpairs.specs.Labels.{everyIf};
+ghost use Rattle.rowpairs.specs.Labels.{everyIf, Alone, LetterListed};
 ghost use Rattle.rowpairs.specs.Evaluation.{Space, Lent, Operates, Goes, Reading, ValueFirst};
 use reader::Item;
 
 // The masks of 20 relations of 1,024 rows, and one more: 19 that wait, one as scratch, and a row of a product.
 const MASKS: usize = 20481;
+
+// A link's word is label * LABEL_UNIT + its pair word.
+const LABEL_UNIT: u32 = 1048576;
 
 // The set of all 26 labels.
 const EVERY_LABEL: u32 = 67108863;
@@ -205,6 +210,69 @@ fn run(links: &[u32], used: &[u64], cells: &mut [u64], masks: &mut [u16], n: usi
     }
 }
 
+// The label of which the two sets have the plain letter alone; 26 if they have others.
+fn only_label(forward: u32, against: u32) -> u8
+    ensures { λ r. ⌜ (r < 26 → (forward ≡ 2 ^ r) × (against ≡ 0)) ⌝ }
+{
+    if against != 0 {
+        return 26;
+    }
+    let label = u32::trailing_zeros(forward);
+    if 26 <= label {
+        return 26;
+    }
+    if forward != 1 << label {
+        return 26;
+    }
+    label as u8
+}
+
+// The label of a code that is a plain letter alone; 26 of any other.
+fn letter_alone(code: &[u64]) -> u8
+    ensures { λ r. ⌜ (r < 26 → Alone r (now (code .entry))) ⌝ }
+{
+    if code.len() != 1 {
+        return 26;
+    }
+    let item = reader::item_of(code[0]);
+    match item {
+        Item::Letters(forward, against) => only_label(forward, against),
+        _ => 26,
+    }
+}
+
+// The lesser of two numbers.
+fn lesser(a: usize, b: usize) -> usize
+    ensures { λ r. ⌜ (r ≤ a) × (r ≤ b) × ((r ≡ a) ⊎ (r ≡ b)) ⌝ }
+{
+    if a < b {
+        return a;
+    }
+    b
+}
+
+// The pairs of links' words written to the list, as many as it takes; the words past them are left.
+fn write_links(words: &[u32], list: &mut [u32])
+    ensures { λ _. ⌜ now (list .exit) ≡ take (length (now (list .entry))) (map linkPair (now (words .entry)))
+        ++ drop (length (map linkPair (now (words .entry)))) (now (list .entry)) ⌝ }
+{
+    let count = lesser(words.len(), list.len());
+    let mut i = 0;
+    while i < count {
+        list[i] = words[i] % LABEL_UNIT;
+        i += 1;
+    }
+}
+
+// A letter alone: the pairs of its links, ascending as the register's words are.
+fn list_letter(links: &[u32], label: u8, list: &mut [u32]) -> usize
+    ensures { λ r. ⌜ LetterListed (now (links .entry)) label (now (list .entry)) (now (list .exit)) r ⌝ }
+{
+    let part = register::label_part(links, label);
+    write_links(part, list);
+    part.len()
+}
+
 // The answer by the code of an expression: the first len numbers of the array.
 fn of_code(
     register: register::Register,
@@ -225,6 +293,11 @@ fn of_code(
     let links = register.links();
     let count = links.count;
     let array = links.words;
+    let label = letter_alone(&code[..len]);
+    if label < 26 {
+        let found = list_letter(&array[..count], label, list);
+        return pairs::PairsAnswer::Pairs(found);
+    }
     let used = pairs::in_use(register, n);
     let mut masks: [u16; MASKS] = [0; MASKS];
     run(&array[..count], &used, work, &mut masks, n, &code[..len]);
