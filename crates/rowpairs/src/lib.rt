@@ -27,11 +27,17 @@ ghost use Rattle.rowpairs.specs.Labels.{everyIf, Alone, LetterListed};
 ghost use Rattle.rowpairs.specs.Evaluation.{Space, Lent, Operates, Goes, Reading, ValueFirst};
 use reader::Item;
 
+// The work is that of so many relations.
+const RELATIONS: usize = 32;
+
 // The masks of 20 relations of 1,024 rows, and one more: 19 that wait, one as scratch, and a row of a product.
 const MASKS: usize = 20481;
 
 // A link's word is label * LABEL_UNIT + its pair word.
 const LABEL_UNIT: u32 = 1048576;
+
+// How many labels there are; of a label, that there is none.
+const LABELS: u8 = book::LABELS as u8;
 
 // The set of all 26 labels.
 const EVERY_LABEL: u32 = 67108863;
@@ -77,7 +83,7 @@ fn put_letters(
         ≡ union (first n w (now (cells .entry)) (now (masks .entry))) (crossedBy (asked b) (lettersIn forward against))) ⌝ }
 {
     let mut label: u8 = 0;
-    while label < 26 {
+    while label < LABELS {
         let plain = every_if(forward, label);
         let turned = every_if(against, label);
         if plain + turned != 0 {
@@ -210,34 +216,34 @@ fn run(links: &[u32], used: &[u64], cells: &mut [u64], masks: &mut [u16], n: usi
     }
 }
 
-// The label of which the two sets have the plain letter alone; 26 if they have others.
+// The label of which the two sets have the plain letter alone; LABELS if they have others.
 fn only_label(forward: u32, against: u32) -> u8
     ensures { λ r. ⌜ (r < 26 → (forward ≡ 2 ^ r) × (against ≡ 0)) ⌝ }
 {
     if against != 0 {
-        return 26;
+        return LABELS;
     }
     let label = u32::trailing_zeros(forward);
-    if 26 <= label {
-        return 26;
+    if LABELS as u32 <= label {
+        return LABELS;
     }
     if forward != 1 << label {
-        return 26;
+        return LABELS;
     }
     label as u8
 }
 
-// The label of a code that is a plain letter alone; 26 of any other.
+// The label of a code that is a plain letter alone; LABELS of any other.
 fn letter_alone(code: &[u64]) -> u8
     ensures { λ r. ⌜ (r < 26 → Alone r (now (code .entry))) ⌝ }
 {
     if code.len() != 1 {
-        return 26;
+        return LABELS;
     }
     let item = reader::item_of(code[0]);
     match item {
         Item::Letters(forward, against) => only_label(forward, against),
-        _ => 26,
+        _ => LABELS,
     }
 }
 
@@ -287,14 +293,14 @@ fn of_code(
 {
     let n = register.size();
     let w = row_width(n);
-    if work.len() < 32 * (n * w) {
+    if work.len() < RELATIONS * (n * w) {
         return pairs::PairsAnswer::Refused(book::SHORT_WORK);
     }
     let links = register.links();
     let count = links.count;
     let array = links.words;
     let label = letter_alone(&code[..len]);
-    if label < 26 {
+    if label < LABELS {
         let found = list_letter(&array[..count], label, list);
         return pairs::PairsAnswer::Pairs(found);
     }
