@@ -7,7 +7,7 @@ use std::fmt::{self, Debug, Formatter};
 
 /// A register of n records, with its links, its locked and withdrawn records and the latest 256 edits.
 ///
-/// It takes 21,624 bytes, and with the first question of each kind the space for it: for 1,024 records 5.6 MB and 4.2 MB (pairs), or
+/// It takes 21,624 bytes, and with the first question of each kind the space for it: for 1,024 records 4.2 MB and 4.2 MB (pairs; by trees 5.6 MB and 4.2 MB), or
 /// 0.5 MB and 0.3 MB (chains), of which the system gives what is written to. [`pairs_in`](Register::pairs_in) and
 /// [`chain_in`](Register::chain_in) take the caller's space instead.
 pub struct Register {
