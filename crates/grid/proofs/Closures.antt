@@ -313,6 +313,16 @@ pub half-next : (n : ℕ) (a : Cells) (c d : ℕ → ℕ) (x : ℕ) (f g : Cells
     → ((y : ℕ) → y < n → g x y ≡ closure n a x y) → Half n a c f → Half n a d g
 half-next n a c d x f g e others row H = subst (λ (s : ℕ → ℕ). Half n a s g) (sym e) (half-more n a c x f g others row H)
 
+-- a mark beyond the records
+pub half-beyond : (n : ℕ) (a : Cells) (c d : ℕ → ℕ) (p : ℕ) (f : Cells) → n ≤ p → d ≡ put p 1 c → Half n a c f → Half n a d f
+half-beyond n a c d p f l e H = record {
+  whole = λ u y ul yl h. H .whole u y ul yl (sym (same u ul) ∙ h);
+  plain = λ u y ul yl h. H .plain u y ul yl (sym (same u ul) ∙ h);
+}
+  where
+    same : (u : ℕ) → u < n → d u ≡ c u
+    same u ul = ap (λ (g : ℕ → ℕ). g u) e ∙ put-off p 1 c u (λ q. absurd (omega arith))
+
 pub put-keeps : (c : ℕ → ℕ) (x u : ℕ) → c u ≡ 1 → put x 1 c u ≡ 1
 put-keeps c x u e = go (ℕ-discrete u x)
   where
