@@ -35,7 +35,12 @@ impl Register {
     }
 
     /// The pairs by rows in lent space: work of [`rows_work`] words, and a list as [`pairs_in`](Register::pairs_in) takes it.
-    pub fn pairs_by_rows_in<'a>(&self, expression: impl AsRef<[u8]>, work: &mut [u64], list: &'a mut [u32]) -> Result<Pairs<'a>, Refusal> {
+    pub fn pairs_by_rows_in<'a>(
+        &self,
+        expression: impl AsRef<[u8]>,
+        work: &mut [u64],
+        list: &'a mut [u32],
+    ) -> Result<Pairs<'a>, Refusal> {
         let total = counted(calls::pairs_by_rows(&self.words, expression.as_ref(), work, list))?;
         Ok(Pairs::new(list, total))
     }
