@@ -4,8 +4,8 @@
  * contents, and ends. What is written (state, list, out, tree, work) must not overlap what else is lent.
  *
  * A uint32_t answer is 0, or the number of a refusal, unless it says otherwise. A uint64_t answer is a total, or the number of words of the answer;
- * DATING_NO_CHAIN; or DATING_REFUSED plus the number of a refusal. Of links and pairs (dating_links, dating_pairs, dating_tree_list) it is the total, of
- * which the first min(total, list_len) are written; a chain or a tree that is longer than its list is refused. A refused call leaves state and list as
+ * DATING_NO_CHAIN; or DATING_REFUSED plus the number of a refusal. Of links and pairs (dating_links, dating_pairs, dating_tree_list, dating_preview) it is the
+ * total, of which the first min(total, list_len) are written; a chain or a tree that is longer than its list is refused. A refused call leaves state and list as
  * they were; words of a list past the answer, and of a state past DATING_STATE_WORDS, are never touched; work may hold anything after a call. The numbers:
  *
  *    1  n outside 1 to 1,024                       10  expression over 256 bytes, 63 letters or 8 deep
@@ -13,7 +13,7 @@
  *    3  label above 25                             12  work (or state) shorter than stated
  *    4  an end of the link, or the record to       13  chain or tree longer than its list
  *       withdraw, is locked                        14  (programs only: frame broken)
- *    5  link present, or record locked or          15  (programs only: kind unknown)
+ *    5  link present, or record locked or          15  kind unknown
  *       withdrawn, already                         16  the words are not those of a register
  *    6  link absent, record not locked, or         17  a link touches the record to withdraw
  *       record to reinstate in use                 18  a withdrawn record named in add, remove, lock or
@@ -88,6 +88,12 @@ uint64_t dating_tree_product(size_t n, const uint64_t *a, size_t a_len, uint8_t 
                              uint64_t *out, size_t out_len, uint64_t *work, size_t work_len);
 uint64_t dating_tree_transpose(size_t n, const uint64_t *a, size_t a_len, uint64_t *out, size_t out_len, uint64_t *work, size_t work_len);
 uint64_t dating_tree_closure(size_t n, const uint64_t *a, size_t a_len, uint64_t *out, size_t out_len, uint64_t *work, size_t work_len);
+
+/* A preview: what dating_pairs would give if one edit or undo were made, which is not made; the state stays as it is. The kind is a frame's: 2 add,
+ * 3 remove, 4 lock, 5 unlock, 6 undo, 10 withdraw, 11 reinstate; any other is refused with 15. A record alone is `from`. The edit's numbers come before
+ * the question's. */
+uint64_t dating_preview(const uint32_t *state, size_t state_len, uint16_t kind, uint16_t from, uint8_t label, uint16_t to, const uint8_t *text,
+                        size_t text_len, uint64_t *work, size_t work_len, uint32_t *list, size_t list_len);
 
 /* The pairs as dating_pairs gives them, by the engine on rows of bits. Work of 32 * n * w words, where w is n / 64, rounded up. */
 uint64_t dating_pairs_by_rows(const uint32_t *state, size_t state_len, const uint8_t *text, size_t text_len, uint64_t *work, size_t work_len,

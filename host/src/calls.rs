@@ -165,6 +165,20 @@ extern "C" {
         work: *mut u64,
         work_len: usize,
     ) -> u64;
+    fn dating_preview(
+        state: *const u32,
+        state_len: usize,
+        kind: u16,
+        from: u16,
+        label: u8,
+        to: u16,
+        text: *const u8,
+        text_len: usize,
+        work: *mut u64,
+        work_len: usize,
+        list: *mut u32,
+        list_len: usize,
+    ) -> u64;
     fn dating_pairs_by_rows(
         state: *const u32,
         state_len: usize,
@@ -346,6 +360,28 @@ pub fn tree_transpose(n: usize, a: &[u64], out: &mut [u64], work: &mut [u64]) ->
 
 pub fn tree_closure(n: usize, a: &[u64], out: &mut [u64], work: &mut [u64]) -> u64 {
     unsafe { dating_tree_closure(n, a.as_ptr(), a.len(), out.as_mut_ptr(), out.len(), work.as_mut_ptr(), work.len()) }
+}
+
+/// The pairs if an edit or undo were made. The kind is a frame's: 2 add, 3 remove, 4 lock, 5 unlock, 6 undo, 10 withdraw, 11 reinstate; any other is
+/// refused with 15, before 16. A record alone is `from`.
+#[allow(clippy::too_many_arguments)]
+pub fn preview(state: &[u32], kind: u16, from: u16, label: u8, to: u16, text: &[u8], work: &mut [u64], list: &mut [u32]) -> u64 {
+    unsafe {
+        dating_preview(
+            state.as_ptr(),
+            state.len(),
+            kind,
+            from,
+            label,
+            to,
+            text.as_ptr(),
+            text.len(),
+            work.as_mut_ptr(),
+            work.len(),
+            list.as_mut_ptr(),
+            list.len(),
+        )
+    }
 }
 
 /// The pair words as [`pairs`] gives them, by the engine on rows of bits. Work: [`rows_work`](crate::rows_work).

@@ -24,6 +24,7 @@
 //! A call that cannot be done is refused with the first of its causes, a [`Refusal`], and then nothing is changed.
 //!
 //! * [`Register`]: edits, undo, and both questions
+//! * [`Edit`]: an edit by name, for a preview of what it would do to an answer
 //! * [`Trees`] and [`Tree`]: sets of pairs as k2-trees, and their algebra
 //! * [`calls`]: the engine's functions as they are exported, on plain slices
 //!
@@ -32,12 +33,14 @@
 mod by_rows;
 pub mod calls;
 mod items;
+mod previews;
 mod refusal;
 mod register;
 mod space;
 mod tree;
 
 pub use items::{Link, Links, Pairs, Step, Steps};
+pub use previews::Edit;
 pub use refusal::Refusal;
 pub use register::Register;
 pub use space::{chain_work, longest_chain, most_pairs, rows_work, tree_words, tree_work};

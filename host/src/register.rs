@@ -197,7 +197,7 @@ impl Debug for Register {
 }
 
 /// 0 to 25 for a to z; 255, which the engine refuses with 3, for any other.
-fn label(letter: char) -> u8 {
+pub(crate) fn label(letter: char) -> u8 {
     match letter {
         'a'..='z' => letter as u8 - b'a',
         _ => 255,

@@ -13,7 +13,7 @@ struct Function {
 }
 
 /// The modules of `crates/host/src` that export functions, in the order of the declarations.
-const MODULES: [&str; 4] = ["edits", "questions", "trees", "by_rows"];
+const MODULES: [&str; 5] = ["edits", "questions", "trees", "previews", "by_rows"];
 
 /// Those that export none.
 const OTHERS: [&str; 2] = ["lib", "told"];

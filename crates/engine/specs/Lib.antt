@@ -1,3 +1,5 @@
 pub mod Demand
 pub mod DemandLaws
 pub mod Inquiries
+pub mod Previews
+pub mod PreviewLaws

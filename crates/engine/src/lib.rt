@@ -1,5 +1,9 @@
 // The dating register: the calls that programs make. A register is a value; an edit hands the next one back, and a question changes nothing.
 // Every call takes any contents and any arguments, and what it promises is the whole of what it does: the answer, and everything that it was lent.
+// previews.rt has the preview of an edit.
+mod previews;
+
+pub use previews::preview;
 ghost use mathlib.Core.Path.{_≡_};
 ghost use mathlib.Core.List.{[], _∷_};
 ghost use lib.ListN.{length};

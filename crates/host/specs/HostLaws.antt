@@ -8,7 +8,7 @@
 --                   which answer a number tells
 use mathlib.Core.Path.{_≡_, refl, ap, _∙_}
 use mathlib.Core.List.{List, [], _∷_}
-use Prim.Native.Nat.{ℕ, _<_}
+use Prim.Native.Nat.{ℕ, _*_, _<_}
 use native.Mathlib.Omega.{arith}
 use lib.ListN.{length}
 use Rattle.book.specs.Book.{Book, Call, answer, next, answers, after}
@@ -26,7 +26,7 @@ use Rattle.chains.specs.declared.ChainAnswer.{ChainAnswer}
 use Rattle.chains.specs.declared.ChainAnswer.the-variants.{Chain, NoChain, Refused as Unchained}
 use Rattle.tree.specs.declared.listing.Answer.{Answer}
 use Rattle.tree.specs.declared.listing.Answer.the-variants.{Done, Refused as Untreed}
-use Rattle.host.specs.Host.{KeepsBook, Edits, Calls, none, then, toldPairs, toldChain, toldTotal, toldTree, Told, Asked, TellsTotal}
+use Rattle.host.specs.Host.{KeepsBook, Edits, Calls, none, then, pastCounts, toldPairs, toldChain, toldTotal, toldTree, Told, Asked, TellsTotal}
 
 pub edits-book : {c : Call} {ws vs : List ℕ} {k : ℕ} → Edits c ws vs k → (b : Book) → KeepsBook ws b → (k ≡ answer b c) × KeepsBook vs (next b c)
 edits-book e b h =
@@ -52,25 +52,25 @@ module _ {ws before after′ : List ℕ} {k : ℕ} (text : List ℕ) (work : ℕ
 pub total-book : {ws : List ℕ} {l k : ℕ} → TellsTotal ws l k → (b : Book) → KeepsBook ws b → k ≡ toldTotal (totalAnswer (b .sheet) l)
 total-book q b h = let t = q .total (h .0) (h .1) in t .2 ∙ ap toldTotal (t .1 .told b (h .2))
 
-pub total-told : (a : TotalAnswer) (k : ℕ) → toldTotal a ≡ k → k < 8589934592 → a ≡ Total k
+pub total-told : (a : TotalAnswer) (k : ℕ) → toldTotal a ≡ k → k < 2 * pastCounts → a ≡ Total k
 total-told (Total j) k e l = ap Total e
 total-told (Untotalled j) k e l = absurd (omega arith)
 
-pub pairs-told : (a : PairsAnswer) (k : ℕ) → toldPairs a ≡ k → k < 8589934592 → a ≡ Pairs k
+pub pairs-told : (a : PairsAnswer) (k : ℕ) → toldPairs a ≡ k → k < 2 * pastCounts → a ≡ Pairs k
 pairs-told (Pairs j) k e l = ap Pairs e
 pairs-told (Refused j) k e l = absurd (omega arith)
 
-pub chain-told : (a : ChainAnswer) (k : ℕ) → toldChain a ≡ k → k < 4294967296 → a ≡ Chain k
+pub chain-told : (a : ChainAnswer) (k : ℕ) → toldChain a ≡ k → k < pastCounts → a ≡ Chain k
 chain-told (Chain j) k e l = ap Chain e
 chain-told NoChain k e l = absurd (omega arith)
 chain-told (Unchained j) k e l = absurd (omega arith)
 
-pub none-told : (a : ChainAnswer) → toldChain a ≡ 4294967296 → stepsLength a < 4294967296 → a ≡ NoChain
+pub none-told : (a : ChainAnswer) → toldChain a ≡ pastCounts → stepsLength a < pastCounts → a ≡ NoChain
 unfolding stepsLength
 none-told (Chain j) e l = absurd (omega arith)
 none-told NoChain e l = refl
 none-told (Unchained j) e l = absurd (omega arith)
 
-pub tree-told : (a : Answer) (k : ℕ) → toldTree a ≡ k → k < 8589934592 → a ≡ Done k
+pub tree-told : (a : Answer) (k : ℕ) → toldTree a ≡ k → k < 2 * pastCounts → a ≡ Done k
 tree-told (Done j) k e l = ap Done e
 tree-told (Untreed j) k e l = absurd (omega arith)

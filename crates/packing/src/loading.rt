@@ -157,27 +157,42 @@ fn square_number(b: usize, x: usize, y: usize) -> usize
     b * 1048576 + x * 1024 + y
 }
 
-// The quarters that are not empty of a square of side 2 ^ h, whose four bits begin at bit b, at row x and column y, put behind the m squares
-// of next; how many there are then. With sense 1 the second and the third quarter are read in exchanged order.
+// A square as a node of the tree: the bit at which its four bits begin, its row and its column.
+struct Node {
+    bit: usize,
+    row: usize,
+    column: usize,
+}
+
+// Some squares of a list: how many, from which place on.
+struct Part {
+    from: usize,
+    count: usize,
+}
+
+// The quarters that are not empty of a square of side 2 ^ h put behind the m squares of next; how many there are then. With sense 1 the second and the
+// third quarter are read in exchanged order.
 fn children(
     tree: &[u64],
     before: &[u32],
     h: usize,
-    b: usize,
-    x: usize,
-    y: usize,
+    at: Node,
     sense: usize,
     next: &mut [usize],
     m: usize,
 ) -> usize
-    requires { ⌜ (2 ≤ h) × (h ≤ 10) × (b % 4 ≡ 0) × (b ≤ 5592576) × (x + 2 ^ h ≤ 1024) × (y + 2 ^ h ≤ 1024) × (y % 2 ≡ 0) × (sense ≤ 1)
+    requires { ⌜ (2 ≤ h) × (h ≤ 10) × (at .bit % 4 ≡ 0) × (at .bit ≤ 5592576) × (at .row + 2 ^ h ≤ 1024) × (at .column + 2 ^ h ≤ 1024) × (at .column % 2 ≡ 0)
+        × (sense ≤ 1)
         × (length (now tree) ≤ 21846) × (length (now before) ≡ 5462) × Counted (now tree) (now before)
         × (m + 4 ≤ length (now next)) × FitAll (h - 1) (now next) 0 m ⌝ }
     ensures { λ r. ⌜ (r ≤ m + 4) × FitAll (h - 1) (now (next .exit)) 0 r
-        × ((t : Cells) → Reads sense (now (tree .entry)) h b x y t → ReadAll sense (now (tree .entry)) (h - 1) (now (next .entry)) 0 m t
+        × ((t : Cells) → Reads sense (now (tree .entry)) h (at .bit) (at .row) (at .column) t → ReadAll sense (now (tree .entry)) (h - 1) (now (next .entry)) 0 m t
         → ReadAll sense (now (tree .entry)) (h - 1) (now (next .exit)) 0 r t
-        × (squaresTo r (h - 1) (now (next .exit)) 0 t ≡ union (squaresTo m (h - 1) (now (next .entry)) 0 t) (inside h x y t))) ⌝ }
+        × (squaresTo r (h - 1) (now (next .exit)) 0 t ≡ union (squaresTo m (h - 1) (now (next .entry)) 0 t) (inside h (at .row) (at .column) t))) ⌝ }
 {
+    let b = at.bit;
+    let x = at.row;
+    let y = at.column;
     let v = square(tree, b, sense);
     let s = half(h);
     let mut k = m;
@@ -191,50 +206,48 @@ fn children(
     k
 }
 
-// The quarters that are not empty of `count` squares of side 2 ^ h, from place `from` of the list on; how many there are.
+// The quarters that are not empty of some squares of side 2 ^ h of the list; how many there are.
 fn spread(
     tree: &[u64],
     before: &[u32],
     h: usize,
     list: &[usize],
-    from: usize,
-    count: usize,
+    part: Part,
     sense: usize,
     next: &mut [usize],
 ) -> usize
     requires { ⌜ (2 ≤ h) × (h ≤ 10) × (sense ≤ 1) × (length (now tree) ≤ 21846) × (length (now before) ≡ 5462) × Counted (now tree) (now before)
-        × (from + count ≤ length (now list)) × (count ≤ 16) × (length (now next) ≡ 64) × FitAll h (now list) from count ⌝ }
+        × (part .from + part .count ≤ length (now list)) × (part .count ≤ 16) × (length (now next) ≡ 64) × FitAll h (now list) (part .from) (part .count) ⌝ }
     ensures { λ r. ⌜ (r ≤ 64) × FitAll (h - 1) (now (next .exit)) 0 r
-        × ((t : Cells) → ReadAll sense (now (tree .entry)) h (now (list .entry)) from count t
+        × ((t : Cells) → ReadAll sense (now (tree .entry)) h (now (list .entry)) (part .from) (part .count) t
         → ReadAll sense (now (tree .entry)) (h - 1) (now (next .exit)) 0 r t
-        × (squaresTo r (h - 1) (now (next .exit)) 0 t ≡ squaresTo count h (now (list .entry)) from t)) ⌝ }
+        × (squaresTo r (h - 1) (now (next .exit)) 0 t ≡ squaresTo (part .count) h (now (list .entry)) (part .from) t)) ⌝ }
 {
+    let from = part.from;
+    let count = part.count;
     let mut m = 0;
     let mut i = 0;
     while i < count {
         let w = list[from + i];
-        m = children(
-            tree,
-            before,
-            h,
-            w / 1048576,
-            w / 1024 % 1024,
-            w % 1024,
-            sense,
-            next,
-            m,
-        );
+        let at = Node {
+            bit: w / 1048576,
+            row: w / 1024 % 1024,
+            column: w % 1024,
+        };
+        m = children(tree, before, h, at, sense, next, m);
         i += 1;
     }
     m
 }
 
-// The cells of `count` squares of side 2, from place `from` of the list on, put into rows.
-fn leaves(tree: &[u64], list: &[usize], from: usize, count: usize, sense: usize, rows: &mut [u64])
-    requires { ⌜ (from + count ≤ length (now list)) × (count ≤ 16) × (sense ≤ 1) × (length (now rows) ≡ 16384) × FitAll 1 (now list) from count ⌝ }
-    ensures { λ _. ⌜ ((a t : Cells) → bitAt (now (rows .entry)) ≡ flat a → ReadAll sense (now (tree .entry)) 1 (now (list .entry)) from count t
-        → bitAt (now (rows .exit)) ≡ flat (union a (squaresTo count 1 (now (list .entry)) from t))) ⌝ }
+// The cells of some squares of side 2 of the list put into rows.
+fn leaves(tree: &[u64], list: &[usize], part: Part, sense: usize, rows: &mut [u64])
+    requires { ⌜ (part .from + part .count ≤ length (now list)) × (part .count ≤ 16) × (sense ≤ 1) × (length (now rows) ≡ 16384) × FitAll 1 (now list) (part .from) (part .count) ⌝ }
+    ensures { λ _. ⌜ ((a t : Cells) → bitAt (now (rows .entry)) ≡ flat a → ReadAll sense (now (tree .entry)) 1 (now (list .entry)) (part .from) (part .count) t
+        → bitAt (now (rows .exit)) ≡ flat (union a (squaresTo (part .count) 1 (now (list .entry)) (part .from) t))) ⌝ }
 {
+    let from = part.from;
+    let count = part.count;
     let mut i = 0;
     while i < count {
         let w = list[from + i];
@@ -255,33 +268,33 @@ fn taken(i: usize, m: usize) -> usize
     16
 }
 
-// The cells of `count` squares of side 2 ^ h, from place `from` of the list on, put into rows; level by level, as the places of the children of
-// one square do not wait for those of another.
+// The cells of some squares of side 2 ^ h of the list put into rows; level by level, as the places of the children of one square do not wait for those of
+// another.
 fn dive(
     tree: &[u64],
     before: &[u32],
     h: usize,
     list: &[usize],
-    from: usize,
-    count: usize,
+    part: Part,
     sense: usize,
     rows: &mut [u64],
 )
     requires { ⌜ (1 ≤ h) × (h ≤ 10) × (sense ≤ 1) × (length (now tree) ≤ 21846) × (length (now before) ≡ 5462) × Counted (now tree) (now before)
-        × (from + count ≤ length (now list)) × (count ≤ 16) × (length (now rows) ≡ 16384) × FitAll h (now list) from count ⌝ }
-    ensures { λ _. ⌜ ((a t : Cells) → bitAt (now (rows .entry)) ≡ flat a → ReadAll sense (now (tree .entry)) h (now (list .entry)) from count t
-        → bitAt (now (rows .exit)) ≡ flat (union a (squaresTo count h (now (list .entry)) from t))) ⌝ }
+        × (part .from + part .count ≤ length (now list)) × (part .count ≤ 16) × (length (now rows) ≡ 16384) × FitAll h (now list) (part .from) (part .count) ⌝ }
+    ensures { λ _. ⌜ ((a t : Cells) → bitAt (now (rows .entry)) ≡ flat a → ReadAll sense (now (tree .entry)) h (now (list .entry)) (part .from) (part .count) t
+        → bitAt (now (rows .exit)) ≡ flat (union a (squaresTo (part .count) h (now (list .entry)) (part .from) t))) ⌝ }
 {
     if h == 1 {
-        leaves(tree, list, from, count, sense, rows);
+        leaves(tree, list, part, sense, rows);
         return;
     }
     let mut next: [usize; 64] = [0; 64];
-    let m = spread(tree, before, h, list, from, count, sense, &mut next);
+    let m = spread(tree, before, h, list, part, sense, &mut next);
     let mut i = 0;
     while i < m {
         let k = taken(i, m);
-        dive(tree, before, h - 1, &next, i, k, sense, rows);
+        let some = Part { from: i, count: k };
+        dive(tree, before, h - 1, &next, some, sense, rows);
         i += k;
     }
 }
@@ -301,7 +314,8 @@ fn load_by(tree: &[u64], n: usize, sense: usize, rows: &mut [u64])
     let mut before: [u32; 5462] = [0; 5462];
     count(tree, &mut before);
     let root: [usize; 1] = [0; 1];
-    dive(tree, &before, height(n), &root, 0, 1, sense, rows);
+    let whole = Part { from: 0, count: 1 };
+    dive(tree, &before, height(n), &root, whole, sense, rows);
 }
 
 // The same by its name.

@@ -4,6 +4,7 @@ pub mod Packed
 pub mod Counters
 pub mod Representation
 pub mod Calls
+pub mod Entries
 pub mod History
 pub mod Questions
 pub mod Lookups
@@ -12,4 +13,5 @@ pub mod Inner
 pub mod MarkLaws
 pub mod LinkLaws
 pub mod HistoryLaws
+pub mod EntryLaws
 pub mod WordLaws

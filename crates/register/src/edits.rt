@@ -75,6 +75,13 @@ fn link_word(from: u16, label: u8, to: u16) -> u32
     (label as u32 * FROM_UNIT + from as u32) * FROM_UNIT + to as u32
 }
 
+// A link as it is named in a call.
+struct LinkParts {
+    from: u16,
+    label: u8,
+    to: u16,
+}
+
 // The register's numbers, then the link's ends and label.
 fn check_link(
     n: u16,
@@ -82,13 +89,14 @@ fn check_link(
     top: usize,
     held: usize,
     marks: &[u32],
-    from: u16,
-    label: u8,
-    to: u16,
+    link: LinkParts,
 ) -> LinkCheck
     requires { ⌜ length (now marks) ≡ maxRecords ⌝ }
-    ensures { λ r. ⌜ Checks n count top held (now (marks .entry)) (record { from = from; label = label; to = to }) r ⌝ }
+    ensures { λ r. ⌜ Checks n count top held (now (marks .entry)) (record { from = link .from; label = link .label; to = link .to }) r ⌝ }
 {
+    let from = link.from;
+    let label = link.label;
+    let to = link.to;
     if !ranged(n, count, top, held) {
         return LinkCheck::Fault(book::NOT_OPEN);
     }
@@ -185,16 +193,8 @@ impl Register {
         ensures { λ r. ⌜ Steps self (edit (add (record { from = from; label = label; to = to }))) r ⌝ }
     {
         let count = self.count;
-        let check = check_link(
-            self.n,
-            count,
-            self.top,
-            self.held,
-            &self.marks,
-            from,
-            label,
-            to,
-        );
+        let link = LinkParts { from, label, to };
+        let check = check_link(self.n, count, self.top, self.held, &self.marks, link);
         // the causes of the ends, a lock among them, were looked for before anything is written or held
         match check {
             LinkCheck::Fault(number) => Outcome {
@@ -228,16 +228,8 @@ impl Register {
         ensures { λ r. ⌜ Steps self (edit (remove (record { from = from; label = label; to = to }))) r ⌝ }
     {
         let count = self.count;
-        let check = check_link(
-            self.n,
-            count,
-            self.top,
-            self.held,
-            &self.marks,
-            from,
-            label,
-            to,
-        );
+        let link = LinkParts { from, label, to };
+        let check = check_link(self.n, count, self.top, self.held, &self.marks, link);
         match check {
             LinkCheck::Fault(number) => Outcome {
                 register: self,

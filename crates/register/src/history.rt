@@ -5,7 +5,9 @@ use crate::Outcome;
 use crate::Register;
 use crate::state::empty;
 use crate::state::number_of;
-ghost use Rattle.register.specs.History.{wordCall, EntrySteps, Replays};
+ghost use mathlib.Core.Path.{_≡_};
+ghost use Rattle.register.specs.History.{kindCall, wordCall, EntrySteps, Replays};
+ghost use Rattle.register.specs.Entries.{entryOf};
 
 // The kinds of calls, numbered as the program's frames are.
 pub const ADD_KIND: u64 = 2;
@@ -33,6 +35,28 @@ const WORD_FROM: u64 = WORD_LABEL * WORD_LABELS;
 
 const WORD_KIND: u64 = WORD_FROM * WORD_RECORDS;
 
+// What a kind and arguments ask for: a call, or none.
+pub enum Entry {
+    Call(Call),
+    NoCall,
+}
+
+// The call of a kind; of a record alone, `from` is the record.
+pub fn entry_of(kind: u64, from: u16, label: u8, to: u16) -> Entry
+    ensures { λ r. ⌜ entryOf r ≡ kindCall «kind» from label to ⌝ }
+{
+    match kind {
+        ADD_KIND => Entry::Call(Call::Add(from, label, to)),
+        REMOVE_KIND => Entry::Call(Call::Remove(from, label, to)),
+        LOCK_KIND => Entry::Call(Call::Lock(from)),
+        UNLOCK_KIND => Entry::Call(Call::Unlock(from)),
+        UNDO_KIND => Entry::Call(Call::Undo),
+        WITHDRAW_KIND => Entry::Call(Call::Withdraw(from)),
+        REINSTATE_KIND => Entry::Call(Call::Reinstate(from)),
+        _ => Entry::NoCall,
+    }
+}
+
 impl Register {
     // Any call, by its word; a kind that does not exist gives 15.
     pub fn step(self, word: u64) -> Outcome
@@ -42,15 +66,10 @@ impl Register {
         let from = (word / WORD_FROM % WORD_RECORDS) as u16;
         let label = (word / WORD_LABEL % WORD_LABELS) as u8;
         let to = (word % WORD_RECORDS) as u16;
-        match kind {
-            ADD_KIND => self.apply(Call::Add(from, label, to)),
-            REMOVE_KIND => self.apply(Call::Remove(from, label, to)),
-            LOCK_KIND => self.apply(Call::Lock(from)),
-            UNLOCK_KIND => self.apply(Call::Unlock(from)),
-            UNDO_KIND => self.apply(Call::Undo),
-            WITHDRAW_KIND => self.apply(Call::Withdraw(from)),
-            REINSTATE_KIND => self.apply(Call::Reinstate(from)),
-            _ => Outcome {
+        let entry = entry_of(kind, from, label, to);
+        match entry {
+            Entry::Call(call) => self.apply(call),
+            Entry::NoCall => Outcome {
                 register: self,
                 answer: Answer::Refused(book::UNKNOWN_KIND),
             },

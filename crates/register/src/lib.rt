@@ -10,12 +10,14 @@ mod totals;
 mod words;
 
 pub use history::ADD_KIND;
+pub use history::Entry;
 pub use history::LOCK_KIND;
 pub use history::REINSTATE_KIND;
 pub use history::REMOVE_KIND;
 pub use history::UNDO_KIND;
 pub use history::UNLOCK_KIND;
 pub use history::WITHDRAW_KIND;
+pub use history::entry_of;
 pub use history::replay;
 pub use questions::label_part;
 pub use questions::next_in;

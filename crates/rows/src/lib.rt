@@ -208,14 +208,22 @@ fn serves(a: &[u64], i: usize, b: &[u64], j: usize, common: u32) -> u64
     found
 }
 
-// Row i of the product: its columns are the entries of the list whose rows of bt serve. A column whose squares are not among those of row i
+// Row i of the product: of the columns of the second that the list names, those that serve. One whose squares are not among those of row i
 // is passed at once.
-fn product_row(a: &[u64], i: usize, mask: u32, bt: &[u64], list: &[u32], m: usize, row: &mut [u64])
-    requires { ⌜ (length (now a) ≡ 16384) × (i < 1024) × (mask < 65536) × (length (now bt) ≡ 16384) × (length (now list) ≡ 1024) × (m ≤ 1024)
+fn product_row(
+    a: &[u64],
+    i: usize,
+    mask: u32,
+    columns: &[u64],
+    list: &[u32],
+    m: usize,
+    row: &mut [u64],
+)
+    requires { ⌜ (length (now a) ≡ 16384) × (i < 1024) × (mask < 65536) × (length (now columns) ≡ 16384) × (length (now list) ≡ 1024) × (m ≤ 1024)
         × (length (now row) ≡ 16) ⌝ }
-    ensures { λ _. ⌜ ((n : ℕ) → Masked (bitAt (now (a .entry))) i mask → Occupied (bitAt (now (bt .entry))) n (rowAt n m (now (list .entry))) m
-        → Masks (bitAt (now (bt .entry))) m (now (list .entry)) → bitAt (now (row .entry)) ≡ none
-        → bitAt (now (row .exit)) ≡ below n (served (bitAt (now (a .entry))) (bitAt (now (bt .entry))) i)) ⌝ }
+    ensures { λ _. ⌜ ((n : ℕ) → Masked (bitAt (now (a .entry))) i mask → Occupied (bitAt (now (columns .entry))) n (rowAt n m (now (list .entry))) m
+        → Masks (bitAt (now (columns .entry))) m (now (list .entry)) → bitAt (now (row .entry)) ≡ none
+        → bitAt (now (row .exit)) ≡ below n (served (bitAt (now (a .entry))) (bitAt (now (columns .entry))) i)) ⌝ }
 {
     let mut t = 0;
     while t < m {
@@ -223,7 +231,7 @@ fn product_row(a: &[u64], i: usize, mask: u32, bt: &[u64], list: &[u32], m: usiz
         let common = mask & (entry / 1024);
         if common != 0 {
             let j = (entry % 1024) as usize;
-            if serves(a, i, bt, j, common) == 1 {
+            if serves(a, i, columns, j, common) == 1 {
                 bits::set_bit(row, j);
             }
         }
@@ -243,20 +251,20 @@ fn store_row(row: &[u64], rows: &mut [u64], i: usize)
     }
 }
 
-// The product, left in a; the right operand is lent transposed. A row of the product depends on that row of a alone.
-pub fn compose(a: &mut [u64], bt: &[u64], n: usize)
-    requires { ⌜ (n ≤ 1024) × (length (now a) ≡ 16384) × (length (now bt) ≡ 16384) ⌝ }
-    ensures { λ _. ⌜ ((x y : Cells) → IsSet n x → IsSet n y → bitAt (now (a .entry)) ≡ flat x → bitAt (now (bt .entry)) ≡ flat (transpose y)
+// The product, left in a; the second operand is lent by its columns, transposed. A row of the product depends on that row of a alone.
+pub fn compose(a: &mut [u64], columns: &[u64], n: usize)
+    requires { ⌜ (n ≤ 1024) × (length (now a) ≡ 16384) × (length (now columns) ≡ 16384) ⌝ }
+    ensures { λ _. ⌜ ((x y : Cells) → IsSet n x → IsSet n y → bitAt (now (a .entry)) ≡ flat x → bitAt (now (columns .entry)) ≡ flat (transpose y)
         → bitAt (now (a .exit)) ≡ flat (product n x y)) ⌝ }
 {
     let mut list: [u32; 1024] = [0; 1024];
-    let m = occupied(bt, n, &mut list);
+    let m = occupied(columns, n, &mut list);
     let mut i = 0;
     while i < n {
         let mask = squares(a, i);
         if mask != 0 {
             let mut row: [u64; 16] = [0; 16];
-            product_row(a, i, mask, bt, &list, m, &mut row);
+            product_row(a, i, mask, columns, &list, m, &mut row);
             store_row(&row, a, i);
         }
         i += 1;

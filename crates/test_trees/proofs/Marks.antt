@@ -42,15 +42,15 @@ below-more i = fun-ext (λ x. go x (ℕ-discrete x i) (decLt x i))
     go x (no e) (no l) = put-off i 1 (below i) x e ∙ below-past i x (omega arith) ∙ sym (below-past (i + 1) x (omega (arith, e)))
 
 -- ---- a tree, and each of them joined to itself
-module _ (n la : ℕ) (us before after : List ℕ) (r : ℕ) (len : length us ≡ 16) (marked : bitAt us ≡ below n) where
-  marked-set : (a : Cells) → termSet (onOne Optional la Plain) n [] (bitAt us) noPairs a ≡ union a (identity n)
+module _ (n i : ℕ) (us before after : List ℕ) (r : ℕ) (len : length us ≡ 16) (marked : bitAt us ≡ below n) where
+  marked-set : (a : Cells) → termSet (onOne Optional i Plain) n [] (bitAt us) noPairs a ≡ union a (identity n)
   marked-set a =
       let e : diagonal (bitAt us) ≡ identity n = ap diagonal marked ∙ unfold below in refl in
-      ap₂ union (ap₂ union (valued-nothing []) (valued-alone [] la Plain a) ∙ union-none a) e
+      ap₂ union (ap₂ union (valued-nothing []) (valued-alone [] i Plain a) ∙ union-none a) e
 
-  pub identity-made : Operated (onOne Optional la Plain) n [] us 16384 before after r → Roomy n (onOne Optional la Plain) (length before)
-      → (a : Cells) → IsSet n a → take la before ≡ treeWords n a → TreeAt n (union a (identity n)) after r
+  pub identity-made : Operated (onOne Optional i Plain) n [] us 16384 before after r → Roomy n (onOne Optional i Plain) (length before)
+      → (a : Cells) → IsSet n a → take i before ≡ treeWords n a → TreeAt n (union a (identity n)) after r
   identity-made o p a A e =
-      let l : Lent (onOne Optional la Plain) n [] (bitAt us) before noPairs a =
+      let l : Lent (onOne Optional i Plain) n [] (bitAt us) before noPairs a =
       record { first = none-set n; second = A; front = none-tree n; behind = e; links = λ w i. absurd (in-none i refl); used = λ x h. ap (λ (f : ℕ → ℕ). f x) marked ∙ below-past n x h } in
       subst (λ (s : Cells). TreeAt n s after r) (marked-set a) (o .tree (record { trees = p; records = len; bits = refl }) noPairs a l)

@@ -1,7 +1,7 @@
 -- The terms of the exported tree operations.
---   onTwo k la s lb t
---                   the operation k on trees of la and of lb words, read with the senses s and t
---   onOne k la s    the operation k on nothing and a tree of la words, read with the sense s
+--   onTwo k i s j t
+--                   the operation k on trees of i and of j words, read with the senses s and t
+--   onOne k i s    the operation k on nothing and a tree of i words, read with the sense s
 --   anyLetter       nothing and the links of every label, crossed forward
 --   below n         the records below n, as bits
 -- Assumes nothing: these are definitions.
@@ -16,10 +16,10 @@ use Rattle.tree.specs.declared.operations.Term.{Term}
 use Rattle.tree.specs.Inner.{nothing, treeAlone}
 
 abbrev pub onTwo : Operation → ℕ → Sense → ℕ → Sense → Term
-onTwo k la s lb t = record { operation = k; first = treeAlone la s; second = treeAlone lb t }
+onTwo k i s j t = record { operation = k; first = treeAlone i s; second = treeAlone j t }
 
 abbrev pub onOne : Operation → ℕ → Sense → Term
-onOne k la s = onTwo k 0 Plain la s
+onOne k i s = onTwo k 0 Plain i s
 
 abbrev pub anyLetter : Term
 anyLetter = record { operation = Union; first = nothing; second = record { size = 0; sense = Plain; forward = 4294967295; against = 0 } }

@@ -23,28 +23,28 @@ ghost use Rattle.test_trees.specs.Terms.{onTwo, onOne, anyLetter, below}
 // An operation on two trees, with no links. It has rows of its own.
 fn on_trees(
     operation: Operation,
-    la: usize,
+    left: usize,
     s: Sense,
-    lb: usize,
+    right: usize,
     t: Sense,
     work: &mut [u64],
     n: usize,
     used: &[u64],
 ) -> usize
-    ensures { λ r. ⌜ Operated (onTwo operation la s lb t) n [] (now (used .entry)) 16384 (now (work .entry)) (now (work .exit)) r ⌝ }
+    ensures { λ r. ⌜ Operated (onTwo operation left s right t) n [] (now (used .entry)) 16384 (now (work .entry)) (now (work .exit)) r ⌝ }
 {
     let links: [u32; 1] = [0; 1];
     let mut rows: [u64; 16384] = [0; 16384];
     let term = Term {
         operation,
         first: Operand {
-            size: la,
+            size: left,
             sense: s,
             forward: 0,
             against: 0,
         },
         second: Operand {
-            size: lb,
+            size: right,
             sense: t,
             forward: 0,
             against: 0,
@@ -56,28 +56,28 @@ fn on_trees(
 // The same with no record in use.
 fn on_two(
     operation: Operation,
-    la: usize,
+    left: usize,
     s: Sense,
-    lb: usize,
+    right: usize,
     t: Sense,
     work: &mut [u64],
     n: usize,
 ) -> usize
-    ensures { λ r. ⌜ Operated (onTwo operation la s lb t) n [] (replicate 16 0) 16384 (now (work .entry)) (now (work .exit)) r ⌝ }
+    ensures { λ r. ⌜ Operated (onTwo operation left s right t) n [] (replicate 16 0) 16384 (now (work .entry)) (now (work .exit)) r ⌝ }
 {
     let used: [u64; 16] = [0; 16];
-    on_trees(operation, la, s, lb, t, work, n, &used)
+    on_trees(operation, left, s, right, t, work, n, &used)
 }
 
 #[no_mangle]
-pub extern "C" fn tree_union_in(work: &mut [u64], n: usize, la: usize, lb: usize) -> usize
-    ensures { λ r. ⌜ Operated (onTwo Union la Plain lb Plain) n [] (replicate 16 0) 16384 (now (work .entry)) (now (work .exit)) r ⌝ }
+pub extern "C" fn tree_union_in(work: &mut [u64], n: usize, left: usize, right: usize) -> usize
+    ensures { λ r. ⌜ Operated (onTwo Union left Plain right Plain) n [] (replicate 16 0) 16384 (now (work .entry)) (now (work .exit)) r ⌝ }
 {
     on_two(
         Operation::Union,
-        la,
+        left,
         Sense::Plain,
-        lb,
+        right,
         Sense::Plain,
         work,
         n,
@@ -85,14 +85,19 @@ pub extern "C" fn tree_union_in(work: &mut [u64], n: usize, la: usize, lb: usize
 }
 
 #[no_mangle]
-pub extern "C" fn tree_intersection_in(work: &mut [u64], n: usize, la: usize, lb: usize) -> usize
-    ensures { λ r. ⌜ Operated (onTwo Intersection la Plain lb Plain) n [] (replicate 16 0) 16384 (now (work .entry)) (now (work .exit)) r ⌝ }
+pub extern "C" fn tree_intersection_in(
+    work: &mut [u64],
+    n: usize,
+    left: usize,
+    right: usize,
+) -> usize
+    ensures { λ r. ⌜ Operated (onTwo Intersection left Plain right Plain) n [] (replicate 16 0) 16384 (now (work .entry)) (now (work .exit)) r ⌝ }
 {
     on_two(
         Operation::Intersection,
-        la,
+        left,
         Sense::Plain,
-        lb,
+        right,
         Sense::Plain,
         work,
         n,
@@ -100,14 +105,14 @@ pub extern "C" fn tree_intersection_in(work: &mut [u64], n: usize, la: usize, lb
 }
 
 #[no_mangle]
-pub extern "C" fn tree_difference_in(work: &mut [u64], n: usize, la: usize, lb: usize) -> usize
-    ensures { λ r. ⌜ Operated (onTwo Difference la Plain lb Plain) n [] (replicate 16 0) 16384 (now (work .entry)) (now (work .exit)) r ⌝ }
+pub extern "C" fn tree_difference_in(work: &mut [u64], n: usize, left: usize, right: usize) -> usize
+    ensures { λ r. ⌜ Operated (onTwo Difference left Plain right Plain) n [] (replicate 16 0) 16384 (now (work .entry)) (now (work .exit)) r ⌝ }
 {
     on_two(
         Operation::Difference,
-        la,
+        left,
         Sense::Plain,
-        lb,
+        right,
         Sense::Plain,
         work,
         n,
@@ -118,27 +123,35 @@ pub extern "C" fn tree_difference_in(work: &mut [u64], n: usize, la: usize, lb: 
 pub extern "C" fn tree_product_in(
     work: &mut [u64],
     n: usize,
-    la: usize,
-    lb: usize,
-    sa: u8,
-    sb: u8,
+    left: usize,
+    right: usize,
+    s: u8,
+    t: u8,
 ) -> usize
-    ensures { λ r. ⌜ Operated (onTwo Product la (senseOf sa) lb (senseOf sb)) n [] (replicate 16 0) 16384 (now (work .entry)) (now (work .exit)) r ⌝ }
+    ensures { λ r. ⌜ Operated (onTwo Product left (senseOf s) right (senseOf t)) n [] (replicate 16 0) 16384 (now (work .entry)) (now (work .exit)) r ⌝ }
 {
-    let s = tree::sense_of(sa);
-    let t = tree::sense_of(sb);
-    on_two(Operation::Product, la, s, lb, t, work, n)
+    let left_sense = tree::sense_of(s);
+    let right_sense = tree::sense_of(t);
+    on_two(
+        Operation::Product,
+        left,
+        left_sense,
+        right,
+        right_sense,
+        work,
+        n,
+    )
 }
 
 #[no_mangle]
-pub extern "C" fn tree_transpose_in(work: &mut [u64], n: usize, la: usize) -> usize
-    ensures { λ r. ⌜ Operated (onOne Union la Inverted) n [] (replicate 16 0) 16384 (now (work .entry)) (now (work .exit)) r ⌝ }
+pub extern "C" fn tree_transpose_in(work: &mut [u64], n: usize, left: usize) -> usize
+    ensures { λ r. ⌜ Operated (onOne Union left Inverted) n [] (replicate 16 0) 16384 (now (work .entry)) (now (work .exit)) r ⌝ }
 {
     on_two(
         Operation::Union,
         0,
         Sense::Plain,
-        la,
+        left,
         Sense::Inverted,
         work,
         n,
@@ -146,14 +159,14 @@ pub extern "C" fn tree_transpose_in(work: &mut [u64], n: usize, la: usize) -> us
 }
 
 #[no_mangle]
-pub extern "C" fn tree_closure_in(work: &mut [u64], n: usize, la: usize) -> usize
-    ensures { λ r. ⌜ Operated (onOne Closure la Plain) n [] (replicate 16 0) 16384 (now (work .entry)) (now (work .exit)) r ⌝ }
+pub extern "C" fn tree_closure_in(work: &mut [u64], n: usize, left: usize) -> usize
+    ensures { λ r. ⌜ Operated (onOne Closure left Plain) n [] (replicate 16 0) 16384 (now (work .entry)) (now (work .exit)) r ⌝ }
 {
     on_two(
         Operation::Closure,
         0,
         Sense::Plain,
-        la,
+        left,
         Sense::Plain,
         work,
         n,
@@ -173,8 +186,8 @@ fn mark(used: &mut [u64], n: usize)
 }
 
 #[no_mangle]
-pub extern "C" fn tree_identity_in(work: &mut [u64], n: usize, la: usize) -> usize
-    ensures { λ r. ⌜ (Roomy n (onOne Optional la Plain) (length (now (work .entry))) → (a : Cells) → IsSet n a → take la (now (work .entry)) ≡ treeWords n a
+pub extern "C" fn tree_identity_in(work: &mut [u64], n: usize, left: usize) -> usize
+    ensures { λ r. ⌜ (Roomy n (onOne Optional left Plain) (length (now (work .entry))) → (a : Cells) → IsSet n a → take left (now (work .entry)) ≡ treeWords n a
         → TreeAt n (union a (identity n)) (now (work .exit)) r) ⌝ }
 {
     if book::MAX_RECORDS < n {
@@ -186,7 +199,7 @@ pub extern "C" fn tree_identity_in(work: &mut [u64], n: usize, la: usize) -> usi
         Operation::Optional,
         0,
         Sense::Plain,
-        la,
+        left,
         Sense::Plain,
         work,
         n,

@@ -105,7 +105,11 @@ pub fn damaged(run: &mut Run, seed: u64, size: Size) {
                 run.engine.pairs_by_rows(&words, &text, Space { work: pairs.min(rows::work(sized)), list }),
                 run.engine.chain(&words, from, to, &text, Space { work: chains, list }),
             ];
-            for answer in answers {
+            let edit = (random.pick(&[2, 3, 4, 5, 6, 10, 11]), from as u16, random.below(27) as u8, to as u16);
+            let preview = run.engine.preview(&words, edit, &text, Space { work: pairs, list });
+            let unknown = run.engine.preview(&words, (12, edit.1, edit.2, edit.3), &text, Space { work: pairs, list });
+            run.same("a preview of an unknown kind", &unknown, &Err(15));
+            for answer in answers.into_iter().chain([preview]) {
                 if !possible {
                     run.same("a question of words of no register", &answer, &Err(16));
                 }

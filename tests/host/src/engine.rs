@@ -177,7 +177,7 @@ impl Engine {
             Told::Count(total) => Ok(Some(Listed { total, words })),
             Told::NoChain => Ok(None),
             Told::Refused(number) => {
-                self.fault((1..=16).contains(&number), &format!("refuses with {number}"));
+                self.fault((1..=18).contains(&number), &format!("refuses with {number}"));
                 Err(number)
             }
         }
@@ -220,6 +220,14 @@ impl Engine {
     pub fn chain(&mut self, words: &[u32], from: u32, to: u32, text: &[u8], space: Space) -> Answer<u32> {
         let (from, to) = (from as u16, to as u16);
         self.asked(words, text, space, |state, text, work, list| calls::chain(state, from, to, text, work, list))
+    }
+
+    /// A preview of the edit of a kind with its arguments.
+    pub fn preview(&mut self, words: &[u32], edit: (u16, u16, u8, u16), text: &[u8], space: Space) -> Answer<u32> {
+        let (kind, from, label, to) = edit;
+        self.asked(words, text, space, |state, text, work, list| {
+            calls::preview(state, kind, from, label, to, text, work, list)
+        })
     }
 
     pub fn make(&mut self, n: usize, pairs: &[u32], space: Space) -> Answer<u64> {

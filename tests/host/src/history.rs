@@ -1,5 +1,7 @@
 //! Random histories: each edit's answer, then what the register holds, then questions.
 
+pub mod previews;
+
 use crate::engine::Answer;
 use crate::run::{Run, Size};
 use oracle::book::{Book, Call, Link, LABELS, MAX_LINKS};
@@ -128,39 +130,44 @@ impl<'a> History<'a> {
         }
     }
 
+    /// An edit of any kind, that is accepted or refused.
+    fn any_call(&mut self) -> Call {
+        match self.random.below(26) {
+            0..=5 => Call::Add(self.link()),
+            6..=7 => {
+                let label =
+                    if self.random.chance(30) { self.random.pick(&[25, 26, 27, 255]) } else { self.random.label() };
+                let link = Link { from: self.record(), label, to: self.record() };
+                if self.random.chance(50) {
+                    Call::Add(link)
+                } else {
+                    Call::Remove(link)
+                }
+            }
+            8..=11 => self.present().map_or(Call::Undo, Call::Remove),
+            12 => self.present().map_or(Call::Undo, Call::Add),
+            13..=14 => Call::Lock(self.record()),
+            15..=16 => {
+                let locked = self.book.sheet().locked.iter().next().copied();
+                locked.map_or(Call::Unlock(self.record()), Call::Unlock)
+            }
+            17 => Call::Unlock(self.record()),
+            18..=19 => Call::Withdraw(self.record()),
+            20 => Call::Withdraw(self.untouched()),
+            21..=22 => {
+                let withdrawn: Vec<u32> = self.book.sheet().withdrawn.iter().copied().collect();
+                let some = !withdrawn.is_empty();
+                Call::Reinstate(if some { self.random.pick(&withdrawn) } else { self.record() })
+            }
+            23 => Call::Reinstate(self.record()),
+            _ => Call::Undo,
+        }
+    }
+
     /// Edits of every kind, accepted and refused.
     fn edits(&mut self, count: usize) {
         for _ in 0..count {
-            let call = match self.random.below(26) {
-                0..=5 => Call::Add(self.link()),
-                6..=7 => {
-                    let label =
-                        if self.random.chance(30) { self.random.pick(&[25, 26, 27, 255]) } else { self.random.label() };
-                    let link = Link { from: self.record(), label, to: self.record() };
-                    if self.random.chance(50) {
-                        Call::Add(link)
-                    } else {
-                        Call::Remove(link)
-                    }
-                }
-                8..=11 => self.present().map_or(Call::Undo, Call::Remove),
-                12 => self.present().map_or(Call::Undo, Call::Add),
-                13..=14 => Call::Lock(self.record()),
-                15..=16 => {
-                    let locked = self.book.sheet().locked.iter().next().copied();
-                    locked.map_or(Call::Unlock(self.record()), Call::Unlock)
-                }
-                17 => Call::Unlock(self.record()),
-                18..=19 => Call::Withdraw(self.record()),
-                20 => Call::Withdraw(self.untouched()),
-                21..=22 => {
-                    let withdrawn: Vec<u32> = self.book.sheet().withdrawn.iter().copied().collect();
-                    let some = !withdrawn.is_empty();
-                    Call::Reinstate(if some { self.random.pick(&withdrawn) } else { self.record() })
-                }
-                23 => Call::Reinstate(self.record()),
-                _ => Call::Undo,
-            };
+            let call = self.any_call();
             self.edit(call);
         }
     }

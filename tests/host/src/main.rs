@@ -18,7 +18,7 @@ use std::time::Instant;
 type Kind = (&'static str, fn(&mut Run, u64, Size), Size, [u64; 3]);
 
 /// Each kind of case with its size, and how many there are: in the short run, in the long one, on the heap.
-const KINDS: [Kind; 11] = [
+const KINDS: [Kind; 13] = [
     ("history of few records", history::history, Size(1, 64), [200, 1000, 3]),
     ("history of some records", history::history, Size(65, 256), [80, 500, 0]),
     ("history of many records", history::history, Size(257, 1024), [40, 300, 0]),
@@ -30,6 +30,8 @@ const KINDS: [Kind; 11] = [
     ("trees of many records", trees::trees, Size(257, 1024), [16, 100, 0]),
     ("damaged words, few records", damage::damaged, Size(1, 64), [400, 5000, 20]),
     ("damaged words, many records", damage::damaged, Size(65, 1024), [100, 1500, 1]),
+    ("previews of few records", history::previews::previews, Size(1, 64), [100, 1000, 2]),
+    ("previews of many records", history::previews::previews, Size(65, 1024), [12, 120, 0]),
 ];
 
 /// What a call may take of the stack, and this program beside it.

@@ -10,6 +10,7 @@
 //! | `rows` | what a pair question by rows of bits is lent | S18 Rows of bits |
 //! | `tree` | k2-trees, well-formedness, the operations on trees | S5 Trees |
 //! | `question` | pair and chain questions with all their refusals | S6 Causes and numbers |
+//! | `preview` | pair questions on a copy where an edit was made | S12 Look before saving |
 //! | `frame` | requests as frames, and frames read as requests | S7 The program |
 //! | `program` | the program: frames in, lines out | S7 The program |
 //! | `lines` | typed lines such as `add 0 a 1` to requests | – |
@@ -22,6 +23,7 @@ pub mod chain;
 pub mod expression;
 pub mod frame;
 pub mod lines;
+pub mod preview;
 pub mod program;
 pub mod question;
 pub mod random;

@@ -17,12 +17,12 @@ use Rattle.rows.proofs.compose.Statement.{statement}
 use Rattle.rows.proofs.compose.Tie as tie
 
 abbrev Inv-loop : tie.InvT-loop
-Inv-loop a₀ bt n list m i₀ a i =
-    (i ≤ n) × (length a ≡ length a₀) × ((x y : Cells) → IsSet n x → IsSet n y → bitAt a₀ ≡ flat x → bitAt bt ≡ flat (transpose y)
+Inv-loop a₀ columns n list m i₀ a i =
+    (i ≤ n) × (length a ≡ length a₀) × ((x y : Cells) → IsSet n x → IsSet n y → bitAt a₀ ≡ flat x → bitAt columns ≡ flat (transpose y)
     → bitAt a ≡ flat (rowsTo i (product n x y) x))
 
 abbrev μ-loop : tie.MeasureT-loop
-μ-loop a₀ bt n list m i₀ a i = n - i
+μ-loop a₀ columns n list m i₀ a i = n - i
 
 slice-aggregate-occupied : tie.Need-slice-aggregate-occupied Inv-loop μ-loop
 slice-aggregate-occupied c = omega arith

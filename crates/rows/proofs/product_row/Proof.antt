@@ -16,17 +16,17 @@ use Rattle.rows.proofs.product_row.Statement.{statement}
 use Rattle.rows.proofs.product_row.Tie as tie
 
 abbrev Inv-loop : tie.InvT-loop
-Inv-loop a i mask bt list m row₀ t₀ row t =
-    (t ≤ m) × (length row ≡ length row₀) × ((n : ℕ) → Masked (bitAt a) i mask → Occupied (bitAt bt) n (rowAt n m list) m → Masks (bitAt bt) m list
-    → bitAt row₀ ≡ none → bitAt row ≡ below (rowAt n m list t) (served (bitAt a) (bitAt bt) i))
+Inv-loop a i mask columns list m row₀ t₀ row t =
+    (t ≤ m) × (length row ≡ length row₀) × ((n : ℕ) → Masked (bitAt a) i mask → Occupied (bitAt columns) n (rowAt n m list) m → Masks (bitAt columns) m list
+    → bitAt row₀ ≡ none → bitAt row ≡ below (rowAt n m list t) (served (bitAt a) (bitAt columns) i))
 
 abbrev μ-loop : tie.MeasureT-loop
-μ-loop a i mask bt list m row₀ t₀ row t = m - t
+μ-loop a i mask columns list m row₀ t₀ row t = m - t
 
 loop-holds : tie.Need-loop-holds Inv-loop μ-loop
 loop-holds c =
     let a = c .before .before .before .before .args in
-    (omega arith, refl, λ n g o k e. e ∙ row-start (bitAt (a .a .now)) (bitAt (a .bt .now)) (a .i) n (a .m) _ o)
+    (omega arith, refl, λ n g o k e. e ∙ row-start (bitAt (a .a .now)) (bitAt (a .columns .now)) (a .i) n (a .m) _ o)
 
 mul-entry : tie.Need-mul-entry Inv-loop μ-loop
 mul-entry c = omega arith
@@ -56,7 +56,7 @@ loop-again c =
     let l = c .before .before .before .loop in
     let a = c .before .before .before .before .before .before .before .before .args in
     let f = bitAt (a .a .now) in
-    let g = bitAt (a .bt .now) in
+    let g = bitAt (a .columns .now) in
     let R : ℕ → ℕ → ℕ = λ n. rowAt n (a .m) (a .list .now) in
     let S = served f g (a .i) in
     let h : l .t < a .m = omega arith in
@@ -78,7 +78,7 @@ loop-again c =
       rw (w .3) (l .inv .1),
       λ n u o k e.
           let z : S (getD (a .list .now) (l .t) 0 % 1024) ≡ 0 =
-          omega (arith, w .1 .ensures (both u k), w .2 .left, served-bit (a .a .now) (a .bt .now) (a .i) (getD (a .list .now) (l .t) 0 % 1024)) in
+          omega (arith, w .1 .ensures (both u k), w .2 .left, served-bit (a .a .now) (a .columns .now) (a .i) (getD (a .list .now) (l .t) 0 % 1024)) in
           rw (w .3) (l .inv .2 n u o k e ∙ row-skip f g (a .i) n (a .m) (R n) o (l .t) h (ap S (at n) ∙ z)),
     ))
     (λ w. (
@@ -99,7 +99,7 @@ returns c =
     let l = c .before .loop in
     let a = c .before .before .before .before .before .before .args in
     let e : l .t ≡ a .m = omega arith in
-    λ n g o k z. l .inv .2 n g o k z ∙ ap (λ (b : ℕ). below b (served (bitAt (a .a .now)) (bitAt (a .bt .now)) (a .i))) (ap (rowAt n (a .m) (a .list .now)) e ∙ row-end n (a .m) (a .list .now))
+    λ n g o k z. l .inv .2 n g o k z ∙ ap (λ (b : ℕ). below b (served (bitAt (a .a .now)) (bitAt (a .columns .now)) (a .i))) (ap (rowAt n (a .m) (a .list .now)) e ∙ row-end n (a .m) (a .list .now))
 
 pub product-row-spec : {M : Type 1} → statement M
 product-row-spec =

@@ -31,7 +31,7 @@ returns-2 c =
     let g = c .before .before .before .before .before .before .before .before .before .before .args in
     let m = c .before .before .before .before .before .before .mark in
     let k : length (m .last .0) ≡ 16 = m .kept .0 in
-    identity-made (g .n) (g .la) (m .last .0) (g .work .now) _ _ k (m .ensures (bits-none 16)) (c .before .before .on-trees .ensures)
+    identity-made (g .n) (g .left) (m .last .0) (g .work .now) _ _ k (m .ensures (bits-none 16)) (c .before .before .on-trees .ensures)
 
 pub tree-identity-in-spec : {M : Type 1} → statement M
 tree-identity-in-spec =

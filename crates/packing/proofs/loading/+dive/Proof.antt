@@ -44,12 +44,12 @@ dive-calls t = (
 )
 
 abbrev dive-Inv-loop : dive-lts.InvT-loop
-dive-Inv-loop tree before h list from count sense rows₀ next m i₀ rows i =
+dive-Inv-loop tree before h list sense rows₀ next m i₀ rows i =
     (i ≤ m) × (length rows ≡ length rows₀)
-    × ((a t : Cells) → bitAt rows₀ ≡ flat a → ReadAll sense tree h list from count t → bitAt rows ≡ flat (union a (squaresTo i (h - 1) next 0 t)))
+    × ((a t : Cells) → bitAt rows₀ ≡ flat a → ReadAll sense tree (h - 1) next 0 m t → bitAt rows ≡ flat (union a (squaresTo i (h - 1) next 0 t)))
 
 abbrev dive-μ-loop : dive-lts.MeasureT-loop
-dive-μ-loop tree before h list from count sense rows₀ next m i₀ rows i = m - i
+dive-μ-loop tree before h list sense rows₀ next m i₀ rows i = m - i
 
 dive-leaves-requires : (t : ℕ) → dive-lts.Need-leaves-requires (dive-calls t) (dive-at t) dive.Post dive-Inv-loop dive-μ-loop
 dive-leaves-requires t c κs = let w = c .before .before .before .before .before .before .pre .1 in (w .6, w .7, w .2, w .8, rw (c .before .if1 .taken) at (w .9))
@@ -90,8 +90,8 @@ dive-dive-requires t c κs =
     let l = c .before .before .before .before .loop in
     let p = c .before .before .before .before .before .before .spread in
     let k = c .before .before .taken in
-    let N : List ℕ = p .last .1 .1 .1 .1 .1 .1 .1 .0 in
-    let f : length N ≡ 64 = p .kept .1 .1 .1 .1 .1 .1 .1 .0 in
+    let N : List ℕ = p .last .1 .1 .1 .1 .1 .1 .0 in
+    let f : length N ≡ 64 = p .kept .1 .1 .1 .1 .1 .1 .0 in
     let g : l .i + k .result ≤ length N = omega (arith, f, k .ensures .2, p .ensures .0) in (
       omega arith,
       (
@@ -121,12 +121,12 @@ dive-loop-again t c =
     let p = c .before .before .before .before .before .before .before .before .before .spread in
     let k = c .before .before .before .before .before .taken in
     let d = c .before .before .dive in
-    let N : List ℕ = p .last .1 .1 .1 .1 .1 .1 .1 .0 in (
+    let N : List ℕ = p .last .1 .1 .1 .1 .1 .1 .0 in (
       k .ensures .2,
-      d .kept .1 .1 .1 .1 .1 .1 .1 .0 ∙ l .inv .1,
+      d .kept .1 .1 .1 .1 .1 .1 .0 ∙ l .inv .1,
       λ s u e n.
           d .ensures (union s (squaresTo (l .i) (a .h - 1) N 0 u)) u (l .inv .2 s u e n)
-          (all-from (λ (w : ℕ). Reads (a .sense) (a .tree .now) (a .h - 1) (squareBit w) (squareRow w) (squareColumn w) u) N (p .result) (l .i) (k .result) (k .ensures .2) (p .ensures .2 u n .0))
+          (all-from (λ (w : ℕ). Reads (a .sense) (a .tree .now) (a .h - 1) (squareBit w) (squareRow w) (squareColumn w) u) N (p .result) (l .i) (k .result) (k .ensures .2) n)
           ∙ ap flat (squares-more (l .i) (k .result) (a .h - 1) N u s),
     )
 
@@ -138,7 +138,7 @@ dive-returns-2 t c =
     let l = c .before .loop in
     let a = c .before .before .before .before .before .before .before .before .before .before .args in
     let z : l .i ≡ c .before .before .before .spread .result = omega arith in
-    λ s u e n. l .inv .2 s u e n ∙ rw z (ap (λ (g : Cells). flat (union s g)) (c .before .before .before .spread .ensures .2 u n .1))
+    λ s u e n. l .inv .2 s u e (c .before .before .before .spread .ensures .2 u n .0) ∙ rw z (ap (λ (g : Cells). flat (union s g)) (c .before .before .before .spread .ensures .2 u n .1))
 
 pub +dive-spec : {M : Type 1} → statement M
 +dive-spec =

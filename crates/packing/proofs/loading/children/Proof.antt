@@ -18,13 +18,13 @@ use Rattle.packing.proofs.loading.children.Statement.{statement}
 use Rattle.packing.proofs.loading.children.Tie as tie
 
 abbrev Inv-loop : tie.InvT-loop
-Inv-loop tree before h b x y sense next₀ m v s k₀ q₀ next k q =
+Inv-loop tree before h sense next₀ m b x y v s k₀ q₀ next k q =
     (q ≤ 4) × (q < 4 → digit v q ≡ 1) × (k ≤ m + q) × (length next ≡ length next₀) × FitAll (h - 1) next 0 k
     × ((t : Cells) → Reads sense tree h b x y t → ReadAll sense tree (h - 1) next₀ 0 m t
     → ReadAll sense tree (h - 1) next 0 k t × (squaresTo k (h - 1) next 0 t ≡ union (squaresTo m (h - 1) next₀ 0 t) (quartersTo q (h - 1) x y t)))
 
 abbrev μ-loop : tie.MeasureT-loop
-μ-loop tree before h b x y sense next₀ m v s k₀ q₀ next k q = 4 - q
+μ-loop tree before h sense next₀ m b x y v s k₀ q₀ next k q = 4 - q
 
 square-requires : tie.Need-square-requires Inv-loop μ-loop
 square-requires c κs = (c .before .before .before .pre .2, c .before .before .before .pre .7)
@@ -47,8 +47,8 @@ loop-holds c =
       c .before .before .before .before .before .before .pre .12,
       λ u n r. (
         r,
-        quarters-none (a .h - 1) (a .x) (a .y) u (squaresTo (a .m) (a .h - 1) (a .next .now) 0 u)
-            ∙ dive-gap (a .sense) (a .tree .now) (a .h) (a .b) (a .x) (a .y) u (squaresTo (a .m) (a .h - 1) (a .next .now) 0 u) (one-le (c .before .before .before .before .before .before .pre .0)) n 0 (c .next-one .result) (f .0) (f .1) (λ j l m. sym (v j (lt-of-lt-of-le m (f .1))) ∙ f .2 j l m),
+        quarters-none (a .h - 1) (a .at .row) (a .at .column) u (squaresTo (a .m) (a .h - 1) (a .next .now) 0 u)
+            ∙ dive-gap (a .sense) (a .tree .now) (a .h) (a .at .bit) (a .at .row) (a .at .column) u (squaresTo (a .m) (a .h - 1) (a .next .now) 0 u) (one-le (c .before .before .before .before .before .before .pre .0)) n 0 (c .next-one .result) (f .0) (f .1) (λ j l m. sym (v j (lt-of-lt-of-le m (f .1))) ∙ f .2 j l m),
       ),
     )
 
@@ -64,18 +64,18 @@ child-requires c κs =
     let a = c .before .before .before .before .before .before .before .before .before .args in
     let l = c .before .before .loop in
     let u = c .turn in
-    let o : bitAt (a .tree .now) (a .b + u .result) ≡ 1 = rw (u .ensures .0) (sym (c .before .before .before .before .before .square .ensures .1 (l .q) (c .before .loop-test .taken)) ∙ l .inv .1 (c .before .loop-test .taken)) in
-    (bit-within (a .tree .now) (a .b + u .result) (λ z. omega arith), w .8, w .9, w .10)
+    let o : bitAt (a .tree .now) (a .at .bit + u .result) ≡ 1 = rw (u .ensures .0) (sym (c .before .before .before .before .before .square .ensures .1 (l .q) (c .before .loop-test .taken)) ∙ l .inv .1 (c .before .loop-test .taken)) in
+    (bit-within (a .tree .now) (a .at .bit + u .result) (λ z. omega arith), w .8, w .9, w .10)
 
 -- the quarter is in the rows
 fits : (c : tie.After-child Inv-loop μ-loop)
-    → (c .before .before .before .before .before .before .before .before .before .before .args .x + c .before .before .before .loop .q / 2 * c .before .before .before .before .before .half .result + c .before .before .before .before .before .half .result ≤ 1024)
-    × (c .before .before .before .before .before .before .before .before .before .before .args .y + c .before .before .before .loop .q % 2 * c .before .before .before .before .before .half .result + c .before .before .before .before .before .half .result ≤ 1024)
+    → (c .before .before .before .before .before .before .before .before .before .before .args .at .row + c .before .before .before .loop .q / 2 * c .before .before .before .before .before .half .result + c .before .before .before .before .before .half .result ≤ 1024)
+    × (c .before .before .before .before .before .before .before .before .before .before .args .at .column + c .before .before .before .loop .q % 2 * c .before .before .before .before .before .half .result + c .before .before .before .before .before .half .result ≤ 1024)
 fits c =
     let l = c .before .before .before .loop in
     let s = c .before .before .before .before .before .half in
     let a = c .before .before .before .before .before .before .before .before .before .before .args in
-    quarter-in (l .q) (s .result) (2 ^ a .h) (a .x) (a .y) (c .before .before .loop-test .taken) (s .ensures .1) (c .before .before .before .before .before .before .before .before .before .before .pre .4) (c .before .before .before .before .before .before .before .before .before .before .pre .5)
+    quarter-in (l .q) (s .result) (2 ^ a .h) (a .at .row) (a .at .column) (c .before .before .loop-test .taken) (s .ensures .1) (c .before .before .before .before .before .before .before .before .before .before .pre .4) (c .before .before .before .before .before .before .before .before .before .before .pre .5)
 
 mul-square-number : tie.Need-mul-square-number Inv-loop μ-loop
 mul-square-number c = let f = fits (c) in omega arith
@@ -127,14 +127,14 @@ loop-again c =
     let w = c .before .square-number in
     let g : l .k < length (l .next) = omega arith in
     let z = fits (c .before .before) in
-    let x : squareRow (w .result) ≡ a .x + l .q / 2 * 2 ^ (a .h - 1) = rw (← s .ensures .0) (w .ensures .1) in
-    let y : squareColumn (w .result) ≡ a .y + l .q % 2 * 2 ^ (a .h - 1) = rw (← s .ensures .0) (w .ensures .2) in
+    let x : squareRow (w .result) ≡ a .at .row + l .q / 2 * 2 ^ (a .h - 1) = rw (← s .ensures .0) (w .ensures .1) in
+    let y : squareColumn (w .result) ≡ a .at .column + l .q % 2 * 2 ^ (a .h - 1) = rw (← s .ensures .0) (w .ensures .2) in
     let F : Fits (a .h - 1) (w .result) = rw (w .ensures .0, w .ensures .1, w .ensures .2, ← s .ensures .0) (
       unfold childPlace in (omega (arith, d .ensures .0)),
       d .ensures .1,
       z .0,
       z .1,
-      quarter-even (l .q % 2) (s .result) (a .y) (omega arith) (s .ensures .2) (c .before .before .before .before .before .before .before .before .before .before .before .before .pre .6),
+      quarter-even (l .q % 2) (s .result) (a .at .column) (omega arith) (s .ensures .2) (c .before .before .before .before .before .before .before .before .before .before .before .before .pre .6),
     ) in (
       f .1,
       f .3,
@@ -143,14 +143,14 @@ loop-again c =
       all-set (Fits (a .h - 1)) (l .next) (l .k) (w .result) g (l .inv .4) F,
       λ u n r.
           let R = l .inv .5 u n r in
-          let o : bitAt (a .tree .now) (a .b + turned (a .sense) (l .q)) ≡ 1 = sym (v (l .q) ql) ∙ l .inv .1 ql in
+          let o : bitAt (a .tree .now) (a .at .bit + turned (a .sense) (l .q)) ≡ 1 = sym (v (l .q) ql) ∙ l .inv .1 ql in
           let D : Reads (a .sense) (a .tree .now) (a .h - 1) (squareBit (w .result)) (squareRow (w .result)) (squareColumn (w .result)) u =
-          rw (w .ensures .0, x, y, d .ensures .0, c .before .before .before .turn .ensures .0) (dive-child (a .sense) (a .tree .now) (a .h) (a .b) (a .x) (a .y) u hp n (l .q) ql o) in
+          rw (w .ensures .0, x, y, d .ensures .0, c .before .before .before .turn .ensures .0) (dive-child (a .sense) (a .tree .now) (a .h) (a .at .bit) (a .at .row) (a .at .column) u hp n (l .q) ql o) in
           let S : Cells = squaresTo (a .m) (a .h - 1) (a .next .now) 0 u in (
             all-set (λ (i : ℕ). Reads (a .sense) (a .tree .now) (a .h - 1) (squareBit i) (squareRow i) (squareColumn i) u) (l .next) (l .k) (w .result) g (R .0) D,
             squares-set (l .k) (a .h - 1) (l .next) (w .result) u g
-                ∙ rw (x, y, R .1) (quarters-more (l .q) (a .h - 1) (a .x) (a .y) u S)
-                ∙ dive-gap (a .sense) (a .tree .now) (a .h) (a .b) (a .x) (a .y) u S hp n (l .q + 1) (c .next-one2 .result) (f .0) (f .1) (λ j p q. sym (v j (lt-of-lt-of-le q (f .1))) ∙ f .2 j p q),
+                ∙ rw (x, y, R .1) (quarters-more (l .q) (a .h - 1) (a .at .row) (a .at .column) u S)
+                ∙ dive-gap (a .sense) (a .tree .now) (a .h) (a .at .bit) (a .at .row) (a .at .column) u S hp n (l .q + 1) (c .next-one2 .result) (f .0) (f .1) (λ j p q. sym (v j (lt-of-lt-of-le q (f .1))) ∙ f .2 j p q),
           ),
     )
 
@@ -164,7 +164,7 @@ returns c =
     let z : l .q ≡ 4 = omega arith in (
       omega arith,
       l .inv .4,
-      λ u n r. let R = l .inv .5 u n r in (R .0, R .1 ∙ rw z (ap (union (squaresTo (a .m) (a .h - 1) (a .next .now) 0 u)) (dive-all (a .h) (a .x) (a .y) u (one-le (c .before .before .before .before .before .before .before .before .pre .0))))),
+      λ u n r. let R = l .inv .5 u n r in (R .0, R .1 ∙ rw z (ap (union (squaresTo (a .m) (a .h - 1) (a .next .now) 0 u)) (dive-all (a .h) (a .at .row) (a .at .column) u (one-le (c .before .before .before .before .before .before .before .before .pre .0))))),
     )
 
 pub children-spec : {M : Type 1} → statement M

@@ -14,15 +14,15 @@ use Rattle.packing.proofs.loading.leaves.Statement.{statement}
 use Rattle.packing.proofs.loading.leaves.Tie as tie
 
 abbrev Inv-loop : tie.InvT-loop
-Inv-loop tree list from count sense rows₀ i₀ rows i =
+Inv-loop tree list sense rows₀ from count i₀ rows i =
     (i ≤ count) × (length rows ≡ length rows₀)
     × ((a t : Cells) → bitAt rows₀ ≡ flat a → ReadAll sense tree 1 list from count t → bitAt rows ≡ flat (union a (squaresTo i 1 list from t)))
 
 abbrev μ-loop : tie.MeasureT-loop
-μ-loop tree list from count sense rows₀ i₀ rows i = count - i
+μ-loop tree list sense rows₀ from count i₀ rows i = count - i
 
 loop-holds : tie.Need-loop-holds Inv-loop μ-loop
-loop-holds c = let a = c .before .before .before .args in (omega arith, refl, λ s u e n. e ∙ ap flat (squares-none 1 (a .list .now) (a .from) u s))
+loop-holds c = let a = c .before .before .before .args in (omega arith, refl, λ s u e n. e ∙ ap flat (squares-none 1 (a .list .now) (a .part .from) u s))
 
 add-w : tie.Need-add-w Inv-loop μ-loop
 add-w c = omega arith
@@ -52,13 +52,13 @@ loop-again c =
     let l = c .before .before .before .before .before .before .before .loop in
     let a = c .before .before .before .before .before .before .before .before .before .before .before .args in
     let p = c .before .before .put-cells in
-    let w : ℕ = getD (a .list .now) (a .from + l .i) 0 in (
+    let w : ℕ = getD (a .list .now) (a .part .from + l .i) 0 in (
       omega arith,
       p .kept .0 ∙ l .inv .1,
       λ s u e n.
-          p .ensures (union s (squaresTo (l .i) 1 (a .list .now) (a .from) u)) u (l .inv .2 s u e n)
+          p .ensures (union s (squaresTo (l .i) 1 (a .list .now) (a .part .from) u)) u (l .inv .2 s u e n)
           (λ q g. c .before .before .before .before .square .ensures .1 q g ∙ reads-cell (a .sense) (a .tree .now) (squareBit w) (squareRow w) (squareColumn w) u (n (l .i) (omega arith)) q g)
-          ∙ ap flat (union-next s (squaresTo (l .i) 1 (a .list .now) (a .from) u) (inside 1 (squareRow w) (squareColumn w) u) ∙ ap (union s) (sym (squares-next (l .i) 1 (a .list .now) (a .from) u))),
+          ∙ ap flat (union-next s (squaresTo (l .i) 1 (a .list .now) (a .part .from) u) (inside 1 (squareRow w) (squareColumn w) u) ∙ ap (union s) (sym (squares-next (l .i) 1 (a .list .now) (a .part .from) u))),
     )
 
 same-length : tie.Need-same-length Inv-loop μ-loop
@@ -67,7 +67,7 @@ same-length c = c .before .loop .inv .1
 returns : tie.Need-returns Inv-loop μ-loop
 returns c =
     let l = c .before .loop in
-    let z : l .i ≡ c .before .before .before .before .before .args .count = omega arith in
+    let z : l .i ≡ c .before .before .before .before .before .args .part .count = omega arith in
     λ s u e n. l .inv .2 s u e n ∙ rw z refl
 
 pub leaves-spec : {M : Type 1} → statement M

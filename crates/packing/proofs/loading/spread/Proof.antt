@@ -11,12 +11,12 @@ use Rattle.packing.proofs.loading.spread.Statement.{statement}
 use Rattle.packing.proofs.loading.spread.Tie as tie
 
 abbrev Inv-loop : tie.InvT-loop
-Inv-loop tree before h list from count sense next₀ m₀ i₀ next m i =
+Inv-loop tree before h list sense next₀ from count m₀ i₀ next m i =
     (i ≤ count) × (m ≤ 4 * i) × (length next ≡ length next₀) × FitAll (h - 1) next 0 m
     × ((t : Cells) → ReadAll sense tree h list from count t → ReadAll sense tree (h - 1) next 0 m t × (squaresTo m (h - 1) next 0 t ≡ squaresTo i h list from t))
 
 abbrev μ-loop : tie.MeasureT-loop
-μ-loop tree before h list from count sense next₀ m₀ i₀ next m i = count - i
+μ-loop tree before h list sense next₀ from count m₀ i₀ next m i = count - i
 
 loop-holds : tie.Need-loop-holds Inv-loop μ-loop
 unfolding squaresTo
@@ -49,15 +49,15 @@ loop-again c =
     let l = c .before .before .before .before .before .before .loop in
     let a = c .before .before .before .before .before .before .before .before .before .before .before .args in
     let p = c .before .before .children in
-    let w : ℕ = getD (a .list .now) (a .from + l .i) 0 in (
+    let w : ℕ = getD (a .list .now) (a .part .from + l .i) 0 in (
       omega arith,
       omega (arith, p .ensures .0),
-      p .kept .1 .1 .1 .1 .1 .1 .1 .0 ∙ l .inv .2,
+      p .kept .1 .1 .1 .1 .1 .0 ∙ l .inv .2,
       p .ensures .1,
       λ u n.
           let R = l .inv .4 u n in
           let C = p .ensures .2 u (n (l .i) (omega arith)) (R .0) in
-          (C .0, C .1 ∙ ap (λ (s : Cells). union s (inside (a .h) (squareRow w) (squareColumn w) u)) (R .1) ∙ sym (squares-next (l .i) (a .h) (a .list .now) (a .from) u)),
+          (C .0, C .1 ∙ ap (λ (s : Cells). union s (inside (a .h) (squareRow w) (squareColumn w) u)) (R .1) ∙ sym (squares-next (l .i) (a .h) (a .list .now) (a .part .from) u)),
     )
 
 same-length : tie.Need-same-length Inv-loop μ-loop
@@ -66,7 +66,7 @@ same-length c = c .before .loop .inv .2
 returns : tie.Need-returns Inv-loop μ-loop
 returns c =
     let l = c .before .loop in
-    let z : l .i ≡ c .before .before .before .before .before .before .args .count = omega arith in
+    let z : l .i ≡ c .before .before .before .before .before .before .args .part .count = omega arith in
     (omega arith, l .inv .3, λ u n. let R = l .inv .4 u n in (R .0, R .1 ∙ rw z refl))
 
 pub spread-spec : {M : Type 1} → statement M

@@ -1,10 +1,10 @@
--- `register::Register::step` meets its contract, kind by kind, by `apply`; no other kind is a call. Assumes nothing.
-use mathlib.Core.Path.{refl}
+-- `register::Register::step` meets its contract: a call is applied, and no other kind is a call. Assumes nothing.
+use mathlib.Core.Path.{refl, subst}
 use borrow.Author.Needs.{needs}
-use Rattle.book.specs.Causes.{number}
-use Rattle.register.specs.Calls.{callOf}
-use Rattle.register.specs.History.{kindCall, wordCall}
-use Rattle.register.proofs.Replaying.{kind-none}
+use Rattle.book.specs.Causes.{unknown-kind, number}
+use Rattle.register.specs.Calls.{answerOf}
+use Rattle.register.specs.History.{Entry, EntrySteps, wordCall}
+use Rattle.register.specs.EntryLaws.{entry-call, entry-none}
 use Rattle.register.proofs.Register.step.Statement.{statement}
 use Rattle.register.proofs.Register.step.Tie as tie
 
@@ -17,60 +17,25 @@ cast-label c = search needs
 cast-to : tie.Need-cast-to
 cast-to c = search needs
 
+entry-of-requires : tie.Need-entry-of-requires
+entry-of-requires c κs = search needs
+
+enum-known-entry : tie.Need-enum-known-entry
+enum-known-entry c = search needs
+
 apply-requires : tie.Need-apply-requires
 apply-requires c κs = search needs
 
-apply-requires-2 : tie.Need-apply-requires-2
-apply-requires-2 c κs = search needs
-
-apply-requires-3 : tie.Need-apply-requires-3
-apply-requires-3 c κs = search needs
-
-apply-requires-4 : tie.Need-apply-requires-4
-apply-requires-4 c κs = search needs
-
-apply-requires-5 : tie.Need-apply-requires-5
-apply-requires-5 c κs = search needs
-
-apply-requires-6 : tie.Need-apply-requires-6
-apply-requires-6 c κs = search needs
-
-apply-requires-7 : tie.Need-apply-requires-7
-apply-requires-7 c κs = search needs
+enum-told : tie.Need-enum-told
+enum-told c = search needs
 
 returns : tie.Need-returns
-unfolding wordCall kindCall callOf
-returns c = rw (c .before .match .keys1) (c .apply .ensures)
+unfolding wordCall
+returns c = subst (λ (x : Entry). EntrySteps (c .before .before .before .before .before .args .self) x (c .apply .result)) (entry-call (c .before .before .before .before .entry-of .ensures) (c .before .before .entry .given .1)) (c .apply .ensures)
 
 returns-2 : tie.Need-returns-2
-unfolding wordCall kindCall callOf
-returns-2 c = rw (c .before .match .keys2) (c .apply2 .ensures)
-
-returns-3 : tie.Need-returns-3
-unfolding wordCall kindCall callOf
-returns-3 c = rw (c .before .match .keys3) (c .apply3 .ensures)
-
-returns-4 : tie.Need-returns-4
-unfolding wordCall kindCall callOf
-returns-4 c = rw (c .before .match .keys4) (c .apply4 .ensures)
-
-returns-5 : tie.Need-returns-5
-unfolding wordCall kindCall callOf
-returns-5 c = rw (c .before .match .keys5) (c .apply5 .ensures)
-
-returns-6 : tie.Need-returns-6
-unfolding wordCall kindCall callOf
-returns-6 c = rw (c .before .match .keys6) (c .apply6 .ensures)
-
-returns-7 : tie.Need-returns-7
-unfolding wordCall kindCall callOf
-returns-7 c = rw (c .before .match .keys7) (c .apply7 .ensures)
-
-returns-8 : tie.Need-returns-8
 unfolding wordCall number
-returns-8 c =
-    let r = c .match .rest in
-    rw (kind-none _ _ _ _ (r .0 .0 .0 .0 .0 .0 .1) (r .0 .0 .0 .0 .0 .1) (r .0 .0 .0 .0 .1) (r .0 .0 .0 .1) (r .0 .0 .1) (r .0 .1) (r .1)) (refl, refl)
+returns-2 c = subst (λ (x : Entry). EntrySteps (c .before .before .before .args .self) x (record { register = c .before .before .before .args .self; answer = answerOf (number unknown-kind) })) (entry-none (c .before .before .entry-of .ensures) (c .enum-told .given .1)) (refl, refl)
 
 pub step-spec : {M : Type 1} → statement M
 step-spec =
@@ -79,18 +44,9 @@ step-spec =
     cast-from
     cast-label
     cast-to
+    entry-of-requires
+    enum-known-entry
     apply-requires
-    apply-requires-2
-    apply-requires-3
-    apply-requires-4
-    apply-requires-5
-    apply-requires-6
-    apply-requires-7
+    enum-told
     returns
-    returns-2
-    returns-3
-    returns-4
-    returns-5
-    returns-6
-    returns-7
-    returns-8)
+    returns-2)

@@ -29,7 +29,7 @@ returns-2 : tie.Need-returns-2
 returns-2 c = (first-caused _ (c .before .link-cause .ensures) (c .if2 .taken), (λ _. c .before .link-cause .ensures), λ o. absurd (o (in-range (c .before .before))))
 
 abbrev link : (c : tie.Start) → Link
-link c = record { from = c .args .from; label = c .args .label; to = c .args .to }
+link c = record { from = c .args .link .from; label = c .args .link .label; to = c .args .link .to }
 
 -- no cause in the ends and the label
 free : (c : tie.Else2) → firstNumber (linkCauses (c .before .before .before .before .before .args .n) (c .before .before .before .before .before .args .marks .now) (link (c .before .before .before .before .before))) ≡ 0

@@ -1,0 +1,38 @@
+-- `engine::previews::preview` meets its contract: a refused edit by `preview-refused`, an accepted one by `preview-asked`. Assumes nothing.
+use borrow.Author.Needs.{needs}
+use Rattle.engine.specs.PreviewLaws.{preview-refused, preview-asked}
+use Rattle.engine.proofs.previews.preview.Statement.{statement}
+use Rattle.engine.proofs.previews.preview.Tie as tie
+
+apply-requires : tie.Need-apply-requires
+apply-requires c κs = search needs
+
+number-of-requires : tie.Need-number-of-requires
+number-of-requires c κs = search needs
+
+returns : tie.Need-returns
+returns c = preview-refused (c .before .before .apply .ensures) _ _ _ _ (c .before .number-of .ensures) (c .if1 .taken)
+
+pairs-requires : tie.Need-pairs-requires
+pairs-requires c κs = search needs
+
+same-length : tie.Need-same-length
+same-length c = search needs
+
+same-length-2 : tie.Need-same-length-2
+same-length-2 c = search needs
+
+returns-2 : tie.Need-returns-2
+returns-2 c = preview-asked (c .before .before .before .before .before .before .before .before .before .before .apply .ensures) _ _ _ _ (c .before .before .before .before .before .before .before .before .before .number-of .ensures) (c .before .before .before .before .before .before .before .before .if1 .left) (c .before .before .before .before .pairs .ensures)
+
+pub preview-spec : {M : Type 1} → statement M
+preview-spec =
+    tie.close
+    (tie.spec
+    apply-requires
+    number-of-requires
+    returns
+    pairs-requires
+    same-length
+    same-length-2
+    returns-2)

@@ -1,0 +1,106 @@
+-- Laws of previews.
+--   tells-only      an outcome is told by one answer
+--   preview-refused a refused call's number, with the list as it was, is what a preview promises
+--   preview-asked   what the question gives on the register that an accepted call hands back is what a preview promises
+--   preview-same    a preview gives what the question gives on the register that the call hands back: of an accepted call the same answer and the same list;
+--                   of a refused one its number, and the list as it was
+-- Assumes nothing.
+use mathlib.Core.Path.{_≡_, refl, sym, ap, _∙_}
+use mathlib.Core.List.{List}
+use Prim.Native.Nat.{ℕ, zero, suc, _<_}
+use native.Mathlib.Omega.{arith}
+use lib.ListN.{length}
+use Rattle.book.specs.Causes.{Caused}
+use Rattle.book.specs.Book.{Book, Call, answer, next}
+use Rattle.book.specs.BookLaws.{caused-positive}
+use Rattle.paths.specs.Verdicts.{verdict}
+use Rattle.paths.specs.Questions.{refused, paired, Outcome as Question·Outcome, unless, pairsAnswer, listAfter}
+use Rattle.register.specs.Representation.{Represents}
+use Rattle.register.specs.Calls.{answerOf, answerNumber, Steps}
+use Rattle.register.specs.HistoryLaws.{number-answer}
+use Rattle.register.specs.declared.Register.{Register}
+use Rattle.register.specs.declared.Outcome.{Outcome}
+use Rattle.register.specs.declared.Answer.{Answer}
+use Rattle.register.specs.declared.Answer.the-variants.{Done, Refused as Turned-down}
+use Rattle.pairs.specs.Asking.{pairsLength, Tells, told-number, told-pairs, AsksPairs}
+use Rattle.pairs.specs.declared.PairsAnswer.{PairsAnswer}
+use Rattle.pairs.specs.declared.PairsAnswer.the-variants.{Pairs, Refused}
+use Rattle.engine.specs.Previews.{previewAnswer, Previews}
+
+pub tells-only : {o p : Question·Outcome} {a a′ : PairsAnswer} → o ≡ p → Tells o a → Tells p a′ → a ≡ a′
+tells-only e (told-number {k = j}) (told-number {k = k}) = let z : j ≡ k = cc in ap Refused z
+tells-only e (told-number {k = j}) (told-pairs {total} {ws}) = absurd (let z : _≡_ {A = ℕ} 0 1 = cc in omega arith)
+tells-only e (told-pairs {total} {ws}) (told-number {k = k}) = absurd (let z : _≡_ {A = ℕ} 0 1 = cc in omega arith)
+tells-only e (told-pairs {total} {ws}) (told-pairs {total = m} {ws = vs}) = let z : total ≡ m = cc in ap Pairs z
+
+-- an answer by its number: no cause has the number 0
+by-number : (a : Answer) (k : ℕ) → k ≡ answerNumber a → (k ≡ 0 → ⊥) → a ≡ Turned-down k
+by-number Done k e z = absurd (z e)
+by-number (Turned-down j) k e z = ap Turned-down (sym e)
+
+by-zero : (a : Answer) (k : ℕ) → ((j : ℕ) → a ≡ Turned-down j → Caused j) → k ≡ answerNumber a → k ≡ 0 → a ≡ Done
+by-zero Done k c e z = refl
+by-zero (Turned-down j) k c e z = absurd (omega (arith, e, z, caused-positive (c j refl)))
+
+-- a number that is not 0 refuses
+unless-refused : (k : ℕ) (o : Question·Outcome) → 0 < k → unless k o ≡ refused k
+unless-refused zero o h = absurd (omega arith)
+unless-refused (suc k) o h = refl
+
+module _ {r : Register} {c : Call} {o : Outcome} (s : Steps r c o) where
+  -- the book's answer, by the answer of the call
+  refused-as : (k : ℕ) → o .answer ≡ Turned-down k → (b : Book) → Represents r b → answer b c ≡ k
+  refused-as k e b R = sym (ap answerNumber (sym e ∙ s .answers b R) ∙ number-answer (answer b c))
+
+  accepted-as : o .answer ≡ Done → (b : Book) → Represents r b → answer b c ≡ 0
+  accepted-as e b R = sym (ap answerNumber (sym e ∙ s .answers b R) ∙ number-answer (answer b c))
+
+  module _ (text : List ℕ) (work : ℕ) (before : List ℕ) where
+    refused-outcome : (k : ℕ) → o .answer ≡ Turned-down k → (b : Book) → Represents r b → previewAnswer b c (verdict text) work (length before) ≡ refused k
+    unfolding previewAnswer
+    refused-outcome k e b R = rw (refused-as k e b R) (unless-refused k (pairsAnswer (next b c) (verdict text) work (length before)) (caused-positive (s .caused k e)))
+
+    accepted-outcome : o .answer ≡ Done → (b : Book) → Represents r b
+        → previewAnswer b c (verdict text) work (length before) ≡ pairsAnswer (next b c) (verdict text) work (length before)
+    unfolding previewAnswer
+    accepted-outcome e b R = rw (accepted-as e b R)
+
+    pub preview-refused : (k : ℕ) → k ≡ answerNumber (o .answer) → (k ≡ 0 → ⊥) → Previews r c text work before before (Refused k)
+    unfolding listAfter
+    preview-refused k n z =
+        let e = by-number (o .answer) k n z in
+        record {
+          past = refl;
+          unchanged = λ j q. refl;
+          caused = λ j q. let z : k ≡ j = cc in rw (← z) (s .caused k e);
+          book = λ b R. record { tells = rw (refused-outcome k e b R) told-number; list = rw (refused-outcome k e b R) };
+        }
+
+    pub preview-asked : {after : List ℕ} {a : PairsAnswer} (k : ℕ) → k ≡ answerNumber (o .answer) → k ≡ 0 → AsksPairs (o .register) text work before after a
+        → Previews r c text work before after a
+    preview-asked k n z Q =
+        let e = by-zero (o .answer) k (s .caused) n z in
+        record {
+          past = Q .past;
+          unchanged = Q .unchanged;
+          caused = Q .caused;
+          book = λ b R.
+              let q = Q .book (next b c) (s .follows b R) in
+              record { tells = rw (accepted-outcome e b R) (q .tells); list = rw (accepted-outcome e b R) (q .list) };
+        }
+
+    pub preview-same : {after : List ℕ} {a : PairsAnswer} → Previews r c text work before after a → (b : Book) → Represents r b
+        → (o .answer ≡ Done → (after′ : List ℕ) (a′ : PairsAnswer) → AsksPairs (o .register) text work before after′ a′ → (a ≡ a′) × (after ≡ after′))
+        × ((k : ℕ) → o .answer ≡ Turned-down k → (a ≡ Refused k) × (after ≡ before))
+    unfolding listAfter
+    preview-same P b R = (
+      λ e after′ a′ Q.
+          let p = P .book b R in
+          let q = Q .book (next b c) (s .follows b R) in
+          let u = accepted-outcome e b R in
+          (tells-only u (p .tells) (q .tells), p .list ∙ ap (λ (t : Question·Outcome). listAfter t before) u ∙ sym (q .list)),
+      λ k e.
+          let p = P .book b R in
+          let u = refused-outcome k e b R in
+          (tells-only u (p .tells) told-number, p .list ∙ ap (λ (t : Question·Outcome). listAfter t before) u),
+    )
