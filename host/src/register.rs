@@ -7,8 +7,8 @@ use std::fmt::{self, Debug, Formatter};
 
 /// A register of n records, with its links, its locked and withdrawn records and the latest 256 edits.
 ///
-/// It takes 21,624 bytes, and with the first question of each kind the space for it: for 1,024 records 4.2 MB and 4.2 MB (pairs; by trees 5.6 MB and 4.2 MB), or
-/// 0.5 MB and 0.3 MB (chains), of which the system gives what is written to. [`pairs_in`](Register::pairs_in) and
+/// It takes 21,624 bytes, and with the first question of each kind the space for it: for 1,024 records 4.2 MB and 4.2 MB (pairs; by trees
+/// 5.6 MB and 4.2 MB), or 0.5 MB and 0.3 MB (chains), of which the system gives what is written to. [`pairs_in`](Register::pairs_in) and
 /// [`chain_in`](Register::chain_in) take the caller's space instead.
 pub struct Register {
     pub(crate) words: Box<[u32]>,
@@ -152,7 +152,7 @@ impl Register {
         Ok(length.map(|length| Steps::new(&self.list, length)))
     }
 
-    /// The pairs of an expression in lent space: work of [`tree_work`] words, and a list, which is left as it was with a refusal. A list that is
+    /// The pairs of an expression in lent space: work of [`tree_work`](crate::tree_work) words, and a list, which is left as it was with a refusal. A list that is
     /// too short for all pairs gets the smallest of them; [`Pairs::total`] tells how many there are.
     ///
     /// ```
