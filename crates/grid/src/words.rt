@@ -53,7 +53,7 @@ pub fn lacking(word: u64, mask: u16, c: usize, old: u64) -> u64
     requires { ⌜ c < 16 ⌝ }
     ensures { λ r. ⌜ ((j : ℕ) → j < 64 → digit r j ≡ min (digit word j) (1 - min (digit mask c) (digit old j))) ⌝ }
 {
-    if (mask >> c) % 2 == 1 {
+    if (mask >> c) % 2 != 0 {
         return word & !old;
     }
     word
