@@ -5,7 +5,7 @@
  *
  * A uint32_t answer is 0, or the number of a refusal, unless it says otherwise. A uint64_t answer is a total, or the number of words of the answer;
  * DATING_NO_CHAIN; DATING_LOOP plus the number of steps of a loop; or DATING_REFUSED plus the number of a refusal. Of links and pairs (dating_links,
- * dating_pairs, dating_tree_list, dating_preview) it is the total, of which the first min(total, list_len) are written; any other answer that is longer than
+ * dating_pairs, dating_pairs_by_rows, dating_tree_list, dating_preview) it is the total, of which the first min(total, list_len) are written; any other answer that is longer than
  * its list is refused. A refused call leaves state and list as they were; words of a list past the answer, and of a state past DATING_STATE_WORDS, are never
  * touched; work may hold anything after a call. The numbers:
  *
@@ -123,6 +123,10 @@ uint64_t dating_pages(const uint32_t *state, size_t state_len, const uint8_t *te
 /* The pairs that pages show, ascending: their number. Bytes that are not the pages of the expression and some ascending list of different pairs are
  * refused with 14, a list that is too short for them with 13. */
 uint64_t dating_read_pages(const uint8_t *text, size_t text_len, const uint8_t *pages, size_t pages_len, uint32_t *list, size_t list_len);
+
+/* The pairs as dating_pairs gives them, by the engine on rows of bits. Work of 32 * n * w words, where w is n / 64, rounded up. */
+uint64_t dating_pairs_by_rows(const uint32_t *state, size_t state_len, const uint8_t *text, size_t text_len, uint64_t *work, size_t work_len,
+                              uint32_t *list, size_t list_len);
 
 #ifdef __cplusplus
 }

@@ -1,28 +1,34 @@
-//! The engine, in space lent by the caller.
+//! The engine, in space lent by the caller: pair questions by trees, and by rows of bits. Edits and chain questions are the same in both.
 
 use crate::sheet::Link;
 use crate::system::{Peer, Refusal, Reply, System};
-use dating::{chain_work, tree_work, Register};
+use dating::{chain_work, rows_work, tree_work, Register};
 
-pub const PEER: Peer = Peer { name: "engine", load };
+pub const PEER: Peer = Peer { name: "engine", load: |n, links| load(n, links, false) };
+pub const BY_ROWS: Peer = Peer { name: "rows", load: |n, links| load(n, links, true) };
 
 struct Engine {
     register: Register,
     work: Vec<u64>,
+    by_rows: bool,
 }
 
-fn load(n: u32, links: &[Link]) -> Result<Box<dyn System>, Refusal> {
+fn load(n: u32, links: &[Link], by_rows: bool) -> Result<Box<dyn System>, Refusal> {
     let n = record(n);
     let register = Register::fresh(n).map_err(number)?;
-    let mut engine = Engine { register, work: vec![0; tree_work(n).max(chain_work(n))] };
+    let pairs_work = if by_rows { rows_work(n) } else { tree_work(n) };
+    let mut engine = Engine { register, work: vec![0; pairs_work.max(chain_work(n))], by_rows };
     links.iter().try_for_each(|&link| engine.add(link))?;
     Ok(Box::new(engine))
 }
 
 impl System for Engine {
     fn pairs(&mut self, expression: &[u8], list: &mut [u32]) -> Result<usize, Refusal> {
-        let pairs = self.register.pairs_in(expression, &mut self.work, list).map_err(number)?;
-        Ok(pairs.len())
+        let pairs = match self.by_rows {
+            true => self.register.pairs_by_rows_in(expression, &mut self.work, list),
+            false => self.register.pairs_in(expression, &mut self.work, list),
+        };
+        Ok(pairs.map_err(number)?.len())
     }
 
     fn chain(&mut self, from: u32, to: u32, expression: &[u8], list: &mut [u32]) -> Reply {

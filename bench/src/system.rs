@@ -1,6 +1,8 @@
 //! What a system under test has to offer, and the systems that are compared.
 
 use crate::sheet::{Link, Question};
+#[cfg(feature = "graphblas")]
+use crate::graphblas;
 use crate::{engine, plain};
 
 /// The number of a refusal, from the table of causes (`docs/SCOPE.md`, S6).
@@ -29,8 +31,14 @@ pub struct Peer {
     pub load: Load,
 }
 
-/// The systems that are compared, the baseline first.
-pub const PEERS: &[Peer] = &[plain::PEER, engine::PEER];
+/// The systems that are compared, the baseline first; the last only where its library is installed.
+pub const PEERS: &[Peer] = &[
+    plain::PEER,
+    engine::PEER,
+    engine::BY_ROWS,
+    #[cfg(feature = "graphblas")]
+    graphblas::PEER,
+];
 
 /// The length of a list in which every answer has room: 1,024 × 1,024 pairs; the longest chain has 63 × 1,024 steps.
 pub const LIST: usize = 1 << 20;

@@ -242,6 +242,16 @@ extern "C" {
         list: *mut u32,
         list_len: usize,
     ) -> u64;
+    fn dating_pairs_by_rows(
+        state: *const u32,
+        state_len: usize,
+        text: *const u8,
+        text_len: usize,
+        work: *mut u64,
+        work_len: usize,
+        list: *mut u32,
+        list_len: usize,
+    ) -> u64;
 }
 
 // SAFETY, of each: the function is the declared one, and has no `requires`; it is proved to end, and to read and write nothing but the
@@ -497,4 +507,20 @@ pub fn pages(state: &[u32], text: &[u8], work: &mut [u64], pages: &mut [u8]) -> 
 /// refused with 14, and a list that cannot take every pair with 13.
 pub fn read_pages(text: &[u8], pages: &[u8], list: &mut [u32]) -> u64 {
     unsafe { dating_read_pages(text.as_ptr(), text.len(), pages.as_ptr(), pages.len(), list.as_mut_ptr(), list.len()) }
+}
+
+/// The pair words as [`pairs`] gives them, by the engine on rows of bits. Work: [`rows_work`](crate::rows_work).
+pub fn pairs_by_rows(state: &[u32], text: &[u8], work: &mut [u64], list: &mut [u32]) -> u64 {
+    unsafe {
+        dating_pairs_by_rows(
+            state.as_ptr(),
+            state.len(),
+            text.as_ptr(),
+            text.len(),
+            work.as_mut_ptr(),
+            work.len(),
+            list.as_mut_ptr(),
+            list.len(),
+        )
+    }
 }

@@ -32,6 +32,7 @@
 //!
 //! A call takes at most 464 KB of stack (listing a tree), sole support 448, a pair question 352, a chain question 144, an edit or undo 128.
 
+mod by_rows;
 pub mod calls;
 mod closing;
 mod generations;
@@ -50,5 +51,5 @@ pub use pages::{page_bytes, read_pages};
 pub use previews::Edit;
 pub use refusal::Refusal;
 pub use register::Register;
-pub use space::{chain_work, longest_chain, most_pairs, support_work, tree_words, tree_work};
+pub use space::{chain_work, longest_chain, most_pairs, rows_work, support_work, tree_words, tree_work};
 pub use tree::{Sense, Tree, Trees};

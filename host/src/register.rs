@@ -1,14 +1,14 @@
 //! The register.
 
 use crate::calls::{self, counted, done, told, STATE_WORDS};
-use crate::space::{chain_work, longest_chain, most_pairs, tree_work};
+use crate::space::{chain_work, longest_chain};
 use crate::{Links, Pairs, Refusal, Steps};
 use std::fmt::{self, Debug, Formatter};
 
 /// A register of n records, with its links, its locked and withdrawn records and the latest 256 edits.
 ///
-/// It takes 21,624 bytes, and with the first question of each kind the space for it: for 1,024 records 5.6 MB and 4.2 MB (pairs), or
-/// 0.5 MB and 0.3 MB (chains), of which the system gives what is written to. [`pairs_in`](Register::pairs_in) and
+/// It takes 21,624 bytes, and with the first question of each kind the space for it: for 1,024 records 4.2 MB and 4.2 MB (pairs; by trees
+/// 5.6 MB and 4.2 MB), or 0.5 MB and 0.3 MB (chains), of which the system gives what is written to. [`pairs_in`](Register::pairs_in) and
 /// [`chain_in`](Register::chain_in) take the caller's space instead.
 pub struct Register {
     pub(crate) words: Box<[u32]>,
@@ -123,7 +123,8 @@ impl Register {
         Ok(Links::new(&self.list, total))
     }
 
-    /// The pairs of records that the expression joins.
+    /// The pairs of records that the expression joins, by the faster of the two engines: [`pairs_by_rows`](Register::pairs_by_rows), for
+    /// every register. [`pairs_by_trees`](Register::pairs_by_trees) gives the same pairs.
     ///
     /// ```
     /// # let mut register = dating::Register::fresh(3)?;
@@ -133,11 +134,7 @@ impl Register {
     /// # Ok::<(), dating::Refusal>(())
     /// ```
     pub fn pairs(&mut self, expression: impl AsRef<[u8]>) -> Result<Pairs<'_>, Refusal> {
-        let n = self.size();
-        grow(&mut self.work, tree_work(n));
-        grow(&mut self.list, most_pairs(n));
-        let total = counted(calls::pairs(&self.words, expression.as_ref(), &mut self.work, &mut self.list))?;
-        Ok(Pairs::new(&self.list, total))
+        self.pairs_by_rows(expression)
     }
 
     /// The first of the shortest chains from one record to another that spell a word of the expression; none if there is no chain.
@@ -159,7 +156,7 @@ impl Register {
         Ok(length.map(|length| Steps::new(&self.list, length)))
     }
 
-    /// The pairs of an expression in lent space: work of [`tree_work`] words, and a list, which is left as it was with a refusal. A list that is
+    /// The pairs of an expression in lent space: work of [`tree_work`](crate::tree_work) words, and a list, which is left as it was with a refusal. A list that is
     /// too short for all pairs gets the smallest of them; [`Pairs::total`] tells how many there are.
     ///
     /// ```

@@ -14,6 +14,11 @@ pub fn tree_work(n: u16) -> usize {
     32 * tree_words(n)
 }
 
+/// The words of work for a pair question by rows of bits: 32 relations of n rows, 64 columns to a word.
+pub fn rows_work(n: u16) -> usize {
+    32 * in_range(n) * in_range(n).div_ceil(64)
+}
+
 /// The words of work for a chain question.
 pub fn chain_work(n: u16) -> usize {
     64 * in_range(n)
@@ -50,5 +55,6 @@ mod tests {
     fn sizes_of_the_scope() {
         assert_eq!((tree_words(1024), tree_words(64), tree_words(1)), (21_846, 86, 1));
         assert_eq!((tree_work(0), tree_work(1025), chain_work(1024)), (0, 0, 65_536));
+        assert_eq!((rows_work(0), rows_work(1), rows_work(65), rows_work(1024), rows_work(1025)), (0, 32, 4160, 524_288, 0));
     }
 }

@@ -13,7 +13,7 @@ struct Function {
 }
 
 /// The modules of `crates/host/src` that export functions, in the order of the declarations.
-const MODULES: [&str; 8] = ["edits", "questions", "trees", "previews", "closing", "numbering", "sole_support", "printing"];
+const MODULES: [&str; 9] = ["edits", "questions", "trees", "previews", "closing", "numbering", "sole_support", "printing", "by_rows"];
 
 /// Those that export none.
 const OTHERS: [&str; 2] = ["lib", "told"];

@@ -13,6 +13,7 @@ ghost use Rattle.tree.specs.Calls.{productSensed, Answered, Listed, treeOf, lis
 ghost use Rattle.register.specs.Calls.{callOf, Opens, Steps, Closes};
 ghost use Rattle.register.specs.Questions.{Sized, Listing, Locking, Withdrawal, Totals};
 ghost use Rattle.pairs.specs.Asking.{AsksPairs, Relates};
+ghost use Rattle.rowpairs.specs.Asking.{AsksRows};
 ghost use Rattle.chains.specs.Replies.{Replies};
 ghost use Rattle.engine.specs.Inquiries.{Inquires};
 use chains::ChainAnswer;
@@ -134,6 +135,18 @@ pub fn pairs(register: Register, text: &[u8], work: &mut [u64], list: &mut [u32]
     ensures { λ a. ⌜ AsksPairs register (now (text .entry)) (length (now (work .entry))) (now (list .entry)) (now (list .exit)) a ⌝ }
 {
     pairs::pairs(register, text, work, list)
+}
+
+// The same answer by the engine on rows of bits, which needs work of its own: 32 relations of n rows, 64 columns to a word.
+pub fn pairs_by_rows(
+    register: Register,
+    text: &[u8],
+    work: &mut [u64],
+    list: &mut [u32],
+) -> PairsAnswer
+    ensures { λ a. ⌜ AsksRows register (now (text .entry)) (length (now (work .entry))) (now (list .entry)) (now (list .exit)) a ⌝ }
+{
+    rowpairs::pairs_by_rows(register, text, work, list)
 }
 
 // The relation of an expression as rows of bits: bit from * 1024 + to of the first 16,384 words is 1 if the pair has a chain. The number of pairs is told.

@@ -10,3 +10,4 @@ pub mod Support
 pub mod SupportLaws
 pub mod PageHost
 pub mod PageHostLaws
+pub mod ByRows

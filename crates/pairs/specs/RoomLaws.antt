@@ -2,6 +2,8 @@
 --   totals-below, totals-most
 --                   the numbers below the top one; their total
 --   placed-put      an operand put on top
+--   value-heights, height-after
+--                   every value is 0; an item takes its operands off the stack and puts one value on it
 --   room-begins     with nothing waiting
 --   room-operands   the next number of the code finds its operands, and there is room for its value
 --   room-next       one number more: its operands give way to its value
@@ -57,7 +59,7 @@ placed-put {d} {S} start j o P t h l =
     }
 
 -- ---- the code
-value-heights : (e : Expr) → value heights e ≡ 0
+pub value-heights : (e : Expr) → value heights e ≡ 0
 unfolding value heights
 value-heights (symbol s) = refl
 value-heights (group e) = value-heights e
@@ -78,8 +80,7 @@ room-begins d e p h os l = record {
   placed = record { slots = l; totals = no-words };
 }
 
--- an item takes its operands off the stack and puts one value on it
-height-after : (y : Item) (st : List ℕ) → operands y ≤ length st → length (does heights y st) ≡ suc (length st - operands y)
+pub height-after : (y : Item) (st : List ℕ) → operands y ≤ length st → length (does heights y st) ≡ suc (length st - operands y)
 unfolding does heights
 height-after (Letters forward against) st h = omega arith
 height-after Inverse [] h = absurd (omega arith)

@@ -280,7 +280,7 @@ fn run(work: &mut [u64], n: usize, links: &[u32], used: &[u64], rows: &mut [u64]
 }
 
 // The records in use, as 1,024 bits: those below n that are not withdrawn.
-fn in_use(register: register::Register, n: usize) -> [u64; 16]
+pub fn in_use(register: register::Register, n: usize) -> [u64; 16]
     requires { ⌜ n ≤ maxRecords ⌝ }
     ensures { λ r. ⌜ ((b : Book) → Represents register b → n ≡ b .n → bitAt r ≡ (λ x. bit (asked b .inUse x))) ⌝ }
 {

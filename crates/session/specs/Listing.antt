@@ -1,6 +1,12 @@
 -- What the answers of the questions say.
 --   listing a l     the outcome that the answer a to a pair question says, with the pairs in the first words of the list l
---   listing-is      of a question that keeps its promise it is the outcome itself
+--   listing-is, listing-rows
+--                   of a question that keeps its promise it is the outcome itself, by trees and by rows
+--   AnswersPairs r text work before after a
+--                   what the program's answer to a pair question of the register r promises: over any contents the words past the pairs are as they were; for every book
+--                   that the register represents, it says what the program must, and the list is that outcome's
+--   rows-answers, trees-answers
+--                   by rows up to 32 records, by trees above
 --   listing-left, reply-left
 --                   an answer that leaves the words past it leaves the list that its outcome does
 --   totalSaid a     what the answer a to asking for a total prints
@@ -12,21 +18,27 @@ use Prim.Native.Nat.{ℕ, zero, suc, _≤_, _<_}
 use native.Mathlib.Decide.{decLt}
 use native.Mathlib.Omega.{arith}
 use lib.ListN.{length, take, drop, take-append-drop, drop-of-length-le}
+use borrow.Author.Tests.{le-leb, lt-leb}
 use lib.Seq.{take-at, take-all, length-take-le}
 use Rattle.book.specs.Causes.{firstNumber}
 use Rattle.book.specs.Book.{Book}
 use Rattle.paths.specs.Grammar.{Verdict}
 use Rattle.paths.specs.Questions.{Outcome, refused, paired, unless, pairsOf, pairsCauses, pairsAnswer, steps, over, listAfter}
-use Rattle.register.specs.Questions.{totalOf}
+use Rattle.paths.specs.Verdicts.{verdict}
+use Rattle.register.specs.Questions.{Sized, totalOf}
+use Rattle.register.specs.Representation.{Represents}
+use Rattle.register.specs.declared.Register.{Register}
 use Rattle.register.specs.declared.TotalAnswer.{TotalAnswer}
 use Rattle.register.specs.declared.TotalAnswer.the-variants.{Total, Refused as Untotalled}
 use Rattle.report.specs.Report.{refusedText, totalText}
-use Rattle.pairs.specs.Asking.{pairsLength, Tells, told-number, told-pairs, BookPairs}
+use Rattle.pairs.specs.Asking.{pairsLength, Tells, told-number, told-pairs, BookPairs, AsksPairs}
 use Rattle.pairs.specs.declared.PairsAnswer.{PairsAnswer}
 use Rattle.pairs.specs.declared.PairsAnswer.the-variants.{Pairs, Refused}
+use Rattle.rowpairs.specs.Asking.{rowsCauses, rowsAnswer, BookRows, AsksRows}
 use Rattle.chains.specs.Replies.{outcomeOf, stepsLength}
 use Rattle.chains.specs.declared.ChainAnswer.{ChainAnswer}
 use Rattle.chains.specs.declared.ChainAnswer.the-variants.{Chain, NoChain, Refused as Unanswered}
+use Rattle.session.specs.Program.{rowRecords, programPairs}
 
 unfoldable pub totalSaid : TotalAnswer → List ℕ
 totalSaid (Total t) = totalText 0 t
@@ -63,6 +75,30 @@ pub listing-is : (b : Book) (v : Verdict) (work : ℕ) (a : PairsAnswer) (before
     → listing a after ≡ pairsAnswer b v work (length before)
 unfolding pairsAnswer
 listing-is b v work a before after q = by-number (firstNumber (pairsCauses b v work)) (pairsOf b v) before after a (q .tells) (q .list)
+
+pub listing-rows : (b : Book) (v : Verdict) (work : ℕ) (a : PairsAnswer) (before after : List ℕ) → BookRows b v work before after a
+    → listing a after ≡ rowsAnswer b v work (length before)
+unfolding rowsAnswer
+listing-rows b v work a before after q = by-number (firstNumber (rowsCauses b v work)) (pairsOf b v) before after a (q .tells) (q .list)
+
+pub record AnswersPairs (r : Register) (text : List ℕ) (work : ℕ) (before after : List ℕ) (a : PairsAnswer) : Type 0 where
+  pub past : drop (pairsLength a) after ≡ drop (pairsLength a) before
+  pub book : (b : Book) → Represents r b → (listing a after ≡ programPairs b (verdict text) work (length before)) × (after ≡ listAfter (programPairs b (verdict text) work (length before)) before)
+
+module _ {r : Register} {n work : ℕ} {text before after : List ℕ} {a : PairsAnswer} (S : Sized r n) where
+  pub rows-answers : n ≤ rowRecords → AsksRows r text work before after a → AnswersPairs r text work before after a
+  unfolding programPairs
+  rows-answers h A = record {
+    past = A .past;
+    book = λ b R. let q = A .book b R in rw (le-leb (b .n) rowRecords (omega (arith, S .size b R))) (listing-rows b _ work a before after q, q .list);
+  }
+
+  pub trees-answers : rowRecords < n → AsksPairs r text work before after a → AnswersPairs r text work before after a
+  unfolding programPairs
+  trees-answers h A = record {
+    past = A .past;
+    book = λ b R. let q = A .book b R in rw (lt-leb (b .n) rowRecords (omega (arith, S .size b R))) (listing-is b _ work a before after q, q .list);
+  }
 
 -- the first k words are the answer's
 over-front : (k : ℕ) (before after : List ℕ) → k ≤ length before → length after ≡ length before → drop k after ≡ drop k before → after ≡ over (take k after) before

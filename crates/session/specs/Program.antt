@@ -12,6 +12,8 @@
 --   decode k s      what a frame of kind k with the body s says: an unknown kind comes before a wrong body size
 --   Session         no register opened yet, or the book of the one that is
 --   openAnswer n    the answer to opening with n: in the program n is 1 to 64
+--   rowRecords, programPairs b v work room
+--                   the most records whose pair questions are answered by rows; the outcome of a pair question: by rows up to so many records, by trees above
 --   nextSession s f the session after a frame
 --   Right s f v t   v is the verdict on the frame's text, and t the reply to its chain question, where it has them
 --   printed w r s f v t
@@ -33,8 +35,9 @@ use Rattle.book.specs.Causes.{Cause, bad-size, broken-frame, unknown-kind, not-
 use Rattle.book.specs.Book.{Link, Book, Call, edit, undo, add, remove, lock, unlock, withdraw, reinstate, answer, next, fresh, total, totalNumber}
 use Rattle.paths.specs.Grammar.{Verdict, Judged}
 use Rattle.paths.specs.Chains.{asked, Reply}
-use Rattle.paths.specs.Questions.{pairsAnswer, chainAnswer, ReplyTo, listAfter}
+use Rattle.paths.specs.Questions.{Outcome, pairsAnswer, chainAnswer, ReplyTo, listAfter}
 use Rattle.register.specs.History.{addKind, removeKind, lockKind, unlockKind, undoKind, withdrawKind, reinstateKind}
+use Rattle.rowpairs.specs.Asking.{rowsAnswer}
 use Rattle.report.specs.Report.{refusedText, answerText, totalText, outcomeText}
 
 abbrev pub programRecords : ℕ
@@ -111,6 +114,12 @@ pub data Session : Type 0 where
 unfoldable pub openAnswer : ℕ → ℕ
 openAnswer n = firstNumber ((bad-size, ltb n 1 || ltb programRecords n) ∷ [])
 
+abbrev pub rowRecords : ℕ
+rowRecords = 32
+
+unfoldable pub programPairs : Book → Verdict → ℕ → ℕ → Outcome
+programPairs b v work room = pick (leb (b .n) rowRecords) (rowsAnswer b v work room) (pairsAnswer b v work room)
+
 -- a refused open keeps the old register
 unfoldable pub nextSession : Session → Frame → Session
 nextSession s (faulty c) = s
@@ -139,7 +148,7 @@ printed work room unopened (asks (pairs u)) v t = refusedText (number not-open)
 printed work room unopened (asks (chain x y u)) v t = refusedText (number not-open)
 printed work room unopened (asks (totalling l)) v t = refusedText (number not-open)
 printed work room (opened b) (asks (call c)) v t = answerText (answer b c)
-printed work room (opened b) (asks (pairs u)) v t = outcomeText (pairsAnswer b v work room)
+printed work room (opened b) (asks (pairs u)) v t = outcomeText (programPairs b v work room)
 printed work room (opened b) (asks (chain x y u)) v t = outcomeText (chainAnswer b x y v t work room)
 printed work room (opened b) (asks (totalling l)) v t = totalText (totalNumber l) (total (b .sheet) l)
 
@@ -150,7 +159,7 @@ listLeft work l s (asks (call c)) v t = l
 listLeft work l s (asks (totalling k)) v t = l
 listLeft work l unopened (asks (pairs u)) v t = l
 listLeft work l unopened (asks (chain x y u)) v t = l
-listLeft work l (opened b) (asks (pairs u)) v t = listAfter (pairsAnswer b v work (length l)) l
+listLeft work l (opened b) (asks (pairs u)) v t = listAfter (programPairs b v work (length l)) l
 listLeft work l (opened b) (asks (chain x y u)) v t = listAfter (chainAnswer b x y v t work (length l)) l
 
 -- of bytes that follow a length n: the frame's kind and body

@@ -35,7 +35,8 @@ use Rattle.paths.specs.ChainOrder.{before}
 use Rattle.paths.specs.Acceptance.{parted, many, accepts}
 use Rattle.paths.specs.FirstChain.{reach, stepsBelow, before-each, after-each, walks, walksTo, end, best, firstTo, chainTo, chain-first}
 use Rattle.report.specs.Report.{bytes, figures, decimal, pairLine, labelLetter, senseSign, stepLine, lines, counted, okText, refusedText, noneText, pairsText, chainText, answerText, totalText, outcomeText}
-use Rattle.session.specs.Program.{programWords, minFrame, maxFrame, number16, twoBytes, frameOf, linkIn, decode, Session, unopened, openAnswer, nextSession, Right, printed, listLeft, frameIn, Run, framed, ended, lone-byte}
+use Rattle.rowpairs.specs.Asking.{rowsCauses, rowsAnswer}
+use Rattle.session.specs.Program.{programWords, minFrame, maxFrame, number16, twoBytes, frameOf, linkIn, decode, Session, unopened, openAnswer, programPairs, nextSession, Right, printed, listLeft, frameIn, Run, framed, ended, lone-byte}
 use Rattle.session.specs.ProgramLaws.{length-left}
 
 unfoldable pub input : List ℕ
@@ -101,7 +102,7 @@ unfolding bytes verdict readAlternatives alternativesIn letters depth
 last-right = (verdict-right (bytes "a/b"), asked-last)
 
 pub sample : Prints unopened input output
-unfolding input output twoBytes frameOf bytes number16 linkIn decode openAnswer nextSession printed answerText outcomeText okText refusedText pairsText chainText counted lines pairLine stepLine labelLetter senseSign decimal figures number firstNumber causes editAnswer edited turned undoAnswer undone answer next fresh after has without verdict readAlternatives alternativesIn letters depth verdictCause standsFor asked most crossedBy zeroSteps diagonal transpose union serves product via closure cells rowPairs rowsPairs listed pairs pairsOf pairsCauses pairsAnswer steps stepWords chainCauses chainAnswer rise height treeUnit
+unfolding input output twoBytes frameOf bytes number16 linkIn decode openAnswer nextSession printed answerText outcomeText okText refusedText pairsText chainText counted lines pairLine stepLine labelLetter senseSign decimal figures number firstNumber causes editAnswer edited turned undoAnswer undone answer next fresh after has without verdict readAlternatives alternativesIn letters depth verdictCause standsFor asked most crossedBy zeroSteps diagonal transpose union serves product via closure cells rowPairs rowsPairs listed pairs pairsOf pairsCauses pairsAnswer rowsCauses rowsAnswer programPairs steps stepWords chainCauses chainAnswer rise height treeUnit
 sample =
     by (drop 3 output) long none refl refl refl tt
     (by (drop 6 output) long none refl refl refl tt
@@ -149,7 +150,7 @@ unfolding verdict readAlternatives alternativesIn
 none-asked = (verdict-right [], λ e h. absurd (outside-none e h))
 
 pub refused-run : Prints unopened faults refusals
-unfolding faults refusals twoBytes frameOf bytes number16 linkIn decode openAnswer nextSession printed answerText outcomeText okText refusedText counted decimal figures number firstNumber causes editAnswer edited turned undoAnswer undone answer next fresh has without verdict readAlternatives alternativesIn letters depth verdictCause asked pairsOf pairsCauses pairsAnswer steps chainCauses chainAnswer
+unfolding faults refusals twoBytes frameOf bytes number16 linkIn decode openAnswer nextSession printed answerText outcomeText okText refusedText counted decimal figures number firstNumber causes editAnswer edited turned undoAnswer undone answer next fresh has without verdict readAlternatives alternativesIn letters depth verdictCause asked pairsOf pairsCauses pairsAnswer rowsCauses rowsAnswer programPairs steps chainCauses chainAnswer
 refused-run =
     by (drop 11 refusals) long none refl refl refl tt
     (by (drop 22 refusals) long none refl refl refl tt
@@ -237,7 +238,7 @@ unfolding number firstNumber causes editAnswer edited turned undone next fresh a
 none-from-1 = (verdict-right (bytes "a*"), λ e h. withdrawn-none _ e 1 1 refl)
 
 pub struck-run : Prints unopened struck uses
-unfolding struck uses twoBytes frameOf bytes number16 linkIn decode openAnswer nextSession printed answerText outcomeText okText refusedText noneText pairsText chainText counted lines pairLine stepLine labelLetter senseSign decimal figures number firstNumber causes editAnswer edited turned undoAnswer undone answer next fresh after has without touched verdict readAlternatives alternativesIn letters depth verdictCause standsFor asked most crossedBy zeroSteps diagonal transpose union serves product via closure cells rowPairs rowsPairs listed pairs pairsOf pairsCauses pairsAnswer steps stepWords chainCauses chainAnswer rise height treeUnit
+unfolding struck uses twoBytes frameOf bytes number16 linkIn decode openAnswer nextSession printed answerText outcomeText okText refusedText noneText pairsText chainText counted lines pairLine stepLine labelLetter senseSign decimal figures number firstNumber causes editAnswer edited turned undoAnswer undone answer next fresh after has without touched verdict readAlternatives alternativesIn letters depth verdictCause standsFor asked most crossedBy zeroSteps diagonal transpose union serves product via closure cells rowPairs rowsPairs listed pairs pairsOf pairsCauses pairsAnswer rowsCauses rowsAnswer programPairs steps stepWords chainCauses chainAnswer rise height treeUnit
 struck-run =
     by (drop 3 uses) long none refl refl refl tt
     (by (drop 6 uses) long none refl refl refl tt

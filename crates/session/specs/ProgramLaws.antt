@@ -8,15 +8,16 @@
 -- Assumes nothing.
 use mathlib.Core.Path.{_≡_, refl, ap, subst, _∙_}
 use mathlib.Core.List.{List, [], _∷_, _++_}
-use mathlib.Core.Bool.{Bool, false, _||_}
-use Prim.Native.Nat.{ℕ, zero, suc, _+_, _-_, _*_, _^_, _≤_, _<_}
+use mathlib.Core.Bool.{Bool, true, false, _||_}
+use Prim.Native.Nat.{ℕ, zero, suc, _+_, _-_, _*_, _/_, _^_, _≤_, _<_}
 use native.Mathlib.Nat.{suc-mul, mul-le-mul}
 use native.Mathlib.Decide.{decLt}
 use native.Mathlib.Omega.{arith}
 use lib.Pow.{pow-mono}
 use lib.ListN.{length, take, drop, length-append, length-take, length-drop}
+use lib.Seq.{take-all}
 use lib.Dec.{ltb, leb, eqb}
-use borrow.Author.Tests.{le-ltb, lt-leb, ltb-false}
+use borrow.Author.Tests.{le-ltb, le-leb, lt-leb, ltb-false}
 use Rattle.book.specs.Basics.{pick}
 use Rattle.book.specs.Causes.{Cause, no-record, short-work, short-list, number, firstNumber}
 use Rattle.book.specs.Book.{Book, fresh}
@@ -29,13 +30,15 @@ use Rattle.paths.specs.Expressions.{Expr, letters}
 use Rattle.paths.specs.Grammar.{Verdict, accepted, long, outside, large, verdictCause}
 use Rattle.paths.specs.Chains.{asked, Reply, none, chain, ChainIs, first-chain, stepWords}
 use Rattle.paths.specs.Relations.{pairs, cells}
-use Rattle.paths.specs.Questions.{paired, replied, unless, chainWork, pairsOf, pairsCauses, pairsAnswer, steps, ReplyTo, chainCauses, chainAnswer, over, listAfter}
+use Rattle.paths.specs.Questions.{Outcome, paired, replied, unless, chainWork, pairsOf, pairsCauses, pairsAnswer, steps, ReplyTo, chainCauses, chainAnswer, over, listAfter}
 use Rattle.paths.specs.Verdicts.{verdict, verdict-right}
 use Rattle.paths.specs.PairLaws.{fit-inside, long-enough}
 use Rattle.paths.specs.FirstChain.{reply}
+use Rattle.rowpairs.specs.Asking.{rowsWork, rowsCauses, rowsAnswer}
+use Rattle.rowpairs.specs.AskingLaws.{rows-paired}
 use Rattle.automaton.specs.WalkLaws.{length-stepWords}
 use Rattle.automaton.specs.ShortChains.{chains-63}
-use Rattle.session.specs.Program.{programRecords, programWords, Frame, asks, faulty, opening, call, pairs as pairs-asked, chain as chain-asked, totalling, Session, unopened, opened, openAnswer, nextSession, Right, listLeft}
+use Rattle.session.specs.Program.{programRecords, programWords, Frame, asks, faulty, opening, call, pairs as pairs-asked, chain as chain-asked, totalling, Session, unopened, opened, openAnswer, rowRecords, programPairs, nextSession, Right, listLeft}
 use Rattle.session.specs.TurnLaws.{open-none, open-many, open-fine, next-size}
 
 -- ---- at most n × n pairs
@@ -112,8 +115,13 @@ room-enough long c d short k room h = absurd (omega arith)
 room-enough outside c d short k room h = absurd (omega arith)
 room-enough large c d short k room h = absurd (omega arith)
 
+-- by rows or by trees
+either-length : (o p : Outcome) (l : List ℕ) (t : Bool) → length (listAfter o l) ≡ length l → length (listAfter p l) ≡ length l → length (listAfter (pick t o p) l) ≡ length l
+either-length o p l true h k = h
+either-length o p l false h k = k
+
 pub length-left : (work : ℕ) (l : List ℕ) (s : Session) (f : Frame) (v : Verdict) (t : Reply) → length (listLeft work l s f v t) ≡ length l
-unfolding listLeft pairsAnswer pairsCauses chainAnswer chainCauses
+unfolding listLeft programPairs rowsAnswer pairsAnswer chainAnswer chainCauses
 length-left work l unopened (faulty c) v t = refl
 length-left work l unopened (asks (opening n)) v t = refl
 length-left work l unopened (asks (call c)) v t = refl
@@ -125,7 +133,9 @@ length-left work l (opened b) (asks (opening n)) v t = refl
 length-left work l (opened b) (asks (call c)) v t = refl
 length-left work l (opened b) (asks (totalling k)) v t = refl
 length-left work l (opened b) (asks (pairs-asked u)) v t =
-    length-pairs (firstNumber (pairsCauses b v work)) (length (pairsOf b v)) (pairsOf b v) l
+    either-length (rowsAnswer b v work (length l)) (pairsAnswer b v work (length l)) l (leb (b .n) rowRecords)
+    (length-pairs (firstNumber (rowsCauses b v work)) (length (pairsOf b v)) (pairsOf b v) l)
+    (length-pairs (firstNumber (pairsCauses b v work)) (length (pairsOf b v)) (pairsOf b v) l)
 length-left work l (opened b) (asks (chain-asked x y u)) v t =
     length-reply (firstNumber (chainCauses b x y v t work (length l))) t l
     (λ h. room-enough v short-work short-list (ltb work (chainWork (b .n))) (length (steps t)) (length l) (first-none no-record (leb (b .n) x || leb (b .n) y) _ h .1))
@@ -154,13 +164,29 @@ right-exists (opened b) (asks (chain-asked x y u)) h =
     (verdict u, r .0, (verdict-right u, r .1))
 
 -- ---- with 4,096 words each, no question is refused for room
-pub pairs-answered : (b : Book) (e : Expr) → b .n ≤ programRecords → pairsAnswer b (accepted e) programWords programWords ≡ paired (length (pairs (asked b) e)) (pairs (asked b) e)
+trees-answered : (b : Book) (e : Expr) → b .n ≤ programRecords → pairsAnswer b (accepted e) programWords programWords ≡ paired (length (pairs (asked b) e)) (pairs (asked b) e)
 unfolding pairsCauses pairsOf pairs asked verdictCause firstNumber
-pairs-answered b e h =
+trees-answered b e h =
     let square : b .n * b .n ≤ 64 * 64 = mul-le-mul h h in
     let few : length (listed (b .n) (cells (asked b) e)) ≤ programWords = omega (arith, listed-length (b .n) (cells (asked b) e)) in
     let work : 32 * treeUnit (b .n) ≤ programWords = omega (arith, small-tree (b .n) h) in
     long-enough b (accepted e) programWords programWords few ∙ rw (le-ltb programWords (32 * treeUnit (b .n)) work) refl
+
+rows-answered : (b : Book) (e : Expr) → b .n ≤ rowRecords → rowsAnswer b (accepted e) programWords programWords ≡ paired (length (pairs (asked b) e)) (pairs (asked b) e)
+unfolding pairs asked
+rows-answered b e h =
+    let square : b .n * b .n ≤ 32 * 32 = mul-le-mul h h in
+    let unit : b .n * ((b .n + 63) / 64) ≤ 32 * 1 = mul-le-mul h (let z : (b .n + 63) / 64 ≤ 1 = omega arith in z) in
+    let few : length (listed (b .n) (cells (asked b) e)) ≤ programWords = omega (arith, listed-length (b .n) (cells (asked b) e)) in
+    rows-paired b programWords programWords e (omega arith) ∙ ap (paired (length (pairs (asked b) e))) (take-all programWords (pairs (asked b) e) few)
+
+pub pairs-answered : (b : Book) (e : Expr) → b .n ≤ programRecords → programPairs b (accepted e) programWords programWords ≡ paired (length (pairs (asked b) e)) (pairs (asked b) e)
+unfolding programPairs
+pairs-answered b e h = go (decLt rowRecords (b .n))
+  where
+    go : Dec (rowRecords < b .n) → programPairs b (accepted e) programWords programWords ≡ paired (length (pairs (asked b) e)) (pairs (asked b) e)
+    go (yes l) = rw (lt-leb (b .n) rowRecords l) (trees-answered b e h)
+    go (no l) = rw (le-leb (b .n) rowRecords (omega arith)) (rows-answered b e (omega arith))
 
 steps-few : (b : Book) → Sound b → b .n ≤ programRecords → (e : Expr) → letters e ≤ 63 → (x y : ℕ) (t : Reply) → ChainIs (asked b) e x y t → length (steps t) ≤ programWords
 unfolding steps asked

@@ -17,11 +17,11 @@ use Rattle.book.specs.Causes.{number, firstNumber}
 use Rattle.book.specs.Book.{Book}
 use Rattle.paths.specs.Grammar.{Verdict, accepted, long, outside, large, Judged, verdictCause}
 use Rattle.paths.specs.Chains.{asked, Reply}
-use Rattle.paths.specs.Questions.{Outcome, unless, replied, pairsAnswer, ReplyTo, chainCauses, chainAnswer, listAfter}
+use Rattle.paths.specs.Questions.{Outcome, unless, replied, ReplyTo, chainCauses, chainAnswer, listAfter}
 use Rattle.paths.specs.Verdicts.{verdict-only}
 use Rattle.paths.specs.FirstChain.{reply-only}
 use Rattle.report.specs.Report.{outcomeText}
-use Rattle.session.specs.Program.{minFrame, maxFrame, Frame, asks, faulty, opening, call, pairs, chain, totalling, Session, unopened, opened, nextSession, Right, printed, listLeft, frameIn, Run, ended, lone-byte, bad-length, cut, framed}
+use Rattle.session.specs.Program.{minFrame, maxFrame, Frame, asks, faulty, opening, call, pairs, chain, totalling, Session, unopened, opened, nextSession, programPairs, Right, printed, listLeft, frameIn, Run, ended, lone-byte, bad-length, cut, framed}
 use Rattle.session.specs.ProgramLaws.{Steady, next-steady, right-exists}
 
 module _ (work : ℕ) where
@@ -61,8 +61,8 @@ module _ (work : ℕ) where
   text-refused false k o p = refl
 
   -- the outcome of a question is the same for every verdict and reply that are right
-  pairs-only : (room : ℕ) (b : Book) (u : List ℕ) (v w : Verdict) → Judged u v → Judged u w → pairsAnswer b v work room ≡ pairsAnswer b w work room
-  pairs-only room b u v w h k = ap (λ (d : Verdict). pairsAnswer b d work room) (verdict-only h ∙ sym (verdict-only k))
+  pairs-only : (room : ℕ) (b : Book) (u : List ℕ) (v w : Verdict) → Judged u v → Judged u w → programPairs b v work room ≡ programPairs b w work room
+  pairs-only room b u v w h k = ap (λ (d : Verdict). programPairs b d work room) (verdict-only h ∙ sym (verdict-only k))
 
   reply-same : (room : ℕ) (b : Book) (x y : ℕ) (v : Verdict) (t u : Reply) → ReplyTo (asked b) v x y t → ReplyTo (asked b) v x y u
       → chainAnswer b x y v t work room ≡ chainAnswer b x y v u work room

@@ -14,7 +14,7 @@ use Rattle.book.specs.RankLaws.{rank-le}
 use Rattle.book.specs.Book.{Book, Sheet, Call, edit, undo, close, turned, undone, used, closed, editAnswer, edited, closeAnswer, answer, next, freshAnswer, fresh, total, totalNumber}
 use Rattle.paths.specs.Grammar.{Verdict}
 use Rattle.paths.specs.Chains.{asked, Reply}
-use Rattle.paths.specs.Questions.{Outcome, pairsAnswer, ReplyTo, chainAnswer, listAfter}
+use Rattle.paths.specs.Questions.{Outcome, ReplyTo, chainAnswer, listAfter}
 use Rattle.paths.specs.Verdicts.{verdict, verdict-only}
 use Rattle.register.specs.declared.Outcome.{Outcome as Told}
 use Rattle.register.specs.Representation.{Represents}
@@ -25,7 +25,7 @@ use Rattle.register.specs.declared.TotalAnswer.{TotalAnswer}
 use Rattle.report.specs.Report.{refusedText, answerText, okText, outcomeText}
 use Rattle.report.specs.Written.{Wrote}
 use Rattle.report.specs.WrittenLaws.{wrote-as}
-use Rattle.session.specs.Program.{programRecords, Frame, asks, faulty, opening, call, pairs, chain, totalling, Session, unopened, opened, openAnswer, nextSession, Right, printed, listLeft}
+use Rattle.session.specs.Program.{programRecords, Frame, asks, faulty, opening, call, pairs, chain, totalling, Session, unopened, opened, openAnswer, nextSession, programPairs, Right, printed, listLeft}
 use Rattle.session.specs.Turns.{StateOf, is-closed, is-open, room, Spares, as-it-was, answered, Turns, Framing}
 use Rattle.session.specs.Listing.{totalSaid, total-said}
 use Rattle.session.specs.declared.State.{State}
@@ -137,14 +137,14 @@ module _ (st : State) (work : ℕ) (l l′ out out′ : List ℕ) (r : Framed) w
 
   -- the two questions, which leave the session as it was
   pub pairs-turns : (u : List ℕ) (o : Outcome) → st .opened ≡ true → r .state ≡ st → l′ ≡ listAfter o l
-      → ((b : Book) → Represents (st .register) b → (o ≡ pairsAnswer b (verdict u) work (length l)) × (l′ ≡ listAfter (pairsAnswer b (verdict u) work (length l)) l))
+      → ((b : Book) → Represents (st .register) b → (o ≡ programPairs b (verdict u) work (length l)) × (l′ ≡ listAfter (programPairs b (verdict u) work (length l)) l))
       → Wrote 0 (outcomeText o) out out′ (r .written) → Turns st (asks (pairs u)) work l l′ out out′ r
   unfolding nextSession printed listLeft
   pairs-turns u o up kept left says w =
       open-turns (asks (pairs u)) up (w .fits) (answered o w left)
       (λ b x m. rw kept (is-open up x m))
       (λ b x v t q.
-      let same = ap (λ (e : Verdict). pairsAnswer b e work (length l)) (sym (verdict-only q)) in
+      let same = ap (λ (e : Verdict). programPairs b e work (length l)) (sym (verdict-only q)) in
       (wrote-as (ap outcomeText (says b x .0 ∙ same)) w, says b x .1 ∙ ap (λ (a : Outcome). listAfter a l) same))
 
   pub chain-turns : (x y : ℕ) (u : List ℕ) (o : Outcome) → st .opened ≡ true → r .state ≡ st → l′ ≡ listAfter o l

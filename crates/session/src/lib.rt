@@ -11,7 +11,7 @@ ghost use Rattle.session.specs.Runs.{Advances, RunsOn, Front};
 ghost use Rattle.register.specs.Calls.{callOf};
 ghost use Rattle.report.specs.Report.{refusedText, outcomeText};
 ghost use Rattle.report.specs.Written.{Wrote};
-ghost use Rattle.session.specs.Listing.{listing, totalSaid};
+ghost use Rattle.session.specs.Listing.{listing, AnswersPairs, totalSaid};
 ghost use Rattle.chains.specs.Replies.{outcomeOf, stepsLength};
 use chains::ChainAnswer;
 use pairs::PairsAnswer;
@@ -21,6 +21,9 @@ use register::TotalAnswer;
 
 // The most records of the program.
 const MOST_RECORDS: u16 = 64;
+
+// The most records whose pair questions are answered by rows.
+const ROW_RECORDS: usize = 32;
 
 // The kinds of frames; those of calls are a history's.
 pub const OPEN: u16 = 1;
@@ -301,6 +304,16 @@ fn put_listing(answer: PairsAnswer, list: &[u32], out: &mut [u8]) -> usize
     }
 }
 
+// The answer to a pair question of an opened book: by rows of bits for up to 32 records, by trees above.
+fn answer_pairs(register: Register, text: &[u8], work: &mut [u64], list: &mut [u32]) -> PairsAnswer
+    ensures { λ a. ⌜ AnswersPairs register (now (text .entry)) (length (now (work .entry))) (now (list .entry)) (now (list .exit)) a ⌝ }
+{
+    if engine::size(register) <= ROW_RECORDS {
+        return engine::pairs_by_rows(register, text, work, list);
+    }
+    engine::pairs(register, text, work, list)
+}
+
 fn ask_pairs(
     state: State,
     text: &[u8],
@@ -315,7 +328,7 @@ fn ask_pairs(
     if !state.opened {
         return refuse(state, book::NOT_OPEN, out);
     }
-    let answer = engine::pairs(state.register, text, work, list);
+    let answer = answer_pairs(state.register, text, work, list);
     let written = put_listing(answer, list, out);
     Framed { state, written }
 }

@@ -4,7 +4,7 @@ use crate::history::History;
 use crate::run::{Run, Size};
 use oracle::book::{Call, Link};
 use oracle::random::{in_grammar, Random};
-use oracle::{tree, Space};
+use oracle::{rows, tree, Space};
 
 const N: usize = 0;
 const LINKS: usize = 4;
@@ -109,6 +109,7 @@ pub fn damaged(run: &mut Run, seed: u64, size: Size) {
             let answers = [
                 run.engine.links(&words, list),
                 run.engine.pairs(&words, &text, Space { work: pairs, list }),
+                run.engine.pairs_by_rows(&words, &text, Space { work: pairs.min(rows::work(sized)), list }),
                 run.engine.chain(&words, from, to, &text, Space { work: chains, list }),
                 run.engine.sole_support(&words, from, &text, &[to as u16], Space { work: pairs + chains, list }),
             ];

@@ -224,6 +224,10 @@ impl Engine {
         self.asked(words, text, space, calls::pairs)
     }
 
+    pub fn pairs_by_rows(&mut self, words: &[u32], text: &[u8], space: Space) -> Answer<u32> {
+        self.asked(words, text, space, calls::pairs_by_rows)
+    }
+
     pub fn chain(&mut self, words: &[u32], from: u32, to: u32, text: &[u8], space: Space) -> Answer<u32> {
         let (from, to) = (from as u16, to as u16);
         self.asked(words, text, space, |state, text, work, list| calls::chain(state, from, to, text, work, list))

@@ -9,7 +9,7 @@ use crate::run::{Run, Size};
 use oracle::book::{Book, Call, Link, LABELS, MAX_LINKS};
 use oracle::random::{expression, in_grammar, Random};
 use oracle::relation::Relation;
-use oracle::{chain, expression as expressions, tree, Listed, Refusal, Space};
+use oracle::{chain, expression as expressions, rows, tree, Listed, Refusal, Space};
 
 /// A book of the oracle beside the words of the engine.
 pub struct History<'a> {
@@ -225,6 +225,13 @@ impl<'a> History<'a> {
                 &first_within(&related, tree::work(n), space),
             );
             self.run.counts.pairs += 1;
+        }
+        let work = rows::work(n);
+        for space in spaces(work, list) {
+            let answer = self.run.engine.pairs_by_rows(&self.words, &text, space);
+            let asked = || format!("pairs by rows {} in {space:?}", shown());
+            self.run.same_of(asked, &answer, &first_within(&related, work, space));
+            self.run.counts.rows += 1;
         }
         for _ in 0..3 {
             let (mut from, mut to) = (self.random.record(n), self.random.record(n));

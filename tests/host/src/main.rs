@@ -99,11 +99,12 @@ fn run_all() -> ExitCode {
     }
     let counts = &run.counts;
     println!(
-        "{cases} cases: {} edits, {} registers read, {} pair questions, {} chain questions, {} tree calls, {} pages printed or read, {} damaged registers, {} generations, {} of sole support ({} records fall); \
+        "{cases} cases: {} edits, {} registers read, {} pair questions, {} by rows, {} chain questions, {} tree calls, {} pages printed or read, {} damaged registers, {} generations, {} of sole support ({} records fall); \
          {} calls, {} differences",
         counts.edits,
         counts.contents,
         counts.pairs,
+        counts.rows,
         counts.chains,
         counts.trees,
         counts.pages,

@@ -9,6 +9,7 @@ pub struct Counts {
     pub edits: usize,
     pub contents: usize,
     pub pairs: usize,
+    pub rows: usize,
     pub chains: usize,
     pub trees: usize,
     pub pages: usize,

@@ -7,6 +7,7 @@
 //! | `expression` | the reader of expressions, with its refusals | S3 Expressions |
 //! | `relation` | sets of pairs as rows of bits, and the set that an expression means | S3 Expressions |
 //! | `chain` | the first chain between two records | S4 Chains |
+//! | `rows` | what a pair question by rows of bits is lent | S18 Rows of bits |
 //! | `tree` | k2-trees, well-formedness, the operations on trees | S5 Trees |
 //! | `question` | pair and chain questions with all their refusals | S6 Causes and numbers |
 //! | `preview` | pair questions on a copy where an edit was made | S12 Look before saving |
@@ -33,6 +34,7 @@ pub mod question;
 pub mod random;
 pub mod relation;
 pub mod support;
+pub mod rows;
 pub mod tree;
 
 /// The most records a register has.

@@ -1,4 +1,4 @@
--- `session::ask_pairs` meets its contract: before an open it is refused (`closed-turns`), else the engine's answer is printed (`pairs-turns`).
+-- `session::ask_pairs` meets its contract: before an open it is refused (`closed-turns`), else the answer is printed (`pairs-turns`).
 -- Assumes nothing.
 use mathlib.Core.Path.{refl}
 use borrow.Author.Tests.{not-true, not-false}
@@ -6,7 +6,7 @@ use denote.Ref.{now}
 use lib.ListN.{length}
 use Rattle.book.specs.Causes.{number}
 use Rattle.session.specs.Program.{asks, pairs, nextSession, printed, listLeft}
-use Rattle.session.specs.Listing.{listing-is, listing-left}
+use Rattle.session.specs.Listing.{listing-left}
 use Rattle.session.specs.TurnLaws.{closed-turns, pairs-turns}
 use borrow.Author.Needs.{needs}
 use Rattle.session.proofs.ask_pairs.Statement.{statement}
@@ -25,8 +25,8 @@ returns c =
     let w = c .before .before .refuse in
     closed-turns (s .state) _ (now (s .list)) (now (s .list)) (now (s .out)) (w .last .1 .1 .0) (w .result) (asks (pairs (now (s .text)))) refl (λ v t. refl) (λ v t. refl) (not-true _ (c .before .before .before .before .if1 .taken)) (w .ensures .0) refl (w .ensures .1)
 
-pairs-requires : tie.Need-pairs-requires
-pairs-requires c κs = search needs
+answer-pairs-requires : tie.Need-answer-pairs-requires
+answer-pairs-requires c κs = search needs
 
 put-listing-requires : tie.Need-put-listing-requires
 put-listing-requires c κs = search needs
@@ -43,11 +43,11 @@ same-length-4 c = search needs
 returns-2 : tie.Need-returns-2
 returns-2 c =
     let s = c .before .before .before .before .before .before .before .before .before .before .before .before .before .before .before .before .before .before .args in
-    let a = c .before .before .before .before .before .before .before .before .before .pairs in
+    let a = c .before .before .before .before .before .before .before .before .before .answer-pairs in
     let w = c .before .before .put-listing in
     pairs-turns (s .state) (length (now (s .work))) (now (s .list)) _ (now (s .out)) (w .last .1 .1 .0) _ (now (s .text)) _ (not-false _ (c .before .before .before .before .before .before .before .before .before .before .before .before .if1 .left)) refl
     (listing-left (now (s .list)) _ (a .kept .1 .1 .1 .0) (a .result) (a .ensures .past))
-    (λ b h. let q = a .ensures .book b h in (listing-is b _ _ (a .result) (now (s .list)) _ q, q .list)) (w .ensures)
+    (a .ensures .book) (w .ensures)
 
 pub ask-pairs-spec : {M : Type 1} → statement M
 ask-pairs-spec =
@@ -56,7 +56,7 @@ ask-pairs-spec =
     refuse-requires
     same-length
     returns
-    pairs-requires
+    answer-pairs-requires
     put-listing-requires
     same-length-2
     same-length-3

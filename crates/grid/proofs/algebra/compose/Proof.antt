@@ -1,0 +1,99 @@
+-- `compose` goes row by row. The loop's invariant: the rows below x are those of the product, and of the two relations nothing else has changed
+-- (`Through`). The measure is the rows left. It rests on `compose-more` and `compose-skip`. Assumes nothing.
+use Prim.Native.Nat.{ℕ, _<_, _≤_, _+_, _*_, _-_}
+use Rattle.grid.proofs.Grids.{unit-fits, row-inside, Through, through-none, through-all}
+use Rattle.grid.proofs.Products.{composed, compose-more, compose-skip, within-product}
+use borrow.Author.Needs.{needs}
+use lib.ListN.{length, getD}
+use mathlib.Core.Logic.{⊎-elim}
+use mathlib.Core.Path.{_≡_, refl, sym, ap, _∙_}
+use native.Mathlib.Omega.{arith}
+use Rattle.grid.proofs.algebra.compose.Statement.{statement}
+use Rattle.grid.proofs.algebra.compose.Tie as tie
+
+abbrev Inv-loop : tie.InvT-loop
+Inv-loop cells₀ masks₀ n w x₀ b₀ cells masks x b = (x ≤ n) × (b ≡ x * w) × (length cells ≡ length cells₀) × (length masks ≡ length masks₀) × Through n w x (composed n w cells₀ masks₀) cells₀ masks₀ cells masks
+
+abbrev μ-loop : tie.MeasureT-loop
+μ-loop cells₀ masks₀ n w x₀ b₀ cells masks x b = n - x
+
+loop-holds : tie.Need-loop-holds Inv-loop μ-loop
+loop-holds c = (omega arith, omega arith, refl, refl, through-none _ _ _ _ _)
+
+mul-mask : tie.Need-mul-mask Inv-loop μ-loop
+mul-mask c = omega arith
+
+slice-read-mask : tie.Need-slice-read-mask Inv-loop μ-loop
+slice-read-mask c = omega arith
+
+compose-row-requires : tie.Need-compose-row-requires Inv-loop μ-loop
+compose-row-requires c κs =
+    let l = c .before .before .before .before .before .loop in
+    (omega arith, omega arith, omega arith, omega arith, omega arith, omega arith, l .inv .1)
+
+add-b : tie.Need-add-b Inv-loop μ-loop
+add-b c =
+    let a = c .before .before .before .before .before .before .args in
+    let l = c .before .before .before .loop in
+    omega (arith, unit-fits (a .n) (a .w) (omega arith) (omega arith), row-inside (l .x) (a .n) (a .w) (l .b) (omega arith) (l .inv .1))
+
+add-x : tie.Need-add-x Inv-loop μ-loop
+add-x c = omega arith
+
+loop-less : tie.Need-loop-less Inv-loop μ-loop
+loop-less c = omega arith
+
+loop-again : tie.Need-loop-again Inv-loop μ-loop
+loop-again c =
+    let a = c .before .before .before .before .before .before .args in
+    let l = c .before .before .before .loop in
+    let nl : a .n ≤ a .w * 64 = omega arith in
+    let xl : l .x < a .n = omega arith in
+    let e : l .b + a .w ≡ (l .x + 1) * a .w = omega (arith, l .inv .1) in
+    ⊎-elim
+    (λ v. (
+      omega arith,
+      e,
+      rw (v .8) (v .3 .kept .0 ∙ l .inv .2),
+      rw (v .9) (v .3 .kept .1 .0 ∙ l .inv .3),
+      rw (v .8, v .9) (compose-more (a .n) (a .w) (l .x) (l .b) (a .cells .now) (a .masks .now) (l .cells) (l .masks) nl xl (l .inv .1) (l .inv .4) _ _ (v .3 .ensures)),
+    ))
+    (λ v. (
+      omega arith,
+      e,
+      rw (v .1) (l .inv .2),
+      rw (v .2) (l .inv .3),
+      rw (v .1, v .2) (compose-skip (a .n) (a .w) (l .x) (l .b) (a .cells .now) (a .masks .now) (l .cells) (l .masks) nl xl (l .inv .1) (l .inv .4) (v .0 .left)),
+    ))
+    (c .if1 .came)
+
+same-length : tie.Need-same-length Inv-loop μ-loop
+same-length c = search needs
+
+same-length-2 : tie.Need-same-length-2 Inv-loop μ-loop
+same-length-2 c = search needs
+
+returns : tie.Need-returns Inv-loop μ-loop
+returns c =
+    let a = c .before .before .before .before .args in
+    let l = c .before .loop in
+    let e : l .x ≡ a .n = omega arith in
+    through-all (a .n) (a .w) _ (a .cells .now) (a .masks .now) (l .cells) (l .masks) (omega arith) (rw e at (l .inv .4)) ∙ within-product (a .n) (a .w) (a .cells .now) (a .masks .now)
+
+pub compose-spec : {M : Type 1} → statement M
+compose-spec =
+    tie.close
+    (tie.spec
+    Inv-loop
+    μ-loop
+    loop-holds
+    mul-mask
+    slice-read-mask
+    compose-row-requires
+    add-b
+    add-x
+    loop-less
+    loop-again
+    same-length
+    same-length-2
+    returns)

@@ -1,0 +1,69 @@
+-- `take_row` empties the row and merges that of the second relation (`taken-row`). Assumes nothing.
+use mathlib.Core.Path.{_≡_, refl, sym, ap, _∙_}
+use mathlib.Core.Logic.{inl}
+use Prim.Native.Nat.{ℕ, _+_, _*_, _≤_, _<_}
+use native.Mathlib.Omega.{arith}
+use borrow.Author.Needs.{needs}
+use lib.ListN.{length, getD, set, length-set}
+use Rattle.grid.proofs.Grids.{unit-fits, row-inside}
+use Rattle.grid.proofs.Turns.{taken-row}
+use Rattle.grid.proofs.algebra.take_row.Statement.{statement}
+use Rattle.grid.proofs.algebra.take_row.Tie as tie
+
+mul-masks : tie.Need-mul-masks
+mul-masks c = search needs
+
+slice-write-masks : tie.Need-slice-write-masks
+slice-write-masks c = search needs
+
+add-source : tie.Need-add-source
+add-source c = search needs
+
+mul-source : tie.Need-mul-source
+mul-source c = search needs
+
+slice-read-source : tie.Need-slice-read-source
+slice-read-source c = simp length-set (omega arith)
+
+mul-unit : tie.Need-mul-unit
+mul-unit c = let a = c .before .before .before .args in omega (arith, unit-fits (a .n) (a .w) (omega arith) (omega arith))
+
+add-merge : tie.Need-add-merge
+add-merge c =
+    let a = c .before .before .before .before .before .args in
+    omega (arith, unit-fits (a .n) (a .w) (omega arith) (omega arith), row-inside (a .x) (a .n) (a .w) (a .b) (omega arith) (omega arith))
+
+merge-requires : tie.Need-merge-requires
+merge-requires c κs =
+    let a = c .before .before .before .before .before .args in
+    let z = row-inside (a .x) (a .n) (a .w) (a .b) (omega arith) (omega arith) in
+    let k : length (set (a .masks .now) (a .x) 0) ≡ length (a .masks .now) = length-set (a .masks .now) (a .x) 0 in
+    (omega (arith, k), omega arith, omega (arith, z), omega (arith, z))
+
+same-length : tie.Need-same-length
+same-length c = search needs
+
+same-length-2 : tie.Need-same-length-2
+same-length-2 c = let a = c .before .before .before .before .before .before .before .before .before .before .args in c .before .before .before .before .merge .kept .1 .0 ∙ length-set (a .masks .now) (a .x) 0
+
+returns : tie.Need-returns
+returns c =
+    let a = c .before .before .before .before .before .before .before .before .before .before .args in
+    let z = row-inside (a .x) (a .n) (a .w) (a .b) (omega arith) (omega arith) in
+    taken-row (a .n) (a .w) (a .x) (a .b) (a .cells .now) (a .masks .now) _ _ (omega arith) (omega arith) (omega arith) (c .before .before .before .before .merge .ensures (inl (omega (arith, z))))
+
+pub take-row-spec : {M : Type 1} → statement M
+take-row-spec =
+    tie.close
+    (tie.spec
+    mul-masks
+    slice-write-masks
+    add-source
+    mul-source
+    slice-read-source
+    mul-unit
+    add-merge
+    merge-requires
+    same-length
+    same-length-2
+    returns)

@@ -1,0 +1,79 @@
+-- `take_second` goes row by row. The loop's invariant: the rows below x are those of the second relation, and nothing else has changed (`Through`).
+-- The measure is the rows left. Assumes nothing.
+use mathlib.Core.Path.{_≡_, refl, sym, ap, _∙_}
+use Prim.Native.Nat.{ℕ, _+_, _*_, _-_, _≤_, _<_}
+use native.Mathlib.Omega.{arith}
+use borrow.Author.Needs.{needs}
+use lib.ListN.{length}
+use Rattle.grid.specs.Grid.{secondRows}
+use Rattle.grid.proofs.Grids.{unit-fits, row-inside, Through, through-none, through-all}
+use Rattle.grid.proofs.Turns.{taken-more}
+use Rattle.grid.proofs.algebra.take_second.Statement.{statement}
+use Rattle.grid.proofs.algebra.take_second.Tie as tie
+
+abbrev Inv-loop : tie.InvT-loop
+Inv-loop cells₀ masks₀ n w x₀ b₀ cells masks x b =
+    (x ≤ n) × (b ≡ x * w) × (length cells ≡ length cells₀) × (length masks ≡ length masks₀)
+    × Through n w x (secondRows n w cells₀ masks₀) cells₀ masks₀ cells masks
+
+abbrev μ-loop : tie.MeasureT-loop
+μ-loop cells₀ masks₀ n w x₀ b₀ cells masks x b = n - x
+
+loop-holds : tie.Need-loop-holds Inv-loop μ-loop
+loop-holds c = (omega arith, omega arith, refl, refl, through-none _ _ _ _ _)
+
+take-row-requires : tie.Need-take-row-requires Inv-loop μ-loop
+take-row-requires c κs = omega arith
+
+add-b : tie.Need-add-b Inv-loop μ-loop
+add-b c =
+    let a = c .before .before .before .before .before .before .before .before .before .before .before .args in
+    let l = c .before .before .before .before .before .before .before .before .loop in
+    omega (arith, unit-fits (a .n) (a .w) (omega arith) (omega arith), row-inside (l .x) (a .n) (a .w) (l .b) (omega arith) (l .inv .1))
+
+add-x : tie.Need-add-x Inv-loop μ-loop
+add-x c = omega arith
+
+loop-less : tie.Need-loop-less Inv-loop μ-loop
+loop-less c = omega arith
+
+loop-again : tie.Need-loop-again Inv-loop μ-loop
+loop-again c =
+    let a = c .before .before .before .before .before .before .before .before .before .before .before .args in
+    let l = c .before .before .before .before .before .before .before .before .loop in
+    let m = c .before .before .before .before .take-row in (
+      omega arith,
+      omega (arith, l .inv .1),
+      m .kept .0 ∙ l .inv .2,
+      m .kept .1 .0 ∙ l .inv .3,
+      taken-more (a .n) (a .w) (l .x) (l .b) (a .cells .now) (a .masks .now) (l .cells) (l .masks) _ _ (omega arith) (l .inv .1) (l .inv .4) (m .ensures),
+    )
+
+same-length : tie.Need-same-length Inv-loop μ-loop
+same-length c = search needs
+
+same-length-2 : tie.Need-same-length-2 Inv-loop μ-loop
+same-length-2 c = search needs
+
+returns : tie.Need-returns Inv-loop μ-loop
+returns c =
+    let a = c .before .before .before .before .args in
+    let l = c .before .loop in
+    let e : l .x ≡ a .n = omega arith in
+    through-all (a .n) (a .w) _ (a .cells .now) (a .masks .now) (l .cells) (l .masks) (omega arith) (rw e at (l .inv .4))
+
+pub take-second-spec : {M : Type 1} → statement M
+take-second-spec =
+    tie.close
+    (tie.spec
+    Inv-loop
+    μ-loop
+    loop-holds
+    take-row-requires
+    add-b
+    add-x
+    loop-less
+    loop-again
+    same-length
+    same-length-2
+    returns)

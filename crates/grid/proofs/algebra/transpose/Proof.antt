@@ -1,0 +1,85 @@
+-- `transpose` empties the second relation, turns row after row into it and takes it over. The loop's invariant: the rows below x are turned (`Turning`).
+-- The measure is the rows left. Assumes nothing.
+use mathlib.Core.Path.{_≡_, refl, sym, ap, _∙_}
+use Prim.Native.Nat.{ℕ, _+_, _*_, _-_, _≤_, _<_}
+use native.Mathlib.Omega.{arith}
+use borrow.Author.Needs.{needs}
+use lib.ListN.{length}
+use Rattle.k2.specs.PairSets.{transpose}
+use Rattle.grid.proofs.Turns.{Turning, turning-none, turning-more, turning-all, first-same}
+use Rattle.grid.proofs.algebra.transpose.Statement.{statement}
+use Rattle.grid.proofs.algebra.transpose.Tie as tie
+
+abbrev Inv-loop : tie.InvT-loop
+Inv-loop cells₀ masks₀ n w x₀ cells masks x =
+    (x ≤ n) × (length cells ≡ length cells₀) × (length masks ≡ length masks₀) × Turning n w x cells₀ masks₀ cells masks
+
+abbrev μ-loop : tie.MeasureT-loop
+μ-loop cells₀ masks₀ n w x₀ cells masks x = n - x
+
+start-second-requires : tie.Need-start-second-requires Inv-loop μ-loop
+start-second-requires c κs = omega arith
+
+loop-holds : tie.Need-loop-holds Inv-loop μ-loop
+loop-holds c =
+    let a = c .before .before .before .before .before .before .args in
+    let s = c .before .before .start-second in
+    (omega arith, refl, refl, turning-none (a .n) (a .w) (a .cells .now) _ _ (λ k h. refl) (s .ensures .1))
+
+-- what is emptied is as long as before
+long : (c : tie.After-start-second Inv-loop μ-loop) → length (c .start-second .last .0) ≡ length (c .before .before .before .before .args .masks .now)
+long c = c .start-second .kept .0
+
+turn-row-requires : tie.Need-turn-row-requires Inv-loop μ-loop
+turn-row-requires c κs = omega (arith, long (c .before .before .before .before .before .before))
+
+add-x : tie.Need-add-x Inv-loop μ-loop
+add-x c = omega arith
+
+loop-less : tie.Need-loop-less Inv-loop μ-loop
+loop-less c = omega arith
+
+loop-again : tie.Need-loop-again Inv-loop μ-loop
+loop-again c =
+    let a = c .before .before .before .before .before .before .before .before .before .before .before .before .before .before .before .args in
+    let l = c .before .before .before .before .before .before .before .before .loop in
+    let m = c .before .before .before .before .turn-row in (
+      omega arith,
+      m .kept .0 ∙ l .inv .1,
+      m .kept .1 .0 ∙ l .inv .2,
+      turning-more (a .n) (a .w) (a .cells .now) _ (l .x) (l .cells) (l .masks) _ _ (omega arith) (omega arith) (l .inv .3) (m .ensures),
+    )
+
+take-second-requires : tie.Need-take-second-requires Inv-loop μ-loop
+take-second-requires c κs = omega (arith, long (c .before .before .before .before .before .before))
+
+same-length : tie.Need-same-length Inv-loop μ-loop
+same-length c = c .before .before .before .before .take-second .kept .0 ∙ c .before .before .before .before .before .before .before .before .loop .inv .1
+
+same-length-2 : tie.Need-same-length-2 Inv-loop μ-loop
+same-length-2 c = c .before .before .before .before .take-second .kept .1 .0 ∙ c .before .before .before .before .before .before .before .before .loop .inv .2 ∙ long (c .before .before .before .before .before .before .before .before .before .before .before)
+
+returns : tie.Need-returns Inv-loop μ-loop
+returns c =
+    let a = c .before .before .before .before .before .before .before .before .before .before .before .before .before .before .before .args in
+    let l = c .before .before .before .before .before .before .before .before .loop in
+    let e : l .x ≡ a .n = omega arith in
+    c .before .before .before .before .take-second .ensures ∙ turning-all (a .n) (a .w) (a .cells .now) _ (l .cells) (l .masks) (rw e at (l .inv .3))
+    ∙ ap transpose (first-same (a .n) (a .w) (a .cells .now) (a .masks .now) _ (c .before .before .before .before .before .before .before .before .before .before .before .start-second .ensures .0))
+
+pub transpose-spec : {M : Type 1} → statement M
+transpose-spec =
+    tie.close
+    (tie.spec
+    Inv-loop
+    μ-loop
+    start-second-requires
+    loop-holds
+    turn-row-requires
+    add-x
+    loop-less
+    loop-again
+    take-second-requires
+    same-length
+    same-length-2
+    returns)

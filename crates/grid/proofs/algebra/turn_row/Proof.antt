@@ -1,0 +1,142 @@
+-- `turn_row` goes over the columns of row x. The loop's invariant: those below y are put in exchanged (`Turned`), and y is a column or past them all.
+-- The measure is the columns left. It rests on `turned-more`. Assumes nothing.
+use mathlib.Core.Path.{_≡_, refl, sym, ap, _∙_}
+use Prim.Native.Nat.{ℕ, _+_, _*_, _-_, _/_, _%_, _≤_, _<_}
+use native.Mathlib.Omega.{arith}
+use borrow.Author.Needs.{needs}
+use lib.ListN.{length, getD}
+use Rattle.k2.specs.DigitLaws.{one-shl}
+use Rattle.grid.specs.Grid.{firstRows}
+use Rattle.grid.specs.Steps.{onlyRow, Turned}
+use Rattle.grid.proofs.Grids.{rows-apart, unit-fits}
+use Rattle.grid.proofs.Products.{lowest-kept}
+use Rattle.grid.proofs.Turns.{turned-none, turned-more, turned-all}
+use Rattle.grid.proofs.algebra.turn_row.Statement.{statement}
+use Rattle.grid.proofs.algebra.turn_row.Tie as tie
+
+abbrev Inv-loop : tie.InvT-loop
+Inv-loop cells₀ masks₀ n w x unit b mask y₀ cells masks y =
+    (y ≤ w * 64) × (y < w * 64 → firstRows w cells₀ masks₀ x y ≡ 1) × (length cells ≡ length cells₀) × (length masks ≡ length masks₀)
+    × Turned n w (onlyRow x y (firstRows w cells₀ masks₀)) cells₀ masks₀ cells masks
+
+abbrev μ-loop : tie.MeasureT-loop
+μ-loop cells₀ masks₀ n w x unit b mask y₀ cells masks y = n - y
+
+mul-unit : tie.Need-mul-unit Inv-loop μ-loop
+mul-unit c = let a = c .before .before .args in omega (arith, unit-fits (a .n) (a .w) (omega arith) (omega arith))
+
+mul-b : tie.Need-mul-b Inv-loop μ-loop
+mul-b c =
+    let a = c .before .before .args in
+    omega (arith, unit-fits (a .n) (a .w) (omega arith) (omega arith), rows-apart (a .x) (a .n) (a .w) (omega arith))
+
+mul-mask : tie.Need-mul-mask Inv-loop μ-loop
+mul-mask c = omega arith
+
+slice-read-mask : tie.Need-slice-read-mask Inv-loop μ-loop
+slice-read-mask c = omega arith
+
+next-requires : tie.Need-next-requires Inv-loop μ-loop
+next-requires c κs =
+    let a = c .before .before .before .before .args in
+    (omega arith, omega (arith, rows-apart (a .x) (a .n) (a .w) (omega arith)), omega arith)
+
+loop-holds : tie.Need-loop-holds Inv-loop μ-loop
+loop-holds c =
+    let a = c .before .before .before .before .before .args in
+    let L = c .next .ensures in (
+      L .0,
+      λ h. unfold firstRows in (L .1 .hit h),
+      refl,
+      refl,
+      turned-none (a .n) (a .w) (a .x) (a .cells .now) (a .masks .now) (c .next .result) (unfold firstRows in (L .1 .gap)),
+    )
+
+add-put : tie.Need-add-put Inv-loop μ-loop
+add-put c = omega arith
+
+mul-put : tie.Need-mul-put Inv-loop μ-loop
+mul-put c =
+    let a = c .before .before .before .before .before .before .before .before .before .args in
+    omega (arith, unit-fits (a .n) (a .w) (omega arith) (omega arith), rows-apart (c .before .before .before .loop .y) (a .n) (a .w) (omega arith))
+
+add-put-2 : tie.Need-add-put-2 Inv-loop μ-loop
+add-put-2 c =
+    let a = c .before .before .before .before .before .before .before .before .before .args in
+    omega (arith, unit-fits (a .n) (a .w) (omega arith) (omega arith), rows-apart (c .before .before .before .loop .y) (a .n) (a .w) (omega arith))
+
+shl-put : tie.Need-shl-put Inv-loop μ-loop
+shl-put c = omega arith
+
+put-requires : tie.Need-put-requires Inv-loop μ-loop
+put-requires c κs =
+    let a = c .before .before .before .before .before .before .before .before .before .args in
+    (omega arith, omega arith, omega (arith, rows-apart (c .before .before .before .loop .y) (a .n) (a .w) (omega arith)))
+
+add-next : tie.Need-add-next Inv-loop μ-loop
+add-next c = omega arith
+
+next-requires-2 : tie.Need-next-requires-2 Inv-loop μ-loop
+next-requires-2 c κs =
+    let a = c .before .before .before .before .before .before .before .before .before .before .before .before .before .before .before .args in
+    let k : length (c .before .before .before .before .before .put .last .0) ≡ length (c .before .before .before .before .before .before .before .before .before .loop .cells) = c .before .before .before .before .before .put .kept .0 in
+    (omega arith, omega (arith, k, rows-apart (a .x) (a .n) (a .w) (omega arith)), omega arith)
+
+loop-less : tie.Need-loop-less Inv-loop μ-loop
+loop-less c = omega (arith, c .next2 .ensures .1 .low)
+
+loop-again : tie.Need-loop-again Inv-loop μ-loop
+loop-again c =
+    let a = c .before .before .before .before .before .before .before .before .before .before .before .before .before .before .before .before .args in
+    let l = c .before .before .before .before .before .before .before .before .before .before .loop in
+    let m = c .before .before .before .before .before .before .put in
+    let L = c .next2 .ensures in
+    let nl : a .n ≤ a .w * 64 = omega arith in
+    let xl : a .x < a .n = omega arith in
+    let yl : l .y < a .n = omega arith in
+    let s = rows-apart (l .y) (a .n) (a .w) yl in
+    let N = rw (one-shl (a .x % 64) (omega arith)) at (m .ensures (a .w) (omega arith)) in
+    let P = lowest-kept (a .n) (a .w) (a .x) (a .cells .now) (a .masks .now) nl xl _ (λ k h. N .below k (omega arith) ∙ l .inv .4 .words k h) (l .y + 1) (c .next2 .result) (L .0) (L .1) in (
+      L .0,
+      P .hit,
+      m .kept .0 ∙ l .inv .2,
+      m .kept .1 .0 ∙ l .inv .3,
+      turned-more (a .n) (a .w) (a .x) (a .cells .now) (a .masks .now) (l .y) (c .next2 .result) (l .cells) (l .masks) _ _ nl xl yl (l .inv .1 (omega arith)) P (l .inv .4) N,
+    )
+
+same-length : tie.Need-same-length Inv-loop μ-loop
+same-length c = search needs
+
+same-length-2 : tie.Need-same-length-2 Inv-loop μ-loop
+same-length-2 c = search needs
+
+returns : tie.Need-returns Inv-loop μ-loop
+returns c =
+    let a = c .before .before .before .before .before .before .before .args in
+    let l = c .before .loop in
+    turned-all (a .n) (a .w) (a .x) (a .cells .now) (a .masks .now) (l .y) (l .cells) (l .masks) (omega arith) (l .inv .4)
+
+pub turn-row-spec : {M : Type 1} → statement M
+turn-row-spec =
+    tie.close
+    (tie.spec
+    Inv-loop
+    μ-loop
+    mul-unit
+    mul-b
+    mul-mask
+    slice-read-mask
+    next-requires
+    loop-holds
+    add-put
+    mul-put
+    add-put-2
+    shl-put
+    put-requires
+    add-next
+    next-requires-2
+    loop-less
+    loop-again
+    same-length
+    same-length-2
+    returns)

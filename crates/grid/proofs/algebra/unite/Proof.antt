@@ -1,0 +1,107 @@
+-- `unite` merges row by row. The loop's invariant: the rows below x are united, and nothing else has changed (`Through`). The measure is the rows
+-- left. Assumes nothing.
+use Prim.Native.Nat.{ℕ, _<_, _≤_, _+_, _*_, _-_, max}
+use Rattle.grid.proofs.Grids.{unit-fits, row-inside, Through, through-none, through-merge, unite-row, through-all, within-union}
+use Rattle.grid.specs.Grid.{firstRows, secondRows}
+use Rattle.k2.specs.PairSets.{union}
+use borrow.Author.Needs.{needs}
+use lib.ListN.{length, getD}
+use mathlib.Core.Logic.{inl}
+use mathlib.Core.Path.{_≡_, refl, sym, ap, _∙_}
+use native.Mathlib.Omega.{arith}
+use Rattle.grid.proofs.algebra.unite.Statement.{statement}
+use Rattle.grid.proofs.algebra.unite.Tie as tie
+
+abbrev Inv-loop : tie.InvT-loop
+Inv-loop cells₀ masks₀ n w unit x₀ b₀ cells masks x b =
+    (x ≤ n) × (b ≡ x * w) × (length cells ≡ length cells₀) × (length masks ≡ length masks₀)
+    × Through n w x (union (firstRows w cells₀ masks₀) (secondRows n w cells₀ masks₀)) cells₀ masks₀ cells masks
+
+abbrev μ-loop : tie.MeasureT-loop
+μ-loop cells₀ masks₀ n w unit x₀ b₀ cells masks x b = n - x
+
+mul-unit : tie.Need-mul-unit Inv-loop μ-loop
+mul-unit c = omega (arith, unit-fits (c .before .before .args .n) (c .before .before .args .w) (omega arith) (omega arith))
+
+loop-holds : tie.Need-loop-holds Inv-loop μ-loop
+loop-holds c = (omega arith, omega arith, refl, refl, through-none _ _ _ _ _)
+
+add-source : tie.Need-add-source Inv-loop μ-loop
+add-source c = omega arith
+
+mul-source : tie.Need-mul-source Inv-loop μ-loop
+mul-source c = omega arith
+
+slice-read-source : tie.Need-slice-read-source Inv-loop μ-loop
+slice-read-source c = omega arith
+
+add-merge : tie.Need-add-merge Inv-loop μ-loop
+add-merge c =
+    let l = c .before .before .before .before .loop in
+    omega (arith, unit-fits (c .before .before .before .before .before .before .before .args .n) (c .before .before .before .before .before .before .before .args .w) (omega arith) (omega arith), row-inside (l .x) (c .before .before .before .before .before .before .before .args .n) (c .before .before .before .before .before .before .before .args .w) (l .b) (omega arith) (l .inv .1))
+
+merge-requires : tie.Need-merge-requires Inv-loop μ-loop
+merge-requires c κs =
+    let l = c .before .before .before .before .loop in
+    let z = row-inside (l .x) (c .before .before .before .before .before .before .before .args .n) (c .before .before .before .before .before .before .before .args .w) (l .b) (omega arith) (l .inv .1) in
+    (omega arith, omega arith, omega (arith, z), omega (arith, z))
+
+add-b : tie.Need-add-b Inv-loop μ-loop
+add-b c =
+    let l = c .before .before .before .before .before .before .before .before .before .loop in
+    omega (arith, unit-fits (c .before .before .before .before .before .before .before .before .before .before .before .before .args .n) (c .before .before .before .before .before .before .before .before .before .before .before .before .args .w) (omega arith) (omega arith), row-inside (l .x) (c .before .before .before .before .before .before .before .before .before .before .before .before .args .n) (c .before .before .before .before .before .before .before .before .before .before .before .before .args .w) (l .b) (omega arith) (l .inv .1))
+
+add-x : tie.Need-add-x Inv-loop μ-loop
+add-x c = omega arith
+
+loop-less : tie.Need-loop-less Inv-loop μ-loop
+loop-less c = omega arith
+
+loop-again : tie.Need-loop-again Inv-loop μ-loop
+loop-again c =
+    let a = c .before .before .before .before .before .before .before .before .before .before .before .before .args in
+    let l = c .before .before .before .before .before .before .before .before .before .loop in
+    let m = c .before .before .before .before .merge in
+    let z = row-inside (l .x) (a .n) (a .w) (l .b) (omega arith) (l .inv .1) in
+    let T = l .inv .4 in (
+      omega arith,
+      omega (arith, l .inv .1),
+      m .kept .0 ∙ l .inv .2,
+      m .kept .1 .0 ∙ l .inv .3,
+      through-merge (a .n) (a .w) (l .x) (l .b) _ (a .cells .now) (a .masks .now) (l .cells) (l .masks) (omega arith) (l .inv .1) T _ _ _ (m .ensures (inl (omega (arith, z))))
+          (λ y h. unfold union in (ap (max (firstRows (a .w) (a .cells .now) (a .masks .now) (l .x) y)) (unite-row (a .n) (a .w) (l .x) (l .b) _ (a .cells .now) (a .masks .now) (l .cells) (l .masks) (omega arith) (l .inv .1) T y h))),
+    )
+
+same-length : tie.Need-same-length Inv-loop μ-loop
+same-length c = search needs
+
+same-length-2 : tie.Need-same-length-2 Inv-loop μ-loop
+same-length-2 c = search needs
+
+returns : tie.Need-returns Inv-loop μ-loop
+returns c =
+    let a = c .before .before .before .before .args in
+    let l = c .before .loop in
+    let e : l .x ≡ a .n = omega arith in
+    through-all (a .n) (a .w) _ (a .cells .now) (a .masks .now) (l .cells) (l .masks) (omega arith) (rw e at (l .inv .4)) ∙ within-union (a .n) _ _
+
+pub unite-spec : {M : Type 1} → statement M
+unite-spec =
+    tie.close
+    (tie.spec
+    Inv-loop
+    μ-loop
+    mul-unit
+    loop-holds
+    add-source
+    mul-source
+    slice-read-source
+    add-merge
+    merge-requires
+    add-b
+    add-x
+    loop-less
+    loop-again
+    same-length
+    same-length-2
+    returns)

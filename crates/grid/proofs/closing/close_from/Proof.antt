@@ -1,0 +1,86 @@
+-- `close_from` marks x as seen, beyond the records (`half-beyond`), and searches on from it. Assumes nothing.
+use mathlib.Core.Path.{_≡_, refl, sym, ap, _∙_}
+use Prim.Native.Nat.{ℕ, _+_}
+use native.Mathlib.Omega.{arith}
+use borrow.Author.Needs.{needs}
+use lib.ListN.{length, set, length-set}
+use Rattle.k2.specs.Bits.{bitAt}
+use Rattle.grid.proofs.Closures.{half-beyond, put-keeps}
+use Rattle.grid.proofs.closing.close_from.Statement.{statement}
+use Rattle.grid.proofs.closing.close_from.Tie as tie
+
+add-bit : tie.Need-add-bit
+add-bit c = search needs
+
+bit-requires : tie.Need-bit-requires
+bit-requires c κs = search needs
+
+same-length : tie.Need-same-length
+same-length c = search needs
+
+returns : tie.Need-returns
+returns c = search needs
+
+add-set-bit : tie.Need-add-set-bit
+add-set-bit c = search needs
+
+set-bit-requires : tie.Need-set-bit-requires
+set-bit-requires c κs = search needs
+
+cast-stack : tie.Need-cast-stack
+cast-stack c = search needs
+
+slice-write-stack : tie.Need-slice-write-stack
+slice-write-stack c = search needs
+
+search-on-requires : tie.Need-search-on-requires
+search-on-requires c κs =
+    let a = c .before .before .before .before .before .before .before .before .before .before .before .before .before .before .before .args in
+    let p = c .before .before .before .before .before .before .before .before .before .before .before .before .before .before .before .pre in
+    let s = c .before .before .before .before .before .before .set-bit in
+    let q : length (s .last .0) ≡ length (a .marks .now) = s .kept .0 in
+    let r : length (set (a .stack .now) 0 (a .x)) ≡ length (a .stack .now) = length-set (a .stack .now) 0 (a .x) in
+    (p .0, p .1, p .2, p .3, p .4, q ∙ p .5, r ∙ p .6)
+
+same-length-2 : tie.Need-same-length-2
+same-length-2 c = search needs
+
+same-length-3 : tie.Need-same-length-3
+same-length-3 c = search needs
+
+same-length-4 : tie.Need-same-length-4
+same-length-4 c = search needs
+
+same-length-5 : tie.Need-same-length-5
+same-length-5 c =
+    let a = c .before .before .before .before .before .before .before .before .before .before .before .before .before .before .before .before .before .before .before .before .before .before .before .before .args in
+    c .before .before .before .before .before .before .before .before .search-on .kept .1 .1 .1 .1 .1 .0 ∙ length-set (a .stack .now) 0 (a .x)
+
+returns-2 : tie.Need-returns-2
+returns-2 c =
+    let a = c .before .before .before .before .before .before .before .before .before .before .before .before .before .before .before .before .before .before .before .before .before .before .before .before .args in
+    let s = c .before .before .before .before .before .before .before .before .before .before .before .before .before .before .before .set-bit .ensures in
+    let m = c .before .before .before .before .before .before .before .before .search-on .ensures in
+    let l = c .before .before .before .before .before .before .before .before .before .before .before .before .before .before .before .before .before .before .before .before .before .before .before .before .pre .0 in (
+      λ b A H. m .0 b A (half-beyond (a .n) b (bitAt (a .marks .now)) _ (1024 + a .x) _ (omega (arith, l)) s H),
+      λ u h. m .1 u (ap (λ (f : ℕ → ℕ). f u) s ∙ put-keeps (bitAt (a .marks .now)) (1024 + a .x) u h),
+    )
+
+pub close-from-spec : {M : Type 1} → statement M
+close-from-spec =
+    tie.close
+    (tie.spec
+    add-bit
+    bit-requires
+    same-length
+    returns
+    add-set-bit
+    set-bit-requires
+    cast-stack
+    slice-write-stack
+    search-on-requires
+    same-length-2
+    same-length-3
+    same-length-4
+    same-length-5
+    returns-2)

@@ -1,0 +1,66 @@
+-- `close_once` closes the row and notes it (`half-more`). Assumes nothing.
+use mathlib.Core.Path.{_≡_, refl, sym, ap, ap₂, subst, _∙_}
+use Prim.Native.Nat.{ℕ, _+_, _*_, _-_, _/_, _%_, _^_, _≤_, _<_, min, max}
+use native.Mathlib.Omega.{arith}
+use borrow.Author.Needs.{needs}
+use Rattle.k2.specs.Bits.{bitAt}
+use Rattle.k2.specs.BitLaws.{bit-lt}
+use Rattle.bits.specs.BitSets.{put}
+use Rattle.bits.specs.BitSetLaws.{put-at}
+use Rattle.k2.specs.PairSets.{Cells}
+use Rattle.grid.proofs.Closures.{half-next, put-keeps}
+use Rattle.grid.proofs.closing.close_once.Statement.{statement}
+use Rattle.grid.proofs.closing.close_once.Tie as tie
+
+returns : tie.Need-returns
+returns c = (λ a A H. H, λ u h. h, λ h. absurd (omega arith))
+
+bit-requires : tie.Need-bit-requires
+bit-requires c κs = search needs
+
+same-length : tie.Need-same-length
+same-length c = search needs
+
+returns-2 : tie.Need-returns-2
+returns-2 c = (λ a A H. H, λ u h. h, λ h. sym (c .before .bit .ensures) ∙ c .if2 .taken)
+
+close-row-requires : tie.Need-close-row-requires
+close-row-requires c κs = search needs
+
+set-bit-requires : tie.Need-set-bit-requires
+set-bit-requires c κs = search needs
+
+same-length-2 : tie.Need-same-length-2
+same-length-2 c = search needs
+
+same-length-3 : tie.Need-same-length-3
+same-length-3 c = search needs
+
+same-length-4 : tie.Need-same-length-4
+same-length-4 c = search needs
+
+returns-3 : tie.Need-returns-3
+returns-3 c =
+    let a = c .before .before .before .before .before .before .before .before .before .before .before .before .before .before .before .before .before .before .before .args in
+    let r = c .before .before .before .before .before .before .before .before .close-row .ensures in
+    let s = c .before .before .set-bit .ensures in
+    let none : bitAt (a .closed .now) (a .x) ≡ 0 = omega (arith, c .before .before .before .before .before .before .before .before .before .before .before .before .before .bit .ensures, c .before .before .before .before .before .before .before .before .before .before .before .before .if2 .left, bit-lt (a .closed .now) (a .x)) in (
+      λ b A H. half-next (a .n) b (bitAt (a .closed .now)) _ (a .x) _ _ s (r .0) (r .1 b A H none) H,
+      λ u h. ap (λ (f : ℕ → ℕ). f u) s ∙ put-keeps (bitAt (a .closed .now)) (a .x) u h,
+      λ h. ap (λ (f : ℕ → ℕ). f (a .x)) s ∙ put-at (a .x) 1 (bitAt (a .closed .now)),
+    )
+
+pub close-once-spec : {M : Type 1} → statement M
+close-once-spec =
+    tie.close
+    (tie.spec
+    returns
+    bit-requires
+    same-length
+    returns-2
+    close-row-requires
+    set-bit-requires
+    same-length-2
+    same-length-3
+    same-length-4
+    returns-3)

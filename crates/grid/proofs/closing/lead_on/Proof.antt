@@ -1,0 +1,65 @@
+-- `lead_on` merges row z into row x, unless they are one. Assumes nothing.
+use mathlib.Core.Path.{_≡_, refl, sym, ap, ap₂, subst, _∙_}
+use mathlib.Core.Logic.{_⊎_, inl, inr, ⊎-elim}
+use Prim.Native.Nat.{ℕ, _+_, _*_, _-_, _/_, _%_, _^_, _≤_, _<_, min, max}
+use native.Mathlib.Omega.{arith}
+use borrow.Author.Needs.{needs}
+use lib.ListN.{getD}
+use Rattle.grid.specs.Grid.{rowOf, firstRows}
+use Rattle.grid.specs.Steps.{Merged}
+use Rattle.grid.proofs.Grids.{rows-apart, unit-fits}
+use Rattle.grid.proofs.Closures.{merged-self, rows-other}
+use Rattle.grid.proofs.closing.lead_on.Statement.{statement}
+use Rattle.grid.proofs.closing.lead_on.Tie as tie
+
+returns : tie.Need-returns
+returns c =
+    let a = c .before .before .before .args in
+    subst (λ (k : ℕ). Merged (a .w) (a .x) (a .x * a .w) (firstRows (a .w) (a .cells .now) (a .masks .now) k) (a .cells .now) (a .masks .now) (a .cells .now) (a .masks .now))
+    (c .if1 .taken) (merged-self (a .w) (a .x) (a .cells .now) (a .masks .now))
+
+mul-source : tie.Need-mul-source
+mul-source c = search needs
+
+slice-read-source : tie.Need-slice-read-source
+slice-read-source c = search needs
+
+mul-merge : tie.Need-mul-merge
+mul-merge c =
+    let a = c .before .before .before .before .before .before .args in
+    omega (arith, unit-fits (a .n) (a .w) (omega arith) (omega arith), rows-apart (a .x) (a .n) (a .w) (omega arith))
+
+mul-merge-2 : tie.Need-mul-merge-2
+mul-merge-2 c =
+    let a = c .before .before .before .before .before .before .args in
+    omega (arith, unit-fits (a .n) (a .w) (omega arith) (omega arith), rows-apart (a .z) (a .n) (a .w) (omega arith))
+
+merge-requires : tie.Need-merge-requires
+merge-requires c κs =
+    let a = c .before .before .before .before .before .before .args in
+    (omega arith, omega arith, omega (arith, rows-apart (a .x) (a .n) (a .w) (omega arith)), omega (arith, rows-apart (a .z) (a .n) (a .w) (omega arith)))
+
+same-length : tie.Need-same-length
+same-length c = search needs
+
+same-length-2 : tie.Need-same-length-2
+same-length-2 c = search needs
+
+returns-2 : tie.Need-returns-2
+returns-2 c =
+    let a = c .before .before .before .before .before .before .before .before .before .before .before .args in
+    unfold firstRows in (c .before .before .before .before .merge .ensures (rows-other (a .x) (a .z) (a .w) (c .before .before .before .before .before .before .before .before .if1 .left)))
+
+pub lead-on-spec : {M : Type 1} → statement M
+lead-on-spec =
+    tie.close
+    (tie.spec
+    returns
+    mul-source
+    slice-read-source
+    mul-merge
+    mul-merge-2
+    merge-requires
+    same-length
+    same-length-2
+    returns-2)

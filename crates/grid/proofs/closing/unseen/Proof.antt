@@ -1,0 +1,93 @@
+-- `unseen` goes over the words in the mask, each read within its slice; that it ends is all that is claimed, and the bound. The measure is the words
+-- left. Assumes nothing.
+use mathlib.Core.Path.{_≡_, refl, sym, ap, _∙_}
+use Prim.Native.Nat.{ℕ, _+_, _*_, _-_, _≤_, _<_}
+use native.Mathlib.Omega.{arith}
+use borrow.Author.Needs.{needs}
+use Rattle.grid.proofs.Columns.{lowest-some}
+use Rattle.grid.proofs.closing.unseen.Statement.{statement}
+use Rattle.grid.proofs.closing.unseen.Tie as tie
+
+abbrev Inv-loop : tie.InvT-loop
+Inv-loop cells mask n w b marks words c₀ c = 0 ≤ c
+
+abbrev μ-loop : tie.MeasureT-loop
+μ-loop cells mask n w b marks words c₀ c = w - c
+
+inside : (c : tie.After-lowest2 Inv-loop μ-loop) → c .lowest2 .result < 64
+inside c = lowest-some _ _ (omega arith) (c .before .if1 .taken) (c .lowest2 .ensures)
+
+lowest-requires : tie.Need-lowest-requires Inv-loop μ-loop
+lowest-requires c κs = tt
+
+loop-holds : tie.Need-loop-holds Inv-loop μ-loop
+loop-holds c = omega arith
+
+add-cut : tie.Need-add-cut Inv-loop μ-loop
+add-cut c = omega arith
+
+mul-cut : tie.Need-mul-cut Inv-loop μ-loop
+mul-cut c = omega arith
+
+shared-slice-read-cut : tie.Need-shared-slice-read-cut Inv-loop μ-loop
+shared-slice-read-cut c = omega arith
+
+add-cut-2 : tie.Need-add-cut-2 Inv-loop μ-loop
+add-cut-2 c = omega arith
+
+mul-cut-2 : tie.Need-mul-cut-2 Inv-loop μ-loop
+mul-cut-2 c = omega arith
+
+shared-slice-read-cut-2 : tie.Need-shared-slice-read-cut-2 Inv-loop μ-loop
+shared-slice-read-cut-2 c = omega arith
+
+cut-requires : tie.Need-cut-requires Inv-loop μ-loop
+cut-requires c κs = omega arith
+
+mul-result : tie.Need-mul-result Inv-loop μ-loop
+mul-result c = omega arith
+
+lowest-requires-2 : tie.Need-lowest-requires-2 Inv-loop μ-loop
+lowest-requires-2 c κs = tt
+
+add-result : tie.Need-add-result Inv-loop μ-loop
+add-result c = omega (arith, inside c)
+
+returns : tie.Need-returns Inv-loop μ-loop
+returns c = omega (arith, inside c)
+
+above-requires : tie.Need-above-requires Inv-loop μ-loop
+above-requires c κs = omega arith
+
+loop-less : tie.Need-loop-less Inv-loop μ-loop
+loop-less c = omega (arith, c .above .ensures .low)
+
+loop-again : tie.Need-loop-again Inv-loop μ-loop
+loop-again c = omega arith
+
+returns-2 : tie.Need-returns-2 Inv-loop μ-loop
+returns-2 c = omega arith
+
+pub unseen-spec : {M : Type 1} → statement M
+unseen-spec =
+    tie.close
+    (tie.spec
+    Inv-loop
+    μ-loop
+    lowest-requires
+    loop-holds
+    add-cut
+    mul-cut
+    shared-slice-read-cut
+    add-cut-2
+    mul-cut-2
+    shared-slice-read-cut-2
+    cut-requires
+    mul-result
+    lowest-requires-2
+    add-result
+    returns
+    above-requires
+    loop-less
+    loop-again
+    returns-2)

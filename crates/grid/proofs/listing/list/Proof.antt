@@ -1,0 +1,79 @@
+-- `list` goes row by row. The loop's invariant: the pairs of the rows below x are written, and t is their number. The measure is the rows left. It
+-- rests on `rows-next`. Assumes nothing.
+use mathlib.Core.Path.{_≡_, refl, sym, ap, _∙_}
+use Prim.Native.Nat.{_*_, _-_, _≤_, _<_}
+use native.Mathlib.Omega.{arith}
+use borrow.Author.Needs.{needs}
+use lib.ListN.{length}
+use Rattle.k2.specs.PairSets.{Cells, rowsPairs}
+use Rattle.grid.specs.Grid.{first}
+use Rattle.grid.specs.Steps.{Grown}
+use Rattle.grid.proofs.Lists.{rows-none, rows-next, rows-all, grown-none, grown-more, grown-to, grown-all}
+use Rattle.grid.proofs.listing.list.Statement.{statement}
+use Rattle.grid.proofs.listing.list.Tie as tie
+
+abbrev Inv-loop : tie.InvT-loop
+Inv-loop cells masks n w out₀ t₀ x₀ out t x =
+    (x ≤ n) × (t ≤ x * 1024) × (length out ≡ length out₀) × Grown 0 t (rowsPairs (first n w cells masks) n x) out₀ out
+
+abbrev μ-loop : tie.MeasureT-loop
+μ-loop cells masks n w out₀ t₀ x₀ out t x = n - x
+
+loop-holds : tie.Need-loop-holds Inv-loop μ-loop
+loop-holds c =
+    let a = c .before .before .before .args in
+    (omega arith, omega arith, refl, grown-none 0 _ (a .out .now) (rows-none (first (a .n) (a .w) (a .cells .now) (a .masks .now)) (a .n)))
+
+mul-list-row : tie.Need-mul-list-row Inv-loop μ-loop
+mul-list-row c = omega arith
+
+shared-slice-read-list-row : tie.Need-shared-slice-read-list-row Inv-loop μ-loop
+shared-slice-read-list-row c = omega arith
+
+list-row-requires : tie.Need-list-row-requires Inv-loop μ-loop
+list-row-requires c κs = omega arith
+
+add-x : tie.Need-add-x Inv-loop μ-loop
+add-x c = omega arith
+
+loop-less : tie.Need-loop-less Inv-loop μ-loop
+loop-less c = omega arith
+
+loop-again : tie.Need-loop-again Inv-loop μ-loop
+loop-again c =
+    let a = c .before .before .before .before .before .before .before .before .before .before .args in
+    let l = c .before .before .before .before .before .before .loop in
+    let R = c .before .before .list-row in (
+      omega arith,
+      omega (arith, l .inv .1, R .ensures .0),
+      R .kept .1 .1 .1 .1 .1 .0 ∙ l .inv .2,
+      grown-more 0 (l .t) (R .result) _ _ _ (a .out .now) (l .out) _ (l .inv .2) (l .inv .3) (R .ensures .1)
+          (rows-next (a .n) (a .w) (l .x) (a .cells .now) (a .masks .now) (omega arith)),
+    )
+
+same-length : tie.Need-same-length Inv-loop μ-loop
+same-length c = search needs
+
+returns : tie.Need-returns Inv-loop μ-loop
+returns c =
+    let a = c .before .before .before .before .before .args in
+    let l = c .before .loop in
+    let F : Cells = first (a .n) (a .w) (a .cells .now) (a .masks .now) in
+    grown-all (l .t) _ (a .out .now) (l .out)
+    (grown-to 0 (l .t) _ _ (a .out .now) (l .out) (rows-all (a .n) (l .x) F (omega arith)) (l .inv .3))
+
+pub list-spec : {M : Type 1} → statement M
+list-spec =
+    tie.close
+    (tie.spec
+    Inv-loop
+    μ-loop
+    loop-holds
+    mul-list-row
+    shared-slice-read-list-row
+    list-row-requires
+    add-x
+    loop-less
+    loop-again
+    same-length
+    returns)

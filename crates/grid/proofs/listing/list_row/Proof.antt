@@ -1,0 +1,130 @@
+-- `list_row` goes over the words in the mask. The loop's invariant: c is one of them or past them all, and the columns of the words before it are
+-- written. The measure is the words left. It rests on `cut-word` and `cut-gap`. Assumes nothing.
+use mathlib.Core.Path.{_≡_, refl, sym, ap, _∙_}
+use Prim.Native.Nat.{ℕ, _+_, _-_, _*_, _≤_, _<_, min}
+use native.Mathlib.Omega.{arith}
+use borrow.Author.Needs.{needs}
+use lib.ListN.{length}
+use Rattle.k2.specs.Bits.{digit}
+use Rattle.grid.specs.Grid.{rowOf}
+use Rattle.grid.specs.Steps.{cutRow, columns, Grown}
+use Rattle.grid.proofs.Grids.{rows-apart, unit-fits}
+use Rattle.grid.proofs.Lists.{columns-none, columns-gap, cut-gap, cut-word, cut-all, grown-none, grown-more, grown-to}
+use Rattle.grid.proofs.listing.list_row.Statement.{statement}
+use Rattle.grid.proofs.listing.list_row.Tie as tie
+
+abbrev Inv-loop : tie.InvT-loop
+Inv-loop cells mask n w x out₀ t words b s₀ c₀ out s c =
+    (c < 64 → digit mask c ≡ 1) × (s ≤ t + min c w * 64) × (length out ≡ length out₀)
+    × Grown t s (columns (cutRow n (rowOf cells (x * w) mask)) (x * 1024) (c * 64)) out₀ out
+
+abbrev μ-loop : tie.MeasureT-loop
+μ-loop cells mask n w x out₀ t words b s₀ c₀ out s c = w - c
+
+mul-b : tie.Need-mul-b Inv-loop μ-loop
+mul-b c =
+    let a = c .before .before .args in
+    omega (arith, unit-fits (a .n) (a .w) (omega arith) (omega arith), rows-apart (a .x) (a .n) (a .w) (omega arith))
+
+lowest-requires : tie.Need-lowest-requires Inv-loop μ-loop
+lowest-requires c κs = tt
+
+loop-holds : tie.Need-loop-holds Inv-loop μ-loop
+loop-holds c =
+    let a = c .before .before .before .args in
+    let L = c .lowest .ensures in
+    let k = c .lowest .result in
+    let f : ℕ → ℕ = cutRow (a .n) (rowOf (a .cells .now) (a .x * a .w) (a .mask)) in (
+      L .hit,
+      omega arith,
+      refl,
+      grown-none (a .t) _ (a .out .now)
+          (columns-gap f (a .x * 1024) 0 (k * 64) (omega arith) (cut-gap (a .n) (a .w) (a .x * a .w) (a .mask) (a .x) (a .cells .now) 0 k (L .gap))
+          ∙ columns-none f (a .x * 1024)),
+    )
+
+add-cut : tie.Need-add-cut Inv-loop μ-loop
+add-cut c =
+    let a = c .before .before .before .before .before .args in
+    omega (arith, unit-fits (a .n) (a .w) (omega arith) (omega arith), rows-apart (a .x) (a .n) (a .w) (omega arith))
+
+mul-cut : tie.Need-mul-cut Inv-loop μ-loop
+mul-cut c = let a = c .before .before .before .before .before .args in omega (arith, rows-apart (a .x) (a .n) (a .w) (omega arith))
+
+shared-slice-read-cut : tie.Need-shared-slice-read-cut Inv-loop μ-loop
+shared-slice-read-cut c = let a = c .before .before .before .before .before .before .args in omega (arith, rows-apart (a .x) (a .n) (a .w) (omega arith))
+
+cut-requires : tie.Need-cut-requires Inv-loop μ-loop
+cut-requires c κs = omega arith
+
+mul-list-word : tie.Need-mul-list-word Inv-loop μ-loop
+mul-list-word c = omega arith
+
+mul-list-word-2 : tie.Need-mul-list-word-2 Inv-loop μ-loop
+mul-list-word-2 c = omega arith
+
+add-list-word : tie.Need-add-list-word Inv-loop μ-loop
+add-list-word c = omega arith
+
+list-word-requires : tie.Need-list-word-requires Inv-loop μ-loop
+list-word-requires c κs = let i = c .before .before .before .before .loop .inv .1 in (omega arith, omega (arith, i))
+
+above-requires : tie.Need-above-requires Inv-loop μ-loop
+above-requires c κs = omega arith
+
+loop-less : tie.Need-loop-less Inv-loop μ-loop
+loop-less c = omega (arith, c .above .ensures .low)
+
+loop-again : tie.Need-loop-again Inv-loop μ-loop
+loop-again c =
+    let a = c .before .before .before .before .before .before .before .before .before .before .before .before .args in
+    let l = c .before .before .before .before .before .before .before .before .loop in
+    let L = c .above .ensures in
+    let k = c .above .result in
+    let W = c .before .before .before .list-word in
+    let f : ℕ → ℕ = cutRow (a .n) (rowOf (a .cells .now) (a .x * a .w) (a .mask)) in
+    let cl : l .c < a .w = omega arith in
+    let at : (l .c + 1) * 64 ≡ l .c * 64 + 64 = omega arith in (
+      L .hit,
+      omega (arith, L .low, l .inv .1, W .ensures .0),
+      W .kept .1 .1 .0 ∙ l .inv .2,
+      grown-more (a .t) (l .s) (W .result) _ _ _ (a .out .now) (l .out) _ (l .inv .2) (l .inv .3) (W .ensures .1)
+          (columns-gap f (a .x * 1024) ((l .c + 1) * 64) (k * 64) (omega (arith, L .low)) (cut-gap (a .n) (a .w) (a .x * a .w) (a .mask) (a .x) (a .cells .now) (l .c + 1) k (L .gap))
+          ∙ ap (columns f (a .x * 1024)) at
+          ∙ cut-word (a .n) (a .w) (a .x * a .w) (a .mask) (a .x) (a .cells .now) (l .c) (c .before .before .before .before .before .cut .result) (l .inv .0 (omega arith)) (c .before .before .before .before .before .cut .ensures) (a .x * 1024)),
+    )
+
+same-length : tie.Need-same-length Inv-loop μ-loop
+same-length c = search needs
+
+returns : tie.Need-returns Inv-loop μ-loop
+returns c =
+    let a = c .before .before .before .before .before .args in
+    let l = c .before .loop in (
+      omega (arith, l .inv .1),
+      grown-to (a .t) (l .s) _ _ (a .out .now) (l .out)
+          (cut-all (a .n) (a .w) (a .x * a .w) (a .mask) (a .x) (a .cells .now) (l .c) (a .x * 1024) (omega arith)) (l .inv .3),
+    )
+
+pub list-row-spec : {M : Type 1} → statement M
+list-row-spec =
+    tie.close
+    (tie.spec
+    Inv-loop
+    μ-loop
+    mul-b
+    lowest-requires
+    loop-holds
+    add-cut
+    mul-cut
+    shared-slice-read-cut
+    cut-requires
+    mul-list-word
+    mul-list-word-2
+    add-list-word
+    list-word-requires
+    above-requires
+    loop-less
+    loop-again
+    same-length
+    returns)

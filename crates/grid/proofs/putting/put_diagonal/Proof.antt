@@ -1,0 +1,94 @@
+-- `put_diagonal` goes record by record. The loop's invariant: the records below x are joined to themselves. The measure is the records left.
+-- Assumes nothing.
+use Prim.Native.Nat.{ℕ, _<_, _≤_, _+_, _-_}
+use Rattle.grid.proofs.Pairs.{put-more, union-empty, diagonal-none, diagonal-more, diagonal-skip, within-twice}
+use Rattle.grid.specs.Grid.{first, within}
+use Rattle.grid.specs.Steps.{onePair}
+use Rattle.k2.specs.BitLaws.{bit-lt}
+use Rattle.k2.specs.Bits.{bitAt}
+use Rattle.k2.specs.PairSets.{Cells, union, diagonal}
+use borrow.Author.Needs.{needs}
+use lib.ListN.{length}
+use mathlib.Core.Logic.{⊎-elim}
+use mathlib.Core.Path.{_≡_, refl, sym, ap, _∙_}
+use native.Mathlib.Omega.{arith}
+use Rattle.grid.proofs.putting.put_diagonal.Statement.{statement}
+use Rattle.grid.proofs.putting.put_diagonal.Tie as tie
+
+abbrev Inv-loop : tie.InvT-loop
+Inv-loop used cells₀ masks₀ n w x₀ cells masks x =
+    (x ≤ n) × (length cells ≡ length cells₀) × (length masks ≡ length masks₀)
+    × (first n w cells masks ≡ union (first n w cells₀ masks₀) (within n (within x (diagonal (bitAt used)))))
+
+abbrev μ-loop : tie.MeasureT-loop
+μ-loop used cells₀ masks₀ n w x₀ cells masks x = n - x
+
+loop-holds : tie.Need-loop-holds Inv-loop μ-loop
+loop-holds c =
+    let a = c .before .before .before .args in
+    (omega arith, refl, refl, union-empty (a .n) _ _ (diagonal-none (bitAt (a .used .now))))
+
+bit-requires : tie.Need-bit-requires Inv-loop μ-loop
+bit-requires c κs = tt
+
+put-pair-requires : tie.Need-put-pair-requires Inv-loop μ-loop
+put-pair-requires c κs = omega arith
+
+add-x : tie.Need-add-x Inv-loop μ-loop
+add-x c = omega arith
+
+loop-less : tie.Need-loop-less Inv-loop μ-loop
+loop-less c = omega arith
+
+loop-again : tie.Need-loop-again Inv-loop μ-loop
+loop-again c =
+    let a = c .before .before .before .before .before .before .before .args in
+    let l = c .before .before .before .loop in
+    let f = bitAt (a .used .now) in
+    let r = c .before .bit in
+    let A : Cells = first (a .n) (a .w) (a .cells .now) (a .masks .now) in
+    ⊎-elim
+    (λ v. (
+      omega arith,
+      rw (v .8) (v .3 .kept .0 ∙ l .inv .1),
+      rw (v .9) (v .3 .kept .1 .0 ∙ l .inv .2),
+      rw (v .8, v .9) (v .3 .ensures ∙ ap (λ (s : Cells). union s (within (a .n) (onePair (l .x) (l .x)))) (l .inv .3) ∙ put-more (a .n) A _ _
+          ∙ ap (λ (s : Cells). union A (within (a .n) s)) (diagonal-more f (l .x) (sym (r .ensures) ∙ v .0 .taken))),
+    ))
+    (λ v. (
+      omega arith,
+      rw (v .1) (l .inv .1),
+      rw (v .2) (l .inv .2),
+      rw (v .1, v .2) (l .inv .3 ∙ ap (λ (s : Cells). union A (within (a .n) s)) (diagonal-skip f (l .x) (omega (arith, r .ensures, v .0 .left, bit-lt (a .used .now) (l .x))))),
+    ))
+    (c .if1 .came)
+
+same-length : tie.Need-same-length Inv-loop μ-loop
+same-length c = search needs
+
+same-length-2 : tie.Need-same-length-2 Inv-loop μ-loop
+same-length-2 c = search needs
+
+returns : tie.Need-returns Inv-loop μ-loop
+returns c =
+    let a = c .before .before .before .before .before .args in
+    let l = c .before .loop in
+    let e : l .x ≡ a .n = omega arith in
+    l .inv .3 ∙ ap (λ (k : ℕ). union (first (a .n) (a .w) (a .cells .now) (a .masks .now)) (within (a .n) (within k (diagonal (bitAt (a .used .now)))))) e
+    ∙ ap (union (first (a .n) (a .w) (a .cells .now) (a .masks .now))) (within-twice (a .n) (diagonal (bitAt (a .used .now))))
+
+pub put-diagonal-spec : {M : Type 1} → statement M
+put-diagonal-spec =
+    tie.close
+    (tie.spec
+    Inv-loop
+    μ-loop
+    loop-holds
+    bit-requires
+    put-pair-requires
+    add-x
+    loop-less
+    loop-again
+    same-length
+    same-length-2
+    returns)

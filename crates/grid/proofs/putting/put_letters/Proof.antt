@@ -1,0 +1,88 @@
+-- `put_letters` goes over the words. The loop's invariant: the pairs of the first i words are in. The measure is the words left. It rests on
+-- `put-more` and `crossed-next`. Assumes nothing.
+use mathlib.Core.Path.{_≡_, refl, sym, ap, _∙_}
+use mathlib.Core.List.{[], _∷_}
+use Prim.Native.Nat.{_≤_, _<_, _-_}
+use native.Mathlib.Omega.{arith}
+use borrow.Author.Needs.{needs}
+use lib.ListN.{length, getD, take}
+use Rattle.k2.specs.PairSets.{Cells, union}
+use Rattle.rows.specs.Rows.{crossedWords}
+use Rattle.grid.specs.Grid.{first, within}
+use Rattle.grid.proofs.Pairs.{union-empty, put-more, crossed-start, crossed-next, crossed-all}
+use Rattle.grid.proofs.putting.put_letters.Statement.{statement}
+use Rattle.grid.proofs.putting.put_letters.Tie as tie
+
+abbrev Inv-loop : tie.InvT-loop
+Inv-loop words forward against cells₀ masks₀ n w i₀ cells masks i =
+    (i ≤ length words) × (length cells ≡ length cells₀) × (length masks ≡ length masks₀)
+    × (first n w cells masks ≡ union (first n w cells₀ masks₀) (within n (crossedWords (take i words) forward against)))
+
+abbrev μ-loop : tie.MeasureT-loop
+μ-loop words forward against cells₀ masks₀ n w i₀ cells masks i = length words - i
+
+loop-holds : tie.Need-loop-holds Inv-loop μ-loop
+loop-holds c =
+    let a = c .before .before .before .args in
+    (omega arith, refl, refl, union-empty (a .n) _ _ (crossed-start (a .forward) (a .against)))
+
+mul-put-word : tie.Need-mul-put-word Inv-loop μ-loop
+mul-put-word c = omega arith
+
+shared-slice-read-put-word : tie.Need-shared-slice-read-put-word Inv-loop μ-loop
+shared-slice-read-put-word c = omega arith
+
+put-word-requires : tie.Need-put-word-requires Inv-loop μ-loop
+put-word-requires c κs = omega arith
+
+add-i : tie.Need-add-i Inv-loop μ-loop
+add-i c = omega arith
+
+loop-less : tie.Need-loop-less Inv-loop μ-loop
+loop-less c = omega arith
+
+loop-again : tie.Need-loop-again Inv-loop μ-loop
+loop-again c =
+    let a = c .before .before .before .before .before .before .before .before .before .before .before .before .before .args in
+    let l = c .before .before .before .before .before .before .before .before .before .loop in
+    let p = c .before .before .before .before .put-word in
+    let ws = a .words .now in
+    let il : l .i < length ws = omega arith in
+    let A : Cells = first (a .n) (a .w) (a .cells .now) (a .masks .now) in (
+      omega arith,
+      p .kept .1 .1 .1 .0 ∙ l .inv .1,
+      p .kept .1 .1 .1 .1 .0 ∙ l .inv .2,
+      p .ensures ∙ ap (λ (s : Cells). union s (within (a .n) (crossedWords (getD ws (l .i) 0 ∷ []) (a .forward) (a .against)))) (l .inv .3)
+          ∙ put-more (a .n) A _ _ ∙ ap (λ (s : Cells). union A (within (a .n) s)) (crossed-next ws (l .i) (a .forward) (a .against) il),
+    )
+
+same-length : tie.Need-same-length Inv-loop μ-loop
+same-length c = search needs
+
+same-length-2 : tie.Need-same-length-2 Inv-loop μ-loop
+same-length-2 c = search needs
+
+returns : tie.Need-returns Inv-loop μ-loop
+returns c =
+    let a = c .before .before .before .before .before .args in
+    let l = c .before .loop in
+    let e : l .i ≡ length (a .words .now) = omega arith in
+    l .inv .3 ∙ ap (λ (s : Cells). union (first (a .n) (a .w) (a .cells .now) (a .masks .now)) (within (a .n) s))
+    (crossed-all (a .words .now) (l .i) (a .forward) (a .against) e)
+
+pub put-letters-spec : {M : Type 1} → statement M
+put-letters-spec =
+    tie.close
+    (tie.spec
+    Inv-loop
+    μ-loop
+    loop-holds
+    mul-put-word
+    shared-slice-read-put-word
+    put-word-requires
+    add-i
+    loop-less
+    loop-again
+    same-length
+    same-length-2
+    returns)

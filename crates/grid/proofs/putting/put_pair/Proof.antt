@@ -1,0 +1,45 @@
+-- `put_pair` puts a word of one bit (`pair-put`), unless the pair is not below n (`pair-outside`). Assumes nothing.
+use mathlib.Core.Path.{_≡_}
+use mathlib.Core.Logic.{inl, inr}
+use Prim.Native.Nat.{_%_, _/_}
+use native.Mathlib.Omega.{arith}
+use borrow.Author.Needs.{needs}
+use Rattle.k2.specs.DigitLaws.{one-shl}
+use Rattle.grid.proofs.Grids.{rows-apart, unit-fits}
+use Rattle.grid.proofs.Pairs.{pair-put, pair-outside}
+use Rattle.grid.proofs.putting.put_pair.Statement.{statement}
+use Rattle.grid.proofs.putting.put_pair.Tie as tie
+
+returns : tie.Need-returns
+returns c = let a = c .before .before .before .args in pair-outside (a .n) (a .x) (a .y) _ (inl (omega arith))
+
+returns-2 : tie.Need-returns-2
+returns-2 c = let a = c .before .before .before .before .args in pair-outside (a .n) (a .x) (a .y) _ (inr (omega arith))
+
+mul-put : tie.Need-mul-put
+mul-put c =
+    let a = c .before .before .before .before .before .before .args in
+    omega (arith, unit-fits (a .n) (a .w) (omega arith) (omega arith), rows-apart (a .x) (a .n) (a .w) (omega arith))
+
+shl-put : tie.Need-shl-put
+shl-put c = search needs
+
+put-requires : tie.Need-put-requires
+put-requires c κs =
+    let a = c .before .before .before .before .before .before .args in
+    (omega arith, omega arith, omega (arith, rows-apart (a .x) (a .n) (a .w) (omega arith)))
+
+same-length : tie.Need-same-length
+same-length c = search needs
+
+same-length-2 : tie.Need-same-length-2
+same-length-2 c = search needs
+
+returns-3 : tie.Need-returns-3
+returns-3 c =
+    let a = c .before .before .before .before .before .before .before .before .before .before .before .args in
+    pair-put (a .n) (a .w) (a .x) (a .y) (a .cells .now) (a .masks .now) _ _ (omega arith) (omega arith) (omega arith)
+    (rw (one-shl (a .y % 64) (omega arith)) at (c .before .before .before .before .put .ensures (a .w) (omega arith)))
+
+pub put-pair-spec : {M : Type 1} → statement M
+put-pair-spec = tie.close (tie.spec returns returns-2 mul-put shl-put put-requires same-length same-length-2 returns-3)

@@ -1,0 +1,105 @@
+-- `put_word` puts the pair of a link in forward, if its label is there, and then exchanged (`put-more`, `crossed-one`). Assumes nothing.
+use mathlib.Core.Path.{_≡_, refl, sym, ap, _∙_}
+use mathlib.Core.Logic.{⊎-elim}
+use mathlib.Core.List.{List}
+use Prim.Native.Nat.{ℕ, _%_, _/_}
+use native.Mathlib.Omega.{arith}
+use borrow.Author.Needs.{needs}
+use lib.ListN.{length}
+use Rattle.k2.specs.PairSets.{Cells, union, transpose}
+use Rattle.rows.specs.Rows.{linkPair, crossedWords}
+use Rattle.rows.specs.RowLaws.{transpose-none, union-right}
+use Rattle.grid.specs.Grid.{first, within}
+use Rattle.grid.specs.Steps.{onePair}
+use Rattle.grid.proofs.Pairs.{letter, letter-in, letter-out, one-turned, put-more, put-none, crossed-one}
+use Rattle.grid.proofs.putting.put_word.Statement.{statement}
+use Rattle.grid.proofs.putting.put_word.Tie as tie
+
+cast-p : tie.Need-cast-p
+cast-p c = search needs
+
+has-label-requires : tie.Need-has-label-requires
+has-label-requires c κs = search needs
+
+put-pair-requires : tie.Need-put-pair-requires
+put-pair-requires c κs = search needs
+
+has-label-requires-2 : tie.Need-has-label-requires-2
+has-label-requires-2 c κs = search needs
+
+-- the link is in forward
+forward : (c : tie.Joined1) → let a = c .before .before .before .before .args in
+    (length (c .if1 .cells) ≡ length (a .cells .now)) × (length (c .if1 .masks) ≡ length (a .masks .now))
+    × (first (a .n) (a .w) (c .if1 .cells) (c .if1 .masks) ≡ union (first (a .n) (a .w) (a .cells .now) (a .masks .now)) (within (a .n) (letter (a .forward) (a .word))))
+unfolding linkPair
+forward c =
+    let a = c .before .before .before .before .args in
+    let A : Cells = first (a .n) (a .w) (a .cells .now) (a .masks .now) in
+    let r = c .before .has-label .ensures in
+    ⊎-elim
+    (λ v. (
+      rw (v .8) (v .3 .kept .0),
+      rw (v .9) (v .3 .kept .1 .0),
+      rw (v .8, v .9) (v .3 .ensures ∙ ap (λ (s : Cells). union A (within (a .n) s)) (sym (letter-in (a .forward) (a .word) (sym r ∙ v .0 .taken)))),
+    ))
+    (λ v. (
+      rw (v .1) refl,
+      rw (v .2) refl,
+      rw (v .1, v .2) (put-none (a .n) A ∙ ap (λ (s : Cells). union A (within (a .n) s)) (sym (letter-out (a .forward) (a .word) (sym r ∙ v .0 .left)))),
+    ))
+    (c .if1 .came)
+
+put-pair-requires-2 : tie.Need-put-pair-requires-2
+put-pair-requires-2 c κs = let f = forward (c .before .before .before .before) in omega (arith, f .0, f .1)
+
+same-length : tie.Need-same-length
+same-length c = c .before .before .before .before .put-pair2 .kept .0 ∙ forward (c .before .before .before .before .before .before .before .before .before) .0
+
+same-length-2 : tie.Need-same-length-2
+same-length-2 c = c .before .before .before .before .put-pair2 .kept .1 .0 ∙ forward (c .before .before .before .before .before .before .before .before .before) .1
+
+returns : tie.Need-returns
+unfolding linkPair
+returns c =
+    let a = c .before .before .before .before .before .before .before .before .before .before .before .before .before .args in
+    let A : Cells = first (a .n) (a .w) (a .cells .now) (a .masks .now) in
+    let r = c .before .before .before .before .before .before .before .before .has-label2 .ensures in
+    let p : ℕ = a .word % 1048576 in
+    let e : onePair (p % 1024) (p / 1024) ≡ transpose (letter (a .against) (a .word))
+    = sym (ap transpose (letter-in (a .against) (a .word) (sym r ∙ c .before .before .before .before .before .before .before .if2 .taken)) ∙ one-turned (p / 1024) (p % 1024)) in
+    c .before .before .before .before .put-pair2 .ensures
+    ∙ ap (λ (s : Cells). union s (within (a .n) (onePair (p % 1024) (p / 1024)))) (forward (c .before .before .before .before .before .before .before .before .before) .2)
+    ∙ put-more (a .n) A (letter (a .forward) (a .word)) (onePair (p % 1024) (p / 1024))
+    ∙ ap (λ (s : Cells). union A (within (a .n) (union (letter (a .forward) (a .word)) s))) e
+    ∙ ap (λ (s : Cells). union A (within (a .n) s)) (sym (crossed-one (a .word) (a .forward) (a .against)))
+
+same-length-3 : tie.Need-same-length-3
+same-length-3 c = forward (c .before .before) .0
+
+same-length-4 : tie.Need-same-length-4
+same-length-4 c = forward (c .before .before) .1
+
+returns-2 : tie.Need-returns-2
+returns-2 c =
+    let a = c .before .before .before .before .before .before .args in
+    let A : Cells = first (a .n) (a .w) (a .cells .now) (a .masks .now) in
+    let r = c .before .has-label2 .ensures in
+    let e : transpose (letter (a .against) (a .word)) ≡ _ = ap transpose (letter-out (a .against) (a .word) (sym r ∙ c .if2 .left)) ∙ transpose-none in
+    forward (c .before .before) .2 ∙ ap (λ (s : Cells). union A (within (a .n) s))
+    (sym (crossed-one (a .word) (a .forward) (a .against) ∙ ap (union (letter (a .forward) (a .word))) e ∙ union-right (letter (a .forward) (a .word))))
+
+pub put-word-spec : {M : Type 1} → statement M
+put-word-spec =
+    tie.close
+    (tie.spec
+    cast-p
+    has-label-requires
+    put-pair-requires
+    has-label-requires-2
+    put-pair-requires-2
+    same-length
+    same-length-2
+    returns
+    same-length-3
+    same-length-4
+    returns-2)

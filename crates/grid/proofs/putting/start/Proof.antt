@@ -1,0 +1,60 @@
+-- `start` makes the masks 0. The loop's invariant: those below x are. The measure is the masks left. Assumes nothing.
+use Prim.Native.Nat.{ℕ, _<_, _≤_, _-_}
+use Rattle.grid.proofs.Pairs.{none-left, zero-more}
+use borrow.Author.Needs.{needs}
+use lib.ListN.{length, getD, length-set}
+use mathlib.Core.Path.{_≡_, refl}
+use native.Mathlib.Decide.{ℕ-discrete}
+use native.Mathlib.Omega.{arith}
+use Rattle.grid.proofs.putting.start.Statement.{statement}
+use Rattle.grid.proofs.putting.start.Tie as tie
+
+abbrev Inv-loop : tie.InvT-loop
+Inv-loop masks₀ n x₀ masks x = (x ≤ n) × (length masks ≡ length masks₀) × ((k : ℕ) → k < x → getD masks k 0 ≡ 0)
+
+abbrev μ-loop : tie.MeasureT-loop
+μ-loop masks₀ n x₀ masks x = n - x
+
+loop-holds : tie.Need-loop-holds Inv-loop μ-loop
+loop-holds c = (omega arith, refl, λ k h. absurd (omega arith))
+
+mul-masks : tie.Need-mul-masks Inv-loop μ-loop
+mul-masks c = omega arith
+
+slice-write-masks : tie.Need-slice-write-masks Inv-loop μ-loop
+slice-write-masks c = omega arith
+
+add-x : tie.Need-add-x Inv-loop μ-loop
+add-x c = omega arith
+
+loop-less : tie.Need-loop-less Inv-loop μ-loop
+loop-less c = omega arith
+
+loop-again : tie.Need-loop-again Inv-loop μ-loop
+loop-again c =
+    let l = c .before .loop in
+    (omega arith, simp length-set (l .inv .1), zero-more (l .masks) (l .x) (omega arith) (l .inv .2))
+
+same-length : tie.Need-same-length Inv-loop μ-loop
+same-length c = search needs
+
+returns : tie.Need-returns Inv-loop μ-loop
+returns c =
+    let a = c .before .before .args in
+    let l = c .before .loop in
+    λ w ws. none-left (a .n) w ws (l .masks) (λ k h. l .inv .2 k (omega arith))
+
+pub start-spec : {M : Type 1} → statement M
+start-spec =
+    tie.close
+    (tie.spec
+    Inv-loop
+    μ-loop
+    loop-holds
+    mul-masks
+    slice-write-masks
+    add-x
+    loop-less
+    loop-again
+    same-length
+    returns)

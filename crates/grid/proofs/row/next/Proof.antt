@@ -1,0 +1,88 @@
+-- `next` looks in what is left of the word of column y, and then in the words after it. Assumes nothing.
+use Prim.Native.Nat.{_<_, _≤_, _+_, _*_, _/_, _%_, _^_}
+use Rattle.grid.proofs.Columns.{lowest-some, gap-left, found, lowest-end, lowest-after}
+use Rattle.k2.specs.Bits.{digit}
+use borrow.Author.Needs.{needs}
+use lib.ListN.{getD}
+use lib.Pow.{shr-le}
+use mathlib.Core.Logic.{_⊎_, inl, inr, ⊎-elim}
+use mathlib.Core.Path.{_≡_, refl}
+use native.Mathlib.Nat.{lt-of-le-of-lt}
+use native.Mathlib.Omega.{arith}
+use Rattle.grid.proofs.row.next.Statement.{statement}
+use Rattle.grid.proofs.row.next.Tie as tie
+
+mul-result : tie.Need-mul-result
+mul-result c = search needs
+
+returns : tie.Need-returns
+returns c =
+    let a = c .before .before .args in
+    (omega arith, lowest-end (a .cells .now) (a .b) (a .mask) (a .y) (a .w) (a .y) (omega arith) (omega arith) (λ j h l. absurd (omega arith)))
+
+cast-if2 : tie.Need-cast-if2
+cast-if2 c = search needs
+
+shr-if2 : tie.Need-shr-if2
+shr-if2 c = search needs
+
+add-rest : tie.Need-add-rest
+add-rest c = search needs
+
+mul-rest : tie.Need-mul-rest
+mul-rest c = search needs
+
+shared-slice-read-rest : tie.Need-shared-slice-read-rest
+shared-slice-read-rest c = search needs
+
+shr-rest : tie.Need-shr-rest
+shr-rest c = search needs
+
+lowest-requires : tie.Need-lowest-requires
+lowest-requires c κs = search needs
+
+add-result : tie.Need-add-result
+add-result c =
+    let a = c .before .before .before .before .before .before .args in
+    let f = c .before .before .shared-slice-known2 .given (a .b + a .y / 64) .fits in
+    let h = lowest-some _ _ (lt-of-le-of-lt (shr-le _ (a .y % 64)) f) (c .before .if3 .taken) (c .lowest .ensures) in
+    omega (arith, h)
+
+returns-2 : tie.Need-returns-2
+unfolding digit
+returns-2 c =
+    let a = c .before .before .before .before .before .before .args in
+    let f = c .before .before .shared-slice-known2 .given (a .b + a .y / 64) .fits in
+    let h = lowest-some _ _ (lt-of-le-of-lt (shr-le _ (a .y % 64)) f) (c .before .if3 .taken) (c .lowest .ensures) in
+    found (a .cells .now) (a .b) (a .mask) (a .y) (a .w) (a .y / 64) (a .y) (c .lowest .result) (omega arith) refl (omega arith) (omega arith) f (λ j p q. absurd (omega arith)) (c .lowest .ensures) h
+
+later-requires : tie.Need-later-requires
+later-requires c κs = search needs
+
+returns-3 : tie.Need-returns-3
+unfolding digit
+returns-3 c =
+    let a = c .before .before .before .before .args in
+    let L = c .later .ensures in (
+      L .0,
+      lowest-after (a .cells .now) (a .b) (a .mask) (a .y) (a .y / 64 * 64 + 64) (a .w * 64) (c .later .result) (omega arith)
+          (gap-left (a .cells .now) (a .b) (a .mask) (a .y / 64) (a .y) refl (⊎-elim (λ w. inr (omega (arith, w .0 .taken), w .2 .left)) (λ w. inl (omega (arith, w .left))) (c .before .if2 .came))) (L .1),
+    )
+
+pub next-spec : {M : Type 1} → statement M
+next-spec =
+    tie.close
+    (tie.spec
+    mul-result
+    returns
+    cast-if2
+    shr-if2
+    add-rest
+    mul-rest
+    shared-slice-read-rest
+    shr-rest
+    lowest-requires
+    add-result
+    returns-2
+    later-requires
+    returns-3)

@@ -1,0 +1,29 @@
+-- `join` takes the old word only if the mask has it. Assumes nothing.
+use Rattle.grid.proofs.Rows.{join-in, join-new}
+use Rattle.k2.specs.Bits.{digit}
+use borrow.Author.Needs.{needs}
+use borrow.Author.Tests.{eqb-true, eqb-false}
+use native.Mathlib.Omega.{arith}
+use Rattle.grid.proofs.words.join.Statement.{statement}
+use Rattle.grid.proofs.words.join.Tie as tie
+
+cast-if1 : tie.Need-cast-if1
+cast-if1 c = search needs
+
+shr-if1 : tie.Need-shr-if1
+shr-if1 c = search needs
+
+returns : tie.Need-returns
+unfolding digit
+returns c =
+    let a = c .before .args in
+    join-in (a .mask) (a .c) (a .old) (a .v) (omega arith)
+
+returns-2 : tie.Need-returns-2
+unfolding digit
+returns-2 c =
+    let a = c .before .args in
+    join-new (a .mask) (a .c) (a .old) (a .v) (omega arith)
+
+pub join-spec : {M : Type 1} → statement M
+join-spec = tie.close (tie.spec cast-if1 shr-if1 returns returns-2)

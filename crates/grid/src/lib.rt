@@ -1,0 +1,21 @@
+// Relations on n records as rows of bits in lent work, and their algebra: n rows of w words, one after another, and beside each row a mask of its
+// words in use. A word that is not in its row's mask counts as empty, whatever it holds, so that nothing is ever cleared. An operation is lent the
+// part of the work that begins with its left operand, and may use what stands after its operands.
+//
+// words.rt has the bits of one word, row.rt one row, putting.rt pairs put into a relation, algebra.rt union, product and transposition, closing.rt the
+// closure, listing.rt the list.
+mod algebra;
+mod closing;
+mod listing;
+mod putting;
+mod row;
+mod words;
+
+pub use algebra::compose;
+pub use algebra::transpose;
+pub use algebra::unite;
+pub use closing::close;
+pub use listing::list;
+pub use putting::put_diagonal;
+pub use putting::put_letters;
+pub use putting::start;

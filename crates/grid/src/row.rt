@@ -1,0 +1,95 @@
+// One row: a word or another row put in, a column read, the next column found. Word c of a row stands at its place + c.
+use crate::words::above;
+use crate::words::join;
+use crate::words::lowest;
+ghost use mathlib.Core.Path.{_≡_};
+ghost use mathlib.Core.Logic.{_⊎_};
+ghost use Prim.Native.Nat.{ℕ, _+_, _*_, _/_, _≤_, _<_};
+ghost use lib.ListN.{length};
+ghost use Rattle.grid.specs.Grid.{rowOf};
+ghost use Rattle.grid.specs.Steps.{Lowest, wordAt, Merged};
+
+// A word put into word c of the row at place b, whose mask is number t.
+pub fn put(cells: &mut [u64], masks: &mut [u16], t: usize, b: usize, c: usize, v: u64)
+    requires { ⌜ (t < length (now masks)) × (c < 16) × (b + c < length (now cells)) ⌝ }
+    ensures { λ _. ⌜ ((w : ℕ) → c < w
+        → Merged w t b (wordAt c v) (now (cells .entry)) (now (masks .entry)) (now (cells .exit)) (now (masks .exit))) ⌝ }
+{
+    let mask = masks[t];
+    let old = cells[b + c];
+    cells[b + c] = join(mask, c, old, v);
+    masks[t] = mask | (1 << c);
+}
+
+// A row, the words at place f that are in its mask, put into the row at place b, whose mask is number t.
+pub fn merge(
+    cells: &mut [u64],
+    masks: &mut [u16],
+    w: usize,
+    t: usize,
+    b: usize,
+    source: u16,
+    f: usize,
+)
+    requires { ⌜ (t < length (now masks)) × (w ≤ 16) × (b + w ≤ length (now cells)) × (f + w ≤ length (now cells)) ⌝ }
+    ensures { λ _. ⌜ ((b + w ≤ f) ⊎ (f + w ≤ b)
+        → Merged w t b (rowOf (now (cells .entry)) f source) (now (cells .entry)) (now (masks .entry)) (now (cells .exit)) (now (masks .exit))) ⌝ }
+{
+    let mask = masks[t];
+    let words = source as u64;
+    let mut c = lowest(words);
+    while c < w {
+        let v = cells[f + c];
+        let old = cells[b + c];
+        cells[b + c] = join(mask, c, old, v);
+        c = above(words, c);
+    }
+    masks[t] = mask | source;
+}
+
+// Column y of the row at place b with the mask.
+pub fn column(cells: &[u64], mask: u16, b: usize, y: usize) -> u64
+    requires { ⌜ (y < 1024) × (b + y / 64 < length (now cells)) ⌝ }
+    ensures { λ r. ⌜ r ≡ rowOf (now (cells .entry)) b mask y ⌝ }
+{
+    let c = y / 64;
+    if (mask >> c) % 2 == 1 {
+        return (cells[b + c] >> (y % 64)) % 2;
+    }
+    0
+}
+
+// The first column of a row in its words above c; w * 64 if there is none.
+pub fn later(cells: &[u64], mask: u16, b: usize, w: usize, c: usize) -> usize
+    requires { ⌜ (w ≤ 16) × (b + w ≤ length (now cells)) × (c < w) ⌝ }
+    ensures { λ r. ⌜ (r ≤ w * 64) × Lowest (rowOf (now (cells .entry)) b mask) (c * 64 + 64) (w * 64) r ⌝ }
+{
+    let words = mask as u64;
+    let mut k = above(words, c);
+    while k < w {
+        let word = cells[b + k];
+        if word != 0 {
+            return k * 64 + lowest(word);
+        }
+        k = above(words, k);
+    }
+    w * 64
+}
+
+// The first column of a row from y on; w * 64 if there is none.
+pub fn next(cells: &[u64], mask: u16, b: usize, w: usize, y: usize) -> usize
+    requires { ⌜ (w ≤ 16) × (b + w ≤ length (now cells)) × (y ≤ w * 64) ⌝ }
+    ensures { λ r. ⌜ (r ≤ w * 64) × Lowest (rowOf (now (cells .entry)) b mask) y (w * 64) r ⌝ }
+{
+    let c = y / 64;
+    if w <= c {
+        return w * 64;
+    }
+    if (mask >> c) % 2 == 1 {
+        let rest = cells[b + c] >> (y % 64);
+        if rest != 0 {
+            return y + lowest(rest);
+        }
+    }
+    later(cells, mask, b, w, c)
+}

@@ -1,0 +1,17 @@
+-- `lesser` compares. Assumes nothing.
+use mathlib.Core.Path.{refl}
+use mathlib.Core.Logic.{inl, inr}
+use native.Mathlib.Omega.{arith}
+use Rattle.rowpairs.proofs.lesser.Statement.{statement}
+use Rattle.rowpairs.proofs.lesser.Tie as tie
+
+-- src/lib.rt:249:9
+returns : tie.Need-returns
+returns c = (omega arith, omega arith, inl refl)
+
+-- src/lib.rt:245:1
+returns-2 : tie.Need-returns-2
+returns-2 c = (omega arith, omega arith, inr refl)
+
+pub lesser-spec : {M : Type 1} → statement M
+lesser-spec = tie.close (tie.spec returns returns-2)

@@ -1,0 +1,330 @@
+// Pair questions by rows of bits: an expression's code is run on a stack of relations, which lie one after another in the lent work, each as n rows
+// of bits, 64 columns to a word, with a mask of each row's words in use (crate `grid`). The last one left is listed.
+ghost use mathlib.Core.Path.{_≡_};
+ghost use mathlib.Core.List.{List, map, _++_};
+ghost use mathlib.Core.Logic.{_⊎_};
+ghost use Prim.Native.Nat.{ℕ, _+_, _-_, _*_, _/_, _^_, _<_, _≤_};
+ghost use lib.ListN.{length, take, drop, getD};
+ghost use mathlib.Core.Bool.{true};
+ghost use Rattle.book.specs.Book.{Book};
+ghost use Rattle.book.specs.Causes.{maxRecords};
+ghost use Rattle.k2.specs.PairSets.{union};
+ghost use Rattle.paths.specs.Expressions.{Expr};
+ghost use Rattle.paths.specs.Grammar.{accepted};
+ghost use Rattle.paths.specs.Verdicts.{verdict};
+ghost use Rattle.paths.specs.Chains.{asked};
+ghost use Rattle.paths.specs.Relations.{crossedBy};
+ghost use Rattle.reader.specs.declared.items.Item.the-variants.{Inverse};
+ghost use Rattle.reader.specs.Code.{itemOf};
+ghost use Rattle.reader.specs.Letters.{lettersIn};
+ghost use Rattle.reader.specs.Running.{operands};
+ghost use Rattle.rows.specs.Rows.{linkPair};
+ghost use Rattle.grid.specs.Grid.{first};
+ghost use Rattle.pairs.specs.Evaluation.{Ready};
+ghost use Rattle.pairs.specs.Steps.{Lettered, Coded};
+ghost use Rattle.rowpairs.specs.Asking.{rowWidth, rowsWork, AsksRowsFor, AsksRows};
+ghost use Rattle.rowpairs.specs.Labels.{everyIf, Alone, LetterListed};
+ghost use Rattle.rowpairs.specs.Evaluation.{Space, Lent, Operates, Goes, Reading, ValueFirst};
+use reader::Item;
+
+// The work is that of so many relations.
+const RELATIONS: usize = 32;
+
+// The masks of 20 relations of 1,024 rows, and one more: 19 that wait, one as scratch, and a row of a product.
+const MASKS: usize = 20481;
+
+// A link's word is label * LABEL_UNIT + its pair word.
+const LABEL_UNIT: u32 = 1048576;
+
+// How many labels there are; of a label, that there is none.
+const LABELS: u8 = book::LABELS as u8;
+
+// The set of all 26 labels.
+const EVERY_LABEL: u32 = 67108863;
+
+// An item of the code, and how many of its numbers it was read from.
+struct Next {
+    item: Item,
+    used: usize,
+}
+
+// The words of a row of n columns.
+fn row_width(n: usize) -> usize
+    requires { ⌜ n ≤ maxRecords ⌝ }
+    ensures { λ r. ⌜ r ≡ rowWidth n ⌝ }
+{
+    (n + 63) / 64
+}
+
+// Every label if the set has this one, else none.
+fn every_if(set: u32, label: u8) -> u32
+    requires { ⌜ label < 26 ⌝ }
+    ensures { λ r. ⌜ r ≡ everyIf set label ⌝ }
+{
+    if (set >> label) % 2 == 1 {
+        return EVERY_LABEL;
+    }
+    0
+}
+
+// The links of letters put into the first relation: those of the labels of the first set crossed forward, those of the second against their sense.
+fn put_letters(
+    links: &[u32],
+    forward: u32,
+    against: u32,
+    cells: &mut [u64],
+    masks: &mut [u16],
+    n: usize,
+    w: usize,
+)
+    requires { ⌜ Space n w (length (now cells)) (length (now masks)) ⌝ }
+    ensures { λ _. ⌜ ((b : Book) (used : List ℕ) → Lettered b n (now (links .entry)) used
+        → first n w (now (cells .exit)) (now (masks .exit))
+        ≡ union (first n w (now (cells .entry)) (now (masks .entry))) (crossedBy (asked b) (lettersIn forward against))) ⌝ }
+{
+    let mut label: u8 = 0;
+    while label < LABELS {
+        let plain = every_if(forward, label);
+        let turned = every_if(against, label);
+        if plain + turned != 0 {
+            let part = register::label_part(links, label);
+            grid::put_letters(part, plain, turned, cells, masks, n, w);
+        }
+        label += 1;
+    }
+}
+
+// One item of the code, on the operands that lie at the front of the two parts; its value takes the place of the first.
+fn operate(
+    links: &[u32],
+    used: &[u64],
+    cells: &mut [u64],
+    masks: &mut [u16],
+    n: usize,
+    w: usize,
+    item: Item,
+)
+    requires { ⌜ Space n w (length (now cells)) (length (now masks)) ⌝ }
+    ensures { λ _. ⌜ Operates n w (now (links .entry)) (now (used .entry)) item (now (cells .entry)) (now (cells .exit)) (now (masks .entry)) (now (masks .exit)) ⌝ }
+{
+    match item {
+        Item::Letters(forward, against) => {
+            grid::start(masks, n);
+            put_letters(links, forward, against, cells, masks, n, w);
+        }
+        Item::Inverse => grid::transpose(cells, masks, n, w),
+        Item::Star => {
+            grid::close(cells, masks, n, w);
+            grid::put_diagonal(used, cells, masks, n, w);
+        }
+        Item::Plus => grid::close(cells, masks, n, w),
+        Item::Optional => grid::put_diagonal(used, cells, masks, n, w),
+        Item::Alternative => grid::unite(cells, masks, n, w),
+        Item::Sequence => grid::compose(cells, masks, n, w),
+    }
+}
+
+// How many relations an item takes.
+fn operands_of(item: Item) -> usize
+    ensures { λ r. ⌜ r ≡ operands item ⌝ }
+{
+    match item {
+        Item::Letters(_, _) => 0,
+        Item::Inverse => 1,
+        Item::Star => 1,
+        Item::Plus => 1,
+        Item::Optional => 1,
+        Item::Alternative => 2,
+        Item::Sequence => 2,
+    }
+}
+
+// One number of the code, with so many relations waiting; how many wait then.
+fn step(
+    links: &[u32],
+    used: &[u64],
+    cells: &mut [u64],
+    masks: &mut [u16],
+    n: usize,
+    count: usize,
+    item: Item,
+) -> usize
+    requires { ⌜ Lent n (length (now cells)) (length (now masks)) × Ready item count ⌝ }
+    ensures { λ r. ⌜ Goes n (now (links .entry)) (now (used .entry)) item (now (cells .entry)) (now (cells .exit)) (now (masks .entry)) (now (masks .exit)) count r ⌝ }
+{
+    let w = row_width(n);
+    let unit = n * w;
+    let below = count - operands_of(item);
+    let start = below * unit;
+    let mark = below * n;
+    operate(
+        links,
+        used,
+        &mut cells[start..],
+        &mut masks[mark..],
+        n,
+        w,
+        item,
+    );
+    below + 1
+}
+
+// Is the number at place i of the code `^`?
+fn inverts(code: &[u64], i: usize) -> bool
+    ensures { λ r. ⌜ (r ≡ true → (i < length (now (code .entry))) × (itemOf (getD (now (code .entry)) i 0) ≡ Inverse)) ⌝ }
+{
+    if code.len() <= i {
+        return false;
+    }
+    let item = reader::item_of(code[i]);
+    match item {
+        Item::Inverse => true,
+        _ => false,
+    }
+}
+
+// The item at place i of the code. `^` right after letters is read with them: their links are crossed in the other sense.
+fn next_item(code: &[u64], i: usize) -> Next
+    requires { ⌜ i < length (now code) ⌝ }
+    ensures { λ r. ⌜ Reading (now (code .entry)) i r ⌝ }
+{
+    let item = reader::item_of(code[i]);
+    if !inverts(code, i + 1) {
+        return Next { item, used: 1 };
+    }
+    match item {
+        Item::Letters(forward, against) => Next {
+            item: Item::Letters(against, forward),
+            used: 2,
+        },
+        _ => Next { item, used: 1 },
+    }
+}
+
+// The whole code: its value is left as the first relation.
+fn run(links: &[u32], used: &[u64], cells: &mut [u64], masks: &mut [u16], n: usize, code: &[u64])
+    requires { ⌜ Lent n (length (now cells)) (length (now masks)) × ((s : List ℕ) × (e : Expr) × Coded s e (now code)) ⌝ }
+    ensures { λ _. ⌜ ValueFirst n (now (links .entry)) (now (used .entry)) (now (code .entry)) (now (cells .exit)) (now (masks .exit)) ⌝ }
+{
+    let mut count = 0;
+    let mut i = 0;
+    while i < code.len() {
+        let next = next_item(code, i);
+        let item = next.item;
+        count = step(links, used, cells, masks, n, count, item);
+        i += next.used;
+    }
+}
+
+// The label of which the two sets have the plain letter alone; LABELS if they have others.
+fn only_label(forward: u32, against: u32) -> u8
+    ensures { λ r. ⌜ (r < 26 → (forward ≡ 2 ^ r) × (against ≡ 0)) ⌝ }
+{
+    if against != 0 {
+        return LABELS;
+    }
+    let label = u32::trailing_zeros(forward);
+    if LABELS as u32 <= label {
+        return LABELS;
+    }
+    if forward != 1 << label {
+        return LABELS;
+    }
+    label as u8
+}
+
+// The label of a code that is a plain letter alone; LABELS of any other.
+fn letter_alone(code: &[u64]) -> u8
+    ensures { λ r. ⌜ (r < 26 → Alone r (now (code .entry))) ⌝ }
+{
+    if code.len() != 1 {
+        return LABELS;
+    }
+    let item = reader::item_of(code[0]);
+    match item {
+        Item::Letters(forward, against) => only_label(forward, against),
+        _ => LABELS,
+    }
+}
+
+// The lesser of two numbers.
+fn lesser(a: usize, b: usize) -> usize
+    ensures { λ r. ⌜ (r ≤ a) × (r ≤ b) × ((r ≡ a) ⊎ (r ≡ b)) ⌝ }
+{
+    if a < b {
+        return a;
+    }
+    b
+}
+
+// The pairs of links' words written to the list, as many as it takes; the words past them are left.
+fn write_links(words: &[u32], list: &mut [u32])
+    ensures { λ _. ⌜ now (list .exit) ≡ take (length (now (list .entry))) (map linkPair (now (words .entry)))
+        ++ drop (length (map linkPair (now (words .entry)))) (now (list .entry)) ⌝ }
+{
+    let count = lesser(words.len(), list.len());
+    let mut i = 0;
+    while i < count {
+        list[i] = words[i] % LABEL_UNIT;
+        i += 1;
+    }
+}
+
+// A letter alone: the pairs of its links, ascending as the register's words are.
+fn list_letter(links: &[u32], label: u8, list: &mut [u32]) -> usize
+    ensures { λ r. ⌜ LetterListed (now (links .entry)) label (now (list .entry)) (now (list .exit)) r ⌝ }
+{
+    let part = register::label_part(links, label);
+    write_links(part, list);
+    part.len()
+}
+
+// The answer by the code of an expression: the first len numbers of the array.
+fn of_code(
+    register: register::Register,
+    code: [u64; book::MAX_BYTES],
+    len: usize,
+    work: &mut [u64],
+    list: &mut [u32],
+) -> pairs::PairsAnswer
+    requires { ⌜ (len ≤ length code) × ((s : List ℕ) × (e : Expr) × Coded s e (take len code)) ⌝ }
+    ensures { λ a. ⌜ ((s : List ℕ) (e : Expr) → Coded s e (take len code)
+        → AsksRowsFor register (accepted e) (length (now (work .entry))) (now (list .entry)) (now (list .exit)) a) ⌝ }
+{
+    let n = register.size();
+    let w = row_width(n);
+    if work.len() < RELATIONS * (n * w) {
+        return pairs::PairsAnswer::Refused(book::SHORT_WORK);
+    }
+    let links = register.links();
+    let count = links.count;
+    let array = links.words;
+    let label = letter_alone(&code[..len]);
+    if label < LABELS {
+        let found = list_letter(&array[..count], label, list);
+        return pairs::PairsAnswer::Pairs(found);
+    }
+    let used = pairs::in_use(register, n);
+    let mut masks: [u16; MASKS] = [0; MASKS];
+    run(&array[..count], &used, work, &mut masks, n, &code[..len]);
+    let total = grid::list(work, &masks, n, w, list);
+    pairs::PairsAnswer::Pairs(total)
+}
+
+// The pairs that have a chain, as `pairs::pairs` gives them: ascending, each once, as many as the list takes; how many they are in all.
+pub fn pairs_by_rows(
+    register: register::Register,
+    text: &[u8],
+    work: &mut [u64],
+    list: &mut [u32],
+) -> pairs::PairsAnswer
+    ensures { λ a. ⌜ AsksRows register (now (text .entry)) (length (now (work .entry))) (now (list .entry)) (now (list .exit)) a ⌝ }
+{
+    let reading = reader::read(text);
+    let answer = reading.answer;
+    let code = reading.code;
+    match answer {
+        reader::Answer::Refused(k) => pairs::PairsAnswer::Refused(k as u32),
+        reader::Answer::Accepted(len) => of_code(register, code, len, work, list),
+    }
+}

@@ -1,0 +1,56 @@
+-- `session::answer_pairs` asks the engine on rows for up to 32 records, that on trees above. Assumes nothing.
+use native.Mathlib.Omega.{arith}
+use Rattle.session.specs.Listing.{rows-answers, trees-answers}
+use borrow.Author.Needs.{needs}
+use Rattle.session.proofs.answer_pairs.Statement.{statement}
+use Rattle.session.proofs.answer_pairs.Tie as tie
+
+-- src/lib.rt:316:8
+size-requires : tie.Need-size-requires
+size-requires c κs = search needs
+
+-- src/lib.rt:317:9
+pairs-by-rows-requires : tie.Need-pairs-by-rows-requires
+pairs-by-rows-requires c κs = search needs
+
+-- src/lib.rt:317:9
+same-length : tie.Need-same-length
+same-length c = search needs
+
+-- src/lib.rt:317:9
+same-length-2 : tie.Need-same-length-2
+same-length-2 c = search needs
+
+-- src/lib.rt:317:9
+returns : tie.Need-returns
+returns c = rows-answers (c .before .before .before .before .before .before .before .before .size .ensures) (c .before .before .before .before .before .before .before .if1 .taken) (c .before .before .before .before .pairs-by-rows .ensures)
+
+-- src/lib.rt:319:5
+pairs-requires : tie.Need-pairs-requires
+pairs-requires c κs = search needs
+
+-- src/lib.rt:308:1
+same-length-3 : tie.Need-same-length-3
+same-length-3 c = search needs
+
+-- src/lib.rt:308:1
+same-length-4 : tie.Need-same-length-4
+same-length-4 c = search needs
+
+-- src/lib.rt:308:1
+returns-2 : tie.Need-returns-2
+returns-2 c = trees-answers (c .before .before .before .before .before .before .before .before .size .ensures) (omega (arith, c .before .before .before .before .before .before .before .if1 .left)) (c .before .before .before .before .pairs .ensures)
+
+pub answer-pairs-spec : {M : Type 1} → statement M
+answer-pairs-spec =
+    tie.close
+    (tie.spec
+    size-requires
+    pairs-by-rows-requires
+    same-length
+    same-length-2
+    returns
+    pairs-requires
+    same-length-3
+    same-length-4
+    returns-2)

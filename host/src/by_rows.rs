@@ -1,0 +1,47 @@
+//! Pair questions by name of the engine that answers them.
+
+use crate::calls::{self, counted};
+use crate::register::grow;
+use crate::space::{most_pairs, rows_work, tree_work};
+use crate::{Pairs, Refusal, Register};
+
+impl Register {
+    /// The pairs of records that the expression joins, by the engine on rows of bits.
+    ///
+    /// ```
+    /// # let mut register = dating::Register::fresh(3)?;
+    /// register.add(0, 'a', 1)?;
+    /// register.add(1, 'a', 2)?;
+    /// let by_rows = register.pairs_by_rows("a+")?.collect::<Vec<_>>();
+    /// assert_eq!(by_rows, [(0, 1), (0, 2), (1, 2)]);
+    /// assert_eq!(by_rows, register.pairs_by_trees("a+")?.collect::<Vec<_>>());
+    /// # Ok::<(), dating::Refusal>(())
+    /// ```
+    pub fn pairs_by_rows(&mut self, expression: impl AsRef<[u8]>) -> Result<Pairs<'_>, Refusal> {
+        let n = self.size();
+        grow(&mut self.work, rows_work(n));
+        grow(&mut self.list, most_pairs(n));
+        let total = counted(calls::pairs_by_rows(&self.words, expression.as_ref(), &mut self.work, &mut self.list))?;
+        Ok(Pairs::new(&self.list, total))
+    }
+
+    /// The same by the engine on k2-trees.
+    pub fn pairs_by_trees(&mut self, expression: impl AsRef<[u8]>) -> Result<Pairs<'_>, Refusal> {
+        let n = self.size();
+        grow(&mut self.work, tree_work(n));
+        grow(&mut self.list, most_pairs(n));
+        let total = counted(calls::pairs(&self.words, expression.as_ref(), &mut self.work, &mut self.list))?;
+        Ok(Pairs::new(&self.list, total))
+    }
+
+    /// The pairs by rows in lent space: work of [`rows_work`] words, and a list as [`pairs_in`](Register::pairs_in) takes it.
+    pub fn pairs_by_rows_in<'a>(
+        &self,
+        expression: impl AsRef<[u8]>,
+        work: &mut [u64],
+        list: &'a mut [u32],
+    ) -> Result<Pairs<'a>, Refusal> {
+        let total = counted(calls::pairs_by_rows(&self.words, expression.as_ref(), work, list))?;
+        Ok(Pairs::new(list, total))
+    }
+}
