@@ -42,6 +42,8 @@ pub const TOUCHED_RECORD: u32 = 17;
 
 pub const WITHDRAWN_RECORD: u32 = 18;
 
+pub const BAD_TIE: u32 = 19;
+
 pub const MAX_RECORDS: usize = 1024;
 
 pub const LABELS: usize = 26;
@@ -57,7 +59,7 @@ pub const MAX_LETTERS: usize = 63;
 pub const MAX_DEPTH: usize = 8;
 
 // The numbers of all causes, in the order of their definition.
-pub fn numbers() -> [u32; 19]
+pub fn numbers() -> [u32; 20]
     ensures { λ r. ⌜ r ≡ map number allCauses ⌝ }
 {
     [
@@ -80,6 +82,7 @@ pub fn numbers() -> [u32; 19]
         NOT_OPEN,
         TOUCHED_RECORD,
         WITHDRAWN_RECORD,
+        BAD_TIE,
     ]
 }
 
