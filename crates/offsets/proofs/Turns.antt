@@ -2,6 +2,7 @@
 --     none         any tie, for `getD` past the end
 --     turn         one tie more
 --     over         no tie is left
+--     judge-turn, judge-over   the same of judging
 -- And that of the passes: what the passes that are left make of the state is what all of them make of the first one (`again`), and fewer are left (`fewer`).
 -- Assumes nothing.
 use mathlib.Core.Path.{_≡_, refl, sym, _∙_, ap, subst}
@@ -14,6 +15,7 @@ use lib.IntN.{ℤ, pos}
 use lib.ListN.{length, getD, drop, drop-of-length-le}
 use lib.Seq.{drop-cons}
 use Rattle.offsets.specs.Relax.{State, pick, relaxTie, relaxAll, leftAfter, settled}
+use Rattle.offsets.specs.Inner.{judgeTie, judgeAll}
 use Rattle.offsets.specs.declared.Tie.{Tie}
 
 abbrev pub none : Tie
@@ -44,3 +46,10 @@ again n ts k ds zs c r e = subst (λ (s : State). settled n (leftAfter r (suc k)
     here : (u : Bool) → settled n (leftAfter u (suc k)) ts (zs, u) ≡ pick u (settled n k ts (zs, u)) (zs, u)
     here true = let h : suc k - 1 ≡ k = omega arith in ap (λ (j : ℕ). settled n j ts (zs, true)) h
     here false = refl
+
+-- the same of judging: what the ties that are left make of the number is what all of them make of 0
+pub judge-turn : (n : ℕ) (ws : List ℕ) (ts : List Tie) (i k r out : ℕ) → i < length ts → r ≡ judgeTie n ws (getD ts i none) k → judgeAll n ws (drop i ts) k ≡ out → judgeAll n ws (drop (suc i) ts) r ≡ out
+judge-turn n ws ts i k r out h e inv = ap (judgeAll n ws (drop (suc i) ts)) e ∙ sym (ap (λ (l : List Tie). judgeAll n ws l k) (drop-cons ts i none h)) ∙ inv
+
+pub judge-over : (n : ℕ) (ws : List ℕ) (ts : List Tie) (k out : ℕ) → judgeAll n ws (drop (length ts) ts) k ≡ out → k ≡ out
+judge-over n ws ts k out inv = sym (ap (λ (l : List Tie). judgeAll n ws l k) (drop-of-length-le ts (le-refl (length ts)))) ∙ inv

@@ -17,12 +17,12 @@ use lib.Signed.{mag, _≤ℤ_}
 use borrow.Author.Tests.{leb-true, leb-false, le-leb}
 use Rattle.offsets.specs.declared.Tie.{Tie}
 use Rattle.offsets.specs.Linear.{up, down, of-le, to-le, to-eq, of-add, of-sub, of-pos, of-neg-up, of-neg-down, ≤ℤ-trans}
-use Rattle.offsets.specs.Offsets.{In, Placing, Places, Joined, self, onward, Limit, itself, joined, free, Allowed}
+use Rattle.offsets.specs.Offsets.{In, Placing, Places, Joined, self, onward, Limit, itself, joined, free}
 use Rattle.offsets.specs.Arcs.{by-test}
 use Rattle.offsets.specs.Settles.{out, out-length, out-others, span, span-length, span-all}
 use Rattle.offsets.specs.Passes.{Near, near-add, mag-parts}
 use Rattle.offsets.specs.Relax.{known, dist}
-use Rattle.offsets.specs.Third.{Ready, near-ends, near-neg}
+use Rattle.offsets.specs.Third.{Allowed, Ready, near-ends, near-neg}
 use Rattle.offsets.specs.Thirds.{Starts}
 use Rattle.offsets.specs.Finds.{ran, least-word, most-word, Fits, limit-at}
 

@@ -8,7 +8,6 @@
 --                      the two words of record x: the base has 0 and 0, a record that ties join to it its narrowest limits, any other one 1 and 0
 --     OffsetsAre n base ts answer
 --                      the answer: "cannot all hold" if there is no placing, else the words of the records below n in ascending order
---     Allowed n t      a tie that is not refused: records below n, -20,000 ≤ least ≤ most ≤ 20,000
 -- Assumes nothing: these are definitions.
 use mathlib.Core.Path.{_≡_}
 use mathlib.Core.Logic.{_⊎_}
@@ -57,10 +56,3 @@ pub data OffsetsAre (n base : ℕ) (ts : List Tie) : Answer → Type 0 where
   none : ((p : Placing) → Places p ts → ⊥) → OffsetsAre n base ts cannot
   some : {ws : List ℤ} (p : Placing) → Places p ts → length ws ≡ n * 2 → ((x : ℕ) → x < n → Limit ts base x (getD ws (x * 2) (pos 0)) (getD ws (x * 2 + 1) (pos 0)))
       → OffsetsAre n base ts (limits ws)
-
-pub record Allowed (n : ℕ) (t : Tie) : Type 0 where
-  pub first-in : t .first < n
-  pub second-in : t .second < n
-  pub least-in : negℤ (pos 20000) ≤ℤ t .least
-  pub ordered : t .least ≤ℤ t .most
-  pub most-in : t .most ≤ℤ pos 20000

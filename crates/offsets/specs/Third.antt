@@ -1,4 +1,5 @@
 -- One third of the list, from the base: distances d that hold all arcs of ties, with 0 or less at the base, are the most that each record begins after it.
+--     Allowed n t          a tie that is not refused: records below n, -20,000 ≤ least ≤ most ≤ 20,000
 --     Ready n ts           ties that are not refused: at most 1,024 with records below n, which is at most 1,024
 --     joined-known         what ties join to the base is known
 --     most-attained        there is a placing that has all known records exactly at their distances
@@ -16,9 +17,16 @@ use lib.Signed.{_≤ℤ_, _<ℤ_, ≤ℤ-refl, clashℤ}
 use Rattle.offsets.specs.declared.Tie.{Tie}
 use Rattle.offsets.specs.Linear.{up, down, of-le, to-le, to-eq, of-add, of-sub, of-pos, of-neg-up, of-neg-down, ≤ℤ-trans, ≤ℤ-antisym}
 use Rattle.offsets.specs.Relax.{known}
-use Rattle.offsets.specs.Offsets.{In, Placing, Meets, Places, Joins, Joined, self, onward, Allowed}
+use Rattle.offsets.specs.Offsets.{In, Placing, Meets, Places, Joins, Joined, self, onward}
 use Rattle.offsets.specs.Arcs.{Arc, up-arc, down-arc, arcs, of-ties, in-up, in-down, meets}
 use Rattle.offsets.specs.Passes.{Near, near-add, near-known, far, known-not-far, Small}
+
+pub record Allowed (n : ℕ) (t : Tie) : Type 0 where
+  pub first-in : t .first < n
+  pub second-in : t .second < n
+  pub least-in : negℤ (pos 20000) ≤ℤ t .least
+  pub ordered : t .least ≤ℤ t .most
+  pub most-in : t .most ≤ℤ pos 20000
 
 pub record Ready (n : ℕ) (ts : List Tie) : Type 0 where
   pub few-records : n ≤ 1024

@@ -13,9 +13,9 @@ use lib.ListN.{length}
 use lib.Signed.{_≤ℤ_}
 use Rattle.offsets.specs.declared.Tie.{Tie}
 use Rattle.offsets.specs.Linear.{of-le, to-le, of-add, of-sub, of-neg-up, of-neg-down}
-use Rattle.offsets.specs.Offsets.{In, Placing, Meets, Places, Joins, Joined, self, onward, Allowed}
+use Rattle.offsets.specs.Offsets.{In, Placing, Meets, Places, Joins, Joined, self, onward}
 use Rattle.offsets.specs.Arcs.{turn, turned}
-use Rattle.offsets.specs.Third.{Ready}
+use Rattle.offsets.specs.Third.{Allowed, Ready}
 
 abbrev pub neg : Placing → Placing
 neg p x = negℤ (p x)

@@ -1,79 +1,99 @@
--- `begin` writes the numbers in turn. The loop's invariant: the numbers before i are as they are to be. The measure is what is left.
--- Assumes nothing.
-use mathlib.Core.Path.{_≡_, refl, sym, ap, _∙_, subst}
-use Prim.Native.Nat.{_≤_, _-_, _+_, _*_}
+-- `begin` looks for the causes in their order, then fills the front of the work. Assumes nothing.
+use mathlib.Core.Path.{_≡_, sym, ap, _∙_}
+use Prim.Native.Nat.{ℕ, _*_, _≤_}
+use lib.ListN.{length, drop}
+use lib.Seq.{length-take-le}
 use native.Mathlib.Omega.{arith}
 use borrow.Author.Needs.{needs}
-use lib.ListN.{length, set, length-set}
-use Rattle.offsets.proofs.Begins.{Begun, begun-none, begun-more, begun-all}
+use Rattle.offsets.specs.Inner.{sooner, baseNumber}
+use Rattle.offsets.proofs.Planning.{plan-refused, plan-judged, base-in, plan-short, plan-made}
 use Rattle.offsets.proofs.begin.Statement.{statement}
 use Rattle.offsets.proofs.begin.Tie as tie
 use Rattle.offsets.proofs.begin.Reads as reads
 use Rattle.offsets.proofs.begin.Lts as lts
-use Rattle.offsets.proofs.first_number.Reads as first-number-reads
+use Rattle.offsets.proofs.base_number.Reads as base-number-reads
+use Rattle.offsets.proofs.fill.Reads as fill-reads
+use Rattle.offsets.proofs.open_number.Reads as open-number-reads
+use Rattle.offsets.proofs.sooner.Reads as sooner-reads
 
-abbrev Inv-loop : tie.InvT-loop
-Inv-loop n base d₀ i₀ d i = (i ≤ length d) × ((length d ≡ length d₀) × Begun n base i d)
+-- the number of the base and that of the ties, the sooner of the two
+first-is : (c : tie.After-sooner) → c .sooner .result ≡ sooner (baseNumber (c .before .before .before .before .args .n) (c .before .before .before .before .args .state .now)
+    (c .before .before .before .before .args .base) (c .before .before .before .before .args .count)) (c .before .before .before .before .args .found)
+first-is c = c .sooner .ensures ∙ ap (λ (k : ℕ). sooner k (c .before .before .before .before .args .found)) (c .before .base-number .ensures)
 
-abbrev μ-loop : tie.MeasureT-loop
-μ-loop n base d₀ i₀ d i = length d - i
+-- src/lib.rt:363:9
+open-number-requires : tie.Need-open-number-requires
+open-number-requires c κs = search needs
 
--- src/lib.rt:134:5
-loop-holds : tie.Need-loop-holds Inv-loop μ-loop
-loop-holds c = (omega arith, (refl, begun-none (c .args .n) (c .args .base) (c .args .d .now)))
+-- src/lib.rt:364:9
+base-number-requires : tie.Need-base-number-requires
+base-number-requires c κs = search needs
 
--- src/lib.rt:135:13
-first-number-requires : tie.Need-first-number-requires Inv-loop μ-loop
-first-number-requires c κs = c .before .before .pre .1
+-- src/lib.rt:365:9
+sooner-requires : tie.Need-sooner-requires
+sooner-requires c κs = search needs
 
--- src/lib.rt:136:9
-mul-v : tie.Need-mul-v Inv-loop μ-loop
-mul-v c = search needs
+-- src/lib.rt:367:9
+returns : tie.Need-returns
+returns c = let s = c .before .before .before .before .before in (_, (c .before .before .before .open-number .ensures, plan-refused (record { refused = c .before .before .before .open-number .result; n = s .args .n; marks = s .args .state .now }) (s .args .base) (s .args .found) (s .args .count) (s .args .work .now) (c .if1 .taken)))
 
--- src/lib.rt:136:9
-slice-set-from-v : tie.Need-slice-set-from-v Inv-loop μ-loop
-slice-set-from-v c = search needs
+-- src/lib.rt:370:9
+returns-2 : tie.Need-returns-2
+returns-2 c = let s = c .before .before .before .before .before .before in (_, (c .before .before .before .before .open-number .ensures, plan-judged (record { refused = c .before .before .before .before .open-number .result; n = s .args .n; marks = s .args .state .now }) (s .args .base) (s .args .found) (s .args .count) (s .args .work .now) (c .before .if1 .left) _ (first-is (c .before .before)) (c .if2 .taken)))
 
--- src/lib.rt:137:9
-add-i : tie.Need-add-i Inv-loop μ-loop
-add-i c = search needs
+-- src/lib.rt:373:21
+mul-if3 : tie.Need-mul-if3
+mul-if3 c = search needs
 
--- src/lib.rt:134:5
-loop-less : tie.Need-loop-less Inv-loop μ-loop
-loop-less c = simp length-set (omega arith)
+-- src/lib.rt:374:9
+returns-3 : tie.Need-returns-3
+returns-3 c = let s = c .before .before .before .before .before .before .before in (_, (c .before .before .before .before .before .open-number .ensures, plan-short (record { refused = c .before .before .before .before .before .open-number .result; n = s .args .n; marks = s .args .state .now }) (s .args .base) (s .args .found) (s .args .count) (s .args .work .now) (c .before .before .if1 .left) _ (first-is (c .before .before .before)) (c .before .if2 .left) (c .if3 .taken)))
 
--- src/lib.rt:134:5
-loop-again : tie.Need-loop-again Inv-loop μ-loop
-loop-again c =
-    let l = c .before .before .loop in
-    let a = c .before .before .before .args in (
-      simp length-set (omega arith),
-      (length-set (l .d) (l .i) _ ∙ l .inv .1 .0, begun-more (a .n) (a .base) (l .i) (l .d) (c .first-number .result) (c .before .loop-test .taken) (c .first-number .ensures) (l .inv .1 .1)),
-    )
+-- src/lib.rt:376:40
+mul-fill : tie.Need-mul-fill
+mul-fill c = search needs
 
--- src/lib.rt:129:1
-same-length : tie.Need-same-length Inv-loop μ-loop
+-- src/lib.rt:376:28
+slice-relend-prefix-fill : tie.Need-slice-relend-prefix-fill
+slice-relend-prefix-fill c = search needs
+
+-- src/lib.rt:376:28
+slice-aggregate-fill : tie.Need-slice-aggregate-fill
+slice-aggregate-fill c =
+    let s = c .before .before .before .before .before .before .before .before in
+    let h : s .args .n * 3 ≤ length (s .args .work .now) = omega (arith, c .before .if3 .left) in sym (length-take-le (s .args .n * 3) (s .args .work .now) h)
+
+-- src/lib.rt:376:5
+fill-requires : tie.Need-fill-requires
+fill-requires c κs =
+    let s = c .before .before .before .before .before .before .before .before in
+    let h : s .args .n * 3 ≤ length (s .args .work .now) = omega (arith, c .before .if3 .left) in
+    (length-take-le (s .args .n * 3) (s .args .work .now) h, (omega arith, base-in (record { refused = c .before .before .before .before .before .before .open-number .result; n = s .args .n; marks = s .args .state .now }) (s .args .base) (s .args .found) (s .args .count) (s .args .work .now) (c .before .before .before .if1 .left) _ (first-is (c .before .before .before .before)) (c .before .before .if2 .left)))
+
+-- src/lib.rt:360:1
+same-length : tie.Need-same-length
 same-length c = search needs
 
--- src/lib.rt:129:1
-returns : tie.Need-returns Inv-loop μ-loop
-returns c =
-    let l = c .before .loop in
-    let a = c .before .before in
-    begun-all (a .args .n) (a .args .base) (l .i) (length (a .args .d .now)) (l .d) (l .inv .1 .0) (a .pre .0) (omega arith) (l .inv .1 .1)
+-- src/lib.rt:360:1
+returns-4 : tie.Need-returns-4
+returns-4 c =
+    let s = c .before .before .before .before .before .before .before .before .before .before in
+    (_, (c .before .before .before .before .before .before .before .before .open-number .ensures, plan-made (record { refused = c .before .before .before .before .before .before .before .before .open-number .result; n = s .args .n; marks = s .args .state .now }) (s .args .base) (s .args .found) (s .args .count) (s .args .work .now) (c .before .before .before .before .before .if1 .left) _ (first-is (c .before .before .before .before .before .before)) (c .before .before .before .before .if2 .left) (c .before .before .before .if3 .left) (c .before .fill .last .1 .1 .0) (drop (s .args .n * 3) (s .args .work .now)) (c .before .fill .ensures)))
 
 pub begin-spec : {M : Type 1} → statement M
 begin-spec =
     tie.close
     (tie.spec
-    Inv-loop
-    μ-loop
-    loop-holds
-    first-number-requires
-    mul-v
-    slice-set-from-v
-    add-i
-    loop-less
-    loop-again
+    open-number-requires
+    base-number-requires
+    sooner-requires
+    returns
+    returns-2
+    mul-if3
+    returns-3
+    mul-fill
+    slice-relend-prefix-fill
+    slice-aggregate-fill
+    fill-requires
     same-length
-    returns)
+    returns-4)
