@@ -1,5 +1,5 @@
-//! The declarations in `src/calls.rs` and `dating.h` are those of the functions that `crates/host/src/lib.rt` exports: the same names, in the
-//! same order, with the same parameters and results. Nothing else holds them to one another.
+//! The declarations in `src/calls.rs` and `dating.h` are those of the functions that `crates/host/src` exports: the same names, in the same
+//! order, with the same parameters and results. Nothing else holds them to one another.
 
 use std::fs;
 use std::path::Path;
@@ -11,6 +11,12 @@ struct Function {
     parameters: Vec<(String, String)>,
     result: String,
 }
+
+/// The modules of `crates/host/src` that export functions, in the order of the declarations.
+const MODULES: [&str; 3] = ["edits", "questions", "trees"];
+
+/// Those that export none.
+const OTHERS: [&str; 2] = ["lib", "told"];
 
 fn text(path: &str) -> String {
     let path = Path::new(env!("CARGO_MANIFEST_DIR")).join(path);
@@ -72,6 +78,12 @@ fn exported(source: &str) -> Vec<Function> {
     functions.map(|f| Function { parameters: f.parameters.into_iter().flat_map(lent).collect(), ..f }).collect()
 }
 
+/// The exported functions of all modules.
+fn exported_by_all() -> Vec<Function> {
+    let sources = MODULES.map(|module| exported(&text(&format!("../crates/host/src/{module}.rt"))));
+    sources.into_iter().flatten().collect()
+}
+
 /// The functions of the `extern` block.
 fn declared_in_rust(source: &str) -> Vec<Function> {
     let source = plain(source);
@@ -118,11 +130,26 @@ fn same(declared: Vec<Function>, exported: &[Function]) {
 
 #[test]
 fn declarations_are_those_of_the_source() {
-    let exported = exported(&text("../crates/host/src/lib.rt"));
+    let exported = exported_by_all();
     assert!(!exported.is_empty());
     same(declared_in_rust(&text("src/calls.rs")), &exported);
     same(declared_in_c(&text("dating.h")), &exported);
     println!("{} functions compared, in Rust and in C", exported.len());
+}
+
+/// Every source file is read, or exports nothing.
+#[test]
+fn modules_are_those_of_the_source() {
+    let folder = Path::new(env!("CARGO_MANIFEST_DIR")).join("../crates/host/src");
+    let files = fs::read_dir(&folder).unwrap_or_else(|error| panic!("{}: {error}", folder.display()));
+    let mut found: Vec<String> = files.map(|file| file.expect("a file").file_name().into_string().expect("a name")).collect();
+    let mut named: Vec<String> = MODULES.iter().chain(&OTHERS).map(|module| format!("{module}.rt")).collect();
+    found.sort();
+    named.sort();
+    assert_eq!(found, named);
+    for module in OTHERS {
+        assert_eq!(exported(&text(&format!("../crates/host/src/{module}.rt"))), [], "{module}");
+    }
 }
 
 /// A safe function of `calls` has the parameters of the source.
@@ -130,7 +157,7 @@ fn declarations_are_those_of_the_source() {
 fn safe_functions_are_those_of_the_source() {
     let source = plain(&text("src/calls.rs"));
     let safe: Vec<Function> = source.split("pub fn ").skip(1).map(|text| rust_function(text).0).collect();
-    for exported in exported(&text("../crates/host/src/lib.rt")) {
+    for exported in exported_by_all() {
         let found = safe.iter().find(|safe| format!("dating_{}", safe.name) == exported.name).expect(&exported.name);
         let parameters: Vec<_> = found.parameters.iter().cloned().flat_map(lent).collect();
         assert_eq!((parameters, &found.result), (exported.parameters, &exported.result), "{}", found.name);

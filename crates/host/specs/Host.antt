@@ -10,9 +10,10 @@
 --                   register's words the number and the words after it are those of an outcome that the call c promises
 --   Calls cs ws vs ks
 --                   the calls cs, each given the words that the one before left, from the words ws on: the words vs at the end, and the numbers ks
+--   pastCounts      2^32, which no count reaches; told in place of one
 --   refusal k       a refusal told as a number of 64 bits
 --   toldPairs, toldChain, toldTotal, toldTree
---                   an answer told as a number of 64 bits: a count, 2^32 for no chain, or a refusal
+--                   an answer told as a number of 64 bits: a count, `pastCounts` for no chain, or a refusal
 --   Told P f k      k tells an answer, by f, that P promises
 --   Asked ws P f before after k
 --                   what a question promises: of a register's words the answer is one that P promises of that register; words that are no register's
@@ -28,7 +29,7 @@
 use mathlib.Core.Path.{_≡_}
 use mathlib.Core.List.{List, [], _∷_}
 use mathlib.Core.Bool.{_||_}
-use Prim.Native.Nat.{ℕ, _+_}
+use Prim.Native.Nat.{ℕ, _+_, _*_}
 use lib.ListN.{length, take, drop}
 use lib.Dec.{ltb}
 use Rattle.book.specs.Basics.{bit}
@@ -73,8 +74,11 @@ pub data Calls : List Call → List ℕ → List ℕ → List ℕ → Type 0 whe
   none : {ws : List ℕ} → Calls [] ws ws []
   then : {c : Call} {cs : List Call} {ws us vs ks : List ℕ} {k : ℕ} → Edits c ws us k → Calls cs us vs ks → Calls (c ∷ cs) ws vs (k ∷ ks)
 
+abbrev pub pastCounts : ℕ
+pastCounts = 4294967296
+
 abbrev pub refusal : ℕ → ℕ
-refusal k = 8589934592 + k
+refusal k = 2 * pastCounts + k
 
 abbrev pub toldPairs : PairsAnswer → ℕ
 toldPairs (Pairs k) = k
@@ -82,7 +86,7 @@ toldPairs (Refused k) = refusal k
 
 abbrev pub toldChain : ChainAnswer → ℕ
 toldChain (Chain k) = k
-toldChain NoChain = 4294967296
+toldChain NoChain = pastCounts
 toldChain (Unchained k) = refusal k
 
 abbrev pub toldTotal : TotalAnswer → ℕ

@@ -1,0 +1,46 @@
+-- `host::edits::dating_fresh` stores the register that `engine::open` makes. Assumes nothing.
+use mathlib.Core.Path.{sym, _∙_}
+use borrow.Author.Tests.{not-true, not-false}
+use Rattle.book.specs.Causes.{number}
+use Rattle.host.proofs.Carrying.{fresh-refused, fresh-short, fresh-made}
+use borrow.Author.Needs.{needs}
+use Rattle.host.proofs.edits.dating_fresh.Statement.{statement}
+use Rattle.host.proofs.edits.dating_fresh.Tie as tie
+
+open-requires : tie.Need-open-requires
+open-requires c κs = search needs
+
+number-of-requires : tie.Need-number-of-requires
+number-of-requires c κs = search needs
+
+returns : tie.Need-returns
+returns c = fresh-refused (c .before .before .open .ensures) _ (c .before .number-of .ensures) (c .if1 .taken)
+
+store-requires : tie.Need-store-requires
+store-requires c κs = search needs
+
+same-length : tie.Need-same-length
+same-length c = search needs
+
+returns-2 : tie.Need-returns-2
+unfolding number
+returns-2 c = fresh-short (c .before .before .before .before .before .before .before .before .open .ensures) _ (sym (c .before .before .before .before .before .before .before .number-of .ensures) ∙ c .before .before .before .before .before .before .if1 .left) _ _ (c .before .before .before .store .ensures) (not-true _ (c .if2 .taken))
+
+same-length-2 : tie.Need-same-length-2
+same-length-2 c = search needs
+
+returns-3 : tie.Need-returns-3
+returns-3 c = fresh-made (c .before .before .before .before .before .before .before .before .open .ensures) _ (sym (c .before .before .before .before .before .before .before .number-of .ensures) ∙ c .before .before .before .before .before .before .if1 .left) _ _ (c .before .before .before .store .kept .1 .0) (c .before .before .before .store .ensures) (not-false _ (c .if2 .left))
+
+pub dating-fresh-spec : {M : Type 1} → statement M
+dating-fresh-spec =
+    tie.close
+    (tie.spec
+    open-requires
+    number-of-requires
+    returns
+    store-requires
+    same-length
+    returns-2
+    same-length-2
+    returns-3)

@@ -1,0 +1,23 @@
+-- `host::edits::dating_undo` is `edit` with the call Undo. Assumes nothing.
+use Rattle.register.specs.Calls.{callOf}
+use borrow.Author.Needs.{needs}
+use Rattle.host.proofs.edits.dating_undo.Statement.{statement}
+use Rattle.host.proofs.edits.dating_undo.Tie as tie
+
+edit-requires : tie.Need-edit-requires
+edit-requires c κs = search needs
+
+same-length : tie.Need-same-length
+same-length c = search needs
+
+returns : tie.Need-returns
+unfolding callOf
+returns c = c .before .before .edit .ensures
+
+pub dating-undo-spec : {M : Type 1} → statement M
+dating-undo-spec =
+    tie.close
+    (tie.spec
+    edit-requires
+    same-length
+    returns)

@@ -1,0 +1,49 @@
+-- `host::questions::dating_chain` carries the promise of the question over to words. Assumes nothing.
+use mathlib.Core.Path.{refl}
+use Rattle.book.specs.Causes.{number}
+use Rattle.host.proofs.Carrying.{load-none, load-some, asked-foreign, asked}
+use borrow.Author.Needs.{needs}
+use Rattle.host.proofs.questions.dating_chain.Statement.{statement}
+use Rattle.host.proofs.questions.dating_chain.Tie as tie
+
+load-requires : tie.Need-load-requires
+load-requires c κs = search needs
+
+number-of-requires : tie.Need-number-of-requires
+number-of-requires c κs = search needs
+
+told-refusal-requires : tie.Need-told-refusal-requires
+told-refusal-requires c κs = search needs
+
+returns : tie.Need-returns
+unfolding number
+returns c = asked-foreign (load-none (c .before .before .before .load .ensures) (c .before .before .number-of .ensures) (c .before .if1 .taken)) (c .told-refusal .ensures) refl
+
+chain-requires : tie.Need-chain-requires
+chain-requires c κs = search needs
+
+told-chain-requires : tie.Need-told-chain-requires
+told-chain-requires c κs = search needs
+
+same-length : tie.Need-same-length
+same-length c = search needs
+
+same-length-2 : tie.Need-same-length-2
+same-length-2 c = search needs
+
+returns-2 : tie.Need-returns-2
+returns-2 c = asked (load-some (c .before .before .before .before .before .before .before .before .before .before .load .ensures) (c .before .before .before .before .before .before .before .before .before .number-of .ensures) (c .before .before .before .before .before .before .before .before .if1 .left)) (c .before .before .before .before .before .chain .result) (c .before .before .before .before .before .chain .ensures) (c .told-chain .ensures)
+
+pub dating-chain-spec : {M : Type 1} → statement M
+dating-chain-spec =
+    tie.close
+    (tie.spec
+    load-requires
+    number-of-requires
+    told-refusal-requires
+    returns
+    chain-requires
+    told-chain-requires
+    same-length
+    same-length-2
+    returns-2)
