@@ -23,7 +23,7 @@
 //!
 //! A call that cannot be done is refused with the first of its causes, a [`Refusal`], and then nothing is changed.
 //!
-//! * [`Register`]: edits, undo, and both questions
+//! * [`Register`]: edits, undo, both questions, and offsets known within limits
 //! * [`Trees`] and [`Tree`]: sets of pairs as k2-trees, and their algebra
 //! * [`calls`]: the engine's functions as they are exported, on plain slices
 //!
@@ -31,13 +31,15 @@
 
 pub mod calls;
 mod items;
+mod offsets;
 mod refusal;
 mod register;
 mod space;
 mod tree;
 
 pub use items::{Link, Links, Pairs, Step, Steps};
+pub use offsets::{Offset, Offsets, Tie};
 pub use refusal::Refusal;
 pub use register::Register;
-pub use space::{chain_work, longest_chain, most_pairs, tree_words, tree_work};
+pub use space::{chain_work, longest_chain, most_pairs, offsets_work, tree_words, tree_work};
 pub use tree::{Sense, Tree, Trees};

@@ -25,10 +25,11 @@ pub enum Refusal {
     NotOpened = 16,
     Touched = 17,
     Withdrawn = 18,
+    Tie = 19,
 }
 
 /// Every cause, by ascending number, with its meaning.
-const CAUSES: [(Refusal, &str); 18] = [
+const CAUSES: [(Refusal, &str); 19] = [
     (Refusal::Size, "the number of records is outside 1 to 1,024"),
     (Refusal::Record, "a record is not below the number of records"),
     (Refusal::Label, "the label is above 25: it is no letter from a to z"),
@@ -41,22 +42,23 @@ const CAUSES: [(Refusal, &str); 18] = [
     (Refusal::Limits, "the expression is over 256 bytes, 63 letters or 8 deep"),
     (Refusal::Tree, "the tree is not well formed"),
     (Refusal::Work, "the work is shorter than stated"),
-    (Refusal::List, "the chain or the tree is longer than its list"),
+    (Refusal::List, "the chain, the tree or the offsets are longer than their list"),
     (Refusal::Frame, "the frame is broken"),
     (Refusal::Kind, "the kind is unknown"),
     (Refusal::NotOpened, "no register is opened: the words are not those of a register"),
     (Refusal::Touched, "a link touches the record to withdraw"),
     (Refusal::Withdrawn, "the record is withdrawn"),
+    (Refusal::Tie, "a tie is outside −20,000 to 20,000, has its least above its most, or is beyond the 1,024th"),
 ];
 
 impl Refusal {
-    /// The cause with this number, from 1 to 18.
+    /// The cause with this number, from 1 to 19.
     pub fn of(number: u32) -> Option<Refusal> {
         let (cause, _) = CAUSES.get((number as usize).checked_sub(1)?)?;
         Some(*cause)
     }
 
-    /// From 1 to 18.
+    /// From 1 to 19.
     pub fn number(self) -> u32 {
         self as u32
     }
@@ -81,11 +83,11 @@ mod tests {
 
     #[test]
     fn numbers_and_causes_belong_together() {
-        for number in 1..=18 {
+        for number in 1..=19 {
             let cause = Refusal::of(number).unwrap();
             assert_eq!((cause.number(), CAUSES[number as usize - 1].0), (number, cause));
         }
-        assert_eq!((Refusal::of(0), Refusal::of(19), Refusal::of(u32::MAX)), (None, None, None));
+        assert_eq!((Refusal::of(0), Refusal::of(20), Refusal::of(u32::MAX)), (None, None, None));
         assert_eq!(Refusal::Withdrawn.to_string(), "refused 18: the record is withdrawn");
     }
 }

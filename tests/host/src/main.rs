@@ -8,6 +8,7 @@ mod damage;
 mod engine;
 mod history;
 mod lent;
+mod offsets;
 mod run;
 mod trees;
 
@@ -18,7 +19,7 @@ use std::time::Instant;
 type Kind = (&'static str, fn(&mut Run, u64, Size), Size, [u64; 3]);
 
 /// Each kind of case with its size, and how many there are: in the short run, in the long one, on the heap.
-const KINDS: [Kind; 11] = [
+const KINDS: [Kind; 14] = [
     ("history of few records", history::history, Size(1, 64), [200, 1000, 3]),
     ("history of some records", history::history, Size(65, 256), [80, 500, 0]),
     ("history of many records", history::history, Size(257, 1024), [40, 300, 0]),
@@ -30,6 +31,9 @@ const KINDS: [Kind; 11] = [
     ("trees of many records", trees::trees, Size(257, 1024), [16, 100, 0]),
     ("damaged words, few records", damage::damaged, Size(1, 64), [400, 5000, 20]),
     ("damaged words, many records", damage::damaged, Size(65, 1024), [100, 1500, 1]),
+    ("offsets of few records", offsets::offsets, Size(1, 12), [20_000, 200_000, 20]),
+    ("offsets of some records", offsets::offsets, Size(13, 256), [300, 3000, 0]),
+    ("offsets of many records", offsets::offsets, Size(1000, 1024), [12, 100, 0]),
 ];
 
 /// What a call may take of the stack, and this program beside it.
@@ -79,7 +83,7 @@ fn run_all() -> ExitCode {
     }
     let counts = &run.counts;
     println!(
-        "{cases} cases: {} edits, {} registers read, {} pair questions, {} chain questions, {} tree calls, {} damaged registers; \
+        "{cases} cases: {} edits, {} registers read, {} pair questions, {} chain questions, {} tree calls, {} damaged registers, {} offsets; \
          {} calls, {} differences",
         counts.edits,
         counts.contents,
@@ -87,6 +91,7 @@ fn run_all() -> ExitCode {
         counts.chains,
         counts.trees,
         counts.damaged,
+        counts.offsets,
         run.engine.calls,
         run.differences
     );

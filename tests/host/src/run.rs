@@ -12,6 +12,7 @@ pub struct Counts {
     pub chains: usize,
     pub trees: usize,
     pub damaged: usize,
+    pub offsets: usize,
 }
 
 /// From how many records to how many.

@@ -8,6 +8,7 @@
 //! | `relation` | sets of pairs as rows of bits, and the set that an expression means | S3 Expressions |
 //! | `chain` | the first chain between two records | S4 Chains |
 //! | `tree` | k2-trees, well-formedness, the operations on trees | S5 Trees |
+//! | `offsets` | offsets known within limits | S19 Offsets known within limits |
 //! | `question` | pair and chain questions with all their refusals | S6 Causes and numbers |
 //! | `frame` | requests as frames, and frames read as requests | S7 The program |
 //! | `program` | the program: frames in, lines out | S7 The program |
@@ -21,6 +22,7 @@ pub mod chain;
 pub mod expression;
 pub mod frame;
 pub mod lines;
+pub mod offsets;
 pub mod program;
 pub mod question;
 pub mod random;
@@ -78,6 +80,7 @@ pub enum Refusal {
     Touched = 17,
     /// a withdrawn record named in add, remove, lock or unlock
     Withdrawn = 18,
+    Tie = 19,
 }
 
 impl Refusal {
