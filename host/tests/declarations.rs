@@ -13,7 +13,7 @@ struct Function {
 }
 
 /// The modules of `crates/host/src` that export functions, in the order of the declarations.
-const MODULES: [&str; 4] = ["edits", "questions", "trees", "offsets"];
+const MODULES: [&str; 4] = ["edits", "questions", "trees", "ties"];
 
 /// Those that export none.
 const OTHERS: [&str; 2] = ["lib", "told"];

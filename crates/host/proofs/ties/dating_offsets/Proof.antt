@@ -1,4 +1,4 @@
--- `host::offsets::dating_offsets` meets its contract: a straight walk of its MIR, by hand, with one call. The words and the ties are handed on as they are, a copy of each; the work and the list are given up for good.
+-- `host::ties::dating_offsets` meets its contract: a straight walk of its MIR, by hand, with one call. The words and the ties are handed on as they are, a copy of each; the work and the list are given up for good.
 -- All that the proof knows of `offsets::offsets` is that it meets its contract, which is the same.
 -- Assumes nothing.
 use mathlib.Core.Path.{_≡_, refl}
@@ -44,10 +44,10 @@ use Rattle.offsets.proofs.offsets as offsets
 use Rattle.offsets.proofs.offsets.Symbol as offsets-def
 use Rattle.offsets.proofs.offsets.Symbol.{name as #offsets·offsets}
 use Rattle.offsets.proofs.offsets.Met as offsets-thm
-use Rattle.host.proofs.offsets.dating_offsets.Key.{name as #host·dating-offsets}
-use Rattle.host.proofs.offsets.dating_offsets as dating
-use Rattle.host.proofs.offsets.dating_offsets.Statement as stated
-use Rattle.host.proofs.offsets.dating_offsets.Code as code
+use Rattle.host.proofs.ties.dating_offsets.Key.{name as #host·dating-offsets}
+use Rattle.host.proofs.ties.dating_offsets as dating
+use Rattle.host.proofs.ties.dating_offsets.Statement as stated
+use Rattle.host.proofs.ties.dating_offsets.Code as code
 
 abbrev R : RattleType
 R = T.the-row
