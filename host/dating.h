@@ -4,7 +4,7 @@
  * contents, and ends. What is written (state, list, out, tree, work) must not overlap what else is lent.
  *
  * A uint32_t answer is 0, or the number of a refusal, unless it says otherwise. A uint64_t answer is a total, or the number of words of the answer;
- * DATING_NO_CHAIN; DATING_LOOP plus the number of steps of a loop; or DATING_REFUSED plus the number of a refusal. Of links and pairs (dating_links,
+ * DATING_NO_CHAIN, or DATING_CANNOT_HOLD; DATING_LOOP plus the number of steps of a loop; or DATING_REFUSED plus the number of a refusal. Of links and pairs (dating_links,
  * dating_pairs, dating_pairs_by_rows, dating_tree_list, dating_preview) it is the total, of which the first min(total, list_len) are written; any other answer that is longer than
  * its list is refused. A refused call leaves state and list as they were; words of a list past the answer, and of a state past DATING_STATE_WORDS, are never
  * touched; work may hold anything after a call. The numbers:
@@ -18,8 +18,10 @@
  *       withdrawn, already                         16  the words are not those of a register
  *    6  link absent, record not locked, or         17  a link touches the record to withdraw
  *       record to reinstate in use                 18  a withdrawn record named in add, remove, lock or
- *    7  4,096 links present                            unlock
- *    8  no edit held that could be undone          20  anchors out of order or repeated
+ *    7  4,096 links present                            unlock, as base or in a tie
+ *    8  no edit held that could be undone          19  a tie outside -20,000 to 20,000, with least
+ *                                                      above most, or beyond the 1,024th
+ *                                                  20  anchors out of order or repeated
  *    9  expression outside the grammar             21  no record in use
  *
  * tests/declarations.rs holds this file to the Rattle source.
@@ -42,6 +44,8 @@ extern "C" {
 #define DATING_NO_CHAIN (UINT64_C(1) << 32)
 /* Plus the number of steps of a loop (dating_generations). */
 #define DATING_LOOP (UINT64_C(1) << 32)
+/* No placing meets all ties. */
+#define DATING_CANNOT_HOLD (UINT64_C(1) << 32)
 /* Plus the number of a refusal. */
 #define DATING_REFUSED (UINT64_C(1) << 33)
 /* In a list of new numbers, what stands for a withdrawn record. */
@@ -127,6 +131,16 @@ uint64_t dating_read_pages(const uint8_t *text, size_t text_len, const uint8_t *
 /* The pairs as dating_pairs gives them, by the engine on rows of bits. Work of 32 * n * w words, where w is n / 64, rounded up. */
 uint64_t dating_pairs_by_rows(const uint32_t *state, size_t state_len, const uint8_t *text, size_t text_len, uint64_t *work, size_t work_len,
                               uint32_t *list, size_t list_len);
+
+/* A tie: the second record begins at least least and at most most rings after the first, each from -20,000 to 20,000. */
+struct dating_tie {
+    uint16_t first, second;
+    int32_t least, most;
+};
+/* How many rings each record begins after the base in every placing of whole years that meets all ties, at most 1,024: two words to a record, the
+ * narrowest least and most, or 1 and 0 for a record that ties do not join to the base. Work of 64 * n words. */
+uint64_t dating_offsets(const uint32_t *state, size_t state_len, uint16_t base, const struct dating_tie *ties, size_t ties_len, int64_t *work,
+                        size_t work_len, int32_t *list, size_t list_len);
 
 #ifdef __cplusplus
 }

@@ -1,13 +1,13 @@
 //! The engine's functions as they are exported from `crates/host`: numbers and slices.
 //!
 //! A `u32` answer is 0 or the number of a refusal. A `u64` answer is a total, or the number of words of the answer; [`NO_CHAIN`] if there is no
-//! chain; [`LOOP`] + the number of steps of a loop; [`REFUSED`] + the number of a refusal. Links and pairs may be more than the list takes: the number is the total, of which the
+//! chain, [`CANNOT_HOLD`] if ties cannot all hold; [`LOOP`] + the number of steps of a loop; [`REFUSED`] + the number of a refusal. Links and pairs may be more than the list takes: the number is the total, of which the
 //! first min(total, list.len()) are written. A refused call leaves the state and the list as they were, and words of a list past
 //! the answer are never touched; work may hold anything after a call. A state may be longer than a register's words: its front is the
 //! register, and no call touches the words past it. Words that are no register's (too few, a counter out of range, a mark above 2) are
 //! refused with 16.
 
-use crate::Refusal;
+use crate::{Refusal, Tie};
 
 /// The words of a register: n, the number of links, the place of the next held edit, the number of held edits, then 4,096 words of links,
 /// 256 of held edits, 1,024 of marks (1 locked, 2 withdrawn), 26 of totals. Words saved before the totals, 5,380 of them, are refused with 16.
@@ -24,6 +24,9 @@ pub const NO_CHAIN: u64 = 1 << 32;
 
 /// What is added to the number of steps of a loop in the answer of [`generations`].
 pub const LOOP: u64 = 1 << 32;
+
+/// The answer to offsets if no placing meets all ties.
+pub const CANNOT_HOLD: u64 = 1 << 32;
 
 /// What is added to the number of a refusal in a `u64` answer.
 pub const REFUSED: u64 = 1 << 33;
@@ -44,7 +47,7 @@ pub fn counted(answer: u64) -> Result<usize, Refusal> {
     told(answer).map(|count| count.expect("only a chain question is answered with no chain"))
 }
 
-/// An answer that is a count, no chain, or refused.
+/// An answer that is a count, or none (no chain, or ties that cannot all hold), or refused.
 pub fn told(answer: u64) -> Result<Option<usize>, Refusal> {
     match answer {
         0..NO_CHAIN => Ok(Some(answer as usize)),
@@ -250,6 +253,17 @@ extern "C" {
         work: *mut u64,
         work_len: usize,
         list: *mut u32,
+        list_len: usize,
+    ) -> u64;
+    fn dating_offsets(
+        state: *const u32,
+        state_len: usize,
+        base: u16,
+        ties: *const Tie,
+        ties_len: usize,
+        work: *mut i64,
+        work_len: usize,
+        list: *mut i32,
         list_len: usize,
     ) -> u64;
 }
@@ -517,6 +531,23 @@ pub fn pairs_by_rows(state: &[u32], text: &[u8], work: &mut [u64], list: &mut [u
             state.len(),
             text.as_ptr(),
             text.len(),
+            work.as_mut_ptr(),
+            work.len(),
+            list.as_mut_ptr(),
+            list.len(),
+        )
+    }
+}
+
+/// Two words to a record: the least and the most that it begins after the base, or 1 and 0 if it is free. Work of 64 × n words.
+pub fn offsets(state: &[u32], base: u16, ties: &[Tie], work: &mut [i64], list: &mut [i32]) -> u64 {
+    unsafe {
+        dating_offsets(
+            state.as_ptr(),
+            state.len(),
+            base,
+            ties.as_ptr(),
+            ties.len(),
             work.as_mut_ptr(),
             work.len(),
             list.as_mut_ptr(),

@@ -23,7 +23,7 @@
 //!
 //! A call that cannot be done is refused with the first of its causes, a [`Refusal`], and then nothing is changed.
 //!
-//! * [`Register`]: edits, undo, both questions, and sole support
+//! * [`Register`]: edits, undo, both questions, sole support, and offsets known within limits
 //! * [`Register::pages`] and [`read_pages`]: the answer of a pair question as printed pages, and the pairs read back
 //! * [`Edit`]: an edit by name, for a preview of what it would do to an answer
 //! * [`Generations`]: the longest run of links to each record, or the first loop
@@ -37,8 +37,9 @@ pub mod calls;
 mod closing;
 mod generations;
 mod items;
-mod previews;
+mod offsets;
 mod pages;
+mod previews;
 mod refusal;
 mod register;
 mod space;
@@ -47,9 +48,10 @@ mod tree;
 
 pub use generations::{Generations, Numbers};
 pub use items::{Link, Links, Pairs, Records, Step, Steps};
+pub use offsets::{Offset, Offsets, Tie};
 pub use pages::{page_bytes, read_pages};
 pub use previews::Edit;
 pub use refusal::Refusal;
 pub use register::Register;
-pub use space::{chain_work, longest_chain, most_pairs, rows_work, support_work, tree_words, tree_work};
+pub use space::{chain_work, longest_chain, most_pairs, offsets_work, rows_work, support_work, tree_words, tree_work};
 pub use tree::{Sense, Tree, Trees};

@@ -25,6 +25,7 @@ pub enum Refusal {
     NotOpened = 16,
     Touched = 17,
     Withdrawn = 18,
+    Tie = 19,
     Anchors = 20,
     NoneInUse = 21,
 }
@@ -43,12 +44,13 @@ const CAUSES: &[(Refusal, &str)] = &[
     (Refusal::Limits, "the expression is over 256 bytes, 63 letters or 8 deep"),
     (Refusal::Tree, "the tree is not well formed"),
     (Refusal::Work, "the work is shorter than stated"),
-    (Refusal::List, "the chain, the loop, the tree, the numbers or the pages are longer than the space for them"),
+    (Refusal::List, "the chain, the loop, the tree, the numbers, the offsets or the pages are longer than the space for them"),
     (Refusal::Frame, "the frame is broken, or the bytes are not the pages of the expression"),
     (Refusal::Kind, "the kind is unknown"),
     (Refusal::NotOpened, "no register is opened: the words are not those of a register"),
     (Refusal::Touched, "a link touches the record to withdraw"),
     (Refusal::Withdrawn, "the record is withdrawn"),
+    (Refusal::Tie, "a tie is outside −20,000 to 20,000, has its least above its most, or is beyond the 1,024th"),
     (Refusal::Anchors, "the anchors are out of order or repeated"),
     (Refusal::NoneInUse, "no record is in use"),
 ];

@@ -29,6 +29,11 @@ pub fn support_work(n: u16) -> usize {
     tree_work(n) + chain_work(n)
 }
 
+/// The words of work for offsets.
+pub fn offsets_work(n: u16) -> usize {
+    64 * in_range(n)
+}
+
 /// The length of a list that has room for every answer to a pair question.
 pub fn most_pairs(n: u16) -> usize {
     in_range(n) * in_range(n)

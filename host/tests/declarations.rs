@@ -13,7 +13,8 @@ struct Function {
 }
 
 /// The modules of `crates/host/src` that export functions, in the order of the declarations.
-const MODULES: [&str; 9] = ["edits", "questions", "trees", "previews", "closing", "numbering", "sole_support", "printing", "by_rows"];
+const MODULES: [&str; 10] =
+    ["edits", "questions", "trees", "previews", "closing", "numbering", "sole_support", "printing", "by_rows", "ties"];
 
 /// Those that export none.
 const OTHERS: [&str; 2] = ["lib", "told"];
@@ -96,7 +97,12 @@ fn declared_in_rust(source: &str) -> Vec<Function> {
 fn of_c(of: &str) -> String {
     let number = |of: &str| match of {
         "size_t" => "usize".to_string(),
-        _ => of.strip_prefix("uint").and_then(|of| of.strip_suffix("_t")).map(|bits| format!("u{bits}")).expect("a number"),
+        "struct dating_tie" => "Tie".to_string(),
+        _ => match (of.strip_prefix("uint"), of.strip_prefix("int")) {
+            (Some(bits), _) => format!("u{}", bits.strip_suffix("_t").expect("a number")),
+            (_, Some(bits)) => format!("i{}", bits.strip_suffix("_t").expect("a number")),
+            _ => panic!("no number: {of}"),
+        },
     };
     match (of.strip_suffix(" *"), of.strip_prefix("const ")) {
         (Some(_), Some(rest)) => format!("*const {}", number(rest.trim_end_matches(" *"))),
@@ -195,4 +201,29 @@ fn constants_are_the_same() {
     let power = |number: u64| format!("(UINT64_C(1) << {})", number.trailing_zeros());
     assert_eq!(defined("DATING_NO_CHAIN"), power(dating::calls::NO_CHAIN));
     assert_eq!(defined("DATING_REFUSED"), power(dating::calls::REFUSED));
+    assert_eq!(defined("DATING_CANNOT_HOLD"), power(dating::calls::CANNOT_HOLD));
+}
+
+/// A tie has C's layout, and the header's fields are those of the crate and of the Rattle source.
+#[test]
+fn tie_is_the_same() {
+    let fields = "first: u16, second: u16, least: i32, most: i32,";
+    for (source, before) in
+        [(text("src/offsets.rs"), "pub struct Tie {"), (text("../crates/offsets/src/lib.rt"), "pub struct Tie {")]
+    {
+        let source = plain(&source);
+        let (_, rest) = source.split_once(before).expect("a struct");
+        let (found, _) = rest.split_once('}').expect("its end");
+        assert_eq!(found.replace("pub ", "").trim(), fields);
+    }
+    assert!(plain(&text("dating.h")).contains("struct dating_tie { uint16_t first, second; int32_t least, most; };"));
+    assert_eq!((std::mem::size_of::<dating::Tie>(), std::mem::align_of::<dating::Tie>()), (12, 4));
+    assert_eq!(
+        (
+            std::mem::offset_of!(dating::Tie, second),
+            std::mem::offset_of!(dating::Tie, least),
+            std::mem::offset_of!(dating::Tie, most)
+        ),
+        (2, 4, 8)
+    );
 }

@@ -9,7 +9,7 @@ use lib.ListN.{length, take}
 use lib.Dec.{leb, eqb}
 use borrow.Author.Tests.{leb-false, not-false, eq-eqb, eqb-true, ne-eqb}
 use Rattle.book.specs.Basics.{pick, In, here, there, has, without, All, all-none, all-more}
-use Rattle.book.specs.Causes.{Cause, bad-size, no-record, bad-label, locked-end, already, missing, full, none-held, no-expression, too-many-bytes, too-large, bad-tree, short-work, short-list, broken-frame, unknown-kind, not-open, touched-record, withdrawn-record, unordered-anchors, none-in-use, number, Caused, editOrder, closeOrder, firstNumber, InOrder, none-left, same-cause, passed-over, maxRecords, labels, maxLinks, maxHeld}
+use Rattle.book.specs.Causes.{Cause, bad-size, no-record, bad-label, locked-end, already, missing, full, none-held, no-expression, too-many-bytes, too-large, bad-tree, short-work, short-list, broken-frame, unknown-kind, not-open, touched-record, withdrawn-record, bad-tie, unordered-anchors, none-in-use, number, Caused, editOrder, closeOrder, firstNumber, InOrder, none-left, same-cause, passed-over, maxRecords, labels, maxLinks, maxHeld}
 use Rattle.book.specs.Book.{Link, sameLink, Sheet, Book, Edit, add, remove, lock, unlock, withdraw, reinstate, Call, edit, undo, close, present, isLocked, isWithdrawn, touched, used, causes, editAnswer, edited, turned, undoAnswer, undone, closeCauses, closeAnswer, closed, answer, next, fresh, answers, after}
 use Rattle.book.specs.Sheets.{Distinct, Proper, Fit, Sound}
 use Rattle.book.specs.RankLaws.{rank-le}
@@ -53,6 +53,7 @@ number-positive unknown-kind = omega arith
 number-positive not-open = omega arith
 number-positive touched-record = omega arith
 number-positive withdrawn-record = omega arith
+number-positive bad-tie = omega arith
 number-positive unordered-anchors = omega arith
 number-positive none-in-use = omega arith
 

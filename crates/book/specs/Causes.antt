@@ -3,7 +3,7 @@
 --   allCauses       every cause, in the order of this file
 --   number c        the number of a cause
 --   Caused k        k is the number of a cause
---   editOrder, questionOrder, treeOrder, closeOrder, supportOrder
+--   editOrder, questionOrder, treeOrder, closeOrder, supportOrder, offsetsOrder
 --                   the causes of each kind of call, in the order in which they are looked for
 --   firstNumber cs  of causes, each with whether it is there: the number of the first that is there, or 0 if none is
 --   InOrder cs os   the causes cs are some of the order os, in that order
@@ -53,8 +53,10 @@ pub data Cause : Type 0 where
   not-open : Cause
   -- withdrawing a record that a link touches
   touched-record : Cause
-  -- a withdrawn record named in add, remove, lock or unlock
+  -- a withdrawn record named in add, remove, lock or unlock, as base or in a tie
   withdrawn-record : Cause
+  -- a tie outside the limits of offsets, with least above most, or beyond the 1,024th
+  bad-tie : Cause
   -- anchors out of order or repeated
   unordered-anchors : Cause
   -- closing up with no record in use
@@ -63,7 +65,7 @@ pub data Cause : Type 0 where
 unfoldable pub allCauses : List Cause
 allCauses =
     bad-size ∷ no-record ∷ bad-label ∷ locked-end ∷ already ∷ missing ∷ full ∷ none-held ∷ no-expression ∷ too-many-bytes ∷ too-large ∷ bad-tree ∷ short-work ∷
-    short-list ∷ broken-frame ∷ unknown-kind ∷ not-open ∷ touched-record ∷ withdrawn-record ∷ unordered-anchors ∷ none-in-use ∷ []
+    short-list ∷ broken-frame ∷ unknown-kind ∷ not-open ∷ touched-record ∷ withdrawn-record ∷ bad-tie ∷ unordered-anchors ∷ none-in-use ∷ []
 
 unfoldable pub number : Cause → ℕ
 number bad-size = 1
@@ -85,6 +87,7 @@ number unknown-kind = 15
 number not-open = 16
 number touched-record = 17
 number withdrawn-record = 18
+number bad-tie = 19
 number unordered-anchors = 20
 number none-in-use = 21
 
@@ -92,7 +95,8 @@ abbrev pub Caused : ℕ → Type 0
 Caused k = (c : Cause) × (k ≡ number c)
 
 -- the orders: edits 2, 18, 3, 4, 5, 6, 7, 17; questions 2, 10 for bytes, 9, 10 for letters and depth, 12, 13; trees 1, 2, 11, 12, 13;
--- closing up 21, 13; sole support 2, 20, 10 for bytes, 9, 10 for letters and depth, 12, 13
+-- closing up 21, 13; sole support 2, 20, 10 for bytes, 9, 10 for letters and depth, 12, 13;
+-- offsets 2, 18, 19, 12, 13, with "cannot all hold", which is no refusal, before 13
 unfoldable pub editOrder : List Cause
 editOrder = no-record ∷ withdrawn-record ∷ bad-label ∷ locked-end ∷ already ∷ missing ∷ full ∷ touched-record ∷ []
 
@@ -107,6 +111,9 @@ closeOrder = none-in-use ∷ short-list ∷ []
 
 unfoldable pub supportOrder : List Cause
 supportOrder = no-record ∷ unordered-anchors ∷ too-many-bytes ∷ no-expression ∷ too-large ∷ short-work ∷ short-list ∷ []
+
+unfoldable pub offsetsOrder : List Cause
+offsetsOrder = no-record ∷ withdrawn-record ∷ bad-tie ∷ short-work ∷ short-list ∷ []
 
 unfoldable pub firstNumber : List (Cause × Bool) → ℕ
 firstNumber [] = 0

@@ -42,6 +42,8 @@ pub const TOUCHED_RECORD: u32 = 17;
 
 pub const WITHDRAWN_RECORD: u32 = 18;
 
+pub const BAD_TIE: u32 = 19;
+
 pub const UNORDERED_ANCHORS: u32 = 20;
 
 pub const NONE_IN_USE: u32 = 21;
@@ -61,7 +63,7 @@ pub const MAX_LETTERS: usize = 63;
 pub const MAX_DEPTH: usize = 8;
 
 // The numbers of all causes, in the order of their definition.
-pub fn numbers() -> [u32; 21]
+pub fn numbers() -> [u32; 22]
     ensures { λ r. ⌜ r ≡ map number allCauses ⌝ }
 {
     [
@@ -84,6 +86,7 @@ pub fn numbers() -> [u32; 21]
         NOT_OPEN,
         TOUCHED_RECORD,
         WITHDRAWN_RECORD,
+        BAD_TIE,
         UNORDERED_ANCHORS,
         NONE_IN_USE,
     ]

@@ -1,5 +1,6 @@
 // The engine for Rust and C: the caller keeps a register as 5,406 words, at the front of a state that may be longer, and every call takes numbers and
-// slices. The calls stand by subject in edits.rt, questions.rt, trees.rt, previews.rt, closing.rt, numbering.rt, sole_support.rt and by_rows.rt; told.rt has how an answer is told as one number.
+// slices. The calls stand by subject: edits.rt, questions.rt, by_rows.rt, trees.rt, previews.rt, closing.rt, numbering.rt (generations), sole_support.rt,
+// printing.rt (pages) and ties.rt (offsets); told.rt has how an answer is told as one number.
 mod by_rows;
 mod closing;
 mod edits;
@@ -8,5 +9,6 @@ mod previews;
 mod printing;
 mod questions;
 mod sole_support;
+mod ties;
 mod told;
 mod trees;

@@ -10,6 +10,7 @@ mod generations;
 mod history;
 mod lent;
 mod pages;
+mod offsets;
 mod run;
 mod support;
 mod trees;
@@ -50,6 +51,9 @@ const KINDS: &[Kind] = &[
     ("sole support, few records", support::support, Size(1, 24), [1000, 6000, 3]),
     ("sole support, some records", support::support, Size(25, 256), [60, 500, 0]),
     ("sole support, many records", support::support, Size(900, 1024), [30, 150, 0]),
+    ("offsets of few records", offsets::offsets, Size(1, 12), [20_000, 200_000, 20]),
+    ("offsets of some records", offsets::offsets, Size(13, 256), [300, 3000, 0]),
+    ("offsets of many records", offsets::offsets, Size(1000, 1024), [12, 100, 0]),
 ];
 
 /// What a call may take of the stack, and this program beside it.
@@ -99,7 +103,7 @@ fn run_all() -> ExitCode {
     }
     let counts = &run.counts;
     println!(
-        "{cases} cases: {} edits, {} registers read, {} pair questions, {} by rows, {} chain questions, {} tree calls, {} pages printed or read, {} damaged registers, {} generations, {} of sole support ({} records fall); \
+        "{cases} cases: {} edits, {} registers read, {} pair questions, {} by rows, {} chain questions, {} tree calls, {} pages printed or read, {} damaged registers, {} generations, {} of sole support ({} records fall), {} offsets; \
          {} calls, {} differences",
         counts.edits,
         counts.contents,
@@ -112,6 +116,7 @@ fn run_all() -> ExitCode {
         counts.generations,
         counts.supports,
         counts.fallen,
+        counts.offsets,
         run.engine.calls,
         run.differences
     );

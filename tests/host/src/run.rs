@@ -18,6 +18,7 @@ pub struct Counts {
     pub supports: usize,
     /// The records that fell in all accepted questions of sole support.
     pub fallen: usize,
+    pub offsets: usize,
 }
 
 /// From how many records to how many.

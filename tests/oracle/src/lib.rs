@@ -9,6 +9,7 @@
 //! | `chain` | the first chain between two records | S4 Chains |
 //! | `rows` | what a pair question by rows of bits is lent | S18 Rows of bits |
 //! | `tree` | k2-trees, well-formedness, the operations on trees | S5 Trees |
+//! | `offsets` | offsets known within limits | S19 Offsets known within limits |
 //! | `question` | pair and chain questions with all their refusals | S6 Causes and numbers |
 //! | `preview` | pair questions on a copy where an edit was made | S12 Look before saving |
 //! | `generations` | the longest run to each record, or the first loop | S15 Generations |
@@ -29,6 +30,7 @@ pub mod generations;
 pub mod lines;
 pub mod preview;
 pub mod pages;
+pub mod offsets;
 pub mod program;
 pub mod question;
 pub mod random;
@@ -92,6 +94,7 @@ pub enum Refusal {
     NoneInUse = 21,
     /// anchors out of order or repeated
     Anchors = 20,
+    Tie = 19,
 }
 
 impl Refusal {

@@ -1,0 +1,79 @@
+-- `fill` writes the numbers in turn. The loop's invariant: the numbers before i are as they are to be. The measure is what is left.
+-- Assumes nothing.
+use mathlib.Core.Path.{_≡_, refl, sym, ap, _∙_, subst}
+use Prim.Native.Nat.{_≤_, _-_, _+_, _*_}
+use native.Mathlib.Omega.{arith}
+use borrow.Author.Needs.{needs}
+use lib.ListN.{length, set, length-set}
+use Rattle.offsets.proofs.Begins.{Begun, begun-none, begun-more, begun-all}
+use Rattle.offsets.proofs.fill.Statement.{statement}
+use Rattle.offsets.proofs.fill.Tie as tie
+use Rattle.offsets.proofs.fill.Reads as reads
+use Rattle.offsets.proofs.fill.Lts as lts
+use Rattle.offsets.proofs.first_number.Reads as first-number-reads
+
+abbrev Inv-loop : tie.InvT-loop
+Inv-loop n base d₀ i₀ d i = (i ≤ length d) × ((length d ≡ length d₀) × Begun n base i d)
+
+abbrev μ-loop : tie.MeasureT-loop
+μ-loop n base d₀ i₀ d i = length d - i
+
+-- src/lib.rt:134:5
+loop-holds : tie.Need-loop-holds Inv-loop μ-loop
+loop-holds c = (omega arith, (refl, begun-none (c .args .n) (c .args .base) (c .args .d .now)))
+
+-- src/lib.rt:135:13
+first-number-requires : tie.Need-first-number-requires Inv-loop μ-loop
+first-number-requires c κs = c .before .before .pre .1
+
+-- src/lib.rt:136:9
+mul-v : tie.Need-mul-v Inv-loop μ-loop
+mul-v c = search needs
+
+-- src/lib.rt:136:9
+slice-set-from-v : tie.Need-slice-set-from-v Inv-loop μ-loop
+slice-set-from-v c = search needs
+
+-- src/lib.rt:137:9
+add-i : tie.Need-add-i Inv-loop μ-loop
+add-i c = search needs
+
+-- src/lib.rt:134:5
+loop-less : tie.Need-loop-less Inv-loop μ-loop
+loop-less c = simp length-set (omega arith)
+
+-- src/lib.rt:134:5
+loop-again : tie.Need-loop-again Inv-loop μ-loop
+loop-again c =
+    let l = c .before .before .loop in
+    let a = c .before .before .before .args in (
+      simp length-set (omega arith),
+      (length-set (l .d) (l .i) _ ∙ l .inv .1 .0, begun-more (a .n) (a .base) (l .i) (l .d) (c .first-number .result) (c .before .loop-test .taken) (c .first-number .ensures) (l .inv .1 .1)),
+    )
+
+-- src/lib.rt:129:1
+same-length : tie.Need-same-length Inv-loop μ-loop
+same-length c = search needs
+
+-- src/lib.rt:129:1
+returns : tie.Need-returns Inv-loop μ-loop
+returns c =
+    let l = c .before .loop in
+    let a = c .before .before in
+    begun-all (a .args .n) (a .args .base) (l .i) (length (a .args .d .now)) (l .d) (l .inv .1 .0) (a .pre .0) (omega arith) (l .inv .1 .1)
+
+pub fill-spec : {M : Type 1} → statement M
+fill-spec =
+    tie.close
+    (tie.spec
+    Inv-loop
+    μ-loop
+    loop-holds
+    first-number-requires
+    mul-v
+    slice-set-from-v
+    add-i
+    loop-less
+    loop-again
+    same-length
+    returns)

@@ -1,0 +1,29 @@
+-- `judged`: the number of the tie, and the sooner of the two. Assumes nothing.
+use mathlib.Core.Path.{ap, _∙_}
+use borrow.Author.Needs.{needs}
+use Rattle.offsets.specs.Inner.{sooner}
+use Rattle.offsets.proofs.Numbers.{tie-back}
+use Rattle.offsets.proofs.judged.Statement.{statement}
+use Rattle.offsets.proofs.judged.Tie as tie
+use Rattle.offsets.proofs.judged.Reads as reads
+use Rattle.offsets.proofs.judged.Lts as lts
+use Rattle.offsets.proofs.sooner.Reads as sooner-reads
+use Rattle.offsets.proofs.tie_number.Reads as tie-number-reads
+
+-- src/lib.rt:147:9
+tie-number-requires : tie.Need-tie-number-requires
+tie-number-requires c κs = search needs
+
+-- src/lib.rt:148:5
+sooner-requires : tie.Need-sooner-requires
+sooner-requires c κs = search needs
+
+-- src/lib.rt:144:1
+returns : tie.Need-returns
+returns c =
+    let s = c .before .before .before in
+    c .sooner .ensures ∙ ap (sooner (s .args .found)) (c .before .tie-number .ensures
+    ∙ tie-back (s .args .n) (s .args .state .now) (s .args .first) (s .args .second) (s .args .least) (s .args .most) (s .fits .least) (s .fits .most))
+
+pub judged-spec : {M : Type 1} → statement M
+judged-spec = tie.close (tie.spec tie-number-requires sooner-requires returns)

@@ -1,0 +1,81 @@
+-- `offsets::lower` meets its contract: at each way out, the law of `proofs/Laws.antt` for it.
+-- Assumes nothing.
+use borrow.Author.Needs.{needs}
+use Rattle.offsets.proofs.Laws.{no-from, no-to, too-low, too-high, sum-fits, stored, stayed}
+use Rattle.offsets.proofs.lower.Statement.{statement}
+use Rattle.offsets.proofs.lower.Tie as tie
+
+-- src/lib.rt:23:9
+returns : tie.Need-returns
+returns c = no-from (c .before .args .from) (c .before .args .to) (c .before .args .w) (c .before .args .d .now) (c .before .args .was) (c .if1 .taken)
+
+-- src/lib.rt:26:9
+returns-2 : tie.Need-returns-2
+returns-2 c = no-to (c .before .before .args .from) (c .before .before .args .to) (c .before .before .args .w) (c .before .before .args .d .now) (c .before .before .args .was) (c .before .if1 .left) (c .if2 .taken)
+
+-- src/lib.rt:28:13
+mul-a : tie.Need-mul-a
+mul-a c = search needs
+
+-- src/lib.rt:28:13
+slice-copy-out-a : tie.Need-slice-copy-out-a
+slice-copy-out-a c = search needs
+
+-- src/lib.rt:30:9
+returns-3 : tie.Need-returns-3
+returns-3 c = too-low (c .before .before .before .before .args .from) (c .before .before .before .before .args .to) (c .before .before .before .before .args .w) (c .before .before .before .before .args .d .now) (c .before .before .before .before .args .was) (c .before .before .before .if1 .left) (c .before .before .if2 .left) (c .before .a .given) (c .if3 .taken)
+
+-- src/lib.rt:33:9
+returns-4 : tie.Need-returns-4
+returns-4 c = too-high (c .before .before .before .before .before .args .from) (c .before .before .before .before .before .args .to) (c .before .before .before .before .before .args .w) (c .before .before .before .before .before .args .d .now) (c .before .before .before .before .before .args .was) (c .before .before .before .before .if1 .left) (c .before .before .before .if2 .left) (c .before .before .a .given) (c .if4 .taken)
+
+-- src/lib.rt:35:13
+add-v : tie.Need-add-v
+add-v c = sum-fits (c .before .before .before .before .before .args .from) (c .before .before .before .before .before .args .to) (c .before .before .before .before .before .args .w) (c .before .before .before .before .before .args .d .now) (c .before .before .before .before .before .args .was) (c .before .before .before .before .if1 .left) (c .before .before .before .if2 .left) (c .before .before .a .given) (c .before .if3 .left) (c .if4 .left) (c .before .before .before .before .before .pre)
+
+-- src/lib.rt:36:13
+mul-b : tie.Need-mul-b
+mul-b c = search needs
+
+-- src/lib.rt:36:13
+slice-copy-out-b : tie.Need-slice-copy-out-b
+slice-copy-out-b c = search needs
+
+-- src/lib.rt:38:9
+mul-v : tie.Need-mul-v
+mul-v c = search needs
+
+-- src/lib.rt:38:9
+slice-set-from-v : tie.Need-slice-set-from-v
+slice-set-from-v c = search needs
+
+-- src/lib.rt:39:9
+same-length : tie.Need-same-length
+same-length c = search needs
+
+-- src/lib.rt:39:9
+returns-5 : tie.Need-returns-5
+returns-5 c = stored (c .before .before .before .before .before .before .before .args .from) (c .before .before .before .before .before .before .before .args .to) (c .before .before .before .before .before .before .before .args .w) (c .before .before .before .before .before .before .before .args .d .now) (c .before .before .before .before .before .before .before .args .was) (c .before .before .before .before .before .before .if1 .left) (c .before .before .before .before .before .if2 .left) (c .before .before .before .before .a .given) (c .before .before .before .if3 .left) (c .before .before .if4 .left) (c .before .before .before .before .before .before .before .pre) (c .before .b .given) (c .if5 .taken)
+
+-- src/lib.rt:18:1
+returns-6 : tie.Need-returns-6
+returns-6 c = stayed (c .before .before .before .before .before .before .before .args .from) (c .before .before .before .before .before .before .before .args .to) (c .before .before .before .before .before .before .before .args .w) (c .before .before .before .before .before .before .before .args .d .now) (c .before .before .before .before .before .before .before .args .was) (c .before .before .before .before .before .before .if1 .left) (c .before .before .before .before .before .if2 .left) (c .before .before .before .before .a .given) (c .before .before .before .if3 .left) (c .before .before .if4 .left) (c .before .before .before .before .before .before .before .pre) (c .before .b .given) (c .if5 .left)
+
+pub lower-spec : {M : Type 1} → statement M
+lower-spec =
+    tie.close
+    (tie.spec
+    returns
+    returns-2
+    mul-a
+    slice-copy-out-a
+    returns-3
+    returns-4
+    add-v
+    mul-b
+    slice-copy-out-b
+    mul-v
+    slice-set-from-v
+    same-length
+    returns-5
+    returns-6)
