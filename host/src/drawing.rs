@@ -224,7 +224,7 @@ impl Drawing {
             (" the chain, its steps numbered", CHAIN, self.chain.as_ref().is_some_and(|chain| chain.length > 0)),
             (" links that lead back", LOOP, matches!(self.layout, Layout::Loop(_))),
         ];
-        let (mut nodes, mut samples, mut row) = (Vec::new(), Vec::new(), vec![quoted(LEGEND)]);
+        let (mut nodes, mut order, mut row) = (Vec::new(), Vec::new(), vec![quoted(LEGEND)]);
         for (word, shape, _) in shapes.iter().filter(|(_, _, occurs)| *occurs) {
             nodes.push(item(&quoted(word), &[shape]));
             row.push(quoted(word));
@@ -233,11 +233,14 @@ impl Drawing {
             let (begin, end) = (quoted(&format!("line of{words}")), quoted(words));
             nodes.push(item(&begin, &["shape=point, width=0.05"]));
             nodes.push(item(&end, &[WORDS]));
-            samples.push(item(&format!("{begin} -> {end}"), &["minlen=2", style]));
-            row.extend([begin, end]);
+            let sample = item(&format!("{begin} -> {end}"), &["minlen=2", style]);
+            row.push(begin);
+            order.extend(in_row(&row).into_iter().chain([sample]));
+            row = vec![end];
         }
+        order.extend(in_row(&row));
         group(f, "source", LEGEND, &nodes)?;
-        samples.iter().chain(&in_row(&row)).try_for_each(|line| writeln!(f, "    {line}"))
+        order.iter().try_for_each(|line| writeln!(f, "    {line}"))
     }
 
     /// The records, those of a generation on one level, with its name at the left; the withdrawn ones below all others.
