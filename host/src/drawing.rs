@@ -212,7 +212,7 @@ impl Drawing {
         (0..).zip(&self.marks).filter(|(_, &mark)| mark == Mark::Withdrawn).map(|(record, _)| record)
     }
 
-    /// A row at the foot with each shape and each line that occurs: a shape around its own word, a line before its words.
+    /// A row at the foot with each shape and each line that occurs: a shape around its own word, a line before its words. None if nothing is drawn.
     fn legend(&self, f: &mut Formatter) -> fmt::Result {
         let drawn = |mark| self.touched.iter().any(|&record| self.marks[usize::from(record)] == mark);
         let shapes = [
@@ -239,6 +239,9 @@ impl Drawing {
             row = vec![end];
         }
         order.extend(in_row(&row));
+        if nodes.is_empty() {
+            return Ok(());
+        }
         group(f, "source", LEGEND, &nodes)?;
         order.iter().try_for_each(|line| writeln!(f, "    {line}"))
     }
@@ -279,10 +282,10 @@ impl Drawing {
 
     fn link(&self, f: &mut Formatter, link: &Link) -> fmt::Result {
         let steps = self.chain.as_ref().and_then(|chain| chain.crossings.get(link));
-        let numbered = steps.map_or(String::new(), |steps| format!(" {}: ", steps.join(", ")));
-        let (leads_back, level) = match &self.layout {
-            Layout::Levels(numbers) => (false, Some((number(numbers, link.from), number(numbers, link.to)))),
-            Layout::Loop(links) => (links.contains(link), None),
+        let numbered = steps.map_or(String::new(), |steps| format!("{}: ", steps.join(", ")));
+        let (leads_back, on_levels, along) = match &self.layout {
+            Layout::Levels(numbers) => (false, true, number(numbers, link.from) == number(numbers, link.to)),
+            Layout::Loop(links) => (links.contains(link), false, false),
         };
         let style = match (steps.is_some(), leads_back) {
             (false, false) => "",
@@ -290,14 +293,10 @@ impl Drawing {
             (false, true) => LOOP,
             (true, true) => CHAIN_AND_LOOP,
         };
-        let (above, free) = match level {
-            // The letters stand above a line along the level, not on it.
-            Some((from, to)) if from == to => ("\\n ", ""),
-            // A link of the chain whose letter is not drawn has no say in the levels.
-            Some(_) if !self.letters.contains(&link.letter) => ("", "constraint=false"),
-            _ => ("", ""),
-        };
-        let label = format!("label=\"{numbered}{}{above}\"", link.letter);
+        // A link of the chain whose letter is not drawn has no say in the levels.
+        let free = if on_levels && !self.letters.contains(&link.letter) { "constraint=false" } else { "" };
+        // The blank keeps the letter off a line that leads upward, the second line off one along a level.
+        let label = format!("label=\" {numbered}{}{}\"", link.letter, if along { "\\n " } else { "" });
         writeln!(f, "    {}", item(&format!("{} -> {}", link.from, link.to), &[&label, style, free]))
     }
 }
