@@ -16,7 +16,7 @@ const LOCKED: &str = "shape=box, peripheries=2";
 const WITHDRAWN: &str = r#"shape=hexagon, style="dashed""#;
 const WORDS: &str = "shape=plaintext";
 const CHAIN: &str = r#"penwidth=4, style="bold", color=black"#;
-const LOOP: &str = r#"style="dashed", arrowhead=empty, color=black"#;
+const LOOP: &str = r#"penwidth=2, style="dashed", arrowhead=empty, color=black"#;
 const CHAIN_AND_LOOP: &str = r#"penwidth=4, style="bold,dashed", arrowhead=empty, color=black"#;
 const CHAIN_RECORD: &str = "penwidth=3";
 const UNSEEN: &str = r#"style="invis""#;

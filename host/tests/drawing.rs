@@ -172,7 +172,7 @@ fn links_that_lead_back_have_no_generations() {
     let text = picture("loop.dot", &mut register, "om", Some((4, &steps)));
     assert!(text.contains("\n// no generations: the links o of 1 and m of 2 lead back\ndigraph"));
     assert!(!text.contains("\"generation") && text.contains("\" links that lead back\""));
-    assert!(text.contains("\n    2 -> 1 [label=\" m\", style=\"dashed\", arrowhead=empty, color=black];\n"));
+    assert!(text.contains("\n    2 -> 1 [label=\" m\", penwidth=2, style=\"dashed\", arrowhead=empty, color=black];\n"));
     assert!(text.contains("\n    1 -> 2 [label=\" 3: o\", penwidth=4, style=\"bold,dashed\", arrowhead=empty, color=black];\n"));
     assert!(register.drawing("m", None).unwrap().contains("\"generation 2\""));
     register.add(7, 'z', 7).unwrap();
