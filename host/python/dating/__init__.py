@@ -36,9 +36,10 @@ from __future__ import annotations
 from . import calls
 from .arguments import Expression
 from .items import Link, Links, Pairs, Step, Steps
+from .pages import page_bytes, read_pages
 from .refusal import Cause, Refusal
-from .register import Edit, Generations, Limits, Register, Tie, read_pages
-from .space import page_bytes
+from .register import Register
+from .terms import Edit, Generations, Limits, Tie
 from .tree import Tree
 
 __all__ = [

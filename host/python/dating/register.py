@@ -7,89 +7,16 @@ import threading
 from array import array
 from collections.abc import Callable, Iterable
 from itertools import islice
-from typing import Any, NamedTuple, Optional, SupportsIndex
+from typing import Any, Optional, SupportsIndex
 
 from . import calls
 from .arguments import Expression, label, number, rings, room, text
 from .calls import counted, done, numbered, told
 from .items import Links, Pairs, Steps, copied
+from .pages import page_bytes
 from .refusal import Cause, Refusal
-from .space import Space, chain_work, longest_chain, most_pairs, page_bytes, rows_work, support_work, tree_work
-
-
-class Edit(NamedTuple):
-    """An edit or undo by name, for `Register.preview`.
-
-    >>> Edit.add(0, "a", 1)
-    Edit(kind=2, from_=0, letter='a', to=1)
-    """
-
-    kind: int
-    """As the program's frames number it."""
-    from_: int = 0
-    """Or the record, of an edit that has one alone."""
-    letter: str = "a"
-    to: int = 0
-
-    @classmethod
-    def add(cls, from_: int, letter: str, to: int) -> Edit:
-        """As `Register.add`."""
-        return cls(2, from_, letter, to)
-
-    @classmethod
-    def remove(cls, from_: int, letter: str, to: int) -> Edit:
-        """As `Register.remove`."""
-        return cls(3, from_, letter, to)
-
-    @classmethod
-    def lock(cls, record: int) -> Edit:
-        """As `Register.lock`."""
-        return cls(4, record)
-
-    @classmethod
-    def unlock(cls, record: int) -> Edit:
-        """As `Register.unlock`."""
-        return cls(5, record)
-
-    @classmethod
-    def undo(cls) -> Edit:
-        """As `Register.undo`."""
-        return cls(6)
-
-    @classmethod
-    def withdraw(cls, record: int) -> Edit:
-        """As `Register.withdraw`."""
-        return cls(10, record)
-
-    @classmethod
-    def reinstate(cls, record: int) -> Edit:
-        """As `Register.reinstate`."""
-        return cls(11, record)
-
-
-class Generations(NamedTuple):
-    """The answer to `Register.generations`: numbers, or a loop."""
-
-    numbers: Optional[dict[int, int]]
-    """The length of the longest run of links that ends at each record in use; none if some record can return to itself."""
-    loop: Optional[Steps]
-    """The first of the shortest loops of the smallest record that can return to itself, from that record on; none if no record can."""
-
-
-class Tie(NamedTuple):
-    """The second record begins at least `least` and at most `most` rings after the first, each from −20,000 to 20,000."""
-
-    first: int
-    second: int
-    least: int
-    most: int
-
-
-class Limits(NamedTuple):
-    """How many rings a record begins after the base: the narrowest limits that hold in every placing that meets all ties."""
-
-    least: int
-    most: int
+from .space import Space, chain_work, longest_chain, most_pairs, rows_work, support_work, tree_work
+from .terms import Edit, Generations, Limits, Tie
 
 
 class Register:
@@ -385,12 +312,9 @@ class Register:
         spelt = text(expression)
         with self._turn:
             n = self._size()
-            work = self._space.work(max(rows_work(n), tree_work(n)))
-            # How many pairs there are tells how many bytes their pages are.
-            pairs = counted(calls.pairs_by_rows(self._words, spelt, work, calls.words(0)))
-            printed = (ctypes.c_uint8 * page_bytes(pairs))()
-            counted(calls.pages(self._words, spelt, work, printed))
-        return bytes(printed)
+            printed = (ctypes.c_uint8 * page_bytes(most_pairs(n)))()
+            length = counted(calls.pages(self._words, spelt, self._space.work(tree_work(n)), printed))
+        return memoryview(printed)[:length].tobytes()
 
     def offsets(self, base: SupportsIndex, ties: Iterable[tuple[int, int, int, int]]) -> Optional[list[Optional[Limits]]]:
         """How many rings each record begins after the base, as far as ties tell, at most 1,024 of them: for each record its limits, or None if no tie
@@ -414,13 +338,3 @@ class Register:
 
 def _lent(tie: Tie) -> calls.LentTie:
     return calls.LentTie(number(tie.first), number(tie.second), rings(tie.least), rings(tie.most))
-
-
-def read_pages(expression: Expression, pages: Expression) -> Pairs:
-    """The pairs that the pages of an expression show. Bytes that are not the pages of that expression and some ascending list of different pairs of records
-    below 1,024 are refused with 14.
-    """
-    spelt, printed = text(expression), text(pages)
-    written = calls.words(len(printed) // 73 * 6)
-    count = counted(calls.read_pages(spelt, printed, written))
-    return Pairs(copied(written, count), count)

@@ -53,15 +53,6 @@ def longest_chain(n: int) -> int:
     return 63 * _in_range(n)
 
 
-def page_bytes(pairs: int) -> int:
-    """The bytes of the pages of so many pairs: lines of 73, six pairs to a line, and a head for each 354.
-
-    >>> page_bytes(0), page_bytes(6), page_bytes(7), page_bytes(355)
-    (73, 146, 219, 4526)
-    """
-    return 73 * (-(-pairs // 6) + max(1, -(-pairs // 354)))
-
-
 def _in_range(n: int) -> int:
     return n if 1 <= n <= 1024 else 0
 
