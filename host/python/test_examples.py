@@ -8,7 +8,6 @@ import inspect
 import pkgutil
 import subprocess
 import sys
-import typing
 import unittest
 from pathlib import Path
 
@@ -47,9 +46,9 @@ class Examples(unittest.TestCase):
                 function = of.fget if isinstance(of, property) else of.__func__ if isinstance(of, classmethod) else of
                 if inspect.isfunction(function):
                     given = [parameter for parameter in inspect.signature(function).parameters if parameter not in ("self", "cls")]
-                    self.assertEqual(sorted(typing.get_type_hints(function)), sorted([*given, "return"]), f"{name}.{member}")
+                    self.assertEqual(sorted(function.__annotations__), sorted([*given, "return"]), f"{name}.{member}")
                 seen += 1
-        self.assertGreater(seen, 60)
+        self.assertGreater(seen, 50)
 
 
 if __name__ == "__main__":

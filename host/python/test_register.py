@@ -53,7 +53,7 @@ class Answers(unittest.TestCase):
         self.assertEqual(list(reversed(pairs)), list(pairs)[::-1])
         self.assertEqual(pairs.index((1, 2)), 3)
         self.assertEqual(repr(pairs), "<Pairs: 6: (0, 1), (0, 2), (0, 3), (1, 2), (1, 3), (2, 3)>")
-        self.assertTrue(repr(made(4, "0a1 1a2 2a3").pairs("a*")).endswith("(1, 2), (1, 3), ..>"))
+        self.assertTrue(repr(made(4, "0a1 1a2 2a3").pairs("a*")).endswith("(1, 1), (1, 2), ..>"))
         with self.assertRaises(IndexError):
             pairs[6]
         # Each iterator is its own.
@@ -204,7 +204,7 @@ class Calls(unittest.TestCase):
         """Against its meaning by pair questions."""
         chance = random.Random(11)
         fallen = 0
-        for _ in range(60):
+        for _ in range(300):
             n = chance.randrange(1, 9)
             register = Register(n)
             for link in {(chance.randrange(n), chance.choice("ab"), chance.randrange(n)) for _ in range(chance.randrange(2 * n))}:
@@ -222,7 +222,7 @@ class Calls(unittest.TestCase):
             expected = sorted(supported(register) - supported(without) - {core})
             self.assertEqual(register.sole_support(core, expression, anchors), expected)
             fallen += len(expected)
-        self.assertGreater(fallen, 10)
+        self.assertGreater(fallen, 30)
 
     def test_pages(self) -> None:
         register = Register(30)

@@ -33,6 +33,11 @@ The shared library is `target/lib/libdating.so` of the checkout, which `host/sha
 
 from __future__ import annotations
 
+import sys
+
+if sys.version_info < (3, 9):
+    raise ImportError("Python 3.9 or later is needed")
+
 from . import calls
 from .arguments import Expression
 from .items import Link, Links, Pairs, Step, Steps
