@@ -1,6 +1,6 @@
 """A surveyor's question: which samples are dated, by any number of overlaps, against a beam of known date, how, and what rests on sample 2 alone?
 
-Overlaps are links o, "lies in the same beam as" is b; record 0 is dated. Run: PYTHONPATH=host/python python3 host/python/example.py
+Overlaps are links o, "lies in the same beam as" is b; record 0 is dated. Run: host/shared && python3 host/python/example.py
 """
 
 from dating import Register

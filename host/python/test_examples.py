@@ -27,7 +27,7 @@ class Examples(unittest.TestCase):
         self.assertGreater(ran, 80)
 
     def test_example(self) -> None:
-        environment = {"PYTHONPATH": str(HERE), "DATING_LIBRARY": dating.calls._LIBRARY._name, "PYTHONDONTWRITEBYTECODE": "1"}
+        environment = {"DATING_LIBRARY": dating.calls._LIBRARY._name, "PYTHONDONTWRITEBYTECODE": "1"}
         ran = subprocess.run([sys.executable, HERE / "example.py"], env=environment, capture_output=True, text=True)
         self.assertEqual((ran.stderr, ran.stdout), ("", (HERE / "example.expected").read_text()))
 

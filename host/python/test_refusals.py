@@ -241,13 +241,16 @@ class Wrong(unittest.TestCase):
     def test_numbers_like_integers(self) -> None:
         """What stands for an integer elsewhere does so here."""
 
-        class Three:
-            def __index__(self) -> int:
-                return 3
+        class Last:
+            """The last record, asked of the register itself in the midst of a call."""
 
-        register = Register(Three())
-        register.add(Three().__index__() - 1, "a", True)
-        self.assertEqual(list(register.pairs("a")), [(2, 1)])
+            def __index__(self) -> int:
+                return register.size - 1
+
+        register = Register(True + 2)
+        register.add(Last(), "a", True)
+        self.assertEqual(list(register.pairs("a", most=Last())), [(2, 1)])
+        self.assertEqual((str(register.chain(Last(), 1, "a")), register.is_locked(Last()), register.is_withdrawn(Last())), ("2 -a-> 1 (1 step)", False, False))
 
     def test_pickled(self) -> None:
         refusal = pickle.loads(pickle.dumps(Refusal(4)))

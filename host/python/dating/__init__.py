@@ -1,8 +1,9 @@
 """The dating register and its path engine, from Python.
 
-A `Register` has records 0 to n − 1, links between them with letters a to z, locks, and undo. Two questions are asked of it: which pairs of records are
-joined by a path expression, and which is the first of the shortest chains between two records. The engine is written in Rattle, and every function
-of it is proved to meet its contract; this package lends it memory and reads what it wrote.
+A `Register` has records 0 to n − 1, links between them with letters a to z, locks, and undo. Two
+questions are asked of it: which pairs of records are joined by a path expression, and which is the
+first of the shortest chains between two records. The engine is written in Rattle, and every
+function of it is proved to meet its contract; this package lends it memory and reads what it wrote.
 
     >>> from dating import Refusal, Register
     >>> register = Register(4)
@@ -18,17 +19,21 @@ of it is proved to meet its contract; this package lends it memory and reads wha
     ...     print(refusal)
     refused 5: the link is present, or the record is locked or withdrawn, already
 
-Expressions, from loosest to closest: `|` between alternatives; `/` between the parts of a sequence; a part is an optional `^` (inverse), then a letter, a
-negated set (`!a`, `!^a`, `!(a|^b)`: any letter but those) or a group in parentheses, then at most one of `*`, `+`, `?`. At most 256 bytes, 63 letters,
-groups 8 deep; no spaces.
+Expressions, from loosest to closest: `|` between alternatives; `/` between the parts of a sequence;
+a part is an optional `^` (inverse), then a letter, a negated set (`!a`, `!^a`, `!(a|^b)`: any
+letter but those) or a group in parentheses, then at most one of `*`, `+`, `?`. At most 256 bytes,
+63 letters, groups 8 deep; no spaces.
 
-`Register`      edits, undo, both questions, previews, generations, sole support, pages, offsets
-`Refusal`       raised by a call that cannot be done; its `Cause` has a number, a name and words
+`Register`                 edits, undo, both questions, previews, generations, sole support, pages,
+                           offsets
+`Refusal`, `Cause`         what a call that cannot be done raises: a number, a name and words
 `Pairs`, `Steps`, `Links`  answers: sequences that never change
-`Tree`          sets of pairs as k2-trees, and their algebra
-`calls`         the engine's functions as they are exported
+`Tree`                     sets of pairs as k2-trees, and their algebra
+`read_pages`               the pairs that printed pages show
+`calls`                    the engine's functions as they are exported
 
-The shared library is `target/lib/libdating.so` of the checkout, which `host/shared` makes, or what DATING_LIBRARY names.
+The shared library is `target/lib/libdating.so` of the checkout, which `host/shared` makes, or what
+DATING_LIBRARY names.
 """
 
 from __future__ import annotations

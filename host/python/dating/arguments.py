@@ -1,13 +1,14 @@
 """What people pass, as the engine takes it.
 
-A value that the engine's types do not hold is passed as one that they hold and that the engine refuses with the same number. So the causes keep their
-order, and nothing is wrapped around.
+A value that the engine's types do not hold is passed as one that they hold and that the engine
+refuses with the same number. So the causes keep their order, and nothing is wrapped around. What
+stands for an integer elsewhere in Python (`__index__`) does so here.
 """
 
 from __future__ import annotations
 
 from operator import index
-from typing import Optional, SupportsIndex, Union
+from typing import Union
 
 Expression = Union[str, bytes]
 """A path expression, as text or as its bytes."""
@@ -17,14 +18,18 @@ _NO_LABEL = 255
 _LEAST, _MOST = -(1 << 31), (1 << 31) - 1
 
 
-def number(given: SupportsIndex) -> int:
-    """A record, a size or a kind of two bytes; for any other 65,535, which is no record's, no size and no kind (2, 1, 15)."""
+def number(given: int) -> int:
+    """A record, a size or a kind of two bytes; for any other 65,535, which is no record's, no size
+    and no kind (2, 1, 15).
+    """
     value = index(given)
     return value if 0 <= value <= _ABOVE_RECORDS else _ABOVE_RECORDS
 
 
-def rings(given: SupportsIndex) -> int:
-    """A limit of a tie, of four bytes; for any other the nearest that they hold, which is outside every tie (19)."""
+def rings(given: int) -> int:
+    """A limit of a tie, of four bytes; for any other the nearest that they hold, which is outside
+    every tie (19).
+    """
     return max(_LEAST, min(_MOST, index(given)))
 
 
@@ -36,7 +41,9 @@ def label(letter: str) -> int:
 
 
 def text(given: Expression) -> bytes:
-    """The bytes of an expression or of pages. Those of a character that is not ASCII are outside the grammar."""
+    """The bytes of an expression or of pages. Those of a character that is not ASCII are outside
+    the grammar.
+    """
     if isinstance(given, str):
         return given.encode("utf-8", "surrogatepass")
     if isinstance(given, bytes):
@@ -44,10 +51,8 @@ def text(given: Expression) -> bytes:
     raise TypeError(f"text is a str or bytes, not {type(given).__name__}")
 
 
-def room(most: Optional[SupportsIndex], all_there_can_be: int) -> int:
-    """For how many items there must be room."""
-    if most is None:
-        return all_there_can_be
-    if index(most) < 0:
-        raise ValueError(f"at most {index(most)} items are none to give")
-    return min(index(most), all_there_can_be)
+def wanted(most: int | None) -> int | None:
+    """How many items are wanted at most; none for all of them."""
+    if most is not None and index(most) < 0:
+        raise ValueError(f"there are no {index(most)} items")
+    return None if most is None else index(most)

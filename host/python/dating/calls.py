@@ -5,9 +5,11 @@
     >>> calls.fresh(4, state), calls.size(state), calls.lock(state, 4)
     (0, 4, 2)
 
-Arguments are those of the header in their order, but a slice is one argument, lent as a pointer to its first word and its length: a ctypes array,
-or bytes where bytes are only read. What is written must not overlap what else is lent. A number that its C type does not hold raises
-OverflowError. The other modules lend what each call needs, and `done`, `counted`, `told` and `numbered` read the answers.
+Arguments are those of the header in their order, but a slice is one argument, lent as a pointer to
+its first word and its length: a ctypes array, or bytes where bytes are only read. What is written
+must not overlap what else is lent. A number that its C type does not hold raises OverflowError. The
+other modules lend what each call needs, and `done`, `counted`, `told` and `numbered` read the
+answers.
 """
 
 from __future__ import annotations
@@ -16,12 +18,14 @@ import ctypes
 import os
 from ctypes import POINTER, c_char_p, c_int32, c_int64, c_size_t, c_uint8, c_uint16, c_uint32, c_uint64
 from pathlib import Path
-from typing import Any, Optional
+from typing import Any
 
 from .refusal import Refusal
 
 STATE_WORDS = 5406
-"""The words of a register: n, three counters, 4,096 words of links, 256 of held edits, 1,024 of marks, 26 of totals."""
+"""The words of a register: n, three counters, 4,096 words of links, 256 of held edits, 1,024 of
+marks, 26 of totals.
+"""
 MARKS = slice(4356, 5380)
 """The marks of the records among a register's words."""
 WITHDRAWN = 2
@@ -154,7 +158,7 @@ def counted(answer: int) -> int:
     return answer
 
 
-def told(answer: int) -> Optional[int]:
+def told(answer: int) -> int | None:
     """An answer that is a count, or none (no chain, or ties that cannot all hold), or refused."""
     return None if answer == NO_CHAIN else counted(answer)
 

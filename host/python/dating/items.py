@@ -1,6 +1,7 @@
 """What answers consist of: pairs, steps and links, read from the words that the engine wrote.
 
-An answer is a sequence. It has a copy of those words, four bytes each, and never changes; an item is made when it is asked for.
+An answer is a sequence. It has a copy of those words, four bytes each, and never changes; an item
+is made when it is asked for.
 """
 
 from __future__ import annotations
@@ -150,7 +151,8 @@ class Steps(Answer[Step]):
     >>> chain.start, len(chain), chain[1], [str(step) for step in chain]
     (0, 2, Step(letter='b', forward=False, reached=3), ['a + 1', 'b - 3'])
 
-    A chain of no steps is a chain too, and true, so that `if register.chain(..)` asks whether there is one:
+    A chain of no steps is a chain too, and true, so that `if register.chain(..)` asks whether there
+    is one:
 
     >>> print(register.chain(2, 2, "a*"), bool(register.chain(2, 2, "a*")), register.chain(2, 3, "a*"))
     2 (0 steps) True None
@@ -208,7 +210,7 @@ def _letter(label: int) -> str:
 
 def copied(words: ctypes.Array[Any], count: int) -> array[int]:
     """The first words of a lent space, or all of them if they are fewer, copied."""
-    copy = array(words._type_._type_)
+    copy = array("Q" if ctypes.sizeof(words._type_) == 8 else "I")
     # A view of no words cannot be cast.
     if min(count, len(words)) > 0:
         copy.frombytes(memoryview(words).cast("B")[: count * copy.itemsize])

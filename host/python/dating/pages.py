@@ -23,8 +23,9 @@ def page_bytes(pairs: int) -> int:
 
 
 def read_pages(expression: Expression, pages: Expression) -> Pairs:
-    """The pairs that the pages of an expression show, as `Register.pages` gives them. Bytes that are not the pages of that expression and some ascending
-    list of different pairs of records below 1,024 are refused with 14.
+    """The pairs that the pages of an expression show, as `Register.pages` gives them. Bytes that
+    are not the pages of that expression and some ascending list of different pairs of records below
+    1,024 are refused with 14.
 
     >>> from dating import Register
     >>> read_pages("a+", Register(3).pages("a+"))

@@ -1,4 +1,6 @@
-"""How much space calls need, for n from 1 to 1,024; for any other n, which the engine refuses, none."""
+"""How much space calls need, for n from 1 to 1,024; for any other n, which the engine refuses,
+none.
+"""
 
 from __future__ import annotations
 
@@ -8,7 +10,8 @@ from . import calls
 
 
 def tree_words(n: int) -> int:
-    """D, the words of the longest tree: 4 × (s² − 1) / 3 bits, where s is the smallest power of two that is at least n, and at least 2.
+    """D, the words of the longest tree: 4 × (s² − 1) / 3 bits, where s is the smallest power of two
+    that is at least n, and at least 2.
 
     >>> tree_words(1024), tree_words(64), tree_words(1), tree_words(0)
     (21846, 86, 1, 0)
@@ -48,6 +51,11 @@ def most_pairs(n: int) -> int:
     return _in_range(n) ** 2
 
 
+def room(n: int, wanted: int | None) -> int:
+    """The length of a list for as many pairs as are wanted, or for all that there can be."""
+    return most_pairs(n) if wanted is None else min(wanted, most_pairs(n))
+
+
 def longest_chain(n: int) -> int:
     """The length of a list that has room for every chain."""
     return 63 * _in_range(n)
@@ -73,9 +81,7 @@ class Space:
         return self._work
 
     def list(self, words: int) -> ctypes.Array[ctypes.c_uint32]:
-        """A list of exactly so many words."""
+        """A list of at least so many words."""
         if len(self._list) < words:
             self._list = calls.words(words)
-        if len(self._list) == words:
-            return self._list
-        return (ctypes.c_uint32 * words).from_buffer(self._list)
+        return self._list

@@ -2,7 +2,7 @@
 
 from __future__ import annotations
 
-from typing import NamedTuple, Optional
+from typing import NamedTuple
 
 from .items import Steps
 
@@ -60,14 +60,20 @@ class Edit(NamedTuple):
 class Generations(NamedTuple):
     """The answer to `Register.generations`: numbers, or a loop."""
 
-    numbers: Optional[dict[int, int]]
-    """The length of the longest run of links that ends at each record in use; none if some record can return to itself."""
-    loop: Optional[Steps]
-    """The first of the shortest loops of the smallest record that can return to itself, from that record on; none if no record can."""
+    numbers: dict[int, int] | None
+    """The length of the longest run of links that ends at each record in use; none if some record
+    can return to itself.
+    """
+    loop: Steps | None
+    """The first of the shortest loops of the smallest record that can return to itself, from that
+    record on; none if no record can.
+    """
 
 
 class Tie(NamedTuple):
-    """The second record begins at least `least` and at most `most` rings after the first, each from −20,000 to 20,000."""
+    """The second record begins at least `least` and at most `most` rings after the first, each from
+    −20,000 to 20,000.
+    """
 
     first: int
     second: int
@@ -76,7 +82,9 @@ class Tie(NamedTuple):
 
 
 class Limits(NamedTuple):
-    """How many rings a record begins after the base: the narrowest limits that hold in every placing that meets all ties."""
+    """How many rings a record begins after the base: the narrowest limits that hold in every
+    placing that meets all ties.
+    """
 
     least: int
     most: int

@@ -5,14 +5,14 @@ from __future__ import annotations
 import ctypes
 from array import array
 from collections.abc import Iterable, Iterator
-from typing import Any, Optional, SupportsIndex
+from typing import Any
 
 from . import calls
-from .arguments import number, room
+from .arguments import number, wanted
 from .calls import counted
 from .items import Pairs, copied
 from .refusal import Cause, Refusal
-from .space import most_pairs, tree_words, tree_work
+from .space import room, tree_words, tree_work
 
 # A word above those of all pairs, which is refused as an end above 1,023 would be (2).
 _NO_PAIR = (1 << 32) - 1
@@ -28,19 +28,20 @@ class Tree:
     >>> list(joined - links), list(links @ links), list(links.transpose() | links @ links)
     ([(0, 2)], [(0, 2)], [(0, 2), (1, 0), (2, 1)])
 
-    The other operand of an operation is read as a tree of pairs below the n of the first, and refused with 11 if it is none.
+    The other operand of an operation is read as a tree of pairs below the n of the first, and
+    refused with 11 if it is none.
     """
 
     __slots__ = ("_n", "_words")
 
-    def __init__(self, n: SupportsIndex, pairs: Iterable[tuple[SupportsIndex, SupportsIndex]] = ()) -> None:
+    def __init__(self, n: int, pairs: Iterable[tuple[int, int]] = ()) -> None:
         """The tree of some pairs, in any order and with repeats."""
         self._n = number(n)
         lent = [_word(from_, to) for from_, to in pairs]
         self._words = self._made(calls.tree_make, (ctypes.c_uint32 * len(lent))(*lent))
 
     @classmethod
-    def of_words(cls, n: SupportsIndex, words: Iterable[int]) -> Tree:
+    def of_words(cls, n: int, words: Iterable[int]) -> Tree:
         """A tree of these words; they are refused with 11 if they are not well formed.
 
         >>> Tree.of_words(4, Tree(4, [(0, 1)]).words()) == Tree(4, [(0, 1)])
@@ -51,7 +52,7 @@ class Tree:
         tree = cls.__new__(cls)
         tree._n = number(n)
         try:
-            tree._words = array("L", words)
+            tree._words = array("Q", words)
         except OverflowError:
             raise Refusal(Cause.TREE) from None
         len(tree)
@@ -66,9 +67,9 @@ class Tree:
         """Of 64 bits. Bit 0 is the lowest of the first word; the empty set has no words."""
         return self._words[:]
 
-    def pairs(self, most: Optional[SupportsIndex] = None) -> Pairs:
+    def pairs(self, most: int | None = None) -> Pairs:
         """The pairs; with `most`, only so many of them, the smallest."""
-        written = calls.words(room(most, most_pairs(self._n)))
+        written = calls.words(room(self._n, wanted(most)))
         total = counted(calls.tree_list(self._n, self._lent(), written, calls.work(tree_work(self._n))))
         return Pairs(copied(written, total), total)
 
@@ -91,8 +92,9 @@ class Tree:
         return self._with(calls.tree_difference, other)
 
     def product(self, other: Tree, inverted: bool = False, other_inverted: bool = False) -> Tree:
-        """The pairs (x, z) with (x, y) in the first and (y, z) in the second for some y; also `a @ b`. An operand that is inverted is read with its pairs
-        exchanged, and its transpose is not written.
+        """The pairs (x, z) with (x, y) in the first and (y, z) in the second for some y; also `a @
+        b`. An operand that is inverted is read with its pairs exchanged, and its transpose is not
+        written.
 
         >>> parents = Tree(4, [(0, 2), (1, 2), (2, 3)])
         >>> list(parents.product(parents, other_inverted=True))
@@ -150,7 +152,7 @@ class Tree:
         return copied(written, count)
 
 
-def _word(from_: SupportsIndex, to: SupportsIndex) -> int:
+def _word(from_: int, to: int) -> int:
     ends = number(from_), number(to)
     return ends[0] * 1024 + ends[1] if max(ends) < 1024 else _NO_PAIR
 
