@@ -78,6 +78,9 @@ class Refusal(Exception):
     2; RECORD; a record is not below the number of records
     """
 
+    # As people name it, in a traceback too.
+    __module__ = "dating"
+
     cause: Cause
     """Why, by name."""
 
