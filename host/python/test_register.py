@@ -49,7 +49,8 @@ class Answers(unittest.TestCase):
         self.assertEqual((len(pairs), pairs.total, pairs[-1], pairs[1:3]), (6, 6, (2, 3), [(0, 2), (0, 3)]))
         self.assertEqual([pair for pair in [(x, y) for x in range(-1, 5) for y in range(-1, 5)] if pair in pairs], list(pairs))
         self.assertNotIn((0, 1025), pairs)
-        self.assertNotIn("ab", pairs)
+        for other in ("ab", None, 3, (), (0,), (0, 1, 2), (0.5, 1), [None, 1]):
+            self.assertNotIn(other, pairs)
         self.assertEqual(list(reversed(pairs)), list(pairs)[::-1])
         self.assertEqual(pairs.index((1, 2)), 3)
         self.assertEqual(repr(pairs), "<Pairs: 6: (0, 1), (0, 2), (0, 3), (1, 2), (1, 3), (2, 3)>")

@@ -11,7 +11,8 @@ from array import array
 from bisect import bisect_left
 from collections.abc import Iterator, Sequence
 from itertools import repeat
-from typing import Any, NamedTuple, TypeVar, Union, overload
+from operator import index
+from typing import Any, NamedTuple, TypeVar, overload
 
 T = TypeVar("T", covariant=True)
 
@@ -68,7 +69,7 @@ class Answer(Sequence[T]):
     @overload
     def __getitem__(self, at: slice) -> list[T]: ...
 
-    def __getitem__(self, at: Union[int, slice]) -> Union[T, list[T]]:
+    def __getitem__(self, at: int | slice) -> T | list[T]:
         if isinstance(at, slice):
             return [self._item(word) for word in self._words[at]]
         return self._item(self._words[at])
@@ -127,10 +128,14 @@ class Pairs(Answer[tuple[int, int]]):
     def __iter__(self) -> Iterator[tuple[int, int]]:
         return map(divmod, self._words, repeat(1024))
 
-    def __contains__(self, pair: object) -> bool:
-        if not (isinstance(pair, tuple) and len(pair) == 2 and all(isinstance(end, int) and 0 <= end < 1024 for end in pair)):
+    def __contains__(self, pair: Any) -> bool:
+        try:
+            from_, to = map(index, pair)
+        except (TypeError, ValueError):
             return False
-        word = pair[0] * 1024 + pair[1]
+        if not (0 <= from_ < 1024 and 0 <= to < 1024):
+            return False
+        word = from_ * 1024 + to
         at = bisect_left(self._words, word)
         return at < len(self._words) and self._words[at] == word
 
