@@ -79,8 +79,11 @@ class Declarations(unittest.TestCase):
         self.assertEqual(calls.WITHDRAWN, int(re.search(r"pub const WITHDRAWN: u32 = (\d+);", source)[1]))
 
     def test_tie(self) -> None:
-        fields = [(name, getattr(calls.LentTie, name).offset) for name, _ in calls.LentTie._fields_]
-        self.assertEqual((fields, ctypes.sizeof(calls.LentTie)), ([("first", 0), ("second", 2), ("least", 4), ("most", 8)], 12))
+        """The fields of the header, which lie as C lays them."""
+        body = re.search(r"struct dating_tie \{(.*?)\};", (HOST / "dating.h").read_text(), flags=re.S)[1]
+        fields = [(name, TYPES[of]) for of, names in re.findall(r"(\w+) ([^;]+);", body) for name in names.split(", ")]
+        self.assertEqual(calls.LentTie._fields_, fields)
+        self.assertEqual(([getattr(calls.LentTie, name).offset for name, _ in fields], ctypes.sizeof(calls.LentTie)), ([0, 2, 4, 8], 12))
 
     def test_causes(self) -> None:
         """Names, numbers and words are those of the Rust crate."""

@@ -14,8 +14,11 @@ from itertools import repeat
 from operator import index
 from typing import Any, NamedTuple, TypeVar, overload
 
+from .space import MAX_RECORDS
+
 T = TypeVar("T", covariant=True)
 
+# The items of an answer that its `repr` shows.
 _SHOWN = 6
 
 
@@ -123,19 +126,19 @@ class Pairs(Answer[tuple[int, int]]):
         self.total = total
 
     def _item(self, word: int) -> tuple[int, int]:
-        return divmod(word, 1024)
+        return divmod(word, MAX_RECORDS)
 
     def __iter__(self) -> Iterator[tuple[int, int]]:
-        return map(divmod, self._words, repeat(1024))
+        return map(divmod, self._words, repeat(MAX_RECORDS))
 
     def __contains__(self, pair: Any) -> bool:
         try:
             from_, to = map(index, pair)
         except (TypeError, ValueError):
             return False
-        if not (0 <= from_ < 1024 and 0 <= to < 1024):
+        if not (0 <= from_ < MAX_RECORDS and 0 <= to < MAX_RECORDS):
             return False
-        word = from_ * 1024 + to
+        word = from_ * MAX_RECORDS + to
         at = bisect_left(self._words, word)
         return at < len(self._words) and self._words[at] == word
 
@@ -173,7 +176,7 @@ class Steps(Answer[Step]):
         self.start = start
 
     def _item(self, word: int) -> Step:
-        spelt, reached = divmod(word, 1024)
+        spelt, reached = divmod(word, MAX_RECORDS)
         return Step(_letter(spelt // 2), spelt % 2 == 0, reached)
 
     def __bool__(self) -> bool:
@@ -204,8 +207,8 @@ class Links(Answer[Link]):
     __slots__ = ()
 
     def _item(self, word: int) -> Link:
-        spelt, to = divmod(word, 1024)
-        label, from_ = divmod(spelt, 1024)
+        spelt, to = divmod(word, MAX_RECORDS)
+        label, from_ = divmod(spelt, MAX_RECORDS)
         return Link(from_, _letter(label), to)
 
 

@@ -15,7 +15,7 @@ from .calls import counted, done, numbered, told
 from .items import Links, Pairs, Steps, copied
 from .pages import page_bytes
 from .refusal import Cause, Refusal
-from .space import Space, chain_work, longest_chain, most_pairs, room, rows_work, support_work, tree_work
+from .space import MAX_LINKS, MAX_RECORDS, Space, chain_work, longest_chain, most_pairs, room, rows_work, support_work, tree_work
 from .terms import Edit, Generations, Limits, Tie
 
 
@@ -198,7 +198,7 @@ class Register:
     def links(self) -> Links:
         """The links present."""
         with self._turn:
-            written = self._space.list(4096)
+            written = self._space.list(MAX_LINKS)
             return Links(copied(written, counted(calls.links(self._words, written))))
 
     # Questions
@@ -292,7 +292,7 @@ class Register:
             marks = self._words[calls.MARKS]
         if looped:
             # Its last step reaches the record that it begins at.
-            return Generations(None, Steps(answer[-1] % 1024, answer))
+            return Generations(None, Steps(answer[-1] % MAX_RECORDS, answer))
         in_use = (record for record, mark in enumerate(marks) if mark != calls.WITHDRAWN)
         return Generations(dict(zip(in_use, answer)), None)
 

@@ -8,6 +8,11 @@ import ctypes
 
 from . import calls
 
+MAX_RECORDS = 1024
+"""The most records of a register; words of pairs, steps and links count by it."""
+MAX_LINKS = 4096
+"""The most links of a register."""
+
 
 def tree_words(n: int) -> int:
     """D, the words of the longest tree: 4 × (s² − 1) / 3 bits, where s is the smallest power of two
@@ -62,7 +67,7 @@ def longest_chain(n: int) -> int:
 
 
 def _in_range(n: int) -> int:
-    return n if 1 <= n <= 1024 else 0
+    return n if 1 <= n <= MAX_RECORDS else 0
 
 
 class Space:

@@ -12,7 +12,7 @@ from .arguments import number, wanted
 from .calls import counted
 from .items import Pairs, copied
 from .refusal import Cause, Refusal
-from .space import room, tree_words, tree_work
+from .space import MAX_RECORDS, room, tree_words, tree_work
 
 # A word above those of all pairs, which is refused as an end above 1,023 would be (2).
 _NO_PAIR = (1 << 32) - 1
@@ -154,7 +154,7 @@ class Tree:
 
 def _word(from_: int, to: int) -> int:
     ends = number(from_), number(to)
-    return ends[0] * 1024 + ends[1] if max(ends) < 1024 else _NO_PAIR
+    return ends[0] * MAX_RECORDS + ends[1] if max(ends) < MAX_RECORDS else _NO_PAIR
 
 
 def _tree(other: Tree) -> Tree:
