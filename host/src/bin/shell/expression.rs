@@ -152,39 +152,36 @@ mod tests {
         assert_eq!(text.as_bytes()[mark.find('^').unwrap()], b'A');
     }
 
-    /// Every text of at most this many bytes from these is tried: as an ending, all of them are; as a beginning, those that an ending as long suffices for.
+    /// Every text of at most so many of these bytes, after the one that is there.
+    fn texts(text: &mut Vec<u8>, bytes: &[u8], longest: usize, seen: &mut impl FnMut(&[u8])) {
+        seen(text);
+        if text.len() < longest {
+            for &byte in bytes {
+                text.push(byte);
+                texts(text, bytes, longest, seen);
+                text.pop();
+            }
+        }
+    }
+
+    /// Tries every text of at most so many of these bytes: which begin one that is accepted?
     fn agrees(bytes: &[u8], longest: usize) {
-        let mut beginnings = HashSet::new();
-        let mut texts = vec![Vec::new()];
-        let mut tried = 0;
-        for length in 0..=longest {
-            for text in &texts {
-                if cause(text).is_none() {
-                    beginnings.extend((0..=length).map(|end| text[..end].to_vec()));
-                }
+        let mut begun = HashSet::new();
+        texts(&mut Vec::new(), bytes, longest, &mut |text| {
+            if cause(text).is_none() {
+                begun.extend((0..=text.len()).map(|end| text[..end].to_vec()));
             }
-            tried += texts.len();
-            if length < longest {
-                texts = texts.iter().flat_map(|text| bytes.iter().map(|&byte| [&text[..], &[byte]].concat())).collect();
-            }
-        }
-        assert_eq!(tried, (0..=longest as u32).map(|length| bytes.len().pow(length)).sum::<usize>());
-        // A beginning of so many bytes has that many parentheses open at most, and wants one letter.
-        let sufficed = (longest - 1) / 2;
-        let mut texts = vec![Vec::new()];
-        for _ in 0..=sufficed {
-            for text in &texts {
-                assert_eq!(goes_on(text), beginnings.contains(text), "{}", shown(text));
-            }
-            texts = texts.iter().flat_map(|text| bytes.iter().map(|&byte| [&text[..], &[byte]].concat())).collect();
-        }
-        // A longer one that some text within the limit begins with must be seen to go on.
-        assert!(beginnings.iter().all(|text| goes_on(text)));
+        });
+        // A text opens at most as many parentheses as it has bytes, and wants one letter: if it begins an expression, then one of twice its bytes and one.
+        texts(&mut Vec::new(), bytes, (longest - 1) / 2, &mut |text| {
+            assert_eq!(goes_on(text), begun.contains(text), "{}", shown(text))
+        });
+        assert!(begun.iter().all(|text| goes_on(text)));
     }
 
     #[test]
     fn as_brute_force_over_short_texts_finds() {
-        agrees(b"a()|^!", 7);
-        agrees(b"a(/|)*!^ ", 5);
+        agrees(b"a()|^!*", 7);
+        agrees(b"ab()|/^!*+? A", 5);
     }
 }

@@ -18,12 +18,12 @@ const OVERVIEW: &str = "\
 Requests, one to a line; help WORD says more of one, with an example:
   open N                             begin afresh with records 0 to N - 1
   add FROM LETTER TO                 put a link in; remove takes it out
-  lock RECORD                        keep its links as they are; unlock ends that
+  lock RECORD                        keep its links as they are, until unlock
   withdraw RECORD                    take it out of use; reinstate takes it back
   undo                               take the latest edit back
   close                              close up the numbers, with no gaps
   show                               how many records and links; locks
-  links                              every link; total LETTER counts those of one
+  links                              every link; total LETTER counts one letter
   pairs EXPRESSION                   which records are joined
   chain FROM TO EXPRESSION           by which links two records are joined
   preview EDIT EXPRESSION            pairs, as if an edit or undo were made
@@ -34,7 +34,7 @@ Requests, one to a line; help WORD says more of one, with an example:
   draw LETTERS                       the links as a drawing
   more                               the rest of a long answer
   quit                               end; so does the end of the input
-REQUEST > FILE writes an answer to a file; a line that begins with # is a remark.
+REQUEST > FILE writes the answer to a file; a line after # is a remark.
 help expression says how an expression is typed.
 ";
 
@@ -176,8 +176,8 @@ dating> total t
         word: "pairs",
         arguments: "EXPRESSION",
         about: "\
-Which records the expression joins: a line to a pair, first where a chain begins,
-then where it ends. help expression says how an expression is typed.",
+Which records the expression joins: a line to a pair, first where a chain
+begins, then where it ends. help expression says how an expression is typed.",
         example: "\
 dating> pairs ^t/(o|^o|t/^t)*/m+
 4 pairs
@@ -190,8 +190,8 @@ dating> pairs ^t/(o|^o|t/^t)*/m+
         word: "chain",
         arguments: "FROM TO EXPRESSION",
         about: "\
-By which links the expression joins two records: the shortest chain, and of those
-as short always the same one. An arrow shows which way its link leads.",
+By which links the expression joins two records: the shortest chain, and of
+those as short always the same one. An arrow shows which way its link leads.",
         example: "\
 dating> chain 3 0 ^t/(o|^o|t/^t)*/m+
 3 <-t- 7 -o-> 6 -t-> 2 <-t- 5 -m-> 1 -m-> 0 (6 steps)
@@ -254,9 +254,9 @@ no numbers, since links lead round in a loop: 4 -m-> 8 -t-> 4 (2 steps)",
         word: "offsets",
         arguments: "BASE FIRST SECOND LEAST MOST, FIRST SECOND LEAST MOST ..",
         about: "\
-Within which limits each record begins after the base, by ties: the second record
-of a tie begins at least LEAST and at most MOST rings after the first. A number
-below 0 is before. At most 1,024 ties, each from -20000 to 20000.",
+Within which limits each record begins after the base, by ties: the second
+record of a tie begins at least LEAST and at most MOST rings after the first. A
+number below 0 is before. At most 1,024 ties, each from -20000 to 20000.",
         example: "\
 dating> offsets 5 5 6 31 38, 5 6 35 44, 6 7 -12 -9
 2 records are tied to record 5
@@ -270,8 +270,8 @@ the ties cannot all hold: no years meet them",
         word: "page",
         arguments: "EXPRESSION",
         about: "\
-The pairs as pages for a printer: lines of 72 columns, 59 lines of six pairs to a
-page below a head with the expression and the page's number.",
+The pairs as pages for a printer: lines of 72 columns, 59 lines of six pairs to
+a page below a head with the expression and the page's number.",
         example: "\
 dating> page m+ > page.txt
 wrote page.txt (2 lines)",
@@ -280,8 +280,8 @@ wrote page.txt (2 lines)",
         word: "draw",
         arguments: "LETTERS [FROM TO EXPRESSION]",
         about: "\
-The links of these letters as a drawing in the language of Graphviz; with the ends
-of a chain and an expression, that chain is shown in it.",
+The links of these letters as a drawing in the language of Graphviz; with the
+ends of a chain and an expression, that chain is shown in it.",
         example: "\
 dating> draw tom 3 0 ^t/(o|^o|t/^t)*/m+ > house.dot
 wrote house.dot (1 line)",
@@ -324,7 +324,7 @@ How records are joined, letter by letter, with no blanks:
   ^t          a link t the other way, from its second record to its first
   t/m         t, and from there m
   t|m         t or m
-  m+  m*  m?  m once or more; any number of times, or not at all; once or not at all
+  m+  m*  m?  m once or more; any number of times, or none; once or not at all
   (o|^o)+     parentheses hold a part together
   !t          a link of any letter but t; !^t the other way; !(t|m) but t and m
 At most 256 bytes, 63 letters, and groups 8 deep.",
@@ -411,10 +411,18 @@ impl Entry {
         format!("{} {}", self.word, self.arguments).trim_end().into()
     }
 
-    /// A line that asks for it.
+    /// A line that asks for it, the first of its example.
     pub fn sample(&self) -> &'static str {
         let mut typed = self.example.lines().filter_map(|line| line.strip_prefix(PROMPT));
         typed.find(|line| line.starts_with(self.word)).unwrap_or(self.word)
+    }
+
+    /// How it is typed, with a line for example if something follows the word.
+    pub fn told(&self) -> String {
+        match self.arguments {
+            "" => format!("  it is typed: {}\n", self.word),
+            _ => format!("  it is typed: {}\n  for example: {}\n", self.form(), self.sample()),
+        }
     }
 }
 
@@ -423,7 +431,6 @@ mod tests {
     use super::*;
     use crate::request::{self, Request};
     use crate::session::Session;
-    use crate::text::WIDTH;
 
     const HOUSE: &str = include_str!("../../../../examples/surveyor.txt");
 
@@ -472,9 +479,10 @@ mod tests {
             let words = OVERVIEW.split(|c: char| !c.is_ascii_lowercase());
             assert!(words.into_iter().any(|word| word == entry.word), "{}", entry.word);
         }
-        assert!(OVERVIEW.lines().count() <= 22 && OVERVIEW.lines().all(|line| line.len() <= 80));
-        for entry in REQUESTS.iter().chain([&EXPRESSION]) {
-            assert!(text(Some(entry)).lines().all(|line| line.chars().count() <= WIDTH + 4), "{}", entry.word);
+        assert!(OVERVIEW.lines().count() <= 22);
+        for text in REQUESTS.iter().chain([&EXPRESSION]).map(|entry| text(Some(entry))).chain([text(None)]) {
+            let wide = text.lines().find(|line| line.chars().count() > 80);
+            assert_eq!(wide, None);
         }
     }
 

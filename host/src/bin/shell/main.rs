@@ -17,7 +17,7 @@ mod text;
 
 use crate::request::{Line, NoRequest, Request};
 use crate::session::Session;
-use crate::text::{count, grouped};
+use crate::text::count;
 use std::io::{self, BufRead, BufReader, BufWriter, ErrorKind, Read, Write};
 use std::path::Path;
 use std::process::ExitCode;
@@ -114,17 +114,17 @@ impl Shell {
             return Ok(());
         }
         self.rest = answer.split_off(shown);
-        writeln!(output, "-- {} not shown; more goes on --", count(self.rest.lines().count(), "line"))
+        writeln!(output, "-- {} left; type more to go on --", count(self.rest.lines().count(), "line"))
     }
 
     /// What is wrong with a line, and how its request is typed. Where no one typed it just now, the line is named.
     fn no_request(&mut self, wrong: &NoRequest, output: &mut impl Write) -> io::Result<()> {
         self.failed = true;
         if !self.on_terminal {
-            write!(output, "line {}: ", grouped(self.lines))?;
+            write!(output, "line {}: ", self.lines)?;
         }
         let NoRequest { fault, nearest } = wrong;
-        writeln!(output, "no request: {fault}\n  type {}, as in {}; help lists all", nearest.form(), nearest.sample())
+        write!(output, "no request: {fault}\n{}", nearest.told())
     }
 }
 

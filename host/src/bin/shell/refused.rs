@@ -10,11 +10,11 @@ use dating::Refusal;
 /// 14 for pages that are read.
 const WORDS: &[(Refusal, &[&str], &str)] = &[
     (Refusal::Size, &[], "a register has 1 to 1,024 records"),
-    (Refusal::Record, &["add", "remove"], "an end of the link is no record: there are 0 to {last}"),
-    (Refusal::Record, &["chain", "draw"], "an end of the chain is no record: there are 0 to {last}"),
-    (Refusal::Record, &["support"], "the core or an anchor is no record: there are 0 to {last}"),
-    (Refusal::Record, &["offsets"], "the base or a record of a tie is no record: there are 0 to {last}"),
-    (Refusal::Record, &[], "there is no such record: there are 0 to {last}"),
+    (Refusal::Record, &["add", "remove"], "an end of the link is no record: records are 0 to {last}"),
+    (Refusal::Record, &["chain", "draw"], "an end of the chain is no record: records are 0 to {last}"),
+    (Refusal::Record, &["support"], "the core or an anchor is no record: records are 0 to {last}"),
+    (Refusal::Record, &["offsets"], "the base or a record of a tie is no record: records are 0 to {last}"),
+    (Refusal::Record, &[], "there is no such record: records are 0 to {last}"),
     (Refusal::Label, &["generations", "draw"], "the letters are not all from a to z"),
     (Refusal::Label, &[], "the letter is none from a to z"),
     (Refusal::Locked, &["withdraw"], "the record is locked"),
@@ -38,8 +38,8 @@ fn words(cause: Refusal, word: &str, n: u16) -> String {
     found.map_or(cause.meaning(), |(_, _, words)| words).replace("{last}", &n.saturating_sub(1).to_string())
 }
 
-/// The lines that say why a request was refused, by a register of n records.
-pub fn text(cause: Refusal, request: &Request, n: u16) -> String {
+/// The lines that say why a request was refused, by a register of n records. A place says which of several things was refused, or nothing.
+pub fn text(cause: Refusal, request: &Request, n: u16, place: &str) -> String {
     let number = cause.number();
     match (cause, request.expression()) {
         (Refusal::Grammar, Some(text)) => format!("refused {number}: {}\n{}", cause.meaning(), expression::fault(text)),
@@ -47,7 +47,7 @@ pub fn text(cause: Refusal, request: &Request, n: u16) -> String {
             let (words, lines) = expression::over(text);
             format!("refused {number}: {words}\n{lines}")
         }
-        _ => format!("refused {number}: {}\n", words(cause, request.refused_as(), n)),
+        _ => format!("refused {number}: {}{place}\n", words(cause, request.refused_as(), n)),
     }
 }
 
@@ -85,7 +85,7 @@ mod tests {
     fn words_fit_the_request() {
         assert_eq!(words(Refusal::Locked, "add", 9), "an end of the link is locked");
         assert_eq!(words(Refusal::Locked, "withdraw", 9), "the record is locked");
-        assert_eq!(words(Refusal::Record, "lock", 9), "there is no such record: there are 0 to 8");
+        assert_eq!(words(Refusal::Record, "lock", 9), "there is no such record: records are 0 to 8");
         assert_eq!(words(Refusal::Touched, "withdraw", 9), Refusal::Touched.meaning());
     }
 

@@ -57,16 +57,13 @@ pub fn read(line: &[u8]) -> Result<Option<Line>, NoRequest> {
     let mut words = Words::of(asked);
     let first = match words.next() {
         None if file.is_none() => return Ok(None),
-        None => b">",
+        None => return Err(NoRequest { fault: "a request stands before >".into(), nearest: help::nearest(b"page") }),
         Some([b'#', ..]) => return Ok(None),
         Some(first) => first,
     };
     let Some(entry) = help::entry(first) else {
         let nearest = help::nearest(first);
-        return Err(NoRequest {
-            fault: format!("{} is not known; the nearest request is {}", quoted(first), nearest.word),
-            nearest,
-        });
+        return Err(NoRequest { fault: unknown(first, nearest), nearest });
     };
     let request = request(entry.word, words).and_then(|request| Ok(Line { file: file.map(named).transpose()?, request }));
     request.map(Some).map_err(|fault| NoRequest { fault, nearest: entry })
@@ -165,9 +162,10 @@ fn path(words: &mut Words) -> Result<Path, Fault> {
 fn support(words: &mut Words) -> Result<Request, Fault> {
     let core = words.number("CORE")?;
     let expression = words.word("EXPRESSION")?.to_vec();
-    let mut anchors = vec![words.number("ANCHOR")?];
-    while !words.rest().is_empty() {
-        anchors.push(words.number("ANCHOR")?);
+    let mut anchors = vec![];
+    while anchors.is_empty() || !words.rest().is_empty() {
+        let hint = if words.rest().is_empty() { "" } else { "; an expression has no blanks" };
+        anchors.push(words.number("ANCHOR").map_err(|fault| fault + hint)?);
     }
     Ok(Request::Support { core, expression, anchors })
 }
@@ -192,7 +190,11 @@ fn tie(mut words: Words) -> Result<Tie, Fault> {
 }
 
 fn topic(word: &[u8]) -> Result<&'static help::Entry, Fault> {
-    help::topic(word).ok_or_else(|| format!("{} is not known; the nearest request is {}", quoted(word), help::nearest(word).word))
+    help::topic(word).ok_or_else(|| unknown(word, help::nearest(word)))
+}
+
+fn unknown(word: &[u8], nearest: &help::Entry) -> Fault {
+    format!("{} is not known; the nearest request is {}, and help lists all", quoted(word), nearest.word)
 }
 
 #[cfg(test)]
@@ -239,12 +241,12 @@ mod tests {
         assert_eq!(file("page m+>page.txt"), None);
         assert_eq!(fault("page m+ >"), "the FILE after > is missing");
         assert_eq!(fault("page m+ >> page.txt"), ">> is not known; > FILE writes the file anew");
-        assert!(fault("> page.txt").starts_with("\">\" is not known"));
+        assert_eq!(fault("> page.txt"), "a request stands before >");
     }
 
     #[test]
     fn what_is_wrong_is_said() {
-        assert_eq!(fault("pair t"), "\"pair\" is not known; the nearest request is pairs");
+        assert_eq!(fault("pair t"), "\"pair\" is not known; the nearest request is pairs, and help lists all");
         assert_eq!(fault("add 5 t"), "TO is missing");
         assert_eq!(fault("add 5 t 2 9"), "\"9\" is a word too many");
         assert_eq!(fault("add 5 -t-> 2"), "LETTER is one letter from a to z, not \"-t->\"");
@@ -253,6 +255,6 @@ mod tests {
         assert_eq!(fault("offsets 0 0 1 3 4,"), "tie 2: FIRST is missing");
         assert_eq!(fault("offsets 0 0 1 3 4 1 2 5 6"), "\"1\" is a word too many: a comma stands between ties");
         assert_eq!(fault("support 5 o+"), "ANCHOR is missing");
-        assert_eq!(fault("help pear"), "\"pear\" is not known; the nearest request is pairs");
+        assert_eq!(fault("help pars"), "\"pars\" is not known; the nearest request is pairs, and help lists all");
     }
 }

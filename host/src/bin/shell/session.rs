@@ -15,9 +15,11 @@ pub struct Session {
 impl Session {
     /// The lines that answer a request, or those of its refusal.
     pub fn answer(&mut self, request: &Request) -> Result<String, String> {
-        self.done(request).map_err(|cause| {
-            let n = self.register.as_ref().map_or(0, Register::size);
-            refused::text(cause, request, n)
+        self.done(request).map_err(|cause| match (&self.register, request) {
+            (Some(register), Request::Offsets { base, ties }) => {
+                refused::text(cause, request, register.size(), &refused_tie(register, *base, ties, cause))
+            }
+            (register, _) => refused::text(cause, request, register.as_ref().map_or(0, Register::size), ""),
         })
     }
 
@@ -228,6 +230,16 @@ fn tied(register: &Register, base: u16, ties: &[Tie]) -> Result<String, Refusal>
     Ok(text)
 }
 
+/// Which tie offsets are refused for: the last of the fewest that, asked alone, are refused for the same cause. More ties are then, too: a cause that comes
+/// before it in the order is in none of them.
+fn refused_tie(register: &Register, base: u16, ties: &[Tie], cause: Refusal) -> String {
+    let counts: Vec<usize> = (0..=ties.len()).collect();
+    match counts.partition_point(|&count| register.offsets(base, &ties[..count]).err() != Some(cause)) {
+        0 => " (the base)".into(),
+        tie => format!(" (tie {})", grouped(tie)),
+    }
+}
+
 fn rings(number: i32) -> String {
     match number {
         1 | -1 => format!("{number} ring"),
@@ -303,6 +315,15 @@ mod tests {
         let text = last("open 6\nwithdraw 5\noffsets 1 1 2 3 3, 2 3 -4 -1, 0 0 0 0");
         let lines = "2 records are tied to record 1\n2 begins 3 rings after 1\n3 begins -1 to 2 rings after 1\n";
         assert_eq!(text, format!("{lines}tied to it by nothing: 0, 4\nwithdrawn: 5\n"));
+    }
+
+    #[test]
+    fn the_tie_that_is_refused_is_named() {
+        let refused = |ties: &str| last(&format!("open 4\nwithdraw 3\noffsets {ties}"));
+        assert!(refused("0 0 1 3 4, 1 2 5 4, 0 1 6 5").ends_with(" (tie 2)\n"));
+        assert_eq!(refused("0 0 1 3 4, 1 2 5 4, 0 3 1 1"), "refused 18: the base or a record of a tie is withdrawn (tie 3)\n");
+        assert_eq!(refused("3 0 1 9 4"), "refused 18: the base or a record of a tie is withdrawn (the base)\n");
+        assert!(refused(&format!("0 {}0 1 1 1", "0 1 1 1,".repeat(1024))).ends_with(" (tie 1,025)\n"));
     }
 
     #[test]
