@@ -93,9 +93,10 @@ fn figures(word: &[u8]) -> Option<u32> {
 }
 
 fn no_number(name: &str, word: &[u8]) -> Fault {
-    let without: Vec<u8> = word.iter().copied().filter(|&byte| byte != b',').collect();
+    let threes: Vec<&[u8]> = word.split(|&byte| byte == b',').collect();
+    let grouped = threes[0].len() <= 3 && threes[1..].iter().all(|three| three.len() == 3);
     let hint = match word {
-        _ if without.len() < word.len() && figures(&without).is_some() => format!(": type {}", shown(&without)),
+        _ if grouped && figures(&threes.concat()).is_some() => format!(": type {}", shown(&threes.concat())),
         [b'-', rest @ ..] if figures(rest).is_some() => ": records are numbered from 0".into(),
         _ => String::new(),
     };
@@ -123,6 +124,7 @@ mod tests {
         assert_eq!(number("0008"), Ok(8));
         assert_eq!((number("65536"), number("99999999999999999999")), (Ok(65_535), Ok(65_535)));
         assert_eq!(number("1,024"), Err("N is a number, not \"1,024\": type 1024".into()));
+        assert_eq!(number("3,0"), Err("N is a number, not \"3,0\"".into()));
         assert_eq!(number("-1"), Err("N is a number, not \"-1\": records are numbered from 0".into()));
         assert_eq!(number("x"), Err("N is a number, not \"x\"".into()));
         assert_eq!(number(""), Err("N is missing".into()));

@@ -15,7 +15,7 @@ const WORDS: &[(Refusal, &[&str], &str)] = &[
     (Refusal::Record, &["support"], "the core or an anchor is no record: records are 0 to {last}"),
     (Refusal::Record, &["offsets"], "the base or a record of a tie is no record: records are 0 to {last}"),
     (Refusal::Record, &[], "there is no such record: records are 0 to {last}"),
-    (Refusal::Label, &["generations", "draw"], "the letters are not all from a to z"),
+    (Refusal::Label, &["generations", "draw"], "the letters are not all from a to z; they are typed together, as in tom"),
     (Refusal::Label, &[], "the letter is none from a to z"),
     (Refusal::Locked, &["withdraw"], "the record is locked"),
     (Refusal::Locked, &[], "an end of the link is locked"),

@@ -51,8 +51,9 @@ pub struct NoRequest {
     pub nearest: &'static help::Entry,
 }
 
-/// What a line says: nothing, if it is empty or begins with `#`, or a request.
+/// What a line says: nothing, if it is empty or begins with `#`, or a request. A prompt before it, as in a line copied from an example, is passed over.
 pub fn read(line: &[u8]) -> Result<Option<Line>, NoRequest> {
+    let line = line.strip_prefix(help::PROMPT.as_bytes()).unwrap_or(line);
     let (asked, file) = parted(line);
     let mut words = Words::of(asked);
     let first = match words.next() {
@@ -214,7 +215,7 @@ mod tests {
         let link = Link { from: 7, letter: 'o', to: 6 };
         assert_eq!(asked("  remove 7\to 6 \r"), Request::Edit(Edit::Remove(link)));
         assert_eq!(asked("preview remove 7 o 6 ^t/m+"), Request::Preview(Edit::Remove(link), b"^t/m+".to_vec()));
-        assert_eq!(asked("preview undo m+"), Request::Preview(Edit::Undo, b"m+".to_vec()));
+        assert_eq!(asked("dating> preview undo m+"), Request::Preview(Edit::Undo, b"m+".to_vec()));
         assert_eq!(asked("pairs t / m"), Request::Pairs(b"t / m".to_vec()));
         let chain = Path { from: 3, to: 0, expression: b"a".to_vec() };
         assert_eq!(asked("chain 3 0 a"), Request::Chain(chain.clone()));

@@ -70,19 +70,24 @@ fn runs(records: impl IntoIterator<Item = u16>) -> Vec<(u16, u16)> {
 
 /// `5` or `5 to 9`.
 pub fn run((first, last): (u16, u16)) -> String {
-    if first == last {
-        first.to_string()
-    } else {
-        format!("{first} to {last}")
+    match first == last {
+        true => first.to_string(),
+        false => format!("{first} to {last}"),
     }
 }
 
 /// `locked: 0, 5 to 9`, broken into lines.
 pub fn listed(head: &str, records: impl IntoIterator<Item = u16>) -> String {
-    let runs = runs(records);
-    let last = runs.len().saturating_sub(1);
-    let pieces = runs.into_iter().enumerate().map(|(at, of)| run(of) + if at < last { "," } else { "" });
-    filled([head.to_string()].into_iter().chain(pieces))
+    let mut pieces = vec![head.to_string()];
+    for (first, last) in runs(records) {
+        match last - first {
+            1 => pieces.extend([format!("{first},"), format!("{last},")]),
+            _ => pieces.push(run((first, last)) + ","),
+        }
+    }
+    let mut text = filled(pieces);
+    text.truncate(text.trim_end_matches([',', '\n']).len());
+    text + "\n"
 }
 
 /// `0 -a-> 1 <-b- 3 (2 steps)`, broken into lines.
@@ -164,6 +169,7 @@ mod tests {
     fn records_in_a_row_are_said_together() {
         assert_eq!(listed("locked:", [0, 2, 3, 4, 9]), "locked: 0, 2 to 4, 9\n");
         assert_eq!(listed("locked:", [5]), "locked: 5\n");
+        assert_eq!(listed("locked:", [5, 6]), "locked: 5, 6\n");
         assert!(listed("free:", (0..1024).step_by(2)).lines().all(|line| line.len() <= WIDTH));
     }
 
