@@ -1,6 +1,7 @@
 #!/usr/bin/env python3
 """on_terminal.py SHELL TYPED: runs the shell on a pseudo-terminal of 24 lines and 80 columns, types each line of the file TYPED once the prompt is
-there, then Ctrl-D, and prints what the terminal shows, echo and prompt included. The exit status is the shell's."""
+there, then Ctrl-D, and prints what the terminal shows, echo and prompt included. The exit status is the shell's.
+on_terminal.py SHELL TYPED answers: only the answers go to the terminal; the file is the shell's standard input."""
 import fcntl
 import os
 import pty
@@ -33,18 +34,22 @@ def read_to(terminal, ending):
 
 
 def main():
-    shell, typed = sys.argv[1:]
+    shell, typed, *answers_alone = sys.argv[1:]
     with open(typed, "rb") as file:
         lines = file.read().splitlines()
     child, terminal = pty.fork()
     if child == 0:
         fcntl.ioctl(1, termios.TIOCSWINSZ, struct.pack("HHHH", 24, 80, 0, 0))
+        if answers_alone:
+            os.dup2(os.open(typed, os.O_RDONLY), 0)
         os.execv(shell, [shell])
-    shown = read_to(terminal, PROMPT)
-    for line in lines:
-        os.write(terminal, line + b"\n")
-        shown += read_to(terminal, b"\n" + PROMPT)
-    os.write(terminal, END_OF_INPUT)
+    shown = b""
+    if not answers_alone:
+        shown += read_to(terminal, PROMPT)
+        for line in lines:
+            os.write(terminal, line + b"\n")
+            shown += read_to(terminal, b"\n" + PROMPT)
+        os.write(terminal, END_OF_INPUT)
     shown += read_to(terminal, None)
     sys.stdout.buffer.write(shown.replace(b"\r\n", b"\n"))
     sys.exit(os.waitstatus_to_exitcode(os.waitpid(child, 0)[1]))

@@ -345,6 +345,9 @@ dating> pairs t/^t
 8 8",
 };
 
+/// The most characters of an unknown word that are looked at.
+const LONGEST: usize = 20;
+
 /// What people type for a request that has another word.
 const ALSO: &[(&str, &str)] = &[
     ("exit", "quit"),
@@ -375,7 +378,7 @@ pub fn topic(word: &[u8]) -> Option<&'static Entry> {
 
 /// The request that was most likely meant by a word that is none.
 pub fn nearest(word: &[u8]) -> &'static Entry {
-    let word = String::from_utf8_lossy(word).to_lowercase();
+    let word: String = String::from_utf8_lossy(word).to_lowercase().chars().take(LONGEST).collect();
     let also = ALSO.iter().find(|(typed, _)| *typed == word).and_then(|(_, meant)| entry(meant.as_bytes()));
     let begun = || REQUESTS.iter().find(|entry| entry.word.starts_with(&word));
     let near = || REQUESTS.iter().min_by_key(|entry| distance(&word, entry.word)).expect("there are requests");

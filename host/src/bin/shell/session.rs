@@ -4,7 +4,7 @@ use crate::help;
 use crate::refused;
 use crate::request::{Path, Request};
 use crate::text::{chain, count, filled, grouped, link, listed, pairs, run};
-use dating::{Edit, Generations, Offset, Offsets, Refusal, Register, Step, Tie};
+use dating::{Edit, Generations, Offset, Offsets, Pairs, Refusal, Register, Step, Tie};
 
 /// The register, once one is opened.
 #[derive(Default)]
@@ -27,35 +27,31 @@ impl Session {
         match request {
             Request::Open(n) => {
                 self.register = Some(Register::fresh(*n)?);
-                return Ok(ok());
+                Ok(ok())
             }
-            Request::Help(entry) => return Ok(help::text(*entry)),
-            Request::More => return Ok("nothing more to show\n".into()),
-            Request::Quit => return Ok(String::new()),
-            _ => {}
-        }
-        let register = self.register.as_mut().ok_or(Refusal::NotOpened)?;
-        match request {
-            Request::Edit(edit) => made(register, *edit).map(|()| ok()),
-            Request::Close => closed(register),
-            Request::Show => shown(register),
-            Request::Links => linked(register),
-            Request::Total(letter) => Ok(format!("{} {letter}\n", count(register.total(*letter)?, "link"))),
-            Request::Pairs(expression) => joined(register.pairs(expression)?, ""),
-            Request::Chain(path) => Ok(match steps(register, path)? {
-                Some(steps) => chain(path.from, &steps),
-                None => no_chain(register, path),
-            }),
+            Request::Edit(edit) => made(self.opened()?, *edit).map(|()| ok()),
+            Request::Close => closed(self.opened()?),
+            Request::Show => shown(self.opened()?),
+            Request::Links => linked(self.opened()?),
+            Request::Total(letter) => Ok(format!("{} {letter}\n", count(self.opened()?.total(*letter)?, "link"))),
+            Request::Pairs(expression) => Ok(joined(self.opened()?.pairs(expression)?, "")),
+            Request::Chain(path) => chained(self.opened()?, path),
             Request::Preview(edit, expression) => {
-                joined(register.preview(*edit, expression)?, " if that were done; nothing is changed")
+                Ok(joined(self.opened()?.preview(*edit, expression)?, " if that were done; nothing is changed"))
             }
-            Request::Support { core, expression, anchors } => supported(register, *core, expression, anchors),
-            Request::Generations(letters) => numbered(register, letters),
-            Request::Offsets { base, ties } => tied(register, *base, ties),
-            Request::Page(expression) => Ok(String::from_utf8_lossy(&register.pages(expression)?).into_owned()),
-            Request::Draw { letters, chain } => drawn(register, letters, chain.as_ref()),
-            Request::Open(_) | Request::Help(_) | Request::More | Request::Quit => unreachable!("answered above"),
+            Request::Support { core, expression, anchors } => supported(self.opened()?, *core, expression, anchors),
+            Request::Generations(letters) => numbered(self.opened()?, letters),
+            Request::Offsets { base, ties } => tied(self.opened()?, *base, ties),
+            Request::Page(expression) => Ok(String::from_utf8_lossy(&self.opened()?.pages(expression)?).into_owned()),
+            Request::Draw { letters, chain } => drawn(self.opened()?, letters, chain.as_ref()),
+            Request::More => Ok("nothing more to show\n".into()),
+            Request::Help(entry) => Ok(help::text(*entry)),
+            Request::Quit => Ok(String::new()),
         }
+    }
+
+    fn opened(&mut self) -> Result<&mut Register, Refusal> {
+        self.register.as_mut().ok_or(Refusal::NotOpened)
     }
 }
 
@@ -76,8 +72,15 @@ fn made(register: &mut Register, edit: Edit) -> Result<(), Refusal> {
 }
 
 /// How many pairs, with a remark, and a line to each.
-fn joined(answer: dating::Pairs, remark: &str) -> Result<String, Refusal> {
-    Ok(format!("{}{remark}\n{}", count(answer.total(), "pair"), pairs(answer)))
+fn joined(answer: Pairs, remark: &str) -> String {
+    format!("{}{remark}\n{}", count(answer.total(), "pair"), pairs(answer))
+}
+
+fn chained(register: &mut Register, path: &Path) -> Result<String, Refusal> {
+    Ok(match steps(register, path)? {
+        Some(steps) => chain(path.from, &steps),
+        None => no_chain(register, path),
+    })
 }
 
 fn steps(register: &mut Register, path: &Path) -> Result<Option<Vec<Step>>, Refusal> {
