@@ -10,6 +10,7 @@ import answers
 
 SEEDS = range(1, 9)
 REQUESTS = 1500  # of each random session
+WORDS = ["add"] * 8 + ["remove"] * 3 + ["undo", "pairs", "chain"] * 2 + ["lock", "unlock", "withdraw", "reinstate", "total"]  # by how often they come
 REFUSED = re.compile(r"refused (\d+): .*")
 TOTAL = re.compile(r"(no|[\d,]+) links? [a-z]")
 
@@ -73,7 +74,7 @@ def session(seed):
     yield rng.choice(["undo", "pairs a", "total a"])
     yield f"open {n}"
     for _ in range(REQUESTS):
-        word = rng.choice(["add"] * 8 + ["remove"] * 3 + ["lock", "unlock", "withdraw", "reinstate", "undo", "undo", "total", "pairs", "pairs", "chain", "chain"])
+        word = rng.choice(WORDS)
         if word in ("add", "remove"):
             yield f"{word} {record()} {rng.choice('abcd')} {record()}"
         elif word == "undo":

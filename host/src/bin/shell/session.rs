@@ -12,42 +12,60 @@ pub struct Session {
     register: Option<Register>,
 }
 
+/// Why there is no answer: a refusal, or what is said instead.
+enum Without {
+    Refused(Refusal),
+    Said(String),
+}
+
+impl From<Refusal> for Without {
+    fn from(cause: Refusal) -> Without {
+        Without::Refused(cause)
+    }
+}
+
 impl Session {
-    /// The lines that answer a request, or those of its refusal.
+    /// The lines that answer a request, or those that say why there is no answer.
     pub fn answer(&mut self, request: &Request) -> Result<String, String> {
-        self.done(request).map_err(|cause| match (&self.register, request) {
-            (Some(register), Request::Offsets { base, ties }) => {
+        self.done(request).map_err(|without| match (without, &self.register, request) {
+            (Without::Said(words), _, _) => words,
+            (Without::Refused(cause), Some(register), Request::Offsets { base, ties }) => {
                 refused::text(cause, request, register.size(), &refused_tie(register, *base, ties, cause))
             }
-            (register, _) => refused::text(cause, request, register.as_ref().map_or(0, Register::size), ""),
+            (Without::Refused(cause), register, _) => {
+                refused::text(cause, request, register.as_ref().map_or(0, Register::size), "")
+            }
         })
     }
 
-    fn done(&mut self, request: &Request) -> Result<String, Refusal> {
-        match request {
+    fn done(&mut self, request: &Request) -> Result<String, Without> {
+        Ok(match request {
             Request::Open(n) => {
                 self.register = Some(Register::fresh(*n)?);
-                Ok(ok())
+                ok()
             }
-            Request::Edit(edit) => made(self.opened()?, *edit).map(|()| ok()),
-            Request::Close => closed(self.opened()?),
-            Request::Show => shown(self.opened()?),
-            Request::Links => linked(self.opened()?),
-            Request::Total(letter) => Ok(format!("{} {letter}\n", count(self.opened()?.total(*letter)?, "link"))),
-            Request::Pairs(expression) => Ok(joined(self.opened()?.pairs(expression)?, "")),
-            Request::Chain(path) => chained(self.opened()?, path),
+            Request::Edit(edit) => {
+                made(self.opened()?, *edit)?;
+                ok()
+            }
+            Request::Close => closed(self.opened()?)?,
+            Request::Show => shown(self.opened()?)?,
+            Request::Links => linked(self.opened()?)?,
+            Request::Total(letter) => format!("{} {letter}\n", count(self.opened()?.total(*letter)?, "link")),
+            Request::Pairs(expression) => joined(self.opened()?.pairs(expression)?, ""),
+            Request::Chain(path) => chained(self.opened()?, path)?,
             Request::Preview(edit, expression) => {
-                Ok(joined(self.opened()?.preview(*edit, expression)?, " if that were done; nothing is changed"))
+                joined(self.opened()?.preview(*edit, expression)?, " if that were done; nothing is changed")
             }
-            Request::Support { core, expression, anchors } => supported(self.opened()?, *core, expression, anchors),
-            Request::Generations(letters) => numbered(self.opened()?, letters),
-            Request::Offsets { base, ties } => tied(self.opened()?, *base, ties),
-            Request::Page(expression) => Ok(String::from_utf8_lossy(&self.opened()?.pages(expression)?).into_owned()),
-            Request::Draw { letters, chain } => drawn(self.opened()?, letters, chain.as_ref()),
-            Request::More => Ok("nothing more to show\n".into()),
-            Request::Help(entry) => Ok(help::text(*entry)),
-            Request::Quit => Ok(String::new()),
-        }
+            Request::Support { core, expression, anchors } => supported(self.opened()?, *core, expression, anchors)?,
+            Request::Generations(letters) => numbered(self.opened()?, letters)?,
+            Request::Offsets { base, ties } => tied(self.opened()?, *base, ties)?,
+            Request::Page(expression) => String::from_utf8_lossy(&self.opened()?.pages(expression)?).into_owned(),
+            Request::Draw { letters, chain } => drawn(self.opened()?, letters, chain.as_ref())?,
+            Request::More => "nothing more to show\n".into(),
+            Request::Help(entry) => help::text(*entry),
+            Request::Quit => String::new(),
+        })
     }
 
     fn opened(&mut self) -> Result<&mut Register, Refusal> {
@@ -250,12 +268,12 @@ fn rings(number: i32) -> String {
     }
 }
 
-/// A drawing, or that the chain to be shown in it is not there.
-fn drawn(register: &mut Register, letters: &str, path: Option<&Path>) -> Result<String, Refusal> {
-    let Some(path) = path else { return drawing(register, letters, None) };
+/// A drawing. None is made, nor written to a file, if the chain to be shown in it is not there.
+fn drawn(register: &mut Register, letters: &str, path: Option<&Path>) -> Result<String, Without> {
+    let Some(path) = path else { return Ok(drawing(register, letters, None)?) };
     match steps(register, path)? {
-        Some(steps) => drawing(register, letters, Some((path.from, &steps))),
-        None => Ok(no_chain(register, path)),
+        Some(steps) => Ok(drawing(register, letters, Some((path.from, &steps)))?),
+        None => Err(Without::Said(no_chain(register, path))),
     }
 }
 
