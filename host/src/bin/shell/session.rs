@@ -197,21 +197,33 @@ fn closed(register: &mut Register) -> Result<String, Refusal> {
 
 fn supported(register: &mut Register, core: u16, expression: &[u8], anchors: &[u16]) -> Result<String, Refusal> {
     let fallen: Vec<u16> = register.sole_support(core, expression, anchors)?.collect();
-    Ok(match fallen.len() {
+    let text = match fallen.len() {
         0 => format!("no record hangs on record {core} alone\n"),
         1 => listed(&format!("1 record hangs on record {core} alone:"), fallen),
         many => listed(&format!("{} records hang on record {core} alone:", grouped(many)), fallen),
-    })
+    };
+    let others = anchors.iter().copied().filter(|&anchor| anchor != core);
+    Ok(text + &withdrawn(register, [core].into_iter().chain(others)))
+}
+
+/// The line that names those of some records that are withdrawn; none if none is.
+fn withdrawn(register: &Register, records: impl IntoIterator<Item = u16>) -> String {
+    let records: Vec<u16> = records.into_iter().filter(|&record| register.is_withdrawn(record)).collect();
+    match records.is_empty() {
+        true => String::new(),
+        false => listed("withdrawn:", records),
+    }
 }
 
 fn numbered(register: &mut Register, letters: &str) -> Result<String, Refusal> {
     let named = letters.chars().map(String::from).collect::<Vec<_>>().join(" ");
+    let gone = withdrawn(register, 0..register.size());
     match register.generations(letters)? {
         Generations::Numbers(numbers) if numbers.len() == 0 => Ok("no record is in use\n".into()),
         Generations::Numbers(numbers) => {
             let head = format!("{} in use; the longest run of links {named} to each", count(numbers.len(), "record"));
             let lines = numbers.map(|(record, number)| format!("{record} {number}\n"));
-            Ok([head, "\n".into()].into_iter().chain(lines).collect())
+            Ok([head, "\n".into()].into_iter().chain(lines).chain([gone]).collect())
         }
         Generations::Loop(steps) => {
             let steps: Vec<Step> = steps.collect();
@@ -228,7 +240,7 @@ fn tied(register: &Register, base: u16, ties: &[Tie]) -> Result<String, Refusal>
     let Offsets::Known(offsets) = register.offsets(base, ties)? else {
         return Ok("the ties cannot all hold: no years meet them\n".into());
     };
-    let (mut lines, mut free, mut withdrawn) = (Vec::new(), Vec::new(), Vec::new());
+    let (mut lines, mut free) = (Vec::new(), Vec::new());
     for (record, offset) in (0..register.size()).zip(offsets) {
         match offset {
             Offset::Limits { .. } if record == base => {}
@@ -236,19 +248,17 @@ fn tied(register: &Register, base: u16, ties: &[Tie]) -> Result<String, Refusal>
                 lines.push(format!("{record} begins {} after {base}\n", rings(least)));
             }
             Offset::Limits { least, most } => lines.push(format!("{record} begins {least} to {} after {base}\n", rings(most))),
-            Offset::Free if register.is_withdrawn(record) => withdrawn.push(record),
+            Offset::Free if register.is_withdrawn(record) => {}
             Offset::Free => free.push(record),
         }
     }
     let verb = if lines.len() == 1 { "is" } else { "are" };
     let mut text = format!("{} {verb} tied to record {base}\n", count(lines.len(), "record"));
     text.extend(lines);
-    for (head, records) in [("tied to it by nothing:", free), ("withdrawn:", withdrawn)] {
-        if !records.is_empty() {
-            text.push_str(&listed(head, records));
-        }
+    if !free.is_empty() {
+        text.push_str(&listed("tied to it by nothing:", free));
     }
-    Ok(text)
+    Ok(text + &withdrawn(register, 0..register.size()))
 }
 
 /// Which tie offsets are refused for: the last of the fewest that, asked alone, are refused for the same cause. More ties are then, too: a cause that comes
@@ -313,6 +323,13 @@ mod tests {
         let both = "open 3\nwithdraw 1\nwithdraw 2\nchain 1 2 a*";
         assert_eq!(last(both), "no chain of any length from 1 to 2: both are withdrawn\n");
         assert_eq!(last("open 3\nchain 1 1 a*"), "1 (0 steps)\n");
+    }
+
+    #[test]
+    fn a_withdrawn_record_is_named_where_it_has_no_line() {
+        assert!(last("open 3\nwithdraw 1\ngenerations a").ends_with("\n0 0\n2 0\nwithdrawn: 1\n"));
+        let support = "open 4\nwithdraw 1\nwithdraw 3\nsupport 3 a* 1 3";
+        assert_eq!(last(support), "no record hangs on record 3 alone\nwithdrawn: 3, 1\n");
     }
 
     #[test]
