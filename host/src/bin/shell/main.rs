@@ -17,8 +17,9 @@ mod text;
 
 use crate::request::{Line, NoRequest, Request};
 use crate::session::Session;
-use crate::text::count;
+use crate::text::{count, shown};
 use std::io::{self, BufRead, BufReader, BufWriter, ErrorKind, Read, Write};
+use std::os::unix::ffi::OsStrExt;
 use std::path::Path;
 use std::process::ExitCode;
 use std::{fs, mem};
@@ -55,7 +56,7 @@ impl Shell {
     /// Answers every line, up to `quit` or the end of the input.
     fn run(&mut self, input: &mut BufReader<impl Read>, output: &mut impl Write) -> io::Result<()> {
         if self.on_terminal {
-            writeln!(output, "The dating register. help lists the requests, quit ends.")?;
+            writeln!(output, "The dating register. help lists the requests; quit ends, and nothing is kept.")?;
         }
         let mut line = Vec::new();
         loop {
@@ -96,7 +97,7 @@ impl Shell {
                 Ok(()) => writeln!(output, "{}", wrote(file, &answer)),
                 Err(error) => {
                     self.failed = true;
-                    writeln!(output, "{} cannot be written: {error}", file.display())
+                    writeln!(output, "{} cannot be written: {error}", named(file))
                 }
             },
             (Ok(answer), None) | (Err(answer), _) => self.print(answer, output),
@@ -108,12 +109,11 @@ impl Shell {
         if !self.on_terminal {
             return output.write_all(answer.as_bytes());
         }
-        let shown = terminal::size().screenful(&answer);
-        output.write_all(&answer.as_bytes()[..shown])?;
-        if shown == answer.len() {
+        self.rest = answer.split_off(terminal::size().screenful(&answer));
+        output.write_all(answer.as_bytes())?;
+        if self.rest.is_empty() {
             return Ok(());
         }
-        self.rest = answer.split_off(shown);
         writeln!(output, "-- {} left; type more to go on --", count(self.rest.lines().count(), "line"))
     }
 
@@ -130,7 +130,11 @@ impl Shell {
 
 /// What is said once an answer is in a file.
 fn wrote(file: &Path, answer: &str) -> String {
-    format!("wrote {} ({})", file.display(), count(answer.lines().count(), "line"))
+    format!("wrote {} ({})", named(file), count(answer.lines().count(), "line"))
+}
+
+fn named(file: &Path) -> String {
+    shown(file.as_os_str().as_bytes())
 }
 
 #[cfg(test)]

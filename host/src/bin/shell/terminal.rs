@@ -55,7 +55,7 @@ impl Size {
         let room = self.rows.saturating_sub(LEFT).max(1);
         let (mut used, mut end) = (0, 0);
         for line in text.split_inclusive('\n') {
-            used += line.trim_end().chars().count().div_ceil(self.columns).max(1);
+            used += line.trim_end_matches('\n').chars().count().div_ceil(self.columns).max(1);
             if used > room && end > 0 {
                 break;
             }
