@@ -16,8 +16,8 @@ const INDENT: usize = 2;
 const BEFORE: usize = 50;
 const AFTER: usize = WIDTH - INDENT - BEFORE - 4;
 
-/// Why the engine's reader turns the text down, if it does. Pages are asked for their pairs: the text is read first, and no bytes are the pages of no
-/// text, so that an accepted one is refused for them (S17.5).
+/// Why the engine's reader turns the text down, if it does. It is lent as the expression of an empty page: the text is judged first, and then an empty page,
+/// which is no page of any text, is refused with another number (S17.5).
 fn cause(text: &[u8]) -> Option<Refusal> {
     read_pages(text, []).err().filter(|&cause| cause != Refusal::Frame)
 }
@@ -34,7 +34,7 @@ fn endings(text: &[u8]) -> Vec<Vec<u8>> {
     vec![closed(b""), closed(b"a")]
 }
 
-/// Whether an expression that the engine accepts begins with the text.
+/// Whether an expression that the engine accepts, within the limits too, begins with the text.
 fn goes_on(text: &[u8]) -> bool {
     endings(text).iter().any(|ended| cause(ended).is_none())
 }
