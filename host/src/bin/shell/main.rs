@@ -1,0 +1,180 @@
+//! The shell: typed requests on a terminal or from a pipe, answered in words. `help` lists them.
+//!
+//! * `arguments`, `request`: what a line asks for
+//! * `session`: the register, and the answers
+//! * `refused`, `expression`: the words of a refusal, and where an expression goes wrong
+//! * `help`: the table of requests
+//! * `text`, `terminal`: how answers are laid out, and how much of one is a screenful
+
+mod arguments;
+mod expression;
+mod help;
+mod refused;
+mod request;
+mod session;
+mod terminal;
+mod text;
+
+use crate::request::{Line, NoRequest, Request};
+use crate::session::Session;
+use crate::text::{count, shown};
+use std::io::{self, BufRead, BufReader, BufWriter, ErrorKind, Read, Write};
+use std::os::unix::ffi::OsStrExt;
+use std::path::Path;
+use std::process::ExitCode;
+use std::{fs, mem};
+
+fn main() -> ExitCode {
+    let mut shell = Shell { on_terminal: terminal::is_there(), ..Shell::default() };
+    let ended = shell.run(&mut BufReader::new(io::stdin().lock()), &mut BufWriter::new(io::stdout().lock()));
+    match ended {
+        Err(error) if error.kind() != ErrorKind::BrokenPipe => {
+            eprintln!("shell: {error}");
+            ExitCode::FAILURE
+        }
+        _ if shell.failed => ExitCode::FAILURE,
+        _ => ExitCode::SUCCESS,
+    }
+}
+
+/// The mark that some editors put at the beginning of a file.
+const BYTE_ORDER_MARK: &[u8] = b"\xef\xbb\xbf";
+
+#[derive(Default)]
+struct Shell {
+    session: Session,
+    on_terminal: bool,
+    /// The lines that were read.
+    lines: usize,
+    /// What is left of an answer that was stopped at a screenful.
+    rest: String,
+    /// Whether a line was no request, or a file could not be written.
+    failed: bool,
+}
+
+impl Shell {
+    /// Answers every line, up to `quit` or the end of the input.
+    fn run(&mut self, input: &mut BufReader<impl Read>, output: &mut impl Write) -> io::Result<()> {
+        if self.on_terminal {
+            writeln!(output, "The dating register. help lists the requests; quit ends, and nothing is kept.")?;
+        }
+        let mut line = Vec::new();
+        loop {
+            if self.on_terminal {
+                write!(output, "{}", help::PROMPT)?;
+            }
+            // Whoever waits for an answer before the next request has it.
+            if !input.buffer().contains(&b'\n') {
+                output.flush()?;
+            }
+            line.clear();
+            if input.read_until(b'\n', &mut line)? == 0 {
+                if self.on_terminal {
+                    writeln!(output)?;
+                }
+                return output.flush();
+            }
+            self.lines += 1;
+            let text = line.strip_suffix(b"\n").unwrap_or(&line);
+            let text = if self.lines == 1 { text.strip_prefix(BYTE_ORDER_MARK).unwrap_or(text) } else { text };
+            match request::read(text) {
+                Ok(None) => {}
+                Ok(Some(Line { request: Request::Quit, .. })) => return output.flush(),
+                Ok(Some(line)) => self.answer(&line, output)?,
+                Err(fault) => self.no_request(&fault, output)?,
+            }
+        }
+    }
+
+    fn answer(&mut self, line: &Line, output: &mut impl Write) -> io::Result<()> {
+        let rest = mem::take(&mut self.rest);
+        let answer = match line.request {
+            Request::More if !rest.is_empty() => Ok(rest),
+            _ => self.session.answer(&line.request),
+        };
+        match (answer, &line.file) {
+            (Ok(answer), Some(file)) => match fs::write(file, &answer) {
+                Ok(()) => writeln!(output, "{}", wrote(file, &answer)),
+                Err(error) => {
+                    self.failed = true;
+                    writeln!(output, "{} cannot be written: {error}", named(file))
+                }
+            },
+            (Ok(answer), None) | (Err(answer), _) => self.print(answer, output),
+        }
+    }
+
+    /// An answer; on a terminal no more than a screenful of it.
+    fn print(&mut self, mut answer: String, output: &mut impl Write) -> io::Result<()> {
+        if !self.on_terminal {
+            return output.write_all(answer.as_bytes());
+        }
+        self.rest = answer.split_off(terminal::size().screenful(&answer));
+        output.write_all(answer.as_bytes())?;
+        if self.rest.is_empty() {
+            return Ok(());
+        }
+        writeln!(output, "-- {} left; type more to go on --", count(self.rest.lines().count(), "line"))
+    }
+
+    /// What is wrong with a line, and how its request is typed. Where no one typed it just now, the line is named.
+    fn no_request(&mut self, wrong: &NoRequest, output: &mut impl Write) -> io::Result<()> {
+        self.failed = true;
+        if !self.on_terminal {
+            write!(output, "line {}: ", self.lines)?;
+        }
+        let NoRequest { fault, nearest } = wrong;
+        write!(output, "no request: {fault}\n{}", nearest.told())
+    }
+}
+
+/// What is said once an answer is in a file.
+fn wrote(file: &Path, answer: &str) -> String {
+    format!("wrote {} ({})", named(file), count(answer.lines().count(), "line"))
+}
+
+fn named(file: &Path) -> String {
+    shown(file.as_os_str().as_bytes())
+}
+
+#[cfg(test)]
+mod tests {
+    use super::*;
+
+    /// What is printed for some bytes, and whether all lines were requests.
+    fn printed(input: &[u8]) -> (String, bool) {
+        let mut shell = Shell::default();
+        let mut output = Vec::new();
+        shell.run(&mut BufReader::new(input), &mut output).unwrap();
+        (String::from_utf8(output).unwrap(), !shell.failed)
+    }
+
+    #[test]
+    fn the_sample_of_the_scope() {
+        let session = include_bytes!("../../../../examples/session.txt");
+        let answers = "ok\nok\nok\nok\nrefused 4: an end of the link is locked\n4 pairs\n0 0\n0 2\n2 0\n2 2\nok\nok\n0 -a-> 1 -b-> 3 (2 steps)\n";
+        assert_eq!(printed(session), (answers.into(), true));
+    }
+
+    #[test]
+    fn a_line_that_is_no_request_is_counted_and_the_next_is_read() {
+        let (text, requests) = printed(b"open 2\n\xff\xfe\x00\nadd 0 a\nopen 2\n");
+        assert!(!requests);
+        assert!(
+            text.starts_with("ok\nline 2: no request: ")
+                && text.contains("\nline 3: no request: TO is missing\n")
+                && text.ends_with("\nok\n")
+        );
+    }
+
+    #[test]
+    fn a_file_of_any_editor_is_read() {
+        assert_eq!(printed(b"\xef\xbb\xbfopen 2\r\nadd 0 a 1\r\npairs a\r"), ("ok\nok\n1 pair\n0 1\n".into(), true));
+    }
+
+    #[test]
+    fn nothing_is_read_after_quit() {
+        assert_eq!(printed(b"quit\nshut\n"), (String::new(), true));
+        assert_eq!(printed(b""), (String::new(), true));
+    }
+}
