@@ -5,7 +5,7 @@ use dating::{Refusal, Register, Step};
 use std::{env, fs, path::Path};
 
 fn example(name: &str) -> String {
-    let path = Path::new(env!("CARGO_MANIFEST_DIR")).join("../examples").join(name);
+    let path = Path::new(env!("CARGO_MANIFEST_DIR")).join("../examples/building").join(name);
     fs::read_to_string(&path).unwrap_or_else(|error| panic!("{}: {error}", path.display()))
 }
 
@@ -42,7 +42,7 @@ fn edit(register: &mut Register, words: &[&str]) {
 #[test]
 fn the_building_is_drawn_as_stored() {
     let (mut register, mut drawn) = (Register::fresh(1).unwrap(), Vec::new());
-    for line in example("building.txt").lines() {
+    for line in example("session.txt").lines() {
         let words: Vec<&str> = line.split_whitespace().collect();
         match *words {
             ["draw", letters, ">", file] => drawn.push((file.to_string(), picture(file, &mut register, letters, None))),
@@ -56,7 +56,7 @@ fn the_building_is_drawn_as_stored() {
     }
     let [(_, plain), (file, chained)] = &drawn[..] else { panic!("{} pictures", drawn.len()) };
     assert_eq!(file, "building.dot");
-    assert!(*chained == example("building.dot"), "examples/building.dot differs from what is drawn:\n{chained}");
+    assert!(*chained == example("building.dot"), "examples/building/building.dot differs from what is drawn:\n{chained}");
     // The chain adds its link o and its place in the legend, and takes nothing away.
     let nodes_and_links = |text: &str| text.lines().filter(|line| line.starts_with("    ") && line.contains(" -> ")).count();
     assert_eq!(nodes_and_links(chained), nodes_and_links(plain) + 2);

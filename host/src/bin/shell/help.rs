@@ -290,7 +290,7 @@ The links of these letters as a drawing in the language of Graphviz; with the
 ends of a chain and an expression, that chain is shown in it.",
         example: "\
 dating> draw tom 3 0 ^t/(o|^o|t/^t)*/m+ > house.dot
-wrote house.dot (1 line)",
+wrote house.dot (52 lines)",
     },
     Entry {
         word: "more",

@@ -280,16 +280,11 @@ fn rings(number: i32) -> String {
 
 /// A drawing. None is made, nor written to a file, if the chain to be shown in it is not there.
 fn drawn(register: &mut Register, letters: &str, path: Option<&Path>) -> Result<String, Without> {
-    let Some(path) = path else { return Ok(drawing(register, letters, None)?) };
+    let Some(path) = path else { return Ok(register.drawing(letters, None)?) };
     match steps(register, path)? {
-        Some(steps) => Ok(drawing(register, letters, Some((path.from, &steps)))?),
+        Some(steps) => Ok(register.drawing(letters, Some((path.from, &steps)))?),
         None => Err(Without::Said(no_chain(register, path))),
     }
-}
-
-/// STUB: `Register::drawing(letters, chain)`, once the library has it.
-fn drawing(_register: &mut Register, _letters: &str, _chain: Option<(u16, &[Step])>) -> Result<String, Refusal> {
-    Ok("no drawing yet\n".into())
 }
 
 #[cfg(test)]
