@@ -350,7 +350,9 @@ Example, in the house of examples/surveyor.txt:
     Entry {
         word: "quit",
         arguments: "",
-        about: "Ends the session, as the end of the input does. Nothing is kept but what sheet\nor another request wrote to a file.",
+        about: "\
+Ends the session, as the end of the input does. Nothing is kept but what sheet
+or another request wrote to a file.",
         example: "\
 dating> quit",
     },
@@ -414,7 +416,8 @@ pub fn nearest(word: &[u8]) -> &'static Entry {
     let word: String = String::from_utf8_lossy(word).to_lowercase().chars().take(LONGEST).collect();
     let also = ALSO.iter().find(|(typed, _)| *typed == word).and_then(|(_, meant)| entry(meant.as_bytes()));
     let begun = || REQUESTS.iter().find(|entry| entry.word.starts_with(&word));
-    let near = || REQUESTS.iter().min_by_key(|entry| distance(&word, entry.word)).filter(|entry| 2 * distance(&word, entry.word) <= word.len());
+    let changes = |entry: &&Entry| distance(&word, entry.word);
+    let near = || REQUESTS.iter().min_by_key(changes).filter(|entry| 2 * changes(entry) <= word.chars().count());
     also.or_else(begun).or_else(near).or_else(|| entry(b"help")).expect("help is a request")
 }
 

@@ -187,8 +187,11 @@ mod tests {
     #[test]
     fn the_sample_of_the_scope() {
         let session = include_bytes!("../../../../examples/session.txt");
-        let answers = "ok\nok\nok\nok\nrefused 4: an end of the link is locked\n4 pairs\n0 0\n0 2\n2 0\n2 2\nok: lock 1 is taken back\nok\n0 -a-> 1 -b-> 3 (2 steps)\n";
-        assert_eq!(printed(session), (answers.into(), true));
+        let pairs = "4 pairs\n0 0\n0 2\n2 0\n2 2\n";
+        let answers = format!(
+            "ok\nok\nok\nok\nrefused 4: an end of the link is locked\n{pairs}ok: lock 1 is taken back\nok\n0 -a-> 1 -b-> 3 (2 steps)\n"
+        );
+        assert_eq!(printed(session), (answers, true));
     }
 
     #[test]
@@ -214,7 +217,8 @@ mod tests {
         let file = folder.join("a file.txt");
         let name = file.display();
         fs::write(&file, format!("\u{feff}open 2\r\nadd 0 a 1\nad\nread {name}\nquit\nshut\n")).unwrap();
-        let (text, requests) = printed(format!("read {name}\npairs a\nshut\nread {name}.none\nread {}\npairs a\n", folder.display()).as_bytes());
+        let typed = format!("read {name}\npairs a\nshut\nread {name}.none\nread {}\npairs a\n", folder.display());
+        let (text, requests) = printed(typed.as_bytes());
         fs::remove_dir_all(&folder).unwrap();
         assert!(!requests);
         for part in [
