@@ -28,7 +28,6 @@ pub enum Request {
     Read(PathBuf),
     More,
     Help(Option<&'static help::Entry>),
-    /// What a refusal means.
     Meaning(Refusal),
     Quit,
 }
