@@ -66,7 +66,7 @@ impl Shell {
     /// Answers every line, up to `quit` or the end of the input.
     fn run(&mut self, input: &mut BufReader<impl Read>, output: &mut impl Write) -> io::Result<()> {
         if self.on_terminal {
-            writeln!(output, "The dating register. help lists the requests; sheet > FILE keeps the register; quit ends.")?;
+            writeln!(output, "The dating register. help lists the requests; sheet > FILE keeps it; quit ends.")?;
         }
         let mut line = Vec::new();
         loop {
