@@ -212,12 +212,23 @@ class Wrong(unittest.TestCase):
             wrong += [(register.sole_support, (0, text, [0]))]
         wrong += [(register.generations, (3,)), (register.sole_support, (0, "a", 1)), (register.offsets, (0, 3)), (register.offsets, (0, [3]))]
         wrong += [(register.offsets, (0, [(0, 1, 2)])), (register.pairs, ("a", "1")), (register.pairs, ("a", 1.5)), (register.preview, (None, "a"))]
+        wrong += [(register.preview, ("undo", "a")), (register.preview, ("add 0 a 1", "a")), (register.preview, ((2, 0, "a", 1), "a"))]
         wrong += [(Tree(4).union, (None,)), (Tree(4).product, ([(0, 1)],)), (Register.of_words, (b"1234",)), (Tree.of_words, (4, b"12345678"))]
         wrong += [(Tree, (4, [0])), (Register, ()), (register.add, (0, "a")), (lambda tree: tree | {(0, 1)}, (Tree(4),))]
         for call, arguments in wrong:
             with self.subTest(call=call, arguments=arguments), self.assertRaises(TypeError):
                 call(*arguments)
         self.assertEqual(register.words(), words)
+
+    def test_words(self) -> None:
+        """Cells of a sheet are text: what was wanted is said in words."""
+        register: Any = Register(4)
+        with self.assertRaisesRegex(TypeError, "^a number is an int, not str$"):
+            register.add("0", "a", 1)
+        with self.assertRaisesRegex(TypeError, "^a letter is a str, not int$"):
+            register.add(0, 1, "a")
+        with self.assertRaisesRegex(TypeError, "^an edit is an Edit, as in .*, not str$"):
+            register.preview("undo", "a")
 
     def test_most(self) -> None:
         with self.assertRaises(ValueError):

@@ -115,6 +115,12 @@ class Registers(unittest.TestCase):
             self.assertEqual((list(twin.pairs("!b")), list(register.pairs("!b"))), ([(0, 1), (3, 3)], [(0, 1), (1, 2)]))
             self.assertTrue(register.is_locked(2))
 
+    def test_repr(self) -> None:
+        register = Register(1)
+        self.assertEqual(repr(register), "<Register: 1 record, 0 links>")
+        register.add(0, "a", 0)
+        self.assertEqual(repr(register), "<Register: 1 record, 1 link>")
+
     def test_longer_words(self) -> None:
         """A state may be longer than a register's words: its front is the register."""
         register = made(4, "0a1")

@@ -40,7 +40,8 @@ def plain(typed, printed):
         elif word == "total":
             yield f"total {answers.number(TOTAL.fullmatch(line)[1])}"
         else:
-            yield line
+            # the shell says too which edit is undone, and what an open loses
+            yield line.split(":")[0]
     left = waiting or next(lines, None)
     assert left is None, f"{left} answers nothing"
 

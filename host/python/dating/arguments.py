@@ -18,11 +18,19 @@ _NO_LABEL = 255
 _LEAST, _MOST = -(1 << 31), (1 << 31) - 1
 
 
+def whole(given: int) -> int:
+    """What stands for an integer; text does not, as it comes from the cells of a sheet."""
+    try:
+        return index(given)
+    except TypeError:
+        raise TypeError(f"a number is an int, not {type(given).__name__}") from None
+
+
 def number(given: int) -> int:
     """A record, a size or a kind of two bytes; for any other 65,535, which is no record's, no size
     and no kind (2, 1, 15).
     """
-    value = index(given)
+    value = whole(given)
     return value if 0 <= value <= _ABOVE_RECORDS else _ABOVE_RECORDS
 
 
@@ -30,7 +38,7 @@ def rings(given: int) -> int:
     """A limit of a tie, of four bytes; for any other the nearest that they hold, which is outside
     every tie (19).
     """
-    return max(_LEAST, min(_MOST, index(given)))
+    return max(_LEAST, min(_MOST, whole(given)))
 
 
 def label(letter: str) -> int:

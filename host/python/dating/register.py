@@ -94,7 +94,8 @@ class Register:
 
     def __repr__(self) -> str:
         with self._turn:
-            return f"<Register: {self._size():,} records, {counted(calls.links(self._words, calls.words(0))):,} links>"
+            links = counted(calls.links(self._words, calls.words(0)))
+            return f"<Register: {_many(self._size(), 'record')}, {_many(links, 'link')}>"
 
     def _size(self) -> int:
         return calls.size(self._words)
@@ -238,6 +239,8 @@ class Register:
         >>> list(register.preview(Edit.undo(), "a+")), list(register.pairs("a+"))
         ([], [(0, 1)])
         """
+        if not isinstance(edit, Edit):
+            raise TypeError(f"an edit is an Edit, as in Edit.add(0, \"a\", 1), not {type(edit).__name__}")
         kind, from_, letter, to = edit
         arguments = (number(kind), number(from_), label(letter), number(to), text(expression))
         return self._pairs(calls.preview, tree_work, arguments, most)
@@ -356,6 +359,10 @@ class Register:
         if count is None:
             return None
         return [None if least > most else Limits(least, most) for least, most in zip(written[:count:2], written[1:count:2])]
+
+
+def _many(count: int, one: str) -> str:
+    return f"1 {one}" if count == 1 else f"{count:,} {one}s"
 
 
 def _lent(tie: Tie) -> calls.LentTie:

@@ -21,7 +21,7 @@ Requests, one to a line; help WORD says more of one, with an example:
   lock RECORD                        keep its links as they are, until unlock
   withdraw RECORD                    take it out of use; reinstate takes it back
   undo                               take the latest edit back
-  close                              close up the numbers, with no gaps
+  close                              close up the numbers; not to be undone
   show                               how many records and links; locks
   links                              every link; total LETTER counts one letter
   pairs EXPRESSION                   which records are joined
@@ -32,10 +32,11 @@ Requests, one to a line; help WORD says more of one, with an example:
   offsets BASE TIE, TIE ..           within which limits each record begins
   page EXPRESSION                    pairs as printed pages
   draw LETTERS                       the links as a drawing
+  sheet > FILE                       keep the register; read FILE has it again
   more                               the rest of a long answer
   quit                               end; so does the end of the input
-REQUEST > FILE writes the answer to a file; a line after # is a remark.
-help expression says how an expression is typed.
+REQUEST > FILE writes an answer to a file; a line beginning with # is a remark.
+help expression says how one is typed, and help 4 what refused 4 means.
 ";
 
 const REQUESTS: &[Entry] = &[
@@ -44,10 +45,11 @@ const REQUESTS: &[Entry] = &[
         arguments: "N",
         about: "\
 Begins afresh with N records, 0 to N - 1, at most 1,024, and no links. What was
-there before is gone, and undo does not bring it back.",
+there before is gone, and undo does not bring it back. A register does not grow:
+for more records, write its sheet to a file, change N there, and read the file.",
         example: "\
 dating> open 9
-ok",
+ok: the 7 links from before are gone",
     },
     Entry {
         word: "add",
@@ -125,7 +127,7 @@ The latest 256 are held. An undo cannot itself be undone.",
 dating> remove 7 o 6
 ok
 dating> undo
-ok",
+ok: remove 7 o 6 is taken back",
     },
     Entry {
         word: "close",
@@ -287,10 +289,41 @@ wrote page.txt (2 lines)",
         arguments: "LETTERS [FROM TO EXPRESSION]",
         about: "\
 The links of these letters as a drawing in the language of Graphviz; with the
-ends of a chain and an expression, that chain is shown in it.",
+ends of a chain and an expression, that chain is shown in it. Outside the shell,
+dot -Tsvg house.dot > house.svg makes a picture of it.",
         example: "\
 dating> draw tom 3 0 ^t/(o|^o|t/^t)*/m+ > house.dot
 wrote house.dot (52 lines)",
+    },
+    Entry {
+        word: "sheet",
+        arguments: "[> FILE]",
+        about: "\
+The register as the requests that make it again; with a file it is kept there,
+and read FILE has it again. The edits that undo could take back are not kept.",
+        example: "\
+dating> sheet > house.txt
+wrote house.txt (9 lines)
+dating> sheet
+open 9
+add 1 m 0
+add 5 m 1
+add 7 o 6
+add 5 t 2
+add 6 t 2
+add 7 t 3
+add 8 t 4
+lock 0",
+    },
+    Entry {
+        word: "read",
+        arguments: "FILE",
+        about: "\
+Reads requests from a file, a sheet or any other, as if they were typed, and
+answers them. Its quit, or its end, goes back to where read was typed. A file
+that is read reads no other.",
+        example: "\
+dating> read house.txt",
     },
     Entry {
         word: "more",
@@ -303,7 +336,9 @@ nothing more to show",
     Entry {
         word: "help",
         arguments: "[WORD]",
-        about: "The requests; or one of them, with an example; or how an expression is typed.",
+        about: "\
+The requests; or one of them, with an example; or how an expression is typed; or
+what a refusal means, by its number.",
         example: "\
 dating> help unlock
 unlock RECORD
@@ -315,7 +350,9 @@ Example, in the house of examples/surveyor.txt:
     Entry {
         word: "quit",
         arguments: "",
-        about: "Ends the session, as the end of the input does. Nothing is kept.",
+        about: "\
+Ends the session, as the end of the input does. Nothing is kept but what sheet
+or another request wrote to a file.",
         example: "\
 dating> quit",
     },
@@ -357,6 +394,8 @@ const ALSO: &[(&str, &str)] = &[
     ("new", "open"),
     ("status", "show"),
     ("count", "total"),
+    ("save", "sheet"),
+    ("load", "read"),
     ("print", "page"),
     ("next", "more"),
     ("?", "help"),
@@ -372,13 +411,14 @@ pub fn topic(word: &[u8]) -> Option<&'static Entry> {
     entry(word).or_else(|| matches!(word, b"expression" | b"expressions" | b"EXPRESSION").then_some(&EXPRESSION))
 }
 
-/// The request that was most likely meant by a word that is none.
+/// The request that was most likely meant by a word that is none: help, if more than half of the word would have to change for any other.
 pub fn nearest(word: &[u8]) -> &'static Entry {
     let word: String = String::from_utf8_lossy(word).to_lowercase().chars().take(LONGEST).collect();
     let also = ALSO.iter().find(|(typed, _)| *typed == word).and_then(|(_, meant)| entry(meant.as_bytes()));
     let begun = || REQUESTS.iter().find(|entry| entry.word.starts_with(&word));
-    let near = || REQUESTS.iter().min_by_key(|entry| distance(&word, entry.word)).expect("there are requests");
-    also.or_else(begun).unwrap_or_else(near)
+    let changes = |entry: &&Entry| distance(&word, entry.word);
+    let near = || REQUESTS.iter().min_by_key(changes).filter(|entry| 2 * changes(entry) <= word.chars().count());
+    also.or_else(begun).or_else(near).or_else(|| entry(b"help")).expect("help is a request")
 }
 
 /// The fewest characters to put in, take out, exchange or swap with the next that make one word of the other.
@@ -469,7 +509,8 @@ mod tests {
                 while let Some(line) = lines.next_if(|line| !line.starts_with(PROMPT)) {
                     expected += &format!("{line}\n");
                 }
-                if typed != "quit" {
+                // Of the shell around the session.
+                if typed != "quit" && !typed.starts_with("read ") {
                     assert_eq!(answer(&mut session, typed), expected, "{typed}");
                 }
             }

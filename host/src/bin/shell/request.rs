@@ -3,7 +3,7 @@
 use crate::arguments::{is_blank, Fault, Words};
 use crate::help;
 use crate::text::quoted;
-use dating::{Edit, Link, Tie};
+use dating::{Edit, Link, Refusal, Tie};
 use std::ffi::OsStr;
 use std::os::unix::ffi::OsStrExt;
 use std::path::PathBuf;
@@ -24,8 +24,11 @@ pub enum Request {
     Offsets { base: u16, ties: Vec<Tie> },
     Page(Vec<u8>),
     Draw { letters: String, chain: Option<Path> },
+    Sheet,
+    Read(PathBuf),
     More,
     Help(Option<&'static help::Entry>),
+    Meaning(Refusal),
     Quit,
 }
 
@@ -79,13 +82,18 @@ fn parted(line: &[u8]) -> (&[u8], Option<&[u8]>) {
     }
 }
 
-/// The name of a file; blanks within it are part of it.
+/// The name of the file that an answer goes to.
 fn named(rest: &[u8]) -> Result<PathBuf, Fault> {
     match Words::of(rest).rest() {
         [] => Err("the FILE after > is missing".into()),
         [b'>', ..] => Err(">> is not known; > FILE writes the file anew".into()),
-        name => Ok(OsStr::from_bytes(name).into()),
+        name => Ok(file(name)),
     }
+}
+
+/// A file by its name; blanks within it are part of it.
+fn file(name: &[u8]) -> PathBuf {
+    OsStr::from_bytes(name).into()
 }
 
 /// The request of a word of the table, with the words after it.
@@ -109,8 +117,10 @@ fn request(word: &str, mut words: Words) -> Result<Request, Fault> {
             let chain = if words.rest().is_empty() { None } else { Some(path(words)?) };
             Request::Draw { letters, chain }
         }
+        "sheet" => Request::Sheet,
+        "read" => Request::Read(file(&words.expression("FILE")?)),
         "more" => Request::More,
-        "help" => Request::Help(words.next().map(topic).transpose()?),
+        "help" => helped(words)?,
         "quit" => Request::Quit,
         edit => Request::Edit(edited(edit, words).expect("every other word of the table is that of an edit")?),
     };
@@ -190,12 +200,29 @@ fn tie(mut words: Words) -> Result<Tie, Fault> {
     Ok(tie)
 }
 
+/// Help on a word, or on a refusal by its number; `refused` may stand before it, as it is printed.
+fn helped(words: &mut Words) -> Result<Request, Fault> {
+    let word = match words.next() {
+        None => return Ok(Request::Help(None)),
+        Some(b"refused") => words.word("the number of the refusal")?,
+        Some(word) => word,
+    };
+    if !word.iter().all(u8::is_ascii_digit) {
+        return topic(word).map(|entry| Request::Help(Some(entry)));
+    }
+    let number = Words::of(word).number("NUMBER")?;
+    Refusal::of(number.into()).map(Request::Meaning).ok_or_else(|| format!("no refusal has the number {}", quoted(word)))
+}
+
 fn topic(word: &[u8]) -> Result<&'static help::Entry, Fault> {
     help::topic(word).ok_or_else(|| unknown(word, help::nearest(word)))
 }
 
 fn unknown(word: &[u8], nearest: &help::Entry) -> Fault {
-    format!("{} is not known; the nearest request is {}, and help lists all", quoted(word), nearest.word)
+    match nearest.word {
+        "help" => format!("{} is not known; help lists the requests", quoted(word)),
+        near => format!("{} is not known; the nearest request is {near}, and help lists all", quoted(word)),
+    }
 }
 
 #[cfg(test)]
@@ -221,6 +248,9 @@ mod tests {
         assert_eq!(asked("chain 3 0 a"), Request::Chain(chain.clone()));
         assert_eq!(asked("draw ot 3 0 a"), Request::Draw { letters: "ot".into(), chain: Some(chain) });
         assert_eq!(asked("draw ot"), Request::Draw { letters: "ot".into(), chain: None });
+        assert_eq!(asked("read my house.txt "), Request::Read("my house.txt".into()));
+        assert_eq!(asked("help 8"), Request::Meaning(Refusal::NoneHeld));
+        assert_eq!(asked("help refused 8"), Request::Meaning(Refusal::NoneHeld));
         assert_eq!(asked("support 5 o+ 0 1"), Request::Support { core: 5, expression: b"o+".to_vec(), anchors: vec![0, 1] });
         let tie = |first, second, least, most| Tie { first, second, least, most };
         let ties = vec![tie(0, 1, 31, 38), tie(1, 2, -12, -9)];
@@ -257,5 +287,9 @@ mod tests {
         assert_eq!(fault("offsets 0 0 1 3 4 1 2 5 6"), "\"1\" is a word too many: a comma stands between ties");
         assert_eq!(fault("support 5 o+"), "ANCHOR is missing");
         assert_eq!(fault("help pars"), "\"pars\" is not known; the nearest request is pairs, and help lists all");
+        assert_eq!(fault("which timbers"), "\"which\" is not known; help lists the requests");
+        assert_eq!(fault("help 22"), "no refusal has the number \"22\"");
+        assert_eq!(fault("help refused"), "the number of the refusal is missing");
+        assert_eq!(fault("read"), "FILE is missing");
     }
 }

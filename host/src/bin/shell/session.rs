@@ -2,9 +2,9 @@
 
 use crate::help;
 use crate::refused;
-use crate::request::{Path, Request};
+use crate::request::{word_of, Path, Request};
 use crate::text::{chain, count, filled, grouped, link, listed, pairs, run};
-use dating::{Edit, Generations, Offset, Offsets, Pairs, Refusal, Register, Step, Tie};
+use dating::{Edit, Generations, Link, Offset, Offsets, Pairs, Refusal, Register, Step, Tie};
 
 /// The register, once one is opened.
 #[derive(Default)]
@@ -41,9 +41,10 @@ impl Session {
     fn done(&mut self, request: &Request) -> Result<String, Without> {
         Ok(match request {
             Request::Open(n) => {
-                self.register = Some(Register::fresh(*n)?);
-                ok()
+                let before = self.register.replace(Register::fresh(*n)?);
+                begun(before)?
             }
+            Request::Edit(Edit::Undo) => undone(self.opened()?)?,
             Request::Edit(edit) => {
                 made(self.opened()?, *edit)?;
                 ok()
@@ -62,9 +63,12 @@ impl Session {
             Request::Offsets { base, ties } => tied(self.opened()?, *base, ties)?,
             Request::Page(expression) => String::from_utf8_lossy(&self.opened()?.pages(expression)?).into_owned(),
             Request::Draw { letters, chain } => drawn(self.opened()?, letters, chain.as_ref())?,
+            Request::Sheet => sheet(self.opened()?)?,
             Request::More => "nothing more to show\n".into(),
             Request::Help(entry) => help::text(*entry),
-            Request::Quit => String::new(),
+            Request::Meaning(cause) => format!("refused {}: {}\n", cause.number(), cause.meaning()),
+            // Of the shell around the session.
+            Request::Read(_) | Request::Quit => String::new(),
         })
     }
 
@@ -75,6 +79,61 @@ impl Session {
 
 fn ok() -> String {
     "ok\n".into()
+}
+
+/// That a register is opened; and what was in the one before, which nothing brings back.
+fn begun(before: Option<Register>) -> Result<String, Refusal> {
+    let gone = before.map_or(Ok(0), |mut register| register.links().map(|links| links.total()))?;
+    Ok(match gone {
+        0 => ok(),
+        1 => "ok: the 1 link from before is gone\n".into(),
+        many => format!("ok: the {} links from before are gone\n", grouped(many)),
+    })
+}
+
+/// Undoes an edit, and says which: the one by which the sheets before and after differ.
+fn undone(register: &mut Register) -> Result<String, Refusal> {
+    let before = edits(register)?;
+    register.undo()?;
+    let after = edits(register)?;
+    let gone = before.iter().find(|edit| !after.contains(edit)).copied();
+    let back = || after.iter().find(|edit| !before.contains(edit)).copied().map(opposite);
+    Ok(gone.or_else(back).map_or(ok(), |edit| format!("ok: {} is taken back\n", typed(edit))))
+}
+
+/// The edits that make the register again once it is opened: links by letter, then by the records; locks; withdrawn records.
+fn edits(register: &mut Register) -> Result<Vec<Edit>, Refusal> {
+    let mut edits: Vec<Edit> = register.links()?.map(Edit::Add).collect();
+    let records = 0..register.size();
+    edits.extend(records.clone().filter(|&record| register.is_locked(record)).map(Edit::Lock));
+    edits.extend(records.filter(|&record| register.is_withdrawn(record)).map(Edit::Withdraw));
+    Ok(edits)
+}
+
+/// The edit that takes such an edit back.
+fn opposite(edit: Edit) -> Edit {
+    match edit {
+        Edit::Add(link) => Edit::Remove(link),
+        Edit::Lock(record) => Edit::Unlock(record),
+        Edit::Withdraw(record) => Edit::Reinstate(record),
+        other => other,
+    }
+}
+
+/// An edit as it is typed.
+fn typed(edit: Edit) -> String {
+    let word = word_of(edit);
+    match edit {
+        Edit::Add(Link { from, letter, to }) | Edit::Remove(Link { from, letter, to }) => format!("{word} {from} {letter} {to}"),
+        Edit::Lock(record) | Edit::Unlock(record) | Edit::Withdraw(record) | Edit::Reinstate(record) => format!("{word} {record}"),
+        Edit::Undo => word.into(),
+    }
+}
+
+/// The requests that make the register again.
+fn sheet(register: &mut Register) -> Result<String, Refusal> {
+    let edits = edits(register)?.into_iter().map(|edit| typed(edit) + "\n");
+    Ok([format!("open {}\n", register.size())].into_iter().chain(edits).collect())
 }
 
 fn made(register: &mut Register, edit: Edit) -> Result<(), Refusal> {
@@ -357,6 +416,33 @@ mod tests {
         assert_eq!(refused("0 0 1 3 4, 1 2 5 4, 0 3 1 1"), "refused 18: the base or a record of a tie is withdrawn (tie 3)\n");
         assert_eq!(refused("3 0 1 9 4"), "refused 18: the base or a record of a tie is withdrawn (the base)\n");
         assert!(refused(&format!("0 {}0 1 1 1", "0 1 1 1,".repeat(1024))).ends_with(" (tie 1,025)\n"));
+    }
+
+    #[test]
+    fn an_undo_says_which_edit_it_takes_back() {
+        let undone = |edits: &str| last(&format!("open 4\nadd 3 a 1\nlock 0\n{edits}\nundo"));
+        assert_eq!(undone("add 1 b 1"), "ok: add 1 b 1 is taken back\n");
+        assert_eq!(undone("remove 3 a 1"), "ok: remove 3 a 1 is taken back\n");
+        assert_eq!(undone("lock 3"), "ok: lock 3 is taken back\n");
+        assert_eq!(undone("unlock 0"), "ok: unlock 0 is taken back\n");
+        assert_eq!(undone("withdraw 2"), "ok: withdraw 2 is taken back\n");
+        assert_eq!(undone("withdraw 2\nreinstate 2"), "ok: reinstate 2 is taken back\n");
+    }
+
+    #[test]
+    fn a_sheet_makes_the_register_again() {
+        let edits = "open 5\nadd 3 b 1\nadd 3 a 1\nadd 0 b 0\nlock 1\nwithdraw 4\nwithdraw 2\nsheet";
+        let sheet = "open 5\nadd 3 a 1\nadd 0 b 0\nadd 3 b 1\nlock 1\nwithdraw 2\nwithdraw 4\n";
+        assert_eq!(last(edits), sheet);
+        assert_eq!(last(&format!("{sheet}sheet")), sheet);
+        assert!(last("sheet").starts_with("refused 16: "));
+    }
+
+    #[test]
+    fn what_an_open_loses_is_said() {
+        assert_eq!(last("open 2\nadd 0 a 1\nopen 2"), "ok: the 1 link from before is gone\n");
+        assert_eq!(last("open 2\nadd 0 a 1\nadd 0 b 1\nopen 2"), "ok: the 2 links from before are gone\n");
+        assert_eq!(last("open 2\nopen 2"), "ok\n");
     }
 
     #[test]
