@@ -5,6 +5,7 @@ use crate::refused;
 use crate::request::{word_of, Path, Request};
 use crate::text::{chain, count, filled, grouped, link, listed, pairs, run};
 use dating::{Edit, Generations, Link, Offset, Offsets, Pairs, Refusal, Register, Step, Tie};
+use std::collections::HashSet;
 
 /// The register, once one is opened.
 #[derive(Default)]
@@ -93,11 +94,11 @@ fn begun(before: Option<Register>) -> Result<String, Refusal> {
 
 /// Undoes an edit, and says which: the one by which the sheets before and after differ.
 fn undone(register: &mut Register) -> Result<String, Refusal> {
-    let before = edits(register)?;
+    let before: HashSet<Edit> = edits(register)?.into_iter().collect();
     register.undo()?;
-    let after = edits(register)?;
-    let gone = before.iter().find(|edit| !after.contains(edit)).copied();
-    let back = || after.iter().find(|edit| !before.contains(edit)).copied().map(opposite);
+    let after: HashSet<Edit> = edits(register)?.into_iter().collect();
+    let gone = before.difference(&after).next().copied();
+    let back = || after.difference(&before).next().copied().map(opposite);
     Ok(gone.or_else(back).map_or(ok(), |edit| format!("ok: {} is taken back\n", typed(edit))))
 }
 
