@@ -95,11 +95,6 @@ label-size [] h = refl
 label-size (c ∷ []) h = absurd (h refl)
 label-size (c ∷ d ∷ w) h = refl
 
-pub label-one : (w : List ℕ) → length w ≡ 1 → w ≡ getD w 0 0 ∷ []
-label-one [] h = absurd (omega arith)
-label-one (c ∷ []) h = refl
-label-one (c ∷ d ∷ w) h = absurd (omega arith)
-
 -- a word of one byte, by that byte
 pub label-below : (w : List ℕ) → length w ≡ 1 → getD w 0 0 < letter-a → isLabel w ≡ false
 unfolding isLabel
