@@ -46,12 +46,6 @@ firstPlace test (w ∷ ws) = pick (test w) 0 (suc (firstPlace test ws))
 unfoldable pub nextPlace : (ℕ → Bool) → List ℕ → ℕ → ℕ
 nextPlace test ws at = min (length ws) (at + firstPlace test (drop at ws))
 
-abbrev pub start : Link → ℕ
-start k = k .from
-
-abbrev pub end : Link → ℕ
-end k = k .to
-
 unfoldable pub touches : (Link → ℕ) → ℕ → ℕ → Bool
 touches side r w = eqb (side (linkOf w)) r
 
