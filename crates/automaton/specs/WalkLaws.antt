@@ -3,7 +3,6 @@
 --                   best walks made from their end
 --   answers-walk    a chain that answers is a walk from the start
 --   best-first      the best of the shortest walks from the start is the first chain
---   none-answers    where an empty level came first there is no chain of any length
 -- Assumes nothing.
 use mathlib.Core.Path.{_≡_, refl, sym, ap, subst}
 use mathlib.Core.Logic.{_⊎_, inl, inr}

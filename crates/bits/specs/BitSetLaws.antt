@@ -56,7 +56,6 @@ bits-none n = fun-ext (λ p. bit-replicate n p)
 
 -- ---- the words of `|`, `&` and `& !`
 module _ (a b : List ℕ) (i k : ℕ) (h : k < 64) where
-
   pub both-word : digit (bitAnd (getD a i 0) (getD b i 0)) k ≡ both (bitAt a) (bitAt b) (i * 64 + k)
   unfolding both
   both-word = rw (digit-and, bit-in a i k h, bit-in b i k h)

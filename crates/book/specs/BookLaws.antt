@@ -101,8 +101,6 @@ pub undo-back : (b : Book) (e : Edit) → answer b (edit e) ≡ 0 → next (next
 unfolding answer next turned undone
 undo-back b e h = ap (λ (z : ℕ). undone (turned z b (edited e (b .sheet))) (turned z b (edited e (b .sheet)) .pile) .sheet) h
 
--- ---- a history with one call more
-
 -- ---- what holds of every sheet
 -- the link of an edit that the causes 2, 18 and 3 let pass
 pub first-proper : (n : ℕ) (k : Link) (t : Bool) (cs : List (Cause × Bool))

@@ -1,7 +1,6 @@
 -- Demand 3: the theorem. It rests on what the calls promise and on nothing else of the engine.
 --   pairs-claim, chain-claim
 --                   what the questions promise gives what is claimed of them
---   faulty-kept     of a faulty expression: its number, and the list as it was
 --   claims          answers, lists given and register of the book are all that is needed
 --   demand-3        for every n from 1 to 1,024, every list of calls, and every question asked of the register at the end
 --   replayed-calls  what `replay` tells the calls among its words is what the book answers

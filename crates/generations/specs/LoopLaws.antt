@@ -208,7 +208,6 @@ length-places f (suc n) = let z = length-append (places f n) (ifSet (f n) n) in 
 
 -- ---- loops and chains
 module _ (g : Graph) (I : Inside g) (m : ℕ) (ls : List ℕ) (C : Contains m ls) where
-
   over-plain : {x y : ℕ} {ss : List Step} → Chain g x ss y → All (Over ls) ss → All (PlainOf (places (digit m) 26)) (spell ss)
   unfolding spell
   over-plain stay all-none = all-none

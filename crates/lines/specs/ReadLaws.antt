@@ -2,7 +2,7 @@
 --   read-fits, read-not     from what was read: whether the word fits, and what it is
 --   number-begun, number-next, number-not, number-over, number-none
 --                           a number read figure by figure
---   label-size, label-one   a label's only byte
+--   label-size              a label's only byte
 -- Assumes nothing.
 use mathlib.Core.Path.{_≡_, refl}
 use mathlib.Core.List.{List, [], _∷_}

@@ -118,7 +118,6 @@ moves n three′ o (inr (inl e)) x y a b h = (omega (arith, e, a, b, h .0, h .1)
 moves n three′ o (inr (inr e)) x y a b h = (omega (arith, e, a, b, h .0, h .1), omega (arith, e, a, b, h .0, h .1))
 
 module _ (n : ℕ) (ts : List Tie) (ready : Ready n ts) where
-
   turned-r : Ready n (turned ts)
   turned-r = turned-ready n ts ready
 

@@ -1,5 +1,4 @@
 -- Laws of the pair question: what the book's answer is, by the verdict, the work and the list.
---   asks-refused    the verdict's number
 --   asks-short      12
 --   asks-paired     how many pairs there are, and the first of them
 --   asks-handed     the pairs handed over are that answer
@@ -34,7 +33,6 @@ use Rattle.pairs.specs.declared.PairsAnswer.the-variants.{Refused}
 use Rattle.pairs.specs.Asking.{pairsLength, told-pairs, Handed, handed, BookPairs, rowWords, relationCauses, relationAnswer}
 
 module _ (b : Book) (work room : ℕ) where
-
   pub asks-short : (e : Expr) → work < 32 * treeUnit (b .n) → pairsAnswer b (accepted e) work room ≡ refused 12
   unfolding pairsAnswer pairsCauses verdictCause firstNumber number
   asks-short e h = rw (lt-ltb work (32 * treeUnit (b .n)) h)

@@ -7,7 +7,6 @@
 --   begins          with nothing waiting the whole code is left
 --   runs-rest, runs-height
 --                   what a code that runs asks of its next number
---   standing-count  the count of operands is the stack's height
 --   Top, standing-top
 --                   the operand on top: where its tree lies, and what stands below it
 --   standing-kept, standing-store
@@ -112,7 +111,6 @@ runs-height A (ended h) = h
 runs-height A (next b h r) = h
 
 -- ---- the operands
-
 -- the operand on top: its tree begins where those below it end
 pub record Top (n : ℕ) (ws work : List ℕ) (os : List Operand) (j at : ℕ) (st : List Cells) : Type 0 where
   pub a : Cells

@@ -3,8 +3,6 @@
 --   letters-number  and no number below the first symbol's is any
 --   run-code        run on a stack of any kind of value, it puts the expression's value on top
 --   runs-code       no number lacks an operand, and at most 2 × depth + 3 values are on the stack at once, besides those that were there
---   few-places      the same of the stack after i numbers: 2 × depth + 3 places are enough
---   enough-operands after i numbers the stack has the operands of the next
 --   letters-code, code-short
 --                   a code is as long as it has letters at least, and as the text at most
 -- Assumes nothing.

@@ -174,7 +174,6 @@ module _ (test : ℕ → Bool) (ws : List ℕ) where
 
   -- the place from at on
   module _ (at : ℕ) where
-
     next-is : nextPlace test ws at < length ws → (at ≤ nextPlace test ws at) × (test (getD ws (nextPlace test ws at) 0) ≡ true)
     unfolding nextPlace
     next-is h =

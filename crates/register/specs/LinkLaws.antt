@@ -1,4 +1,4 @@
--- Laws of links as words: a word and its link give one another, a sheet has one list of words, and what a word of the list says of the sheet. Assumes nothing.
+-- Laws of links as words: a word and its link give one another, and what a word of the list says of the sheet. Assumes nothing.
 use mathlib.Core.Path.{_≡_, refl, sym, ap, subst, _∙_}
 use mathlib.Core.List.{List, map}
 use mathlib.Core.Bool.{Bool, true, false}
