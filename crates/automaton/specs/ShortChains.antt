@@ -19,11 +19,10 @@ use Rattle.book.specs.Basics.{has, without}
 use Rattle.book.specs.Sheets.{Distinct}
 use Rattle.book.specs.SetLaws.{and-both, eqb-test, has-without, without-absent, distinct-without, length-without}
 use Rattle.paths.specs.Expressions.{Expr, letters}
-use Rattle.paths.specs.Chains.{Graph, Step, spell, stepWords, Answers, NotAfter, shorter, as-long, First}
+use Rattle.paths.specs.Chains.{Graph, Step, spell, Answers, NotAfter, shorter, as-long, First}
 use Rattle.paths.specs.ChainLaws.{Inside, crossing-in}
-use Rattle.automaton.specs.Automata.{On, Automaton, automaton, started, fragment}
+use Rattle.automaton.specs.Automata.{Automaton, automaton, started}
 use Rattle.automaton.specs.Accepts.{words-run}
-use Rattle.automaton.specs.Traces.{Within}
 use Rattle.automaton.specs.TraceLaws.{within}
 use Rattle.automaton.specs.Searches.{Walk, Moves}
 use Rattle.automaton.specs.LevelLaws.{walk-more, walk-less}

@@ -13,7 +13,7 @@ use Rattle.book.specs.Basics.{pick}
 use Rattle.k2.specs.Bits.{digit, bitAt}
 use Rattle.k2.specs.DigitLaws.{digit-lt, digit-or, digit-and, digit-not, digit-pow, digit-four}
 use Rattle.k2.specs.BitLaws.{bit-in, bit-out, bit-zero, bit-set, bit-set-off, bit-replicate}
-use Rattle.bits.specs.BitSets.{none, put, either, both, minus, fourAt, Gap}
+use Rattle.bits.specs.BitSets.{none, put, both, minus, fourAt, Gap}
 
 -- ---- a bit put in
 pub put-at : (p v : ℕ) (f : ℕ → ℕ) → put p v f p ≡ v
@@ -56,10 +56,6 @@ bits-none n = fun-ext (λ p. bit-replicate n p)
 
 -- ---- the words of `|`, `&` and `& !`
 module _ (a b : List ℕ) (i k : ℕ) (h : k < 64) where
-  pub either-word : digit (bitOr (getD a i 0) (getD b i 0)) k ≡ either (bitAt a) (bitAt b) (i * 64 + k)
-  unfolding either
-  either-word = rw (digit-or, bit-in a i k h, bit-in b i k h)
-
   pub both-word : digit (bitAnd (getD a i 0) (getD b i 0)) k ≡ both (bitAt a) (bitAt b) (i * 64 + k)
   unfolding both
   both-word = rw (digit-and, bit-in a i k h, bit-in b i k h)

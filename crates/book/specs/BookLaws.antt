@@ -1,7 +1,7 @@
 -- Laws of the plain book: what holds of the sheets of every history, what a refused edit and an undo leave, and the order of the causes. Assumes nothing.
 use mathlib.Core.Path.{_≡_, refl, sym, ap, _∙_, subst}
 use mathlib.Core.Logic.{_⊎_, inl, inr, ⊎-elim}
-use mathlib.Core.List.{List, [], _∷_, _++_}
+use mathlib.Core.List.{List, [], _∷_}
 use mathlib.Core.Bool.{Bool, true, false, not, _||_, false≢true, true≢false}
 use Prim.Native.Nat.{ℕ, zero, suc, _≤_, _<_}
 use native.Mathlib.Omega.{arith}
@@ -10,7 +10,7 @@ use lib.Dec.{leb, eqb}
 use borrow.Author.Tests.{leb-false, not-false, eq-eqb, eqb-true, ne-eqb}
 use Rattle.book.specs.Basics.{pick, In, here, there, has, without, All, all-none, all-more}
 use Rattle.book.specs.Causes.{Cause, bad-size, no-record, bad-label, locked-end, already, missing, full, none-held, no-expression, too-many-bytes, too-large, bad-tree, short-work, short-list, broken-frame, unknown-kind, not-open, touched-record, withdrawn-record, bad-tie, unordered-anchors, none-in-use, number, Caused, editOrder, closeOrder, firstNumber, InOrder, none-left, same-cause, passed-over, maxRecords, labels, maxLinks, maxHeld}
-use Rattle.book.specs.Book.{Link, sameLink, Sheet, Book, Edit, add, remove, lock, unlock, withdraw, reinstate, Call, edit, undo, close, present, isLocked, isWithdrawn, touched, used, causes, editAnswer, edited, turned, undoAnswer, undone, closeCauses, closeAnswer, closed, answer, next, fresh, answers, after}
+use Rattle.book.specs.Book.{Link, sameLink, Sheet, Book, Edit, add, remove, lock, unlock, withdraw, reinstate, Call, edit, undo, close, present, isLocked, isWithdrawn, touched, used, causes, editAnswer, edited, turned, undoAnswer, undone, closeCauses, closeAnswer, closed, answer, next, fresh, after}
 use Rattle.book.specs.Sheets.{Distinct, Proper, Fit, Sound}
 use Rattle.book.specs.RankLaws.{rank-le}
 use Rattle.book.specs.CloseLaws.{closed-fit}
@@ -100,22 +100,6 @@ refused-same b (close room) z = go (closeAnswer (b .n) (b .sheet) room) z
 pub undo-back : (b : Book) (e : Edit) → answer b (edit e) ≡ 0 → next (next b (edit e)) undo .sheet ≡ b .sheet
 unfolding answer next turned undone
 undo-back b e h = ap (λ (z : ℕ). undone (turned z b (edited e (b .sheet))) (turned z b (edited e (b .sheet)) .pile) .sheet) h
-
--- ---- a history with one call more
-pub after-more : (b : Book) (cs : List Call) (c : Call) → after b (cs ++ (c ∷ [])) ≡ next (after b cs) c
-unfolding after
-after-more b [] c = refl
-after-more b (d ∷ cs) c = after-more (next b d) cs c
-
-pub answers-more : (b : Book) (cs : List Call) (c : Call) → answers b (cs ++ (c ∷ [])) ≡ answers b cs ++ (answer (after b cs) c ∷ [])
-unfolding after answers
-answers-more b [] c = refl
-answers-more b (d ∷ cs) c = ap (λ (l : List ℕ). answer b d ∷ l) (answers-more (next b d) cs c)
-
-pub answers-length : (b : Book) (cs : List Call) → length (answers b cs) ≡ length cs
-unfolding answers
-answers-length b [] = refl
-answers-length b (c ∷ cs) = ap suc (answers-length (next b c) cs)
 
 -- ---- what holds of every sheet
 -- the link of an edit that the causes 2, 18 and 3 let pass

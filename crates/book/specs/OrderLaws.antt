@@ -7,15 +7,15 @@
 use mathlib.Core.Path.{_≡_, refl, sym, ap, ap₂, subst, _∙_}
 use mathlib.Core.List.{List, [], _∷_}
 use mathlib.Core.Bool.{Bool, true, false, _||_, true≢false}
-use Prim.Native.Nat.{ℕ, zero, suc, _+_, _≤_, _<_}
+use Prim.Native.Nat.{ℕ, suc, _≤_, _<_}
 use native.Mathlib.Omega.{arith}
 use lib.ListN.{length}
 use lib.Dec.{leb, eqb}
 use borrow.Author.Tests.{leb-false, lt-leb, le-leb, not-false}
-use Rattle.book.specs.Basics.{pick, bit, has, without, tally}
+use Rattle.book.specs.Basics.{pick, has, without, tally}
 use Rattle.book.specs.Causes.{no-record, bad-label, locked-end, already, missing, full, withdrawn-record, number, firstNumber, labels, maxLinks}
 use Rattle.book.specs.Book.{Link, sameLink, Sheet, Book, Edit, add, remove, edit, present, isLocked, isWithdrawn, total, causes, editAnswer, edited, turned, answer, next}
-use Rattle.book.specs.SetLaws.{EqualityTest, sameLink-test, without-other}
+use Rattle.book.specs.SetLaws.{sameLink-test, without-other}
 use Rattle.book.specs.BookLaws.{first-none}
 use Rattle.book.specs.Orders.{Single, adds, removes, linkIn, Alike}
 

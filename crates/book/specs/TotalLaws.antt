@@ -46,9 +46,6 @@ module _ {A : Type 0} (t : A → Bool) where
       go false q e ih = omega (arith, ih e)
 
 -- ---- totals
-pub total-most : (s : Sheet) (l : ℕ) → total s l ≤ length (s .links)
-unfolding total
-total-most s l = tally-le (λ k. eqb (k .label) l) (s .links)
 
 pub total-add : (k : Link) (s : Sheet) (l : ℕ) → total (edited (add k) s) l ≡ bit (eqb (k .label) l) + total s l
 unfolding total edited tally

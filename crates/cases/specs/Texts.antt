@@ -6,8 +6,6 @@
 use mathlib.Core.Path.{_≡_, refl}
 use mathlib.Core.List.{List, [], _∷_, _++_, map}
 use Prim.Native.Nat.{ℕ, zero, suc}
-use Prim.Native.String.{String}
-use lib.ListN.{length}
 use Rattle.book.specs.Causes.{number, firstNumber}
 use Rattle.paths.specs.Expressions.{letters, depth}
 use Rattle.paths.specs.Grammar.{verdictCause}

@@ -15,7 +15,7 @@ use Rattle.paths.specs.Questions.{Outcome as Question·Outcome, refused, paired
 use Rattle.paths.specs.Renaming.{renamedReply, renamedOutcome, newNumber}
 use Rattle.paths.specs.ClosingLaws.{closing-pairs, closing-chain}
 use Rattle.register.specs.Representation.{Represents}
-use Rattle.register.specs.Calls.{answerNumber, answerOf, Closes}
+use Rattle.register.specs.Calls.{answerNumber, Closes}
 use Rattle.register.specs.HistoryLaws.{represents-sound, number-answer}
 use Rattle.register.specs.declared.Register.{Register}
 use Rattle.register.specs.declared.Outcome.{Outcome}

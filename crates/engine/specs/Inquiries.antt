@@ -18,7 +18,7 @@ use mathlib.Core.Bool.{false}
 use Prim.Native.Nat.{ℕ, _<_}
 use lib.ListN.{length, take, drop, getD}
 use Rattle.book.specs.Causes.{labels}
-use Rattle.book.specs.Book.{Book, fresh, after, givens}
+use Rattle.book.specs.Book.{fresh, after, givens}
 use Rattle.paths.specs.Verdicts.{verdict}
 use Rattle.register.specs.Calls.{answerOf}
 use Rattle.register.specs.History.{Lent, wordAnswers, callsOf, toldCalls, closings, laid, parts, replayNumber}

@@ -15,15 +15,15 @@ use Rattle.book.specs.Causes.{Caused}
 use Rattle.book.specs.Book.{Book, Call, answer, next}
 use Rattle.book.specs.BookLaws.{caused-positive}
 use Rattle.paths.specs.Verdicts.{verdict}
-use Rattle.paths.specs.Questions.{refused, paired, Outcome as Question·Outcome, unless, pairsAnswer, listAfter}
+use Rattle.paths.specs.Questions.{refused, Outcome as Question·Outcome, unless, pairsAnswer, listAfter}
 use Rattle.register.specs.Representation.{Represents}
-use Rattle.register.specs.Calls.{answerOf, answerNumber, Steps}
+use Rattle.register.specs.Calls.{answerNumber, Steps}
 use Rattle.register.specs.HistoryLaws.{number-answer}
 use Rattle.register.specs.declared.Register.{Register}
 use Rattle.register.specs.declared.Outcome.{Outcome}
 use Rattle.register.specs.declared.Answer.{Answer}
 use Rattle.register.specs.declared.Answer.the-variants.{Done, Refused as Turned-down}
-use Rattle.pairs.specs.Asking.{pairsLength, Tells, told-number, told-pairs, AsksPairs}
+use Rattle.pairs.specs.Asking.{Tells, told-number, told-pairs, AsksPairs}
 use Rattle.pairs.specs.declared.PairsAnswer.{PairsAnswer}
 use Rattle.pairs.specs.declared.PairsAnswer.the-variants.{Pairs, Refused}
 use Rattle.engine.specs.Previews.{previewAnswer, Previews}

@@ -1,28 +1,27 @@
 -- From what the inner functions give to the answer, and to the promise: each refusal by the order of causes, the numbers, and the loop.
 -- Assumes nothing.
 use mathlib.Core.Path.{_≡_, refl, sym, ap, _∙_, subst}
-use mathlib.Core.Logic.{⊎-elim}
 use mathlib.Core.List.{List, [], _∷_, _++_, append-nil}
-use mathlib.Core.Bool.{Bool, true, false, true≢false, false≢true}
+use mathlib.Core.Bool.{Bool, true, false}
 use Prim.Native.Nat.{ℕ, zero, suc, _+_, _-_, _*_, _<_, _≤_}
 use native.Mathlib.Omega.{arith}
 use native.Mathlib.Decide.{decLt}
-use lib.Dec.{eqb, ltb, leb}
-use lib.ListN.{length, getD, take, drop, length-append}
+use lib.Dec.{ltb}
+use lib.ListN.{length, getD, take, drop}
 use lib.Seq.{take-at, drop-at}
 use borrow.Author.Tests.{le-ltb, lt-ltb, lt-leb, ltb-true, ltb-false}
 use Rattle.book.specs.Basics.{pick}
-use Rattle.book.specs.Causes.{bad-label, short-work, short-list, not-open, number, Caused, firstNumber}
+use Rattle.book.specs.Causes.{not-open, number, Caused, firstNumber}
 use Rattle.book.specs.Book.{Book, isWithdrawn}
 use Rattle.book.specs.Sheets.{Fit}
 use Rattle.paths.specs.Expressions.{Expr}
 use Rattle.paths.specs.Grammar.{Verdict, accepted, verdictCause}
 use Rattle.paths.specs.Verdicts.{verdict}
-use Rattle.paths.specs.Chains.{Graph, asked, Step, stepWords, Reply, none, chain, ChainIs, first-chain}
+use Rattle.paths.specs.Chains.{asked, Step, stepWords, chain, ChainIs, first-chain}
 use Rattle.paths.specs.ChainLaws.{Inside}
 use Rattle.paths.specs.PairLaws.{fit-inside, withdrawn-out, in-use as record-in-use}
 use Rattle.paths.specs.FirstChain.{has-first}
-use Rattle.paths.specs.Questions.{chainWork, ReplyTo, steps, chainCauses, chainAnswer, over}
+use Rattle.paths.specs.Questions.{chainWork, steps, chainCauses, chainAnswer, over}
 use Rattle.paths.specs.Questions as questions
 use Rattle.k2.specs.Bits.{digit}
 use Rattle.k2.specs.PairSets.{IsSet}

@@ -2,8 +2,7 @@
 -- Assumes nothing.
 use mathlib.Core.Path.{_≡_, refl, sym, ap, _∙_, subst}
 use mathlib.Core.Logic.{_⊎_, inl, inr, ⊎-elim}
-use mathlib.Core.List.{List, [], _∷_}
-use mathlib.Core.Bool.{Bool, true, false}
+use mathlib.Core.List.{List}
 use Prim.Native.Nat.{ℕ, zero, suc, _+_, _-_, _<_, _≤_, max}
 use native.Mathlib.Omega.{arith}
 use native.Mathlib.Decide.{ℕ-discrete, decLt}
@@ -19,7 +18,7 @@ use Rattle.automaton.specs.LevelLaws.{Which, less, same, more, which}
 use Rattle.register.specs.MarkLaws.{mark-back}
 use Rattle.arcs.specs.Arcs.{arcFrom, arcTo}
 use Rattle.arcs.specs.Index.{firstArc, nextArc, Cursor, Indexed}
-use Rattle.arcs.specs.IndexLaws.{before-first, next-falls, cursor-next, only-arc}
+use Rattle.arcs.specs.IndexLaws.{before-first, cursor-next, only-arc}
 use Rattle.generations.specs.Inner.{Arc, Ran, stop, on, Top, Leads, once, more as leads-more, Kept, Right, doneBit, newBit, newCount, doneCount, Bounded, Visited}
 
 -- ---- counts

@@ -4,10 +4,10 @@ use mathlib.Core.Path.{_≡_, refl, sym, ap, _∙_, subst, fun-ext}
 use mathlib.Core.Logic.{_⊎_, inl, inr, ⊎-elim}
 use mathlib.Core.List.{List, [], _∷_}
 use mathlib.Core.Bool.{Bool, true, false}
-use Prim.Native.Nat.{ℕ, zero, suc, _+_, _*_, _/_, _%_, _<_, _≤_}
+use Prim.Native.Nat.{ℕ, _/_, _%_, _<_, _≤_}
 use native.Mathlib.Omega.{arith}
 use native.Mathlib.Decide.{decLt}
-use lib.Dec.{eqb, ltb}
+use lib.Dec.{eqb}
 use lib.ListN.{length, getD}
 use borrow.Author.Tests.{eq-eqb, eqb-true, le-ltb}
 use Rattle.book.specs.Basics.{pick, bit, has, In, here, there, All, all-none, all-more}
@@ -17,10 +17,10 @@ use Rattle.book.specs.ListLaws.{in-none, in-front, at-in, in-at}
 use Rattle.k2.specs.Bits.{digit, bitAt, packed}
 use Rattle.k2.specs.BitLaws.{bit-out, packed-length, packed-bits}
 use Rattle.k2.specs.DigitLaws.{digit-none}
-use Rattle.k2.specs.PairSets.{Cells, IsSet, OneOrMore, once as once-pair, more as more-pairs, closure}
+use Rattle.k2.specs.PairSets.{Cells, IsSet, OneOrMore, once as once-pair, more as more-pairs}
 use Rattle.k2.specs.PairSetLaws.{bit-small, on-bit, bit-on, closure-leads, leads-closure}
 use Rattle.paths.specs.Expressions.{Letter}
-use Rattle.paths.specs.Chains.{Graph, asked, Step, crossing, Chain, stay, cross}
+use Rattle.paths.specs.Chains.{asked, Step, Chain, stay, cross}
 use Rattle.paths.specs.ChainLaws.{Inside}
 use Rattle.paths.specs.PairLaws.{fit-inside}
 use Rattle.paths.specs.Relations.{crossedBy}
@@ -32,7 +32,7 @@ use Rattle.rows.specs.Rows.{labelled, crossedWords}
 use Rattle.pairs.specs.Steps.{Lettered}
 use Rattle.pairs.specs.LetterLaws.{letters-crossed}
 use Rattle.arcs.specs.Arcs.{arcFrom, arcTo}
-use Rattle.generations.specs.Generations.{Run, stop as stop-run, on as on-run, Longest, Over, Loop, Returns}
+use Rattle.generations.specs.Generations.{Run, stop as stop-run, on as on-run, Longest, Over, Returns}
 use Rattle.generations.specs.GenerationsLaws.{forward-link}
 use Rattle.generations.specs.Inner.{Contains, Arc, Ran, stop, on, Top, Leads, once, more, Closed}
 

@@ -5,9 +5,9 @@
 --   smallest-returns
 --                   of the records that can return to themselves the smallest begins the loop: 0, after it, and 3, before it, cannot
 -- Assumes nothing.
-use mathlib.Core.Path.{_≡_, refl, sym, _∙_, subst}
+use mathlib.Core.Path.{_≡_, refl, _∙_}
 use mathlib.Core.List.{List, [], _∷_}
-use mathlib.Core.Bool.{Bool, true, false}
+use mathlib.Core.Bool.{true, false}
 use Prim.Native.Nat.{ℕ, zero, suc, _+_, _<_, _≤_}
 use native.Mathlib.Omega.{arith}
 use lib.Dec.{eqb}
@@ -16,7 +16,7 @@ use borrow.Author.Tests.{ne-eqb}
 use Rattle.book.specs.Basics.{has, without, In, here, there, All, all-none, all-more}
 use Rattle.book.specs.Causes.{number, firstNumber}
 use Rattle.book.specs.SetLaws.{sameLink-test, has-in}
-use Rattle.book.specs.Book.{Link, Book, Call, sameLink, add, edit, causes, editAnswer, edited, turned, next, fresh, after}
+use Rattle.book.specs.Book.{Link, Book, Call, add, edit, causes, editAnswer, edited, turned, next, fresh, after}
 use Rattle.k2.specs.Bits.{digit}
 use Rattle.k2.specs.DigitLaws.{digit-none, digit-suc}
 use Rattle.k2.specs.PairSets.{union, most, via, closure}
@@ -30,7 +30,7 @@ use Rattle.paths.specs.ChainOrder.{before}
 use Rattle.paths.specs.Acceptance.{parted, many, accepts}
 use Rattle.paths.specs.FirstChain.{reach, stepsBelow, before-each, after-each, walks, walksTo, end, best, just, firstTo, chainTo, chain-first}
 use Rattle.rows.specs.Rows.{places}
-use Rattle.generations.specs.Generations.{Run, stop, on, Longest, Over, Returns, FirstLoop, Numbered, no-record, not-in-use, in-use, Outcome, numbers, loop, GenerationsAre, no-loop, first-loop}
+use Rattle.generations.specs.Generations.{Run, stop, on, Longest, Over, Returns, no-record, not-in-use, in-use, numbers, loop, GenerationsAre, no-loop, first-loop}
 use Rattle.generations.specs.GenerationsLaws.{forward-link}
 use Rattle.generations.specs.Inner.{Contains}
 use Rattle.generations.specs.LoopLaws.{either, loopExpr, loop-answers, first-is-loop}

@@ -14,18 +14,17 @@
 -- Assumes nothing.
 use mathlib.Core.Path.{_≡_, refl, sym, ap, ap₂, _∙_, subst}
 use mathlib.Core.List.{List, [], _∷_, _++_}
-use mathlib.Core.Bool.{Bool, true, false, false≢true}
-use Prim.Native.Nat.{ℕ, zero, suc, _+_, _≤_, _<_}
+use mathlib.Core.Bool.{Bool, true, false≢true}
+use Prim.Native.Nat.{ℕ, suc, _+_, _<_}
 use native.Mathlib.Omega.{arith}
 use lib.ListN.{length}
-use lib.Dec.{eqb}
-use Rattle.book.specs.Basics.{pick, has, All, all-none, all-more}
+use Rattle.book.specs.Basics.{pick, All, all-none, all-more}
 use Rattle.book.specs.Causes.{firstNumber, InOrder, none-left, same-cause}
-use Rattle.book.specs.Book.{Link, Book}
-use Rattle.paths.specs.Chains.{Graph, asked, Step, crossing, Chain, stay, cross, stepWords}
+use Rattle.book.specs.Book.{Book}
+use Rattle.paths.specs.Chains.{Graph, Step, crossing, Chain, stay, cross, stepWords}
 use Rattle.paths.specs.ChainOrder.{not-after-both}
 use Rattle.automaton.specs.LevelLaws.{Which, less, same, more, which}
-use Rattle.generations.specs.Generations.{Run, stop, on, Longest, Over, Loop, Returns, FirstLoop, Numbered, no-record, not-in-use, in-use, Outcome, refused, numbers, loop, GenerationsAre, no-loop, first-loop, generationsOrder, argumentCauses, generationsCauses, unless, OutcomeIs, not-asked, answered}
+use Rattle.generations.specs.Generations.{Run, on, Longest, Over, Returns, FirstLoop, Numbered, no-record, not-in-use, in-use, Outcome, refused, numbers, loop, GenerationsAre, no-loop, first-loop, generationsOrder, argumentCauses, generationsCauses, unless, OutcomeIs, not-asked, answered}
 
 -- ---- runs
 -- a link crossed forward

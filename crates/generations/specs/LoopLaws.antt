@@ -7,26 +7,26 @@
 --                   so the first loop is the first chain, both ways
 -- Assumes nothing.
 use mathlib.Core.Path.{_≡_, refl, sym, ap, _∙_, subst}
-use mathlib.Core.Logic.{_⊎_, inl, inr, ⊎-elim}
+use mathlib.Core.Logic.{⊎-elim}
 use mathlib.Core.List.{List, [], _∷_, _++_, append-assoc, append-nil}
-use mathlib.Core.Bool.{Bool, true, false, not, _&&_}
-use Prim.Native.Nat.{ℕ, zero, suc, _+_, _*_, _<_, _≤_, max}
+use mathlib.Core.Bool.{Bool, true, false, not}
+use Prim.Native.Nat.{ℕ, zero, suc, _+_, _*_, _<_, _≤_}
 use native.Mathlib.Omega.{arith}
 use lib.Dec.{eqb}
 use lib.ListN.{length, length-append}
 use borrow.Author.Tests.{eqb-true, eq-eqb}
-use Rattle.book.specs.Basics.{pick, bit, has, In, here, there, All, all-none, all-more}
+use Rattle.book.specs.Basics.{has, In, here, there, All, all-none, all-more}
 use Rattle.book.specs.Causes.{labels}
-use Rattle.book.specs.SetLaws.{eqb-test, has-in, in-has, and-both}
+use Rattle.book.specs.SetLaws.{and-both}
 use Rattle.book.specs.ListLaws.{in-left, in-right, in-either, in-none, in-front}
 use Rattle.k2.specs.Bits.{digit}
 use Rattle.k2.specs.PairSets.{ifSet}
 use Rattle.k2.specs.PairSetLaws.{on-bit, bit-on}
 use Rattle.paths.specs.Expressions.{Letter, Symbol, letter, noneOf, standsFor, Expr, symbol, group, inverse, star, plus, optional, alternative, sequence, letters, depth}
-use Rattle.paths.specs.Grammar.{bar, open-group, close-group, plus-sign, letter-a, alternatives, parts, Is, one-alternative, more-alternatives, one-part, plain, bare, with-plus, is-letter, is-group, Verdict, accepted, Judged, good}
+use Rattle.paths.specs.Grammar.{bar, open-group, close-group, plus-sign, letter-a, alternatives, Is, one-alternative, more-alternatives, one-part, plain, bare, with-plus, is-letter, is-group, accepted, good}
 use Rattle.paths.specs.Verdicts.{verdict, verdict-only}
 use Rattle.paths.specs.Words.{Words, itself, inside, reversed, left, right, joined, once, again, star-none, star-some, optional-none, optional-once}
-use Rattle.paths.specs.Chains.{Graph, Step, crossing, Chain, stay, cross, spell, stepWords, Answers, First}
+use Rattle.paths.specs.Chains.{Graph, Step, Chain, stay, cross, spell, Answers, First}
 use Rattle.paths.specs.ChainLaws.{Inside, crossing-in, crossing-label}
 use Rattle.automaton.specs.LevelLaws.{Which, less, same, more, which}
 use Rattle.rows.specs.Rows.{places}
@@ -208,9 +208,6 @@ length-places f (suc n) = let z = length-append (places f n) (ifSet (f n) n) in 
 
 -- ---- loops and chains
 module _ (g : Graph) (I : Inside g) (m : ℕ) (ls : List ℕ) (C : Contains m ls) where
-  abbrev ps : List ℕ
-  ps = places (digit m) 26
-
   over-plain : {x y : ℕ} {ss : List Step} → Chain g x ss y → All (Over ls) ss → All (PlainOf (places (digit m) 26)) (spell ss)
   unfolding spell
   over-plain stay all-none = all-none

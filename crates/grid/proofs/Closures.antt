@@ -2,25 +2,23 @@
 --   Search n a x r v   r is among what x leads to by a, with the columns of a x, and with all that the seen, v, lead to in one step
 -- Assumes nothing.
 use mathlib.Core.Path.{_≡_, refl, sym, ap, ap₂, subst, _∙_}
-use mathlib.Core.Bool.{Bool, true, false}
 use mathlib.Core.Logic.{_⊎_, inl, inr, ⊎-elim}
 use mathlib.Core.List.{List}
 use Prim.Native.Nat.{ℕ, zero, suc, _+_, _-_, _*_, _/_, _%_, _^_, _≤_, _<_, min, max}
 use native.Mathlib.Decide.{decLt, ℕ-discrete}
 use native.Mathlib.Omega.{arith}
 use lib.Dec.{eqb, ltb}
-use lib.ListN.{length, getD, set, replicate}
+use lib.ListN.{getD}
 use borrow.Author.Tests.{eq-eqb, ne-eqb, lt-ltb, le-ltb}
 use Rattle.book.specs.Basics.{pick}
-use Rattle.k2.specs.Bits.{digit, bitAt, onesBelow}
-use Rattle.k2.specs.BitLaws.{bit-lt}
-use Rattle.k2.specs.DigitLaws.{digit-none, digit-lt, digit-pow}
+use Rattle.k2.specs.Bits.{digit, onesBelow}
+use Rattle.k2.specs.DigitLaws.{digit-none, digit-pow}
 use Rattle.k2.specs.PairSets.{Cells, IsSet, OneOrMore, once, more, closure}
 use Rattle.k2.specs.PairSetLaws.{leads-on, closure-leads, leads-closure, closure-set}
 use Rattle.bits.specs.BitSets.{Gap, put}
 use Rattle.bits.specs.BitSetLaws.{put-at, put-off}
-use Rattle.grid.specs.Grid.{rowOf, firstRows, within, first}
-use Rattle.grid.specs.GridLaws.{row-bit, within-in, within-same, within-set, first-set}
+use Rattle.grid.specs.Grid.{rowOf, firstRows, first}
+use Rattle.grid.specs.GridLaws.{row-bit, within-in, within-same, within-set}
 use Rattle.grid.specs.Steps.{wordAt, Merged, Fresh, Half}
 use Rattle.grid.proofs.Rows.{row-same, row-empty, row-in, word-in, word-off}
 use Rattle.grid.proofs.Grids.{rows-apart}

@@ -10,16 +10,15 @@ use Prim.Native.Nat.{ℕ, _+_, _-_, _*_, _/_, _%_, _^_, _≤_, _<_, min, max}
 use native.Mathlib.Decide.{decLt, ℕ-discrete}
 use native.Mathlib.Omega.{arith}
 use lib.Bits.{bitOr}
-use lib.Dec.{lit<, eqb, ltb}
+use lib.Dec.{lit<}
 use lib.Pow.{shl-exact}
 use native.Mathlib.Nat.{one-mul}
 use lib.ListN.{length, getD, set}
 use lib.Seq.{getD-set-same, getD-set-other}
-use borrow.Author.Tests.{eq-eqb, ne-eqb, lt-ltb, le-ltb}
-use Rattle.book.specs.Basics.{pick}
+use borrow.Author.Tests.{eq-eqb, ne-eqb}
 use Rattle.k2.specs.Bits.{digit}
 use Rattle.k2.specs.DigitLaws.{digit-lt, digit-or}
-use Rattle.bits.specs.BitSets.{Gap, put}
+use Rattle.bits.specs.BitSets.{put}
 use Rattle.bits.specs.BitSetLaws.{digit-or-pow, put-at, put-off}
 use Rattle.grid.specs.Grid.{rowOf}
 use Rattle.grid.specs.Steps.{Lowest, wordAt, Merged}
@@ -199,11 +198,6 @@ module _ {w t b : ℕ} {s : ℕ → ℕ} {ws ms ws′ ms′ : List ℕ} (M : Mer
     where
       assoc : (x y z : ℕ) → max (max x y) z ≡ max x (max y z)
       assoc x y z = omega arith
-
-  -- the words of a row that lies apart
-  pub merged-apart : (f c : ℕ) → (b + w ≤ f) ⊎ (f + w ≤ b) → c < w → getD ws′ (f + c) 0 ≡ getD ws (f + c) 0
-  merged-apart f c (inl h) l = M .above (f + c) (omega arith)
-  merged-apart f c (inr h) l = M .below (f + c) (omega arith)
 
   pub merged-to : (g : ℕ → ℕ) → ((y : ℕ) → y < w * 64 → s y ≡ g y) → Merged w t b g ws ms ws′ ms′
   merged-to g e = record {

@@ -1,7 +1,7 @@
 -- Laws by which a promise of the engine is carried over to words: words have one register (`keeps-same`), so what holds of the one that was loaded holds of
 -- every register whose words they are. Assumes nothing.
 use mathlib.Core.Path.{_≡_, refl, sym, ap, subst, _∙_}
-use mathlib.Core.Bool.{Bool, true, false, _||_, true≢false, false≢true}
+use mathlib.Core.Bool.{Bool, true, false, _||_}
 use mathlib.Core.List.{List, _++_}
 use Prim.Native.Nat.{ℕ, _+_, _≤_, _<_}
 use native.Mathlib.Decide.{decLt}
@@ -11,8 +11,8 @@ use lib.Dec.{ltb}
 use lib.ListN.{length, take, drop}
 use borrow.Author.Tests.{lt-ltb, le-ltb}
 use Rattle.book.specs.Basics.{pick, bit}
-use Rattle.book.specs.Causes.{short-work, not-open, number, Caused, firstNumber, maxRecords}
-use Rattle.book.specs.Book.{Book, Call, close, freshAnswer, fresh}
+use Rattle.book.specs.Causes.{short-work, not-open, number, firstNumber, maxRecords}
+use Rattle.book.specs.Book.{Book, Call, close, freshAnswer}
 use Rattle.register.specs.Representation.{Represents}
 use Rattle.register.specs.Marks.{Marked}
 use Rattle.register.specs.Counters.{InRange}

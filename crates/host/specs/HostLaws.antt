@@ -7,10 +7,9 @@
 --   pairs-told, chain-told, none-told, total-told, tree-told
 --                   which answer a number tells
 use mathlib.Core.Path.{_≡_, refl, ap, _∙_}
-use mathlib.Core.List.{List, [], _∷_}
+use mathlib.Core.List.{List, _∷_}
 use Prim.Native.Nat.{ℕ, _*_, _<_}
 use native.Mathlib.Omega.{arith}
-use lib.ListN.{length}
 use Rattle.book.specs.Book.{Book, Call, answer, next, answers, after, givens}
 use Rattle.paths.specs.Verdicts.{verdict}
 use Rattle.register.specs.Calls.{answerNumber}

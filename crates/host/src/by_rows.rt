@@ -1,5 +1,4 @@
 // The pair question by the engine on rows of bits, of a register that the caller keeps as words.
-ghost use mathlib.Core.Path.{_≡_};
 ghost use lib.ListN.{length};
 ghost use Rattle.rowpairs.specs.Asking.{AsksRows};
 ghost use Rattle.host.specs.Host.{toldPairs, Asked};

@@ -1,5 +1,4 @@
 // The calls on trees.
-ghost use mathlib.Core.Path.{_≡_};
 ghost use mathlib.Core.List.{[], _∷_};
 ghost use lib.ListN.{length};
 ghost use Rattle.k2.specs.PairSets.{union, intersection, difference, transpose, closure};

@@ -12,8 +12,8 @@ use native.Mathlib.Omega.{arith}
 use native.Mathlib.Decide.{decLt, ℕ-discrete}
 use lib.Count.{ones, ones-cat}
 use lib.Pow.{pow-pos, mod-pow-add}
-use lib.ListN.{length, getD, set, take, drop, replicate, List·getD-eq-default}
-use lib.Seq.{getD-set-same, getD-set-other, getD-take, getD-drop, ext-getD}
+use lib.ListN.{length, getD, set, take, replicate, List·getD-eq-default}
+use lib.Seq.{getD-set-same, getD-set-other, getD-take, ext-getD}
 use Rattle.k2.specs.Bits.{digit, bitAt, bitsOf, onesBelow, from, value, packed, wordsOf}
 use Rattle.k2.specs.DigitLaws.{digit-lt, digit-zero, digit-suc, digit-none, digits-tell}
 
@@ -68,12 +68,6 @@ unfolding bitAt
 bit-set-off ws q v k h = rw (getD-set-other ws q (k / 64) v 0 h)
 
 -- ---- a part
-pub bit-drop : (n : ℕ) (ws : List ℕ) (p : ℕ) → bitAt (drop n ws) p ≡ bitAt ws (n * 64 + p)
-unfolding bitAt
-bit-drop n ws p =
-    let a : (n * 64 + p) / 64 ≡ n + p / 64 = omega arith in
-    let b : (n * 64 + p) % 64 ≡ p % 64 = omega arith in
-    rw (a, b, getD-drop n ws (p / 64) 0)
 
 pub bit-take : (n : ℕ) (ws : List ℕ) (p : ℕ) → p / 64 < n → bitAt (take n ws) p ≡ bitAt ws p
 unfolding bitAt

@@ -1,10 +1,9 @@
 -- Laws of `digit`: a word's bits after the language's operators. Assumes nothing.
-use mathlib.Core.Path.{_≡_, refl, sym, ap, ap₂, _∙_}
-use mathlib.Core.Bool.{Bool, true, false}
+use mathlib.Core.Path.{_≡_, sym, _∙_}
 use Prim.Native.Nat.{ℕ, zero, suc, _+_, _-_, _*_, _/_, _%_, _^_, _≤_, _<_, min, max}
-use native.Mathlib.Nat.{mod-lt, mod-eq-of-lt, mul-add-mod-self-right, div-div-eq-div-mul, pow-suc, pow-succ', zero-div, zero-mod, div-one, mul-div-cancel, mul-mod-left, zero-lt-suc, one-mul, mul-one, div-eq-of-lt, lt-of-lt-of-le, mul-assoc, sub-zero, suc-sub-suc}
+use native.Mathlib.Nat.{div-div-eq-div-mul, pow-suc, pow-succ', zero-div, div-one, mul-div-cancel, mul-mod-left, zero-lt-suc, one-mul, mul-one, div-eq-of-lt, lt-of-lt-of-le, sub-zero, suc-sub-suc}
 use native.Mathlib.Omega.{arith}
-use lib.Bits.{bitAnd, bitOr, and-step, or-step, and-shr, or-shr, and-mask, or-disjoint, shifted-half, shifted-even}
+use lib.Bits.{bitAnd, bitOr, and-step, or-step, and-shr, or-shr, shifted-half, shifted-even}
 use lib.Dec.{lit<, eqb, leb, leb·zero, leb·suc-zero, leb·suc-suc, eqb·zero-suc, eqb·suc-zero, eqb·suc-suc}
 use lib.Pow.{shl-exact, shr-shr, pow-mono}
 use Rattle.book.specs.Basics.{pick}
@@ -101,14 +100,3 @@ digits-tell (suc n) a b ha hb d =
     digits-tell n (a / 2) (b / 2) (omega (arith, pow-suc 2 n)) (omega (arith, pow-suc 2 n))
     (λ k h. sym (digit-suc a k) ∙ d (suc k) (omega arith) ∙ digit-suc b k) in
     omega arith
-
--- and with a power of two
-pub and-pow : (w r : ℕ) → bitAnd w (2 ^ r) ≡ digit w r * 2 ^ r
-and-pow w zero = rw (digit-zero, mul-one) (and-mask w 1)
-and-pow w (suc r) =
-    rw (and-step, pow-suc, mul-div-cancel (2 ^ r) (zero-lt-suc 1), mul-mod-left, and-pow (w / 2) r, digit-suc)
-    (omega (arith, mul-assoc (digit (w / 2) r) (2 ^ r) 2))
-
--- where the digit is 0, the power of two is added
-pub or-pow : (w r : ℕ) → digit w r ≡ 0 → bitOr w (2 ^ r) ≡ w + 2 ^ r
-or-pow w r h = or-disjoint w (2 ^ r) (rw (and-pow, h) (omega arith))

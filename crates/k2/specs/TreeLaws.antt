@@ -10,7 +10,7 @@ use lib.Seq.{getD-append-add}
 use lib.Pow.{pow-pos}
 use Rattle.k2.specs.Bits.{bitAt, bitsOf, packed, wordsOf}
 use Rattle.k2.specs.PairSets.{Cells, IsSet, transpose}
-use Rattle.k2.specs.Trees.{quadrant, filled, quarters, keep, levels, treeBits, treeWords, WellFormed, childPlace, height}
+use Rattle.k2.specs.Trees.{quadrant, filled, quarters, keep, levels, treeBits, treeWords, WellFormed, height}
 use Rattle.k2.specs.Nodes.{Node, root, child, quarterOf, exchanged}
 use Rattle.k2.specs.BitLaws.{Bits, words-bits}
 use Rattle.k2.specs.NodeLaws.{map-at, filled-lt, quarter-lt, quadrant-cell, empty-cell, blank, levels-none, node-bit}
@@ -155,16 +155,3 @@ filled-transpose (suc h) a =
     let by : (q : ℕ) → q < 4 → filled h (quadrant h (exchanged q) (transpose a)) ≡ filled h (quadrant h q a) =
     λ q l. ap (filled h) (quadrant-transpose h q a l) ∙ filled-transpose h (quadrant h q a) in
     omega (arith, by 0 (omega arith), by 1 (omega arith), by 2 (omega arith), by 3 (omega arith))
-
--- each square of a tree stands in the tree of the transpose, transposed; its four bits are the same, the second and the third exchanged
-module _ (side : ℕ) (a : Cells) (f g : ℕ → ℕ) (ea : f ≡ bitsOf (treeBits side a)) (et : g ≡ bitsOf (treeBits side (transpose a))) where
-  pub bit-transpose : {h : ℕ} {s : Cells} {b c : ℕ} → Node side a f (suc h) s b → Node side (transpose a) g (suc h) (transpose s) c
-      → (q : ℕ) → q < 4 → g (c + exchanged q) ≡ f (b + q)
-  bit-transpose {h} {s} n m q l =
-      node-bit et m (exchanged q) (omega arith) ∙ ap (filled h) (quadrant-transpose h q s l) ∙ filled-transpose h (quadrant h q s) ∙ sym (node-bit ea n q l)
-
-  pub node-transpose : {h : ℕ} {s : Cells} {b : ℕ} → Node side a f h s b → (c : ℕ) × Node side (transpose a) g h (transpose s) c
-  node-transpose root = (0, root)
-  node-transpose (child {h} {s} {b} q n l o) =
-      let m = node-transpose n in
-      (childPlace g (m .0 + exchanged q), rw (← quadrant-transpose h q s l) (child (exchanged q) (m .1) (omega arith) (bit-transpose n (m .1) q l ∙ o)))

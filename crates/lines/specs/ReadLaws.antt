@@ -2,7 +2,7 @@
 --   read-fits, read-not     from what was read: whether the word fits, and what it is
 --   number-begun, number-next, number-not, number-over, number-none
 --                           a number read figure by figure
---   label-size, label-one   a label's only byte
+--   label-size              a label's only byte
 -- Assumes nothing.
 use mathlib.Core.Path.{_≡_, refl}
 use mathlib.Core.List.{List, [], _∷_}
@@ -94,11 +94,6 @@ unfolding isLabel
 label-size [] h = refl
 label-size (c ∷ []) h = absurd (h refl)
 label-size (c ∷ d ∷ w) h = refl
-
-pub label-one : (w : List ℕ) → length w ≡ 1 → w ≡ getD w 0 0 ∷ []
-label-one [] h = absurd (omega arith)
-label-one (c ∷ []) h = refl
-label-one (c ∷ d ∷ w) h = absurd (omega arith)
 
 -- a word of one byte, by that byte
 pub label-below : (w : List ℕ) → length w ≡ 1 → getD w 0 0 < letter-a → isLabel w ≡ false

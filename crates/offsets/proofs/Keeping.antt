@@ -8,11 +8,10 @@ use Rattle.book.specs.Causes.{not-open, number}
 use Rattle.register.specs.Calls.{answerNumber}
 use Rattle.register.specs.HistoryLaws.{number-answer}
 use Rattle.register.specs.Questions.{Sized}
-use Rattle.register.specs.Words.{Keeps, Foreign, Loads}
+use Rattle.register.specs.Words.{Keeps, Loads}
 use Rattle.register.specs.WordLaws.{keeps-same, load-done}
 use Rattle.register.specs.declared.Register.{Register}
 use Rattle.register.specs.declared.Outcome.{Outcome}
-use Rattle.register.specs.declared.Answer.the-variants.{Done}
 use Rattle.offsets.specs.Inner.{SizeIn, OpenNumber}
 
 module _ {ws : List ℕ} {o : Outcome} (l : Loads ws o) where

@@ -2,8 +2,8 @@
 -- Assumes nothing.
 use mathlib.Core.Path.{_≡_, refl, sym, ap, subst, _∙_}
 use mathlib.Core.Bool.{Bool, true, false, _||_}
-use mathlib.Core.List.{List, [], _∷_}
-use Prim.Native.Nat.{ℕ, zero, suc, _+_, _≤_, _<_, _*_}
+use mathlib.Core.List.{List}
+use Prim.Native.Nat.{ℕ, zero, suc, _+_, _≤_, _<_}
 use native.Mathlib.Omega.{arith}
 use lib.Dec.{leb, ltb, eqb}
 use lib.IntN.{ℤ, pos, negsuc}
@@ -12,13 +12,13 @@ use lib.Signed.{ltZ}
 use mir.Syntax.{w32}
 use mir.Val.{SFits, toZ, ofZ}
 use borrow.Author.Tests.{le-leb, lt-leb, lt-ltb, le-ltb}
-use Rattle.book.specs.Causes.{no-record, withdrawn-record, bad-tie, short-work, number, firstNumber, maxRecords}
+use Rattle.book.specs.Causes.{number, firstNumber, maxRecords}
 use Rattle.book.specs.Basics.{pick}
 use Rattle.register.specs.Marks.{freeMark, withdrawnMark}
 use Rattle.register.specs.Words.{marksAt}
 use Rattle.offsets.specs.declared.Tie.{Tie}
-use Rattle.offsets.specs.Answers.{maxTies, outside, offsetsWork}
-use Rattle.offsets.specs.Inner.{isWithdrawnIn, sooner, three, tieNumber, baseNumber, orElse}
+use Rattle.offsets.specs.Answers.{maxTies, outside}
+use Rattle.offsets.specs.Inner.{isWithdrawnIn, sooner, three, tieNumber, baseNumber}
 use Rattle.offsets.proofs.Integers.{back}
 
 -- ---- a mark among the words

@@ -1,21 +1,21 @@
 -- What `begin` makes of the numbers, on each way through it, and what `hand_over` makes of a number.
 -- Assumes nothing.
-use mathlib.Core.Path.{_≡_, refl, sym, ap, subst, _∙_}
+use mathlib.Core.Path.{_≡_, refl, sym, ap, _∙_}
 use mathlib.Core.List.{List, [], _∷_, _++_}
 use mathlib.Core.Bool.{Bool, true, false}
 use Prim.Native.Nat.{ℕ, zero, suc, _+_, _*_, _≤_, _<_}
 use native.Mathlib.Numerals.{add-one}
 use native.Mathlib.Omega.{arith}
-use lib.Dec.{leb, ltb}
+use lib.Dec.{ltb}
 use lib.IntN.{ℤ}
-use lib.ListN.{length, take, drop}
+use lib.ListN.{length}
 use borrow.Author.Tests.{leb-false, lt-ltb, le-ltb}
 use Rattle.book.specs.Basics.{pick}
 use Rattle.book.specs.Causes.{no-record, short-work, firstNumber, number}
 use Rattle.book.specs.BookLaws.{first-none}
-use Rattle.offsets.specs.Answers.{Refused, maxTies, offsetsWork}
+use Rattle.offsets.specs.Answers.{Refused, offsetsWork}
 use Rattle.offsets.specs.Thirds.{Starts}
-use Rattle.offsets.specs.Inner.{Records, isWithdrawnIn, sooner, three, baseNumber, orElse, roundsOf, Filled, Plans, HandsOver, TellsOver, refused}
+use Rattle.offsets.specs.Inner.{Records, sooner, three, baseNumber, orElse, roundsOf, Plans, TellsOver, refused}
 
 or-some : (a b : ℕ) → (a ≡ 0 → ⊥) → a ≡ orElse a b
 or-some zero b z = absurd (z refl)

@@ -1,13 +1,13 @@
 -- The two words of a record, on each way through the code.
 -- A value that the code reads from its bits is `toZ w64 (ofZ w64 z)`: each law takes the facts as the code's tests leave them.
 -- Assumes nothing.
-use mathlib.Core.Path.{_≡_, refl, sym, _∙_, ap, subst}
+use mathlib.Core.Path.{_≡_, sym, _∙_, ap, subst}
 use Prim.Native.Nat.{ℕ, zero, suc, _+_, _*_, _≤_, _<_, _^_}
 use native.Mathlib.Nat.{not-suc-le-zero}
 use native.Mathlib.Omega.{arith}
 use mathlib.Core.Bool.{Bool, true, false}
 use mathlib.Core.List.{List}
-use lib.IntN.{ℤ, pos, negsuc, negℤ, _+ℤ_, _-ℤ_}
+use lib.IntN.{ℤ, pos, negsuc, negℤ, _-ℤ_}
 use lib.ListN.{length, set, drop, length-set}
 use lib.Seq.{drop-set-lt}
 use lib.Signed.{mag, ltZ, leZ}

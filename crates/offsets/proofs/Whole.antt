@@ -5,36 +5,35 @@
 use mathlib.Core.Path.{_≡_, refl, sym, ap, subst, _∙_, fun-ext}
 use mathlib.Core.List.{List, [], _∷_, _++_}
 use mathlib.Core.Bool.{Bool, true, false}
-use Prim.Native.Nat.{ℕ, zero, suc, _+_, _*_, _≤_, _<_, _^_}
+use Prim.Native.Nat.{ℕ, suc, _+_, _*_, _≤_, _<_, _^_}
 use native.Mathlib.Nat.{not-suc-le-zero}
 use native.Mathlib.Omega.{arith}
 use lib.Dec.{ltb, eqb}
 use borrow.Author.Tests.{ltb-true, ltb-false}
 use lib.IntN.{ℤ, pos}
-use lib.ListN.{length, take, drop, getD, length-append, List·getD-append, List·getD-eq-default}
+use lib.ListN.{length, take, getD, length-append, List·getD-append, List·getD-eq-default}
 use lib.Seq.{getD-take, getD-append-add}
 use lib.Signed.{mag}
 use Rattle.book.specs.Causes.{short-work, short-list, number, Caused, firstNumber, maxRecords}
-use Rattle.book.specs.Book.{Book, isWithdrawn}
+use Rattle.book.specs.Book.{isWithdrawn}
 use Rattle.book.specs.BookLaws.{first-caused}
 use Rattle.register.specs.Marks.{freeMark, withdrawnMark, hasMark}
 use Rattle.register.specs.MarkLaws.{shows-withdrawn}
-use Rattle.register.specs.Words.{marksAt, stateWords, numbersOf, stateOf, Keeps, Foreign}
+use Rattle.register.specs.Words.{marksAt, stateWords, numbersOf, Keeps}
 use Rattle.register.specs.declared.Register.{Register}
 use Rattle.offsets.specs.declared.Tie.{Tie}
 use Rattle.offsets.specs.Relax.{State, dist, settled}
 use Rattle.offsets.specs.Offsets.{Placing, Places, cannot, limits, OffsetsAre}
 use Rattle.offsets.specs.Third.{Ready}
-use Rattle.offsets.specs.Thirds.{Starts, choose, L-length}
-use Rattle.offsets.specs.Relax as relax
-use Rattle.offsets.specs.Arcs.{arcs3, run-length, by-test}
+use Rattle.offsets.specs.Thirds.{Starts}
+use Rattle.offsets.specs.Arcs.{arcs3, by-test}
 use Rattle.offsets.specs.Passes.{settled-is, passes-length}
 use Rattle.offsets.specs.Finds.{ran, least-word, most-word, Told, Fits, cannot-exactly, cannot-are, told-are}
 use Rattle.offsets.specs.Bounds.{words-fit}
 use Rattle.offsets.specs.Front.{beside, ran-front}
-use Rattle.offsets.specs.Answers.{OffsetsAnswer, Limits, CannotHold, Refused, toldOffsets, refusal, OffsetsTold, offsetsCauses, OffsetsFor, toldWords, AsksOffsets}
+use Rattle.offsets.specs.Answers.{OffsetsAnswer, Limits, CannotHold, Refused, toldOffsets, OffsetsTold, offsetsCauses, OffsetsFor, toldWords}
 use Rattle.offsets.specs.Answers as answers
-use Rattle.offsets.specs.Inner.{Records, Plan, SizeIn, OpenNumber, Begins, roundsOf, isWithdrawnIn, judgeAll, orElse, Filled, Plans, HandsOver, Among}
+use Rattle.offsets.specs.Inner.{Records, Plan, SizeIn, Begins, roundsOf, isWithdrawnIn, judgeAll, orElse, Filled, Plans, HandsOver, Among}
 use Rattle.offsets.specs.Inner as inner
 use Rattle.offsets.specs.Judging.{causes-are, no-cause-ready}
 use Rattle.offsets.proofs.Numbers.{mark-none, mark-here}

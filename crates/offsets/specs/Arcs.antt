@@ -11,19 +11,19 @@
 use mathlib.Core.Path.{_≡_, refl, sym, ap, _∙_, subst}
 use mathlib.Core.Logic.{_⊎_, inl, inr}
 use mathlib.Core.List.{List, [], _∷_}
-use mathlib.Core.Bool.{Bool, true, false, true≢false, false≢true}
-use Prim.Native.Nat.{ℕ, zero, suc, _+_, _*_, _<_, _≤_}
+use mathlib.Core.Bool.{Bool, true, false, true≢false}
+use Prim.Native.Nat.{ℕ, _+_, _*_, _<_, _≤_}
 use native.Mathlib.Omega.{arith}
 use lib.Dec.{ltb, eqb}
 use lib.IntN.{ℤ, pos, negℤ, _+ℤ_, _-ℤ_}
 use lib.ListN.{length, set, length-set}
 use lib.Seq.{getD-set-same, getD-set-other}
-use lib.Signed.{ltZ, leZ, _≤ℤ_, _<ℤ_, ≤ℤ-refl, clashℤ}
+use lib.Signed.{ltZ, _≤ℤ_, _<ℤ_, ≤ℤ-refl, clashℤ}
 use borrow.Author.Tests.{ltb-true, ltb-false, eqb-true, eqb-false}
 use Rattle.offsets.specs.declared.Tie.{Tie}
 use Rattle.offsets.specs.Linear.{of-le, of-lt, of-ltb, of-not-ltb, to-le, to-lt, of-add, of-sub, of-neg-up, of-neg-down, least-as-sum, most-as-sum, ≤ℤ-trans}
 use Rattle.offsets.specs.Relax.{State, pick, known, dist, lower, third, relaxed, relaxTie, relaxAll}
-use Rattle.offsets.specs.Offsets.{In, Placing, Meets, Places}
+use Rattle.offsets.specs.Offsets.{In, Placing, Places}
 
 pub record Arc : Type 0 where
   pub from : ℕ

@@ -6,22 +6,20 @@
 use mathlib.Core.Path.{_≡_, refl, sym, ap, _∙_, subst}
 use mathlib.Core.Logic.{_⊎_, inl, inr}
 use mathlib.Core.List.{List, [], _∷_}
-use mathlib.Core.Bool.{Bool, true, false, _&&_, true≢false, false≢true}
+use mathlib.Core.Bool.{Bool, true, false, true≢false, false≢true}
 use Prim.Native.Nat.{ℕ, zero, suc, _+_, _-_, _*_, _^_, _<_, _≤_}
 use native.Mathlib.Nat.{not-suc-le-zero}
 use native.Mathlib.Omega.{arith}
 use lib.Dec.{leb}
 use lib.IntN.{ℤ, pos, negsuc, negℤ, _+ℤ_, _-ℤ_}
 use lib.ListN.{length}
-use lib.Signed.{mag, _≤ℤ_}
+use lib.Signed.{mag}
 use borrow.Author.Tests.{leb-true, leb-false, le-leb}
 use Rattle.offsets.specs.declared.Tie.{Tie}
-use Rattle.offsets.specs.Linear.{up, down, of-le, to-le, to-eq, of-add, of-sub, of-pos, of-neg-up, of-neg-down, ≤ℤ-trans}
+use Rattle.offsets.specs.Linear.{up, down, to-eq, of-add, of-sub, of-pos, of-neg-up, of-neg-down, ≤ℤ-trans}
 use Rattle.offsets.specs.Offsets.{In, Placing, Places, Joined, self, onward, Limit, itself, joined, free}
-use Rattle.offsets.specs.Arcs.{by-test}
 use Rattle.offsets.specs.Settles.{out, out-length, out-others, span, span-length, span-all}
 use Rattle.offsets.specs.Passes.{Near, near-add, mag-parts}
-use Rattle.offsets.specs.Relax.{known, dist}
 use Rattle.offsets.specs.Third.{Allowed, Ready, near-ends, near-neg}
 use Rattle.offsets.specs.Thirds.{Starts}
 use Rattle.offsets.specs.Finds.{ran, least-word, most-word, Fits, limit-at}

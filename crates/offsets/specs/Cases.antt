@@ -5,9 +5,8 @@ use mathlib.Core.List.{List, [], _∷_}
 use Prim.Native.Nat.{ℕ, zero, suc, _*_}
 use lib.IntN.{ℤ, pos, negsuc}
 use Rattle.offsets.specs.declared.Tie.{Tie}
-use Rattle.offsets.specs.Linear.{up, down}
 use Rattle.offsets.specs.Relax.{lower, third, relaxed, settled}
-use Rattle.offsets.specs.Offsets.{Answer, cannot, limits}
+use Rattle.offsets.specs.Offsets.{cannot, limits}
 use Rattle.offsets.specs.Thirds.{firstly}
 use Rattle.offsets.specs.Finds.{offsets, ran, least-word, most-word}
 

@@ -9,20 +9,20 @@
 --     cannot-are, told-are     the same as the code has it: by the flag, and a list that has the words
 -- Assumes nothing.
 use mathlib.Core.Path.{_≡_, refl, sym, ap, _∙_, subst}
-use mathlib.Core.Logic.{_⊎_, inl, inr}
+use mathlib.Core.Logic.{inl, inr}
 use mathlib.Core.List.{List, [], _∷_}
-use mathlib.Core.Bool.{Bool, true, false, true≢false, false≢true}
-use Prim.Native.Nat.{ℕ, zero, suc, _+_, _*_, _/_, _^_, _<_, _≤_}
+use mathlib.Core.Bool.{Bool, true, false, true≢false}
+use Prim.Native.Nat.{ℕ, zero, suc, _+_, _*_, _^_, _<_, _≤_}
 use native.Mathlib.Nat.{not-suc-le-zero}
 use native.Mathlib.Omega.{arith}
-use lib.IntN.{ℤ, pos, negℤ, _+ℤ_, _-ℤ_}
+use lib.IntN.{ℤ, pos, negℤ, _-ℤ_}
 use lib.ListN.{length, getD, take}
 use lib.Seq.{getD-take, length-take-le}
 use lib.Signed.{mag, _≤ℤ_}
 use Rattle.offsets.specs.declared.Tie.{Tie}
 use Rattle.offsets.specs.Linear.{of-le, to-le, to-eq, of-sub, of-pos, of-neg-up, of-neg-down}
 use Rattle.offsets.specs.Relax.{State, known, dist, settled}
-use Rattle.offsets.specs.Offsets.{In, Placing, Places, Joined, self, Narrowest, Limit, itself, joined, free, Answer, cannot, limits, OffsetsAre, none, some}
+use Rattle.offsets.specs.Offsets.{Placing, Places, Joined, self, Limit, itself, joined, free, Answer, cannot, limits, OffsetsAre, none, some}
 use Rattle.offsets.specs.Arcs.{arcs3, turned}
 use Rattle.offsets.specs.Passes.{settled-is}
 use Rattle.offsets.specs.Settles.{passes}

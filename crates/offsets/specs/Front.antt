@@ -8,9 +8,8 @@ use mathlib.Core.Path.{_≡_, refl, sym, ap, _∙_, subst}
 use mathlib.Core.List.{List, [], _∷_, _++_}
 use mathlib.Core.Logic.{inl, inr}
 use mathlib.Core.Bool.{Bool, true, false}
-use Prim.Native.Nat.{ℕ, zero, suc, _+_, _*_, _<_}
+use Prim.Native.Nat.{ℕ, zero, suc, _*_, _<_}
 use native.Mathlib.Omega.{arith}
-use lib.Dec.{ltb}
 use lib.IntN.{ℤ, pos, _+ℤ_}
 use lib.ListN.{length, set, length-append, List·getD-append}
 use lib.Seq.{set-append-left}
@@ -20,7 +19,7 @@ use Rattle.offsets.specs.declared.Tie.{Tie}
 use Rattle.offsets.specs.Relax.{State, pick, known, dist, lower}
 use Rattle.offsets.specs.Offsets.{In}
 use Rattle.offsets.specs.Arcs.{Arc, arc, run, arcs3, turned, of-thirds, arc-length, run-length}
-use Rattle.offsets.specs.Settles.{onePass, passes}
+use Rattle.offsets.specs.Settles.{passes}
 use Rattle.offsets.specs.Passes.{settled-is}
 use Rattle.offsets.specs.Third.{Ready, ready-inside}
 use Rattle.offsets.specs.Turned.{turned-ready}

@@ -9,10 +9,10 @@ use mathlib.Core.Path.{_≡_, refl, sym, ap, _∙_, subst}
 use mathlib.Core.Logic.{inl, inr}
 use mathlib.Core.List.{List, [], _∷_}
 use mathlib.Core.Bool.{Bool, true, false, _||_}
-use Prim.Native.Nat.{ℕ, zero, suc, _*_, _≤_, _<_}
+use Prim.Native.Nat.{ℕ, _*_, _≤_, _<_}
 use native.Mathlib.Omega.{arith}
 use lib.Dec.{leb, ltb}
-use lib.IntN.{ℤ, pos, negℤ}
+use lib.IntN.{pos, negℤ}
 use lib.ListN.{length}
 use lib.Signed.{ltZ, _≤ℤ_}
 use borrow.Author.Tests.{leb-false, ltb-false}
@@ -21,9 +21,9 @@ use Rattle.book.specs.BookLaws.{first-none}
 use Rattle.offsets.specs.declared.Tie.{Tie}
 use Rattle.offsets.specs.Linear.{to-le, of-not-ltb}
 use Rattle.offsets.specs.Offsets.{In}
-use Rattle.offsets.specs.Third.{Allowed, Ready}
+use Rattle.offsets.specs.Third.{Ready}
 use Rattle.offsets.specs.Answers.{maxTies, maxRings, outside, anyTie, offsetsWork, offsetsCauses}
-use Rattle.offsets.specs.Inner.{Records, isWithdrawnIn, sooner, three, tieNumber, baseNumber, judgeTie, judgeAll, orElse}
+use Rattle.offsets.specs.Inner.{Records, isWithdrawnIn, sooner, three, tieNumber, baseNumber, judgeAll, orElse}
 
 pub causes-in-order : (n : ℕ) (w : ℕ → Bool) (base : ℕ) (ts : List Tie) (work : ℕ) → InOrder (offsetsCauses n w base ts work) offsetsOrder
 unfolding offsetsCauses offsetsOrder

@@ -11,20 +11,19 @@
 use mathlib.Core.Path.{_≡_, refl, sym, ap, _∙_, subst}
 use mathlib.Core.Logic.{_⊎_, inl, inr}
 use mathlib.Core.List.{List, [], _∷_}
-use mathlib.Core.Bool.{Bool, true, false, true≢false, false≢true}
-use Prim.Native.Nat.{ℕ, zero, suc, _+_, _*_, _/_, _^_, _<_, _≤_}
-use native.Mathlib.Nat.{suc-mul, not-suc-le-zero}
+use mathlib.Core.Bool.{Bool, true, false, true≢false}
+use Prim.Native.Nat.{ℕ, zero, suc, _+_, _*_, _^_, _<_, _≤_}
+use native.Mathlib.Nat.{suc-mul}
 use native.Mathlib.Omega.{arith}
-use lib.Dec.{ltb}
-use lib.IntN.{ℤ, pos, negsuc, negℤ, _+ℤ_, _-ℤ_}
-use lib.ListN.{length, set, length-set}
-use lib.Signed.{mag, _≤ℤ_, _<ℤ_, ≤ℤ-refl, clashℤ}
-use borrow.Author.Tests.{ltb-true, ltb-false, lt-ltb}
+use lib.IntN.{ℤ, pos, negsuc, _+ℤ_}
+use lib.ListN.{length, length-set}
+use lib.Signed.{mag, _≤ℤ_, ≤ℤ-refl}
+use borrow.Author.Tests.{lt-ltb}
 use Rattle.offsets.specs.declared.Tie.{Tie}
-use Rattle.offsets.specs.Linear.{up, down, of-le, of-lt, to-le, to-lt, of-add, of-sub, of-pos, of-neg-up, of-neg-down, of-mag, ≤ℤ-trans}
-use Rattle.offsets.specs.Relax.{State, pick, known, dist, relaxAll, settled}
-use Rattle.offsets.specs.Offsets.{In, Placing}
-use Rattle.offsets.specs.Arcs.{Arc, arcs, arcs3, Keeps, arc, run, run-is, Holds, by-test, lower-ind, set-ind, arc-length, run-length, run-down, quiet}
+use Rattle.offsets.specs.Linear.{up, down, of-add, ≤ℤ-trans}
+use Rattle.offsets.specs.Relax.{State, pick, known, dist, settled}
+use Rattle.offsets.specs.Offsets.{In}
+use Rattle.offsets.specs.Arcs.{Arc, arcs3, arc, run, run-is, Holds, lower-ind, set-ind, arc-length, run-down, quiet}
 use Rattle.offsets.specs.Settles.{onePass, passes}
 
 -- ---- what passes keep
@@ -138,20 +137,6 @@ pub passes-reached : (R : ℕ → Type 0) (cs : List Arc) → ((a : Arc) → In 
 passes-reached R cs f = passes-keep (Reached R) cs (λ a i s r. lower-ind a s (λ x. Reached R (x .0)) (λ _. r) (λ g t k _ j h.
     set-ind (s .0) (a .to) (dist (s .0) (a .from) +ℤ a .rise) t j (λ z. known z ≡ true → R j) (λ e _. subst R (sym e) (f a i (r (a .from) g k)))
     (λ _. r j (subst (λ (n : ℕ). j < n) (length-set (s .0) (a .to) (dist (s .0) (a .from) +ℤ a .rise)) h))))
-
--- where all arcs hold, an arc that leaves a known record ends at a known one
-pub known-on : (c : ℕ) (l : List ℤ) → c + 20000 < 2 ^ 61 → Ranged c l → (a : Arc) → Near 20000 (a .rise) → Holds a l → a .from < length l → a .to < length l → known (dist l (a .from)) ≡ true
-    → known (dist l (a .to)) ≡ true
-known-on c l h r a w o f t k = go (r (a .from) f) (r (a .to) t)
-  where
-    go : (dist l (a .from) ≡ far) ⊎ Near c (dist l (a .from)) → (dist l (a .to) ≡ far) ⊎ Near c (dist l (a .to)) → known (dist l (a .to)) ≡ true
-    go (inl e) _ = absurd (known-not-far (dist l (a .from)) k e)
-    go (inr n) (inr m) = near-known c (dist l (a .to)) (omega (arith, h)) m
-    go (inr n) (inl e) =
-        let q : far ≤ℤ (dist l (a .from) +ℤ a .rise) = subst (λ (z : ℤ). z ≤ℤ (dist l (a .from) +ℤ a .rise)) e (o f t k) in
-        let s = near-add c 20000 (dist l (a .from)) (a .rise) n w in
-        let u = of-le q in let v = of-pos (2 ^ 62) in
-        absurd (let none : 1 ≤ 0 = omega (arith, h, s .0, s .1, u, v .0, v .1) in not-suc-le-zero none)
 
 -- ---- passes over ties
 pub settled-is : (n k : ℕ) (ts : List Tie) (s : State) → settled n k ts s ≡ passes k (arcs3 n ts) s

@@ -10,18 +10,18 @@
 use mathlib.Core.Path.{_≡_, refl, sym, ap, _∙_, subst}
 use mathlib.Core.Logic.{_⊎_, inl, inr}
 use mathlib.Core.List.{List, [], _∷_}
-use mathlib.Core.Bool.{Bool, true, false, true≢false, false≢true}
-use Prim.Native.Nat.{ℕ, zero, suc, _+_, _*_, _<_, _≤_}
+use mathlib.Core.Bool.{Bool, true, false, true≢false}
+use Prim.Native.Nat.{ℕ, zero, suc, _+_, _<_, _≤_}
 use native.Mathlib.Nat.{not-suc-le-zero}
 use native.Mathlib.Decide.{decLt}
 use native.Mathlib.Omega.{arith}
-use lib.IntN.{ℤ, pos, negℤ, _+ℤ_, _-ℤ_}
+use lib.IntN.{ℤ, _+ℤ_, _-ℤ_}
 use lib.ListN.{length, set, length-set}
 use lib.Signed.{leZ, _≤ℤ_, _<ℤ_, ≤ℤ-refl, clashℤ, <ℤ-≤ℤ-trans}
-use Rattle.offsets.specs.Linear.{of-le, of-lt, of-leb, of-not-leb, to-le, to-lt, of-add, of-sub, ≤ℤ-trans}
+use Rattle.offsets.specs.Linear.{of-le, of-leb, of-not-leb, to-le, to-lt, of-add, of-sub, ≤ℤ-trans}
 use Rattle.offsets.specs.Relax.{State, pick, known, dist}
 use Rattle.offsets.specs.Offsets.{In, Placing}
-use Rattle.offsets.specs.Arcs.{Arc, Keeps, arc, run, Holds, by-test, lower-ind, set-ind, arc-length, arc-down, run-length, run-down, quiet, stays, lt-le}
+use Rattle.offsets.specs.Arcs.{Arc, Keeps, arc, run, Holds, by-test, lower-ind, set-ind, run-down, stays, lt-le}
 
 -- ---- lists of records
 -- a list without one of its members

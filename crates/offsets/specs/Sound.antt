@@ -6,16 +6,15 @@ use mathlib.Core.Path.{_≡_, refl, sym, subst}
 use Prim.Native.Nat.{ℕ, _<_}
 use native.Mathlib.Omega.{arith}
 use mathlib.Core.Bool.{Bool, true, false}
-use mathlib.Core.List.{List, [], _∷_}
+use mathlib.Core.List.{List}
 use lib.Dec.{ltb, eqb}
-use lib.IntN.{ℤ, pos, negℤ, _+ℤ_, _-ℤ_}
+use lib.IntN.{ℤ, pos, _+ℤ_}
 use lib.ListN.{length, set, length-set}
 use lib.Seq.{getD-set-same, getD-set-other}
 use lib.Signed.{ltZ, _≤ℤ_}
 use borrow.Author.Tests.{ltb-true, eqb-true, eqb-false}
-use Rattle.offsets.specs.declared.Tie.{Tie}
-use Rattle.offsets.specs.Linear.{of-le, to-le, of-add, least-as-sum, most-as-sum}
-use Rattle.offsets.specs.Relax.{State, pick, known, dist, lower, relaxed, relaxTie, relaxAll}
+use Rattle.offsets.specs.Linear.{of-le, to-le, of-add}
+use Rattle.offsets.specs.Relax.{State, pick, known, dist, lower}
 
 abbrev pub Placing : Type 0
 Placing = ℕ → ℤ

@@ -6,18 +6,18 @@
 -- Assumes nothing.
 use mathlib.Core.Path.{_≡_, refl, sym, ap, _∙_, subst}
 use mathlib.Core.Logic.{_⊎_, inl, inr}
-use mathlib.Core.List.{List, [], _∷_}
-use mathlib.Core.Bool.{Bool, true, false, true≢false, false≢true}
-use Prim.Native.Nat.{ℕ, zero, suc, _+_, _*_, _^_, _<_, _≤_}
+use mathlib.Core.List.{List}
+use mathlib.Core.Bool.{Bool, true, false, true≢false}
+use Prim.Native.Nat.{ℕ, _^_, _<_, _≤_}
 use native.Mathlib.Nat.{not-suc-le-zero}
 use native.Mathlib.Omega.{arith}
 use lib.IntN.{ℤ, pos, negsuc, negℤ, _+ℤ_, _-ℤ_}
 use lib.ListN.{length}
-use lib.Signed.{_≤ℤ_, _<ℤ_, ≤ℤ-refl, clashℤ}
+use lib.Signed.{_≤ℤ_}
 use Rattle.offsets.specs.declared.Tie.{Tie}
-use Rattle.offsets.specs.Linear.{up, down, of-le, to-le, to-eq, of-add, of-sub, of-pos, of-neg-up, of-neg-down, ≤ℤ-trans, ≤ℤ-antisym}
+use Rattle.offsets.specs.Linear.{up, down, of-le, to-le, to-eq, of-sub, of-pos, of-neg-up, of-neg-down, ≤ℤ-trans, ≤ℤ-antisym}
 use Rattle.offsets.specs.Relax.{known}
-use Rattle.offsets.specs.Offsets.{In, Placing, Meets, Places, Joins, Joined, self, onward}
+use Rattle.offsets.specs.Offsets.{In, Placing, Meets, Places, Joined, self, onward}
 use Rattle.offsets.specs.Arcs.{Arc, up-arc, down-arc, arcs, of-ties, in-up, in-down, meets}
 use Rattle.offsets.specs.Passes.{Near, near-add, near-known, far, known-not-far, Small}
 

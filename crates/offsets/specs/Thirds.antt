@@ -9,25 +9,24 @@
 -- Assumes nothing.
 use mathlib.Core.Path.{_≡_, refl, sym, ap, _∙_, subst}
 use mathlib.Core.Logic.{_⊎_, inl, inr}
-use mathlib.Core.List.{List, [], _∷_}
-use mathlib.Core.Bool.{Bool, true, false, true≢false, false≢true}
-use Prim.Native.Nat.{ℕ, zero, suc, _+_, _-_, _*_, _/_, _^_, _<_, _≤_}
+use mathlib.Core.List.{List}
+use mathlib.Core.Bool.{Bool, true, false}
+use Prim.Native.Nat.{ℕ, suc, _+_, _-_, _*_, _<_, _≤_}
 use native.Mathlib.Nat.{mul-le-mul, not-suc-le-zero}
-use native.Mathlib.Decide.{decLt}
 use native.Mathlib.Omega.{arith}
 use lib.Dec.{ltb, eqb}
-use lib.IntN.{ℤ, pos, negsuc, negℤ, _+ℤ_, _-ℤ_}
+use lib.IntN.{ℤ, pos, _+ℤ_, _-ℤ_}
 use lib.ListN.{length}
-use lib.Signed.{_≤ℤ_, _<ℤ_, ≤ℤ-refl, clashℤ}
+use lib.Signed.{_≤ℤ_, ≤ℤ-refl}
 use borrow.Author.Tests.{ltb-true, ltb-false, lt-ltb, le-ltb, eqb-true, eqb-false}
 use Rattle.offsets.specs.declared.Tie.{Tie}
-use Rattle.offsets.specs.Linear.{up, down, of-le, to-le, to-eq, of-add, of-sub, of-pos, of-neg-up, of-neg-down, ≤ℤ-trans}
-use Rattle.offsets.specs.Relax.{State, known, dist, settled}
+use Rattle.offsets.specs.Linear.{up, down, of-le, to-le, of-add, of-sub, of-pos, ≤ℤ-trans}
+use Rattle.offsets.specs.Relax.{known, dist}
 use Rattle.offsets.specs.Sound.{Under, under-lower}
-use Rattle.offsets.specs.Offsets.{In, Placing, Meets, Places, Joined, self}
-use Rattle.offsets.specs.Arcs.{Arc, up-arc, down-arc, arcs, arcs3, at, turned, of-thirds, in-third0, in-third1, in-third2, arcs3-length, in-up, in-down, Keeps, keeps-places, meets, Holds, by-test}
-use Rattle.offsets.specs.Settles.{Open, Left, passes, settles, span, span-length, span-in, span-all}
-use Rattle.offsets.specs.Passes.{passes-keep, passes-length, passes-hold, passes-down, Near, near-known, far, known-not-far, Ranged, Small, passes-ranged, Reached, passes-reached}
+use Rattle.offsets.specs.Offsets.{In, Placing, Places, Joined, self}
+use Rattle.offsets.specs.Arcs.{Arc, up-arc, down-arc, arcs, arcs3, at, turned, of-thirds, in-third0, in-third1, in-third2, arcs3-length, in-up, in-down, Keeps, keeps-places, meets}
+use Rattle.offsets.specs.Settles.{passes, settles, span, span-length, span-in, span-all}
+use Rattle.offsets.specs.Passes.{passes-keep, passes-length, passes-hold, passes-down, Near, near-known, far, known-not-far, Small, passes-ranged, passes-reached}
 use Rattle.offsets.specs.Third.{Ready, far-over, ready-small, ready-inside, joined-arc}
 use Rattle.offsets.specs.Turned.{neg, turned-places, places-turned, turned-ready}
 
@@ -119,9 +118,6 @@ moves n three′ o (inr (inl e)) x y a b h = (omega (arith, e, a, b, h .0, h .1)
 moves n three′ o (inr (inr e)) x y a b h = (omega (arith, e, a, b, h .0, h .1), omega (arith, e, a, b, h .0, h .1))
 
 module _ (n : ℕ) (ts : List Tie) (ready : Ready n ts) where
-  abbrev cs : List Arc
-  cs = arcs3 n ts
-
   turned-r : Ready n (turned ts)
   turned-r = turned-ready n ts ready
 

@@ -3,17 +3,17 @@
 --     turned-joined        they join the same records
 --     turned-ready         they are not refused either
 -- Assumes nothing.
-use mathlib.Core.Path.{_≡_, refl, sym, ap, _∙_, subst}
-use mathlib.Core.Logic.{_⊎_, inl, inr}
+use mathlib.Core.Path.{_≡_, refl, sym, ap, subst}
+use mathlib.Core.Logic.{inl, inr}
 use mathlib.Core.List.{List, [], _∷_}
-use Prim.Native.Nat.{ℕ, suc, _<_, _≤_}
+use Prim.Native.Nat.{ℕ, suc, _≤_}
 use native.Mathlib.Omega.{arith}
-use lib.IntN.{ℤ, pos, negℤ, _+ℤ_, _-ℤ_}
+use lib.IntN.{ℤ, negℤ, _-ℤ_}
 use lib.ListN.{length}
 use lib.Signed.{_≤ℤ_}
 use Rattle.offsets.specs.declared.Tie.{Tie}
-use Rattle.offsets.specs.Linear.{of-le, to-le, of-add, of-sub, of-neg-up, of-neg-down}
-use Rattle.offsets.specs.Offsets.{In, Placing, Meets, Places, Joins, Joined, self, onward}
+use Rattle.offsets.specs.Linear.{of-le, to-le, of-sub, of-neg-up, of-neg-down}
+use Rattle.offsets.specs.Offsets.{In, Placing, Meets, Places, Joined, self, onward}
 use Rattle.offsets.specs.Arcs.{turn, turned}
 use Rattle.offsets.specs.Third.{Allowed, Ready}
 

@@ -2,7 +2,7 @@
 // in specs/PageCalls.antt. Both go line by line, by the same functions that lay a line: the printer into the lent space, the reader beside the lent pages.
 ghost use mathlib.Core.Path.{_≡_};
 ghost use mathlib.Core.Bool.{true};
-ghost use Prim.Native.Nat.{ℕ, _+_, _-_, _*_, _/_, _≤_, _<_, min};
+ghost use Prim.Native.Nat.{ℕ, _+_, _*_, _≤_, _<_, min};
 ghost use lib.ListN.{length, take, drop, getD};
 ghost use Rattle.k2.specs.Bits.{bitAt};
 ghost use Rattle.paths.specs.Expressions.{Expr};

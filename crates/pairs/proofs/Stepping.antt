@@ -1,21 +1,21 @@
 -- One number of the code, in plain variables: what letters, `^`, and an operator do to the operands that wait.
 -- Assumes nothing.
 use mathlib.Core.Path.{_≡_, refl, sym, ap, ap₂, _∙_, subst}
-use mathlib.Core.List.{List, [], _∷_, _++_, append-nil}
-use Prim.Native.Nat.{ℕ, suc, _+_, _-_, _*_, _<_, _≤_}
+use mathlib.Core.List.{List, _∷_, _++_, append-nil}
+use Prim.Native.Nat.{ℕ, _+_, _-_, _*_, _<_, _≤_}
 use native.Mathlib.Nat.{mul-le-mul-right}
 use native.Mathlib.Omega.{arith}
-use lib.ListN.{length, take, drop, getD, set, length-set, length-drop}
-use lib.Seq.{drop-at, drop-drop, length-take-le, drop-length, take-all, getD-set-same, getD-set-other}
+use lib.ListN.{length, take, drop, set, length-set, length-drop}
+use lib.Seq.{drop-at, drop-drop, length-take-le, drop-length, take-all, getD-set-same}
 use borrow.Rule.Slice.PartMut.{putMid, take-put, mid-len}
 use Rattle.book.specs.Book.{Book}
 use Rattle.k2.specs.Bits.{bitAt}
 use Rattle.k2.specs.BitLaws.{bit-lt}
-use Rattle.k2.specs.PairSets.{Cells, IsSet, union, transpose, diagonal}
+use Rattle.k2.specs.PairSets.{Cells, IsSet, union, diagonal}
 use Rattle.k2.specs.Trees.{treeUnit, treeWords}
 use Rattle.paths.specs.Expressions.{Expr}
 use Rattle.paths.specs.Chains.{Graph, asked}
-use Rattle.paths.specs.Relations.{crossedBy, zeroSteps, cells}
+use Rattle.paths.specs.Relations.{crossedBy, zeroSteps}
 use Rattle.rows.specs.Rows.{noPairs, crossedWords}
 use Rattle.rows.specs.RowLaws.{none-set, none-tree, union-none}
 use Rattle.packing.specs.declared.loading.Sense.the-variants.{Plain}
@@ -27,11 +27,11 @@ use Rattle.reader.specs.Running.{operands}
 use Rattle.tree.specs.declared.operations.Operation.{Operation}
 use Rattle.tree.specs.declared.operations.Operation.the-variants.{Union}
 use Rattle.tree.specs.declared.operations.Operand.{Operand}
-use Rattle.tree.specs.Inner.{nothing, treeAlone, flipped, valued, outcome, Roomy, Room as Spaces, Lent, termSet, TreeAt, Operated}
+use Rattle.tree.specs.Inner.{nothing, treeAlone, flipped, valued, outcome, Room as Spaces, Lent, termSet, TreeAt, Operated}
 use Rattle.tree.specs.InnerLaws.{valued-flipped, valued-alone, valued-nothing, term-set}
 use Rattle.pairs.specs.declared.Stack.{Stack}
 use Rattle.pairs.specs.declared.Taken.{Taken}
-use Rattle.pairs.specs.Evaluation.{relations, lettersOperand, operandAt, pushed, turned, onTop, belowTop, takenNone, takenOne, takenTwo, Standing, Ready, Waiting, Totals, Placed, Room}
+use Rattle.pairs.specs.Evaluation.{relations, lettersOperand, pushed, turned, onTop, belowTop, takenNone, takenOne, takenTwo, Standing, Ready, Waiting, Totals, Placed, Room}
 use Rattle.pairs.specs.EvaluationLaws.{Unary, Binary, unary-one, binary-two, does-letters, does-inverse, does-one, does-two, standing-top, standing-kept, standing-put, waits-next}
 use Rattle.pairs.specs.RoomLaws.{placed-put, room-operands, room-next, totals-below, totals-most}
 use Rattle.pairs.specs.LetterLaws.{links-below, letters-crossed, zero-used, used-below}

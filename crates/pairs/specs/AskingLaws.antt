@@ -1,5 +1,4 @@
 -- Laws of the pair question: what the book's answer is, by the verdict, the work and the list.
---   asks-refused    the verdict's number
 --   asks-short      12
 --   asks-paired     how many pairs there are, and the first of them
 --   asks-handed     the pairs handed over are that answer
@@ -11,7 +10,7 @@
 --   handed-some     it is no refusal
 -- Assumes nothing.
 use mathlib.Core.Path.{_≡_, refl, sym, ap, _∙_}
-use mathlib.Core.List.{List, _++_}
+use mathlib.Core.List.{List}
 use Prim.Native.Nat.{ℕ, _*_, _≤_, _<_}
 use native.Mathlib.Decide.{decLt}
 use native.Mathlib.Omega.{arith}
@@ -34,13 +33,6 @@ use Rattle.pairs.specs.declared.PairsAnswer.the-variants.{Refused}
 use Rattle.pairs.specs.Asking.{pairsLength, told-pairs, Handed, handed, BookPairs, rowWords, relationCauses, relationAnswer}
 
 module _ (b : Book) (work room : ℕ) where
-  pub asks-refused : (v : Verdict) (k : ℕ) → readAnswer v ≡ Faulty k → pairsAnswer b v work room ≡ refused k
-  unfolding pairsAnswer pairsCauses verdictCause firstNumber number readAnswer
-  asks-refused (accepted e) k q = absurd (let z : _≡_ {A = ℕ} 0 1 = cc in omega arith)
-  asks-refused long k q = let z : 10 ≡ k = cc in ap refused z
-  asks-refused outside k q = let z : 9 ≡ k = cc in ap refused z
-  asks-refused large k q = let z : 10 ≡ k = cc in ap refused z
-
   pub asks-short : (e : Expr) → work < 32 * treeUnit (b .n) → pairsAnswer b (accepted e) work room ≡ refused 12
   unfolding pairsAnswer pairsCauses verdictCause firstNumber number
   asks-short e h = rw (lt-ltb work (32 * treeUnit (b .n)) h)

@@ -7,7 +7,6 @@
 --   begins          with nothing waiting the whole code is left
 --   runs-rest, runs-height
 --                   what a code that runs asks of its next number
---   standing-count  the count of operands is the stack's height
 --   Top, standing-top
 --                   the operand on top: where its tree lies, and what stands below it
 --   standing-kept, standing-store
@@ -19,7 +18,7 @@ use mathlib.Core.List.{List, [], _∷_}
 use Prim.Native.Nat.{ℕ, zero, suc, _+_, _-_, _<_, _≤_}
 use native.Mathlib.Numerals.{add-one}
 use native.Mathlib.Omega.{arith}
-use lib.ListN.{length, take, drop, getD, set}
+use lib.ListN.{length, take, drop, set}
 use lib.Seq.{getD-set-same, getD-set-other, take-take}
 use Rattle.k2.specs.PairSets.{Cells, IsSet, union, transpose, product, closure, diagonal}
 use Rattle.k2.specs.Trees.{treeWords}
@@ -112,10 +111,6 @@ runs-height A (ended h) = h
 runs-height A (next b h r) = h
 
 -- ---- the operands
-pub standing-count : {n k at : ℕ} {ws work : List ℕ} {os : List Operand} {st : List Cells} → Standing n ws work os k at st → k ≡ length st
-standing-count none-waits = refl
-standing-count (one-waits a s p e l) = ap suc (standing-count s)
-
 -- the operand on top: its tree begins where those below it end
 pub record Top (n : ℕ) (ws work : List ℕ) (os : List Operand) (j at : ℕ) (st : List Cells) : Type 0 where
   pub a : Cells

@@ -1,7 +1,7 @@
 // Pair questions: an expression's code is run on a stack of operands, whose k2-trees lie one after another in the lent work. Its relation is to be had as
 // rows, or as a list of pairs.
 ghost use mathlib.Core.Path.{_≡_};
-ghost use mathlib.Core.List.{List, [], _∷_};
+ghost use mathlib.Core.List.{List};
 ghost use Prim.Native.Nat.{ℕ, _*_, _-_, _<_, _≤_};
 ghost use lib.ListN.{length, take};
 ghost use Rattle.book.specs.Basics.{bit};

@@ -10,11 +10,10 @@ use mathlib.Core.List.{List, [], _∷_, _++_, append-assoc, append-nil}
 use mathlib.Core.Bool.{Bool, true, false, not}
 use Prim.Native.Nat.{ℕ, _<_}
 use native.Mathlib.Omega.{arith}
-use Rattle.book.specs.Basics.{pick}
 use Rattle.book.specs.Book.{Link}
-use Rattle.paths.specs.Expressions.{Letter, Symbol, standsFor, Expr, symbol, group, inverse, star, plus, optional, alternative, sequence}
+use Rattle.paths.specs.Expressions.{Letter, Symbol, standsFor, Expr, symbol, star, optional}
 use Rattle.paths.specs.Words.{inverseLetter, backwards, Words, itself, inside, reversed, left, right, joined, once, again, star-none, star-some, optional-none, optional-once}
-use Rattle.paths.specs.Chains.{Graph, Step, crossing, Chain, stay, cross, spell, Answers, Has}
+use Rattle.paths.specs.Chains.{Graph, Step, crossing, Chain, stay, cross, spell, Has}
 use Rattle.paths.specs.Relations.{Rel, link, inside as inside′, swapped, left as left′, right as right′, joined as joined′, once as once′, again as again′, star-none as star-none′, star-some as star-some′, optional-none as optional-none′, optional-once as optional-once′}
 
 pub record Inside (g : Graph) : Type 0 where

@@ -6,11 +6,10 @@
 --                   of two steps that reach records below 1,024: the smaller label comes first, then forward before against, then the smaller record
 --   leads v w       the order as a test, with leads-yes and leads-no: of two lists, one is not after the other
 -- Assumes nothing.
-use mathlib.Core.Path.{_≡_, refl, sym, ap, ap₂, _∙_, subst}
-use mathlib.Core.Logic.{_⊎_, inl, inr, ⊎-elim}
+use mathlib.Core.Path.{_≡_, refl, sym, ap, _∙_, subst}
 use mathlib.Core.List.{List, [], _∷_}
 use mathlib.Core.Bool.{Bool, true, false, true≢false, false≢true}
-use Prim.Native.Nat.{ℕ, zero, suc, _+_, _*_, _≤_, _<_}
+use Prim.Native.Nat.{ℕ, _≤_, _<_}
 use native.Mathlib.Omega.{arith}
 use lib.ListN.{length}
 use lib.Dec.{ltb, eqb}
@@ -18,7 +17,7 @@ use borrow.Author.Tests.{ltb-true, ltb-false, eqb-true, eqb-false}
 use Rattle.book.specs.Basics.{pick}
 use Rattle.k2.specs.PairSetLaws.{bit-small}
 use Rattle.paths.specs.Expressions.{Expr}
-use Rattle.paths.specs.Chains.{Graph, Step, stepWord, stepWords, Answers, Before, same, smaller, alike, NotAfter, shorter, as-long, First}
+use Rattle.paths.specs.Chains.{Graph, Step, stepWord, stepWords, Before, same, smaller, alike, NotAfter, shorter, as-long, First}
 
 pub before-back : {v w : List ℕ} {a b : ℕ} → Before v w → (a < b → ⊥) → (l m : List ℕ) → v ≡ a ∷ l → w ≡ b ∷ m → (a ≡ b) × Before l m
 before-back same n l m p q = absurd (let z : _≡_ {A = ℕ} 0 1 = cc in omega arith)

@@ -6,23 +6,22 @@
 --   reply, reply-only
 --                   a chain question has an answer, and one only
 -- Assumes nothing.
-use mathlib.Core.Path.{_≡_, refl, sym, ap, ap₂, _∙_, subst}
-use mathlib.Core.Logic.{_⊎_, inl, inr, ⊎-elim}
+use mathlib.Core.Path.{_≡_, refl, sym, ap, _∙_, subst}
+use mathlib.Core.Logic.{⊎-elim}
 use mathlib.Core.List.{List, [], _∷_, _++_}
 use mathlib.Core.Bool.{Bool, true, false, _&&_}
-use Prim.Native.Nat.{ℕ, zero, suc, _+_, _*_, min, max, _≤_, _<_}
+use Prim.Native.Nat.{ℕ, zero, suc, min, _≤_, _<_}
 use native.Mathlib.Omega.{arith}
 use native.Mathlib.Decide.{decLt, decLe}
 use lib.ListN.{length}
-use lib.Dec.{ltb, eqb}
+use lib.Dec.{eqb}
 use borrow.Author.Tests.{eqb-true, eq-eqb}
 use Rattle.book.specs.Basics.{pick, bit, In, here, there}
-use Rattle.book.specs.Book.{Link}
 use Rattle.book.specs.SetLaws.{and-both}
 use Rattle.book.specs.ListLaws.{in-left, in-right, in-either, in-none, in-front}
 use Rattle.k2.specs.PairSetLaws.{bit-on, on-bit}
 use Rattle.paths.specs.Expressions.{Letter, Expr}
-use Rattle.paths.specs.Chains.{Graph, Step, crossing, stepWord, stepWords, spell, Chain, stay, cross, Answers, Has, NotAfter, shorter, as-long, First, Reply, none as no-reply, chain as chain-reply, ChainIs, no-chain, first-chain}
+use Rattle.paths.specs.Chains.{Graph, Step, crossing, stepWords, spell, Chain, stay, cross, Answers, Has, NotAfter, shorter, as-long, First, Reply, none as no-reply, chain as chain-reply, ChainIs, no-chain, first-chain}
 use Rattle.paths.specs.Relations.{cells}
 use Rattle.paths.specs.ChainLaws.{Inside, crossing-in, crossing-label}
 use Rattle.paths.specs.RelationLaws.{cells-has}

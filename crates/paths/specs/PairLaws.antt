@@ -23,8 +23,8 @@ use lib.Seq.{take-all}
 use lib.Dec.{ltb}
 use borrow.Author.Tests.{ltb-true, lt-ltb}
 use Rattle.book.specs.Basics.{In, here, there, Rises, rises}
-use Rattle.book.specs.Causes.{Cause, no-expression, too-many-bytes, too-large, short-work, short-list, number, Caused, firstNumber, questionOrder, InOrder, none-left, same-cause, passed-over}
-use Rattle.book.specs.Book.{Sheet, Book, isWithdrawn, Call, fresh, after}
+use Rattle.book.specs.Causes.{no-expression, too-many-bytes, too-large, short-work, short-list, number, Caused, firstNumber, questionOrder, InOrder, none-left, same-cause, passed-over}
+use Rattle.book.specs.Book.{Book, isWithdrawn, Call, fresh, after}
 use Rattle.book.specs.ListLaws.{in-none, rises-least, rises-same}
 use Rattle.book.specs.SetLaws.{and-both}
 use Rattle.book.specs.Sheets.{Fit}

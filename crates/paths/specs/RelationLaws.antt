@@ -6,18 +6,18 @@
 --                   a cell is 1 exactly if the pair is in the relation
 --   cells-is        a cell is 1 exactly if the pair has a chain; cells-has says "not 0" for 1
 -- Assumes nothing.
-use mathlib.Core.Path.{_≡_, refl, sym, ap, ap₂, _∙_, subst, fun-ext}
+use mathlib.Core.Path.{_≡_, refl, ap, ap₂, subst, fun-ext}
 use mathlib.Core.Logic.{_↔_, _⊎_, ⊎-elim}
 use mathlib.Core.Bool.{Bool, true, false}
-use Prim.Native.Nat.{ℕ, zero, suc, max, min, _≤_, _<_}
+use Prim.Native.Nat.{ℕ, zero, suc, max, _≤_, _<_}
 use native.Mathlib.Omega.{arith}
 use native.Mathlib.Decide.{decLt}
 use lib.Dec.{eqb}
 use borrow.Author.Tests.{eq-eqb, eqb-true}
 use Rattle.book.specs.Basics.{pick, bit}
 use Rattle.book.specs.Causes.{labels}
-use Rattle.k2.specs.PairSets.{Cells, IsSet, union, transpose, most, serves, product, OneOrMore, once as once-more, more, closure, diagonal}
-use Rattle.k2.specs.PairSetLaws.{one-of, bit-small, bit-on, on-bit, most-some, some-most, most-bit, most-none, union-set, product-set, transpose-set, closure-set, diagonal-set, product-middle, middle-product, closure-leads, leads-closure}
+use Rattle.k2.specs.PairSets.{Cells, IsSet, union, transpose, most, OneOrMore, once as once-more, more, closure, diagonal}
+use Rattle.k2.specs.PairSetLaws.{one-of, bit-small, bit-on, most-some, some-most, most-bit, union-set, product-set, transpose-set, closure-set, diagonal-set, product-middle, middle-product, closure-leads, leads-closure}
 use Rattle.paths.specs.Expressions.{Letter, standsFor, Expr, symbol, group, inverse, star, plus, optional, alternative, sequence}
 use Rattle.paths.specs.Chains.{Graph, crossing, Has}
 use Rattle.paths.specs.Relations.{Rel, link, inside, swapped, left, right, joined, once, again, star-none, star-some, optional-none, optional-once, joins, crossedBy, zeroSteps, cells}
@@ -34,11 +34,6 @@ joins-on false p h = absurd (omega arith)
 
 on-joins : (t p : Bool) → t ≡ true → p ≡ true → pick t (bit p) 0 ≡ 1
 on-joins t p e f = rw (e, f)
-
-joins-none : (t p : Bool) → (p ≡ true → ⊥) → pick t (bit p) 0 ≡ 0
-joins-none true true h = absurd (h refl)
-joins-none true false h = refl
-joins-none false p h = refl
 
 module _ (g : Graph) (f : Letter → Bool) where
   -- the pairs joined by a step over the label l, in either sense

@@ -14,7 +14,6 @@ use native.Mathlib.Nat.{zero-sub, suc-sub-suc, sub-zero}
 use lib.ListN.{length, drop, replicate, drop-of-length-le, length-replicate}
 use lib.Seq.{sets, sets-eq, drop-cons}
 use Rattle.book.specs.Causes.{firstNumber, number, maxBytes, maxLetters, maxDepth}
-use Rattle.paths.specs.Expressions.{letters, depth}
 use Rattle.paths.specs.Grammar.{Verdict, accepted, long, outside, large, verdictCause}
 use Rattle.paths.specs.Descent.{got, alternativesIn, readAlternatives}
 use Rattle.paths.specs.Verdicts.{verdict, verdict-more, verdict-letters, verdict-deep, verdict-accepted}

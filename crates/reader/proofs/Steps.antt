@@ -11,26 +11,21 @@
 --                            what the steps ask, and that it is met
 -- Assumes nothing.
 use mathlib.Core.Path.{_≡_, refl, sym, ap, ap₂, _∙_, subst}
-use mathlib.Core.Logic.{_⊎_, ⊎-elim}
 use mathlib.Core.List.{List, [], _∷_, _++_}
-use mathlib.Core.Bool.{Bool, true, false, _&&_}
-use Prim.Native.Nat.{ℕ, zero, suc, _+_, _-_, _*_, _%_, _^_, _≤_, _<_}
+use mathlib.Core.Bool.{Bool, true, false}
+use Prim.Native.Nat.{ℕ, zero, suc, _+_, _≤_, _<_}
 use native.Mathlib.Numerals.{add-one}
 use native.Mathlib.Omega.{arith}
-use native.Mathlib.Nat.{one-mul}
-use lib.Dec.{lit<, leb, ltb, eqb}
+use lib.Dec.{ltb, eqb}
 use lib.ListN.{length, drop, set, drop-of-length-le, length-append}
-use lib.Pow.{shl-exact}
 use lib.Seq.{sets}
-use borrow.Author.Tests.{eq-eqb, ne-eqb, le-leb, lt-leb, lt-ltb, le-ltb, ltb-true, ltb-false, eqb-true}
+use borrow.Author.Tests.{eq-eqb, ne-eqb, ltb-true, ltb-false, eqb-true}
 use Rattle.book.specs.Basics.{pick}
-use Rattle.book.specs.Causes.{labels}
-use Rattle.paths.specs.Expressions.{Symbol, letter, standsFor, Expr, symbol, group, inverse, star, plus, optional, alternative, sequence, letters, depth}
-use Rattle.paths.specs.Grammar.{hat, asterisk, plus-sign, question-mark, open-group, close-group, letter-a}
-use Rattle.paths.specs.Descent.{Parse, got, fault, firstByte, rest, isLetter, then, readMark, readClose, invertRead, readAlternatives, readPart, readAtom}
-use Rattle.paths.specs.DescentWhole.{if-true, if-false, atom-letter, atom-fault, atom-group, part-hat, part-plain, mark-star, mark-plus, mark-optional, mark-none}
+use Rattle.paths.specs.Expressions.{Symbol, Expr, symbol, group, inverse, star, plus, optional, alternative, sequence, letters, depth}
+use Rattle.paths.specs.Grammar.{hat, asterisk, plus-sign, question-mark, open-group, close-group}
+use Rattle.paths.specs.Descent.{Parse, got, fault, firstByte, rest, then, readMark, readClose, invertRead, readAlternatives, readPart, readAtom}
+use Rattle.paths.specs.DescentWhole.{if-true, if-false, atom-group, part-hat, part-plain, mark-star, mark-plus, mark-optional, mark-none}
 use Rattle.reader.specs.Code.{op-inverse, op-star, op-plus, op-optional, lettersNumber, code}
-use Rattle.reader.specs.LetterLaws.{letter-forward, letter-against}
 use Rattle.reader.specs.CodeLaws.{letters-code}
 use Rattle.reader.specs.declared.symbols.Letters.{Letters}
 use Rattle.reader.specs.declared.symbols.Symbol.{Symbol as Symbol-read}

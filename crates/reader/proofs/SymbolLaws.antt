@@ -34,10 +34,10 @@ use Rattle.paths.specs.DescentWhole.{if-true, if-false, atom-letter, atom-negat
 use Rattle.reader.specs.declared.symbols.Letters.{Letters}
 use Rattle.reader.specs.declared.symbols.Symbol.{Symbol as Symbol-read}
 use Rattle.reader.specs.declared.symbols.Symbol.the-variants.{Read, Missing}
-use Rattle.reader.specs.Letters.{labelSet, forwardOf, againstOf}
+use Rattle.reader.specs.Letters.{labelSet}
 use Rattle.reader.specs.LetterLaws.{label-set-tell, letter-forward, letter-against}
 use Rattle.reader.specs.Code.{label-sets}
-use Rattle.reader.specs.Progress.{StandsFor, Stands, missing, stands, labelAt, Marks, Marked, MemberIs, MemberAt, no-member, a-member, othersOf}
+use Rattle.reader.specs.Progress.{Stands, missing, stands, labelAt, Marks, Marked, MemberIs, MemberAt, no-member, a-member, othersOf}
 use Rattle.reader.proofs.Steps.{rest-drop, there}
 
 -- ---- the label of a byte as a set

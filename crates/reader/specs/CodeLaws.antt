@@ -3,21 +3,18 @@
 --   letters-number  and no number below the first symbol's is any
 --   run-code        run on a stack of any kind of value, it puts the expression's value on top
 --   runs-code       no number lacks an operand, and at most 2 × depth + 3 values are on the stack at once, besides those that were there
---   few-places      the same of the stack after i numbers: 2 × depth + 3 places are enough
---   enough-operands after i numbers the stack has the operands of the next
 --   letters-code, code-short
 --                   a code is as long as it has letters at least, and as the text at most
 -- Assumes nothing.
 use mathlib.Core.Path.{_≡_, refl, ap, ap₂, _∙_}
 use mathlib.Core.List.{List, [], _∷_, _++_}
 use mathlib.Core.Bool.{Bool, true, false}
-use Prim.Native.Nat.{ℕ, zero, suc, _+_, _-_, _*_, _/_, _%_, _^_, _<_, _≤_}
+use Prim.Native.Nat.{ℕ, _+_, _-_, _*_, _/_, _%_, _<_, _≤_}
 use native.Mathlib.Omega.{arith}
-use lib.ListN.{length, take, getD, length-append}
+use lib.ListN.{length, length-append}
 use lib.Dec.{eqb, ltb}
 use borrow.Author.Tests.{ne-eqb, le-ltb, ltb-false}
 use Rattle.book.specs.Basics.{pick}
-use Rattle.book.specs.Causes.{labels}
 use Rattle.paths.specs.Expressions.{Symbol, letter, noneOf, standsFor, Expr, symbol, group, inverse, star, plus, optional, alternative, sequence, letters, depth}
 use Rattle.paths.specs.Grammar.{Rule, alternatives, parts, part, marked, atom, Is, one-alternative, more-alternatives, one-part, more-parts, plain, inverted, bare, with-star, with-plus, with-optional, is-letter, is-negated, is-set, is-group, bar, slash, asterisk, plus-sign, question-mark, close-group}
 use Rattle.reader.specs.declared.items.Item.{Item}
@@ -173,26 +170,6 @@ module _ {D : Type 0} (A : Algebra D) where
   runs-code (is-negated {a = a} m) k st h = runs-symbol k st (noneOf (a ∷ [])) (omega arith)
   runs-code (is-set {w = w} m) k st h = runs-symbol k st (noneOf w) (omega arith)
   runs-code (is-group d) k st h = runs-code d k st (omega arith)
-
-  -- after i numbers
-  runs-few : {k : ℕ} {c : List ℕ} {st : List D} (i : ℕ) → Runs A k c st → length (run A (take i c) st) ≤ k
-  unfolding run
-  runs-few zero (ended h) = h
-  runs-few (suc i) (ended h) = h
-  runs-few zero (next b h r) = h
-  runs-few (suc i) (next b h r) = runs-few i r
-
-  runs-enough : {k : ℕ} {c : List ℕ} {st : List D} (i : ℕ) → i < length c → Runs A k c st → operands (itemOf (getD c i 0)) ≤ length (run A (take i c) st)
-  unfolding run
-  runs-enough i h (ended g) = absurd (omega arith)
-  runs-enough zero h (next b g r) = b
-  runs-enough (suc i) h (next b g r) = runs-enough i (omega arith) r
-
-  pub few-places : {s : List ℕ} {e : Expr} → Is alternatives s e → (i : ℕ) → length (run A (take i (code e)) []) ≤ 2 * depth e + 3
-  few-places {e = e} d i = runs-few i (runs-code d (2 * depth e + 3) [] (omega arith))
-
-  pub enough-operands : {s : List ℕ} {e : Expr} → Is alternatives s e → (i : ℕ) → i < length (code e) → operands (itemOf (getD (code e) i 0)) ≤ length (run A (take i (code e)) [])
-  enough-operands {e = e} d i h = runs-enough i h (runs-code d (2 * depth e + 3) [] (omega arith))
 
 pub letters-code : (e : Expr) → letters e ≤ length (code e)
 unfolding letters code

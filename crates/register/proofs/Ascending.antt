@@ -20,13 +20,6 @@ unfoldable pub below : ℕ → List ℕ → ℕ
 below x [] = 0
 below x (y ∷ ys) = pick (ltb y x) (suc (below x ys)) 0
 
-pub below-le : (x : ℕ) (l : List ℕ) → below x l ≤ length l
-unfolding below
-below-le x [] = omega arith
-below-le x (y ∷ ys) =
-    elim (ltb y x) as (λ (t : Bool). pick t (suc (below x ys)) 0 ≤ suc (length ys))
-    [ true ↦ omega (arith, below-le x ys) | false ↦ omega arith ]
-
 rises-at : {m : ℕ} {l : List ℕ} → Rises m l → (i : ℕ) → i < length l → m ≤ getD l i 0
 rises-at ended i p = absurd (omega arith)
 rises-at (rises h r) zero p = h

@@ -1,7 +1,7 @@
 -- Laws of what the questions are given: the part of an ascending list between two numbers, the next place whose word passes a test, and whether a link
 -- touches a record. Assumes nothing.
 use mathlib.Core.Path.{_≡_, refl, ap, sym, subst, _∙_}
-use mathlib.Core.Logic.{_⊎_, inl, inr, ⊎-elim}
+use mathlib.Core.Logic.{inl, inr, ⊎-elim}
 use mathlib.Core.List.{List, [], _∷_, map}
 use mathlib.Core.Bool.{Bool, true, false, true≢false}
 use Prim.Native.Nat.{ℕ, zero, suc, _+_, _*_, _-_, _/_, _%_, _≤_, _<_, min}
@@ -19,9 +19,8 @@ use Rattle.book.specs.ListLaws.{in-front, in-none, in-at, at-in, map-in, in-map
 use Rattle.book.specs.Sheets.{Fit}
 use Rattle.book.specs.BookLaws.{touched-end, end-touched}
 use Rattle.register.specs.Links.{linkWord, linkOf, Linked}
-use Rattle.register.specs.LinkLaws.{word-link}
 use Rattle.register.specs.Inner.{Seam, hasAt}
-use Rattle.register.specs.Lookups.{pairOf, PairsOf, LabelPart, firstPlace, nextPlace, touches, NextLink}
+use Rattle.register.specs.Lookups.{pairOf, PairsOf, LabelPart, firstPlace, nextPlace}
 use Rattle.register.proofs.Ascending.{below, seam-list}
 
 -- ---- the part between two numbers
@@ -175,14 +174,6 @@ module _ (test : ℕ → Bool) (ws : List ℕ) where
 
   -- the place from at on
   module _ (at : ℕ) where
-    next-le : nextPlace test ws at ≤ length ws
-    unfolding nextPlace
-    next-le = omega arith
-
-    next-from : at ≤ length ws → at ≤ nextPlace test ws at
-    unfolding nextPlace
-    next-from h = omega arith
-
     next-is : nextPlace test ws at < length ws → (at ≤ nextPlace test ws at) × (test (getD ws (nextPlace test ws at) 0) ≡ true)
     unfolding nextPlace
     next-is h =
@@ -196,28 +187,6 @@ module _ (test : ℕ → Bool) (ws : List ℕ) where
     next-passed j p q =
         let e : at + (j - at) ≡ j = omega arith in
         rw (← e, ← getD-drop at ws (j - at) 0) (first-passed test (drop at ws) (j - at) (omega arith))
-
--- by the links of the words
-pub next-link : (side : Link → ℕ) (ws : List ℕ) (r at i : ℕ) → i ≡ nextPlace (touches side r) ws at → NextLink side ws r at i
-unfolding touches
-next-link side ws r at i e = record {
-  place = e;
-  within = rw e (next-le (touches side r) ws at);
-  onward = λ h. rw e (next-from (touches side r) ws at h);
-  sound = λ n s small fit l h.
-      let o = l .sound (getD ws i 0) (at-in ws i 0 h) in
-      let t : touches side r (getD ws i 0) ≡ true = rw e (next-is (touches side r) ws at (rw e at h) .1) in
-      (o .0, o .1, o .2, sym (ap side (ap linkOf (o .1) ∙ word-link small (fit .links (o .0) (o .2)))) ∙ eqb-true _ r t);
-  whole = λ n s small fit l k p q.
-      let o = in-at 0 (l .whole k p) in
-      let t : touches side r (getD ws (o .0) 0) ≡ true = eq-eqb _ r (ap side (ap linkOf (o .2) ∙ word-link small (fit .links k p)) ∙ q) in
-      (o .0, o .1, o .2, go (o .0) t (decLt (o .0) at) (decLt (o .0) i));
-}
-  where
-    go : (j : ℕ) → touches side r (getD ws j 0) ≡ true → Dec (j < at) → Dec (j < i) → (j < at) ⊎ (i ≤ j)
-    go j t (yes a) d = inl a
-    go j t (no a) (yes b) = absurd (true≢false (sym t ∙ next-passed (touches side r) ws at j (omega arith) (rw e at b)))
-    go j t (no a) (no b) = inr (omega arith)
 
 -- ---- whether a link touches a record
 module _ (ws : List ℕ) (r : ℕ) where

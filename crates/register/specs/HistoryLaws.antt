@@ -5,29 +5,27 @@
 --   Members e b     what the register e and the book b have in common, as sets: the links, each once, the totals, and the locks
 use mathlib.Core.Path.{_≡_, refl, ap, ap₂, sym, _∙_}
 use mathlib.Core.List.{List, [], _∷_, _++_, append-assoc}
-use Prim.Native.Nat.{ℕ, zero, suc, _+_, _*_, _/_, _%_, _≤_, _<_}
+use Prim.Native.Nat.{ℕ, zero, suc, _+_, _*_, _/_, _%_, _<_}
 use native.Mathlib.Omega.{arith}
 use lib.Dec.{eqb}
 use lib.ListN.{length, take, getD}
 use Rattle.book.specs.Basics.{pick, All, all-none, all-more}
 use Rattle.book.specs.Causes.{labels}
 use Rattle.book.specs.Book.{sameLink, Sheet, Book, add, remove, lock, unlock, withdraw, reinstate, Call, edit, undo, close, isLocked, isWithdrawn, total, answer, next, fresh, answers, after, givens}
-use Rattle.book.specs.BookLaws.{caused-positive}
 use Rattle.book.specs.Sheets.{Distinct, Fit, Sound}
 use Rattle.register.specs.Links.{Linked}
 use Rattle.register.specs.Marks.{lockMark, withdrawnMark, hasMark}
 use Rattle.register.specs.Packed.{Packed, takeBack, Piled}
 use Rattle.register.specs.Representation.{heldWords, packedOf, Represents}
 use Rattle.register.specs.MarkLaws.{shows-locked, shows-withdrawn}
-use Rattle.register.specs.Calls.{answerOf, answerNumber, Steps}
+use Rattle.register.specs.Calls.{answerOf, answerNumber}
 use Rattle.register.specs.History.{Lent, CallsMade, done, more-edit, more-undo, more-close, Gives, none-given, more-given}
 use Rattle.register.specs.History.{addKind, removeKind, lockKind, unlockKind, undoKind, withdrawKind, reinstateKind, closeKind, kindCall, wordCall}
 use Rattle.register.specs.History.{Entry, is-call, no-call, entryNumber, entryNext, entryCalls, isCall}
-use Rattle.register.specs.History.{wordAnswers, callsOf, toldCalls, replayNumber, Replays}
+use Rattle.register.specs.History.{wordAnswers, callsOf, toldCalls}
 use Rattle.register.specs.declared.Register.{Register}
 use Rattle.register.specs.declared.Answer.{Answer}
-use Rattle.register.specs.declared.Answer.the-variants.{Done, Refused}
-use Rattle.register.specs.declared.Outcome.{Outcome}
+use Rattle.register.specs.declared.Answer.the-variants.{Done}
 
 pub number-answer : (k : ℕ) → answerNumber (answerOf k) ≡ k
 number-answer zero = refl
@@ -36,10 +34,6 @@ number-answer (suc k) = refl
 pub answer-done : (a : Answer) (k : ℕ) → a ≡ answerOf k → answerNumber a ≡ 0 → a ≡ Done
 answer-done a zero e z = e
 answer-done a (suc k) e z = absurd (omega (arith, ap answerNumber e, z))
-
--- no call refuses with the number 0, whatever the register contains
-pub not-zero : (self r : Register) (c : Call) → Steps self c (record { register = r; answer = Refused 0 }) → ⊥
-not-zero self r c s = let z : 1 ≤ 0 = caused-positive (s .caused 0 refl) in omega arith
 
 told-more : (a : Answer) (k : ℕ) {told rest : List ℕ} → a ≡ answerOf k → told ≡ rest → answerNumber a ∷ told ≡ k ∷ rest
 told-more a k e t = ap₂ (λ (x : ℕ) (l : List ℕ). x ∷ l) (ap answerNumber e ∙ number-answer k) t
@@ -104,11 +98,6 @@ members h =
 pub history-members : (n : ℕ) {r e : Register} {cs : List Call} {told : List ℕ} {ls : List Lent} → Represents r (fresh n) → CallsMade r cs told ls e
     → (told ≡ answers (fresh n) cs) × Gives (givens (fresh n) cs) ls × Members e (after (fresh n) cs)
 history-members n h run = let o = history n h run in (o .0, o .1, members (o .2))
-
--- the same of the code itself
-pub replay-members : {n : ℕ} {ws : List ℕ} {list numbers : Lent} {out : Outcome} → Replays n ws list numbers out → replayNumber n ws (list .before) (numbers .before) ≡ 0
-    → Members (out .register) (after (fresh n) (callsOf ws))
-replay-members r z = members (r .book z)
 
 -- every sheet of a book that a register represents fits
 piled-fit : (n : ℕ) (p : Packed) (ws : List ℕ) (ss : List Sheet) → Piled n p ws ss → All (Fit n) ss

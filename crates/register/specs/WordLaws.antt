@@ -7,11 +7,10 @@ use native.Mathlib.Omega.{arith}
 use lib.ListN.{length, take, drop, getD, length-append, length-take, length-drop}
 use lib.Seq.{take-at, drop-at, getD-take, take-add, length-take-le}
 use Rattle.book.specs.Causes.{not-open, number, labels, maxLinks, maxHeld, maxRecords}
-use Rattle.register.specs.Counters.{Ranged}
 use Rattle.register.specs.Calls.{answerNumber}
 use Rattle.register.specs.HistoryLaws.{answer-done}
 use Rattle.register.specs.Inner.{Formed}
-use Rattle.register.specs.Words.{stateWords, linksAt, ringAt, marksAt, totalsAt, numbersOf, stateOf, Keeps, Foreign, Loads}
+use Rattle.register.specs.Words.{stateWords, linksAt, ringAt, marksAt, totalsAt, numbersOf, stateOf, Keeps, Loads}
 use Rattle.register.specs.declared.Register.{Register}
 use Rattle.register.specs.declared.Answer.{Answer}
 use Rattle.register.specs.declared.Answer.the-variants.{Done, Refused}
@@ -117,15 +116,6 @@ keeps-formed ws r k = record {
         sym (drop-at (take marksAt ws) (take maxRecords (drop marksAt ws)) marksAt (length-take-le marksAt ws (omega (arith, keeps-long k))))
         ∙ ap (drop marksAt) (sym (take-add marksAt maxRecords ws) ∙ whole)
         ∙ drop-at (numbersOf r ++ r .links ++ r .ring) (r .marks) marksAt (omega (arith, marks-front r, k .links, k .ring))
-
-pub formed-keeps : (ws : List ℕ) → Formed ws → (r : Register) × Keeps ws r
-formed-keeps ws f = (_, loaded ws _ _ _ _ f refl refl refl refl)
-
-pub foreign-form : {ws : List ℕ} → Foreign ws → Formed ws → ⊥
-foreign-form {ws} g f = let k = formed-keeps ws f in g (k .0) (k .1)
-
-pub form-foreign : {ws : List ℕ} → (Formed ws → ⊥) → Foreign ws
-form-foreign {ws} g r k = g (keeps-formed ws r k)
 
 -- the number 0 says that they were loaded
 pub load-done : {ws : List ℕ} {o : Outcome} → Loads ws o → answerNumber (o .answer) ≡ 0 → o .answer ≡ Done

@@ -6,9 +6,9 @@ use mathlib.Core.List.{List, [], _∷_, map}
 use mathlib.Core.Bool.{Bool, true, false}
 use Prim.Native.Nat.{ℕ}
 use Prim.Native.String.{String}
-use Rattle.book.specs.Causes.{Cause, bad-label, locked-end, not-open, number}
+use Rattle.book.specs.Causes.{bad-label, locked-end, not-open, number}
 use Rattle.k2.specs.PairSets.{pairWord}
-use Rattle.paths.specs.Chains.{Step, stepWord, none, chain}
+use Rattle.paths.specs.Chains.{stepWord, none, chain}
 use Rattle.paths.specs.Questions.{refused, paired, replied}
 use Rattle.report.specs.Report.{bytes, figures, decimal, labelLetter, senseSign, pairLine, stepLine, lines, counted, okText, noneText, refusedText, pairsText, chainText, answerText, totalText, outcomeText}
 

@@ -69,13 +69,6 @@ length-pair-line w h =
     let b = length-decimal 3 (w % 1024) (omega arith) in
     simp length-append (omega arith)
 
-pub length-pair-line-small : (w : ℕ) → w < 1024 * 1024 → length (pairLine w) ≤ 10
-unfolding pairLine
-length-pair-line-small w h =
-    let a = length-decimal 3 (w / 1024) (omega arith) in
-    let b = length-decimal 3 (w % 1024) (omega arith) in
-    simp length-append (omega arith)
-
 pub length-step-line : (w : ℕ) → length (stepLine w) ≤ 9
 unfolding stepLine
 length-step-line w =

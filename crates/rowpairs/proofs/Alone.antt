@@ -4,13 +4,13 @@ use mathlib.Core.Logic.{_⊎_, ⊎-elim}
 use mathlib.Core.Bool.{Bool, true, false}
 use mathlib.Core.List.{List, [], _∷_, _++_, map}
 use Prim.Native.Nat.{ℕ, zero, suc, _+_, _*_, _/_, _%_, _^_, _<_, _≤_}
-use native.Mathlib.Decide.{decLt, ℕ-discrete}
+use native.Mathlib.Decide.{decLt}
 use native.Mathlib.Nat.{mod-eq-of-lt}
 use native.Mathlib.Omega.{arith}
 use lib.Pow.{pow-lt}
 use lib.Dec.{eqb}
 use lib.ListN.{length, take, drop, getD, set, drop-of-length-le}
-use lib.Seq.{take-all, drop-length, drop-cons}
+use lib.Seq.{take-all, drop-cons}
 use borrow.Author.Tests.{eqb-true, eq-eqb, le-ltb}
 use Rattle.book.specs.Basics.{pick, bit, In}
 use Rattle.book.specs.ListLaws.{rises-same}
@@ -27,9 +27,8 @@ use Rattle.paths.specs.Relations.{crossedBy, cells, pairs}
 use Rattle.paths.specs.RelationLaws.{crossed-is, is-crossed}
 use Rattle.paths.specs.PairLaws.{fit-inside}
 use Rattle.reader.specs.declared.items.Item.{Item}
-use Rattle.reader.specs.declared.items.Item.the-variants.{Letters}
 use Rattle.reader.specs.Letters.{lettersIn}
-use Rattle.reader.specs.Code.{itemOf, does, run}
+use Rattle.reader.specs.Code.{does, run}
 use Rattle.reader.specs.CodeLaws.{run-code}
 use Rattle.rows.specs.Rows.{linkPair}
 use Rattle.register.specs.Lookups.{LabelPart}

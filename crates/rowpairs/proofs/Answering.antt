@@ -2,7 +2,6 @@
 use mathlib.Core.Path.{_≡_, refl, sym, ap, ap₂, _∙_, subst}
 use mathlib.Core.List.{List, _++_, map}
 use Prim.Native.Nat.{ℕ, _*_, _≤_, _<_}
-use native.Mathlib.Omega.{arith}
 use lib.ListN.{length, take, drop}
 use Rattle.book.specs.Basics.{bit}
 use Rattle.book.specs.Causes.{short-work, number, Caused, maxRecords}
@@ -12,7 +11,7 @@ use Rattle.k2.specs.PairSets.{listed}
 use Rattle.paths.specs.Expressions.{Expr}
 use Rattle.paths.specs.Grammar.{Verdict, accepted}
 use Rattle.paths.specs.Chains.{asked}
-use Rattle.paths.specs.Relations.{cells, pairs}
+use Rattle.paths.specs.Relations.{pairs}
 use Rattle.paths.specs.Questions.{refused, listAfter}
 use Rattle.reader.specs.Reads.{readAnswer}
 use Rattle.reader.specs.declared.Answer.the-variants.{Refused as Faulty}
@@ -26,7 +25,7 @@ use Rattle.pairs.specs.declared.PairsAnswer.the-variants.{Pairs, Refused}
 use Rattle.pairs.specs.Asking.{pairsLength, told-number, Handed, handed}
 use Rattle.pairs.specs.AskingLaws.{faulty-caused, handed-past, handed-some}
 use Rattle.pairs.specs.Steps.{Lettered, Coded}
-use Rattle.rowpairs.specs.Asking.{rowWidth, rowsWork, rowsAnswer, BookRows, AsksRowsFor}
+use Rattle.rowpairs.specs.Asking.{rowWidth, rowsWork, rowsAnswer, AsksRowsFor}
 use Rattle.rowpairs.specs.AskingLaws.{rows-refused, rows-short, rows-handed}
 use Rattle.rows.specs.Rows.{linkPair}
 use Rattle.rowpairs.specs.Labels.{Alone, LetterListed}

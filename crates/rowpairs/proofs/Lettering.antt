@@ -3,7 +3,7 @@
 use mathlib.Core.Path.{_≡_, refl, sym, ap, ap₂, _∙_, subst, fun-ext}
 use mathlib.Core.Bool.{Bool, true, false}
 use mathlib.Core.List.{List, [], _∷_, map}
-use Prim.Native.Nat.{ℕ, zero, suc, _+_, _*_, _/_, _%_, _^_, _<_, _≤_, max}
+use Prim.Native.Nat.{ℕ, zero, suc, _+_, _/_, _%_, _^_, _<_, _≤_, max}
 use native.Mathlib.Decide.{decLt}
 use native.Mathlib.Omega.{arith}
 use lib.Dec.{eqb}
@@ -14,15 +14,15 @@ use Rattle.book.specs.ListLaws.{in-none, in-map, map-in}
 use Rattle.book.specs.Book.{Book, present}
 use Rattle.k2.specs.Bits.{digit, value}
 use Rattle.k2.specs.BitLaws.{value-digit}
-use Rattle.k2.specs.PairSets.{Cells, IsSet, pairWord, setOf, PairsBelow, union, transpose, most}
+use Rattle.k2.specs.PairSets.{Cells, pairWord, setOf, PairsBelow, union, transpose, most}
 use Rattle.k2.specs.PairSetLaws.{set-in, in-set, set-past}
 use Rattle.paths.specs.Expressions.{Letter}
 use Rattle.paths.specs.Chains.{Graph, asked}
-use Rattle.paths.specs.Relations.{joins, crossedBy}
+use Rattle.paths.specs.Relations.{crossedBy}
 use Rattle.rows.specs.Rows.{noPairs, linkPair, labelled, crossedWords}
 use Rattle.rows.specs.RowLaws.{crossed-set, labelled-none, set-none, union-right, union-join}
 use Rattle.reader.specs.Letters.{lettersIn}
-use Rattle.register.specs.Lookups.{pairOf, PairsOf, LabelPart}
+use Rattle.register.specs.Lookups.{PairsOf, LabelPart}
 use Rattle.grid.specs.Grid.{within, first}
 use Rattle.grid.specs.GridLaws.{within-set}
 use Rattle.pairs.specs.Steps.{Lettered}

@@ -6,12 +6,11 @@ use native.Mathlib.Numerals.{add-one}
 use native.Mathlib.Omega.{arith}
 use lib.ListN.{length, drop, getD, drop-of-length-le}
 use lib.Seq.{drop-cons}
-use Rattle.book.specs.Book.{Book}
 use Rattle.book.specs.Causes.{labels}
 use Rattle.k2.specs.PairSets.{Cells, transpose, most}
 use Rattle.paths.specs.Expressions.{Expr}
 use Rattle.paths.specs.Chains.{Graph, asked}
-use Rattle.paths.specs.Relations.{crossedBy, cells}
+use Rattle.paths.specs.Relations.{crossedBy}
 use Rattle.reader.specs.declared.items.Item.{Item}
 use Rattle.reader.specs.declared.items.Item.the-variants.{Letters, Inverse}
 use Rattle.reader.specs.Letters.{lettersIn}
@@ -22,7 +21,7 @@ use Rattle.grid.specs.Grid.{first}
 use Rattle.pairs.specs.Evaluation.{relations, heights, most-waiting, Ready}
 use Rattle.pairs.specs.EvaluationLaws.{value-cells, runs-height}
 use Rattle.pairs.specs.RoomLaws.{height-after}
-use Rattle.pairs.specs.Steps.{Lettered, Coded}
+use Rattle.pairs.specs.Steps.{Coded}
 use Rattle.rowpairs.specs.Asking.{rowWidth}
 use Rattle.rowpairs.specs.Evaluation.{relationAt, lying, Goes, Reading, one-number, turned-letters, Height, Going, ValueFirst}
 use Rattle.rowpairs.specs.declared.Next.{Next}

@@ -1,7 +1,7 @@
 -- One number of the code, in plain variables: where relations lie in the work, what an item does to those that wait, and that the ones below its operands stay as
 -- they were. Assumes nothing.
 use mathlib.Core.Path.{_≡_, refl, sym, ap, ap₂, _∙_, subst}
-use mathlib.Core.List.{List, [], _∷_, _++_, append-nil}
+use mathlib.Core.List.{List, _∷_, _++_, append-nil}
 use Prim.Native.Nat.{ℕ, zero, suc, _+_, _-_, _*_, _/_, _%_, _<_, _≤_, min}
 use native.Mathlib.Nat.{mul-le-mul, mul-le-mul-right, suc-mul}
 use native.Mathlib.Omega.{arith}
@@ -19,7 +19,7 @@ use Rattle.reader.specs.Code.{does}
 use Rattle.reader.specs.Running.{operands}
 use Rattle.grid.specs.Grid.{rowOf, firstRows, first, second}
 use Rattle.grid.specs.GridLaws.{within-same, second-part}
-use Rattle.pairs.specs.Evaluation.{relations, Ready}
+use Rattle.pairs.specs.Evaluation.{relations}
 use Rattle.pairs.specs.Steps.{Lettered}
 use Rattle.rowpairs.specs.Asking.{rowWidth}
 use Rattle.rowpairs.specs.Evaluation.{Space, Lent, outcomeOf, Operates, relationAt, lying, Goes}

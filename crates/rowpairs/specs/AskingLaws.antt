@@ -8,7 +8,7 @@
 -- Assumes nothing.
 use mathlib.Core.Path.{_≡_, refl, sym, ap, _∙_, subst}
 use mathlib.Core.List.{List}
-use Prim.Native.Nat.{ℕ, _*_, _≤_, _<_}
+use Prim.Native.Nat.{ℕ, _≤_, _<_}
 use native.Mathlib.Omega.{arith}
 use lib.ListN.{length, take}
 use borrow.Author.Tests.{lt-ltb, le-ltb}
@@ -25,7 +25,7 @@ use Rattle.register.specs.Representation.{Represents}
 use Rattle.register.specs.declared.Register.{Register}
 use Rattle.pairs.specs.declared.PairsAnswer.{PairsAnswer}
 use Rattle.pairs.specs.Asking.{Tells, told-number, told-pairs, Handed, handed, AsksPairs}
-use Rattle.rowpairs.specs.Asking.{rowWidth, rowsWork, rowsCauses, rowsAnswer, BookRows, AsksRows}
+use Rattle.rowpairs.specs.Asking.{rowsWork, rowsCauses, rowsAnswer, BookRows, AsksRows}
 
 module _ (b : Book) (work room : ℕ) where
   pub rows-refused : (v : Verdict) (k : ℕ) → readAnswer v ≡ Faulty k → rowsAnswer b v work room ≡ refused k

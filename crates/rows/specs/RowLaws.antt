@@ -7,18 +7,17 @@ use mathlib.Core.List.{List, [], _∷_, _++_, map, append-nil, append-assoc}
 use Prim.Native.Nat.{ℕ, zero, suc, _+_, _-_, _*_, _/_, _%_, _≤_, _<_}
 use native.Mathlib.Nat.{add-zero, add-suc, mod-eq-of-lt}
 use native.Mathlib.Omega.{arith}
-use lib.Dec.{ltb, eqb}
-use borrow.Author.Tests.{le-ltb}
+use lib.Dec.{eqb}
 use Rattle.book.specs.Basics.{pick, bit, has, In, here, there}
 use Rattle.k2.specs.Bits.{digit, bitAt}
 use Rattle.k2.specs.DigitLaws.{digit-none}
 use Rattle.k2.specs.BitLaws.{bit-lt}
 use Rattle.k2.specs.PairSets.{Cells, IsSet, ifSet, rowPairs, rowsPairs, listed, setOf, union, intersection, difference, transpose, diagonal, PairsBelow}
-use Rattle.k2.specs.PairSetLaws.{bit-small, union-set, transpose-set, setOf-set, diagonal-set}
+use Rattle.k2.specs.PairSetLaws.{union-set, transpose-set, setOf-set, diagonal-set}
 use Rattle.k2.specs.Trees.{treeWords}
 use Rattle.k2.specs.TreeLaws.{treeWords-none}
 use Rattle.bits.specs.BitSets.{none, both, minus, Gap}
-use Rattle.rows.specs.Rows.{flat, noPairs, identity, linkPair, labelled, crossedWords, places, pairsIn}
+use Rattle.rows.specs.Rows.{flat, noPairs, linkPair, labelled, crossedWords, places, pairsIn}
 
 pub flat-at : (a : Cells) (x y : ℕ) → y < 1024 → flat a (x * 1024 + y) ≡ a x y
 unfolding flat
@@ -51,9 +50,6 @@ transpose-none = refl
 -- its tree has no words
 pub none-tree : (n : ℕ) → [] ≡ treeWords n noPairs
 none-tree n = sym (treeWords-none n) ∙ ap (treeWords n) (unfold noPairs in refl)
-
-pub identity-set : (n : ℕ) → IsSet n (identity n)
-identity-set n = diagonal-set n (λ x. bit (ltb x n)) (λ x. bit-small (ltb x n)) (λ x l. rw (le-ltb x n l))
 
 -- ---- the operations, cell by cell
 pub union-join : (x a b : Cells) → union (union x a) b ≡ union x (union a b)

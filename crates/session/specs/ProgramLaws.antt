@@ -9,7 +9,7 @@
 use mathlib.Core.Path.{_≡_, refl, ap, subst, _∙_}
 use mathlib.Core.List.{List, [], _∷_, _++_}
 use mathlib.Core.Bool.{Bool, true, false, _||_}
-use Prim.Native.Nat.{ℕ, zero, suc, _+_, _-_, _*_, _/_, _^_, _≤_, _<_}
+use Prim.Native.Nat.{ℕ, zero, suc, _+_, _*_, _/_, _^_, _≤_, _<_}
 use native.Mathlib.Nat.{suc-mul, mul-le-mul}
 use native.Mathlib.Decide.{decLt}
 use native.Mathlib.Omega.{arith}
@@ -28,13 +28,13 @@ use Rattle.k2.specs.Trees.{height, treeUnit}
 use Rattle.k2.specs.HeightLaws.{height-is}
 use Rattle.paths.specs.Expressions.{Expr, letters}
 use Rattle.paths.specs.Grammar.{Verdict, accepted, long, outside, large, verdictCause}
-use Rattle.paths.specs.Chains.{asked, Reply, none, chain, ChainIs, first-chain, stepWords}
+use Rattle.paths.specs.Chains.{asked, Reply, none, chain, ChainIs, first-chain}
 use Rattle.paths.specs.Relations.{pairs, cells}
 use Rattle.paths.specs.Questions.{Outcome, paired, replied, unless, chainWork, pairsOf, pairsCauses, pairsAnswer, steps, ReplyTo, chainCauses, chainAnswer, over, listAfter}
 use Rattle.paths.specs.Verdicts.{verdict, verdict-right}
 use Rattle.paths.specs.PairLaws.{fit-inside, long-enough}
 use Rattle.paths.specs.FirstChain.{reply}
-use Rattle.rowpairs.specs.Asking.{rowsWork, rowsCauses, rowsAnswer}
+use Rattle.rowpairs.specs.Asking.{rowsCauses, rowsAnswer}
 use Rattle.rowpairs.specs.AskingLaws.{rows-paired}
 use Rattle.automaton.specs.WalkLaws.{length-stepWords}
 use Rattle.automaton.specs.ShortChains.{chains-63}

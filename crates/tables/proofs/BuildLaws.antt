@@ -2,7 +2,7 @@
 use mathlib.Core.Path.{_≡_, refl, sym, ap, ap₂, _∙_, subst}
 use mathlib.Core.Logic.{_⊎_, inl, inr}
 use mathlib.Core.List.{List, _∷_}
-use mathlib.Core.Bool.{Bool, true, false, not, _&&_}
+use mathlib.Core.Bool.{Bool, true, false}
 use Prim.Native.Nat.{ℕ, zero, suc, _+_, _-_, _*_, _/_, _%_, _^_, _≤_, _<_, min, max}
 use native.Mathlib.Omega.{arith}
 use native.Mathlib.Decide.{decLt}
@@ -23,7 +23,6 @@ use Rattle.automaton.specs.SetLaws.{on-is, on-max}
 use Rattle.automaton.specs.Traces.{Between, Within}
 use Rattle.automaton.specs.TraceLaws.{within-single, within-repeated, within-optional, within-reversed, within-either, within-followed}
 use Rattle.automaton.specs.Masks.{letterNumber}
-use Rattle.automaton.specs.LevelLaws.{Which, less, same, more, which}
 use Rattle.tables.specs.declared.Build.{Build}
 use Rattle.tables.specs.Rows.{Joined, sideOf, letterDigit, Mixed, inverseNumber, Turned}
 use Rattle.tables.specs.Builds.{Part, parts, Fit, Item, Items, none, item, Holds}

@@ -12,13 +12,13 @@ use Rattle.k2.specs.PairSets.{Cells, IsSet, union, diagonal}
 use Rattle.k2.specs.Trees.{treeWords}
 use Rattle.bits.specs.BitSets.{none, put}
 use Rattle.bits.specs.BitSetLaws.{put-at, put-off}
-use Rattle.rows.specs.Rows.{noPairs, identity}
+use Rattle.rows.specs.Rows.{noPairs}
 use Rattle.rows.specs.RowLaws.{none-set, none-tree, union-none}
 use Rattle.packing.specs.declared.loading.Sense.the-variants.{Plain}
 use Rattle.tree.specs.declared.operations.Operation.the-variants.{Optional}
 use Rattle.tree.specs.Inner.{Roomy, Lent, termSet, TreeAt, Operated}
 use Rattle.tree.specs.InnerLaws.{valued-alone, valued-nothing}
-use Rattle.test_trees.specs.Terms.{onOne, below}
+use Rattle.test_trees.specs.Terms.{onOne, below, identity}
 
 -- ---- the records below n
 below-in : (n x : ℕ) → x < n → below n x ≡ 1

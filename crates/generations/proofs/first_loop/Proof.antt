@@ -1,16 +1,12 @@
 -- `first_loop` asks the chain question on the text of the loops, whose first chain is the first loop (`looped`). Assumes nothing.
-use mathlib.Core.Path.{_≡_, refl, sym, ap, _∙_, subst}
-use Prim.Native.Nat.{ℕ, _-_, _≤_}
+use mathlib.Core.Path.{_≡_, ap, _∙_}
+use Prim.Native.Nat.{ℕ, _-_}
 use native.Mathlib.Omega.{arith}
 use borrow.Author.Needs.{needs}
 use lib.ListN.{length, take}
 use Rattle.generations.proofs.AnswerLaws.{looped}
 use Rattle.generations.proofs.first_loop.Statement.{statement}
 use Rattle.generations.proofs.first_loop.Tie as tie
-use Rattle.generations.proofs.first_loop.Reads as reads
-use Rattle.generations.proofs.first_loop.Lts as lts
-use Rattle.engine.proofs.chain.Reads as chain-reads
-use Rattle.generations.proofs.labels.put_text.Reads as put-text-reads
 
 slice-aggregate-put-text : tie.Need-slice-aggregate-put-text
 slice-aggregate-put-text c = search needs

@@ -1,10 +1,6 @@
 -- `first_returning` makes rows of the links, closes them, and looks for the smallest record on the diagonal (`smallest-closed`). Assumes nothing.
-use mathlib.Core.Path.{_≡_, refl, sym, ap, _∙_, subst}
-use mathlib.Core.List.{List}
-use Prim.Native.Nat.{ℕ}
-use native.Mathlib.Omega.{arith}
+use mathlib.Core.Path.{sym, ap, _∙_}
 use borrow.Author.Needs.{needs}
-use lib.ListN.{replicate}
 use Rattle.k2.specs.PairSets.{Cells}
 use Rattle.bits.specs.BitSetLaws.{bits-none}
 use Rattle.rows.specs.Rows.{flat, noPairs, crossedWords}
@@ -12,11 +8,6 @@ use Rattle.rows.specs.RowLaws.{flat-none, union-none}
 use Rattle.generations.proofs.NumberLaws.{smallest-closed}
 use Rattle.generations.proofs.first_returning.Statement.{statement}
 use Rattle.generations.proofs.first_returning.Tie as tie
-use Rattle.generations.proofs.first_returning.Reads as reads
-use Rattle.generations.proofs.first_returning.Lts as lts
-use Rattle.generations.proofs.first_joined.Reads as first-joined-reads
-use Rattle.rows.proofs.close.Reads as close-reads
-use Rattle.rows.proofs.put_letters.Reads as put-letters-reads
 
 slice-aggregate-put-letters : tie.Need-slice-aggregate-put-letters
 slice-aggregate-put-letters c = search needs

@@ -3,7 +3,7 @@
 use mathlib.Core.Path.{_≡_, refl, sym, ap, _∙_, subst}
 use mathlib.Core.List.{List}
 use mathlib.Core.Bool.{false}
-use Prim.Native.Nat.{ℕ, _-_, _<_, _≤_}
+use Prim.Native.Nat.{ℕ, _-_}
 use native.Mathlib.Omega.{arith}
 use borrow.Author.Needs.{needs}
 use lib.ListN.{length, take}
@@ -18,19 +18,6 @@ use Rattle.generations.specs.Inner.{Right, Leads, chosen}
 use Rattle.generations.proofs.AnswerLaws.{label-first, work-next, list-last, told, refuses, tells-numbers, tells-loop, book-numbers, book-loop}
 use Rattle.generations.proofs.generations.Statement.{statement}
 use Rattle.generations.proofs.generations.Tie as tie
-use Rattle.generations.proofs.generations.Reads as reads
-use Rattle.generations.proofs.generations.Lts as lts
-use Rattle.generations.proofs.count_in_use.Reads as count-in-use-reads
-use Rattle.generations.proofs.depths.visit_all.Reads as visit-all-reads
-use Rattle.generations.proofs.first_loop.Reads as first-loop-reads
-use Rattle.generations.proofs.first_returning.Reads as first-returning-reads
-use Rattle.generations.proofs.labels.any_above.Reads as any-above-reads
-use Rattle.generations.proofs.labels.keep.Reads as keep-reads
-use Rattle.generations.proofs.labels.set_of.Reads as set-of-reads
-use Rattle.generations.proofs.write_numbers.Reads as write-numbers-reads
-use Rattle.register.proofs.Register.links.Reads as links-reads
-use Rattle.register.proofs.Register.marks.Reads as marks-reads
-use Rattle.register.proofs.Register.size.Reads as size-reads
 
 -- no label is above 25
 low : (c : tie.Else1) → above (c .before .before .before .before .before .args .labels .now) ≡ false

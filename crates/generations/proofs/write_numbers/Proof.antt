@@ -1,11 +1,9 @@
 -- `write_numbers` looks at the records in turn. The loop's invariant: the numbers of those passed that are in use are written (`Wrote`). The measure is how many are
 -- left. It rests on `wrote-used` and `wrote-out`. Assumes nothing.
-use mathlib.Core.Path.{_≡_, refl, sym, ap, _∙_, subst}
+use mathlib.Core.Path.{_≡_, refl, subst}
 use mathlib.Core.Logic.{⊎-elim}
-use mathlib.Core.List.{List}
 use Prim.Native.Nat.{ℕ, _≤_, _-_}
 use native.Mathlib.Omega.{arith}
-use borrow.Author.Needs.{needs}
 use lib.ListN.{length, length-set}
 use Rattle.report.specs.Written.{Wrote}
 use Rattle.report.specs.WrittenLaws.{wrote-none}
@@ -13,8 +11,6 @@ use Rattle.generations.specs.Inner.{chosen}
 use Rattle.generations.proofs.NumberLaws.{wrote-room, wrote-used, wrote-out}
 use Rattle.generations.proofs.write_numbers.Statement.{statement}
 use Rattle.generations.proofs.write_numbers.Tie as tie
-use Rattle.generations.proofs.write_numbers.Reads as reads
-use Rattle.generations.proofs.write_numbers.Lts as lts
 
 abbrev Inv-loop : tie.InvT-loop
 Inv-loop marks depths n list₀ count₀ y₀ list count y = (y ≤ n) × (count ≤ y) × (length list ≡ length list₀) × Wrote 0 (chosen marks depths y) list₀ list count

@@ -4,9 +4,6 @@ use borrow.Author.Needs.{needs}
 use Rattle.offsets.proofs.Numbers.{base-record, base-withdrawn, base-many, base-none}
 use Rattle.offsets.proofs.base_number.Statement.{statement}
 use Rattle.offsets.proofs.base_number.Tie as tie
-use Rattle.offsets.proofs.base_number.Reads as reads
-use Rattle.offsets.proofs.base_number.Lts as lts
-use Rattle.offsets.proofs.is_withdrawn.Reads as is-withdrawn-reads
 
 returns : tie.Need-returns
 returns c = let a = c .before .before .args in base-record (a .n) (a .state .now) (a .base) (a .count) (c .if1 .taken)

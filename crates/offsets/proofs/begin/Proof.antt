@@ -9,12 +9,6 @@ use Rattle.offsets.specs.Inner.{sooner, baseNumber}
 use Rattle.offsets.proofs.Planning.{plan-refused, plan-judged, base-in, plan-short, plan-made}
 use Rattle.offsets.proofs.begin.Statement.{statement}
 use Rattle.offsets.proofs.begin.Tie as tie
-use Rattle.offsets.proofs.begin.Reads as reads
-use Rattle.offsets.proofs.begin.Lts as lts
-use Rattle.offsets.proofs.base_number.Reads as base-number-reads
-use Rattle.offsets.proofs.fill.Reads as fill-reads
-use Rattle.offsets.proofs.open_number.Reads as open-number-reads
-use Rattle.offsets.proofs.sooner.Reads as sooner-reads
 
 -- the number of the base and that of the ties, the sooner of the two
 first-is : (c : tie.After-sooner) → c .sooner .result ≡ sooner (baseNumber (c .before .before .before .before .args .n) (c .before .before .before .before .args .state .now)

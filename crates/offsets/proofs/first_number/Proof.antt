@@ -4,8 +4,6 @@ use borrow.Author.Needs.{needs}
 use Rattle.offsets.proofs.Begins.{at-zero, at-most, at-least, at-far}
 use Rattle.offsets.proofs.first_number.Statement.{statement}
 use Rattle.offsets.proofs.first_number.Tie as tie
-use Rattle.offsets.proofs.first_number.Reads as reads
-use Rattle.offsets.proofs.first_number.Lts as lts
 
 -- src/lib.rt:117:9
 returns : tie.Need-returns

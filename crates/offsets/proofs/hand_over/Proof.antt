@@ -1,7 +1,6 @@
 -- `hand_over` goes by the number, the flag and the lengths, and tells the words. Assumes nothing.
-use mathlib.Core.Path.{_≡_, refl}
+use mathlib.Core.Path.{refl}
 use Prim.Native.Nat.{_*_}
-use native.Mathlib.Omega.{arith}
 use borrow.Author.Needs.{needs}
 use Rattle.book.specs.Causes.{short-work, short-list, number}
 use Rattle.offsets.specs.Answers.{Limits, CannotHold, Refused}
@@ -9,9 +8,6 @@ use Rattle.offsets.specs.Inner.{cannot-hold, scant, short, told}
 use Rattle.offsets.proofs.Planning.{hand-refused}
 use Rattle.offsets.proofs.hand_over.Statement.{statement}
 use Rattle.offsets.proofs.hand_over.Tie as tie
-use Rattle.offsets.proofs.hand_over.Reads as reads
-use Rattle.offsets.proofs.hand_over.Lts as lts
-use Rattle.offsets.proofs.tell.Reads as tell-reads
 
 -- src/lib.rt:395:16
 add-result : tie.Need-add-result

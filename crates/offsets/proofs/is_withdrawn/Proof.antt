@@ -3,8 +3,6 @@ use borrow.Author.Needs.{needs}
 use Rattle.offsets.proofs.Numbers.{mark-none, mark-past, mark-here}
 use Rattle.offsets.proofs.is_withdrawn.Statement.{statement}
 use Rattle.offsets.proofs.is_withdrawn.Tie as tie
-use Rattle.offsets.proofs.is_withdrawn.Reads as reads
-use Rattle.offsets.proofs.is_withdrawn.Lts as lts
 
 -- src/lib.rt:74:9
 returns : tie.Need-returns

@@ -3,9 +3,6 @@ use borrow.Author.Needs.{needs}
 use Rattle.offsets.proofs.Told.{least-low, least-high, least-below, least-above, sub-fits, least-narrowed}
 use Rattle.offsets.proofs.least_word.Statement.{statement}
 use Rattle.offsets.proofs.least_word.Tie as tie
-use Rattle.offsets.proofs.least_word.Reads as reads
-use Rattle.offsets.proofs.least_word.Lts as lts
-use Rattle.offsets.proofs.narrow.Reads as narrow-reads
 
 -- src/lib.rt:331:15
 add-a : tie.Need-add-a

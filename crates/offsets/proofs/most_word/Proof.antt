@@ -3,9 +3,6 @@ use borrow.Author.Needs.{needs}
 use Rattle.offsets.proofs.Told.{most-low, most-high, most-narrowed}
 use Rattle.offsets.proofs.most_word.Statement.{statement}
 use Rattle.offsets.proofs.most_word.Tie as tie
-use Rattle.offsets.proofs.most_word.Reads as reads
-use Rattle.offsets.proofs.most_word.Lts as lts
-use Rattle.offsets.proofs.narrow.Reads as narrow-reads
 
 -- src/lib.rt:354:15
 add-a : tie.Need-add-a

@@ -6,9 +6,6 @@ use Rattle.offsets.proofs.Integers.{wide-fits, wide-low, minus-fits, mi
 use Rattle.offsets.proofs.Laws.{all-three}
 use Rattle.offsets.proofs.relax.Statement.{statement}
 use Rattle.offsets.proofs.relax.Tie as tie
-use Rattle.offsets.proofs.relax.Reads as reads
-use Rattle.offsets.proofs.relax.Lts as lts
-use Rattle.offsets.proofs.third.Reads as third-reads
 
 -- src/lib.rt:61:14
 cast-up : tie.Need-cast-up

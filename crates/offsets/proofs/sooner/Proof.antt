@@ -2,8 +2,6 @@
 use Rattle.offsets.proofs.Numbers.{sooner-none, sooner-alone, sooner-second, sooner-first}
 use Rattle.offsets.proofs.sooner.Statement.{statement}
 use Rattle.offsets.proofs.sooner.Tie as tie
-use Rattle.offsets.proofs.sooner.Reads as reads
-use Rattle.offsets.proofs.sooner.Lts as lts
 
 returns : tie.Need-returns
 returns c = sooner-none (c .before .args .a) (c .before .args .b) (c .if1 .taken)

@@ -4,9 +4,6 @@ use borrow.Author.Needs.{needs}
 use Rattle.offsets.proofs.Laws.{both}
 use Rattle.offsets.proofs.third.Statement.{statement}
 use Rattle.offsets.proofs.third.Tie as tie
-use Rattle.offsets.proofs.third.Reads as reads
-use Rattle.offsets.proofs.third.Lts as lts
-use Rattle.offsets.proofs.lower.Reads as lower-reads
 
 -- src/lib.rt:49:13
 add-x : tie.Need-add-x

@@ -4,9 +4,6 @@ use borrow.Author.Needs.{needs}
 use Rattle.offsets.proofs.Numbers.{no-first, no-second, first-withdrawn, second-withdrawn, too-low, too-high, crossed, no-cause}
 use Rattle.offsets.proofs.tie_number.Statement.{statement}
 use Rattle.offsets.proofs.tie_number.Tie as tie
-use Rattle.offsets.proofs.tie_number.Reads as reads
-use Rattle.offsets.proofs.tie_number.Lts as lts
-use Rattle.offsets.proofs.is_withdrawn.Reads as is-withdrawn-reads
 
 returns : tie.Need-returns
 returns c = let a = c .before .before .args in no-first (a .n) (a .state .now) (a .first) (a .second) (a .least) (a .most) (c .if1 .taken)

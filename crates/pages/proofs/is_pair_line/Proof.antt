@@ -1,6 +1,5 @@
 -- `is_pair_line`: the line is laid beside the pages (`wrote-line`), and compared. Assumes nothing.
 use mathlib.Core.Path.{_≡_, refl, sym, _∙_}
-use Prim.Native.Nat.{_-_}
 use native.Mathlib.Omega.{arith}
 use denote.Ref.{now}
 use lib.ListN.{length, take}

@@ -1,6 +1,5 @@
 -- `put_line`: a head, or the next six pairs (`laid-head`, `laid-pairs`). Assumes nothing.
 use mathlib.Core.Path.{_≡_, refl, sym}
-use Prim.Native.Nat.{_-_}
 use native.Mathlib.Omega.{arith}
 use denote.Ref.{now}
 use lib.ListN.{length}

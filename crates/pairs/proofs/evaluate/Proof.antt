@@ -9,10 +9,6 @@ use Rattle.pairs.specs.Steps.{Going}
 use Rattle.pairs.proofs.Running.{coded-some, going-begins, going-ready, going-more}
 use Rattle.pairs.proofs.evaluate.Statement.{statement}
 use Rattle.pairs.proofs.evaluate.Tie as tie
-use Rattle.pairs.proofs.evaluate.Reads as reads
-use Rattle.pairs.proofs.evaluate.Lts as lts
-use Rattle.pairs.proofs.step.Reads as step-reads
-use Rattle.tree.proofs.no_operand.Reads as no-operand-reads
 
 abbrev Inv-loop : tie.InvT-loop
 Inv-loop work₀ n links used rows₀ code stack₀ i₀ work rows stack i =

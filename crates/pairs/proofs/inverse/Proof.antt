@@ -6,9 +6,6 @@ use Rattle.tree.specs.declared.operations.Operand.{Operand}
 use borrow.Author.Needs.{needs}
 use Rattle.pairs.proofs.inverse.Statement.{statement}
 use Rattle.pairs.proofs.inverse.Tie as tie
-use Rattle.pairs.proofs.inverse.Reads as reads
-use Rattle.pairs.proofs.inverse.Lts as lts
-use Rattle.tree.proofs.inverted.Reads as inverted-reads
 
 -- src/lib.rt:165:15
 sub-top : tie.Need-sub-top

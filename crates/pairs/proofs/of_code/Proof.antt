@@ -8,13 +8,6 @@ use Rattle.pairs.proofs.Answering.{little-work, few-rows, made-rows}
 use borrow.Author.Needs.{needs}
 use Rattle.pairs.proofs.of_code.Statement.{statement}
 use Rattle.pairs.proofs.of_code.Tie as tie
-use Rattle.pairs.proofs.of_code.Reads as reads
-use Rattle.pairs.proofs.of_code.Lts as lts
-use Rattle.packing.proofs.tree_unit.Reads as tree-unit-reads
-use Rattle.pairs.proofs.in_use.Reads as in-use-reads
-use Rattle.pairs.proofs.run.Reads as run-reads
-use Rattle.register.proofs.Register.links.Reads as links-reads
-use Rattle.register.proofs.Register.size.Reads as size-reads
 
 in-words : (c : tie.After-links) → c .links .result .count ≤ length (c .links .result .words)
 in-words c = let o = c .links .ensures in omega (arith, o .few, o .long)

@@ -10,10 +10,6 @@ use Rattle.pairs.proofs.Answering.{faulty-text, same-verdict}
 use borrow.Author.Needs.{needs}
 use Rattle.pairs.proofs.of_text.Statement.{statement}
 use Rattle.pairs.proofs.of_text.Tie as tie
-use Rattle.pairs.proofs.of_text.Reads as reads
-use Rattle.pairs.proofs.of_text.Lts as lts
-use Rattle.pairs.proofs.of_code.Reads as of-code-reads
-use Rattle.reader.proofs.read.Reads as read-reads
 
 -- what an accepted text is
 read : (c : tie.After-answer2) → (e : Expr) × ReadAs (c .before .before .before .before .before .before .before .args .text .now) (c .answer2 .given .0 .0) (c .before .before .before .read .result .code) e

@@ -9,11 +9,6 @@ use Rattle.pairs.proofs.Stepping.{starts-early, takes-early, goes-opera
 use borrow.Author.Needs.{needs}
 use Rattle.pairs.proofs.operator.Statement.{statement}
 use Rattle.pairs.proofs.operator.Tie as tie
-use Rattle.pairs.proofs.operator.Reads as reads
-use Rattle.pairs.proofs.operator.Lts as lts
-use Rattle.pairs.proofs.bounded.Reads as bounded-reads
-use Rattle.pairs.proofs.take_off.Reads as take-off-reads
-use Rattle.tree.proofs.operate.Reads as operate-reads
 
 -- the operands taken off
 takes : (c : tie.After-take-off) → Takes (treeUnit (c .before .before .before .before .before .args .n)) (c .before .before .before .before .before .args .item) (c .before .before .before .before .before .args .stack) (c .take-off .result)

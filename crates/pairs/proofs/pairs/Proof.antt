@@ -8,10 +8,6 @@ use Rattle.pairs.proofs.Answering.{asks-refused, asks-rows}
 use borrow.Author.Needs.{needs}
 use Rattle.pairs.proofs.pairs.Statement.{statement}
 use Rattle.pairs.proofs.pairs.Tie as tie
-use Rattle.pairs.proofs.pairs.Reads as reads
-use Rattle.pairs.proofs.pairs.Lts as lts
-use Rattle.pairs.proofs.hand_over.Reads as hand-over-reads
-use Rattle.pairs.proofs.of_text.Reads as of-text-reads
 
 -- src/lib.rt:397:49
 slice-aggregate-of-text : tie.Need-slice-aggregate-of-text

@@ -7,10 +7,6 @@ use Rattle.pairs.proofs.Answering.{relates-refused, relates-rows}
 use borrow.Author.Needs.{needs}
 use Rattle.pairs.proofs.relation.Statement.{statement}
 use Rattle.pairs.proofs.relation.Tie as tie
-use Rattle.pairs.proofs.relation.Reads as reads
-use Rattle.pairs.proofs.relation.Lts as lts
-use Rattle.pairs.proofs.of_text.Reads as of-text-reads
-use Rattle.rows.proofs.count_pairs.Reads as count-pairs-reads
 
 -- src/lib.rt:367:9
 of-text-requires : tie.Need-of-text-requires

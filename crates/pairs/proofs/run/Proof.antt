@@ -7,10 +7,6 @@ use Rattle.pairs.proofs.Running.{coded-some, going-ready, going-ends}
 use borrow.Author.Needs.{needs}
 use Rattle.pairs.proofs.run.Statement.{statement}
 use Rattle.pairs.proofs.run.Tie as tie
-use Rattle.pairs.proofs.run.Reads as reads
-use Rattle.pairs.proofs.run.Lts as lts
-use Rattle.pairs.proofs.evaluate.Reads as evaluate-reads
-use Rattle.pairs.proofs.last.Reads as last-reads
 
 -- src/lib.rt:296:9
 evaluate-requires : tie.Need-evaluate-requires

@@ -1,18 +1,13 @@
 -- `take_off` goes by the item: how many operands it takes, and with which operation (`takes-letters`, `takes-inverse`, `takes-one`, `takes-two`). Assumes
 -- nothing.
-use mathlib.Core.Path.{_≡_, sym, ap, _∙_, subst}
-use Prim.Native.Nat.{ℕ, _≤_}
+use mathlib.Core.Path.{_≡_, sym, ap, subst}
+use Prim.Native.Nat.{_≤_}
 use native.Mathlib.Omega.{arith}
 use borrow.Author.Needs.{needs}
 use Rattle.reader.specs.declared.items.Item.{Item}
 use Rattle.reader.specs.Running.{operands}
 use Rattle.tree.specs.declared.operations.Operation.the-variants.{Union, Product, Closure, Optional, Star}
-use Rattle.tree.specs.declared.operations.Operand.{Operand}
-use Rattle.pairs.specs.declared.Stack.{Stack}
-use Rattle.pairs.specs.declared.Taken.{Taken}
-use Rattle.pairs.specs.Evaluation.{takenNone, takenOne, turned}
 use Rattle.pairs.specs.EvaluationLaws.{Unary, of-star, of-plus, of-optional, Binary, of-alternative, of-sequence, unary-one}
-use Rattle.pairs.specs.Steps.{Takes}
 use Rattle.pairs.proofs.Stepping.{has-one, has-turned, has-two, takes-letters, takes-inverse, takes-one, takes-two}
 use Rattle.pairs.proofs.take_off.Statement.{statement}
 use Rattle.pairs.proofs.take_off.Tie as tie

@@ -1,5 +1,4 @@
 -- `report::put_step` meets its contract: letter and sign with spaces are the name of a line whose number is the record. Assumes nothing.
-use mathlib.Core.Path.{_≡_}
 use mathlib.Core.List.{[], _∷_}
 use Prim.Native.Nat.{_%_}
 use native.Mathlib.Omega.{arith}

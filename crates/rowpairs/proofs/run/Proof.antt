@@ -1,8 +1,7 @@
 -- `run` runs the code item by item. The loop's invariant: the first i numbers have been run (`Going`), and work and masks are as long as they were. The measure is
 -- what is left of the code. Assumes nothing.
 use native.Mathlib.Omega.{arith}
-use borrow.Author.Needs.{needs}
-use mathlib.Core.Path.{_≡_, refl, sym, _∙_}
+use mathlib.Core.Path.{_≡_, refl, _∙_}
 use Prim.Native.Nat.{_+_, _-_, _≤_}
 use lib.ListN.{length}
 use Rattle.rowpairs.specs.Evaluation.{Going}

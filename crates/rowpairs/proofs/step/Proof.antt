@@ -1,8 +1,8 @@
 -- `step` lends the part from its operands on to the operation; `goes-step` does the rest. Assumes nothing.
 use native.Mathlib.Omega.{arith}
-use mathlib.Core.Path.{_≡_, sym, ap, _∙_, subst}
-use Prim.Native.Nat.{ℕ, _-_, _*_, _≤_}
-use lib.ListN.{length, take, drop}
+use mathlib.Core.Path.{_≡_}
+use Prim.Native.Nat.{_-_, _*_, _≤_}
+use lib.ListN.{length}
 use Rattle.rowpairs.specs.Asking.{rowWidth}
 use Rattle.rowpairs.proofs.Stepping.{unit-le, start-le, mark-le, lent-space, goes-part}
 use borrow.Author.Needs.{needs}

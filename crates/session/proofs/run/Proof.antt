@@ -12,7 +12,6 @@ use Rattle.session.specs.Turns.{room}
 use Rattle.session.specs.Runs.{Advances}
 use Rattle.session.specs.TurnLaws.{both-ways}
 use Rattle.session.specs.RunsLaws.{withRest, Reached, not-begun, has-read, goes-on-part, no-room, rest-short}
-use borrow.Author.Needs.{needs}
 use Rattle.session.proofs.run.Statement.{statement}
 use Rattle.session.proofs.run.Tie as tie
 

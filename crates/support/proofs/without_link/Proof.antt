@@ -2,7 +2,7 @@
 use mathlib.Core.Path.{sym, ap, subst, _∙_}
 use mathlib.Core.Bool.{Bool}
 use Rattle.book.specs.Basics.{pick}
-use Rattle.book.specs.Book.{remove, unlock, edit, next}
+use Rattle.book.specs.Book.{unlock, edit, next}
 use Rattle.register.specs.Representation.{Represents}
 use Rattle.support.specs.Inner.{wordLink, cutLink}
 use borrow.Author.Tests.{not-true, not-false}

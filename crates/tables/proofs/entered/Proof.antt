@@ -1,12 +1,12 @@
 -- `entered` meets its contract. The loop's invariant: it is met for the rows below c (Joined). The measure is what is left of the rows. Assumes nothing.
 use mathlib.Core.Path.{_≡_, sym, ap}
 use mathlib.Core.Logic.{⊎-elim}
-use Prim.Native.Nat.{ℕ, _-_, _/_, _<_, _≤_}
+use Prim.Native.Nat.{ℕ, _-_, _/_, _≤_}
 use native.Mathlib.Omega.{arith}
 use borrow.Author.Needs.{needs}
 use lib.ListN.{length, length-set}
 use Rattle.k2.specs.Bits.{digit}
-use Rattle.tables.specs.Rows.{Joined, sideOf, letterDigit}
+use Rattle.tables.specs.Rows.{Joined, letterDigit}
 use Rattle.tables.proofs.RowLaws.{joined-none, joined-yes, joined-no}
 use Rattle.tables.proofs.entered.Statement.{statement}
 use Rattle.tables.proofs.entered.Tie as tie

@@ -1,13 +1,13 @@
 -- `visit` looks at the records from which links lead to y, and then knows the depth of y. The loop's invariant: y is entered, and the links passed lead from
 -- records that are done and no deeper than was seen (`Looking`). The measure of the calls is how many records are new, that of the loop the place in
 -- the index. It rests on `looking-more`, `visited-loop` and `visited-done`. Assumes nothing.
-use mathlib.Core.Path.{_≡_, refl, sym, ap, _∙_, subst}
-use Prim.Native.Nat.{ℕ, _<_, _≤_, _-_, _/_, _%_}
+use mathlib.Core.Path.{_≡_, refl, _∙_, subst}
+use Prim.Native.Nat.{ℕ, _<_, _-_, _/_, _%_}
 use native.Mathlib.Omega.{arith}
 use borrow.Author.Needs.{needs}
 use borrow.Fn.Kinds.{In}
 use borrow.Fn.PlainCycle.{Measures, is, falls, and}
-use lib.ListN.{length, getD, set, length-set}
+use lib.ListN.{getD, set, length-set}
 use Rattle.arcs.specs.Arcs.{arcFrom}
 use Rattle.arcs.specs.IndexLaws.{next-falls}
 use Rattle.generations.specs.Inner.{newCount}

@@ -1,6 +1,6 @@
 -- `visit_all` looks at the records below n in turn. The loop's invariant: those passed are done, and none is entered (`Settled`). The measure is how many are left.
 -- It rests on `settled-more` and `settled-loop`. Assumes nothing.
-use mathlib.Core.Path.{_≡_, refl, sym, ap, _∙_, subst}
+use mathlib.Core.Path.{_≡_, sym, ap, _∙_}
 use mathlib.Core.Bool.{true≢false, false≢true}
 use Prim.Native.Nat.{ℕ, _≤_, _-_}
 use native.Mathlib.Omega.{arith}
@@ -9,10 +9,6 @@ use lib.ListN.{length, length-replicate}
 use Rattle.generations.proofs.DepthLaws.{Settled, settled-none, settled-more, settled-loop}
 use Rattle.generations.proofs.depths.visit_all.Statement.{statement}
 use Rattle.generations.proofs.depths.visit_all.Tie as tie
-use Rattle.generations.proofs.depths.visit_all.Reads as reads
-use Rattle.generations.proofs.depths.visit_all.Lts as lts
-use Rattle.arcs.proofs.index_by_reached.Reads as index-by-reached-reads
-use Rattle.generations.proofs.depths.visit.Reads as visit-reads
 
 abbrev Inv-loop : tie.InvT-loop
 Inv-loop links n depths₀ index y₀ depths y = (y ≤ n) × (length depths ≡ 1024) × Settled links depths y

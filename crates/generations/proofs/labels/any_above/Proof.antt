@@ -1,6 +1,6 @@
 -- `any_above` looks at the labels in turn. The loop's invariant: whether one is above 25 hangs on those that are left. The measure is how many are left.
 -- It rests on `above-next`. Assumes nothing.
-use mathlib.Core.Path.{_≡_, refl, sym, ap, _∙_, subst}
+use mathlib.Core.Path.{_≡_, refl, sym, _∙_}
 use Prim.Native.Nat.{_≤_, _-_}
 use native.Mathlib.Omega.{arith}
 use lib.ListN.{length, drop}
@@ -8,8 +8,6 @@ use Rattle.generations.specs.Generations.{above}
 use Rattle.generations.proofs.LabelLaws.{above-here, above-next, above-end}
 use Rattle.generations.proofs.labels.any_above.Statement.{statement}
 use Rattle.generations.proofs.labels.any_above.Tie as tie
-use Rattle.generations.proofs.labels.any_above.Reads as reads
-use Rattle.generations.proofs.labels.any_above.Lts as lts
 
 abbrev Inv-loop : tie.InvT-loop
 Inv-loop labels i₀ i = (i ≤ length labels) × (above labels ≡ above (drop i labels))

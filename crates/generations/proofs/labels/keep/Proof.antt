@@ -1,9 +1,8 @@
 -- `keep` looks at the words in turn. The loop's invariant: the words kept are those passed whose label is in the set (`labelled`). The measure is how many are
 -- left. It rests on `keep-yes` and `keep-no`. Assumes nothing.
-use mathlib.Core.Path.{_≡_, refl, sym, ap, _∙_, subst}
+use mathlib.Core.Path.{_≡_, refl, ap, _∙_}
 use mathlib.Core.Logic.{⊎-elim}
-use mathlib.Core.List.{List}
-use Prim.Native.Nat.{ℕ, _≤_, _-_}
+use Prim.Native.Nat.{_≤_, _-_}
 use native.Mathlib.Omega.{arith}
 use borrow.Author.Needs.{needs}
 use lib.ListN.{length, take, length-set}
@@ -12,9 +11,6 @@ use Rattle.rows.specs.Rows.{labelled}
 use Rattle.generations.proofs.LabelLaws.{keep-yes, keep-no}
 use Rattle.generations.proofs.labels.keep.Statement.{statement}
 use Rattle.generations.proofs.labels.keep.Tie as tie
-use Rattle.generations.proofs.labels.keep.Reads as reads
-use Rattle.generations.proofs.labels.keep.Lts as lts
-use Rattle.generations.proofs.labels.in_set.Reads as in-set-reads
 
 abbrev Inv-loop : tie.InvT-loop
 Inv-loop words set kept₀ count₀ i₀ kept count i = (i ≤ length words) × (count ≤ i) × (length kept ≡ length kept₀) × (take count kept ≡ labelled set (take i words))

@@ -1,20 +1,14 @@
 -- `put_letters` goes over the labels 0 to 25. The loop's invariant: the letters of the set below the label are in the text (`Laid`). The measure is how many labels
 -- are left. It rests on `laid-yes` and `laid-no`. Assumes nothing.
-use mathlib.Core.Path.{_≡_, refl, sym, ap, _∙_, subst}
+use mathlib.Core.Path.{_≡_, refl}
 use mathlib.Core.Logic.{⊎-elim}
-use Prim.Native.Nat.{ℕ, _≤_, _-_}
+use Prim.Native.Nat.{_≤_, _-_}
 use native.Mathlib.Omega.{arith}
 use borrow.Author.Needs.{needs}
 use lib.ListN.{length, length-set}
-use Rattle.k2.specs.Bits.{digit}
-use Rattle.rows.specs.Rows.{places}
 use Rattle.generations.proofs.LabelLaws.{Laid, laid-none, laid-yes, laid-no}
 use Rattle.generations.proofs.labels.put_letters.Statement.{statement}
 use Rattle.generations.proofs.labels.put_letters.Tie as tie
-use Rattle.generations.proofs.labels.put_letters.Reads as reads
-use Rattle.generations.proofs.labels.put_letters.Lts as lts
-use Rattle.generations.proofs.labels.in_set.Reads as in-set-reads
-use Rattle.generations.proofs.labels.separator.Reads as separator-reads
 
 abbrev Inv-loop : tie.InvT-loop
 Inv-loop set text₀ count₀ label₀ text count label = (label ≤ 26) × (length text ≡ length text₀) × Laid set label text count

@@ -1,5 +1,5 @@
 -- `put_text` puts ) and + after the letters (`two-more`). Assumes nothing.
-use mathlib.Core.Path.{_≡_, refl, sym, ap, _∙_, subst}
+use mathlib.Core.Path.{_≡_, ap, _∙_}
 use mathlib.Core.List.{List, [], _∷_, _++_}
 use Prim.Native.Nat.{ℕ}
 use native.Mathlib.Omega.{arith}
@@ -9,9 +9,6 @@ use Rattle.generations.specs.Inner.{loopText}
 use Rattle.generations.proofs.LabelLaws.{two-more}
 use Rattle.generations.proofs.labels.put_text.Statement.{statement}
 use Rattle.generations.proofs.labels.put_text.Tie as tie
-use Rattle.generations.proofs.labels.put_text.Reads as reads
-use Rattle.generations.proofs.labels.put_text.Lts as lts
-use Rattle.generations.proofs.labels.put_letters.Reads as put-letters-reads
 
 put-letters-requires : tie.Need-put-letters-requires
 put-letters-requires c κs = search needs

@@ -1,6 +1,6 @@
 -- `set_of` puts the labels in, one after another. The loop's invariant: the set has those passed (`Contains`). The measure is how many are left.
 -- It rests on `contains-more`. Assumes nothing.
-use mathlib.Core.Path.{_≡_, refl, sym, ap, _∙_, subst}
+use mathlib.Core.Path.{subst}
 use mathlib.Core.List.{List}
 use Prim.Native.Nat.{ℕ, _≤_, _-_}
 use native.Mathlib.Omega.{arith}
@@ -10,8 +10,6 @@ use Rattle.generations.specs.Inner.{Contains}
 use Rattle.generations.proofs.LabelLaws.{above-none, contains-none, contains-more}
 use Rattle.generations.proofs.labels.set_of.Statement.{statement}
 use Rattle.generations.proofs.labels.set_of.Tie as tie
-use Rattle.generations.proofs.labels.set_of.Reads as reads
-use Rattle.generations.proofs.labels.set_of.Lts as lts
 
 abbrev Inv-loop : tie.InvT-loop
 Inv-loop labels set₀ i₀ set i = (i ≤ length labels) × Contains set (take i labels)

@@ -1,12 +1,12 @@
 -- `compose` goes row by row. The loop's invariant: the rows below x are those of the product, and of the two relations nothing else has changed
 -- (`Through`). The measure is the rows left. It rests on `compose-more` and `compose-skip`. Assumes nothing.
-use Prim.Native.Nat.{ℕ, _<_, _≤_, _+_, _*_, _-_}
+use Prim.Native.Nat.{_<_, _≤_, _+_, _*_, _-_}
 use Rattle.grid.proofs.Grids.{unit-fits, row-inside, Through, through-none, through-all}
 use Rattle.grid.proofs.Products.{composed, compose-more, compose-skip, within-product}
 use borrow.Author.Needs.{needs}
-use lib.ListN.{length, getD}
+use lib.ListN.{length}
 use mathlib.Core.Logic.{⊎-elim}
-use mathlib.Core.Path.{_≡_, refl, sym, ap, _∙_}
+use mathlib.Core.Path.{_≡_, refl, _∙_}
 use native.Mathlib.Omega.{arith}
 use Rattle.grid.proofs.algebra.compose.Statement.{statement}
 use Rattle.grid.proofs.algebra.compose.Tie as tie

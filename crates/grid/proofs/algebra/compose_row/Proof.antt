@@ -1,11 +1,11 @@
 -- `compose_row` makes the row and stores it (`row-replaced`). Assumes nothing.
-use Prim.Native.Nat.{ℕ, _<_, _≤_, _+_, _*_, _-_}
+use Prim.Native.Nat.{_+_}
 use Rattle.grid.proofs.Grids.{unit-fits, row-inside}
 use Rattle.grid.proofs.Products.{row-replaced}
 use borrow.Author.Needs.{needs}
-use lib.ListN.{length, getD, set, length-set}
+use lib.ListN.{length, set, length-set}
 use mathlib.Core.Logic.{inl}
-use mathlib.Core.Path.{_≡_, refl, sym, ap, _∙_}
+use mathlib.Core.Path.{_≡_, _∙_}
 use native.Mathlib.Omega.{arith}
 use Rattle.grid.proofs.algebra.compose_row.Statement.{statement}
 use Rattle.grid.proofs.algebra.compose_row.Tie as tie

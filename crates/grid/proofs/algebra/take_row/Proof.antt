@@ -1,10 +1,9 @@
 -- `take_row` empties the row and merges that of the second relation (`taken-row`). Assumes nothing.
-use mathlib.Core.Path.{_≡_, refl, sym, ap, _∙_}
+use mathlib.Core.Path.{_≡_, _∙_}
 use mathlib.Core.Logic.{inl}
-use Prim.Native.Nat.{ℕ, _+_, _*_, _≤_, _<_}
 use native.Mathlib.Omega.{arith}
 use borrow.Author.Needs.{needs}
-use lib.ListN.{length, getD, set, length-set}
+use lib.ListN.{length, set, length-set}
 use Rattle.grid.proofs.Grids.{unit-fits, row-inside}
 use Rattle.grid.proofs.Turns.{taken-row}
 use Rattle.grid.proofs.algebra.take_row.Statement.{statement}

@@ -1,9 +1,8 @@
 -- `transpose` empties the second relation, turns row after row into it and takes it over. The loop's invariant: the rows below x are turned (`Turning`).
 -- The measure is the rows left. Assumes nothing.
-use mathlib.Core.Path.{_≡_, refl, sym, ap, _∙_}
-use Prim.Native.Nat.{ℕ, _+_, _*_, _-_, _≤_, _<_}
+use mathlib.Core.Path.{_≡_, refl, ap, _∙_}
+use Prim.Native.Nat.{_-_, _≤_}
 use native.Mathlib.Omega.{arith}
-use borrow.Author.Needs.{needs}
 use lib.ListN.{length}
 use Rattle.k2.specs.PairSets.{transpose}
 use Rattle.grid.proofs.Turns.{Turning, turning-none, turning-more, turning-all, first-same}

@@ -1,10 +1,10 @@
 -- `turn_row` goes over the columns of row x. The loop's invariant: those below y are put in exchanged (`Turned`), and y is a column or past them all.
 -- The measure is the columns left. It rests on `turned-more`. Assumes nothing.
-use mathlib.Core.Path.{_≡_, refl, sym, ap, _∙_}
-use Prim.Native.Nat.{ℕ, _+_, _*_, _-_, _/_, _%_, _≤_, _<_}
+use mathlib.Core.Path.{_≡_, refl, _∙_}
+use Prim.Native.Nat.{_+_, _*_, _-_, _%_, _≤_, _<_}
 use native.Mathlib.Omega.{arith}
 use borrow.Author.Needs.{needs}
-use lib.ListN.{length, getD}
+use lib.ListN.{length}
 use Rattle.k2.specs.DigitLaws.{one-shl}
 use Rattle.grid.specs.Grid.{firstRows}
 use Rattle.grid.specs.Steps.{onlyRow, Turned}

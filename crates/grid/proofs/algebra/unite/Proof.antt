@@ -1,13 +1,13 @@
 -- `unite` merges row by row. The loop's invariant: the rows below x are united, and nothing else has changed (`Through`). The measure is the rows
 -- left. Assumes nothing.
-use Prim.Native.Nat.{ℕ, _<_, _≤_, _+_, _*_, _-_, max}
+use Prim.Native.Nat.{_≤_, _*_, _-_, max}
 use Rattle.grid.proofs.Grids.{unit-fits, row-inside, Through, through-none, through-merge, unite-row, through-all, within-union}
 use Rattle.grid.specs.Grid.{firstRows, secondRows}
 use Rattle.k2.specs.PairSets.{union}
 use borrow.Author.Needs.{needs}
-use lib.ListN.{length, getD}
+use lib.ListN.{length}
 use mathlib.Core.Logic.{inl}
-use mathlib.Core.Path.{_≡_, refl, sym, ap, _∙_}
+use mathlib.Core.Path.{_≡_, refl, ap, _∙_}
 use native.Mathlib.Omega.{arith}
 use Rattle.grid.proofs.algebra.unite.Statement.{statement}
 use Rattle.grid.proofs.algebra.unite.Tie as tie

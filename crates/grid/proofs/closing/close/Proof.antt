@@ -1,12 +1,12 @@
 -- `close` goes record by record. The loop's invariant: the rows of the records below x are closed, and each row is closed or as it was (`Half`). The
 -- measure is the records left. Assumes nothing.
-use mathlib.Core.Path.{_≡_, refl, sym, ap, _∙_}
-use Prim.Native.Nat.{ℕ, _+_, _*_, _-_, _≤_, _<_}
+use mathlib.Core.Path.{_≡_, refl, ap, _∙_}
+use Prim.Native.Nat.{ℕ, _-_, _≤_, _<_}
 use native.Mathlib.Omega.{arith}
 use borrow.Author.Needs.{needs}
-use lib.ListN.{length, set, length-set}
+use lib.ListN.{length}
 use Rattle.k2.specs.Bits.{bitAt}
-use Rattle.k2.specs.PairSets.{Cells, IsSet}
+use Rattle.k2.specs.PairSets.{Cells}
 use Rattle.grid.specs.Grid.{first, firstRows}
 use Rattle.grid.specs.Steps.{Half}
 use Rattle.bits.specs.BitSets.{none}

@@ -1,13 +1,11 @@
 -- `close_once` closes the row and notes it (`half-more`). Assumes nothing.
-use mathlib.Core.Path.{_≡_, refl, sym, ap, ap₂, subst, _∙_}
-use Prim.Native.Nat.{ℕ, _+_, _*_, _-_, _/_, _%_, _^_, _≤_, _<_, min, max}
+use mathlib.Core.Path.{_≡_, sym, ap, _∙_}
+use Prim.Native.Nat.{ℕ}
 use native.Mathlib.Omega.{arith}
 use borrow.Author.Needs.{needs}
 use Rattle.k2.specs.Bits.{bitAt}
 use Rattle.k2.specs.BitLaws.{bit-lt}
-use Rattle.bits.specs.BitSets.{put}
 use Rattle.bits.specs.BitSetLaws.{put-at}
-use Rattle.k2.specs.PairSets.{Cells}
 use Rattle.grid.proofs.Closures.{half-next, put-keeps}
 use Rattle.grid.proofs.closing.close_once.Statement.{statement}
 use Rattle.grid.proofs.closing.close_once.Tie as tie

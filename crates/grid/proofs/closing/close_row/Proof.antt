@@ -1,17 +1,16 @@
 -- `close_row` searches from row x. The loop's invariant: row x and the row of what is seen are a search's, the other rows are as they were (`Searching`),
 -- and z is found and not seen, or all that is found is. The measure is the records not seen. It rests on `searching-more` and `search-done`.
 -- Assumes nothing.
-use mathlib.Core.Path.{_≡_, refl, sym, ap, ap₂, subst, _∙_}
-use Prim.Native.Nat.{ℕ, _+_, _*_, _-_, _/_, _%_, _^_, _≤_, _<_, min, max}
+use mathlib.Core.Path.{_≡_, refl, ap, _∙_}
+use Prim.Native.Nat.{ℕ, _*_, _-_, _/_, _%_, _^_, _≤_, _<_, max}
 use native.Mathlib.Omega.{arith}
 use borrow.Author.Needs.{needs}
 use lib.Dec.{eqb}
-use lib.ListN.{length, getD, set, length-set}
+use lib.ListN.{length, set, length-set}
 use lib.Seq.{getD-set-same, getD-set-other}
 use Rattle.book.specs.Basics.{pick}
 use Rattle.k2.specs.Bits.{bitAt, onesBelow}
 use Rattle.k2.specs.BitLaws.{bit-lt}
-use Rattle.k2.specs.PairSets.{Cells}
 use Rattle.grid.specs.Grid.{rowOf, firstRows}
 use Rattle.grid.specs.Steps.{wordAt, Fresh, Merged}
 use Rattle.grid.proofs.Grids.{rows-apart, unit-fits}

@@ -1,12 +1,9 @@
 -- `fresh` goes over the words in the mask. The loop's invariant: c is one of them or past them all, and the columns of the words before it are seen.
 -- The measure is the words left. It rests on `fresh-found` and `seen-word`. Assumes nothing.
-use mathlib.Core.Path.{_≡_, refl, sym, ap, ap₂, _∙_}
-use mathlib.Core.Logic.{_⊎_, inl, inr, ⊎-elim}
-use Prim.Native.Nat.{ℕ, _+_, _*_, _-_, _/_, _%_, _^_, _≤_, _<_, min, max}
+use mathlib.Core.Path.{_≡_}
+use Prim.Native.Nat.{ℕ, _+_, _*_, _-_, _<_}
 use native.Mathlib.Omega.{arith}
-use borrow.Author.Needs.{needs}
 use Rattle.k2.specs.Bits.{digit}
-use Rattle.k2.specs.DigitLaws.{digit-lt}
 use Rattle.grid.specs.Grid.{rowOf}
 use Rattle.grid.proofs.Grids.{unit-fits}
 use Rattle.grid.proofs.Columns.{lowest-some}

@@ -1,11 +1,9 @@
 -- `lead_on` merges row z into row x, unless they are one. Assumes nothing.
-use mathlib.Core.Path.{_≡_, refl, sym, ap, ap₂, subst, _∙_}
-use mathlib.Core.Logic.{_⊎_, inl, inr, ⊎-elim}
-use Prim.Native.Nat.{ℕ, _+_, _*_, _-_, _/_, _%_, _^_, _≤_, _<_, min, max}
+use mathlib.Core.Path.{subst}
+use Prim.Native.Nat.{ℕ, _*_}
 use native.Mathlib.Omega.{arith}
 use borrow.Author.Needs.{needs}
-use lib.ListN.{getD}
-use Rattle.grid.specs.Grid.{rowOf, firstRows}
+use Rattle.grid.specs.Grid.{firstRows}
 use Rattle.grid.specs.Steps.{Merged}
 use Rattle.grid.proofs.Grids.{rows-apart, unit-fits}
 use Rattle.grid.proofs.Closures.{merged-self, rows-other}

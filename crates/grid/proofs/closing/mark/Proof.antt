@@ -1,7 +1,7 @@
 -- `mark` merges row z into the row of what is seen, if row z is whole, and puts in z itself. Assumes nothing.
-use mathlib.Core.Path.{_≡_, refl, sym, ap, ap₂, _∙_}
-use mathlib.Core.Logic.{_⊎_, inl, inr, ⊎-elim}
-use Prim.Native.Nat.{ℕ, _+_, _*_, _-_, _/_, _%_, _^_, _≤_, _<_, min, max}
+use mathlib.Core.Path.{_≡_, refl, sym, _∙_}
+use mathlib.Core.Logic.{inr, ⊎-elim}
+use Prim.Native.Nat.{_*_, _%_}
 use native.Mathlib.Omega.{arith}
 use borrow.Author.Needs.{needs}
 use lib.Dec.{eqb}
@@ -9,8 +9,8 @@ use lib.ListN.{length}
 use borrow.Author.Tests.{eq-eqb, ne-eqb}
 use Rattle.book.specs.Basics.{pick}
 use Rattle.k2.specs.DigitLaws.{one-shl}
-use Rattle.grid.specs.Grid.{rowOf, firstRows}
-use Rattle.grid.specs.Steps.{wordAt, Merged}
+use Rattle.grid.specs.Grid.{firstRows}
+use Rattle.grid.specs.Steps.{Merged}
 use Rattle.grid.proofs.Rows.{merged-none, merged-more, merged-to}
 use Rattle.grid.proofs.Grids.{rows-apart, unit-fits}
 use Rattle.grid.proofs.closing.mark.Statement.{statement}

@@ -1,6 +1,6 @@
 -- `list_row` goes over the words in the mask. The loop's invariant: c is one of them or past them all, and the columns of the words before it are
 -- written. The measure is the words left. It rests on `cut-word` and `cut-gap`. Assumes nothing.
-use mathlib.Core.Path.{_≡_, refl, sym, ap, _∙_}
+use mathlib.Core.Path.{_≡_, refl, ap, _∙_}
 use Prim.Native.Nat.{ℕ, _+_, _-_, _*_, _≤_, _<_, min}
 use native.Mathlib.Omega.{arith}
 use borrow.Author.Needs.{needs}

@@ -1,6 +1,6 @@
 -- `put_letters` goes over the words. The loop's invariant: the pairs of the first i words are in. The measure is the words left. It rests on
 -- `put-more` and `crossed-next`. Assumes nothing.
-use mathlib.Core.Path.{_≡_, refl, sym, ap, _∙_}
+use mathlib.Core.Path.{_≡_, refl, ap, _∙_}
 use mathlib.Core.List.{[], _∷_}
 use Prim.Native.Nat.{_≤_, _<_, _-_}
 use native.Mathlib.Omega.{arith}

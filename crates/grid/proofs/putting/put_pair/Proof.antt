@@ -1,7 +1,6 @@
 -- `put_pair` puts a word of one bit (`pair-put`), unless the pair is not below n (`pair-outside`). Assumes nothing.
-use mathlib.Core.Path.{_≡_}
 use mathlib.Core.Logic.{inl, inr}
-use Prim.Native.Nat.{_%_, _/_}
+use Prim.Native.Nat.{_%_}
 use native.Mathlib.Omega.{arith}
 use borrow.Author.Needs.{needs}
 use Rattle.k2.specs.DigitLaws.{one-shl}

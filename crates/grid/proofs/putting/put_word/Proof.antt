@@ -1,13 +1,12 @@
 -- `put_word` puts the pair of a link in forward, if its label is there, and then exchanged (`put-more`, `crossed-one`). Assumes nothing.
 use mathlib.Core.Path.{_≡_, refl, sym, ap, _∙_}
 use mathlib.Core.Logic.{⊎-elim}
-use mathlib.Core.List.{List}
 use Prim.Native.Nat.{ℕ, _%_, _/_}
 use native.Mathlib.Omega.{arith}
 use borrow.Author.Needs.{needs}
 use lib.ListN.{length}
 use Rattle.k2.specs.PairSets.{Cells, union, transpose}
-use Rattle.rows.specs.Rows.{linkPair, crossedWords}
+use Rattle.rows.specs.Rows.{linkPair}
 use Rattle.rows.specs.RowLaws.{transpose-none, union-right}
 use Rattle.grid.specs.Grid.{first, within}
 use Rattle.grid.specs.Steps.{onePair}

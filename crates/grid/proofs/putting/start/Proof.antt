@@ -4,7 +4,6 @@ use Rattle.grid.proofs.Pairs.{none-left, zero-more}
 use borrow.Author.Needs.{needs}
 use lib.ListN.{length, getD, length-set}
 use mathlib.Core.Path.{_≡_, refl}
-use native.Mathlib.Decide.{ℕ-discrete}
 use native.Mathlib.Omega.{arith}
 use Rattle.grid.proofs.putting.start.Statement.{statement}
 use Rattle.grid.proofs.putting.start.Tie as tie

@@ -1,13 +1,11 @@
 -- `later` goes over the words in the mask. The loop's invariant: k is one of them or past them all, and no column is passed. The measure is the
 -- words left. Assumes nothing.
-use Prim.Native.Nat.{_<_, _≤_, _+_, _-_, _*_, _/_, _^_}
+use Prim.Native.Nat.{_<_, _+_, _-_, _*_}
 use Rattle.bits.specs.BitSets.{Gap}
 use Rattle.grid.proofs.Columns.{lowest-some, gap-words, gap-on, gap-zero, found-whole, lowest-end}
 use Rattle.grid.specs.Grid.{rowOf}
 use Rattle.k2.specs.Bits.{digit}
-use lib.ListN.{getD}
-use mathlib.Core.Path.{_≡_, _∙_, ap, sym}
-use native.Mathlib.Nat.{div-one}
+use mathlib.Core.Path.{_≡_}
 use native.Mathlib.Omega.{arith}
 use Rattle.grid.proofs.row.later.Statement.{statement}
 use Rattle.grid.proofs.row.later.Tie as tie

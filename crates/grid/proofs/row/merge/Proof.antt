@@ -1,11 +1,11 @@
 -- `merge` joins the words in the mask of the source. The loop's invariant: those below c are joined (`Joined`), and c is one of them or past them
 -- all. The measure is the words left. Assumes nothing.
-use Prim.Native.Nat.{_<_, _≤_, _+_, _-_}
+use Prim.Native.Nat.{_<_, _-_}
 use Rattle.grid.proofs.Rows.{Apart, Joined, joined-none, joined-more, joined-all}
 use Rattle.k2.specs.Bits.{digit}
 use borrow.Author.Needs.{needs}
-use lib.ListN.{length, getD, length-set}
-use mathlib.Core.Path.{_≡_, refl, sym, ap, _∙_}
+use lib.ListN.{length, length-set}
+use mathlib.Core.Path.{_≡_, refl}
 use native.Mathlib.Omega.{arith}
 use Rattle.grid.proofs.row.merge.Statement.{statement}
 use Rattle.grid.proofs.row.merge.Tie as tie

@@ -1,12 +1,11 @@
 -- `next` looks in what is left of the word of column y, and then in the words after it. Assumes nothing.
-use Prim.Native.Nat.{_<_, _≤_, _+_, _*_, _/_, _%_, _^_}
+use Prim.Native.Nat.{_+_, _*_, _/_, _%_}
 use Rattle.grid.proofs.Columns.{lowest-some, gap-left, found, lowest-end, lowest-after}
 use Rattle.k2.specs.Bits.{digit}
 use borrow.Author.Needs.{needs}
-use lib.ListN.{getD}
 use lib.Pow.{shr-le}
-use mathlib.Core.Logic.{_⊎_, inl, inr, ⊎-elim}
-use mathlib.Core.Path.{_≡_, refl}
+use mathlib.Core.Logic.{inl, inr, ⊎-elim}
+use mathlib.Core.Path.{refl}
 use native.Mathlib.Nat.{lt-of-le-of-lt}
 use native.Mathlib.Omega.{arith}
 use Rattle.grid.proofs.row.next.Statement.{statement}

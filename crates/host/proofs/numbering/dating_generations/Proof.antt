@@ -6,13 +6,6 @@ use Rattle.host.proofs.Carrying.{load-none, load-some, asked-foreign, a
 use borrow.Author.Needs.{needs}
 use Rattle.host.proofs.numbering.dating_generations.Statement.{statement}
 use Rattle.host.proofs.numbering.dating_generations.Tie as tie
-use Rattle.host.proofs.numbering.dating_generations.Reads as reads
-use Rattle.host.proofs.numbering.dating_generations.Lts as lts
-use Rattle.generations.proofs.generations.Reads as generations-reads
-use Rattle.host.proofs.numbering.told_generations.Reads as told-generations-reads
-use Rattle.host.proofs.told.told_refusal.Reads as told-refusal-reads
-use Rattle.register.proofs.Register.load.Reads as load-reads
-use Rattle.register.proofs.number_of.Reads as number-of-reads
 
 load-requires : tie.Need-load-requires
 load-requires c κs = search needs

@@ -1,7 +1,6 @@
 -- `lines::requests::request` meets its contract: a word that is a request's says what that one says (`requested-as`), any other nothing known
 -- (`requested-none`). Assumes nothing.
-use mathlib.Core.Path.{_≡_, refl, sym, ap, _∙_}
-use mathlib.Core.Bool.{true, false}
+use mathlib.Core.Path.{refl, sym, ap, _∙_}
 use native.Mathlib.Omega.{arith}
 use denote.Ref.{now}
 use Rattle.book.specs.Causes.{number}

@@ -1,5 +1,5 @@
 -- `lines::requests::total` meets its contract, case by case (`lettered-not`, `lettered-more`, `lettered-is`). Assumes nothing.
-use mathlib.Core.Path.{sym, ap, _∙_}
+use mathlib.Core.Path.{sym, ap}
 use native.Mathlib.Omega.{arith}
 use denote.Ref.{now}
 use Rattle.report.specs.WrittenLaws.{wrote-as}

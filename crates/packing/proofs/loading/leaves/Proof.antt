@@ -1,7 +1,7 @@
 -- `leaves` puts the cells of one square of side 2 after another. The loop's invariant: the cells of the squares passed are in the rows. The measure is
 -- the squares left. It rests on `reads-cell`. Assumes nothing.
 use mathlib.Core.Path.{_≡_, refl, sym, ap, _∙_}
-use Prim.Native.Nat.{ℕ, _+_, _-_, _*_, _/_, _%_, _^_, _≤_, _<_}
+use Prim.Native.Nat.{ℕ, _+_, _-_, _≤_}
 use native.Mathlib.Omega.{arith}
 use lib.ListN.{length, getD}
 use Rattle.k2.specs.Bits.{bitAt}

@@ -1,7 +1,7 @@
 -- `spread` writes the quarters of one square after another. The loop's invariant: those of the squares passed are at the front of `next`. The measure is the
 -- squares left. Assumes nothing.
 use mathlib.Core.Path.{_≡_, refl, sym, ap, _∙_}
-use Prim.Native.Nat.{ℕ, _+_, _-_, _*_, _/_, _%_, _^_, _≤_, _<_}
+use Prim.Native.Nat.{ℕ, _+_, _-_, _*_, _≤_}
 use native.Mathlib.Omega.{arith}
 use lib.ListN.{length, getD}
 use Rattle.k2.specs.PairSets.{Cells, union}

@@ -1,7 +1,7 @@
 -- `reader::set` meets its contract. The loop's invariant: what is left to read is what the descent has left, after the members read so far, whose labels
 -- the two sets have (Setting). The measure is what is left of the text. Assumes nothing.
 use mathlib.Core.Path.{_≡_, sym, _∙_}
-use Prim.Native.Nat.{_+_, _-_, _<_, _≤_}
+use Prim.Native.Nat.{_-_, _<_, _≤_}
 use native.Mathlib.Omega.{arith}
 use lib.ListN.{length, drop}
 use borrow.Author.Needs.{needs}

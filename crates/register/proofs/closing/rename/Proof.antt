@@ -1,10 +1,9 @@
 -- `register::closing::rename` meets its contract. The loop's invariant: the first i words are renamed, and then they are as they were. The measure is the words
 -- left. Assumes nothing.
-use mathlib.Core.Path.{_≡_, refl, sym, ap, _∙_}
+use mathlib.Core.Path.{_≡_, refl, ap, _∙_}
 use mathlib.Core.List.{map, _++_}
 use Prim.Native.Nat.{ℕ, _-_, _≤_}
 use native.Mathlib.Omega.{arith}
-use borrow.Author.Needs.{needs}
 use lib.ListN.{length, take, drop, set, length-set}
 use Rattle.register.specs.Closing.{newOf, renamedWord}
 use Rattle.register.proofs.Renumbering.{renamed-more}

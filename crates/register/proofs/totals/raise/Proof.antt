@@ -1,5 +1,5 @@
 -- `register::totals::raise` meets its contract: past the labels, or with no room, nothing is written, and no total has to move; else one does. Assumes nothing.
-use mathlib.Core.Path.{_≡_, refl}
+use mathlib.Core.Path.{refl}
 use native.Mathlib.Omega.{arith}
 use borrow.Author.Needs.{needs}
 use Rattle.register.proofs.Counting.{raised, raised-set}

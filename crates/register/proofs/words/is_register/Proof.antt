@@ -1,5 +1,4 @@
 -- `register::words::is_register` looks at the length, the counters and the marks in turn. Assumes nothing.
-use Prim.Native.Nat.{_≤_}
 use native.Mathlib.Omega.{arith}
 use borrow.Author.Tests.{not-true, not-false}
 use Rattle.register.proofs.Keeping.{tested-not, formed-by}
