@@ -1,4 +1,16 @@
--- The fragment of an expression reads exactly its words. Assumes nothing.
+-- The fragment of an expression reads exactly its words.
+--   Cut q w r            a trace of two fragments one after the other from a position of the first: it stays there, or it parts where it goes over
+--   cut, reads-either, reads-followed
+--                        a word of the two together is one of either, or one of the first and then one of the second
+--   Lap q w              a first word, and then nothing or more words
+--   lap, reads-repeated  a word of a repeated fragment is one or more of its words
+--   reads-single, reads-reversed, reads-optional
+--                        the words of one position, of a fragment reversed, and of one that may be left out
+--   sound                what the fragment of an expression reads is a word of it
+--   to-repeated, add-repeated, to-optional, to-nothing, to-reversed, to-left, to-right, to-followed
+--                        from the words of the parts to those of the larger fragment
+--   complete             it reads every word of the expression
+-- Assumes nothing.
 use mathlib.Core.Path.{_≡_, refl, sym, ap, subst}
 use mathlib.Core.Logic.{_⊎_, inl, inr}
 use mathlib.Core.List.{List, [], _∷_, _++_, append-nil}
