@@ -1,4 +1,15 @@
 -- The numbers against the base and the ties, on each way through the code. A signed number that the code reads from its bits is `toZ w32 (ofZ w32 z)`.
+--   mark-none, mark-here, mark-past
+--                  whether a record is withdrawn, by its mark among the words: no record, its mark, words too short
+--   sooner-none, sooner-alone, sooner-second, sooner-first
+--                  the sooner of two numbers
+--   three-record, three-withdrawn, three-tie, three-none
+--                  the first of the causes 2, 18 and 19
+--   base-record, base-withdrawn, base-many, base-none
+--                  against the base and the number of ties: 2, 18, 19, none
+--   no-first, no-second, first-withdrawn, second-withdrawn, too-low, too-high, crossed, no-cause
+--                  against a tie: 2 or 18 for either record, 19 for its limits, none
+--   tie-back       a tie whose limits were handed on as bits is the tie
 -- Assumes nothing.
 use mathlib.Core.Path.{_≡_, refl, sym, ap, subst, _∙_}
 use mathlib.Core.Bool.{Bool, true, false, _||_}

@@ -1,5 +1,14 @@
--- The two words of a record, on each way through the code.
--- A value that the code reads from its bits is `toZ w64 (ofZ w64 z)`: each law takes the facts as the code's tests leave them.
+-- The two words of a record, on each way through the code. A value that the code reads from its bits is `toZ w64 (ofZ w64 z)`: each law takes the facts as the
+-- code's tests leave them.
+--   least-low, least-high, most-low, most-high
+--                         a distance out of range is of a free record: its words are 1 and 0
+--   most-narrowed         the most, from a distance in range
+--   least-below, least-above, sub-fits, least-narrowed
+--                         the least: out of range below or above, or the distance with its sign changed, which fits
+--   narrow-low, narrow-high, narrow-fits, narrow-is
+--                         a number that fits 32 bits is not cut
+--   told-none, told-more  the words of no record, and of one more
+--   past-same             the words past those of n records stay
 -- Assumes nothing.
 use mathlib.Core.Path.{_≡_, refl, sym, _∙_, ap, subst}
 use Prim.Native.Nat.{ℕ, zero, suc, _+_, _*_, _≤_, _<_, _^_}

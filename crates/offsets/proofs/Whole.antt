@@ -1,6 +1,9 @@
 -- What `offsets_among` makes of judging, passes and handing over is what it promises.
---     among            from what the four calls ensure
---     told             and of words, from what all calls of `offsets` ensure
+--   none-holds, some-holds
+--                  by the flag of the passes: no placing meets all ties, or one does
+--   limits-told    with a placing, the words told are the limits
+--   among          what `offsets_among` promises, from what the four calls ensure
+--   told           and of words that a caller keeps, from what all calls of `offsets` ensure
 -- Assumes nothing.
 use mathlib.Core.Path.{_≡_, refl, sym, ap, subst, _∙_, fun-ext}
 use mathlib.Core.List.{List, [], _∷_, _++_}

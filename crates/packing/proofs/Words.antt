@@ -1,4 +1,11 @@
--- Laws of what `any_of_eight`, `block`, `swap`, `shuffle` and `summary` make of words. Assumes nothing.
+-- Laws of what `any_of_eight`, `block`, `swap`, `shuffle` and `summary` make of words.
+--   swap-law             `swap`: which bit comes where
+--   mask₁, mask₂, mask₃  the masks of the three exchanges of `shuffle`
+--   apart₁, apart₂, apart₃
+--                        the bits of each mask and those that they change places with are apart
+--   shuffle-law          three exchanges bring the bits of rows into the order of a tree's last level
+--   summary-law          `summary`: bit j of it tells whether the four bits of group j are not all 0
+-- Assumes nothing.
 use mathlib.Core.Path.{_≡_, refl, sym, ap, _∙_}
 use mathlib.Core.Bool.{Bool, true, false}
 use Prim.Native.Nat.{ℕ, zero, suc, _+_, _-_, _*_, _/_, _%_, _^_, _≤_, _<_, min, max}
