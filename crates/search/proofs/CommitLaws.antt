@@ -1,4 +1,12 @@
--- Laws of a level committed: record by record of its list; what it is when all are done; and an empty level, committed by nothing. Assumes nothing.
+-- Laws of a level committed: record by record of its list; what it is when all are done; and an empty level, committed by nothing.
+--   commit-zero    an empty level, committed by nothing
+--   Committing w seen nx mark list i w′ seen′ nx′ records masks
+--                  the first i records of the list are committed
+--   committing-none, committing-more
+--                  so before the first, and one record more
+--   committed, cleared, held
+--                  all of them: the level is committed, its words are cleared, and it is held as a list
+-- Assumes nothing.
 use mathlib.Core.Path.{_≡_, refl, sym, ap, _∙_}
 use mathlib.Core.List.{List}
 use Prim.Native.Nat.{ℕ, _+_, _≤_, _<_, max}

@@ -1,4 +1,13 @@
--- Laws of `copy` and of `pairs_below`. Assumes nothing.
+-- Laws of `copy` and of `pairs_below`.
+--   Copied i zs          the first i words have been copied
+--   copy-none, copy-more, copy-all
+--                        so before the first, one more, all
+--   off, wrong           a test does not come out both ways
+--   copied-one, copied-two
+--                        one tree at the front, and two one behind the other
+--   below-all, below-at  pairs below n, word by word
+--   settled              an answer of so many words
+-- Assumes nothing.
 use mathlib.Core.Path.{_≡_, refl, sym, ap, subst, _∙_}
 use mathlib.Core.Bool.{Bool, true, false}
 use mathlib.Core.List.{List, [], _∷_, _++_}
