@@ -1,12 +1,26 @@
--- Ties as arcs. An arc says that record `to` lies at most `rise` above record `from`; a tie is two of them, one each way. A pass over ties is a pass over their arcs.
---     arcs ts              the arcs of ties, two for each
---     Keeps p cs           a placing keeps all arcs of a list
---     run cs s             a pass over arcs
---     Holds a l            the distances l satisfy an arc, where it begins at a known one
---     lower-ind            what an arc does: nothing, where it holds, or it lowers the distance of its end
---     set-ind              what stands in a list after one place was set
---     run-length, run-down, quiet, stays
---                          a pass keeps the length, lowers only, and changes nothing exactly where all arcs hold
+-- Ties as arcs. An arc says that record `to` lies at most `rise` above record `from`; a tie is two of them, one each way. A pass over ties is a pass over their
+-- arcs.
+--   Arc, up-arc, down-arc
+--                        an arc; the two of a tie
+--   arcs ts              the arcs of ties, two for each
+--   turn, turned, at     a tie turned round; ties so; an arc between records that stand from place o on
+--   arcs3 n ts           the arcs of ties in a list of three thirds of n each
+--   Keeps p cs           a placing keeps all arcs of a list
+--   arc, run cs s        what an arc does to distances; a pass over arcs
+--   arcs-in, in-up, in-down, of-ties
+--                        the arcs of ties are the two of each; a property of all, from one for each tie
+--   keeps-places, meets  a placing that meets the ties keeps their arcs; a tie's two limits as sums, turned back to differences
+--   Holds a l            the distances l satisfy an arc, where it begins at a known one
+--   by-test              a case for each way that a test comes out
+--   lower-ind            what an arc does: nothing, where it holds, or it lowers the distance of its end
+--   set-ind              what stands in a list after one place was set
+--   arc-length, lt-le, arc-down
+--                        an arc keeps the length, and lowers only
+--   run-length, run-down, quiet, stays
+--                        a pass keeps the length, lowers only, and changes nothing exactly where all arcs hold
+--   run-is               a pass over ties is a pass over their arcs in three thirds
+--   of-thirds, in-third0, in-third1, in-third2, arcs3-length
+--                        a property of all of these, from one of ties and turned ties; the arcs of each third; how many
 -- Assumes nothing.
 use mathlib.Core.Path.{_≡_, refl, sym, ap, _∙_, subst}
 use mathlib.Core.Logic.{_⊎_, inl, inr}

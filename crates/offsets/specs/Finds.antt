@@ -1,12 +1,17 @@
 -- The answer as passes find it, and that it is the answer of `Offsets`.
---     ran n ts l           n + 1 passes over the ties, from a list l that `Starts n base`
---     offsets n ts l       what a program makes of it
---     limits-hold, limits-attained     no placing goes beyond the limits, and each is attained
---     limit-at             so each record below n has its two words
---     free-exactly         1 and 0 come exactly for a record that ties do not join to the base
---     cannot-exactly       "cannot all hold" comes exactly if there is no placing
---     offsets-are          the answer is the one that is asked for
---     cannot-are, told-are     the same as the code has it: by the flag, and a list that has the words
+--   ran n ts l            n + 1 passes over the ties, from a list l that `Starts n base`
+--   least-word, most-word
+--                         the two words of a record, of the list that was made
+--   Told, Fits            a list that has the words of the first k records; that all words fit 32 bits
+--   words, answer         two words to a record, k records from x on; the answer, by the flag and the list
+--   offsets n ts l        what a program makes of it
+--   cannot-exactly        "cannot all hold" comes exactly if there is no placing
+--   limits-hold, limits-attained
+--                         no placing goes beyond the limits, and each is attained
+--   limit-at              so each record below n has its two words
+--   free-exactly          1 and 0 come exactly for a record that ties do not join to the base
+--   offsets-are           the answer is the one that is asked for
+--   cannot-are, told-are  the same as the code has it: by the flag, and a list that has the words
 -- Assumes nothing.
 use mathlib.Core.Path.{_≡_, refl, sym, ap, _∙_, subst}
 use mathlib.Core.Logic.{_⊎_, inl, inr}

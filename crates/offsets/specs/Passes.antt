@@ -1,12 +1,19 @@
 -- Passes over ties, and what they keep.
---     settled-is       passes over ties are passes over their arcs
---     passes-keep      what each arc keeps, passes keep
---     passes-hold      after passes that ended with one that changed nothing, all arcs hold
---     passes-length, passes-down
---                      the length stays, and distances fall only
---     Near c z         -c ≤ z ≤ c
---     Ranged           a distance is `far`, or near
---     Reached          what is known has been reached
+--   passes-keep         what each arc keeps, passes keep
+--   passes-length, passes-down
+--                       the length stays, and distances fall only
+--   passes-hold         after passes that ended with one that changed nothing, all arcs hold
+--   Near c z            -c ≤ z ≤ c
+--   near-add, mag-parts, near-known
+--                       sums of near numbers; a number that is near is known
+--   far, known-not-far  the number of a record that is not reached, which is not known
+--   Ranged              a distance is `far`, or near
+--   Small cs            every arc rises by at most 20,000
+--   passes-ranged       how large distances grow, pass by pass
+--   Reached             what is known has been reached
+--   passes-reached, known-on
+--                       known records are reached; where all arcs hold, an arc that leaves a known record ends at one
+--   settled-is          passes over ties are passes over their arcs
 -- Assumes nothing.
 use mathlib.Core.Path.{_≡_, refl, sym, ap, _∙_, subst}
 use mathlib.Core.Logic.{_⊎_, inl, inr}

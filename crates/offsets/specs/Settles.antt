@@ -1,11 +1,22 @@
--- Passes settle: if a placing keeps all arcs, passes over a list of n distances change nothing after n of them, whatever the list began with. No walks and no counting of different records: each pass
--- makes one more record final. Of the records that are not yet final, take the known one that lies lowest above the placing. Nothing in the pass can lower it: what comes from a final record is already
--- as low as it can be, and what comes from another lies no lower. So after the pass all arcs that leave it hold.
---     gap p l x        how far the distance of x lies above the placing
---     Final            the arcs that leave x hold, and x lies no higher above the placing than the records that are not final
---     Open             the records that are not final, as a list
---     one-final        a pass takes one record out of it, or changes nothing
---     settles          so passes over all arcs, as many as there are open records and one more, end with one that changes nothing
+-- Passes settle: if a placing keeps all arcs, passes over a list of n distances change nothing after n of them, whatever the list began with. No walks and no
+-- counting of different records: each pass makes one more record final. Of the records that are not yet final, take the known one that lies lowest above the
+-- placing. Nothing in the pass can lower it: what comes from a final record is already as low as it can be, and what comes from another lies no lower. So after
+-- the pass all arcs that leave it hold.
+--   out, out-length, out-less, out-others
+--                    a list without one of its members
+--   Least k f os, search-least
+--                    of the members that pass a test, the one with the least number; there is one, or none passes
+--   gap p l x        how far the distance of x lies above the placing
+--   Final            the arcs that leave x hold, and x lies no higher above the placing than the records that are not final
+--   Open             the records that are not final, as a list
+--   none-open        where no open record is known, all arcs hold
+--   one-final        a pass takes one record out of it, or changes nothing
+--   none-stays       where none is known, none becomes so
+--   onePass, passes  passes until one changes nothing, at most k of them
+--   span, span-length, span-in, span-all
+--                    the n numbers from o on
+--   Left k l j       what is left of a part that no arc joins to another: at most k open records, or none of them is known
+--   settles          so passes over all arcs, as many as there are open records and one more, end with one that changes nothing
 -- Assumes nothing.
 use mathlib.Core.Path.{_≡_, refl, sym, ap, _∙_, subst}
 use mathlib.Core.Logic.{_⊎_, inl, inr}

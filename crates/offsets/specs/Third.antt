@@ -1,8 +1,12 @@
 -- One third of the list, from the base: distances d that hold all arcs of ties, with 0 or less at the base, are the most that each record begins after it.
---     Allowed n t          a tie that is not refused: records below n, -20,000 ≤ least ≤ most ≤ 20,000
---     Ready n ts           ties that are not refused: at most 1,024 with records below n, which is at most 1,024
---     joined-known         what ties join to the base is known
---     most-attained        there is a placing that has all known records exactly at their distances
+--   Allowed n t    a tie that is not refused: records below n, -20,000 ≤ least ≤ most ≤ 20,000
+--   Ready n ts     ties that are not refused: at most 1,024 with records below n, which is at most 1,024
+--   near-ends, near-neg, far-over
+--                  numbers within 20,000; one that is not reached is above 0
+--   ready-small, ready-inside, joined-arc
+--                  the arcs of ties that are not refused are small and of records below n; an arc leads from joined to joined
+--   joined-known   what ties join to the base is known
+--   most-attained  there is a placing that has all known records exactly at their distances
 -- Assumes nothing.
 use mathlib.Core.Path.{_≡_, refl, sym, ap, _∙_, subst}
 use mathlib.Core.Logic.{_⊎_, inl, inr}

@@ -1,11 +1,18 @@
--- One run of passes does all three: a list of three thirds of n distances. The first begins with all records at 0 and tells whether there is a placing. The second begins at the base and has the most that each record
--- begins after it. The third is relaxed by the ties turned round, and has the least, with the sign changed. No arc joins two thirds, so each settles as if alone, in the same n + 1 passes.
---     firstly, Starts      what stands in the list at first
---     three n f p q        a placing of each third, as one of all
---     settles3             if there is a placing, n + 1 passes end with one that changes nothing
---     first-places         if it did, the first third is a placing
---     under2, under3       no placing goes beyond the second and the third
---     known-joined         what is known in the second third is joined to the base
+-- One run of passes does all three: a list of three thirds of n distances. The first begins with all records at 0 and tells whether there is a placing. The
+-- second begins at the base and has the most that each record begins after it. The third is relaxed by the ties turned round, and has the least, with the sign
+-- changed. No arc joins two thirds, so each settles as if alone, in the same n + 1 passes.
+--   firstly, Starts  what stands in the list at first
+--   firstly-ind, firstly-base
+--                    which number that is; 0 or less at the base
+--   three n f p q    a placing of each third, as one of all
+--   Part             the three thirds
+--   settles3         if there is a placing, n + 1 passes end with one that changes nothing
+--   L-length, near-at, base-at
+--                    of the list after n + 1 passes: its length, how large its numbers are, 0 or less at the base
+--   known-joined     what is known in the second third is joined to the base
+--   hold1, hold2     after a pass that changed nothing the arcs of the second and the third hold
+--   first-places     if it did, the first third is a placing
+--   under1, under2   no placing goes beyond the second and the third
 -- Assumes nothing.
 use mathlib.Core.Path.{_≡_, refl, sym, ap, _∙_, subst}
 use mathlib.Core.Logic.{_⊎_, inl, inr}

@@ -1,9 +1,10 @@
 -- What the descent reads is in the grammar: if it gets e and leaves r, the bytes before r are e's by the rule.
---   All P x         P of what x has found, if it has found anything
---   By R l e r      e is read by the rule R from the front of l, and r is left
+--   All P x        P of what x has found, if it has found anything
+--   By R l e r     e is read by the rule R from the front of l, and r is left
+--   eat            a byte other than 0 that comes first is taken off
 --   sound-alternatives, sound-parts, sound-part, sound-atom
---                   what a rule's function finds is read by that rule
---   shorter         what is left is shorter than what was lent
+--                  what a rule's function finds is read by that rule
+--   shorter        what is left is shorter than what was lent
 -- Assumes nothing.
 use mathlib.Core.Path.{_≡_, refl, sym, ap, _∙_, subst}
 use mathlib.Core.List.{List, [], _∷_, _++_, append-assoc}

@@ -1,14 +1,14 @@
 -- The descent with as many calls as it needs: an equation for each way in which a rule's function goes on, with no word of the number of calls.
+--   if-true, if-false   a choice, by its test
 --   alternatives-is, more-alternatives-bar, more-alternatives-end
---                   alternatives, with | between them
+--                       alternatives, with | between them
 --   parts-is, more-parts-slash, more-parts-end
---                   parts, with / between them
+--                       parts, with / between them
 --   part-hat, part-plain, atom-group, atom-letter, atom-negated, atom-fault
---                   a part with or without ^; a group, a letter, a negated set, or none of them
+--                       a part with or without ^; a group, a letter, a negated set, or none of them
 --   mark-star, mark-plus, mark-optional, mark-none
---                   a mark, or none
---   alternatives-sound
---                   what is found is in the grammar
+--                       a mark, or none
+--   alternatives-sound  what is found is in the grammar
 -- Assumes nothing.
 use mathlib.Core.Path.{_≡_, refl, ap, _∙_}
 use mathlib.Core.List.{List}

@@ -1,11 +1,11 @@
 -- The verdict on a text, computed, and that it is the one right verdict.
---   verdict s       over 256 bytes first, then the grammar, then 63 letters and depth 8
---   verdict-right   it is right
---   verdict-only    and no other is
+--   verdict s      over 256 bytes first, then the grammar, then 63 letters and depth 8
+--   verdict-right  it is right
 --   verdict-long, verdict-none, verdict-more, verdict-letters, verdict-deep, verdict-accepted
---                   which verdict it is, by what the descent finds
---   InLimits s e    s is the text of e, within the limits
---   accepted-is     an accepted text is such
+--                  which verdict it is, by what the descent finds
+--   verdict-only   no other verdict is right
+--   InLimits s e   s is the text of e, within the limits
+--   accepted-is    an accepted text is such
 -- Assumes nothing.
 use mathlib.Core.Path.{_≡_, refl, sym, ap, _∙_}
 use mathlib.Core.Logic.{inl, inr, ⊎-elim}
