@@ -11,7 +11,7 @@
 --   fallen-are            fallen g e core anchors ascends, and its members are exactly the records that fall
 --   fallen-only           no other list is so
 --   core-never            the core is not among them
---   history-fallen        of the book after every history, `fallen` is the answer, and nothing else is
+--   history-fallen        the computed answer is right for the book after every history
 --   fallen-none           no anchors, no records
 --   support-in-order      the causes stand in the order of S16.4
 -- Assumes nothing.
