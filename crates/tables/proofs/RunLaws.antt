@@ -42,7 +42,7 @@ use Rattle.automaton.specs.Masks.{letterNumber, Masked}
 use Rattle.tables.specs.declared.Build.{Build}
 use Rattle.tables.specs.Rows.{Joined}
 use Rattle.tables.specs.Builds.{Part, changed, combined, parts, Item as Place, Items, none, item, Holds, symbols, places, Next}
-use Rattle.tables.proofs.BuildLaws.{zero-of, Top, top-of, joins}
+use Rattle.tables.proofs.PartLaws.{zero-of, Top, top-of, joins}
 
 -- ---- how many wait
 items-length : {b : Build} {m k : ℕ} {st : List Part} → Items b m k st → k ≡ length st
