@@ -1,5 +1,5 @@
 -- The list before the first pass, written in turn.
---     Begun n base i l     the first i numbers are as they are to be
+--   Begun n base i l  the first i numbers are as they are to be
 -- Assumes nothing.
 use mathlib.Core.Path.{_≡_, refl, sym, ap, _∙_, subst}
 use Prim.Native.Nat.{ℕ, zero, suc, _+_, _*_, _<_, _≤_, _^_}

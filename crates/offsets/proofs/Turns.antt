@@ -1,8 +1,9 @@
 -- The pass's invariant: what the ties that are left make of the state is what all of them make of the first one.
---     none         any tie, for `getD` past the end
---     turn         one tie more
---     over         no tie is left
---     judge-turn, judge-over   the same of judging
+--   none           any tie, for `getD` past the end
+--   turn           one tie more
+--   over           no tie is left
+--   judge-turn, judge-over
+--                  the same of judging
 -- And that of the passes: what the passes that are left make of the state is what all of them make of the first one (`again`), and fewer are left (`fewer`).
 -- Assumes nothing.
 use mathlib.Core.Path.{_≡_, refl, sym, _∙_, ap, subst}
