@@ -1,6 +1,6 @@
 -- Laws of the plain book: what holds of the sheets of every history, what a refused edit and an undo leave, and the order of the causes.
 --   causes-in-order, close-in-order
---                  the causes against an edit, and against closing up, stand in the order of S6.6
+--                  the causes against an edit stand in the order of S6.6, and those against closing up in that of S14.4
 --   number-positive, caused-positive
 --                  no cause has the number of acceptance
 --   first-caused   a number that is not 0, found as the first of some causes, is a cause's

@@ -1,5 +1,4 @@
--- Laws of `bitAt`, `onesBelow` and `wordsOf`: the bits of a list of words, after a store and of a part; the count of ones, word by word; the words of a list of
--- bits.
+-- Laws of `bitAt`, `onesBelow` and `wordsOf`.
 --   Bits f                f has no value but 0 and 1
 --   bit-lt, bit-in, bit-out, bit-within, bit-zero, bit-replicate
 --                         a bit of words: below 2, a digit of its word, 0 past the end and in a word of 0

@@ -1,5 +1,4 @@
--- Laws of the full tree: a bit above the cells is the largest of the four of its square, the last level is the cells, and a set's tree is the groups that are
--- not all 0.
+-- Laws of the full tree of squares, and of the groups that are not all 0.
 --   full-length    how many bits the full tree of some squares has
 --   above-law      a bit above the cells is the largest of the four below it
 --   leaf-law       the last level is the cells

@@ -1,5 +1,4 @@
--- Laws of sets of pairs: a product holds exactly where a middle record serves, the closure exactly where one or more pairs lead; each operation makes a set of
--- sets; the listed words ascend and are exactly the set's pairs.
+-- Laws of sets of pairs, of the operations on them, and of their pairs as listed words.
 --   one-of, bit-small, bit-on, on-bit
 --                         numbers that are not 0; a test as a number
 --   most-some, some-most, most-bit, most-none

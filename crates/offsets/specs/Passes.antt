@@ -31,7 +31,7 @@ use Rattle.offsets.specs.declared.Tie.{Tie}
 use Rattle.offsets.specs.Linear.{up, down, of-le, of-lt, to-le, to-lt, of-add, of-sub, of-pos, of-neg-up, of-neg-down, of-mag, ≤ℤ-trans}
 use Rattle.offsets.specs.Relax.{State, pick, known, dist, relaxAll, settled}
 use Rattle.offsets.specs.Offsets.{In, Placing}
-use Rattle.offsets.specs.Arcs.{Arc, arcs, arcs3, Keeps, arc, run, run-is, Holds, by-test, lower-ind, set-ind, arc-length, run-length, run-down, quiet}
+use Rattle.offsets.specs.Arcs.{Arc, arcs, arcs3, Keeps, arc, run, run-is, Holds, by-test, lower-ind, set-ind, arc-length, run-length, run-down, quiet-holds}
 use Rattle.offsets.specs.Settles.{onePass, passes}
 
 -- ---- what passes keep
@@ -55,7 +55,7 @@ passes-length k cs s = passes-keep (λ l. length l ≡ length (s .0)) cs (λ a _
 passes-case : (k : ℕ) (cs : List Arc) (s : State) (b : Bool) → onePass cs s .1 ≡ b → (passes k cs (onePass cs s) .1 ≡ false → b ≡ true → (a : Arc) → In a cs → Holds a (passes k cs (onePass cs s) .0))
     → pick b (passes k cs (onePass cs s)) (onePass cs s) .1 ≡ false → (a : Arc) → In a cs → Holds a (pick b (passes k cs (onePass cs s)) (onePass cs s) .0)
 passes-case k cs s true e f h = f h refl
-passes-case k cs s false e f h = λ a i. let q = quiet cs (s .0, false) e in subst (λ (x : State). Holds a (x .0)) (sym (q .0)) (q .1 a i)
+passes-case k cs s false e f h = λ a i. let q = quiet-holds cs (s .0, false) e in subst (λ (x : State). Holds a (x .0)) (sym (q .0)) (q .1 a i)
 
 pub passes-hold : (k : ℕ) (cs : List Arc) (s : State) → passes (suc k) cs s .1 ≡ false → (a : Arc) → In a cs → Holds a (passes (suc k) cs s .0)
 passes-hold zero cs s h = passes-case zero cs s (onePass cs s .1) refl (λ e t. absurd (true≢false (sym t ∙ e))) h

@@ -16,7 +16,7 @@
 --   span, span-length, span-in, span-all
 --                    the n numbers from o on
 --   Left k l j       what is left of a part that no arc joins to another: at most k open records, or none of them is known
---   settles          so passes over all arcs, as many as there are open records and one more, end with one that changes nothing
+--   passes-settle    so passes over all arcs, as many as there are open records and one more, end with one that changes nothing
 -- Assumes nothing.
 use mathlib.Core.Path.{_≡_, refl, sym, ap, _∙_, subst}
 use mathlib.Core.Logic.{_⊎_, inl, inr}
@@ -32,7 +32,7 @@ use lib.Signed.{leZ, _≤ℤ_, _<ℤ_, ≤ℤ-refl, clashℤ, <ℤ-≤ℤ-trans}
 use Rattle.offsets.specs.Linear.{of-le, of-lt, of-leb, of-not-leb, to-le, to-lt, of-add, of-sub, ≤ℤ-trans}
 use Rattle.offsets.specs.Relax.{State, pick, known, dist}
 use Rattle.offsets.specs.Offsets.{In, Placing}
-use Rattle.offsets.specs.Arcs.{Arc, Keeps, arc, run, Holds, by-test, lower-ind, set-ind, arc-length, arc-down, run-length, run-down, quiet, stays, lt-le}
+use Rattle.offsets.specs.Arcs.{Arc, Keeps, arc, run, Holds, by-test, lower-ind, set-ind, arc-length, arc-down, run-length, run-down, quiet-holds, holds-quiet, lt-le}
 
 -- ---- lists of records
 -- a list without one of its members
@@ -387,8 +387,8 @@ module _ (p : Placing) (cs : List Arc) (keeps : Keeps p cs) (I : Type 0) (D : I 
   settles-case k s true e f = f refl
   settles-case k s false e f = e
 
-  pub settles : (k : ℕ) (s : State) → ((j : I) → Left k (s .0) j) → passes (suc k) cs s .1 ≡ false
-  settles zero s r = settles-case zero s (onePass cs s .1) refl (λ e.
-      let q : onePass cs s .1 ≡ false = ap (λ (x : State). x .1) (stays cs (s .0, false) (λ a i. let g = part a i in none-open p cs keeps (D (g .0)) (closed (g .0)) (s .0) (r (g .0) .os) (r (g .0) .opened) (left-zero (s .0) (g .0) (r (g .0))) a i (g .1))) in
+  pub passes-settle : (k : ℕ) (s : State) → ((j : I) → Left k (s .0) j) → passes (suc k) cs s .1 ≡ false
+  passes-settle zero s r = settles-case zero s (onePass cs s .1) refl (λ e.
+      let q : onePass cs s .1 ≡ false = ap (λ (x : State). x .1) (holds-quiet cs (s .0, false) (λ a i. let g = part a i in none-open p cs keeps (D (g .0)) (closed (g .0)) (s .0) (r (g .0) .os) (r (g .0) .opened) (left-zero (s .0) (g .0) (r (g .0))) a i (g .1))) in
       absurd (true≢false (sym e ∙ q)))
-  settles (suc k) s r = settles-case (suc k) s (onePass cs s .1) refl (λ e. settles k (onePass cs s) (λ j. left-less k s j (r j)))
+  passes-settle (suc k) s r = settles-case (suc k) s (onePass cs s .1) refl (λ e. passes-settle k (onePass cs s) (λ j. left-less k s j (r j)))

@@ -22,7 +22,7 @@ use Rattle.offsets.specs.declared.Tie.{Tie}
 use Rattle.offsets.specs.Linear.{up, down, of-le, to-le, to-eq, of-add, of-sub, of-pos, of-neg-up, of-neg-down, ≤ℤ-trans, ≤ℤ-antisym}
 use Rattle.offsets.specs.Relax.{known}
 use Rattle.offsets.specs.Offsets.{In, Placing, Meets, Places, Joins, Joined, self, onward}
-use Rattle.offsets.specs.Arcs.{Arc, up-arc, down-arc, arcs, of-ties, in-up, in-down, meets}
+use Rattle.offsets.specs.Arcs.{Arc, up-arc, down-arc, arcs, of-ties, in-up, in-down, sums-meet}
 use Rattle.offsets.specs.Passes.{Near, near-add, near-known, far, known-not-far, Small}
 
 pub record Allowed (n : ℕ) (t : Tie) : Type 0 where
@@ -113,7 +113,7 @@ module _ (n : ℕ) (us : List Tie) (ready : Ready n us) (base : ℕ) (base-in : 
             (subst (λ (x : ℤ). (t .least ≤ℤ (choose b (d (t .second)) (f (t .second)) -ℤ x)) × ((choose b (d (t .second)) (f (t .second)) -ℤ x) ≤ℤ t .most)) (sym (best-at (t .first) b e)) m)
 
         go : (b c : Bool) → known (d (t .first)) ≡ b → known (d (t .second)) ≡ c → Meets best t
-        go true true e g = at true e g (meets (d (t .first)) (d (t .second)) (t .least) (t .most) (hold (up-arc t) (in-up us t i) e) (hold (down-arc t) (in-down us t i) g))
+        go true true e g = at true e g (sums-meet (d (t .first)) (d (t .second)) (t .least) (t .most) (hold (up-arc t) (in-up us t i) e) (hold (down-arc t) (in-down us t i) g))
         go false false e g = at false e g (places t i)
         go true false e g = absurd (true≢false (sym (on (up-arc t) (in-up us t i) e) ∙ g))
         go false true e g = absurd (true≢false (sym (on (down-arc t) (in-down us t i) g) ∙ e))

@@ -1,5 +1,4 @@
--- Laws of `squeeze_word` and `squeeze`: groups of 0 add nothing, another group is put behind those at the front, and at the end the front is the words of the
--- groups.
+-- Laws of `squeeze_word` and `squeeze`: the groups that are not all 0, moved to the front.
 --   squeeze-gap, squeeze-hit, any-hit
 --                    groups of 0 add nothing; another group is put behind those at the front; a set bit makes its group not all 0
 --   Left f i r w ws  the loop of `squeeze_word`: w holds what is left of word i from a group on, and r groups are at the front

@@ -1,5 +1,4 @@
--- Laws of what the questions are given: the part of an ascending list between two numbers, the next place whose word passes a test, and whether a link touches
--- a record.
+-- Laws of what the questions are given.
 --   part-pairs, label-part
 --                  the part of an ascending list between two numbers: the links of a label
 --   next-here, next-on, next-end, next-link

@@ -1,4 +1,4 @@
--- The levels backward: the words and numbers keep what the search knows, states not seen grow fewer, and an empty level ends the search.
+-- The levels backward: what the search knows, kept level by level.
 --   distance-on, distance-off, distance-seen
 --                        the number counts where the state was seen
 --   ones-mono, ones-less, ones-most

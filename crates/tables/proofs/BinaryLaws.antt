@@ -27,7 +27,7 @@ use Rattle.automaton.specs.Masks.{letterNumber}
 use Rattle.tables.specs.declared.Build.{Build}
 use Rattle.tables.specs.Rows.{Joined}
 use Rattle.tables.specs.Builds.{Part, parts, Fit, Item, Holds}
-use Rattle.tables.proofs.PartLaws.{zero-of, fit-either, fit-followed, Same, keep, Top, top-of, put, joins, joins-off}
+use Rattle.tables.proofs.PartLaws.{zero-of, fit-either, fit-followed, Same, items-keep, Top, top-of, put-top, joins, joins-off}
 
 or-bit : (a b : ℕ) → a < 2 → b < 2 → bitOr a b ≡ max a b
 or-bit a b h g =
@@ -143,7 +143,7 @@ module _ {b : Build} {m : ℕ} {x y : Part} {st : List Part} (H : Holds b m (y �
         → Holds r m (e ∷ st)
     joint e C F le fe ce nn ff fl rf rp of op =
         record {
-          items = put e m (r .top) (let z = top₂ in omega arith) (ends₂ ∙ ap (λ (k : ℕ). o₁ + k) (sym le)) (keep sm (t₁ .rest)) F (rw (le, fe) it);
+          items = put-top e m (r .top) (let z = top₂ in omega arith) (ends₂ ∙ ap (λ (k : ℕ). o₁ + k) (sym le)) (items-keep sm (t₁ .rest)) F (rw (le, fe) it);
           count = em ∙ H .count;
           few = H .few;
           blank = record {

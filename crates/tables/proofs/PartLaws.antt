@@ -3,9 +3,9 @@
 --   fit-symbol, fit-repeated, fit-optional, fit-reversed, after-first, fit-either, fit-followed
 --                       the positions of a part are those of its letters; of two, the second's come after the first's
 --   Same b r o k        the masks of the stack below k and the rows up to o are as they were
---   keep                so the parts that lie there wait still
+--   items-keep          so the parts that lie there wait still
 --   Top b m k x st      the latest that waits, and what waits below it
---   top-of, put         it is taken off, and put on
+--   top-of, put-top     it is taken off, and put on
 --   joins, joins-off    tables with edges added, and their rows that stay
 -- Assumes nothing.
 use mathlib.Core.Path.{_≡_, refl, sym, ap, _∙_, subst}
@@ -73,10 +73,10 @@ pub record Same (b r : Build) (o k : ℕ) : Type 0 where
   pub pred : (p q : ℕ) → Between 0 o q → digit (getD (r .pred) q 0) p ≡ digit (getD (b .pred) q 0) p
   pub enter : (c q : ℕ) → Between 0 o q → digit (getD (r .enter) c 0) q ≡ digit (getD (b .enter) c 0) q
 
-pub keep : {b r : Build} {o k : ℕ} {st : List Part} → Same b r o k → Items b o k st → Items r o k st
-keep S none = none
-keep {b} {r} S (item {o} {k} {x} I F T) =
-    item (keep (record {
+pub items-keep : {b r : Build} {o k : ℕ} {st : List Part} → Same b r o k → Items b o k st → Items r o k st
+items-keep S none = none
+items-keep {b} {r} S (item {o} {k} {x} I F T) =
+    item (items-keep (record {
       nullable = λ i h. S .nullable i (omega arith);
       first = λ i h. S .first i (omega arith);
       last = λ i h. S .last i (omega arith);
@@ -109,8 +109,8 @@ pub top-of : {b : Build} {m k : ℕ} {x : Part} {st : List Part} → Items b m k
 top-of (item {o} {k} I F T) = record { o = o; j = k; at = refl; ends = refl; rest = I; fit = F; this = T }
 
 -- and reversed
-pub put : {b : Build} {o j : ℕ} {st : List Part} (x : Part) (m k : ℕ) → k ≡ suc j → m ≡ o + x .letters → Items b o j st → Fit x → Item b j o (o + x .letters) (x .fragment o) → Items b m k (x ∷ st)
-put {b} {o} {j} {st} x m k e f I F T = subst (λ (i : ℕ). Items b m i (x ∷ st)) (sym e) (subst (λ (i : ℕ). Items b i (suc j) (x ∷ st)) (sym f) (item I F T))
+pub put-top : {b : Build} {o j : ℕ} {st : List Part} (x : Part) (m k : ℕ) → k ≡ suc j → m ≡ o + x .letters → Items b o j st → Fit x → Item b j o (o + x .letters) (x .fragment o) → Items b m k (x ∷ st)
+put-top {b} {o} {j} {st} x m k e f I F T = subst (λ (i : ℕ). Items b m i (x ∷ st)) (sym e) (subst (λ (i : ℕ). Items b i (suc j) (x ∷ st)) (sym f) (item I F T))
 
 -- ---- tables with edges added
 module _ {rows : List ℕ} {from : ℕ → ℕ} {to : ℕ} {r : List ℕ} (J : Joined rows from to 64 r) where

@@ -26,7 +26,7 @@ use Rattle.automaton.specs.Masks.{letterNumber}
 use Rattle.tables.specs.declared.Build.{Build}
 use Rattle.tables.specs.Rows.{Joined, sideOf, letterDigit}
 use Rattle.tables.specs.Builds.{Part, parts, Item, Holds}
-use Rattle.tables.proofs.PartLaws.{fit-symbol, Same, keep, put}
+use Rattle.tables.proofs.PartLaws.{fit-symbol, Same, items-keep, put-top}
 
 -- whether a letter is in the two sets, by its number
 digit-bit : (d : ℕ) → d < 2 → d ≡ bit (eqb d 1)
@@ -59,7 +59,7 @@ pub holds-symbol : {b r : Build} {m : ℕ} {st : List Part} → Holds b m st →
 unfolding parts single
 holds-symbol {b} {r} {m} {st} H forward against mark hf ha hm lf ll lo ln eb et em ef el eo en J eh ep =
     record {
-      items = put (parts .of forward against) (m + 1) (r .top) (et ∙ (let z : b .top + 1 ≡ suc (b .top) = omega arith in z)) refl (keep sm (H .items)) (fit-symbol forward against) it;
+      items = put-top (parts .of forward against) (m + 1) (r .top) (et ∙ (let z : b .top + 1 ≡ suc (b .top) = omega arith in z)) refl (items-keep sm (H .items)) (fit-symbol forward against) it;
       count = em ∙ ap (λ (x : ℕ). x + 1) (H .count);
       few = omega (arith, H .count);
       blank = record {

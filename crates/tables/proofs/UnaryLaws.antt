@@ -21,7 +21,7 @@ use Rattle.automaton.specs.Masks.{letterNumber}
 use Rattle.tables.specs.declared.Build.{Build}
 use Rattle.tables.specs.Rows.{Joined, Mixed, inverseNumber, Turned}
 use Rattle.tables.specs.Builds.{Part, parts, Item, Holds}
-use Rattle.tables.proofs.PartLaws.{zero-of, fit-repeated, fit-optional, fit-reversed, Same, keep, Top, top-of, put, joins, joins-off}
+use Rattle.tables.proofs.PartLaws.{zero-of, fit-repeated, fit-optional, fit-reversed, Same, items-keep, Top, top-of, put-top, joins, joins-off}
 
 -- ---- one or more
 module _ {b r : Build} {m : ℕ} {x : Part} {st : List Part} (H : Holds b m (x ∷ st)) where
@@ -30,7 +30,7 @@ module _ {b r : Build} {m : ℕ} {x : Part} {st : List Part} (H : Holds b m (x �
       → Joined (b .pred) (digit (getD (b .first) (b .top - 1) 0)) (getD (b .last) (b .top - 1) 0) 64 (r .pred) → Holds r m (parts .repeated x ∷ st)
   unfolding parts repeated
   holds-plus et em ef el eo en ee J K =
-      record { items = put (parts .repeated x) m (r .top) (et ∙ t .at) (t .ends) (keep sm (t .rest)) (fit-repeated (t .fit)) it; count = em ∙ H .count; few = H .few; blank = record { follow = bf; pred = bp; enter = λ c q n. rw ee (H .blank .enter c q n) } }
+      record { items = put-top (parts .repeated x) m (r .top) (et ∙ t .at) (t .ends) (items-keep sm (t .rest)) (fit-repeated (t .fit)) it; count = em ∙ H .count; few = H .few; blank = record { follow = bf; pred = bp; enter = λ c q n. rw ee (H .blank .enter c q n) } }
     where
       t : Top b m (b .top) x st
       t = top-of (H .items)
@@ -96,7 +96,7 @@ module _ {b r : Build} {m : ℕ} {x : Part} {st : List Part} (H : Holds b m (x �
       → Holds r m (parts .maybe x ∷ st)
   unfolding parts optional
   holds-optional ln et em ef el eo en ee eh ep =
-      record { items = put (parts .maybe x) m (r .top) (et ∙ t .at) (t .ends) (keep sm (t .rest)) (fit-optional (t .fit)) it; count = em ∙ H .count; few = H .few; blank = record { follow = λ p q n. rw eh (H .blank .follow p q n); pred = λ p q n. rw ep (H .blank .pred p q n); enter = λ c q n. rw ee (H .blank .enter c q n) } }
+      record { items = put-top (parts .maybe x) m (r .top) (et ∙ t .at) (t .ends) (items-keep sm (t .rest)) (fit-optional (t .fit)) it; count = em ∙ H .count; few = H .few; blank = record { follow = λ p q n. rw eh (H .blank .follow p q n); pred = λ p q n. rw ep (H .blank .pred p q n); enter = λ c q n. rw ee (H .blank .enter c q n) } }
     where
       t : Top b m (b .top) x st
       t = top-of (H .items)
@@ -134,7 +134,7 @@ module _ {b r : Build} {m : ℕ} {x : Part} {st : List Part} (H : Holds b m (x �
       → Holds r m (parts .inverted x ∷ st)
   unfolding parts reversed
   holds-inverse lf ll le lr et em ef el eo en F P E =
-      record { items = put (parts .inverted x) m (r .top) (et ∙ t .at) (t .ends) (keep sm (t .rest)) (fit-reversed (t .fit)) it; count = em ∙ H .count; few = H .few; blank = record { follow = λ p q n. off-row F p q (λ h. n (omega arith, omega (arith, t .ends))) ∙ H .blank .follow p q n; pred = λ p q n. off-row P q p (λ h. n (omega arith, omega (arith, t .ends))) ∙ H .blank .pred p q n; enter = be } }
+      record { items = put-top (parts .inverted x) m (r .top) (et ∙ t .at) (t .ends) (items-keep sm (t .rest)) (fit-reversed (t .fit)) it; count = em ∙ H .count; few = H .few; blank = record { follow = λ p q n. off-row F p q (λ h. n (omega arith, omega (arith, t .ends))) ∙ H .blank .follow p q n; pred = λ p q n. off-row P q p (λ h. n (omega arith, omega (arith, t .ends))) ∙ H .blank .pred p q n; enter = be } }
     where
       t : Top b m (b .top) x st
       t = top-of (H .items)

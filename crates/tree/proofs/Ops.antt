@@ -43,7 +43,7 @@ use Rattle.tree.specs.Inner.{nothing, treeAlone, valued, LinksBelow, out
 use Rattle.tree.specs.InnerLaws.{valued-alone, valued-nothing}
 use Rattle.tree.specs.Calls.{treeOfTwo}
 use Rattle.tree.specs.Settling.{Shown}
-use Rattle.tree.proofs.Copies.{wrong}
+use Rattle.tree.proofs.Copies.{both-absurd}
 
 -- ---- rows
 pub rows-none : bitAt (replicate 16384 0) ≡ flat noPairs
@@ -180,4 +180,4 @@ told-room {t} {n} {ws} {used} {work} {before} i e = by (room-or n t (length work
   where
     by : Dec (Room n t (length work) (length used) (length before)) → Room n t (length work) (length used) (length before)
     by (yes o) = o
-    by (no f) = absurd (wrong (i .left f .0) e)
+    by (no f) = absurd (both-absurd (i .left f .0) e)
