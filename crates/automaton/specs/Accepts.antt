@@ -11,7 +11,7 @@ use Rattle.automaton.specs.Automata.{On, is, Fragment, started, automato
 use Rattle.automaton.specs.SetLaws.{on-max, on-left, on-right, on-both, on-min, on-is, is-on}
 use Rattle.automaton.specs.Traces.{Trace, at, on, Reads, nothing, along, Within}
 use Rattle.automaton.specs.TraceLaws.{within}
-use Rattle.automaton.specs.ReadLaws.{sound, complete}
+use Rattle.automaton.specs.ReadLaws.{reads-words, words-reads}
 
 -- past the start the sets are those of the positions
 past : (q a b : ℕ) → 0 < q → On (max a (min (is 0 q) b)) → On a
@@ -51,4 +51,4 @@ module _ {A : Fragment} {hi : ℕ} (W : Within 0 hi A) where
   reads-run (along f t l) = trace-run (on-right _ _ (on-both _ _ (is-on 0) f)) t l
 
 pub words-run : (e : Expr) (w : List Letter) → Words e w ↔ Run (automaton e) 0 w
-words-run e w = ((λ d. reads-run (within e 0) (complete d 0)), (λ r. sound e 0 w (run-reads (within e 0) r)))
+words-run e w = ((λ d. reads-run (within e 0) (words-reads d 0)), (λ r. reads-words e 0 w (run-reads (within e 0) r)))

@@ -1,11 +1,11 @@
 -- The levels backward: one level more keeps what the numbers mean, and an empty level ends the search.
 --   walk-stop, walk-more, walk-ends, walk-less
---                   walks made and taken apart at their first step
---   Which a b, which
---                   which of two numbers is the less
---   known-grown     one level more
---   known-none      with no number of the last level there is no walk, of any length, from where the number is 0
---   exact           a step from a number m + 2 to where there is a walk of m steps leads to the number m + 1
+--                     walks made and taken apart at their first step
+--   reach-less        what reaches the end in one step more has a first step
+--   Which a b, which  which of two numbers is the less
+--   known-grown       one level more
+--   known-none        with no number of the last level there is no walk, of any length, from where the number is 0
+--   exact             a step from a number m + 2 to where there is a walk of m steps leads to the number m + 1
 -- Assumes nothing.
 use mathlib.Core.Path.{_≡_, refl, ap, subst}
 use mathlib.Core.List.{List, [], _∷_}

@@ -1,4 +1,16 @@
--- The fragment of an expression reads exactly its words. Assumes nothing.
+-- The fragment of an expression reads exactly its words.
+--   Cut q w r            a trace of two fragments one after the other from a position of the first: it stays there, or it parts where it goes over
+--   cut, reads-either, reads-followed
+--                        a word of the two together is one of either, or one of the first and then one of the second
+--   Lap q w              a first word, and then nothing or more words
+--   lap, reads-repeated  a word of a repeated fragment is one or more of its words
+--   reads-single, reads-reversed, reads-optional
+--                        the words of one position, of a fragment reversed, and of one that may be left out
+--   reads-words          what the fragment of an expression reads is a word of it
+--   to-repeated, add-repeated, to-optional, to-nothing, to-reversed, to-left, to-right, to-followed
+--                        from the words of the parts to those of the larger fragment
+--   words-reads          it reads every word of the expression
+-- Assumes nothing.
 use mathlib.Core.Path.{_≡_, refl, sym, ap, subst}
 use mathlib.Core.Logic.{_⊎_, inl, inr}
 use mathlib.Core.List.{List, [], _∷_, _++_, append-nil}
@@ -167,30 +179,30 @@ reads-optional (nothing o) = inl refl
 reads-optional (along f t l) = inr (along f (trace-map (λ q a h. h) (λ p q h. h) t) l)
 
 -- what the automaton reads is a word of the expression
-pub sound : (e : Expr) (o : ℕ) (w : List Letter) → Reads (fragment e o) w → Words e w
+pub reads-words : (e : Expr) (o : ℕ) (w : List Letter) → Reads (fragment e o) w → Words e w
 unfolding fragment
-sound (symbol s) o w r = reads-single (suc o) s r
-sound (group e) o w r = inside (sound e o w r)
-sound (inverse e) o w r = subst (λ (m : List Letter). Words (inverse e) m) (backwards-backwards w) (word-reversed (sound e o (backwards w) (reads-reversed r)))
-sound (star e) o w r = go (reads-optional r) (sound e o)
+reads-words (symbol s) o w r = reads-single (suc o) s r
+reads-words (group e) o w r = inside (reads-words e o w r)
+reads-words (inverse e) o w r = subst (λ (m : List Letter). Words (inverse e) m) (backwards-backwards w) (word-reversed (reads-words e o (backwards w) (reads-reversed r)))
+reads-words (star e) o w r = go (reads-optional r) (reads-words e o)
   where
     go : (w ≡ []) ⊎ Reads (repeated (fragment e o)) w → ((v : List Letter) → Reads (fragment e o) v → Words e v) → Words (star e) w
     go (inl h) s = subst (λ (m : List Letter). Words (star e) m) (sym h) star-none
     go (inr h) s = star-some (reads-repeated e (fragment e o) s h)
-sound (plus e) o w r = reads-repeated e (fragment e o) (sound e o) r
-sound (optional-part e) o w r = go (reads-optional r) (sound e o w)
+reads-words (plus e) o w r = reads-repeated e (fragment e o) (reads-words e o) r
+reads-words (optional-part e) o w r = go (reads-optional r) (reads-words e o w)
   where
     go : (w ≡ []) ⊎ Reads (fragment e o) w → (Reads (fragment e o) w → Words e w) → Words (optional-part e) w
     go (inl h) s = subst (λ (m : List Letter). Words (optional-part e) m) (sym h) optional-none
     go (inr h) s = optional-once (s h)
-sound (alternative e f) o w r = go (reads-either (within e o) (within f (o + letters e)) r) (sound e o w) (sound f (o + letters e) w)
+reads-words (alternative e f) o w r = go (reads-either (within e o) (within f (o + letters e)) r) (reads-words e o w) (reads-words f (o + letters e) w)
   where
     go : Reads (fragment e o) w ⊎ Reads (fragment f (o + letters e)) w → (Reads (fragment e o) w → Words e w) → (Reads (fragment f (o + letters e)) w → Words f w) → Words (alternative e f) w
     go (inl h) s t = left (s h)
     go (inr h) s t = right (t h)
-sound (sequence e f) o w r =
+reads-words (sequence e f) o w r =
     let p = reads-followed (within e o) (within f (o + letters e)) r in
-    subst (λ (m : List Letter). Words (sequence e f) m) (sym (p .4)) (joined (sound e o (p .0) (p .2)) (sound f (o + letters e) (p .1) (p .3)))
+    subst (λ (m : List Letter). Words (sequence e f) m) (sym (p .4)) (joined (reads-words e o (p .0) (p .2)) (reads-words f (o + letters e) (p .1) (p .3)))
 
 -- ---- from the parts' words to those of a larger automaton
 to-repeated : {A : Fragment} {w : List Letter} → Reads A w → Reads (repeated A) w
@@ -246,17 +258,17 @@ module _ (A B : Fragment) where
   to-followed (along f t l) (along g s k) = along (on-left _ _ f) (trace-join (in-first t) (on-right _ _ (on-both _ _ l g)) (in-second s)) (on-left _ _ k)
 
 -- the automaton reads every word of the expression
-pub complete : {e : Expr} {w : List Letter} → Words e w → (o : ℕ) → Reads (fragment e o) w
+pub words-reads : {e : Expr} {w : List Letter} → Words e w → (o : ℕ) → Reads (fragment e o) w
 unfolding fragment
-complete (itself h) o = unfold single in (along (is-on (suc o)) (at (on-both _ _ (is-on (suc o)) (bit-on h))) (is-on (suc o)))
-complete (inside d) o = complete d o
-complete (word-reversed d) o = to-reversed (complete d o)
-complete (left {e = e} {f = f} d) o = to-left (fragment f (o + letters e)) (complete d o)
-complete (right {e = e} d) o = to-right (fragment e o) (complete d (o + letters e))
-complete (joined {e = e} {f = f} d d′) o = to-followed (fragment e o) (fragment f (o + letters e)) (complete d o) (complete d′ (o + letters e))
-complete (once d) o = to-repeated (complete d o)
-complete (again d d′) o = add-repeated (complete d o) (complete d′ o)
-complete (star-none {e}) o = to-nothing (repeated (fragment e o))
-complete (star-some d) o = to-optional (complete d o)
-complete (optional-none {e}) o = to-nothing (fragment e o)
-complete (optional-once d) o = to-optional (complete d o)
+words-reads (itself h) o = unfold single in (along (is-on (suc o)) (at (on-both _ _ (is-on (suc o)) (bit-on h))) (is-on (suc o)))
+words-reads (inside d) o = words-reads d o
+words-reads (word-reversed d) o = to-reversed (words-reads d o)
+words-reads (left {e = e} {f = f} d) o = to-left (fragment f (o + letters e)) (words-reads d o)
+words-reads (right {e = e} d) o = to-right (fragment e o) (words-reads d (o + letters e))
+words-reads (joined {e = e} {f = f} d d′) o = to-followed (fragment e o) (fragment f (o + letters e)) (words-reads d o) (words-reads d′ (o + letters e))
+words-reads (once d) o = to-repeated (words-reads d o)
+words-reads (again d d′) o = add-repeated (words-reads d o) (words-reads d′ o)
+words-reads (star-none {e}) o = to-nothing (repeated (fragment e o))
+words-reads (star-some d) o = to-optional (words-reads d o)
+words-reads (optional-none {e}) o = to-nothing (fragment e o)
+words-reads (optional-once d) o = to-optional (words-reads d o)

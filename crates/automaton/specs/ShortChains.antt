@@ -1,6 +1,6 @@
 -- A first chain is short: it has at most as many steps as the expression has letters, times n. A chain whose run comes twice by one record and
 -- state can be shortened, and there are only so many of both.
---   few             different numbers below k are at most k
+--   distinct-few    different numbers below k are at most k
 --   first-short     length ss ≤ letters e * n for the first chain ss
 --   chains-63       so at most 63 × n for an expression within the limits
 -- Assumes nothing.
@@ -28,13 +28,13 @@ use Rattle.automaton.specs.Searches.{Walk, Moves}
 use Rattle.automaton.specs.LevelLaws.{walk-more, walk-less}
 use Rattle.automaton.specs.WalkLaws.{length-stepWords, answers-walk}
 
-pub few : (k : ℕ) (l : List ℕ) → Distinct eqb l → ((v : ℕ) → has eqb v l ≡ true → v < k) → length l ≤ k
-few zero l d b = go l b
+pub distinct-few : (k : ℕ) (l : List ℕ) → Distinct eqb l → ((v : ℕ) → has eqb v l ≡ true → v < k) → length l ≤ k
+distinct-few zero l d b = go l b
   where
     go : (l : List ℕ) → ((v : ℕ) → has eqb v l ≡ true → v < 0) → length l ≤ 0
     go [] b = omega arith
     go (x ∷ l) b = absurd (let h : x < 0 = b x (unfold has in (rw (eq-eqb x x refl))) in omega arith)
-few (suc k) l d b = go (has eqb k l) refl (few k (without eqb k l) (distinct-without eqb-test k l d) below)
+distinct-few (suc k) l d b = go (has eqb k l) refl (distinct-few k (without eqb k l) (distinct-without eqb-test k l d) below)
   where
     below : (v : ℕ) → has eqb v (without eqb k l) ≡ true → v < k
     below v h =
@@ -131,7 +131,7 @@ module _ (g : Graph) (I : Inside g) (e : Expr) (y : ℕ) where
   first-short x ss f = let p = places ss (answers-walk (f .answers)) in by (p .0) (p .1) (shrink (p .1))
     where
       by : (ps : List ℕ) → Places x 0 ss ps → Distinct eqb ps ⊎ ((ts : List Step) × (length ts < length ss) × Walk g M y x 0 ts) → length ss ≤ letters e * g .n
-      by ps p (inl d) = omega (arith, few (letters e * g .n) ps d (places-lt p), places-length p)
+      by ps p (inl d) = omega (arith, distinct-few (letters e * g .n) ps d (places-lt p), places-length p)
       by ps p (inr d) =
           let a : Answers g e x y (d .0) = record { begins = f .answers .begins; ends = f .answers .ends; chain = d .2 .chain; spells = words-run e (spell (d .0)) .1 (d .2 .run) } in
           absurd (omega (arith, not-longer (f .least (d .0) a), length-stepWords ss, length-stepWords (d .0), d .1))

@@ -1,4 +1,12 @@
--- Laws of traces: mapped, joined and reversed; and where the positions of an expression's fragment lie. Assumes nothing.
+-- Laws of traces: mapped, joined and reversed; and where the positions of an expression's fragment lie.
+--   trace-map      a trace of a fragment is one of any whose letters and follows have all of its own
+--   trace-join     two traces as one, where a position of the second follows the end of the first
+--   trace-reversed, trace-forth
+--                  gone backwards, a trace is one of the reversed fragment; and from there back
+--   within-either, within-followed, within-repeated, within-optional, within-reversed, within-single
+--                  the positions of what is made of fragments lie where theirs do
+--   within         the fragment of an expression has its positions from o on, as many as there are letters
+-- Assumes nothing.
 use mathlib.Core.Path.{_≡_, sym, subst}
 use mathlib.Core.Logic.{_⊎_, inl, inr}
 use mathlib.Core.List.{List, _++_}

@@ -1,4 +1,14 @@
--- Laws of sets of bits, and of `bitAt` after the stores that make them. Assumes nothing.
+-- Laws of sets of bits, and of `bitAt` after the stores that make them.
+--   put-at, put-off    the bit put in is there, and every other is as it was
+--   bits-set           a store that changes one digit of one word changes one bit alone
+--   digit-or-pow       or with a power of two sets a digit
+--   bits-none          words of 0 have no bit
+--   either-word, both-word, minus-word
+--                      the digits of `|`, `&` and `& !` of two words are the union, intersection and difference of their bits
+--   four-in, four-out  four bits from a multiple of 4 on, as the code reads them from one word; past the end they are 0
+--   gap-join           two gaps, one after the other, are one
+--   gap-word           a word of 0 is a gap
+-- Assumes nothing.
 use mathlib.Core.Path.{_≡_, refl, sym, ap, _∙_, fun-ext}
 use mathlib.Core.Bool.{Bool, true, false}
 use mathlib.Core.List.{List}

@@ -1,5 +1,24 @@
--- Cases of the plain book: the edits of the sample (S7.8), each number from 2 to 8, 17 and 18 with the first cause in order winning, what is not held,
--- closing up with its 21 and 13, 257 edits and 257 undos, and a full register. Assumes nothing.
+-- Cases of the plain book: the edits of the sample (S7.8), each number from 2 to 8, 17 and 18 with the first cause in order winning, what is not held, closing
+-- up with its 21 and 13, 257 edits and 257 undos, and a full register.
+--   adds, removes, locks, unlocks, withdraws, reinstates
+--                   the calls, in short
+--   fresh-1         a register has 1 to 1,024 records
+--   sample          the edits of the sample, S7.8
+--   refused-2, refused-3, refused-4, refused-5-6, refused-8
+--                   each of these numbers, also where a later cause is there too
+--   undo-each, undo-taken
+--                   an undo takes back an add, a remove, a lock and an unlock
+--   order-2-18, order-18-3, order-18-4, order-4-17, order-4-5, order-5-17
+--                   withdrawn records: each pair of causes that could be exchanged
+--   reinstated      6 for a record in use; a record that is reinstated takes links and locks again
+--   undo-withdrawn  an undo takes back a withdraw and a reinstate, and a refused one is not held
+--   total-each, total-undo, total-3
+--                   totals after adds, a remove and an undo; 3 for a label above 25
+--   close-21, close-13, close-given, close-renamed, close-drops
+--                   closing up: its refusals, the list it gives, what is renamed, and the held edits that are gone
+--   held-256        after 257 edits 256 undos pass, and the next gives 8
+--   fills, full-7   4,096 adds are accepted, and one more gives 7
+-- Assumes nothing.
 use mathlib.Core.Path.{_≡_, refl, ap}
 use mathlib.Core.List.{List, [], _∷_, _++_, map}
 use mathlib.Core.Bool.{Bool, true, false}

@@ -1,4 +1,24 @@
--- Laws of the plain book: what holds of the sheets of every history, what a refused edit and an undo leave, and the order of the causes. Assumes nothing.
+-- Laws of the plain book: what holds of the sheets of every history, what a refused edit and an undo leave, and the order of the causes.
+--   causes-in-order, close-in-order
+--                  the causes against an edit stand in the order of S6.6, and those against closing up in that of S14.4
+--   number-positive, caused-positive
+--                  no cause has the number of acceptance
+--   first-caused   a number that is not 0, found as the first of some causes, is a cause's
+--   first-none     accepted: the first cause is not there, nor any after it
+--   refused-same   a refused call changes nothing
+--   undo-back      an undo after an accepted edit gives the sheet before it
+--   after-more, answers-more, answers-length
+--                  a history with one call more; it has as many answers as calls
+--   first-proper   what the causes 2, 18 and 3 let pass is a proper link, whose ends are in use
+--   touched-end, end-touched
+--                  a record is touched exactly if it is an end of a link
+--   edited-fit     an accepted edit leaves a sheet that fits
+--   all-take       what holds of all sheets of a pile holds of the first k
+--   next-sound, fresh-sound, after-sound
+--                  the book is sound after any call, at the start, and after every history
+--   fit-bare, withdrawn-bare
+--                  a withdrawn record has no links and no lock: of a sheet that fits, and after every history
+-- Assumes nothing.
 use mathlib.Core.Path.{_≡_, refl, sym, ap, _∙_, subst}
 use mathlib.Core.Logic.{_⊎_, inl, inr, ⊎-elim}
 use mathlib.Core.List.{List, [], _∷_}

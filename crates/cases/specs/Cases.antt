@@ -1,4 +1,10 @@
 -- Every case of the tables holds: one theorem for each table, from what the definitions compute.
+--   Computed       what is computed of a case whose text has a given verdict
+--   holds, by      a case is met if what is computed of it is so
+--   k1-to-k12      the worked cases K1 to K12
+--   withdrawn-3    the same links with the record 3 withdrawn, and reinstated
+--   others         what looks right and is wrong, and chains as short as one another
+--   sets           negated sets
 -- Assumes nothing.
 use mathlib.Core.Path.{_≡_, refl, subst}
 use mathlib.Core.List.{List, _∷_, map}

@@ -1,7 +1,7 @@
 -- Texts and the number that their verdict gives, 0 for an expression: the faults of S3.4 and the limits of S8.2, negated sets among them, each by computation.
---   rated           the number of the verdict on a text
---   texts           a table of texts with their numbers; texts-rated says that they are those
---   repeated k u    the bytes u, k times
+--   rated          the number of the verdict on a text
+--   repeated k u   the bytes u, k times
+--   texts          a table of texts with their numbers; texts-rated says that they are those
 -- Assumes nothing.
 use mathlib.Core.Path.{_≡_, refl}
 use mathlib.Core.List.{List, [], _∷_, _++_, map}

@@ -1,4 +1,15 @@
--- From the register, the reader and the search to the book's answer. Assumes nothing.
+-- From the register, the reader and the search to the book's answer.
+--   inside, spans  the book's graph is proper, and the register's words span it
+--   used, withdrawn-from, withdrawn-to
+--                  a record below n is in use unless it is said to be withdrawn; from or to a withdrawn one there is no chain
+--   asked-size     the graph has the book's n
+--   answer-record, answer-text, answer-work, answer-list, answer-reply
+--                  the book's answer, by the first cause: 2, the text's number, 12, 13, or the reply
+--   foundAnswer    the answer, by what the search found
+--   refuses, refuses-record, refuses-text, refuses-work
+--                  a refusal keeps the promise: any, and by each of the causes before the search
+--   replies        so does the answer by what the search found
+-- Assumes nothing.
 use mathlib.Core.Path.{_≡_, refl, sym, ap, _∙_, subst}
 use mathlib.Core.Logic.{_⊎_, inl, inr}
 use mathlib.Core.List.{List, _++_}

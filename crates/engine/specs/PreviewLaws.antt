@@ -1,10 +1,10 @@
 -- Laws of previews.
---   tells-only      an outcome is told by one answer
---   accepted-as     an accepted call is accepted by every book that the register represents
---   preview-refused a refused call's number, with the list as it was, is what a preview promises
---   preview-asked   what the question gives on the register that an accepted call hands back is what a preview promises
---   preview-same    a preview gives what the question gives on the register that the call hands back: of an accepted call the same answer and the same list;
---                   of a refused one its number, and the list as it was
+--   tells-only       an outcome is told by one answer
+--   accepted-as      an accepted call is accepted by every book that the register represents
+--   preview-refused  a refused call's number, with the list as it was, is what a preview promises
+--   preview-asked    what the question gives on the register that an accepted call hands back is what a preview promises
+--   preview-same     a preview gives what the question gives on the register that the call hands back: of an accepted call the same answer and the same list;
+--                    of a refused one its number, and the list as it was
 -- Assumes nothing.
 use mathlib.Core.Path.{_≡_, refl, sym, ap, _∙_}
 use mathlib.Core.List.{List}

@@ -1,7 +1,8 @@
--- Two people at one sheet: the order of two adds or removes of different links is of no account. Assumes nothing.
---   alike-answers   registers that represent books which are alike give the same answers
---   two-people      the theorem, of every register that represents a book at least two links short of full
---   two-people-made the same of every register that calls made from a fresh one
+-- Two people at one sheet: the order of two adds or removes of different links is of no account.
+--   alike-answers    registers that represent books which are alike give the same answers
+--   two-people       the theorem, of every register that represents a book at least two links short of full
+--   two-people-made  the same of every register that calls made from a fresh one
+-- Assumes nothing.
 use mathlib.Core.Path.{_≡_, refl, sym, ap, _∙_, subst}
 use mathlib.Core.List.{List}
 use Prim.Native.Nat.{ℕ, _+_, _≤_, _<_}

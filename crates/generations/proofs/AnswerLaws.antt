@@ -1,4 +1,14 @@
--- From what the inner functions give to the answer, and to the promise: each refusal by the order of causes, the numbers, and the loop.
+-- From what the inner functions give to the answer, and to the promise.
+--   numbers-are, loop-is  the answer: the numbers of the depths, or the first loop of the smallest record that returns
+--   label-first, work-next, list-last, told
+--                         the outcome, by the first cause: 3, 12, 13, or what was found
+--   refuses, tells-numbers
+--                         a refusal keeps the promise, and so do numbers written to the list
+--   loop-told, tells-loop
+--                         the outcome of a loop, by the room for it; and its promise
+--   loopAnswer, looped    the answer by that of the chain question that finds the loop, and that it is the loop
+--   book-numbers, book-loop
+--                         both answers, from the depths and rows that are made of a register
 -- Assumes nothing.
 use mathlib.Core.Path.{_≡_, refl, sym, ap, _∙_, subst}
 use mathlib.Core.List.{List, [], _∷_, _++_, append-nil}

@@ -1,4 +1,15 @@
 -- Laws of depths: how many records are new or done, a record that is looked at, from its first link to its last, and all of them.
+--   done-most        no more records are done than there are
+--   Looking cs y ds ds′ depth p
+--                    y is entered, and the links into it before the place p of the index are still to be looked at; `depth` is one more than the deepest seen
+--   visited-known    a depth that is known
+--   looking-begins, visited-loop, looking-more, visited-done
+--                    y is entered; a link from a record that is being looked at is a loop; a link more; no link left
+--   Settled cs ds y  the records below y are done, and none is entered
+--   settled-none, settled-more, settled-loop
+--                    before the first record, one more, or a loop
+--   looking-back, back-looking
+--                    a record that is entered was new, so its entry may be taken back and made again
 -- Assumes nothing.
 use mathlib.Core.Path.{_≡_, refl, sym, ap, _∙_, subst}
 use mathlib.Core.Logic.{_⊎_, inl, inr, ⊎-elim}

@@ -1,5 +1,17 @@
--- Laws of labels: one out of range, their set as the bits of a number, the links that are kept, and the letters of a text. Assumes nothing.
-use mathlib.Core.Path.{_≡_, refl, sym, ap, ap₂, _∙_}
+-- Laws of labels: one out of range, their set as the bits of a number, the links that are kept, and the letters of a text.
+--   above-here, above-next, above-end, above-none
+--                      looking for a label above 25: here, further on, none left; with none, all are below 26
+--   contains-none, contains-more
+--                      the set of labels as the bits of a number: empty, and one label more
+--   keep-yes, keep-no  the links that are kept: a link of the labels, and one that is not
+--   separator-bar      the byte before any letter but the first is a bar
+--   two-more           two bytes more
+--   Laid set k text count
+--                      the letters below k of a set are in the text
+--   laid-none, laid-yes, laid-no
+--                      no letter yet; a letter of the set, and one that is not
+-- Assumes nothing.
+use mathlib.Core.Path.{_≡_, refl, sym, ap, ap₂, _∙_, subst}
 use mathlib.Core.List.{List, [], _∷_, _++_, append-assoc, append-nil}
 use mathlib.Core.Bool.{Bool, true, false, _||_}
 use Prim.Native.Nat.{ℕ, zero, suc, _+_, _*_, _/_, _%_, _^_, _<_, _≤_}

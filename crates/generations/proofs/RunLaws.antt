@@ -1,5 +1,11 @@
--- From the words of the links that are kept to the book's graph: their runs are its runs, and what leads to itself by them, or by the closure of their pairs, is
--- a loop. Assumes nothing.
+-- From the words of the links that are kept to the book's graph.
+--   top-longest    the longest run of the words is the longest of the graph
+--   Stepped x y    steps over these links from x to y, one or more
+--   leads-returns  a record that leads to itself by the words returns to itself in the graph
+--   links-set      the pairs of the words are a set of pairs below n
+--   closed-returns, returns-closed
+--                  the closure of these pairs joins a record to itself exactly if it returns
+-- Assumes nothing.
 use mathlib.Core.Path.{_≡_, refl, sym, ap, _∙_, subst, fun-ext}
 use mathlib.Core.Logic.{_⊎_, inl, inr, ⊎-elim}
 use mathlib.Core.List.{List, [], _∷_}

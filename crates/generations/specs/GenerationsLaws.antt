@@ -1,16 +1,15 @@
 -- Laws of generations.
---   longest-only    a record has one longest length
---   run-on          a run goes on over any steps of these links
---   returns-longer  a record that can return to itself has a run longer than any
---   numbered-only   there is one list of numbers
---   loop-only       a record has one first loop, as step words
---   generations-only
---                   there is one answer
+--   forward-link          a link crossed forward
+--   longest-only          a record has one longest length
+--   run-on                a run goes on over any steps of these links
+--   returns-longer        a record that can return to itself has a run longer than any
+--   numbered-only         there is one list of numbers
+--   loop-only             a record has one first loop, as step words
+--   generations-only      there is one answer
 --   numbers-none, loop-some
---                   if the answer is numbers, no record can return to itself; if it is a loop, the one where it begins is the smallest that can
---   outcome-only    there is one outcome
---   generations-in-order
---                   the causes stand in the order 3, 12, 13
+--                         if the answer is numbers, no record can return to itself; if it is a loop, the one where it begins is the smallest that can
+--   outcome-only          there is one outcome
+--   generations-in-order  the causes stand in the order 3, 12, 13
 -- Assumes nothing.
 use mathlib.Core.Path.{_≡_, refl, sym, ap, ap₂, _∙_, subst}
 use mathlib.Core.List.{List, [], _∷_, _++_}

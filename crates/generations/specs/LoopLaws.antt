@@ -1,10 +1,16 @@
 -- Loops as words: the first loop of a record is the first chain from it to itself that spells a word of (a|c)+, here of the labels 0 and 2.
---   loopExpr l ls   that expression, of the labels l and ls
---   loop-verdict    its text is accepted
+--   loopExpr l ls  that expression, of the labels l and ls
+--   loop-verdict   its text is accepted
+--   plain-words, loop-words
+--                  the words of that expression are those of one or more of these letters, plain
+--   length-places  a set of n labels has at most n
+--   loop-in-use, loop-labels
+--                  a loop has a first step, so its record is in use and the set of labels is not empty
 --   loop-answers, answers-loop
---                   a loop is a chain that spells a word of it, and such a chain is a loop
+--                  a loop is a chain that spells a word of it, and such a chain is a loop
 --   loop-is-first, first-is-loop
---                   so the first loop is the first chain, both ways
+--                  so the first loop is the first chain, both ways
+--   set-verdict    the text of a set's labels is accepted
 -- Assumes nothing.
 use mathlib.Core.Path.{_≡_, refl, sym, ap, _∙_, subst}
 use mathlib.Core.Logic.{⊎-elim}

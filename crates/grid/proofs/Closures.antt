@@ -1,5 +1,22 @@
 -- Laws of the closure by searches: what a search has seen and found, and the rows closed one after another.
---   Search n a x r v   r is among what x leads to by a, with the columns of a x, and with all that the seen, v, lead to in one step
+--   first-bit, empty-row  a cell of the rows is 0 or 1; a row with no mask is empty
+--   merged-here, merged-else, merged-self
+--                         a row merged into another, as rows of the relation: this one, every other, and into itself
+--   bit-here, bit-else    the word of one bit
+--   fresh-found, seen-word, seen-gap
+--                         a column found and not yet seen; a word with none; words that are not in the mask
+--   Search n a x r v      r is among what x leads to by a, with the columns of a x, and with all that the seen, v, lead to in one step
+--   search-done           all that is found is seen: the row is closed
+--   search-plain, search-whole
+--                         a record more is seen, whose row is that of a, or is closed already
+--   Searching n w x c ws ms ws′ ms′
+--                         row x is being searched, and the others are as they were
+--   searching-none, searching-more, left-less
+--                         before the first; a record more; one less is left
+--   half-none, half-same, half-next, half-beyond, half-all
+--                         the rows closed one after another: none, the same rows, one more, a mark beyond the records, all
+--   put-keeps, all-next   a mark put in keeps the others; the first x + 1 are marked
+--   rows-other            two rows have no word in common
 -- Assumes nothing.
 use mathlib.Core.Path.{_≡_, refl, sym, ap, ap₂, subst, _∙_}
 use mathlib.Core.Logic.{_⊎_, inl, inr, ⊎-elim}

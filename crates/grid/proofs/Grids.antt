@@ -1,6 +1,17 @@
 -- Laws of relations row by row.
+--   rows-apart, row-inside, unit-fits
+--                    where the rows stand, and that all of them fit
 --   Through n w i new ws ms ws′ ms′
---                   the rows below i are those of new, and of the first two relations nothing else has changed
+--                    the rows below i are those of new, and of the first two relations nothing else has changed
+--   through-none     so before the first row
+--   merged-replaced  a row merged into row i replaces it
+--   through-row, second-row
+--                    row i, and every row of the second relation, are as they were
+--   through-more, through-keep, through-merge
+--                    a row more: replaced, left as it is, merged in
+--   through-all      all rows: the relation is new
+--   within-union, unite-row
+--                    a union cut to n, and the row that is merged in for it
 -- Assumes nothing.
 use mathlib.Core.Path.{_≡_, refl, sym, ap, ap₂, _∙_, fun-ext}
 use mathlib.Core.List.{List}

@@ -1,4 +1,17 @@
--- Laws of listing: the columns of a row, word by word, and what is written of them. Assumes nothing.
+-- Laws of listing: the columns of a row, word by word, and what is written of them.
+--   columns-none, columns-hit, columns-gap, columns-same, columns-split, columns-row
+--                  the columns of a row: none, one more, over a gap, of equal rows, in two parts; they are its pair words
+--   word-inside, word-found, word-rest, word-done
+--                  the bits of a word, lowest first: the next one, what is left after it, and when nothing is
+--   cut-out, cut-gap, cut-word, cut-all
+--                  a row cut to n, word by word: past n, words that are not in the mask, one that is, past the last
+--   rows-none, rows-next, rows-all
+--                  the rows: none, the next, all are the list of the set
+--   shown-none, shown-in, shown-out
+--                  what is written of a list: nothing, a number more where there is room, one beyond it
+--   grown-none, grown-more, grown-to, grown-all
+--                  one part after another, up to the whole list
+-- Assumes nothing.
 use mathlib.Core.Path.{_≡_, refl, sym, ap, ap₂, subst, _∙_}
 use mathlib.Core.List.{List, [], _∷_, _++_, append-nil, append-assoc}
 use Prim.Native.Nat.{ℕ, zero, suc, _+_, _-_, _*_, _/_, _%_, _^_, _≤_, _<_}

@@ -1,5 +1,21 @@
 -- Laws of pairs put into a relation: one pair, the pairs of link words, and the diagonal.
+--   one-at, one-off, one-turned
+--                   one pair as a set: its cell, every other, and the pair exchanged
+--   pair-put, pair-outside
+--                   its bit put into the rows; a pair that is not below n changes nothing
+--   put-more, union-empty
+--                   more pairs put in; none
+--   none-left       with no mask set there is no pair
+--   diagonal-none, diagonal-more, diagonal-skip
+--                   the diagonal of the records below x: none, one more in use, one that is not
+--   within-twice    cut to n twice is cut once
+--   crossed-append  the pairs of link words, of one list after another
 --   letter m v      the pair of the link word v, if its label is in the set m
+--   crossed-one, letter-in, letter-out
+--                   one link word: in both senses, its pair if its label is in the set, else none
+--   put-none, crossed-next, crossed-start, crossed-all
+--                   word by word: the first i + 1 words, none, all
+--   zero-more       masks made empty, one after another
 -- Assumes nothing.
 use mathlib.Core.Path.{_≡_, refl, sym, ap, ap₂, _∙_, fun-ext}
 use mathlib.Core.Bool.{Bool, true, false, _||_}

@@ -1,4 +1,16 @@
--- Laws of the product by rows: the middle records gathered in turn, and a row replaced. Assumes nothing.
+-- Laws of the product by rows: the middle records gathered in turn, and a row replaced.
+--   most-next           the largest of values over a gap
+--   second-bit          a cell of the second relation is 0 or 1
+--   Gathered n w x ws ms z ws′ ms′
+--                       the rows of the middle records of x below z are merged into the spare row
+--   gathered-none, lowest-kept, gathered-more, gathered-all
+--                       none yet; the next middle record, found in the words as they are; its row merged in; all
+--   row-replaced        the spare row stored in place of row x
+--   composed n w ws ms  the cells of the product, row by row
+--   compose-more, compose-skip
+--                       a row more, and one that is empty
+--   within-product      cut to n they are the product of the two relations
+-- Assumes nothing.
 use mathlib.Core.Path.{_≡_, refl, sym, ap, ap₂, _∙_, fun-ext}
 use mathlib.Core.List.{List}
 use Prim.Native.Nat.{ℕ, zero, suc, _+_, _-_, _*_, _/_, _≤_, _<_, min, max}

@@ -1,7 +1,19 @@
 -- Laws of one row: a word put in, and another row merged in word by word.
---   Join m c old v r  r is word c of a row with the mask m, whose word was old, with v put in
---   Joined ..       the words that are in the mask s and below c are joined, the others as they were
---   Apart w b f     the rows at places b and f have no word in common
+--   word-in, word-off  the bits of one word at its place in a row
+--   row-same, row-at, row-empty, row-in
+--                      a row depends on its mask and its own words; its bits, in a word that is not in the mask and in one that is
+--   Join m c old v r   r is word c of a row with the mask m, whose word was old, with v put in
+--   join-in, join-new  by `|` if the word is in use, else v alone
+--   Joined w b f c m s ws ws′
+--                      the words that are in the mask s and below c are joined, the others as they were
+--   joined-none        so before the first
+--   Apart w b f        the rows at places b and f have no word in common
+--   joined-more, joined-all
+--                      a word more, and all of them: the row is merged in
+--   put-is             one word put in is a row merged in
+--   merged-none, merged-more, merged-apart, merged-to
+--                      merging nothing, one row after another, beside a row that lies apart, as an equal row
+--   one-mask           `1 << c` in a mask is a power of two
 -- Assumes nothing.
 use mathlib.Core.Path.{_≡_, refl, sym, ap, ap₂, _∙_}
 use mathlib.Core.Logic.{_⊎_, inl, inr}

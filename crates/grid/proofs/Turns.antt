@@ -1,7 +1,17 @@
 -- Laws of transposition: the pairs of one row after another put into the second relation exchanged, and the second taken over.
---   rowsBelow x a   the pairs of the rows of a below x
+--   merged-part          a row merged in the part of the work that begins with the second relation
+--   only-gap, only-more  a row's pairs below a column: over columns in which it has nothing, and one column more
+--   turned-none, turned-more, turned-all
+--                        a row's pairs put in exchanged: none, one column more, all below n
+--   rowsBelow x a        the pairs of the rows of a below x
 --   Turning n w x ws ms ws′ ms′
---                   the first relation is as it was, and the second has its rows below x, exchanged
+--                        the first relation is as it was, and the second has its rows below x, exchanged
+--   turning-none, turning-more, turning-all
+--                        so with no row, one row more, all of them: the second is the first, transposed
+--   first-same           the first relation depends on its own masks
+--   taken-row, taken-more
+--                        the second taken over, row by row
+--   second-zero          a mask more of the second relation is empty
 -- Assumes nothing.
 use mathlib.Core.Path.{_≡_, refl, sym, ap, ap₂, _∙_, fun-ext}
 use mathlib.Core.List.{List}

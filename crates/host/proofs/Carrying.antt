@@ -1,5 +1,22 @@
 -- Laws by which a promise of the engine is carried over to words: words have one register (`keeps-same`), so what holds of the one that was loaded holds of
--- every register whose words they are. Assumes nothing.
+-- every register whose words they are.
+--   refused-done          a refused call is not accepted
+--   load-none, load-some  by the number of the answer: the words are no register's, or those of the register that was loaded
+--   edit-foreign, edit-kept
+--                         an edit over words that are no register's, and over a register's
+--   close-foreign, close-kept
+--                         closing up, in the same way
+--   size-first, room-short, room-enough
+--                         the number of asking for a fresh register: by its size first, then by the room
+--   fresh-refused, fresh-short, fresh-made
+--                         what asking for one promises, in each case
+--   asked-foreign, asked  a question over words that are no register's, and over a register's
+--   links-handed          the links, copied to the front of a list
+--   size-foreign, sized, total-foreign, totalled
+--                         the number of records, and the total of a label
+--   lock-foreign, locked-word, withdrawn-foreign, withdrawn-word
+--                         whether a record is locked, or withdrawn
+-- Assumes nothing.
 use mathlib.Core.Path.{_≡_, refl, sym, ap, subst, _∙_}
 use mathlib.Core.Bool.{Bool, true, false, _||_}
 use mathlib.Core.List.{List, _++_}

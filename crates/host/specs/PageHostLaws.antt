@@ -1,8 +1,9 @@
--- What the calls of the printed page say of the plain book, and of one another. Assumes nothing.
---   pages-book      pages asked of words that keep a book: the number tells the book's answer, and the space is as that answer leaves it
+-- What the calls of the printed page say of the plain book, and of one another.
 --   bytes-told, read-told
 --                   which answer a number tells
+--   pages-book      pages asked of words that keep a book: the number tells the book's answer, and the space is as that answer leaves it
 --   exported-round  what the exported printer wrote, the exported reader gives back as the book's pairs
+-- Assumes nothing.
 use mathlib.Core.Path.{_≡_, sym, ap, subst, _∙_}
 use mathlib.Core.List.{List}
 use Prim.Native.Nat.{ℕ, _≤_, _<_}

@@ -1,7 +1,23 @@
--- Laws of `bitAt`, `onesBelow` and `wordsOf`: the bits of a list of words, after a store and of a part; the count of ones, word by word;
--- the words of a list of bits.
---   Bits f          f has no value but 0 and 1
---   Upto n f g      f and g agree in the first n words
+-- Laws of `bitAt`, `onesBelow` and `wordsOf`.
+--   Bits f                f has no value but 0 and 1
+--   bit-lt, bit-in, bit-out, bit-within, bit-zero, bit-replicate
+--                         a bit of words: below 2, a digit of its word, 0 past the end and in a word of 0
+--   bit-set, bit-set-off  after a word is stored: its own bits, and every other as it was
+--   bit-drop, bit-take    the bits of a part of the words
+--   bits-tell             words of the same length with the same bits are the same
+--   Upto n f g            f and g agree in the first n words
+--   upto-none, upto-more, upto-all
+--                         words written in turn: before the first, one more, all of them
+--   ones-le, ones-gap, ones-more, ones-part, ones-word, ones-shl
+--                         the count of ones: below its bound, over a gap, one digit more, of a part of a word, of a whole one, of a word shifted
+--   ones-cons, ones-append, ones-first
+--                         the count of ones of lists of bits, joined
+--   value-lt, value-digit
+--                         the number of n bits: how large, and its digits
+--   packed-length, packed-fits, packed-bits
+--                         bits packed into n words: so many, of 64 bits, with these bits
+--   words-bits, words-length, words-fit, words-tell
+--                         the words of a list of bits: their bits, how many they are, that they fit, and that no other words of this length have these bits
 -- Assumes nothing.
 use mathlib.Core.Path.{_≡_, refl, sym, ap, _∙_, fun-ext}
 use mathlib.Core.List.{List, [], _∷_, _++_}

@@ -1,5 +1,18 @@
--- Laws of `digit`: a word's bits after the language's operators. Assumes nothing.
-use mathlib.Core.Path.{_≡_, sym, _∙_}
+-- Laws of `digit`: a word's bits after the language's operators.
+--   shifted p v           the digits of v from place p on
+--   digit-lt, digit-zero, digit-suc, digit-none
+--                         a digit is 0 or 1; the lowest, the others, and those of 0
+--   one-shl               `1 << r` at a width of 64 is a power of two
+--   digit-or, digit-and, digit-not
+--                         the digits of `|`, `&` and `!`
+--   digit-pow, digit-big  a power of two has one digit set; above the highest digit all are 0
+--   digit-add, digit-shl  a digit further up, and the digits of `v << r`
+--   digit-four            four digits as a number
+--   digits-tell           the digits of a number tell it
+--   and-pow, or-pow       `&` and `|` with a power of two, as numbers
+-- Assumes nothing.
+use mathlib.Core.Path.{_≡_, refl, sym, ap, ap₂, _∙_}
+use mathlib.Core.Bool.{Bool, true, false}
 use Prim.Native.Nat.{ℕ, zero, suc, _+_, _-_, _*_, _/_, _%_, _^_, _≤_, _<_, min, max}
 use native.Mathlib.Nat.{div-div-eq-div-mul, pow-suc, pow-succ', zero-div, div-one, mul-div-cancel, mul-mod-left, zero-lt-suc, one-mul, mul-one, div-eq-of-lt, lt-of-lt-of-le, sub-zero, suc-sub-suc}
 use native.Mathlib.Omega.{arith}

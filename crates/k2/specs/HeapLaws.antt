@@ -1,5 +1,13 @@
--- Laws of the full tree: a bit above the cells is the largest of the four of its square, the last level is the cells, and a set's tree
--- is the groups that are not all 0. Assumes nothing.
+-- Laws of the full tree of squares, and of the groups that are not all 0.
+--   full-length    how many bits the full tree of some squares has
+--   above-law      a bit above the cells is the largest of the four below it
+--   leaf-law       the last level is the cells
+--   squeezed-past  groups of 0 add nothing
+--   full-above, full-cell, full-past
+--                  the same of the full tree of one square, and that it has nothing past its end
+--   full-tree      the groups of it that are not all 0 are the set's tree
+--   full-bits      its bits are 0 and 1
+-- Assumes nothing.
 use mathlib.Core.Path.{_≡_, refl, sym, ap, _∙_, fun-ext}
 use mathlib.Core.List.{List, [], _∷_, _++_, map, append-assoc, append-nil}
 use Prim.Native.Nat.{ℕ, zero, suc, _+_, _-_, _*_, _%_, _^_, _≤_, _<_, min, max}

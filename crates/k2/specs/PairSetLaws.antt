@@ -1,6 +1,23 @@
--- Laws of sets of pairs: a product holds exactly where a middle record serves, the closure exactly where one or more pairs lead;
--- each operation makes a set of sets; the listed words ascend and are exactly the set's pairs.
---   Within m l t    the numbers of l ascend, from m on, and are below t
+-- Laws of sets of pairs, of the operations on them, and of their pairs as listed words.
+--   one-of, bit-small, bit-on, on-bit
+--                         numbers that are not 0; a test as a number
+--   most-some, some-most, most-bit, most-none
+--                         the largest of the first n values: 1 or more exactly if one of them is
+--   union-set, intersection-set, difference-set, product-set, transpose-set, via-set, closure-set, diagonal-set
+--                         each operation makes a set of sets
+--   product-middle, middle-product
+--                         the product holds exactly where a middle record serves
+--   leads-on, closure-leads, leads-closure
+--                         the closure holds exactly where one or more pairs lead
+--   set-in, in-set, set-bit, set-past, setOf-set
+--                         the set of a list of pair words has exactly these pairs, and is a set
+--   in-listed, listed-in  the listed words are the set's pairs and no others
+--   Within m l t          the numbers of l ascend, from m on, and are below t
+--   within-rises, within-append, within-length
+--                         such numbers ascend; two lists as one; no more members than numbers
+--   listed-within, listed-rises, listed-below
+--                         the listed words ascend, each once, and are of records below n
+--   setOf-listed          the set of the listed words is the set
 -- Assumes nothing.
 use mathlib.Core.Path.{_≡_, refl, sym, ap, _∙_, fun-ext, subst}
 use mathlib.Core.Logic.{_⊎_, inl, inr, ⊎-elim}

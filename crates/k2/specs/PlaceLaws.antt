@@ -1,4 +1,15 @@
--- Laws of `place`: each place below 4 ^ h is that of one row and one column. Assumes nothing.
+-- Laws of `place`: each place below 4 ^ h is that of one row and one column.
+--   four-pos, place-lt  a place of a square of side 2 ^ h is below 4 ^ h
+--   row-place, column-place
+--                       the row and the column of a place are those that it was made of
+--   row-lt, column-lt, place-at
+--                       a place below 4 ^ h has a row and a column below 2 ^ h, and is theirs
+--   place-step          one digit more, as a loop from the top finds it
+--   row-step, column-step
+--                       by the highest digit of a place
+--   row-block, column-block
+--                       by blocks of 8 × 8, whose 64 places follow one another
+-- Assumes nothing.
 use mathlib.Core.Path.{_≡_, refl, sym, ap, _∙_}
 use Prim.Native.Nat.{ℕ, zero, suc, _+_, _*_, _/_, _%_, _^_, _<_}
 use native.Mathlib.Nat.{div-div-eq-div-mul, add-zero, mul-comm, mul-assoc, add-mul, mod-lt, div-add-mod', pow-suc, div-lt-iff-lt-mul, mul-add-div-right, mul-add-mod-self-right, div-eq-of-lt, mod-eq-of-lt}

@@ -1,4 +1,15 @@
--- Laws of trees: the tree of a set tells the set, and the tree of a transpose. Assumes nothing.
+-- Laws of trees: the tree of a set tells the set, and the tree of a transpose.
+--   tree-bits, treeWords-bits
+--                  the bits of a tree are 0 and 1, and its words have them
+--   treeWords-tell, treeBits-tell
+--                  a tree is the tree of one set of pairs below n
+--   treeWords-none, tree-none
+--                  the empty set has no words, and no words are a well-formed tree
+--   quadrant-transpose, filled-transpose
+--                  the quarters of a transposed square, with 1 and 2 exchanged; it is empty where the square is
+--   bit-transpose, node-transpose
+--                  each square of a tree stands in the tree of the transpose, transposed, with its second and third bit exchanged
+-- Assumes nothing.
 use mathlib.Core.Path.{_≡_, refl, sym, ap, _∙_, fun-ext}
 use mathlib.Core.List.{List, [], _∷_, _++_, map}
 use Prim.Native.Nat.{ℕ, zero, suc, _+_, _-_, _/_, _%_, _^_, _≤_, _<_, min}

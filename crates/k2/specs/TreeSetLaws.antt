@@ -1,4 +1,9 @@
--- Laws of reading a tree's set: the words of a set's tree tell the set, and words are well formed exactly if they are the tree of what they tell.
+-- Laws of reading a tree's set: what the words of a tree tell, and which words are a tree.
+--   tree-tells-set  the words of a set's tree tell the set
+--   told-set        what words tell is a set of pairs below n, whatever they are
+--   formed-tree, tree-formed
+--                   words pass the test exactly if they are well formed
+--   formed-set      and the set is the one that they tell
 -- Assumes nothing.
 use mathlib.Core.Path.{_≡_, refl, sym, ap, _∙_, fun-ext}
 use mathlib.Core.List.{List, [], _∷_}

@@ -2,8 +2,8 @@
 --   decode-request  the program takes the frame of a request for that request
 --   typed-sends     a line says nothing, a request whose text is within its limit, or one of two faults
 --   decode-line     for every line: the program takes the frame that is sent for what the line says
---   run-lines       for all lines of a session: on the frames that are sent the program prints what the lines ask for, line by line
 --   frame-parts     a frame from its parts
+--   run-lines       for all lines of a session: on the frames that are sent the program prints what the lines ask for, line by line
 -- Assumes nothing.
 use mathlib.Core.Path.{_≡_, refl, subst, _∙_}
 use mathlib.Core.List.{List, [], _∷_, _++_, append-assoc}

@@ -1,8 +1,12 @@
 -- Laws of words as the code reads them.
---   read-fits, read-not     from what was read: whether the word fits, and what it is
---   number-begun, number-next, number-not, number-over, number-none
---                           a number read figure by figure
---   label-size              a label's only byte
+--   read-fits, read-not  from what was read: whether the word fits, and what it is
+--   number-small, label-small
+--                        a number and a label are below what stands for none
+--   readAfter v w        the rest w of a number, of which v is read
+--   number-begun, number-empty, number-next, number-below, number-above, number-over, number-none
+--                        a number read figure by figure: begun, no byte, one figure more, a byte below or above the figures, too large, none left
+--   label-size, label-one, label-below, label-above, label-is
+--                        a label's only byte, and which bytes are one
 -- Assumes nothing.
 use mathlib.Core.Path.{_≡_, refl}
 use mathlib.Core.List.{List, [], _∷_}

@@ -1,18 +1,18 @@
 -- Laws of what is said, by what the code has read.
 --   typed-long, typed-short, begun-none, begun-comment, begun-request
---                   a line, by its length and its first byte that is no blank
---   requested-as    a word that is the same as another says what that one says
---   requested-none  a word that is none of the requests
+--                         a line, by its length and its first byte that is no blank
+--   requested-as          a word that is the same as another says what that one says
+--   requested-none        a word that is none of the requests
+--   label-under           a label that was read is one
 --   numbered-not, numbered-more, numbered-is
---                   one number and no more: it is none; more follows; it is
---   linked-not-from, linked-not-label, linked-not-to, linked-more, linked-is
---                   FROM LETTER TO and no more, in this order
---   alone-more, alone-is
---                   no argument
---   chained-not-from, chained-not-to, chained-is
---                   FROM TO EXPRESSION, in this order
+--                         one number and no more: it is none; more follows; it is
 --   lettered-not, lettered-more, lettered-is
---                   one letter and no more
+--                         one letter and no more
+--   alone-more, alone-is  no argument
+--   linked-not-from, linked-not-label, linked-not-to, linked-more, linked-is
+--                         FROM LETTER TO and no more, in this order
+--   chained-not-from, chained-not-to, chained-is
+--                         FROM TO EXPRESSION, in this order
 -- Assumes nothing.
 use mathlib.Core.Path.{_≡_, refl, ap, _∙_}
 use mathlib.Core.List.{List, [], _∷_}

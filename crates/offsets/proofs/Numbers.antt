@@ -1,4 +1,15 @@
 -- The numbers against the base and the ties, on each way through the code. A signed number that the code reads from its bits is `toZ w32 (ofZ w32 z)`.
+--   mark-none, mark-here, mark-past
+--                  whether a record is withdrawn, by its mark among the words: no record, its mark, words too short
+--   sooner-none, sooner-alone, sooner-second, sooner-first
+--                  the sooner of two numbers
+--   three-record, three-withdrawn, three-tie, three-none
+--                  the first of the causes 2, 18 and 19
+--   base-record, base-withdrawn, base-many, base-none
+--                  against the base and the number of ties: 2, 18, 19, none
+--   no-first, no-second, first-withdrawn, second-withdrawn, too-low, too-high, crossed, no-cause
+--                  against a tie: 2 or 18 for either record, 19 for its limits, none
+--   tie-back       a tie whose limits were handed on as bits is the tie
 -- Assumes nothing.
 use mathlib.Core.Path.{_≡_, refl, sym, ap, subst, _∙_}
 use mathlib.Core.Bool.{Bool, true, false, _||_}
@@ -17,9 +28,9 @@ use Rattle.book.specs.Basics.{pick}
 use Rattle.register.specs.Marks.{freeMark, withdrawnMark}
 use Rattle.register.specs.Words.{marksAt}
 use Rattle.offsets.specs.declared.Tie.{Tie}
-use Rattle.offsets.specs.Answers.{maxTies, outside}
-use Rattle.offsets.specs.Inner.{isWithdrawnIn, sooner, three, tieNumber, baseNumber}
-use Rattle.offsets.proofs.Integers.{back}
+use Rattle.offsets.specs.Answers.{maxTies, outside, offsetsWork}
+use Rattle.offsets.specs.Inner.{isWithdrawnIn, sooner, three, tieNumber, baseNumber, orElse}
+use Rattle.offsets.proofs.Integers.{bits-back}
 
 -- ---- a mark among the words
 pub mark-none : (ws : List ℕ) (k : ℕ) → maxRecords ≤ k → false ≡ isWithdrawnIn ws k
@@ -148,13 +159,13 @@ module _ (n : ℕ) (ms : List ℕ) (first second : ℕ) (least most : ℤ) where
           used = or-none (isWithdrawnIn ms first) (isWithdrawnIn ms second) u v
 
           low-is : (b : Bool) → ltZ (toZ w32 (ofZ w32 least)) (negsuc 19999) ≡ b → low ≡ b
-          low-is b e = ap (λ (z : ℤ). ltZ z (negsuc 19999)) (sym (back w32 least (fl .sfits))) ∙ e
+          low-is b e = ap (λ (z : ℤ). ltZ z (negsuc 19999)) (sym (bits-back w32 least (fl .sfits))) ∙ e
 
           high-is : (b : Bool) → ltZ (pos 20000) (toZ w32 (ofZ w32 most)) ≡ b → high ≡ b
-          high-is b e = ap (λ (z : ℤ). ltZ (pos 20000) z) (sym (back w32 most (fm .sfits))) ∙ e
+          high-is b e = ap (λ (z : ℤ). ltZ (pos 20000) z) (sym (bits-back w32 most (fm .sfits))) ∙ e
 
           cross-is : (b : Bool) → ltZ (toZ w32 (ofZ w32 most)) (toZ w32 (ofZ w32 least)) ≡ b → cross ≡ b
-          cross-is b e = ap (λ (z : ℤ). ltZ z least) (sym (back w32 most (fm .sfits))) ∙ ap (λ (z : ℤ). ltZ (toZ w32 (ofZ w32 most)) z) (sym (back w32 least (fl .sfits))) ∙ e
+          cross-is b e = ap (λ (z : ℤ). ltZ z least) (sym (bits-back w32 most (fm .sfits))) ∙ ap (λ (z : ℤ). ltZ (toZ w32 (ofZ w32 most)) z) (sym (bits-back w32 least (fl .sfits))) ∙ e
 
           out : (b : Bool) → (low || (high || cross)) ≡ b → outside t ≡ b
           unfolding outside
@@ -183,5 +194,5 @@ pub tie-back : (n : ℕ) (ms : List ℕ) (first second : ℕ) (least most : ℤ)
     → tieNumber n ms (record { first = first; second = second; least = toZ w32 (ofZ w32 least); most = toZ w32 (ofZ w32 most) })
     ≡ tieNumber n ms (record { first = first; second = second; least = least; most = most })
 tie-back n ms first second least most fl fm =
-    ap (λ (z : ℤ). tieNumber n ms (record { first = first; second = second; least = z; most = toZ w32 (ofZ w32 most) })) (back w32 least (fl .sfits))
-    ∙ ap (λ (z : ℤ). tieNumber n ms (record { first = first; second = second; least = least; most = z })) (back w32 most (fm .sfits))
+    ap (λ (z : ℤ). tieNumber n ms (record { first = first; second = second; least = z; most = toZ w32 (ofZ w32 most) })) (bits-back w32 least (fl .sfits))
+    ∙ ap (λ (z : ℤ). tieNumber n ms (record { first = first; second = second; least = least; most = z })) (bits-back w32 most (fm .sfits))

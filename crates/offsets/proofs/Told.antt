@@ -1,5 +1,14 @@
--- The two words of a record, on each way through the code.
--- A value that the code reads from its bits is `toZ w64 (ofZ w64 z)`: each law takes the facts as the code's tests leave them.
+-- The two words of a record, on each way through the code. A value that the code reads from its bits is `toZ w64 (ofZ w64 z)`: each law takes the facts as the
+-- code's tests leave them.
+--   least-low, least-high, most-low, most-high
+--                         a distance out of range is of a free record: its words are 1 and 0
+--   most-narrowed         the most, from a distance in range
+--   least-below, least-above, sub-fits, least-narrowed
+--                         the least: out of range below or above, or the distance with its sign changed, which fits
+--   narrow-low, narrow-high, narrow-fits, narrow-is
+--                         a number that fits 32 bits is not cut
+--   told-none, told-more  the words of no record, and of one more
+--   past-same             the words past those of n records stay
 -- Assumes nothing.
 use mathlib.Core.Path.{_≡_, sym, _∙_, ap, subst}
 use Prim.Native.Nat.{ℕ, zero, suc, _+_, _*_, _≤_, _<_, _^_}
@@ -19,7 +28,7 @@ use Rattle.offsets.specs.Relax.{known, dist}
 use Rattle.offsets.specs.Thirds.{choose}
 use Rattle.offsets.specs.Arcs.{set-ind}
 use Rattle.offsets.specs.Finds.{least-word, most-word, Told, Fits}
-use Rattle.offsets.proofs.Integers.{back, mag-neg, within, under, over}
+use Rattle.offsets.proofs.Integers.{bits-back, mag-neg, within, under, over}
 
 mag-of-neg : (z : ℤ) → mag z ≤ mag (negℤ z) + 1
 mag-of-neg (pos zero) = omega arith
@@ -34,7 +43,7 @@ module _ (n x : ℕ) (l : List ℤ) (fa : mag (dist l (n + x)) < 2 ^ 63) where
   a = toZ w64 (ofZ w64 (dist l (n + x)))
 
   a-is : a ≡ dist l (n + x)
-  a-is = back w64 (dist l (n + x)) fa
+  a-is = bits-back w64 (dist l (n + x)) fa
 
   too-low : ltZ a (negsuc 4611686018427387903) ≡ true → known (dist l (n + x)) ≡ false
   too-low e = le-ltb (mag (dist l (n + x))) (2 ^ 62) (under (dist l (n + x)) 4611686018427387903 (subst (λ (z : ℤ). ltZ z (negsuc 4611686018427387903) ≡ true) a-is e))
@@ -77,14 +86,14 @@ module _ (n x : ℕ) (l : List ℤ) (fa : mag (dist l (n + x)) < 2 ^ 63) where
     -- what `narrow` makes of the most
     pub most-narrowed : (r : ℤ) → (mag a < 2 ^ 31 → r ≡ a) → mag (most-word n l x) < 2 ^ 31 → toZ w32 (ofZ w32 r) ≡ most-word n l x
     most-narrowed r f small =
-        ap (λ (z : ℤ). toZ w32 (ofZ w32 z)) (f (subst (λ (z : ℤ). mag z < 2 ^ 31) (most-here ∙ sym a-is) small) ∙ a-is ∙ sym most-here) ∙ back w32 (most-word n l x) small
+        ap (λ (z : ℤ). toZ w32 (ofZ w32 z)) (f (subst (λ (z : ℤ). mag z < 2 ^ 31) (most-here ∙ sym a-is) small) ∙ a-is ∙ sym most-here) ∙ bits-back w32 (most-word n l x) small
 
     module _ (fb : mag (dist l (n * 2 + x)) < 2 ^ 63) where
       abbrev b : ℤ
       b = toZ w64 (ofZ w64 (dist l (n * 2 + x)))
 
       b-is : b ≡ dist l (n * 2 + x)
-      b-is = back w64 (dist l (n * 2 + x)) fb
+      b-is = bits-back w64 (dist l (n * 2 + x)) fb
 
       not-small : 2 ^ 62 ≤ mag (dist l (n * 2 + x)) → mag (least-word n l x) < 2 ^ 31 → pos 1 ≡ least-word n l x
       not-small h small =
@@ -108,32 +117,32 @@ module _ (n x : ℕ) (l : List ℤ) (fa : mag (dist l (n + x)) < 2 ^ 63) where
         sub-fits = record { sfits = subst (λ (z : ℤ). mag z < 2 ^ 63) (sym (minus-neg b ∙ ap negℤ b-is)) (omega (arith, b-known, mag-neg (dist l (n * 2 + x)))) }
 
         v-is : toZ w64 (ofZ w64 (pos 0 -ℤ b)) ≡ least-word n l x
-        v-is = back w64 (pos 0 -ℤ b) (sub-fits .sfits) ∙ minus-b
+        v-is = bits-back w64 (pos 0 -ℤ b) (sub-fits .sfits) ∙ minus-b
 
         pub least-narrowed : (r : ℤ) → (mag (toZ w64 (ofZ w64 (pos 0 -ℤ b))) < 2 ^ 31 → r ≡ toZ w64 (ofZ w64 (pos 0 -ℤ b))) → mag (least-word n l x) < 2 ^ 31 → toZ w32 (ofZ w32 r) ≡ least-word n l x
-        least-narrowed r f small = ap (λ (z : ℤ). toZ w32 (ofZ w32 z)) (f (subst (λ (z : ℤ). mag z < 2 ^ 31) (sym v-is) small) ∙ v-is) ∙ back w32 (least-word n l x) small
+        least-narrowed r f small = ap (λ (z : ℤ). toZ w32 (ofZ w32 z)) (f (subst (λ (z : ℤ). mag z < 2 ^ 31) (sym v-is) small) ∙ v-is) ∙ bits-back w32 (least-word n l x) small
 
 -- ---- a number that fits 32 bits
 module _ (v : ℤ) (fv : mag v < 2 ^ 63) where
   pub narrow-low : ltZ (toZ w64 (ofZ w64 v)) (negsuc 2147483647) ≡ true → mag v < 2 ^ 31 → pos 0 ≡ v
   narrow-low e h =
-      let k = under v 2147483647 (subst (λ (z : ℤ). ltZ z (negsuc 2147483647) ≡ true) (back w64 v fv) e) in
+      let k = under v 2147483647 (subst (λ (z : ℤ). ltZ z (negsuc 2147483647) ≡ true) (bits-back w64 v fv) e) in
       absurd (let none : 1 ≤ 0 = omega (arith, h, k) in not-suc-le-zero none)
 
   pub narrow-high : leZ (pos 2147483648) (toZ w64 (ofZ w64 v)) ≡ true → mag v < 2 ^ 31 → pos 0 ≡ v
   narrow-high e h =
-      let k = over v 2147483648 (subst (λ (z : ℤ). leZ (pos 2147483648) z ≡ true) (back w64 v fv) e) in
+      let k = over v 2147483648 (subst (λ (z : ℤ). leZ (pos 2147483648) z ≡ true) (bits-back w64 v fv) e) in
       absurd (let none : 1 ≤ 0 = omega (arith, h, k) in not-suc-le-zero none)
 
   module _ (lo : ltZ (toZ w64 (ofZ w64 v)) (negsuc 2147483647) ≡ false) (hi : leZ (pos 2147483648) (toZ w64 (ofZ w64 v)) ≡ false) where
     pub narrow-fits : SFits w32 (toZ w64 (ofZ w64 v))
     narrow-fits = record {
-      sfits = subst (λ (z : ℤ). mag z < 2 ^ 31) (sym (back w64 v fv)) (within v 2147483647
-          (subst (λ (z : ℤ). ltZ z (negsuc 2147483647) ≡ false) (back w64 v fv) lo) (subst (λ (z : ℤ). leZ (pos 2147483648) z ≡ false) (back w64 v fv) hi));
+      sfits = subst (λ (z : ℤ). mag z < 2 ^ 31) (sym (bits-back w64 v fv)) (within v 2147483647
+          (subst (λ (z : ℤ). ltZ z (negsuc 2147483647) ≡ false) (bits-back w64 v fv) lo) (subst (λ (z : ℤ). leZ (pos 2147483648) z ≡ false) (bits-back w64 v fv) hi));
     }
 
     pub narrow-is : toZ w32 (ofZ w32 (toZ w64 (ofZ w64 v))) ≡ v
-    narrow-is = back w32 (toZ w64 (ofZ w64 v)) (narrow-fits .sfits) ∙ back w64 v fv
+    narrow-is = bits-back w32 (toZ w64 (ofZ w64 v)) (narrow-fits .sfits) ∙ bits-back w64 v fv
 
 -- ---- the words of one record more
 pub told-none : (n : ℕ) (r ws : List ℤ) → Fits n r → Told n r 0 ws
@@ -161,10 +170,10 @@ told-more n r ws x u v g₀ g eu ev t fits y h = (
     g′ = subst (λ (m : ℕ). x * 2 + 1 < m) (sym (length-set ws (x * 2) (toZ w32 (ofZ w32 u)))) g
 
     u-is : toZ w32 (ofZ w32 u) ≡ least-word n r x
-    u-is = ap (λ (z : ℤ). toZ w32 (ofZ w32 z)) (eu (fits x g₀ .0)) ∙ back w32 (least-word n r x) (fits x g₀ .0)
+    u-is = ap (λ (z : ℤ). toZ w32 (ofZ w32 z)) (eu (fits x g₀ .0)) ∙ bits-back w32 (least-word n r x) (fits x g₀ .0)
 
     v-is : toZ w32 (ofZ w32 v) ≡ most-word n r x
-    v-is = ap (λ (z : ℤ). toZ w32 (ofZ w32 z)) (ev (fits x g₀ .1)) ∙ back w32 (most-word n r x) (fits x g₀ .1)
+    v-is = ap (λ (z : ℤ). toZ w32 (ofZ w32 z)) (ev (fits x g₀ .1)) ∙ bits-back w32 (most-word n r x) (fits x g₀ .1)
 
     less : (y * 2 ≡ x * 2 → ⊥) → y < x
     less q = omega (arith, h, q)

@@ -1,6 +1,9 @@
 -- What `offsets_among` makes of judging, passes and handing over is what it promises.
---     among            from what the four calls ensure
---     told             and of words, from what all calls of `offsets` ensure
+--   none-holds, some-holds
+--                  by the flag of the passes: no placing meets all ties, or one does
+--   limits-told    with a placing, the words told are the limits
+--   calls-among    what `offsets_among` promises, from what the four calls ensure
+--   calls-told     and of words that a caller keeps, from what all calls of `offsets` ensure
 -- Assumes nothing.
 use mathlib.Core.Path.{_≡_, refl, sym, ap, subst, _∙_, fun-ext}
 use mathlib.Core.List.{List, [], _∷_, _++_}
@@ -25,8 +28,9 @@ use Rattle.offsets.specs.declared.Tie.{Tie}
 use Rattle.offsets.specs.Relax.{State, dist, settled}
 use Rattle.offsets.specs.Offsets.{Placing, Places, cannot, limits, OffsetsAre}
 use Rattle.offsets.specs.Third.{Ready}
-use Rattle.offsets.specs.Thirds.{Starts}
-use Rattle.offsets.specs.Arcs.{arcs3, by-test}
+use Rattle.offsets.specs.Thirds.{Starts, choose, length-passed}
+use Rattle.offsets.specs.Relax as relax
+use Rattle.offsets.specs.Arcs.{arcs3, run-length, by-test}
 use Rattle.offsets.specs.Passes.{settled-is, passes-length}
 use Rattle.offsets.specs.Finds.{ran, least-word, most-word, Told, Fits, cannot-exactly, cannot-are, told-are}
 use Rattle.offsets.specs.Bounds.{words-fit}
@@ -157,9 +161,9 @@ module _ (g : Records) (base : ℕ) (ts : List Tie) (work₀ work₁ work₂ bef
     scant-not : length work₂ < n * 3 → ⊥
     scant-not h = let big = able .1 .1 in let none′ : 1 ≤ 0 = omega (arith, h, big, same) in not-suc-le-zero none′
 
-  pub among : (a : OffsetsAnswer) → length after ≡ length before → HandsOver (p .cause) n on work₂ before after a → Among g base ts (length work₀) before after a
+  pub calls-among : (a : OffsetsAnswer) → length after ≡ length before → HandsOver (p .cause) n on work₂ before after a → Among g base ts (length work₀) before after a
   unfolding toldWords
-  among a kept (inner.refused {k} e q) = record {
+  calls-among a kept (inner.refused {k} e q) = record {
     past = q;
     refused = λ j r. (ap Refused (sym e ∙ refused-is j r), q);
     caused = λ z j r. subst Caused (refused-tell r) (first-caused (offsetsCauses n w base ts (length work₀)) (sym e ∙ cause-is z) (λ b. no-number b));
@@ -168,7 +172,7 @@ module _ (g : Records) (base : ℕ) (ts : List Tie) (work₀ work₁ work₂ bef
     where
       refused-tell : {i j : ℕ} → Refused i ≡ Refused j → i ≡ j
       refused-tell r = cc
-  among a kept (inner.cannot-hold e o q) = record {
+  calls-among a kept (inner.cannot-hold e o q) = record {
     past = q;
     refused = λ j r. no-number (sym (refused-is j r) ∙ e);
     caused = λ z j r. absurd (not-refused r);
@@ -177,7 +181,7 @@ module _ (g : Records) (base : ℕ) (ts : List Tie) (work₀ work₁ work₂ bef
     where
       not-refused : {j : ℕ} → CannotHold ≡ Refused j → ⊥
       not-refused r = let z : _≡_ {A = ℕ} 0 1 = cc in let none′ : 1 ≤ 0 = omega (arith, z) in not-suc-le-zero none′
-  among a kept (inner.scant e h q) = record {
+  calls-among a kept (inner.scant e h q) = record {
     past = q;
     refused = λ j r. no-number (sym (refused-is j r) ∙ e);
     caused = λ z j r. subst Caused (refused-tell r) (short-work, refl);
@@ -186,7 +190,7 @@ module _ (g : Records) (base : ℕ) (ts : List Tie) (work₀ work₁ work₂ bef
     where
       refused-tell : {i j : ℕ} → Refused i ≡ Refused j → i ≡ j
       refused-tell r = cc
-  among a kept (inner.short e o h q) = record {
+  calls-among a kept (inner.short e o h q) = record {
     past = q;
     refused = λ j r. no-number (sym (refused-is j r) ∙ e);
     caused = λ z j r. subst Caused (refused-tell r) (short-list, refl);
@@ -195,7 +199,7 @@ module _ (g : Records) (base : ℕ) (ts : List Tie) (work₀ work₁ work₂ bef
     where
       refused-tell : {i j : ℕ} → Refused i ≡ Refused j → i ≡ j
       refused-tell r = cc
-  among a kept (inner.told e o h t q) = record {
+  calls-among a kept (inner.told e o h t q) = record {
     past = q;
     refused = λ j r. no-number (sym (refused-is j r) ∙ e);
     caused = λ z j r. absurd (not-refused r);
@@ -234,13 +238,13 @@ module _ (ws : List ℕ) (r : Register) (k : Keeps ws r) where
       past : maxRecords ≤ j → isWithdrawnIn ws j ≡ hasMark withdrawnMark (r .marks) j
       past h = sym (mark-none ws j h) ∙ sym (ap (λ (z : ℕ). eqb z withdrawnMark) (List·getD-eq-default (r .marks) freeMark (let m = k .marks in omega (arith, h, m))))
 
-pub told : (ws : List ℕ) (n base : ℕ) (ts : List Tie) (work₀ work₁ work₂ before after : List ℤ) (found cause rounds : ℕ) (on : Bool) (a : OffsetsAnswer) (answer : ℕ) → SizeIn ws n → found ≡ judgeAll n ws ts 0
+pub calls-told : (ws : List ℕ) (n base : ℕ) (ts : List Tie) (work₀ work₁ work₂ before after : List ℤ) (found cause rounds : ℕ) (on : Bool) (a : OffsetsAnswer) (answer : ℕ) → SizeIn ws n → found ≡ judgeAll n ws ts 0
     → Begins ws n base found (length ts) work₀ work₁ cause → rounds ≡ roundsOf cause n → _≡_ {A = State} (work₂, on) (settled n rounds ts (work₁, false)) → length work₂ ≡ length work₀
     → length after ≡ length before → HandsOver cause n on work₂ before after a → answer ≡ toldOffsets a → OffsetsTold ws base ts (length work₀) before after answer
 unfolding number
-told ws n base ts work₀ work₁ work₂ before after found cause rounds on a answer sized judged (k₀, (open′, plans)) e ends same kept hands tells =
+calls-told ws n base ts work₀ work₁ work₂ before after found cause rounds on a answer sized judged (k₀, (open′, plans)) e ends same kept hands tells =
     let g : Records = record { refused = k₀; n = n; marks = ws } in
-    let m = among g base ts work₀ work₁ work₂ before after found (record { cause = cause; rounds = roundsOf cause n }) on judged plans (ends ∙ ap (λ (j : ℕ). settled n j ts (work₁, false)) e) same a kept hands in
+    let m = calls-among g base ts work₀ work₁ work₂ before after found (record { cause = cause; rounds = roundsOf cause n }) on judged plans (ends ∙ ap (λ (j : ℕ). settled n j ts (work₁, false)) e) same a kept hands in
     record {
       answers = λ r w.
           let z = open′ .kept r w in (

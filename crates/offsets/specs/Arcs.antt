@@ -1,12 +1,27 @@
--- Ties as arcs. An arc says that record `to` lies at most `rise` above record `from`; a tie is two of them, one each way. A pass over ties is a pass over their arcs.
---     arcs ts              the arcs of ties, two for each
---     Keeps p cs           a placing keeps all arcs of a list
---     run cs s             a pass over arcs
---     Holds a l            the distances l satisfy an arc, where it begins at a known one
---     lower-ind            what an arc does: nothing, where it holds, or it lowers the distance of its end
---     set-ind              what stands in a list after one place was set
---     run-length, run-down, quiet, stays
---                          a pass keeps the length, lowers only, and changes nothing exactly where all arcs hold
+-- Ties as arcs. An arc says that record `to` lies at most `rise` above record `from`; a tie is two of them, one each way. A pass over ties is a pass over their
+-- arcs.
+--   Arc, up-arc, down-arc
+--                     an arc; the two of a tie
+--   arcs ts           the arcs of ties, two for each
+--   turn, turned, at  a tie turned round; ties so; an arc between records that stand from place o on
+--   arcs3 n ts        the arcs of ties in a list of three thirds of n each
+--   Keeps p cs        a placing keeps all arcs of a list
+--   arc, run cs s     what an arc does to distances; a pass over arcs
+--   arcs-in, in-up, in-down, of-ties
+--                     the arcs of ties are the two of each; a property of all, from one for each tie
+--   keeps-places, sums-meet
+--                     a placing that meets the ties keeps their arcs; a tie's two limits as sums, turned back to differences
+--   Holds a l         the distances l satisfy an arc, where it begins at a known one
+--   by-test           a case for each way that a test comes out
+--   lower-ind         what an arc does: nothing, where it holds, or it lowers the distance of its end
+--   set-ind           what stands in a list after one place was set
+--   arc-length, lt-le, arc-down
+--                     an arc keeps the length, and lowers only
+--   run-length, run-down, quiet-holds, holds-quiet
+--                     a pass keeps the length, lowers only, and changes nothing exactly where all arcs hold
+--   run-is            a pass over ties is a pass over their arcs in three thirds
+--   of-thirds, arc-in-first, arc-in-second, arc-in-third, length-arcs3
+--                     a property of all of these, from one of ties and turned ties; the arcs of each third; how many
 -- Assumes nothing.
 use mathlib.Core.Path.{_≡_, refl, sym, ap, _∙_, subst}
 use mathlib.Core.Logic.{_⊎_, inl, inr}
@@ -96,8 +111,8 @@ keeps-places p ts h = of-ties (λ a. p (a .to) ≤ℤ (p (a .from) +ℤ a .rise)
     (λ t i. (most-as-sum (p (t .first)) (p (t .second)) (t .most) (h t i .1), least-as-sum (p (t .first)) (p (t .second)) (t .least) (h t i .0)))
 
 -- a tie's two limits as sums, turned back to differences
-pub meets : (x y least most : ℤ) → y ≤ℤ (x +ℤ most) → x ≤ℤ (y +ℤ negℤ least) → (least ≤ℤ (y -ℤ x)) × ((y -ℤ x) ≤ℤ most)
-meets x y least most h k =
+pub sums-meet : (x y least most : ℤ) → y ≤ℤ (x +ℤ most) → x ≤ℤ (y +ℤ negℤ least) → (least ≤ℤ (y -ℤ x)) × ((y -ℤ x) ≤ℤ most)
+sums-meet x y least most h k =
     (to-le (omega (arith, of-le k, of-sub y x, of-add y (negℤ least), of-neg-up least, of-neg-down least)), to-le (omega (arith, of-le h, of-sub y x, of-add x most)))
 
 -- ---- one arc
@@ -161,11 +176,11 @@ arc-quiet : (a : Arc) (s : State) → arc a s .1 ≡ false → (arc a s ≡ s) �
 arc-quiet a s = lower-ind a s (λ r. r .1 ≡ false → (r ≡ s) × Holds a (s .0)) (λ h _. (refl, h)) (λ _ _ _ _ e. absurd (true≢false e))
 
 -- a pass that lowered nothing left all as it was, and all arcs hold
-pub quiet : (cs : List Arc) (s : State) → run cs s .1 ≡ false → (run cs s ≡ s) × ((a : Arc) → In a cs → Holds a (s .0))
-quiet [] s e = (refl, λ a h. absurd h)
-quiet (a ∷ cs) s e = by-test (arc a s .1)
+pub quiet-holds : (cs : List Arc) (s : State) → run cs s .1 ≡ false → (run cs s ≡ s) × ((a : Arc) → In a cs → Holds a (s .0))
+quiet-holds [] s e = (refl, λ a h. absurd h)
+quiet-holds (a ∷ cs) s e = by-test (arc a s .1)
     (λ t. absurd (true≢false (sym (flag-stays cs (arc a s) t) ∙ e)))
-    (λ f. let q = arc-quiet a s f in let r = quiet cs (arc a s) e in (r .0 ∙ q .0, both q r))
+    (λ f. let q = arc-quiet a s f in let r = quiet-holds cs (arc a s) e in (r .0 ∙ q .0, both q r))
   where
     both : (arc a s ≡ s) × Holds a (s .0) → (run cs (arc a s) ≡ arc a s) × ((b : Arc) → In b cs → Holds b (arc a s .0)) → (b : Arc) → In b (a ∷ cs) → Holds b (s .0)
     both q r b (inl i) = subst (λ (c : Arc). Holds c (s .0)) (sym i) (q .1)
@@ -175,11 +190,11 @@ arc-stays : (a : Arc) (s : State) → Holds a (s .0) → arc a s ≡ s
 arc-stays a s h = lower-ind a s (λ r. r ≡ s) (λ _. refl) (λ f t k l. absurd (clashℤ l (h f t k)))
 
 -- where all arcs hold, a pass changes nothing
-pub stays : (cs : List Arc) (s : State) → ((a : Arc) → In a cs → Holds a (s .0)) → run cs s ≡ s
-stays [] s h = refl
-stays (a ∷ cs) s h =
+pub holds-quiet : (cs : List Arc) (s : State) → ((a : Arc) → In a cs → Holds a (s .0)) → run cs s ≡ s
+holds-quiet [] s h = refl
+holds-quiet (a ∷ cs) s h =
     let e = arc-stays a s (h a (inl refl)) in
-    stays cs (arc a s) (λ b i. subst (λ (x : State). Holds b (x .0)) (sym e) (h b (inr i))) ∙ e
+    holds-quiet cs (arc a s) (λ b i. subst (λ (x : State). Holds b (x .0)) (sym e) (h b (inr i))) ∙ e
 
 -- ---- a pass over ties is a pass over their arcs in three thirds
 tie-is : (n : ℕ) (t : Tie) (s : State) → relaxTie n t s ≡ run (arcs3 n (t ∷ [])) s
@@ -202,24 +217,24 @@ of-thirds n P (t ∷ ts) f g h a (inr (inr (inr (inr (inl e))))) = subst P (sym 
 of-thirds n P (t ∷ ts) f g h a (inr (inr (inr (inr (inr (inl e)))))) = subst P (sym e) (h (down-arc (turn t)) (inr (inl refl)))
 of-thirds n P (t ∷ ts) f g h a (inr (inr (inr (inr (inr (inr i)))))) = of-thirds n P ts (λ b j. f b (inr (inr j))) (λ b j. g b (inr (inr j))) (λ b j. h b (inr (inr j))) a i
 
-pub in-third0 : (n : ℕ) (ts : List Tie) (b : Arc) → In b (arcs ts) → In (at 0 b) (arcs3 n ts)
-in-third0 n [] b h = absurd h
-in-third0 n (t ∷ ts) b (inl e) = inl (ap (at 0) e)
-in-third0 n (t ∷ ts) b (inr (inl e)) = inr (inl (ap (at 0) e))
-in-third0 n (t ∷ ts) b (inr (inr h)) = inr (inr (inr (inr (inr (inr (in-third0 n ts b h))))))
+pub arc-in-first : (n : ℕ) (ts : List Tie) (b : Arc) → In b (arcs ts) → In (at 0 b) (arcs3 n ts)
+arc-in-first n [] b h = absurd h
+arc-in-first n (t ∷ ts) b (inl e) = inl (ap (at 0) e)
+arc-in-first n (t ∷ ts) b (inr (inl e)) = inr (inl (ap (at 0) e))
+arc-in-first n (t ∷ ts) b (inr (inr h)) = inr (inr (inr (inr (inr (inr (arc-in-first n ts b h))))))
 
-pub in-third1 : (n : ℕ) (ts : List Tie) (b : Arc) → In b (arcs ts) → In (at n b) (arcs3 n ts)
-in-third1 n [] b h = absurd h
-in-third1 n (t ∷ ts) b (inl e) = inr (inr (inl (ap (at n) e)))
-in-third1 n (t ∷ ts) b (inr (inl e)) = inr (inr (inr (inl (ap (at n) e))))
-in-third1 n (t ∷ ts) b (inr (inr h)) = inr (inr (inr (inr (inr (inr (in-third1 n ts b h))))))
+pub arc-in-second : (n : ℕ) (ts : List Tie) (b : Arc) → In b (arcs ts) → In (at n b) (arcs3 n ts)
+arc-in-second n [] b h = absurd h
+arc-in-second n (t ∷ ts) b (inl e) = inr (inr (inl (ap (at n) e)))
+arc-in-second n (t ∷ ts) b (inr (inl e)) = inr (inr (inr (inl (ap (at n) e))))
+arc-in-second n (t ∷ ts) b (inr (inr h)) = inr (inr (inr (inr (inr (inr (arc-in-second n ts b h))))))
 
-pub in-third2 : (n : ℕ) (ts : List Tie) (b : Arc) → In b (arcs (turned ts)) → In (at (n * 2) b) (arcs3 n ts)
-in-third2 n [] b h = absurd h
-in-third2 n (t ∷ ts) b (inl e) = inr (inr (inr (inr (inl (ap (at (n * 2)) e)))))
-in-third2 n (t ∷ ts) b (inr (inl e)) = inr (inr (inr (inr (inr (inl (ap (at (n * 2)) e))))))
-in-third2 n (t ∷ ts) b (inr (inr h)) = inr (inr (inr (inr (inr (inr (in-third2 n ts b h))))))
+pub arc-in-third : (n : ℕ) (ts : List Tie) (b : Arc) → In b (arcs (turned ts)) → In (at (n * 2) b) (arcs3 n ts)
+arc-in-third n [] b h = absurd h
+arc-in-third n (t ∷ ts) b (inl e) = inr (inr (inr (inr (inl (ap (at (n * 2)) e)))))
+arc-in-third n (t ∷ ts) b (inr (inl e)) = inr (inr (inr (inr (inr (inl (ap (at (n * 2)) e))))))
+arc-in-third n (t ∷ ts) b (inr (inr h)) = inr (inr (inr (inr (inr (inr (arc-in-third n ts b h))))))
 
-pub arcs3-length : (n : ℕ) (ts : List Tie) → length (arcs3 n ts) ≡ length ts * 6
-arcs3-length n [] = refl
-arcs3-length n (t ∷ ts) = let e = arcs3-length n ts in omega (arith, e)
+pub length-arcs3 : (n : ℕ) (ts : List Tie) → length (arcs3 n ts) ≡ length ts * 6
+length-arcs3 n [] = refl
+length-arcs3 n (t ∷ ts) = let e = length-arcs3 n ts in omega (arith, e)

@@ -1,7 +1,10 @@
--- How far offsets reach: in every placing, a record that ties join to the base begins at most (n - 1) × 20,000 rings before or after it, so all words fit 32 bits. No path is made: as long as a tie joins a record within the
--- bound to one beyond it, that one is taken out of the records not yet counted, and the bound grows by 20,000.
---     reach-near           the bound for any placing
---     words-near, words-fit    so for the two words of a record
+-- How far offsets reach: in every placing, a record that ties join to the base begins at most (n - 1) × 20,000 rings before or after it, so all words fit 32
+-- bits. No path is made: as long as a tie joins a record within the bound to one beyond it, that one is taken out of the records not yet counted, and the bound
+-- grows by 20,000.
+--   Next c os      the record beyond the bound that a tie joins to one within
+--   reach-near     the bound for any placing
+--   words-near, words-fit
+--                  so for the two words of a record
 -- Assumes nothing.
 use mathlib.Core.Path.{_≡_, refl, sym, ap, _∙_, subst}
 use mathlib.Core.Logic.{_⊎_, inl, inr}

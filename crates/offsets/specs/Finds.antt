@@ -1,12 +1,17 @@
 -- The answer as passes find it, and that it is the answer of `Offsets`.
---     ran n ts l           n + 1 passes over the ties, from a list l that `Starts n base`
---     offsets n ts l       what a program makes of it
---     limits-hold, limits-attained     no placing goes beyond the limits, and each is attained
---     limit-at             so each record below n has its two words
---     free-exactly         1 and 0 come exactly for a record that ties do not join to the base
---     cannot-exactly       "cannot all hold" comes exactly if there is no placing
---     offsets-are          the answer is the one that is asked for
---     cannot-are, told-are     the same as the code has it: by the flag, and a list that has the words
+--   ran n ts l            n + 1 passes over the ties, from a list l that `Starts n base`
+--   least-word, most-word
+--                         the two words of a record, of the list that was made
+--   Told, Fits            a list that has the words of the first k records; that all words fit 32 bits
+--   words, answer         two words to a record, k records from x on; the answer, by the flag and the list
+--   offsets n ts l        what a program makes of it
+--   cannot-exactly        "cannot all hold" comes exactly if there is no placing
+--   limits-hold, limits-attained
+--                         no placing goes beyond the limits, and each is attained
+--   limit-at              so each record below n has its two words
+--   free-exactly          1 and 0 come exactly for a record that ties do not join to the base
+--   offsets-are           the answer is the one that is asked for
+--   cannot-are, told-are  the same as the code has it: by the flag, and a list that has the words
 -- Assumes nothing.
 use mathlib.Core.Path.{_≡_, refl, sym, ap, _∙_, subst}
 use mathlib.Core.Logic.{inl, inr}
@@ -28,7 +33,7 @@ use Rattle.offsets.specs.Passes.{settled-is}
 use Rattle.offsets.specs.Settles.{passes}
 use Rattle.offsets.specs.Only.{limit-only}
 use Rattle.offsets.specs.Third.{Ready, joined-known, most-attained}
-use Rattle.offsets.specs.Thirds.{choose, Starts, settles3, near-at, base-at, known-joined, hold1, hold2, first-places, under1, under2}
+use Rattle.offsets.specs.Thirds.{choose, Starts, thirds-settle, near-at, base-at, known-joined, second-holds, third-holds, first-places, under-second, under-third}
 use Rattle.offsets.specs.Turned.{neg, turned-places, places-turned, turned-joined, turned-ready}
 
 -- ---- what a program does
@@ -107,34 +112,34 @@ module _ (n base : ℕ) (ts : List Tie) (ready : Ready n ts) (base-in : base < n
 
   pub cannot-exactly : (ran n ts l .1 ≡ true → (p : Placing) → Places p ts → ⊥) × (ran n ts l .1 ≡ false → (p : Placing) × Places p ts)
   cannot-exactly = (
-    λ e p h. true≢false (sym e ∙ ap (λ (s : State). s .1) ran-is ∙ settles3 n ts ready p h l (starts .0)),
+    λ e p h. true≢false (sym e ∙ ap (λ (s : State). s .1) ran-is ∙ thirds-settle n ts ready p h l (starts .0)),
     λ e. (dist R, first-places n ts ready base base-in l starts (sym (ap (λ (s : State). s .1) ran-is) ∙ e)),
   )
 
   module _ (f : Placing) (places : Places f ts) where
     quiet : passes (suc n) (arcs3 n ts) (l, false) .1 ≡ false
-    quiet = settles3 n ts ready f places l (starts .0)
+    quiet = thirds-settle n ts ready f places l (starts .0)
 
     most-known : {x : ℕ} → Joined ts base x → known (dist R (n + x)) ≡ true
-    most-known j = joined-known n ts ready base base-in (λ x. dist R (n + x)) (hold1 n ts ready base base-in l starts quiet) (near-at n ts ready base base-in l starts n (omega arith)) (base-at n ts ready base base-in l starts n (inl refl) (omega arith)) j
+    most-known j = joined-known n ts ready base base-in (λ x. dist R (n + x)) (second-holds n ts ready base base-in l starts quiet) (near-at n ts ready base base-in l starts n (omega arith)) (base-at n ts ready base base-in l starts n (inl refl) (omega arith)) j
 
     least-known : {x : ℕ} → Joined ts base x → known (dist R (n * 2 + x)) ≡ true
-    least-known j = joined-known n (turned ts) (turned-ready n ts ready) base base-in (λ x. dist R (n * 2 + x)) (hold2 n ts ready base base-in l starts quiet) (near-at n ts ready base base-in l starts (n * 2) (omega arith))
+    least-known j = joined-known n (turned ts) (turned-ready n ts ready) base base-in (λ x. dist R (n * 2 + x)) (third-holds n ts ready base base-in l starts quiet) (near-at n ts ready base base-in l starts (n * 2) (omega arith))
         (base-at n ts ready base base-in l starts (n * 2) (inr refl) (omega arith)) (turned-joined ts base j)
 
     pub limits-hold : (x : ℕ) → x < n → Joined ts base x → (p : Placing) → Places p ts → (negℤ (dist R (n * 2 + x)) ≤ℤ (p x -ℤ p base)) × ((p x -ℤ p base) ≤ℤ dist R (n + x))
     limits-hold x g j p h = (
-      turn-most (p x) (p base) (dist R (n * 2 + x)) (under2 n ts ready base base-in l starts quiet (neg p) (turned-places p ts h) x g (least-known j)),
-      under1 n ts ready base base-in l starts quiet p h x g (most-known j),
+      turn-most (p x) (p base) (dist R (n * 2 + x)) (under-third n ts ready base base-in l starts quiet (neg p) (turned-places p ts h) x g (least-known j)),
+      under-second n ts ready base base-in l starts quiet p h x g (most-known j),
     )
 
     pub limits-attained : (x : ℕ) → Joined ts base x
         → ((p : Placing) × (Places p ts × (p x -ℤ p base ≡ negℤ (dist R (n * 2 + x))))) × ((p : Placing) × (Places p ts × (p x -ℤ p base ≡ dist R (n + x))))
     limits-attained x j =
-        let a = most-attained n ts ready base base-in (λ x. dist R (n + x)) (hold1 n ts ready base base-in l starts quiet) (near-at n ts ready base base-in l starts n (omega arith)) (base-at n ts ready base base-in l starts n (inl refl) (omega arith))
-        (under1 n ts ready base base-in l starts quiet) f places in
-        let b = most-attained n (turned ts) (turned-ready n ts ready) base base-in (λ x. dist R (n * 2 + x)) (hold2 n ts ready base base-in l starts quiet) (near-at n ts ready base base-in l starts (n * 2) (omega arith))
-        (base-at n ts ready base base-in l starts (n * 2) (inr refl) (omega arith)) (under2 n ts ready base base-in l starts quiet) (neg f) (turned-places f ts places) in
+        let a = most-attained n ts ready base base-in (λ x. dist R (n + x)) (second-holds n ts ready base base-in l starts quiet) (near-at n ts ready base base-in l starts n (omega arith)) (base-at n ts ready base base-in l starts n (inl refl) (omega arith))
+        (under-second n ts ready base base-in l starts quiet) f places in
+        let b = most-attained n (turned ts) (turned-ready n ts ready) base base-in (λ x. dist R (n * 2 + x)) (third-holds n ts ready base base-in l starts quiet) (near-at n ts ready base base-in l starts (n * 2) (omega arith))
+        (base-at n ts ready base base-in l starts (n * 2) (inr refl) (omega arith)) (under-third n ts ready base base-in l starts quiet) (neg f) (turned-places f ts places) in
         ((neg (b .0), (places-turned (b .0) ts (b .1 .0), turn-is (b .0 x) (b .0 base) (dist R (n * 2 + x)) (b .1 .1 x (least-known j)))), (a .0, (a .1 .0, a .1 .1 x (most-known j))))
 
     limit-R : (x : ℕ) → x < n → Limit ts base x (least-word n R x) (most-word n R x)

@@ -1,8 +1,8 @@
 -- Passes touch the front of a list alone: what stands past the places that arcs name stays as it is, and changes nothing before it.
---     beside y s       a state with the list y put after its distances
---     Inside m cs      every arc of cs joins places below m
---     passes-front     passes over x ++ y are passes over x, with y put after
---     ran-front        so with the passes over ties, if x has the three parts
+--   beside y s     a state with the list y put after its distances
+--   Inside m cs    every arc of cs joins places below m
+--   passes-front   passes over x ++ y are passes over x, with y put after
+--   ran-front      so with the passes over ties, if x has the three parts
 -- Assumes nothing.
 use mathlib.Core.Path.{_≡_, refl, sym, ap, _∙_, subst}
 use mathlib.Core.List.{List, [], _∷_, _++_}

@@ -1,9 +1,9 @@
 -- What no cause against the ties means, and that the numbers found tie by tie are the first of all of them.
---     sooner-three         the sooner of two numbers is that of the causes taken together
---     judge-all            tie by tie is all ties at once
---     causes-are           so the base's number, then the ties', then the work's are `offsetsCauses`
---     causes-in-order      which keep to the order of causes
---     no-cause-ready       where there is none, the base is a record and every tie is allowed
+--   causes-in-order  which keep to the order of causes
+--   sooner-three     the sooner of two numbers is that of the causes taken together
+--   judge-all        tie by tie is all ties at once
+--   causes-are       so the base's number, then the ties', then the work's are `offsetsCauses`
+--   no-cause-ready   where there is none, the base is a record and every tie is allowed
 -- Assumes nothing.
 use mathlib.Core.Path.{_≡_, refl, sym, ap, _∙_, subst}
 use mathlib.Core.Logic.{inl, inr}

@@ -1,13 +1,13 @@
 -- Offsets known within limits: what the answer of request #109 is.
---     Placing          the year in which each record begins
---     Meets, Places    a placing meets a tie, and all ties of a list
---     Joins, Joined    a tie joins two records, in either direction; zero or more ties do
---     Narrowest ts base x lo hi
---                      in every placing record x begins lo to hi rings after the base, and each of both is attained by some placing
---     Limit ts base x lo hi
---                      the two words of record x: the base has 0 and 0, a record that ties join to it its narrowest limits, any other one 1 and 0
---     OffsetsAre n base ts answer
---                      the answer: "cannot all hold" if there is no placing, else the words of the records below n in ascending order
+--   Placing        the year in which each record begins
+--   Meets, Places  a placing meets a tie, and all ties of a list
+--   Joins, Joined  a tie joins two records, in either direction; zero or more ties do
+--   Narrowest ts base x lo hi
+--                  in every placing record x begins lo to hi rings after the base, and each of both is attained by some placing
+--   Limit ts base x lo hi
+--                  the two words of record x: the base has 0 and 0, a record that ties join to it its narrowest limits, any other one 1 and 0
+--   OffsetsAre n base ts answer
+--                  the answer: "cannot all hold" if there is no placing, else the words of the records below n in ascending order
 -- Assumes nothing: these are definitions.
 use mathlib.Core.Path.{_≡_}
 use mathlib.Core.Logic.{_⊎_}

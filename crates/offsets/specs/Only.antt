@@ -1,5 +1,6 @@
 -- There is one answer only.
---     narrowest-only, limit-only, offsets-only
+--   narrowest-only, limit-only, offsets-only
+--                  there are no other narrowest limits, no other words of a record, and no other answer
 -- Assumes nothing.
 use mathlib.Core.Path.{_≡_, refl, sym, ap, _∙_, subst}
 use mathlib.Core.Logic.{_⊎_, inl, inr}

@@ -1,12 +1,19 @@
 -- Passes over ties, and what they keep.
---     settled-is       passes over ties are passes over their arcs
---     passes-keep      what each arc keeps, passes keep
---     passes-hold      after passes that ended with one that changed nothing, all arcs hold
---     passes-length, passes-down
---                      the length stays, and distances fall only
---     Near c z         -c ≤ z ≤ c
---     Ranged           a distance is `far`, or near
---     Reached          what is known has been reached
+--   passes-keep         what each arc keeps, passes keep
+--   passes-length, passes-down
+--                       the length stays, and distances fall only
+--   passes-hold         after passes that ended with one that changed nothing, all arcs hold
+--   Near c z            -c ≤ z ≤ c
+--   near-add, mag-parts, near-known
+--                       sums of near numbers; a number that is near is known
+--   far, known-not-far  the number of a record that is not reached, which is not known
+--   Ranged              a distance is `far`, or near
+--   Small cs            every arc rises by at most 20,000
+--   passes-ranged       how large distances grow, pass by pass
+--   Reached             what is known has been reached
+--   passes-reached, known-on
+--                       known records are reached; where all arcs hold, an arc that leaves a known record ends at one
+--   settled-is          passes over ties are passes over their arcs
 -- Assumes nothing.
 use mathlib.Core.Path.{_≡_, refl, sym, ap, _∙_, subst}
 use mathlib.Core.Logic.{_⊎_, inl, inr}
@@ -20,10 +27,10 @@ use lib.ListN.{length, length-set}
 use lib.Signed.{mag, _≤ℤ_, ≤ℤ-refl}
 use borrow.Author.Tests.{lt-ltb}
 use Rattle.offsets.specs.declared.Tie.{Tie}
-use Rattle.offsets.specs.Linear.{up, down, of-add, ≤ℤ-trans}
-use Rattle.offsets.specs.Relax.{State, pick, known, dist, settled}
-use Rattle.offsets.specs.Offsets.{In}
-use Rattle.offsets.specs.Arcs.{Arc, arcs3, arc, run, run-is, Holds, lower-ind, set-ind, arc-length, run-down, quiet}
+use Rattle.offsets.specs.Linear.{up, down, of-le, of-lt, to-le, to-lt, of-add, of-sub, of-pos, of-neg-up, of-neg-down, of-mag, ≤ℤ-trans}
+use Rattle.offsets.specs.Relax.{State, pick, known, dist, relaxAll, settled}
+use Rattle.offsets.specs.Offsets.{In, Placing}
+use Rattle.offsets.specs.Arcs.{Arc, arcs, arcs3, Keeps, arc, run, run-is, Holds, by-test, lower-ind, set-ind, arc-length, run-length, run-down, quiet-holds}
 use Rattle.offsets.specs.Settles.{onePass, passes}
 
 -- ---- what passes keep
@@ -47,7 +54,7 @@ passes-length k cs s = passes-keep (λ l. length l ≡ length (s .0)) cs (λ a _
 passes-case : (k : ℕ) (cs : List Arc) (s : State) (b : Bool) → onePass cs s .1 ≡ b → (passes k cs (onePass cs s) .1 ≡ false → b ≡ true → (a : Arc) → In a cs → Holds a (passes k cs (onePass cs s) .0))
     → pick b (passes k cs (onePass cs s)) (onePass cs s) .1 ≡ false → (a : Arc) → In a cs → Holds a (pick b (passes k cs (onePass cs s)) (onePass cs s) .0)
 passes-case k cs s true e f h = f h refl
-passes-case k cs s false e f h = λ a i. let q = quiet cs (s .0, false) e in subst (λ (x : State). Holds a (x .0)) (sym (q .0)) (q .1 a i)
+passes-case k cs s false e f h = λ a i. let q = quiet-holds cs (s .0, false) e in subst (λ (x : State). Holds a (x .0)) (sym (q .0)) (q .1 a i)
 
 pub passes-hold : (k : ℕ) (cs : List Arc) (s : State) → passes (suc k) cs s .1 ≡ false → (a : Arc) → In a cs → Holds a (passes (suc k) cs s .0)
 passes-hold zero cs s h = passes-case zero cs s (onePass cs s .1) refl (λ e t. absurd (true≢false (sym t ∙ e))) h

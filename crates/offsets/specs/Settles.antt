@@ -1,11 +1,22 @@
--- Passes settle: if a placing keeps all arcs, passes over a list of n distances change nothing after n of them, whatever the list began with. No walks and no counting of different records: each pass
--- makes one more record final. Of the records that are not yet final, take the known one that lies lowest above the placing. Nothing in the pass can lower it: what comes from a final record is already
--- as low as it can be, and what comes from another lies no lower. So after the pass all arcs that leave it hold.
---     gap p l x        how far the distance of x lies above the placing
---     Final            the arcs that leave x hold, and x lies no higher above the placing than the records that are not final
---     Open             the records that are not final, as a list
---     one-final        a pass takes one record out of it, or changes nothing
---     settles          so passes over all arcs, as many as there are open records and one more, end with one that changes nothing
+-- Passes settle: if a placing keeps all arcs, passes over a list of n distances change nothing after n of them, whatever the list began with. No walks and no
+-- counting of different records: each pass makes one more record final. Of the records that are not yet final, take the known one that lies lowest above the
+-- placing. Nothing in the pass can lower it: what comes from a final record is already as low as it can be, and what comes from another lies no lower. So after
+-- the pass all arcs that leave it hold.
+--   out, out-length, out-less, out-others
+--                    a list without one of its members
+--   Least k f os, search-least
+--                    of the members that pass a test, the one with the least number; there is one, or none passes
+--   gap p l x        how far the distance of x lies above the placing
+--   Final            the arcs that leave x hold, and x lies no higher above the placing than the records that are not final
+--   Open             the records that are not final, as a list
+--   none-open        where no open record is known, all arcs hold
+--   one-final        a pass takes one record out of it, or changes nothing
+--   none-stays       where none is known, none becomes so
+--   onePass, passes  passes until one changes nothing, at most k of them
+--   span, span-length, span-in, span-all
+--                    the n numbers from o on
+--   Left k l j       what is left of a part that no arc joins to another: at most k open records, or none of them is known
+--   passes-settle    so passes over all arcs, as many as there are open records and one more, end with one that changes nothing
 -- Assumes nothing.
 use mathlib.Core.Path.{_≡_, refl, sym, ap, _∙_, subst}
 use mathlib.Core.Logic.{_⊎_, inl, inr}
@@ -21,7 +32,7 @@ use lib.Signed.{leZ, _≤ℤ_, _<ℤ_, ≤ℤ-refl, clashℤ, <ℤ-≤ℤ-trans}
 use Rattle.offsets.specs.Linear.{of-le, of-leb, of-not-leb, to-le, to-lt, of-add, of-sub, ≤ℤ-trans}
 use Rattle.offsets.specs.Relax.{State, pick, known, dist}
 use Rattle.offsets.specs.Offsets.{In, Placing}
-use Rattle.offsets.specs.Arcs.{Arc, Keeps, arc, run, Holds, by-test, lower-ind, set-ind, run-down, stays, lt-le}
+use Rattle.offsets.specs.Arcs.{Arc, Keeps, arc, run, Holds, by-test, lower-ind, set-ind, arc-length, arc-down, run-length, run-down, quiet-holds, holds-quiet, lt-le}
 
 -- ---- lists of records
 -- a list without one of its members
@@ -376,8 +387,8 @@ module _ (p : Placing) (cs : List Arc) (keeps : Keeps p cs) (I : Type 0) (D : I 
   settles-case k s true e f = f refl
   settles-case k s false e f = e
 
-  pub settles : (k : ℕ) (s : State) → ((j : I) → Left k (s .0) j) → passes (suc k) cs s .1 ≡ false
-  settles zero s r = settles-case zero s (onePass cs s .1) refl (λ e.
-      let q : onePass cs s .1 ≡ false = ap (λ (x : State). x .1) (stays cs (s .0, false) (λ a i. let g = part a i in none-open p cs keeps (D (g .0)) (closed (g .0)) (s .0) (r (g .0) .os) (r (g .0) .opened) (left-zero (s .0) (g .0) (r (g .0))) a i (g .1))) in
+  pub passes-settle : (k : ℕ) (s : State) → ((j : I) → Left k (s .0) j) → passes (suc k) cs s .1 ≡ false
+  passes-settle zero s r = settles-case zero s (onePass cs s .1) refl (λ e.
+      let q : onePass cs s .1 ≡ false = ap (λ (x : State). x .1) (holds-quiet cs (s .0, false) (λ a i. let g = part a i in none-open p cs keeps (D (g .0)) (closed (g .0)) (s .0) (r (g .0) .os) (r (g .0) .opened) (left-zero (s .0) (g .0) (r (g .0))) a i (g .1))) in
       absurd (true≢false (sym e ∙ q)))
-  settles (suc k) s r = settles-case (suc k) s (onePass cs s .1) refl (λ e. settles k (onePass cs s) (λ j. left-less k s j (r j)))
+  passes-settle (suc k) s r = settles-case (suc k) s (onePass cs s .1) refl (λ e. passes-settle k (onePass cs s) (λ j. left-less k s j (r j)))

@@ -1,6 +1,6 @@
 -- What a pass keeps: every placing that meets the limits lies at or under the distances.
---     Under p l        p is at or under each known distance of l
---     under-lower      one limit keeps that
+--   Under p l      p is at or under each known distance of l
+--   under-lower    one limit keeps that
 -- Assumes nothing.
 use mathlib.Core.Path.{_≡_, refl, sym, subst}
 use Prim.Native.Nat.{ℕ, _<_}

@@ -1,8 +1,12 @@
 -- One third of the list, from the base: distances d that hold all arcs of ties, with 0 or less at the base, are the most that each record begins after it.
---     Allowed n t          a tie that is not refused: records below n, -20,000 ≤ least ≤ most ≤ 20,000
---     Ready n ts           ties that are not refused: at most 1,024 with records below n, which is at most 1,024
---     joined-known         what ties join to the base is known
---     most-attained        there is a placing that has all known records exactly at their distances
+--   Allowed n t    a tie that is not refused: records below n, -20,000 ≤ least ≤ most ≤ 20,000
+--   Ready n ts     ties that are not refused: at most 1,024 with records below n, which is at most 1,024
+--   near-ends, near-neg, far-over
+--                  numbers within 20,000; one that is not reached is above 0
+--   ready-small, ready-inside, joined-arc
+--                  the arcs of ties that are not refused are small and of records below n; an arc leads from joined to joined
+--   joined-known   what ties join to the base is known
+--   most-attained  there is a placing that has all known records exactly at their distances
 -- Assumes nothing.
 use mathlib.Core.Path.{_≡_, refl, sym, ap, _∙_, subst}
 use mathlib.Core.Logic.{_⊎_, inl, inr}
@@ -17,8 +21,8 @@ use lib.Signed.{_≤ℤ_}
 use Rattle.offsets.specs.declared.Tie.{Tie}
 use Rattle.offsets.specs.Linear.{up, down, of-le, to-le, to-eq, of-sub, of-pos, of-neg-up, of-neg-down, ≤ℤ-trans, ≤ℤ-antisym}
 use Rattle.offsets.specs.Relax.{known}
-use Rattle.offsets.specs.Offsets.{In, Placing, Meets, Places, Joined, self, onward}
-use Rattle.offsets.specs.Arcs.{Arc, up-arc, down-arc, arcs, of-ties, in-up, in-down, meets}
+use Rattle.offsets.specs.Offsets.{In, Placing, Meets, Places, Joins, Joined, self, onward}
+use Rattle.offsets.specs.Arcs.{Arc, up-arc, down-arc, arcs, of-ties, in-up, in-down, sums-meet}
 use Rattle.offsets.specs.Passes.{Near, near-add, near-known, far, known-not-far, Small}
 
 pub record Allowed (n : ℕ) (t : Tie) : Type 0 where
@@ -109,7 +113,7 @@ module _ (n : ℕ) (us : List Tie) (ready : Ready n us) (base : ℕ) (base-in : 
             (subst (λ (x : ℤ). (t .least ≤ℤ (choose b (d (t .second)) (f (t .second)) -ℤ x)) × ((choose b (d (t .second)) (f (t .second)) -ℤ x) ≤ℤ t .most)) (sym (best-at (t .first) b e)) m)
 
         go : (b c : Bool) → known (d (t .first)) ≡ b → known (d (t .second)) ≡ c → Meets best t
-        go true true e g = at true e g (meets (d (t .first)) (d (t .second)) (t .least) (t .most) (hold (up-arc t) (in-up us t i) e) (hold (down-arc t) (in-down us t i) g))
+        go true true e g = at true e g (sums-meet (d (t .first)) (d (t .second)) (t .least) (t .most) (hold (up-arc t) (in-up us t i) e) (hold (down-arc t) (in-down us t i) g))
         go false false e g = at false e g (places t i)
         go true false e g = absurd (true≢false (sym (on (up-arc t) (in-up us t i) e) ∙ g))
         go false true e g = absurd (true≢false (sym (on (down-arc t) (in-down us t i) g) ∙ e))

@@ -1,11 +1,20 @@
--- One run of passes does all three: a list of three thirds of n distances. The first begins with all records at 0 and tells whether there is a placing. The second begins at the base and has the most that each record
--- begins after it. The third is relaxed by the ties turned round, and has the least, with the sign changed. No arc joins two thirds, so each settles as if alone, in the same n + 1 passes.
---     firstly, Starts      what stands in the list at first
---     three n f p q        a placing of each third, as one of all
---     settles3             if there is a placing, n + 1 passes end with one that changes nothing
---     first-places         if it did, the first third is a placing
---     under2, under3       no placing goes beyond the second and the third
---     known-joined         what is known in the second third is joined to the base
+-- One run of passes does all three: a list of three thirds of n distances. The first begins with all records at 0 and tells whether there is a placing. The
+-- second begins at the base and has the most that each record begins after it. The third is relaxed by the ties turned round, and has the least, with the sign
+-- changed. No arc joins two thirds, so each settles as if alone, in the same n + 1 passes.
+--   firstly, Starts  what stands in the list at first
+--   firstly-ind, firstly-base
+--                    which number that is; 0 or less at the base
+--   three n f p q    a placing of each third, as one of all
+--   Part             the three thirds
+--   thirds-settle    if there is a placing, n + 1 passes end with one that changes nothing
+--   length-passed, near-at, base-at
+--                    of the list after n + 1 passes: its length, how large its numbers are, 0 or less at the base
+--   known-joined     what is known in the second third is joined to the base
+--   second-holds, third-holds
+--                    after a pass that changed nothing the arcs of the second and the third hold
+--   first-places     if it did, the first third is a placing
+--   under-second, under-third
+--                    no placing goes beyond the second and the third
 -- Assumes nothing.
 use mathlib.Core.Path.{_≡_, refl, sym, ap, _∙_, subst}
 use mathlib.Core.Logic.{_⊎_, inl, inr}
@@ -23,10 +32,10 @@ use Rattle.offsets.specs.declared.Tie.{Tie}
 use Rattle.offsets.specs.Linear.{up, down, of-le, to-le, of-add, of-sub, of-pos, ≤ℤ-trans}
 use Rattle.offsets.specs.Relax.{known, dist}
 use Rattle.offsets.specs.Sound.{Under, under-lower}
-use Rattle.offsets.specs.Offsets.{In, Placing, Places, Joined, self}
-use Rattle.offsets.specs.Arcs.{Arc, up-arc, down-arc, arcs, arcs3, at, turned, of-thirds, in-third0, in-third1, in-third2, arcs3-length, in-up, in-down, Keeps, keeps-places, meets}
-use Rattle.offsets.specs.Settles.{passes, settles, span, span-length, span-in, span-all}
-use Rattle.offsets.specs.Passes.{passes-keep, passes-length, passes-hold, passes-down, Near, near-known, far, known-not-far, Small, passes-ranged, passes-reached}
+use Rattle.offsets.specs.Offsets.{In, Placing, Meets, Places, Joined, self}
+use Rattle.offsets.specs.Arcs.{Arc, up-arc, down-arc, arcs, arcs3, at, turned, of-thirds, arc-in-first, arc-in-second, arc-in-third, length-arcs3, in-up, in-down, Keeps, keeps-places, sums-meet, Holds, by-test}
+use Rattle.offsets.specs.Settles.{Open, Left, passes, passes-settle, span, span-length, span-in, span-all}
+use Rattle.offsets.specs.Passes.{passes-keep, passes-length, passes-hold, passes-down, Near, near-known, far, known-not-far, Ranged, Small, passes-ranged, Reached, passes-reached}
 use Rattle.offsets.specs.Third.{Ready, far-over, ready-small, ready-inside, joined-arc}
 use Rattle.offsets.specs.Turned.{neg, turned-places, places-turned, turned-ready}
 
@@ -139,8 +148,8 @@ module _ (n : ℕ) (ts : List Tie) (ready : Ready n ts) where
   keeps3 : (p : Placing) → Places p ts → Keeps (three n p p (neg p)) (arcs3 n ts)
   keeps3 p h = keeps-three n p p (neg p) ts ready (keeps-places p ts h) (keeps-places p ts h) (keeps-places (neg p) (turned ts) (turned-places p ts h))
 
-  pub settles3 : (p : Placing) → Places p ts → (l : List ℤ) → length l ≡ n * 3 → passes (suc n) (arcs3 n ts) (l, false) .1 ≡ false
-  settles3 p h l e = settles (three n p p (neg p)) (arcs3 n ts) (keeps3 p h) Part (Lies n) closed3 part3 n (l, false) (λ j. record {
+  pub thirds-settle : (p : Placing) → Places p ts → (l : List ℤ) → length l ≡ n * 3 → passes (suc n) (arcs3 n ts) (l, false) .1 ≡ false
+  thirds-settle p h l e = passes-settle (three n p p (neg p)) (arcs3 n ts) (keeps3 p h) Part (Lies n) closed3 part3 n (l, false) (λ j. record {
     os = span (off n j) n;
     opened = record { inside = inside j; others = λ x g w. inl (span-all (off n j) n x (w .0) (w .1)) };
     few = inl (let q = span-length (off n j) n in omega (arith, q));
@@ -163,11 +172,11 @@ module _ (n : ℕ) (ts : List Tie) (ready : Ready n ts) where
     abbrev d : ℕ → ℕ → ℤ
     d o x = dist L (o + x)
 
-    pub L-length : length L ≡ n * 3
-    L-length = passes-length (suc n) (arcs3 n ts) (l, false) ∙ starts .0
+    pub length-passed : length L ≡ n * 3
+    length-passed = passes-length (suc n) (arcs3 n ts) (l, false) ∙ starts .0
 
     in-L : {i : ℕ} → i < n * 3 → i < length L
-    in-L {i} h = subst (λ (m : ℕ). i < m) (sym L-length) h
+    in-L {i} h = subst (λ (m : ℕ). i < m) (sym length-passed) h
 
     in-l : {i : ℕ} → i < length l → i < n * 3
     in-l {i} h = subst (λ (m : ℕ). i < m) (starts .0) h
@@ -181,7 +190,7 @@ module _ (n : ℕ) (ts : List Tie) (ready : Ready n ts) where
 
     L-ranged : (i : ℕ) → i < n * 3 → (dist L i ≡ far) ⊎ Near 125952000000 (dist L i)
     L-ranged i g =
-        let e = arcs3-length n ts in
+        let e = length-arcs3 n ts in
         let h : suc n * 122880000 ≤ 1025 * 122880000 = mul-le-mul (let k = ready .few-records in let z : suc n ≤ 1025 = omega (arith, k) in z) (let z : 122880000 ≤ 122880000 = omega arith in z) in
         let w : length (arcs3 n ts) * 20000 ≤ 122880000 = let k = ready .few-ties in omega (arith, e, k) in
         more h (passes-ranged (suc n) (arcs3 n ts) small3 122880000 w 0 (l, false)
@@ -241,21 +250,21 @@ module _ (n : ℕ) (ts : List Tie) (ready : Ready n ts) where
       hold-at us r o g into b i k = let h = ready-inside n us r b i in let f = h .0 in let t = h .1 in
           passes-hold n (arcs3 n ts) (l, false) quiet (at o b) (into b i) (in-L (let z : o + b .from < n * 3 = omega (arith, g, f) in z)) (in-L (let z : o + b .to < n * 3 = omega (arith, g, t) in z)) k
 
-      pub hold1 : (b : Arc) → In b (arcs ts) → known (d n (b .from)) ≡ true → d n (b .to) ≤ℤ (d n (b .from) +ℤ b .rise)
-      hold1 = hold-at ts ready n (omega arith) (in-third1 n ts)
+      pub second-holds : (b : Arc) → In b (arcs ts) → known (d n (b .from)) ≡ true → d n (b .to) ≤ℤ (d n (b .from) +ℤ b .rise)
+      second-holds = hold-at ts ready n (omega arith) (arc-in-second n ts)
 
-      pub hold2 : (b : Arc) → In b (arcs (turned ts)) → known (d (n * 2) (b .from)) ≡ true → d (n * 2) (b .to) ≤ℤ (d (n * 2) (b .from) +ℤ b .rise)
-      hold2 = hold-at (turned ts) turned-r (n * 2) (omega arith) (in-third2 n ts)
+      pub third-holds : (b : Arc) → In b (arcs (turned ts)) → known (d (n * 2) (b .from)) ≡ true → d (n * 2) (b .to) ≤ℤ (d (n * 2) (b .from) +ℤ b .rise)
+      third-holds = hold-at (turned ts) turned-r (n * 2) (omega arith) (arc-in-third n ts)
 
       plain : (x : ℕ) → dist L (0 + x) ≡ dist L x
       plain x = let e : 0 + x ≡ x = omega arith in ap (dist L) e
 
       first-hold : (b : Arc) → In b (arcs ts) → dist L (b .to) ≤ℤ (dist L (b .from) +ℤ b .rise)
       first-hold b i = subst (λ (z : ℤ). z ≤ℤ (dist L (b .from) +ℤ b .rise)) (plain (b .to)) (subst (λ (z : ℤ). dist L (0 + b .to) ≤ℤ (z +ℤ b .rise)) (plain (b .from))
-          (hold-at ts ready 0 (omega arith) (in-third0 n ts) b i (subst (λ (z : ℤ). known z ≡ true) (sym (plain (b .from))) (first-known (b .from) (ready-inside n ts ready b i .0)))))
+          (hold-at ts ready 0 (omega arith) (arc-in-first n ts) b i (subst (λ (z : ℤ). known z ≡ true) (sym (plain (b .from))) (first-known (b .from) (ready-inside n ts ready b i .0)))))
 
       pub first-places : Places (dist L) ts
-      first-places t i = meets (dist L (t .first)) (dist L (t .second)) (t .least) (t .most) (first-hold (up-arc t) (in-up ts t i)) (first-hold (down-arc t) (in-down ts t i))
+      first-places t i = sums-meet (dist L (t .first)) (dist L (t .second)) (t .least) (t .most) (first-hold (up-arc t) (in-up ts t i)) (first-hold (down-arc t) (in-down ts t i))
 
       -- a placing, shifted so that the base begins at 0, is at or under the distances of its third
       abbrev shift : Placing → Placing
@@ -282,10 +291,10 @@ module _ (n : ℕ) (ts : List Tie) (ready : Ready n ts) where
           T : Placing
           T = three n (dist L) (shift p) (shift q)
 
-      pub under1 : (p : Placing) → Places p ts → (x : ℕ) → x < n → known (d n x) ≡ true → (p x -ℤ p base) ≤ℤ d n x
-      under1 p h x g k = subst (λ (z : ℤ). z ≤ℤ d n x) (three-1 n (dist L) (shift p) (shift (neg p)) x g)
+      pub under-second : (p : Placing) → Places p ts → (x : ℕ) → x < n → known (d n x) ≡ true → (p x -ℤ p base) ≤ℤ d n x
+      under-second p h x g k = subst (λ (z : ℤ). z ≤ℤ d n x) (three-1 n (dist L) (shift p) (shift (neg p)) x g)
           (under-all p (neg p) h (turned-places p ts h) (n + x) (in-L (let z : n + x < n * 3 = omega (arith, g) in z)) k)
 
-      pub under2 : (q : Placing) → Places q (turned ts) → (x : ℕ) → x < n → known (d (n * 2) x) ≡ true → (q x -ℤ q base) ≤ℤ d (n * 2) x
-      under2 q h x g k = subst (λ (z : ℤ). z ≤ℤ d (n * 2) x) (three-2 n (dist L) (shift (neg q)) (shift q) x g)
+      pub under-third : (q : Placing) → Places q (turned ts) → (x : ℕ) → x < n → known (d (n * 2) x) ≡ true → (q x -ℤ q base) ≤ℤ d (n * 2) x
+      under-third q h x g k = subst (λ (z : ℤ). z ≤ℤ d (n * 2) x) (three-2 n (dist L) (shift (neg q)) (shift q) x g)
           (under-all (neg q) q (places-turned q ts h) h (n * 2 + x) (in-L (let z : n * 2 + x < n * 3 = omega (arith, g) in z)) k)

@@ -1,7 +1,9 @@
--- Ties turned round: the first and the second record exchanged, least and most as they are. A placing read backwards meets them, so the least of a record is the most of it over turned ties, with the sign changed.
---     turned-places, places-turned     p meets all ties exactly if -p meets all turned ones
---     turned-joined        they join the same records
---     turned-ready         they are not refused either
+-- Ties turned round: the first and the second record exchanged, least and most as they are. A placing read backwards meets them, so the least of a record is
+-- the most of it over turned ties, with the sign changed.
+--   turned-places, places-turned
+--                  p meets all ties exactly if -p meets all turned ones
+--   turned-joined  they join the same records
+--   turned-ready   they are not refused either
 -- Assumes nothing.
 use mathlib.Core.Path.{_≡_, refl, sym, ap, subst}
 use mathlib.Core.Logic.{inl, inr}

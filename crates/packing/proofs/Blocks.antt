@@ -1,4 +1,15 @@
--- Laws of `fill_eight` and `fill`: the cells of a set, block by block. Assumes nothing.
+-- Laws of `fill_eight` and `fill`: the cells of a set, block by block.
+--   raised-in, raised-out, raised-or
+--                         bits moved up by b places
+--   cells-in, cells-out   the cells of a set in the order of a tree's last level
+--   to-more, to-none, to-row, to-all
+--                         the first blocks of a set: empty ones add nothing; none; past the last of a row; all
+--   block-none, block-inside, block-some
+--                         the block at r and c: empty, within the square, put behind those before it
+--   byte-none, eight-none
+--                         a byte that none of the rows has; eight words of 0
+--   turn-none, turn-some  a turn of the loop of `fill_eight`: an empty block, or one that is put in
+-- Assumes nothing.
 use mathlib.Core.Path.{_≡_, refl, sym, ap, ap₂, _∙_, fun-ext}
 use mathlib.Core.Bool.{Bool, true, false}
 use mathlib.Core.List.{List}

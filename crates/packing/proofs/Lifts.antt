@@ -1,5 +1,10 @@
--- Laws of `lift`: below place b, the bits of a full tree f come in from the last word to the first, and in the first word from the last group
--- to the first. Assumes nothing.
+-- Laws of `lift`: below place b, the bits of a full tree f come in from the last word to the first, and in the first word from the last group to the first.
+--   above-in, above-out, above-all
+--                  the bits from place b on
+--   From w m       w has the bits of f from m on, and below b none before m
+--   lift-word, lift-gap, lift-none, lift-some
+--                  a word comes in; groups of 0; a group with no bit; one with some, which sets the bit above it
+-- Assumes nothing.
 use mathlib.Core.Path.{_≡_, refl, sym, ap, _∙_, fun-ext}
 use mathlib.Core.List.{List}
 use Prim.Native.Nat.{ℕ, _+_, _-_, _*_, _^_, _≤_, _<_, min, max}

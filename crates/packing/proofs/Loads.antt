@@ -1,4 +1,24 @@
--- Laws of `children`, `leaves` and `load`: a square's quarters, one after another. Assumes nothing.
+-- Laws of `children`, `leaves` and `load`: a square's quarters, one after another.
+--   inside-in, inside-by, inside-out
+--                  a cell within a square of a set, and outside it
+--   four-quarters, quarters-all, quarters-more, quarters-empty, quarters-none
+--                  a square from its quarters: all four, one more, an empty one, none yet
+--   turned-lt, reads-bit, reads-child, reads-empty, reads-cell
+--                  a square read with a sense: the bit of a quarter, its own square, an empty quarter, a cell of a square of side 2
+--   reads-tree, inside-all
+--                  a whole tree is read, and its square is the set
+--   four-cells     the four cells of a square of side 2, put into rows
+--   count-set, count-begun, count-in, child-count
+--                  the counts of ones kept by block, and the child place found by them
+--   square-plain, square-turned
+--                  `square`: four bits as a number, read with either sense
+--   dive-child, dive-all, dive-gap
+--                  one level down: a quarter that is not empty, all four, some that are empty
+--   quarter-in, one-le, quarter-even, half-law
+--                  a quarter fits where its square does, and begins at an even place
+--   next-le, next-clear, next-set
+--                  the next one of a number below 16 from place q on
+-- Assumes nothing.
 use mathlib.Core.Path.{_≡_, refl, sym, ap, ap₂, _∙_, fun-ext}
 use mathlib.Core.List.{List}
 use Prim.Native.Nat.{ℕ, zero, suc, _+_, _-_, _*_, _/_, _%_, _^_, _≤_, _<_, max}

@@ -1,4 +1,13 @@
--- Laws of `pack_part`: the cells are the last level of the full tree, whose groups that are not all 0 are the tree. Assumes nothing.
+-- Laws of `pack_part`: the cells are the last level of the full tree, whose groups that are not all 0 are the tree.
+--   set-wider, cells-wider
+--                  a set of pairs below m is one below n, and has the same cells in a square of twice the side
+--   full-cells, full-heaped
+--                  the cells are the last level of the full tree, and each bit above them tells of its four
+--   full-groups    its groups in whole words that are not all 0 are the tree
+--   block-set, part-cells, part-heaped, part-next, part-room
+--                  the same of a square filled by blocks of 8 × 8: its cells, its levels, how they follow, and the room
+--   packed-tree    a tree at the front of words
+-- Assumes nothing.
 use mathlib.Core.Path.{_≡_, refl, sym, ap, ap₂, _∙_, fun-ext}
 use mathlib.Core.List.{List, _++_}
 use Prim.Native.Nat.{ℕ, zero, suc, _+_, _-_, _*_, _/_, _^_, _≤_, _<_, max}

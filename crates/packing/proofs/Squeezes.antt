@@ -1,5 +1,16 @@
--- Laws of `squeeze_word` and `squeeze`: groups of 0 add nothing, another group is put behind those at the front, and at the end the front is the
--- words of the groups. Assumes nothing.
+-- Laws of `squeeze_word` and `squeeze`: the groups that are not all 0, moved to the front.
+--   squeeze-gap, squeeze-hit, any-hit
+--                    groups of 0 add nothing; another group is put behind those at the front; a set bit makes its group not all 0
+--   Left f i r w ws  the loop of `squeeze_word`: w holds what is left of word i from a group on, and r groups are at the front
+--   left-start, left-more, left-end
+--                    at the start of a word, one group more, the word used up
+--   turns-less, turns-left
+--                    a group less is left in each turn
+--   squeeze-quiet    four words of 0
+--   squeeze-start, squeeze-end
+--                    `squeeze`: at the start, and at the end, when the front is the words of the groups
+--   power, trim-law  `trim`: the bits past the groups are cleared
+-- Assumes nothing.
 use mathlib.Core.Path.{_≡_, refl, sym, ap, _∙_, fun-ext}
 use mathlib.Core.List.{List, _++_, append-nil}
 use Prim.Native.Nat.{ℕ, zero, suc, _+_, _-_, _*_, _/_, _%_, _^_, _≤_, _<_, min}

@@ -1,4 +1,14 @@
--- Laws of what `together` finds, of the loop of `block`, and of the stores of `or_word` and `set_four`. Assumes nothing.
+-- Laws of what `together` finds, of the loop of `block`, and of the stores of `or_word` and `set_four`.
+--   false-absurd, nil-of  false is not true; no words are the empty list
+--   or-more, or-digits, byte-digit
+--                         several words at once: where their `|` is 0, or has a digit or a byte of 0, so has each of them
+--   Bytes ws i k r v      v has byte k of r words, 16 apart from word i on, one above the other
+--   bytes-none, bytes-more, bytes-all
+--                         the loop of `block`: no row, one more, all eight
+--   or-word               `or_word`: the lower digits go to the word of p, the others to the next
+--   or-short              `or_two`: digits that stand in one word
+--   set-four              `set_four`
+-- Assumes nothing.
 use mathlib.Core.Path.{_≡_, refl, sym, ap, ap₂, _∙_, fun-ext}
 use mathlib.Core.Bool.{true, false}
 use mathlib.Core.List.{List, [], _∷_}
@@ -21,8 +31,8 @@ use Rattle.bits.specs.BitSets.{either}
 use Rattle.packing.specs.Image.{setFour}
 
 -- false is not true
-pub off : {A : Type 0} → false ≡ true → A
-off e = absurd (let y : _≡_ {A = ℕ} 0 1 = cc in omega arith)
+pub false-absurd : {A : Type 0} → false ≡ true → A
+false-absurd e = absurd (let y : _≡_ {A = ℕ} 0 1 = cc in omega arith)
 
 -- no words
 pub nil-of : (ws : List ℕ) → length ws ≡ 0 → ws ≡ []

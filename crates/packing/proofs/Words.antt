@@ -1,4 +1,11 @@
--- Laws of what `any_of_eight`, `block`, `swap`, `shuffle` and `summary` make of words. Assumes nothing.
+-- Laws of what `any_of_eight`, `block`, `swap`, `shuffle` and `summary` make of words.
+--   swap-law             `swap`: which bit comes where
+--   mask₁, mask₂, mask₃  the masks of the three exchanges of `shuffle`
+--   apart-first, apart-second, apart-third
+--                        the bits of each mask and those that they change places with are apart
+--   shuffle-law          three exchanges bring the bits of rows into the order of a tree's last level
+--   summary-law          `summary`: bit j of it tells whether the four bits of group j are not all 0
+-- Assumes nothing.
 use mathlib.Core.Path.{_≡_, refl, sym, ap, _∙_}
 use mathlib.Core.Bool.{Bool, true, false}
 use Prim.Native.Nat.{ℕ, zero, suc, _+_, _-_, _*_, _/_, _%_, _^_, _≤_, _<_, min, max}
@@ -108,17 +115,17 @@ shuffle-table : allBelow 64 shuffleAt ≡ true
 unfolding allBelow shuffleAt swapPlace digit rowAt columnAt
 shuffle-table = refl
 
-pub apart₁ : (j : ℕ) → digit mask₁ j ≡ 1 → (j + 12 < 64) × (digit mask₁ (j + 12) ≡ 0)
+pub apart-first : (j : ℕ) → digit mask₁ j ≡ 1 → (j + 12 < 64) × (digit mask₁ (j + 12) ≡ 0)
 unfolding allBelow apartAt digit
-apart₁ = mask-apart 12 mask₁ (omega arith) refl
+apart-first = mask-apart 12 mask₁ (omega arith) refl
 
-pub apart₂ : (j : ℕ) → digit mask₂ j ≡ 1 → (j + 4 < 64) × (digit mask₂ (j + 4) ≡ 0)
+pub apart-second : (j : ℕ) → digit mask₂ j ≡ 1 → (j + 4 < 64) × (digit mask₂ (j + 4) ≡ 0)
 unfolding allBelow apartAt digit
-apart₂ = mask-apart 4 mask₂ (omega arith) refl
+apart-second = mask-apart 4 mask₂ (omega arith) refl
 
-pub apart₃ : (j : ℕ) → digit mask₃ j ≡ 1 → (j + 2 < 64) × (digit mask₃ (j + 2) ≡ 0)
+pub apart-third : (j : ℕ) → digit mask₃ j ≡ 1 → (j + 2 < 64) × (digit mask₃ (j + 2) ≡ 0)
 unfolding allBelow apartAt digit
-apart₃ = mask-apart 2 mask₃ (omega arith) refl
+apart-third = mask-apart 2 mask₃ (omega arith) refl
 
 module _ (w a b r : ℕ)
     (ea : (j : ℕ) → j < 64 → digit a j ≡ digit w (swapPlace 12 mask₁ j))

@@ -1,4 +1,10 @@
--- The answers of the two calls, in plain variables. Assumes nothing.
+-- The answers of the two calls, in plain variables.
+--   prints-refused, prints-laid
+--                   printing: refused as the pair question is; or its pages laid, or 13
+--   reads-refused, reads-broken, reads-short, reads-pairs
+--                   reading: the verdict's number, 14, 13, or the pairs
+--   reads-accepted  an accepted text is an expression's
+-- Assumes nothing.
 use mathlib.Core.Path.{_≡_, refl, sym, ap, subst, _∙_}
 use mathlib.Core.List.{List}
 use Prim.Native.Nat.{ℕ, _*_, _/_, _%_, _≤_, _<_}

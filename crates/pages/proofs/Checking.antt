@@ -1,4 +1,18 @@
--- Laws of judging: a line stands or falls by what was found of it; lines that all stand are pages, and pages have no line that falls. Assumes nothing.
+-- Laws of judging: a line stands or falls by what was found of it; lines that all stand are pages, and pages have no line that falls.
+--   rising-small        words that ascend below the number after every pair word are pair words
+--   head-stands, head-falls
+--                       a head line, by its bytes
+--   short-falls, rising-falls, line-falls, line-stands
+--                       a pair line: too few pairs, pairs that do not ascend, other bytes; or it stands
+--   line-not, line-yes  what a line was found to be
+--   bad-size, bad-most, bad-line, bad-lines
+--                       no pages: bytes of no whole line, too many lines, a line that falls, more or fewer lines than its pairs take
+--   few-pairs, good-lines
+--                       all lines stand: so many pairs at most, and they are pages
+--   before-next, stand-next
+--                       one line more
+--   judged-length       as many pairs as are listed
+-- Assumes nothing.
 use mathlib.Core.Path.{_≡_, refl, sym, ap, subst, _∙_}
 use mathlib.Core.List.{List}
 use Prim.Native.Nat.{ℕ, _+_, _*_, _/_, _%_, _≤_, _<_}

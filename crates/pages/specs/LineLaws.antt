@@ -1,13 +1,18 @@
 -- Laws of lines: how long each is, the pages as one line after the other, and what is laid of them.
 --   right-small, right-more
---                   a number's last figure, and what is before it
+--                  a number's last figure, and what is before it
 --   length-right, length-record, length-cell, length-cells, length-pair-line, length-head-line, length-line
---                   how long the parts of a line are
+--                  how long the parts of a line are
+--   length-padded, page-figures
+--                  a text that is padded; the figures of a page's number
 --   joined-same, joined-add, joined-next, joined-parts, length-joined, drop-joined
---                   texts joined one after the other
---   pages-lines     the pages are their lines
---   lines-most      so many lines at most
---   length-pages    the pages' bytes
+--                  texts joined one after the other
+--   joined-first   the first of joined texts
+--   line-head, line-pairs, small-part
+--                  a line is a head or shows its pairs, six at most
+--   pages-lines    the pages are their lines
+--   lines-most     so many lines at most
+--   length-pages   the pages' bytes
 -- Assumes nothing.
 use mathlib.Core.Path.{_≡_, refl, sym, ap, ap₂, _∙_}
 use mathlib.Core.List.{List, [], _∷_, _++_, append-assoc, append-nil}

@@ -1,15 +1,24 @@
 -- Laws of reading: the pairs of a laid line are read back from its figures, those of the pages from their lines, and lines that stand are the pages of what is
 -- read from them.
---   value-right     the number of a number's figures, right-aligned
+--   value-append   the number of joined figures
+--   value-right    the number of a number's figures, right-aligned
 --   cell-read, cells-read, line-read
---                   what is read of a cell, of cells, of a line
+--                  what is read of a cell, of cells, of a line
+--   words-head, words-pairs, words-few
+--                  none is read of a head, at most six of a pair line
+--   before-head, before-pairs, before-all, before-most
+--                  how many pairs stand before a line
+--   line-bytes     the bytes of a line of pages are that line
 --   words-at, words-before, words-all
---                   what is read of the pages' lines: at one, before one, of all
+--                  what is read of the pages' lines: at one, before one, of all
 --   within-then, within-rest, after-append
---                   ascending lists, one after the other
---   listed-within   an ascending list of different pairs lies below the number after every pair word
---   pages-stand     every line of pages stands, and they have as many lines as their pairs take
---   stand-pages     lines that stand, as many as their pairs take, are pages
+--                  ascending lists, one after the other
+--   after-le, within-small, within-below
+--                  an ascending list of pair words: the number after it, and that its members are pair words
+--   listed-within  an ascending list of different pairs lies below the number after every pair word
+--   pages-stand    every line of pages stands, and they have as many lines as their pairs take
+--   stand-within   the pairs on lines that stand ascend
+--   stand-pages    lines that stand, as many as their pairs take, are pages
 -- Assumes nothing.
 use mathlib.Core.Path.{_≡_, refl, sym, ap, ap₂, subst, _∙_}
 use mathlib.Core.Bool.{Bool, true, false}

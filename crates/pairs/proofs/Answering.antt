@@ -1,4 +1,15 @@
--- The answer to a pair question, in plain variables: refused by the text, refused for its space, and by the rows that were made. Assumes nothing.
+-- The answer to a pair question, in plain variables: refused by the text, refused for its space, and by the rows that were made.
+--   faulty-text, little-work, few-rows
+--                  refused: by the text, for the work, for the rows
+--   made-rows      the rows that were made are those of the question's relation
+--   same-verdict   the same of an equal verdict
+--   Made b v work room n after
+--                  the rows of an expression are there
+--   relates-refused, relates-rows
+--                  the relation told: refused, or how many pairs
+--   asks-refused, asks-rows
+--                  the pairs handed over: refused, or the first of them
+-- Assumes nothing.
 use mathlib.Core.Path.{_≡_, refl, sym, ap, _∙_, subst}
 use mathlib.Core.List.{List, _++_}
 use Prim.Native.Nat.{ℕ, _*_, _≤_, _<_}

@@ -1,4 +1,14 @@
--- The whole code, in plain variables: how it begins, goes on and ends with its last number, whose value is left in rows. Assumes nothing.
+-- The whole code, in plain variables: how it begins, goes on and ends with its last number, whose value is left in rows.
+--   going-begins, coded-some
+--                  before the first number; a code has one
+--   going-room, going-ready, going-more
+--                  the next number finds its operands and room, and one number more is done
+--   going-ends, ends-term
+--                  the last number: its value is the expression's set, in rows
+--   used-none, used-more, used-same
+--                  the records in use, one after the other: none, one more, a withdrawn one
+--   used-asked     of a register's marks they are those of its book
+-- Assumes nothing.
 use mathlib.Core.Path.{_≡_, refl, sym, ap, _∙_, subst, fun-ext}
 use mathlib.Core.Bool.{Bool, true, false, not, _&&_}
 use mathlib.Core.List.{List, [], _∷_}

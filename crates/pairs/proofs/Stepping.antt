@@ -1,4 +1,14 @@
 -- One number of the code, in plain variables: what letters, `^`, and an operator do to the operands that wait.
+--   rest, part-length    the part that is lent is the rest of the work, and its length
+--   starts-early         the trees of the operands below the top end early enough to leave room for the value
+--   takes-letters, takes-inverse, takes-one, takes-two
+--                        what each kind of item takes off the stack
+--   has-one, has-turned, has-two
+--                        where the operands lie that an item takes
+--   takes-early          few operands stay
+--   goes-letters, goes-inverse
+--                        letters are put on the stack; `^` turns the operand on top
+--   lent, goes-operator  what is lent to an operation, and that its tree is the operand on top then
 -- Assumes nothing.
 use mathlib.Core.Path.{_≡_, refl, sym, ap, ap₂, _∙_, subst}
 use mathlib.Core.List.{List, _∷_, _++_, append-nil}

@@ -1,13 +1,14 @@
 -- Laws of the pair question: what the book's answer is, by the verdict, the work and the list.
---   asks-short      12
---   asks-paired     how many pairs there are, and the first of them
---   asks-handed     the pairs handed over are that answer
+--   asks-refused   the verdict's number
+--   asks-short     12
+--   asks-paired    how many pairs there are, and the first of them
+--   faulty-caused  a verdict's number is a cause's
+--   asks-handed    the pairs handed over are that answer
 --   relation-refused, relation-short, relation-few, relation-paired
---                   the same of the relation as rows
---   refused-alike   with rows enough, a pair question is refused as its relation is
---   faulty-caused   a verdict's number is a cause's
---   handed-past     what is handed over leaves the words past it
---   handed-some     it is no refusal
+--                  the same of the relation as rows
+--   refused-alike  with rows enough, a pair question is refused as its relation is
+--   handed-past    what is handed over leaves the words past it
+--   handed-some    it is no refusal
 -- Assumes nothing.
 use mathlib.Core.Path.{_≡_, refl, sym, ap, _∙_}
 use mathlib.Core.List.{List}

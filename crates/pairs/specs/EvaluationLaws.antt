@@ -1,17 +1,20 @@
 -- Laws of the evaluation.
---   value-cells     an expression's value in the algebra of relations is its set
+--   value-cells        an expression's value in the algebra of relations is its set
 --   Unary y k, Binary y k
---                   the item y is an operator on one operand, or on two, by the operation k
+--                      the item y is an operator on one operand, or on two, by the operation k
+--   unary-one, binary-two
+--                      such an item takes one, or two
 --   does-inverse, does-one, does-two, does-letters
---                   what an item does to the stack
---   begins          with nothing waiting the whole code is left
+--                      what an item does to the stack
+--   begins             with nothing waiting the whole code is left
 --   runs-rest, runs-height
---                   what a code that runs asks of its next number
---   Top, standing-top
---                   the operand on top: where its tree lies, and what stands below it
+--                      what a code that runs asks of its next number
+--   standing-count     the count of operands is the stack's height
+--   Top, standing-top  the operand on top: where its tree lies, and what stands below it
 --   standing-kept, standing-store
---                   what stands below a word stands if only words behind it change, and if only operands above are stored
---   standing-put    an operand put on top
+--                      what stands below a word stands if only words behind it change, and if only operands above are stored
+--   standing-put       an operand put on top
+--   waits-next         one number more of the code
 -- Assumes nothing.
 use mathlib.Core.Path.{_≡_, refl, sym, ap, ap₂, _∙_, subst}
 use mathlib.Core.List.{List, [], _∷_}

@@ -1,8 +1,8 @@
 -- Laws of letters: the pairs of their links, and the records in use.
---   links-below     the links of a book are of records below n
---   letters-crossed the pairs of the links of letters are those that a step joins whose letter is one of them
---   zero-used       each record in use joined to itself is zero steps
---   used-below      the records in use are below n
+--   links-below      the links of a book are of records below n
+--   letters-crossed  the pairs of the links of letters are those that a step joins whose letter is one of them
+--   zero-used        each record in use joined to itself is zero steps
+--   used-below       the records in use are below n
 -- Assumes nothing.
 use mathlib.Core.Path.{_≡_, refl, sym, ap, _∙_, subst, fun-ext}
 use mathlib.Core.Logic.{⊎-elim}

@@ -1,13 +1,13 @@
 -- Laws of the room that the operands take.
 --   totals-below, totals-most
---                   the numbers below the top one; their total
---   placed-put      an operand put on top
+--                  the numbers below the top one; their total
+--   placed-put     an operand put on top
 --   value-heights, height-after
---                   every value is 0; an item takes its operands off the stack and puts one value on it
---   room-begins     with nothing waiting
---   room-operands   the next number of the code finds its operands, and there is room for its value
---   room-next       one number more: its operands give way to its value
---   room-ends       with no code left one operand waits
+--                  every value is 0; an item takes its operands off the stack and puts one value on it
+--   room-begins    with nothing waiting
+--   room-operands  the next number of the code finds its operands, and there is room for its value
+--   room-next      one number more: its operands give way to its value
+--   room-ends      with no code left one operand waits
 -- Assumes nothing.
 use mathlib.Core.Path.{_≡_, refl, sym, ap, _∙_, subst}
 use mathlib.Core.List.{List, [], _∷_}

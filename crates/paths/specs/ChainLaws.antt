@@ -1,8 +1,14 @@
 -- Laws of chains and words, and the theorem that a pair is in the relation of an expression exactly if it has a chain.
---   Inside g        the graph's links lie between records in use, which are below n, and their labels are letters
+--   Inside g       the graph's links lie between records in use, which are below n, and their labels are letters
+--   inverse-inverse, backwards-append
+--                  a letter inverted twice; joined words backwards
 --   spell-append, chain-append, chain-split, chain-back, backwards-backwards, split-spelling
---                   chains joined, parted and gone backwards, and what they then spell
---   rel-has         Rel g e x y exactly if Has g e x y
+--                  chains joined, parted and gone backwards, and what they then spell
+--   crossing-back, crossing-in, crossing-label, in-use-on
+--                  a link crossed the other way is the same link, between records in use, with a letter; a chain leads from use to use
+--   rel-in-use, rel-chain, chain-rel
+--                  the relation's pairs are of records in use; it has exactly the pairs with a chain that spells a word
+--   rel-has        Rel g e x y exactly if Has g e x y
 -- Assumes nothing.
 use mathlib.Core.Path.{_≡_, refl, sym, ap, ap₂, _∙_, subst}
 use mathlib.Core.Logic.{_↔_}

@@ -1,10 +1,13 @@
 -- The order of chains: total, transitive, and no two different lists of step words are each not after the other.
+--   before-back, before-self, not-after-then
+--                  the order at the first step, of a list with itself, and from one list over a second to a third
 --   before-both, not-after-both
---                   two lists that are each not after the other are the same
---   first-only      there is at most one first chain
+--                  two lists that are each not after the other are the same
+--   first-only     there is at most one first chain
 --   label-first, sense-next, record-last
---                   of two steps that reach records below 1,024: the smaller label comes first, then forward before against, then the smaller record
---   leads v w       the order as a test, with leads-yes and leads-no: of two lists, one is not after the other
+--                  of two steps that reach records below 1,024: the smaller label comes first, then forward before against, then the smaller record
+--   leads v w, leads-yes, leads-no
+--                  the order as a test, and that of two lists one is not after the other
 -- Assumes nothing.
 use mathlib.Core.Path.{_≡_, refl, sym, ap, _∙_, subst}
 use mathlib.Core.List.{List, [], _∷_}

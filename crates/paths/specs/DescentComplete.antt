@@ -1,7 +1,7 @@
 -- What is in the grammar is read: the bytes of an expression, with bytes after them that do not go on with it, give that expression and leave those.
 --   complete        this for every rule
---   whole           the text of an expression is read to its end
---   unique          a text has at most one syntax
+--   text-read       the text of an expression is read to its end
+--   syntax-only     a text has at most one syntax
 -- Assumes nothing.
 use mathlib.Core.Path.{_≡_, refl, sym, ap, _∙_}
 use mathlib.Core.List.{List, [], _∷_, _++_, append-assoc, append-nil}
@@ -124,8 +124,8 @@ complete (is-group {s} {e} d) = λ r. (
   refl,
 )
 
-pub whole : {s : List ℕ} {e : Expr} → Is alternatives s e → readAlternatives s ≡ got e []
-whole {s} {e} d = ap readAlternatives (sym (append-nil s)) ∙ complete d [] no-mark-end refl ∙ more-alternatives-end e [] refl
+pub text-read : {s : List ℕ} {e : Expr} → Is alternatives s e → readAlternatives s ≡ got e []
+text-read {s} {e} d = ap readAlternatives (sym (append-nil s)) ∙ complete d [] no-mark-end refl ∙ more-alternatives-end e [] refl
 
-pub unique : (s : List ℕ) (e f : Expr) → Is alternatives s e → Is alternatives s f → e ≡ f
-unique s e f d d′ = let p = whole d in let q = whole d′ in cc
+pub syntax-only : (s : List ℕ) (e f : Expr) → Is alternatives s e → Is alternatives s f → e ≡ f
+syntax-only s e f d d′ = let p = text-read d in let q = text-read d′ in cc

@@ -1,9 +1,10 @@
 -- What the descent reads is in the grammar: if it gets e and leaves r, the bytes before r are e's by the rule.
---   All P x         P of what x has found, if it has found anything
---   By R l e r      e is read by the rule R from the front of l, and r is left
+--   All P x        P of what x has found, if it has found anything
+--   By R l e r     e is read by the rule R from the front of l, and r is left
+--   first-taken    a byte other than 0 that comes first is taken off
 --   sound-alternatives, sound-parts, sound-part, sound-atom
---                   what a rule's function finds is read by that rule
---   shorter         what is left is shorter than what was lent
+--                  what a rule's function finds is read by that rule
+--   read-shorter   what is left is shorter than what was lent
 -- Assumes nothing.
 use mathlib.Core.Path.{_≡_, refl, sym, ap, _∙_, subst}
 use mathlib.Core.List.{List, [], _∷_, _++_, append-assoc}
@@ -38,9 +39,9 @@ all-if true x y h g = h refl
 all-if false x y h g = g refl
 
 -- a byte other than 0 that comes first is taken off
-pub eat : (l : List ℕ) (c : ℕ) → 0 < c → eqb (firstByte l) c ≡ true → l ≡ c ∷ rest l
-eat [] c h e = absurd (let z : _≡_ {A = ℕ} 0 c = eqb-true 0 c e in omega arith)
-eat (x ∷ l) c h e = ap (λ (y : ℕ). y ∷ l) (eqb-true x c e)
+pub first-taken : (l : List ℕ) (c : ℕ) → 0 < c → eqb (firstByte l) c ≡ true → l ≡ c ∷ rest l
+first-taken [] c h e = absurd (let z : _≡_ {A = ℕ} 0 c = eqb-true 0 c e in omega arith)
+first-taken (x ∷ l) c h e = ap (λ (y : ℕ). y ∷ l) (eqb-true x c e)
 
 and-true : (a b : Bool) → (a && b) ≡ true → (a ≡ true) × (b ≡ true)
 and-true true b h = (refl, h)
@@ -60,9 +61,9 @@ after l₀ s l p r c h e q = h ∙ ap (λ (m : List ℕ). s ++ m) (e ∙ ap (λ 
 
 sound-mark : (l₀ s : List ℕ) (e : Expr) (l : List ℕ) → Is atom s e → l₀ ≡ s ++ l → All (By marked l₀) (readMark e l)
 sound-mark l₀ s e l d h =
-    all-if (eqb (firstByte l) asterisk) _ _ (λ b. gives (s ++ (asterisk ∷ []), with-star d, after l₀ s l [] (rest l) asterisk h (eat l asterisk (omega arith) b) refl)) (λ _.
-    all-if (eqb (firstByte l) plus-sign) _ _ (λ b. gives (s ++ (plus-sign ∷ []), with-plus d, after l₀ s l [] (rest l) plus-sign h (eat l plus-sign (omega arith) b) refl)) (λ _.
-    all-if (eqb (firstByte l) question-mark) _ _ (λ b. gives (s ++ (question-mark ∷ []), with-optional d, after l₀ s l [] (rest l) question-mark h (eat l question-mark (omega arith) b) refl)) (λ _.
+    all-if (eqb (firstByte l) asterisk) _ _ (λ b. gives (s ++ (asterisk ∷ []), with-star d, after l₀ s l [] (rest l) asterisk h (first-taken l asterisk (omega arith) b) refl)) (λ _.
+    all-if (eqb (firstByte l) plus-sign) _ _ (λ b. gives (s ++ (plus-sign ∷ []), with-plus d, after l₀ s l [] (rest l) plus-sign h (first-taken l plus-sign (omega arith) b) refl)) (λ _.
+    all-if (eqb (firstByte l) question-mark) _ _ (λ b. gives (s ++ (question-mark ∷ []), with-optional d, after l₀ s l [] (rest l) question-mark h (first-taken l question-mark (omega arith) b) refl)) (λ _.
     gives (s, bare d, h))))
 
 -- a member of a negated set, and what is done after it
@@ -70,7 +71,7 @@ all-member : {P : Expr → List ℕ → Type 0} (l : List ℕ) (k : Letter → L
 all-member l k h =
     all-if (eqb (firstByte l) hat) _ _
     (λ b. all-if (isLetter (firstByte (rest l))) _ _
-    (λ b′. let p = letter-byte (rest l) b′ in h (hat ∷ (letter-a + (firstByte (rest l) - letter-a)) ∷ []) (letterOf true (firstByte (rest l))) (rest (rest l)) (inverted-member (p .1)) (eat l hat (omega arith) b ∙ ap (λ (m : List ℕ). hat ∷ m) (p .0)))
+    (λ b′. let p = letter-byte (rest l) b′ in h (hat ∷ (letter-a + (firstByte (rest l) - letter-a)) ∷ []) (letterOf true (firstByte (rest l))) (rest (rest l)) (inverted-member (p .1)) (first-taken l hat (omega arith) b ∙ ap (λ (m : List ℕ). hat ∷ m) (p .0)))
     (λ _. nothing))
     (λ _. all-if (isLetter (firstByte l)) _ _
     (λ b. let p = letter-byte l b in h ((letter-a + (firstByte l - letter-a)) ∷ []) (letterOf false (firstByte l)) (rest l) (plain-member (p .1)) (p .0))
@@ -91,9 +92,9 @@ sound-members zero w l l₀ b = nothing
 sound-members (suc f) w l l₀ b = all-member l _ (λ t a r m e.
     let g = one-more r b m e in
     all-if (eqb (firstByte r) bar) _ _
-    (λ c. sound-members f (w ++ (a ∷ [])) (rest r) l₀ (next (g .1) (g .2 ∙ ap (λ (x : List ℕ). g .0 ++ x) (eat r bar (omega arith) c))))
+    (λ c. sound-members f (w ++ (a ∷ [])) (rest r) l₀ (next (g .1) (g .2 ∙ ap (λ (x : List ℕ). g .0 ++ x) (first-taken r bar (omega arith) c))))
     (λ _. all-if (eqb (firstByte r) close-group) _ _
-    (λ c. gives (bang ∷ open-group ∷ (g .0 ++ (close-group ∷ [])), is-set (g .1), ap (λ (x : List ℕ). bang ∷ open-group ∷ x) (after l₀ (g .0) r [] (rest r) close-group (g .2) (eat r close-group (omega arith) c) refl)))
+    (λ c. gives (bang ∷ open-group ∷ (g .0 ++ (close-group ∷ [])), is-set (g .1), ap (λ (x : List ℕ). bang ∷ open-group ∷ x) (after l₀ (g .0) r [] (rest r) close-group (g .2) (first-taken r close-group (omega arith) c) refl)))
     (λ _. nothing)))
 
 by-same : {R : Rule} {l m : List ℕ} {x : Parse} → l ≡ m → All (By R m) x → All (By R l) x
@@ -102,7 +103,7 @@ by-same {R} {x = x} e h = subst (λ (n : List ℕ). All (By R n) x) (sym e) h
 sound-negated : (l : List ℕ) → All (By atom (bang ∷ l)) (readNegated l)
 sound-negated l =
     all-if (eqb (firstByte l) open-group) _ _
-    (λ b. by-same (ap (λ (m : List ℕ). bang ∷ m) (eat l open-group (omega arith) b)) (sound-members (length l) [] (rest l) (rest l) first))
+    (λ b. by-same (ap (λ (m : List ℕ). bang ∷ m) (first-taken l open-group (omega arith) b)) (sound-members (length l) [] (rest l) (rest l) first))
     (λ _. all-member l gotNegated (λ s a r m e. gives (bang ∷ s, is-negated m, ap (λ (x : List ℕ). bang ∷ x) e)))
 
 mutual
@@ -117,7 +118,7 @@ mutual
   sound-more-alternatives (suc f) e l l₀ s d h =
       all-if (eqb (firstByte l) bar) _ _
       (λ b. all-then (partsIn f (rest l)) _ (sound-parts f (rest l)) (λ g r q.
-      sound-more-alternatives f (alternative e g) r l₀ (s ++ (bar ∷ q .0)) (more-alternatives d (q .1)) (after l₀ s l (q .0) r bar h (eat l bar (omega arith) b) (q .2))))
+      sound-more-alternatives f (alternative e g) r l₀ (s ++ (bar ∷ q .0)) (more-alternatives d (q .1)) (after l₀ s l (q .0) r bar h (first-taken l bar (omega arith) b) (q .2))))
       (λ _. gives (s, d, h))
 
   pub sound-parts : (f : ℕ) (l : List ℕ) → All (By parts l) (partsIn f l)
@@ -129,7 +130,7 @@ mutual
   sound-more-parts (suc f) e l l₀ s d h =
       all-if (eqb (firstByte l) slash) _ _
       (λ b. all-then (partIn f (rest l)) _ (sound-part f (rest l)) (λ g r q.
-      sound-more-parts f (sequence e g) r l₀ (s ++ (slash ∷ q .0)) (more-parts d (q .1)) (after l₀ s l (q .0) r slash h (eat l slash (omega arith) b) (q .2))))
+      sound-more-parts f (sequence e g) r l₀ (s ++ (slash ∷ q .0)) (more-parts d (q .1)) (after l₀ s l (q .0) r slash h (first-taken l slash (omega arith) b) (q .2))))
       (λ _. gives (s, d, h))
 
   pub sound-part : (f : ℕ) (l : List ℕ) → All (By part l) (partIn f l)
@@ -138,7 +139,7 @@ mutual
       all-if (eqb (firstByte l) hat) _ _
       (λ b. all-then (then (atomIn f (rest l)) readMark) invertRead
       (all-then (atomIn f (rest l)) readMark (sound-atom f (rest l)) (λ e r q. sound-mark (rest l) (q .0) e r (q .1) (q .2)))
-      (λ e r q. gives (hat ∷ q .0, inverted (q .1), eat l hat (omega arith) b ∙ ap (λ (m : List ℕ). hat ∷ m) (q .2))))
+      (λ e r q. gives (hat ∷ q .0, inverted (q .1), first-taken l hat (omega arith) b ∙ ap (λ (m : List ℕ). hat ∷ m) (q .2))))
       (λ _. all-map (all-then (atomIn f l) readMark (sound-atom f l) (λ e r q. sound-mark l (q .0) e r (q .1) (q .2))) (λ e r q. (q .0, plain (q .1), q .2)))
 
   pub sound-atom : (f : ℕ) (l : List ℕ) → All (By atom l) (atomIn f l)
@@ -147,10 +148,10 @@ mutual
       all-if (eqb (firstByte l) open-group) _ _
       (λ b. all-then (alternativesIn f (rest l)) readClose (sound-alternatives f (rest l)) (λ e r q.
       all-if (eqb (firstByte r) close-group) _ _
-      (λ b′. gives (open-group ∷ (q .0 ++ (close-group ∷ [])), is-group (q .1), eat l open-group (omega arith) b ∙ ap (λ (m : List ℕ). open-group ∷ m) (after (rest l) (q .0) r [] (rest r) close-group (q .2) (eat r close-group (omega arith) b′) refl)))
+      (λ b′. gives (open-group ∷ (q .0 ++ (close-group ∷ [])), is-group (q .1), first-taken l open-group (omega arith) b ∙ ap (λ (m : List ℕ). open-group ∷ m) (after (rest l) (q .0) r [] (rest r) close-group (q .2) (first-taken r close-group (omega arith) b′) refl)))
       (λ _. nothing)))
       (λ _. all-if (isLetter (firstByte l)) _ _ (λ b. gives ((letter-a + (firstByte l - letter-a)) ∷ [], is-letter (letter-byte l b .1), letter-byte l b .0)) (λ _.
-      all-if (eqb (firstByte l) bang) _ _ (λ b. by-same (eat l bang (omega arith) b) (sound-negated (rest l))) (λ _. nothing)))
+      all-if (eqb (firstByte l) bang) _ _ (λ b. by-same (first-taken l bang (omega arith) b) (sound-negated (rest l))) (λ _. nothing)))
 
 -- no rule takes the empty list
 some : {R : Rule} {s : List ℕ} {e : Expr} → Is R s e → 0 < length s
@@ -169,5 +170,5 @@ some (is-negated m) = omega arith
 some (is-set m) = omega arith
 some (is-group d) = omega arith
 
-pub shorter : (R : Rule) (l : List ℕ) (e : Expr) (r : List ℕ) → By R l e r → length r < length l
-shorter R l e r q = omega (arith, some (q .1), length-append (q .0) r, ap length (q .2))
+pub read-shorter : (R : Rule) (l : List ℕ) (e : Expr) (r : List ℕ) → By R l e r → length r < length l
+read-shorter R l e r q = omega (arith, some (q .1), length-append (q .0) r, ap length (q .2))

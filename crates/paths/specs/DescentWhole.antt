@@ -1,14 +1,14 @@
 -- The descent with as many calls as it needs: an equation for each way in which a rule's function goes on, with no word of the number of calls.
+--   if-true, if-false   a choice, by its test
 --   alternatives-is, more-alternatives-bar, more-alternatives-end
---                   alternatives, with | between them
+--                       alternatives, with | between them
 --   parts-is, more-parts-slash, more-parts-end
---                   parts, with / between them
+--                       parts, with / between them
 --   part-hat, part-plain, atom-group, atom-letter, atom-negated, atom-fault
---                   a part with or without ^; a group, a letter, a negated set, or none of them
+--                       a part with or without ^; a group, a letter, a negated set, or none of them
 --   mark-star, mark-plus, mark-optional, mark-none
---                   a mark, or none
---   alternatives-sound
---                   what is found is in the grammar
+--                       a mark, or none
+--   alternatives-sound  what is found is in the grammar
 -- Assumes nothing.
 use mathlib.Core.Path.{_≡_, refl, ap, _∙_}
 use mathlib.Core.List.{List}
@@ -20,7 +20,7 @@ use lib.ListN.{length}
 use Rattle.paths.specs.Expressions.{Expr, symbol, letter, star, plus, optional, alternative, sequence}
 use Rattle.paths.specs.Grammar.{bar, slash, hat, bang, asterisk, plus-sign, question-mark, open-group, letter-a, alternatives, parts, part}
 use Rattle.paths.specs.Descent.{Parse, got, fault, firstByte, rest, isLetter, then, readMark, readClose, invertRead, readNegated, alternativesIn, moreAlternativesIn, partsIn, morePartsIn, partIn, atomIn, readAlternatives, readMoreAlternatives, readParts, readMoreParts, readPart, readAtom}
-use Rattle.paths.specs.DescentSound.{eat, All, nothing, gives, By, shorter, sound-alternatives, sound-parts, sound-part}
+use Rattle.paths.specs.DescentSound.{first-taken, All, nothing, gives, By, read-shorter, sound-alternatives, sound-parts, sound-part}
 
 then-same : {Q : Expr → List ℕ → Type 0} {x : Parse} (k k′ : Expr → List ℕ → Parse) → All Q x → ((e : Expr) (r : List ℕ) → Q e r → k e r ≡ k′ e r) → then x k ≡ then x k′
 then-same k k′ nothing f = refl
@@ -38,7 +38,7 @@ if-false b x y h = rw h
 
 -- a byte taken off leaves one byte less
 taken : (l : List ℕ) (c : ℕ) → eqb (firstByte l) (suc c) ≡ true → length l ≡ suc (length (rest l))
-taken l c b = ap length (eat l (suc c) (omega arith) b)
+taken l c b = ap length (first-taken l (suc c) (omega arith) b)
 
 -- enough calls are as good as more
 mutual
@@ -49,7 +49,7 @@ mutual
   same-alternatives (suc f) zero l h h′ = absurd (omega arith)
   same-alternatives (suc f) (suc g) l h h′ =
       ap (λ (x : Parse). then x (λ e r. moreAlternativesIn f e r)) (same-parts f g l (omega arith) (omega arith)) ∙
-      then-same _ _ (sound-parts g l) (λ e r q. let n = shorter parts l e r q in same-more-alternatives f g e r (omega arith) (omega arith))
+      then-same _ _ (sound-parts g l) (λ e r q. let n = read-shorter parts l e r q in same-more-alternatives f g e r (omega arith) (omega arith))
 
   same-more-alternatives : (f g : ℕ) (e : Expr) (l : List ℕ) → 4 * length l + 1 ≤ f → 4 * length l + 1 ≤ g → moreAlternativesIn f e l ≡ moreAlternativesIn g e l
   same-more-alternatives zero g e l h h′ = absurd (omega arith)
@@ -57,7 +57,7 @@ mutual
   same-more-alternatives (suc f) (suc g) e l h h′ = if-same (eqb (firstByte l) bar) _ _ _ _
       (λ b. let n = taken l (bar - 1) b in
       ap (λ (x : Parse). then x (λ i r. moreAlternativesIn f (alternative e i) r)) (same-parts f g (rest l) (omega arith) (omega arith)) ∙
-      then-same _ _ (sound-parts g (rest l)) (λ i r q. let m = shorter parts (rest l) i r q in same-more-alternatives f g (alternative e i) r (omega arith) (omega arith)))
+      then-same _ _ (sound-parts g (rest l)) (λ i r q. let m = read-shorter parts (rest l) i r q in same-more-alternatives f g (alternative e i) r (omega arith) (omega arith)))
       (λ _. refl)
 
   same-parts : (f g : ℕ) (l : List ℕ) → 4 * length l + 3 ≤ f → 4 * length l + 3 ≤ g → partsIn f l ≡ partsIn g l
@@ -65,7 +65,7 @@ mutual
   same-parts (suc f) zero l h h′ = absurd (omega arith)
   same-parts (suc f) (suc g) l h h′ =
       ap (λ (x : Parse). then x (λ e r. morePartsIn f e r)) (same-part f g l (omega arith) (omega arith)) ∙
-      then-same _ _ (sound-part g l) (λ e r q. let n = shorter part l e r q in same-more-parts f g e r (omega arith) (omega arith))
+      then-same _ _ (sound-part g l) (λ e r q. let n = read-shorter part l e r q in same-more-parts f g e r (omega arith) (omega arith))
 
   same-more-parts : (f g : ℕ) (e : Expr) (l : List ℕ) → 4 * length l + 1 ≤ f → 4 * length l + 1 ≤ g → morePartsIn f e l ≡ morePartsIn g e l
   same-more-parts zero g e l h h′ = absurd (omega arith)
@@ -73,7 +73,7 @@ mutual
   same-more-parts (suc f) (suc g) e l h h′ = if-same (eqb (firstByte l) slash) _ _ _ _
       (λ b. let n = taken l (slash - 1) b in
       ap (λ (x : Parse). then x (λ i r. morePartsIn f (sequence e i) r)) (same-part f g (rest l) (omega arith) (omega arith)) ∙
-      then-same _ _ (sound-part g (rest l)) (λ i r q. let m = shorter part (rest l) i r q in same-more-parts f g (sequence e i) r (omega arith) (omega arith)))
+      then-same _ _ (sound-part g (rest l)) (λ i r q. let m = read-shorter part (rest l) i r q in same-more-parts f g (sequence e i) r (omega arith) (omega arith)))
       (λ _. refl)
 
   same-part : (f g : ℕ) (l : List ℕ) → 4 * length l + 2 ≤ f → 4 * length l + 2 ≤ g → partIn f l ≡ partIn g l
@@ -95,7 +95,7 @@ pub alternatives-is : (l : List ℕ) → readAlternatives l ≡ then (readParts 
 unfolding readAlternatives readParts readMoreAlternatives alternativesIn
 alternatives-is l =
     then-same _ _ (sound-parts (suc (suc (suc (4 * length l)))) l)
-    (λ e r q. let n = shorter parts l e r q in same-more-alternatives (suc (suc (suc (4 * length l)))) (suc (4 * length r)) e r (omega arith) (omega arith))
+    (λ e r q. let n = read-shorter parts l e r q in same-more-alternatives (suc (suc (suc (4 * length l)))) (suc (4 * length r)) e r (omega arith) (omega arith))
 
 pub more-alternatives-bar : (e : Expr) (l : List ℕ) → eqb (firstByte l) bar ≡ true → readMoreAlternatives e l ≡ then (readParts (rest l)) (λ g r. readMoreAlternatives (alternative e g) r)
 unfolding readParts readMoreAlternatives alternativesIn
@@ -104,7 +104,7 @@ more-alternatives-bar e l b =
     if-true (eqb (firstByte l) bar) _ _ b ∙
     ap (λ (x : Parse). then x (λ g r. moreAlternativesIn (4 * length l) (alternative e g) r)) (same-parts (4 * length l) (suc (suc (suc (4 * length (rest l))))) (rest l) (omega arith) (omega arith)) ∙
     then-same _ _ (sound-parts (suc (suc (suc (4 * length (rest l))))) (rest l))
-    (λ g r q. let m = shorter parts (rest l) g r q in same-more-alternatives (4 * length l) (suc (4 * length r)) (alternative e g) r (omega arith) (omega arith))
+    (λ g r q. let m = read-shorter parts (rest l) g r q in same-more-alternatives (4 * length l) (suc (4 * length r)) (alternative e g) r (omega arith) (omega arith))
 
 pub more-alternatives-end : (e : Expr) (l : List ℕ) → eqb (firstByte l) bar ≡ false → readMoreAlternatives e l ≡ got e l
 unfolding readMoreAlternatives alternativesIn
@@ -115,7 +115,7 @@ pub parts-is : (l : List ℕ) → readParts l ≡ then (readPart l) readMorePart
 unfolding readParts readPart readMoreParts alternativesIn
 parts-is l =
     then-same _ _ (sound-part (suc (suc (4 * length l))) l)
-    (λ e r q. let n = shorter part l e r q in same-more-parts (suc (suc (4 * length l))) (suc (4 * length r)) e r (omega arith) (omega arith))
+    (λ e r q. let n = read-shorter part l e r q in same-more-parts (suc (suc (4 * length l))) (suc (4 * length r)) e r (omega arith) (omega arith))
 
 pub more-parts-slash : (e : Expr) (l : List ℕ) → eqb (firstByte l) slash ≡ true → readMoreParts e l ≡ then (readPart (rest l)) (λ g r. readMoreParts (sequence e g) r)
 unfolding readPart readMoreParts alternativesIn
@@ -124,7 +124,7 @@ more-parts-slash e l b =
     if-true (eqb (firstByte l) slash) _ _ b ∙
     ap (λ (x : Parse). then x (λ g r. morePartsIn (4 * length l) (sequence e g) r)) (same-part (4 * length l) (suc (suc (4 * length (rest l)))) (rest l) (omega arith) (omega arith)) ∙
     then-same _ _ (sound-part (suc (suc (4 * length (rest l)))) (rest l))
-    (λ g r q. let m = shorter part (rest l) g r q in same-more-parts (4 * length l) (suc (4 * length r)) (sequence e g) r (omega arith) (omega arith))
+    (λ g r q. let m = read-shorter part (rest l) g r q in same-more-parts (4 * length l) (suc (4 * length r)) (sequence e g) r (omega arith) (omega arith))
 
 pub more-parts-end : (e : Expr) (l : List ℕ) → eqb (firstByte l) slash ≡ false → readMoreParts e l ≡ got e l
 unfolding readMoreParts alternativesIn

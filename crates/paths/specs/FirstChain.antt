@@ -1,10 +1,15 @@
 -- If a pair has a chain it has a first one: found by looking at every chain of at most so many steps. This is no engine's search.
---   chainTo m g e x y
---                   the first of the chains of at most m steps from x to y that spell a word of e, computed
---   chain-first     what it finds is the first of all chains
---   has-first       a pair that has a chain has a first one
---   reply, reply-only
---                   a chain question has an answer, and one only
+--   best-is            the best of some lists of steps, computed
+--   in-walks, in-walks-to, walks-in, walks-to-in, end-is
+--                      the chains of so many steps, and of at most so many, are those listed
+--   answers-serve, answers-listed
+--                      a chain that spells a word of e is among them
+--   found-first, first-found
+--                      what is found is the first of all chains, and something is found if there is one
+--   has-first          a pair that has a chain has a first one
+--   chainTo m g e x y  the first of the chains of at most m steps from x to y that spell a word of e, computed
+--   chain-first        what it finds is the first of all chains
+--   reply, reply-only  a chain question has an answer, and one only
 -- Assumes nothing.
 use mathlib.Core.Path.{_≡_, refl, sym, ap, _∙_, subst}
 use mathlib.Core.Logic.{⊎-elim}

@@ -9,6 +9,7 @@
 --                   after every history the links lie between records in use, and n is at most 1,024
 --   withdrawn-none, none-withdrawn
 --                   a chain question from a withdrawn record gives none, also to itself; and one to it
+--   text-in-order   the verdict's cause, and then the two of lent space
 --   pairs-in-order, chain-in-order
 --                   the causes against a question stand in the order of S6.7
 --   verdict-caused  the number of a faulty text is that of a cause

@@ -1,10 +1,11 @@
 -- The computed set of an expression is its relation.
 --   crossed-is, is-crossed, crossed-same
---                   the pairs that one step joins, by the letters of a set
---   cells-set       it is a set of pairs of records below n
---   cells-rel, rel-cells
---                   a cell is 1 exactly if the pair is in the relation
---   cells-is        a cell is 1 exactly if the pair has a chain; cells-has says "not 0" for 1
+--                         the pairs that one step joins, by the letters of a set
+--   crossed-set, zero-steps-set
+--                         one step, and none, are sets of pairs below n
+--   cells-set             the computed set is one of pairs of records below n
+--   cells-rel, rel-cells  a cell is 1 exactly if the pair is in the relation
+--   cells-is, cells-has   a cell is 1, or not 0, exactly if the pair has a chain
 -- Assumes nothing.
 use mathlib.Core.Path.{_≡_, refl, ap, ap₂, subst, fun-ext}
 use mathlib.Core.Logic.{_↔_, _⊎_, ⊎-elim}

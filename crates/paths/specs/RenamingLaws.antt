@@ -1,10 +1,10 @@
 -- A graph with its records renamed in their order: what the questions give is the same, renamed.
---   Maps f g h      f takes records in use of g to records in use of h, and links to links
---   Renames f r g h f and r rename to and fro, and f keeps the order
---   first-renamed   the first chain between two records is the earlier one renamed
---   pairs-renamed   so are the pairs that have a chain
+--   Maps f g h       f takes records in use of g to records in use of h, and links to links
+--   Renames f r g h  f and r rename to and fro, and f keeps the order
+--   first-renamed    the first chain between two records is the earlier one renamed
 --   reply-renamed, none-back
---                   and the reply to a chain question, none too; and none after is none before
+--                    so is the reply to a chain question, none too; and none after is none before
+--   pairs-renamed    so are the pairs that have a chain
 -- Assumes nothing.
 use mathlib.Core.Path.{_≡_, refl, sym, ap, ap₂, _∙_, subst}
 use mathlib.Core.List.{List, [], _∷_, map}

@@ -1,9 +1,13 @@
 -- The laws of the loop over alternatives and of that over parts, as one: what was read first, an operator's byte, and what was read next.
---   starts, ends             what is read before the loop is what is read so far; where no operator's byte comes next, it is all
+--   starts, ends      what is read before the loop is what is read so far; where no operator's byte comes next, it is all
 --   joins, joins-no-first, joins-no-next
---                            the two as one expression; or one of them is missing
---   Turn                     a turn of the loop, with its laws: where the next reader starts (ahead, asks-next), that there is room for the
---                            operator's number (room), that the bytes left fall (falls), and what is read so far after it (again)
+--                     the two as one expression; or one of them is missing
+--   has-room          what joining asks is met
+--   Turn              a turn of the loop
+--   ahead, asks-next  where the next reader starts
+--   room              there is room for the operator's number
+--   falls             the bytes left fall
+--   again             what is read so far after it
 -- Assumes nothing.
 use mathlib.Core.Path.{_≡_, refl, sym, ap, _∙_, subst}
 use mathlib.Core.List.{List, [], _∷_, _++_}

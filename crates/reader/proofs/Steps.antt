@@ -1,14 +1,16 @@
 -- The laws of one step of reading: what an inner reader has done, with one thing more.
---   there, rest-drop         the byte at a place, and the bytes after it
---   gave, missed             what was read, by what the reader answered
---   marks, inverts           a mark after it, or none; a ^ before
---   closes, not-closed, none-closed
---                            the ) of a group
---   writes, writes-none      a symbol with its number
---   group-is, hat-is, plain-is
---                            what the descent reads at ( and at ^
+--   there, rest-drop     the byte at a place, and the bytes after it
+--   code-some, sets-append, read-as
+--                        a code has a number; one run of stores after another; the same of an equal parse
+--   gave, missed         what was read, by what the reader answered
 --   fit, has-room, has-place, room-for-mark, room-for-hat, room-for-symbol, asks-kept, asks-next-byte, fits-after
---                            what the steps ask, and that it is met
+--                        what the steps ask, and that it is met
+--   marks, inverts       a mark after it, or none; a ^ before
+--   closes, not-closed, none-closed
+--                        the ) of a group
+--   writes, writes-none  a symbol with its number
+--   group-is, hat-is, plain-is
+--                        what the descent reads at ( and at ^
 -- Assumes nothing.
 use mathlib.Core.Path.{_≡_, refl, sym, ap, ap₂, _∙_, subst}
 use mathlib.Core.List.{List, [], _∷_, _++_}

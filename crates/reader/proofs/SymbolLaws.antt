@@ -1,14 +1,15 @@
 -- The laws of reading a symbol: a letter, or a negated set with its members.
 --   one-shl-32, label-letter, label-other, IsLetter, letter-there, no-letter-there
---                            the label of a byte as a set
+--                  the label of a byte as a set
 --   marks-none, marks-same, marks-other, others-are
---                            the sets of the members read so far, and what the negated set stands for
+--                  the sets of the members read so far, and what the negated set stands for
 --   hat-member, hat-none, plain-member, plain-none, member-of, no-member-of
---                            a member, or none
+--                  a member, or none
 --   Setting, set-starts, set-again, set-ends, set-fails, set-other
---                            the loop over the members of a set
+--                  the loop over the members of a set
+--   set-reaches    the loop stays within the text and the sets
 --   symbol-letter, symbol-none, symbol-negated, negated-set, negated-member, negated-none
---                            what the descent reads where no group begins, and after a !
+--                  what the descent reads where no group begins, and after a !
 -- Assumes nothing.
 use mathlib.Core.Path.{_≡_, refl, sym, ap, ap₂, _∙_, subst}
 use mathlib.Core.Logic.{_⊎_, ⊎-elim}

@@ -1,4 +1,16 @@
--- Laws of ascending lists: the place of a number, one put in and one taken out. Assumes nothing.
+-- Laws of ascending lists: the place of a number, one put in and one taken out.
+--   below x l      how many of the first numbers of l are below x
+--   below-le, rises-absent
+--                  no more than all; a number below the first is absent
+--   seam-list, seam-has, stands-below
+--                  among ascending numbers there is one place for x, and x is there exactly if it stands at it
+--   seam-insert, length-insert, insert-in, insert-keeps, in-insert, rises-insert
+--                  x put at the place found for it: one member more, and the list ascends
+--   rises-without, seam-without, length-out
+--                  x cut where it stands: one member fewer, and the list ascends
+--   without-insert, insert-without
+--                  one put in and taken out, and the other way round
+-- Assumes nothing.
 use mathlib.Core.Path.{_≡_, refl, ap, sym, subst, _∙_}
 use mathlib.Core.Logic.{_⊎_, inl, inr, ⊎-elim}
 use mathlib.Core.List.{List, [], _∷_}

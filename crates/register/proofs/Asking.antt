@@ -1,5 +1,11 @@
--- Laws of what the questions are given: the part of an ascending list between two numbers, the next place whose word passes a test, and whether a link
--- touches a record. Assumes nothing.
+-- Laws of what the questions are given.
+--   part-pairs, label-part
+--                  the part of an ascending list between two numbers: the links of a label
+--   next-here, next-on, next-end, next-link
+--                  the next place whose word passes a test: here, further on, none; and by the links of the words
+--   touched-from, touched-second
+--                  whether a link touches a record: found as its from; if not, by its to
+-- Assumes nothing.
 use mathlib.Core.Path.{_≡_, refl, ap, sym, subst, _∙_}
 use mathlib.Core.Logic.{inl, inr, ⊎-elim}
 use mathlib.Core.List.{List, [], _∷_, map}

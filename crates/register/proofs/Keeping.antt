@@ -1,4 +1,13 @@
--- Laws of a register kept as words: `copy`, the words of marks, what `load` reads and what `store` writes. Assumes nothing.
+-- Laws of a register kept as words: `copy`, the words of marks, what `load` reads and what `store` writes.
+--   tested-not, tested  a test that fails, and one that passes
+--   copied-all, copied-more, copied-none, copied-over
+--                       `copy`: all, one word more, no room, a whole array
+--   marked-all          words that are each one of the three marks
+--   formed-by, load-refused, load-made
+--                       `load`: whether the words have the form; refused, or the register whose words they are
+--   stored, store-refused
+--                       `store`: the words of the register, or the space as it was
+-- Assumes nothing.
 use mathlib.Core.Path.{_≡_, refl, sym, ap, _∙_}
 use mathlib.Core.List.{List, [], _++_, append-nil}
 use mathlib.Core.Bool.{Bool, true, false, false≢true, true≢false}

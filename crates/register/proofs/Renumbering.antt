@@ -1,5 +1,21 @@
--- Laws of closing up in a register: the ranks, the list of new numbers, the links' words and the locks, one word or one record more; what the closed register
--- shows; and its refusals. Assumes nothing.
+-- Laws of closing up in a register, one word or one record more; what the closed register shows; and its refusals.
+--   ranked-more, rank-in-use, rank-withdrawn, ranked-small
+--                        the ranks: one more, by the mark; and that they are those of records
+--   told-more, told-all  the list of new numbers
+--   renamed-more, links-closed, renamed-less
+--                        the words of the links: one more renamed, all by the ranks, in the same order
+--   moved-none, moved-other, moved-lock
+--                        the locks: none moved, a record that has none, one that has
+--   used-marked, rank-marked
+--                        below n the marks say what the book says, and so do the ranks
+--   close-none, close-short, close-free
+--                        the answer: 21, 13, or accepted
+--   refuse-close, closes-refused, closes-foreign
+--                        a refused closing up, with its list; and of contents that are no register's
+--   Closed self r        what the register that an accepted closing up hands back has to be
+--   closed-represents, closes-accepted
+--                        it represents the closed book, so an accepted closing up keeps its promise
+-- Assumes nothing.
 use mathlib.Core.Path.{_≡_, refl, sym, ap, ap₂, subst, _∙_}
 use mathlib.Core.Logic.{_⊎_, inl, inr, ⊎-elim}
 use mathlib.Core.List.{List, [], _∷_, _++_, map}

@@ -1,4 +1,17 @@
--- Laws of replaying a list of words: its refusals, the kinds that are no call, and the numbers told and the book after one word more. Assumes nothing.
+-- Laws of replaying a list of words: its refusals, the kinds that are no call, and the numbers told and the book after one word more.
+--   replay-size, replay-short, replay-few, replay-free, replay-refused
+--                         the number of replaying: 1, 12 for the answers, 12 for the numbers, none; a refused one leaves both lists
+--   kind-none             a kind that is none of the calls'
+--   called, uncalled      an entry that is a call and no closing up, and one that is no call: the list is as it was
+--   set-next              one number more behind those that are told
+--   after-turn, told-turn, givens-turn
+--                         one word more: the book, the numbers told and the lists given
+--   kind-open, closings-turn, closings-part
+--                         how many closings up there are: none in another kind, one word more, in a part
+--   roomed, entry-closes  the words that a closing up uses, and what it then promises
+--   rest-whole, numbers-turn
+--                         the list of numbers after one word more: what its entry gives lies in the part from its place on
+-- Assumes nothing.
 use mathlib.Core.Path.{_≡_, refl, sym, ap, ap₂, subst, _∙_}
 use mathlib.Core.List.{List, [], _∷_, _++_, append-assoc, append-nil}
 use mathlib.Core.Bool.{Bool, true, false, _||_}

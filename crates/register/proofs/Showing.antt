@@ -1,8 +1,13 @@
--- What the register keeps and the sheet that it shows, side by side: the same cause against an edit, the same members after it, and the sheet again when it is taken back.
+-- What the register keeps and the sheet that it shows, side by side.
+--   packedCauses n p e  the causes against an edit, by what the register keeps
+--   first-append, first-stop
+--                       the first of joined causes: by the second list if the first has none, else by the first
+--   shows-cause         the same cause against an edit
+--   packedEdit e p      what the register keeps after an accepted edit
+--   shows-edited        the same members after it
+--   taken-back          and what was kept before again when it is taken back
+--   replicate-at        of no marks and no totals each is 0, past their end too
 -- Assumes nothing.
---   packedCauses n p e
---                   the causes against an edit, by what the register keeps
---   packedEdit e p  what the register keeps after an accepted edit
 use mathlib.Core.Path.{_≡_, refl, sym, ap, subst, _∙_}
 use mathlib.Core.Logic.{⊎-elim}
 use mathlib.Core.List.{List, [], _∷_, _++_, map}

@@ -1,4 +1,20 @@
--- What each way out of a call has to show: contents that represent no book, a refused edit, an accepted edit, and the two ways of undo. Assumes nothing.
+-- What each way out of a call has to show: contents that represent no book, a refused edit, an accepted edit, and the two ways of undo.
+--   caused-as, done-refused
+--                      the number of a refusal is its own; an accepted call is not refused
+--   outside, inside, refuse-foreign
+--                      contents out of range represent no book, and every call refuses them with 16
+--   refuse, refuse-ranged
+--                      an edit that is refused, with the number by what the register keeps; the same of contents in range
+--   accept             an edit that is accepted
+--   add-cause, remove-cause, add-stop, remove-stop, link-proper
+--                      the causes against an add and a remove, where those of the link are not there and where they are; with none it is proper
+--   refuse-undo, back-rest
+--                      undo with none held; every kind of held word but the first five takes a reinstate back
+--   Restored self w r  what the register that an accepted undo hands back has to be: the latest word w is taken back
+--   accept-undo        so an undo that is accepted
+--   guard-none         contents that are not in range
+--   opens, not-opens   asking for a fresh register
+-- Assumes nothing.
 use mathlib.Core.Path.{_≡_, refl, sym, ap, subst, _∙_}
 use mathlib.Core.List.{List, [], _∷_}
 use mathlib.Core.Bool.{Bool, true, false, not, false≢true}

@@ -1,8 +1,22 @@
 -- The history theorem: whatever calls are made, refused ones included, the answers and the lists given are the book's, and the register at the end represents
--- the book at the end.
--- And laws of a history as words: the numbers told to words, the calls among them, and that every call has a word. Assumes nothing.
---   Small c         the arguments of the call are as wide as the frames': records of 16 bits, a label of 8; and the length of a list has 40 bits
---   Members e b     what the register e and the book b have in common, as sets: the links, each once, the totals, and the locks
+-- the book at the end. And laws of a history as words.
+--   number-answer, answer-done, not-zero
+--                     an answer and its number; no call refuses with the number 0, whatever the register contains
+--   answered, kept, given-lent
+--                     of calls made one after the other: the numbers told, the register at the end and the lists lent are the book's
+--   history           so of a history of any length from a fresh register
+--   Members e b       what the register e and the book b have in common, as sets: the links, each once, the totals, and the locks
+--   members, history-members, replay-members
+--                     so of a register that represents the book, at the end of a history, and after `replay`
+--   represents-sound  a book that a register represents is sound
+--   after-append, after-entry
+--                     the book after two lists of calls, and after an entry and more calls
+--   calls-append, word-answers-length, word-answers-append
+--                     the calls among joined lists of words, and the numbers told to words
+--   told-calls        the numbers told to the calls among words are the book's answers to them
+--   Small c           the arguments of the call are as wide as the frames': records of 16 bits, a label of 8; and the length of a list has 40 bits
+--   has-word          every such call has a word
+-- Assumes nothing.
 use mathlib.Core.Path.{_≡_, refl, ap, ap₂, sym, _∙_}
 use mathlib.Core.List.{List, [], _∷_, _++_, append-assoc}
 use Prim.Native.Nat.{ℕ, zero, suc, _+_, _*_, _/_, _%_, _<_}

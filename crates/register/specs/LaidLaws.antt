@@ -1,5 +1,13 @@
--- Laws of the lists that the closings up of a history give: what one word more gives, how the lists lie in the one that is lent, and that a room above what
--- a register has records is as good as so many. Assumes nothing.
+-- Laws of the lists that the closings up of a history give, and of how they lie in the one that is lent.
+--   givens-append, length-givens, givens-short
+--                   the lists of joined histories; one for each closing up; none is longer than a register has records
+--   laid-past, laid-append, laid-gives
+--                   lists laid one behind the other: what lies past them is as it was, more lie behind, and each lies over the front of its part
+--   room-small      of the room that is lent, no more is used than a register has records
+--   entry-answers, entry-follows, entry-given
+--                   what an entry of a history promises: the book's answer, the book after it, and the lists laid
+--   replayed-gives  of a replay, each closing up among the calls has its list in its part of the numbers
+-- Assumes nothing.
 use mathlib.Core.Path.{_≡_, refl, sym, ap, ap₂, subst, _∙_}
 use mathlib.Core.List.{List, [], _∷_, _++_, append-assoc}
 use mathlib.Core.Bool.{Bool, true, false}

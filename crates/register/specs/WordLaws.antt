@@ -1,4 +1,15 @@
 -- Laws of a register's words: how many they are, that they are the words of one register, which words are a register's, and when they are loaded.
+--   parted         lists that are the same and parted at the same place have the same parts
+--   words-long, keeps-long
+--                  how many words a register has, and that a state which keeps one is no shorter
+--   keeps-same     words are those of one register
+--   part-long      how long a part of words is
+--   loaded         words of the form, with their parts read out, keep the register of these parts
+--   keeps-formed, formed-keeps
+--                  words are a register's exactly if they have the form
+--   foreign-form, form-foreign
+--                  and no register's exactly if they have it not
+--   load-done      the number 0 says that they were loaded
 -- Assumes nothing.
 use mathlib.Core.Path.{_≡_, refl, sym, ap, _∙_}
 use mathlib.Core.List.{List, [], _∷_, _++_}

@@ -1,4 +1,15 @@
 -- Laws of the program's lines: a number's figures one by one, and bounds on lengths, so that callers can bound the room.
+--   decimal-small, decimal-more
+--                   a number's figures: one, or those of a tenth of it and the last
+--   length-decimal  a number below 10 ^ k has at most k figures, and a number has at least one
+--   lines-append, lines-more, wrote-line
+--                   lines of joined lists, of one word more, and as they are written
+--   length-pair-line, length-pair-line-small, length-step-line
+--                   a pair word of 32 bits takes at most 13 bytes, one below 1,024 × 1,024 at most 10, a step word at most 9
+--   length-counted, length-counted-most
+--                   a line of a name and a number: of 64 bits it takes at most 21 bytes more than the name
+--   pair-line       a pair's line is the figures of from, and then a line of a space and to
+--   refused-text    the text of a number that is not 0 is that of a refusal
 -- Assumes nothing.
 use mathlib.Core.Path.{_≡_, refl, sym, ap, _∙_}
 use mathlib.Core.List.{List, [], _∷_, _++_, append-assoc, append-nil}

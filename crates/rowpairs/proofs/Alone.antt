@@ -1,4 +1,10 @@
--- A letter alone, in plain variables: its pairs are those of the part of its label, in their order; and how they are written to a list. Assumes nothing.
+-- A letter alone, in plain variables: its pairs are those of the part of its label, in their order; and how they are written to a list.
+--   letter-listed  the pairs of the label's part are those of the question, ascending
+--   length-pairs, written-more, written-all
+--                  its pairs written to a list: so many, one more, all
+--   one-shifted    a set of one label as a number
+--   some-used      the records in use of a book, as words
+-- Assumes nothing.
 use mathlib.Core.Path.{_≡_, refl, sym, ap, ap₂, _∙_, subst, fun-ext}
 use mathlib.Core.Logic.{_⊎_, ⊎-elim}
 use mathlib.Core.Bool.{Bool, true, false}

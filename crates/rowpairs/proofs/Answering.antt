@@ -1,4 +1,10 @@
--- The answer to a pair question by rows, in plain variables. Assumes nothing.
+-- The answer to a pair question by rows, in plain variables.
+--   faulty-text, little-work
+--                  refused: by the text, for the work
+--   listed-value   the pairs of the value handed over are the answer
+--   alone-asks     so are those of a letter alone
+--   same-verdict   the same of an equal verdict
+-- Assumes nothing.
 use mathlib.Core.Path.{_≡_, refl, sym, ap, ap₂, _∙_, subst}
 use mathlib.Core.List.{List, _++_, map}
 use Prim.Native.Nat.{ℕ, _*_, _≤_, _<_}

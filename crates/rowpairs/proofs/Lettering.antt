@@ -1,4 +1,14 @@
 -- The links of letters, label by label, in plain variables: the part of a label has the pairs of its links, and the labels together have those of the letters.
+--   below, part-pairs, part-set
+--                  the part of a label has the pairs of its links, below n
+--   part-stepped, none-stepped
+--                  one step by the letters of a label, in either sense; none where neither set has it
+--   below-none, below-more, below-all
+--                  the labels below k together: none, one more, all
+--   put-begins, put-more, put-same, put-ends
+--                  put into a relation label by label: none, one more, one that neither set has, all
+--   every-true, every-false, every-le
+--                  whether a set has a label, as the code tells it
 -- Assumes nothing.
 use mathlib.Core.Path.{_≡_, refl, sym, ap, ap₂, _∙_, subst, fun-ext}
 use mathlib.Core.Bool.{Bool, true, false}

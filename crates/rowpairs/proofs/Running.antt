@@ -1,4 +1,11 @@
--- The whole code, in plain variables: how it begins, goes on and ends. Assumes nothing.
+-- The whole code, in plain variables: how it begins, goes on and ends.
+--   going-begins   before the first number
+--   going-ready, going-more
+--                  the next number finds its operands, and one number more is done
+--   reading-used, reading-ready, reading-more
+--                  the same of letters and a `^` after them, read as one
+--   going-ends     one relation is left, and it is the value
+-- Assumes nothing.
 use mathlib.Core.Path.{_≡_, refl, sym, ap, ap₂, _∙_, subst, fun-ext}
 use mathlib.Core.List.{List, [], _∷_}
 use Prim.Native.Nat.{ℕ, zero, suc, _+_, _-_, _*_, _<_, _≤_, max}

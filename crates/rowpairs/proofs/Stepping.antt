@@ -1,5 +1,12 @@
--- One number of the code, in plain variables: where relations lie in the work, what an item does to those that wait, and that the ones below its operands stay as
--- they were. Assumes nothing.
+-- One number of the code, in plain variables: where relations lie in the work, and what an item does to those that wait.
+--   width-le, unit-le  a row has at most 16 words, a relation at most 16,384
+--   start-le, mark-le, space, list-space
+--                      what an item and the list are lent: at most 18 relations stand before, and there is room
+--   rest, part-length  the part that is lent is the rest, and its length
+--   goes-step          what the operation left at the front of the parts is the relation at the place of its first operand, and those below stay as they were
+--   lent-space, goes-part
+--                      the same with the words of a row as a number, and the parts as they are lent
+-- Assumes nothing.
 use mathlib.Core.Path.{_≡_, refl, sym, ap, ap₂, _∙_, subst}
 use mathlib.Core.List.{List, _∷_, _++_, append-nil}
 use Prim.Native.Nat.{ℕ, zero, suc, _+_, _-_, _*_, _/_, _%_, _<_, _≤_, min}

@@ -1,4 +1,13 @@
--- Laws of the closure by rows: a row put into another, a round over one record, and the records whose row is empty. Assumes nothing.
+-- Laws of the closure by rows: a row put into another, a round over one record, and the records whose row is empty.
+--   part-start, part-step, part-end
+--                    row k put into row i, a word at a time: none, one more, all
+--   via-yes, via-no  a round over record k: row i, which leads to it, and one that does not
+--   round-start, round-yes, round-no, round-end
+--                    the same over the occupied rows alone
+--   rounds-start, rounds-more
+--                    the rounds one after another make the closure
+--   rounds-occupied  the same rows are empty after some rounds
+-- Assumes nothing.
 use mathlib.Core.Path.{_≡_, refl, sym, ap, ap₂, _∙_, fun-ext}
 use mathlib.Core.Bool.{Bool, true, false, _&&_}
 use mathlib.Core.List.{List}

@@ -1,4 +1,10 @@
--- Laws of the list of occupied rows: as it is built, a row at a time, and its entries. Assumes nothing.
+-- Laws of the list of occupied rows: as it is built, a row at a time, and its entries.
+--   row-at, row-end  the row of an entry, and of the place after the last
+--   occupied-none    no row looked at, none listed
+--   entries-skip, entries-add
+--                    row i passed, as it is empty, or put in as an entry
+--   masks-add        the entry has the row's mask
+-- Assumes nothing.
 use mathlib.Core.Path.{_≡_, sym, ap, _∙_, subst}
 use mathlib.Core.List.{List}
 use Prim.Native.Nat.{ℕ, _+_, _/_, _%_, _≤_, _<_}

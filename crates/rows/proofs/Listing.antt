@@ -1,5 +1,10 @@
 -- Laws of listing: the places of the bits of rows, word by word, and what is written of them.
---   Wrote l e now   the list that held e holds l, and then what was there
+--   places-hit, places-length, places-first, places-longer
+--                         the places of the bits: one more, how many, and that they go on
+--   Wrote l e now         the list that held e holds l, and then what was there
+--   wrote-one, wrote-again, wrote-on, wrote-all, wrote-full
+--                         one number more; a list begun again, and gone on with; all of it; as much as there is room for
+--   bit-found, bits-gone  the bits of a word, lowest first: the next one, and none left
 -- Assumes nothing.
 use mathlib.Core.Path.{_≡_, refl, sym, ap, ap₂, _∙_}
 use mathlib.Core.List.{List, [], _∷_, _++_, append-nil, append-assoc}

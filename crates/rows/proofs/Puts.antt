@@ -1,4 +1,16 @@
--- Laws of pairs put into rows, and of rows that lie below n. Assumes nothing.
+-- Laws of pairs put into rows, and of rows that lie below n.
+--   exchange w        the place of a pair's word with the pair exchanged
+--   lettersOf m ws    the pairs of the words whose label is in the set m
+--   letters-out       a word whose label is not in it adds none
+--   crossing ps qs    the pairs of two lists, the second's exchanged
+--   crossed-forward, crossed-against
+--                     a word more, forward and then against
+--   crossed-is, crossed-start, crossed-all
+--                     so link words one after another: they are the words crossed; none, all
+--   diagonal-none, diagonal-more, diagonal-skip, diagonal-all
+--                     the diagonal: no record, one in the set, one that is not, all
+--   rows-of, rows-in  rows that lie below n, from their gaps; and what a bit of them says
+-- Assumes nothing.
 use mathlib.Core.Path.{_≡_, refl, sym, ap, _∙_, fun-ext}
 use mathlib.Core.Bool.{Bool, true, false, _||_, _&&_}
 use mathlib.Core.List.{List, [], _∷_, _++_, map, append-nil}

@@ -1,4 +1,24 @@
--- Laws of the search for a middle record: `most` over the squares, masks of squares, and the row of a product. Assumes nothing.
+-- Laws of the search for a middle record: `most` over the squares, masks of squares, and the row of a product.
+--   most-more, most-hit, most-far
+--                  the largest of values: one more that is 0, one that is 1, many that are 0
+--   meets-bits, meets-in, meets-word, meets-passed, served-bit
+--                  two rows, a square at a time: the bits in common, in words with none, before the first; whether there is one
+--   mask-set, mask-skip, mask-empty
+--                  the mask of a row's squares: a square more, an empty one, an empty row
+--   masks-common, masks-apart
+--                  rows have a column in common only in a square that both masks have
+--   first-square, square-inside, common-first, common-last
+--                  the squares in common, as the bits of a mask, from the first to the last
+--   empty-serves   an empty row has no column in common with any
+--   below-in, below-out, below-skip
+--                  the bits before a place
+--   row-start, row-skip, row-put
+--                  a row of the product, an occupied column at a time
+--   to-new, to-old, to-more, to-none, to-all, to-row
+--                  rows replaced up to the i-th
+--   product-store, product-skip
+--                  the product, a row at a time: computed and stored, or empty
+-- Assumes nothing.
 use mathlib.Core.Path.{_≡_, refl, sym, ap, ap₂, _∙_, fun-ext}
 use mathlib.Core.List.{List}
 use Prim.Native.Nat.{ℕ, zero, suc, _+_, _-_, _*_, _/_, _%_, _^_, _≤_, _<_, min, max}

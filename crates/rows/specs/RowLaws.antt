@@ -1,5 +1,18 @@
--- Laws of rows: a row's bits are the set's cells, the rows of the operations on sets, the pairs of link words and one step over them, and the pairs
--- that rows hold.
+-- Laws of rows, of the operations on sets, and of the pairs of link words.
+--   flat-at        a row's bits are the set's cells
+--   flat-none, none-set, union-none, union-right, transpose-none, none-tree, identity-set
+--                  the set with no pair, under each operation, and that of each record with itself
+--   union-join, union-swap, transpose-union, transpose-twice
+--                  the algebra of unions and transposes
+--   flat-intersection, flat-difference
+--                  the rows of an intersection and of a difference, bit by bit
+--   pair-links, labelled-none, set-none
+--                  pair words read as links are their own; no label, no words; no words, no pairs
+--   crossed-none, crossed-turned, crossed-pairs, crossed-set
+--                  one step over link words: by no label, with the senses exchanged, over pair words as they are; it makes a set
+--   diagonal-used  records below n, each joined to itself, are a set
+--   places-gap     places over a gap are those before it
+--   pairs-in       rows of a set hold its pairs
 -- Assumes nothing.
 use mathlib.Core.Path.{_≡_, refl, sym, ap, ap₂, _∙_, fun-ext}
 use mathlib.Core.Bool.{Bool, true, false}

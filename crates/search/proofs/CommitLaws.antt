@@ -1,4 +1,12 @@
--- Laws of a level committed: record by record of its list; what it is when all are done; and an empty level, committed by nothing. Assumes nothing.
+-- Laws of a level committed: record by record of its list; what it is when all are done; and an empty level, committed by nothing.
+--   commit-zero    an empty level, committed by nothing
+--   Committing w seen nx mark list i w′ seen′ nx′ records masks
+--                  the first i records of the list are committed
+--   committing-none, committing-more
+--                  so before the first, and one record more
+--   level-committed, level-cleared, level-held
+--                  all of them: the level is committed, its words are cleared, and it is held as a list
+-- Assumes nothing.
 use mathlib.Core.Path.{_≡_, refl, sym, ap, _∙_}
 use mathlib.Core.List.{List}
 use Prim.Native.Nat.{ℕ, _+_, _≤_, _<_, max}
@@ -112,8 +120,8 @@ module _ {w seen nx : List ℕ} {mark : ℕ} {list : List ℕ} {c : ℕ} {w′ s
   not-listed : (r : ℕ) → getD nx r 0 ≡ 0 → (h : ℕ) → h < c → getD list h 0 ≡ r → ⊥
   not-listed r e h l f = let z : 0 < getD nx r 0 = rw f at (listed-some L h l) in omega arith
 
-  pub committed : Committed w seen nx mark n w′ seen′
-  committed = record { hit = λ r q h g o. ht r q g o (L .all r (some-on (getD nx r 0) q o)); miss = I .miss; seen-more = λ r q h. sm r q (digit-of (getD nx r 0)); seen-same = λ r q g. I .seen-off r q (λ h l e. (let z = L .small h l in omega arith)) }
+  pub level-committed : Committed w seen nx mark n w′ seen′
+  level-committed = record { hit = λ r q h g o. ht r q g o (L .all r (some-on (getD nx r 0) q o)); miss = I .miss; seen-more = λ r q h. sm r q (digit-of (getD nx r 0)); seen-same = λ r q g. I .seen-off r q (λ h l e. (let z = L .small h l in omega arith)) }
     where
       ht : (r q : ℕ) → q < 64 → On (digit (getD nx r 0) q) → (h : ℕ) × (h < c) × (getD list h 0 ≡ r) → numberAt w′ r q ≡ mark
       ht r q g o z = rw (z .2) at (I .hit (z .0) q (z .1) g (rw (z .2) o))
@@ -122,15 +130,15 @@ module _ {w seen nx : List ℕ} {mark : ℕ} {list : List ℕ} {c : ℕ} {w′ s
       sm r q (is-off e) = let z : digit (getD nx r 0) q ≡ 0 = rw e (digit-none q) in I .seen-off r q (not-listed r e) ∙ (let y : digit (getD seen r 0) q ≡ max (digit (getD seen r 0) q) (digit (getD nx r 0) q) = omega arith in y)
       sm r q (is-on o) = let z = L .all r o in rw (z .2) at (I .seen-in (z .0) q (z .1))
 
-  pub cleared : Zero nx′
-  cleared r = go (digit-of (getD nx r 0))
+  pub level-cleared : Zero nx′
+  level-cleared r = go (digit-of (getD nx r 0))
     where
       go : Digit (getD nx r 0) → getD nx′ r 0 ≡ 0
       go (is-off e) = I .left r (not-listed r e) ∙ e
       go (is-on o) = let z = L .all r o in rw (z .2) at (I .gone (z .0) (z .1))
 
-  pub held : n ≤ 1024 → Frontier records masks c nx
-  held hn = record {
+  pub level-held : n ≤ 1024 → Frontier records masks c nx
+  level-held hn = record {
     small = λ i h. rw (I .records-at i h) (let z = L .small i h in omega arith);
     at = λ i h. rw (I .records-at i h) (I .masks-at i h);
     all = λ r o. (let z = L .all r o in (z .0, z .1, I .records-at (z .0) (z .1) ∙ z .2));

@@ -1,4 +1,14 @@
--- Laws of the records of a level: states added, records listed, the level of one record. Assumes nothing.
+-- Laws of the records of a level: states added, records listed, the level of one record.
+--   added-zero, added-past, added-more
+--                   states added to a record: none, to no record, some
+--   listed-none, listed-some, listed-fits
+--                   the records listed: none; each has a state; at most 1,024
+--   list-room, listed-new, listed-old
+--                   a record more: there is room, it is new, or it is listed already
+--   listed-take     the records listed, alone
+--   none-listed     an empty list is an empty level
+--   frontier-start  the level of one record
+-- Assumes nothing.
 use mathlib.Core.Path.{_≡_, refl, sym, ap, _∙_}
 use mathlib.Core.List.{List}
 use Prim.Native.Nat.{ℕ, _+_, _≤_, _<_, min}

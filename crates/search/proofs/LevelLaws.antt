@@ -1,4 +1,19 @@
--- The levels backward: the words and numbers keep what the search knows, states not seen grow fewer, and an empty level ends the search.
+-- The levels backward: what the search knows, kept level by level.
+--   distance-on, distance-off, distance-seen
+--                        the number counts where the state was seen
+--   ones-mono, ones-less, ones-most
+--                        how many bits are set: not more, fewer, at most all
+--   level-falls          a level that is not empty has more states seen, so fewer are left
+--   step-arc, shut, arc-moves
+--                        the arc of a step, that no step leads out of the records below n, and the step of an arc
+--   Level g M y n l w seen cur
+--                        the numbers of the first l levels are right, and cur has the states of the last
+--   level-next           one level more keeps it
+--   level-empty          an empty level: no walk from where the state was not seen
+--   mask-here, mask-off  a set of states at one record alone
+--   Start r q            the number is 1 at y and a final state, else 0
+--   level-start          so the level at the start
+--   sought               at the end, the start's number is that of its shortest walk
 -- Assumes nothing.
 use mathlib.Core.Path.{_≡_, refl, sym, _∙_, subst}
 use mathlib.Core.List.{List, [], _∷_}

@@ -1,4 +1,10 @@
--- Laws of a level made arc by arc: no arc passed yet, the arcs into one record from its first on, the next record, all. Assumes nothing.
+-- Laws of a level made arc by arc: no arc passed yet, the arcs into one record from its first on, the next record, all.
+--   levelling-none   no arc passed yet
+--   levelling-first  the arcs into one record, from its first on
+--   levelling-done   none left: the next record
+--   levelling-all    all records of the level: the next level is made
+--   levelling-more   one arc more
+-- Assumes nothing.
 use mathlib.Core.Path.{_≡_, sym, ap, _∙_}
 use mathlib.Core.Logic.{_⊎_, inl, inr}
 use mathlib.Core.List.{List}

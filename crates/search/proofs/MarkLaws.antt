@@ -1,4 +1,14 @@
--- Laws of the numbers in work: marks written, states kept, the smallest step chosen. Assumes nothing.
+-- Laws of the numbers in work: marks written, states kept, the smallest step chosen.
+--   number-here, number-other
+--                    a number written: there, and at every other place
+--   stamp-none, stamp-more
+--                    marks written at the states of a set: none, the lowest that is left
+--   bit-off, bit-at  the set of one state
+--   kept-out, kept-none, kept-no, kept-yes
+--                    the states of a set with a given number: of no record, none looked at, one that has it not, one that has it
+--   chosen-none, arc-small, chosen-first, chosen-more
+--                    the smallest step: no arc looked at, arcs are small, arcs of other records, one arc more
+-- Assumes nothing.
 use mathlib.Core.Path.{_≡_, refl, sym, ap, _∙_, subst}
 use mathlib.Core.Logic.{_⊎_, inl, inr}
 use mathlib.Core.List.{List}

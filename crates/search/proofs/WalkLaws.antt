@@ -1,4 +1,12 @@
--- The walk forward: the steps written so far, put before any best walk from where they lead, are a best walk from the start. Assumes nothing.
+-- The walk forward: the steps written so far, put before any best walk from where they lead, are a best walk from the start.
+--   step-of, word-of, words-of
+--                  step words and steps, to and fro
+--   Going g M y n w seen x steps t r st out
+--                  the t steps written so far, put before any best walk from r and the states st, are a best walk from the start
+--   going-ends     at the end they are a best walk
+--   going-more     one step more: the smallest that leads on
+--   going-start    at the start none is written
+-- Assumes nothing.
 use mathlib.Core.Path.{_≡_, refl, sym, ap, ap₂, _∙_, subst}
 use mathlib.Core.Logic.{_⊎_, inl, inr}
 use mathlib.Core.List.{List, [], _∷_, _++_, map, append-assoc, append-nil}

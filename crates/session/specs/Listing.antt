@@ -1,16 +1,16 @@
 -- What the answers of the questions say.
---   listing a l     the outcome that the answer a to a pair question says, with the pairs in the first words of the list l
+--   totalSaid a    what the answer a to asking for a total prints
+--   total-said     of the answer that a register gives, it is the text of its number and total
+--   listing a l    the outcome that the answer a to a pair question says, with the pairs in the first words of the list l
 --   listing-is, listing-rows
---                   of a question that keeps its promise it is the outcome itself, by trees and by rows
+--                  of a question that keeps its promise it is the outcome itself, by trees and by rows
 --   AnswersPairs r text work before after a
---                   what the program's answer to a pair question of the register r promises: over any contents the words past the pairs are as they were; for every book
---                   that the register represents, it says what the program must, and the list is that outcome's
+--                  what the program's answer to a pair question of the register r promises: over any contents the words past the pairs are as they were; for
+--                  every book that the register represents, it says what the program must, and the list is that outcome's
 --   rows-answers, trees-answers
---                   by rows up to 32 records, by trees above
+--                  by rows up to 32 records, by trees above
 --   listing-left, reply-left
---                   an answer that leaves the words past it leaves the list that its outcome does
---   totalSaid a     what the answer a to asking for a total prints
---   total-said      of the answer that a register gives, it is the text of its number and total
+--                  an answer that leaves the words past it leaves the list that its outcome does
 -- Assumes nothing.
 use mathlib.Core.Path.{_≡_, refl, sym, ap, _∙_}
 use mathlib.Core.List.{List, _++_, append-nil}

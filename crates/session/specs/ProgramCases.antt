@@ -1,14 +1,15 @@
--- Four runs as theorems, the sample of S7.8, one of refusals, one of totals and one of withdrawn records: these frames on standard input, these lines on standard output.
---   input           the frames: open 4; add 0 a 1; add 2 a 1; lock 1; add 1 b 3; pairs a/^a; undo; add 1 b 3; chain 0 to 3 a/b
---   output          the lines
---   Prints s i o    from the session s, with 4,096 words of work and any list of 4,096, a run over i prints o
---   sample          the run prints them
+-- Four runs as theorems, the sample of S7.8, one of refusals, one of totals and one of withdrawn records: these frames on standard input, these lines on
+-- standard output.
+--   input          the frames: open 4; add 0 a 1; add 2 a 1; lock 1; add 1 b 3; pairs a/^a; undo; add 1 b 3; chain 0 to 3 a/b
+--   output         the lines
+--   Prints s i o   from the session s, with 4,096 words of work and any list of 4,096, a run over i prints o
+--   sample         the run prints them
 --   faults, refusals, refused-run
---                   a run of refused frames: the order of 15, 14 and 16; a refused open keeps the register; a cut frame ends it
+--                  a run of refused frames: the order of 15, 14 and 16; a refused open keeps the register; a cut frame ends it
 --   totalled, totals, totalled-run
---                   a run that asks for totals: 16 before an open even of a label that there is not; after adds, a remove and an undo; then 3 and 14
+--                  a run that asks for totals: 16 before an open even of a label that there is not; after adds, a remove and an undo; then 3 and 14
 --   struck, uses, struck-run
---                   a run that withdraws a record and reinstates it, with its refusals, both undone; pairs and a chain in between
+--                  a run that withdraws a record and reinstates it, with its refusals, both undone; pairs and a chain in between
 -- Assumes nothing.
 use mathlib.Core.Path.{_≡_, refl, subst, _∙_}
 use mathlib.Core.List.{List, [], _∷_, _++_}

@@ -1,10 +1,13 @@
 -- Laws of the program.
---   Steady s        the session's book, if any, is sound and has at most 64 records; so from the start, after every frame
---   length-left     a frame leaves the list as long as it was
---   right-exists    every frame has a verdict and a reply, so that what it prints is always said
+--   listed-length  at most n × n pairs are listed
+--   Steady s       the session's book, if any, is sound and has at most 64 records; so from the start, after every frame
+--   start-steady, next-steady
+--                  a session is steady at the start, and after every frame
+--   length-left    a frame leaves the list as long as it was
+--   right-exists   every frame has a verdict and a reply, so that what it prints is always said
 --   pairs-answered, chain-answered
---                   with 4,096 words of work and list, a question whose expression and records are accepted is not refused, and every pair is listed:
---                   12 and 13 never come
+--                  with 4,096 words of work and list, a question whose expression and records are accepted is not refused, and every pair is listed: 12 and 13
+--                  never come
 -- Assumes nothing.
 use mathlib.Core.Path.{_≡_, refl, ap, subst, _∙_}
 use mathlib.Core.List.{List, [], _∷_, _++_}

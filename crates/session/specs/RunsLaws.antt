@@ -1,9 +1,22 @@
 -- Laws of runs over lent input: how a turn and a run keep their promise.
+--   lone-front, bad-front, cut-front
+--                        the front of the input is no frame: one byte alone, a length out of range, fewer bytes than it says
+--   front-frame, front-none
+--                        what a front is: a whole frame of a length in range, or none, which ends the run with 14
+--   andThen, withRest    two parts of a run as one; and out, with what was written into the rest of it
+--   frontFrame           the frame at the front of the input, if it has the length n
+--   front-run            a run from a whole frame on: what it prints, then the run over what follows
+--   stays, at-end, is-broken, one-frame
+--                        a turn: with too little room, at the end, at a broken frame, over one frame
 --   Reached st i work l l′ out out′ r
---                   how far a run came that has read, or not yet begun: the invariant of the loop
---   lives-on        the state handed back is that of a session, if the one at the start was
---   prints-run      a run with no more to do has printed the one output that the definition of a run says, and left its one session and list
---   loop-runs       so has the program's loop, if what it lends is its input and what it prints its output
+--                        how far a run came that has read, or not yet begun: the invariant of the loop
+--   not-begun, has-read  it holds before the first turn, and after one that read
+--   goes-further, goes-on-part
+--                        a run and a turn more are a run; also where the rest is lent as parts
+--   no-room, rest-short  a turn that read nothing, though there is more to do, had too little room
+--   lives-on             the state handed back is that of a session, if the one at the start was
+--   prints-run           a run with no more to do has printed the one output that the definition of a run says, and left its one session and list
+--   loop-runs            so has the program's loop, if what it lends is its input and what it prints its output
 -- Assumes nothing.
 use mathlib.Core.Path.{_≡_, refl, sym, ap, subst, _∙_}
 use mathlib.Core.Logic.{_⊎_}

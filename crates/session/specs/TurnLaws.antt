@@ -1,4 +1,20 @@
 -- Laws of the program's frames: what a frame's promise follows from, case by case.
+--   both-ways      a test does not come out both ways
+--   open-none, open-many, open-fine, fresh-fine
+--                  opening with n: 1 for none or more than 64, else accepted
+--   next-size      a call keeps n, or lowers it
+--   faulty-turns   a frame that says no request
+--   closed-turns   any request but open while no register is opened
+--   open-turns     a request while one is
+--   kept-turns, fresh-turns
+--                  a refused open keeps the session, an accepted one begins afresh
+--   call-turns     an edit, undo or closing up
+--   pairs-turns, chain-turns
+--                  the two questions, which leave the session as it was
+--   total-turns    asking for a total
+--   part-turns     a chain question's text is the part of its body from byte 4 on
+--   none-framed, turned-framed
+--                  with too little room for out nothing is done; with enough, what a turn promises
 -- Assumes nothing.
 use mathlib.Core.Path.{_≡_, refl, sym, ap, subst, _∙_}
 use mathlib.Core.List.{List, [], _∷_}

@@ -1,4 +1,17 @@
--- The answer in plain variables: what a relation's rows say of a record, each refusal by the causes' order, and the records that fall by the two marks.
+-- The answer in plain variables: what a relation's rows say of a record, each refusal, and the records that fall by the two marks.
+--   marks-refused, marks-made
+--                  the marks of a register's records: refused as the relation is, or told by its rows
+--   number-core, number-beyond, number-unordered
+--                  the number of the question: 2 for the core, 2 for an anchor, 20
+--   refuses-core, refuses-beyond, refuses-unordered
+--                  so it is refused
+--   handed-short, handed-whole
+--                  words handed over: 13, or all of them
+--   first-refused, second-refused
+--                  refused by the text or the work, of the first relation or the second
+--   handed-over    with both, the records marked in the first alone are the answer
+--   part-length, supports
+--                  the part of the work that is lent on, and the promise
 -- Assumes nothing.
 use mathlib.Core.Path.{_≡_, refl, sym, ap, ap₂, _∙_, subst}
 use mathlib.Core.List.{List, [], _∷_, _++_}

@@ -1,4 +1,12 @@
--- Laws of the links taken out: what an unlock and a removal leave of a book, and the graph once every word of its links has been cut. Assumes nothing.
+-- Laws of the links taken out: what an unlock and a removal leave of a book, and the graph once every word of its links has been cut.
+--   Unlocks b r b′        an unlock of a record in use: the links stay, and the record is not locked then, nor one that was not before
+--   Removes b k b′        a removal between records in use that are not locked: the link is gone, and no other
+--   Usable b k            a link whose ends are records in use
+--   Cuts core k b b′      what a cut of the link k leaves
+--   cut-next              one word more
+--   CutsAll core ws b b′  what a cut of every word of ws leaves
+--   cut-graph             with every word of a sheet's links cut, the graph is the one without the core's links
+-- Assumes nothing.
 use mathlib.Core.Path.{_≡_, refl, sym, ap, ap₂, _∙_, subst, fun-ext}
 use mathlib.Core.List.{List, [], _∷_, _++_}
 use mathlib.Core.Bool.{Bool, true, false, not, _&&_, true≢false}

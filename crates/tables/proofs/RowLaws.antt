@@ -1,4 +1,11 @@
--- Laws of the helpers on tables of masks, row by row. Assumes nothing.
+-- Laws of the helpers on tables of masks, row by row.
+--   joined-none, joined-no, joined-yes
+--                  rows joined with a mask where another says so: before the first, a row that stays, one that is joined
+--   mixed-none, mixed-no, mixed-yes
+--                  two tables mixed by a mask of rows: before the first, a row of the first, one of the second
+--   turned-none, turned-more
+--                  the entries turned round under a mask: before the first, one more
+-- Assumes nothing.
 use mathlib.Core.Path.{_≡_, refl, ap, _∙_}
 use mathlib.Core.List.{List}
 use Prim.Native.Nat.{ℕ, zero, suc, _+_, _-_, _^_, _≤_, _<_, min, max}

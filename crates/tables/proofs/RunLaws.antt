@@ -1,4 +1,16 @@
--- Running the code: what each number does to the tables, what stands at the start and at the end. Assumes nothing.
+-- Running the code: what each number does to the tables, what stands at the start and at the end.
+--   Unary y f, Binary y f
+--                        the item y is an operator on one operand, or on two, and makes f of them
+--   inverts, stars, repeats, allows-none, unites, follows
+--                        what each operator makes
+--   Opened               of a number of the code: its operands, what is left of the run, and the symbols left
+--   room-one, after-one, room-two, after-two, room-symbol, after-symbol
+--                        for an operator on one, on two, and a symbol: there is room, and the tables after it hold what is left
+--   holds-none, next-none, zeros-at
+--                        at the start: empty tables hold nothing, and the whole code is left
+--   at-end               at the end one part waits
+--   masked, masked-part  with the start added, the tables are those of the automaton
+-- Assumes nothing.
 use mathlib.Core.Path.{_≡_, refl, sym, ap, ap₂, _∙_, subst}
 use mathlib.Core.List.{List, [], _∷_, _++_}
 use mathlib.Core.Bool.{Bool, false}
@@ -30,7 +42,7 @@ use Rattle.automaton.specs.Masks.{letterNumber, Masked}
 use Rattle.tables.specs.declared.Build.{Build}
 use Rattle.tables.specs.Rows.{Joined}
 use Rattle.tables.specs.Builds.{Part, changed, combined, parts, Item as Place, Items, none, item, Holds, symbols, places, Next}
-use Rattle.tables.proofs.BuildLaws.{zero-of, Top, top-of, joins}
+use Rattle.tables.proofs.PartLaws.{zero-of, Top, top-of, joins}
 
 -- ---- how many wait
 items-length : {b : Build} {m k : ℕ} {st : List Part} → Items b m k st → k ≡ length st

@@ -1,4 +1,14 @@
--- Laws of `copy` and of `pairs_below`. Assumes nothing.
+-- Laws of `copy` and of `pairs_below`.
+--   Copied i zs          the first i words have been copied
+--   copy-none, copy-more, copy-all
+--                        so before the first, one more, all
+--   copied-one, copied-two
+--                        one tree at the front, and two one behind the other
+--   below-all, below-at  pairs below n, word by word
+--   false-absurd, both-absurd
+--                        a test does not come out both ways
+--   settled              an answer of so many words
+-- Assumes nothing.
 use mathlib.Core.Path.{_≡_, refl, sym, ap, subst, _∙_}
 use mathlib.Core.Bool.{Bool, true, false}
 use mathlib.Core.List.{List, [], _∷_, _++_}
@@ -83,11 +93,11 @@ pub below-at : (n : ℕ) (ps : List ℕ) → PairsBelow n ps → (i : ℕ) → i
 below-at n ps b i l = b (getD ps i 0) (at-in ps i l)
 
 -- ---- answers
-pub off : {A : Type 0} → false ≡ true → A
-off e = absurd (let y : _≡_ {A = ℕ} 0 1 = cc in omega arith)
+pub false-absurd : {A : Type 0} → false ≡ true → A
+false-absurd e = absurd (let y : _≡_ {A = ℕ} 0 1 = cc in omega arith)
 
-pub wrong : {b : Bool} → b ≡ false → b ≡ true → ⊥
-wrong e f = off (sym e ∙ f)
+pub both-absurd : {b : Bool} → b ≡ false → b ≡ true → ⊥
+both-absurd e f = false-absurd (sym e ∙ f)
 
 -- an answer of r words
 given-at : (xs before after : List ℕ) (r : ℕ) → r ≡ length xs → r ≤ length before → after ≡ xs ++ drop (length xs) before → Settled xs before after (Done r)

@@ -1,4 +1,18 @@
--- Laws of the operations: rows that hold nothing, an operand that has no tree or no links, and when there is room. Assumes nothing.
+-- Laws of the operations: rows that hold nothing, an operand that has no tree or no links, and when there is room.
+--   rows-none, from-none, set-shown
+--                  rows that hold nothing, what `load` adds to them, and the pairs that rows of a set show
+--   no-letters, no-tree, both-loaded
+--                  an operand that has no links or no tree; the tree and then the links
+--   joint k        0 for the operations that look at both operands apart
+--   not-apart      another operation is not one of those
+--   tree-at        a tree at the front of words
+--   none-lent, none-tree-at
+--                  terms with no record in use
+--   two-lent, one-lent, two-set, one-set
+--                  what a term of two trees, or of nothing and an operand, is lent, and the set that is its outcome
+--   pack-room, room-or, told-room
+--                  when there is room
+-- Assumes nothing.
 use mathlib.Core.Path.{_≡_, refl, sym, ap, ap₂, subst, _∙_}
 use mathlib.Core.Bool.{Bool, true}
 use mathlib.Core.List.{List}
@@ -29,7 +43,7 @@ use Rattle.tree.specs.Inner.{nothing, treeAlone, valued, LinksBelow, out
 use Rattle.tree.specs.InnerLaws.{valued-alone, valued-nothing}
 use Rattle.tree.specs.Calls.{treeOfTwo}
 use Rattle.tree.specs.Settling.{Shown}
-use Rattle.tree.proofs.Copies.{wrong}
+use Rattle.tree.proofs.Copies.{both-absurd}
 
 -- ---- rows
 pub rows-none : bitAt (replicate 16384 0) ≡ flat noPairs
@@ -166,4 +180,4 @@ told-room {t} {n} {ws} {used} {work} {before} i e = by (room-or n t (length work
   where
     by : Dec (Room n t (length work) (length used) (length before)) → Room n t (length work) (length used) (length before)
     by (yes o) = o
-    by (no f) = absurd (wrong (i .left f .0) e)
+    by (no f) = absurd (both-absurd (i .left f .0) e)

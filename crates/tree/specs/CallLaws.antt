@@ -1,16 +1,16 @@
 -- Laws of the calls' causes: what each test says, the number of the first cause, and that the causes stand in the order of S6.8.
---   sense-other     a number that is not 0 stands for the inverted sense
---   all-below, below-all
---                   pairs below n, as a fact and as a test
---   one-more, none-more
---                   an empty tree more is no cause
+--   sense-other           a number that is not 0 stands for the inverted sense
+--   all-below, below-all  pairs below n, as a fact and as a test
+--   one-more, none-more   an empty tree more is no cause
+--   one-formed, two-formed
+--                         whether one or two lent trees are well formed
 --   lent-size, lent-pairs, lent-trees, lent-work, lent-none
---                   the number of the first cause against what is lent
---   lent-met        what no cause leaves
+--                         the number of the first cause against what is lent
+--   lent-met              what no cause leaves
 --   tree-refused, tree-accepted
---                   the number of the first cause of all
---   first-over      the first words of xs over a list, if it is too short for all of them too
---   causes-in-order the causes are those of `treeOrder`, in that order
+--                         the number of the first cause of all
+--   causes-in-order       the causes are those of `treeOrder`, in that order
+--   first-over            the first words of xs over a list, if it is too short for all of them too
 -- Assumes nothing.
 use mathlib.Core.Path.{_≡_, refl, sym, ap, _∙_}
 use mathlib.Core.List.{List, [], _∷_, _++_}

@@ -1,13 +1,14 @@
--- Demand 2 over what the calls promise. Pairs below n are made into a tree, and the tree is listed: with space enough neither call refuses, and the
--- list is the set, ascending and each pair once. A well-formed tree is listed, and the list made into a tree: neither refuses, and the tree is the same.
---   answerWords r l the words of the list l that are the answer r's; a refusal has none
+-- Demand 2 over what the calls promise. Pairs below n are made into a tree, and the tree is listed: with space enough neither call refuses, and the list is the
+-- set, ascending and each pair once. A well-formed tree is listed, and the list made into a tree: neither refuses, and the tree is the same.
+--   answerWords r l       the words of the list l that are the answer r's; a refusal has none
 --   Enough n a work work′ out list
---                   space enough for the set a: n is 1 to 1,024, both calls are lent 32 D words of work, out is as long as the set's tree and list as
---                   long as its pairs
+--                         space enough for the set a: n is 1 to 1,024, both calls are lent 32 D words of work, out is as long as the set's tree and list as
+--                         long as its pairs
 --   MadeListed n ps out′ list′ v u
---                   the answers v of `make` and u of `list` and what they wrote: the set of the pairs ps
+--                         the answers v of `make` and u of `list` and what they wrote: the set of the pairs ps
 --   ListedMade n t a list′ out′ u v
---                   the answers u of `list` and v of `make` and what they wrote: the pairs of the set a, and its tree t
+--                         the answers u of `list` and v of `make` and what they wrote: the pairs of the set a, and its tree t
+--   make-list, list-make  so it is, from what the calls promise
 -- Assumes nothing.
 use mathlib.Core.Path.{_≡_, refl, sym, ap, subst, _∙_}
 use mathlib.Core.Bool.{true}

@@ -45,7 +45,7 @@ use Rattle.offsets.specs.Answers.{OffsetsTold}
 use Rattle.offsets.specs.Inner.{SizeIn, judgeAll, Begins, roundsOf, TellsOver}
 use Rattle.offsets.specs.declared.Tie.{Tie}
 use Rattle.offsets.proofs.Again.{LentAgain, lends-again, comes-back}
-use Rattle.offsets.proofs.Whole.{told}
+use Rattle.offsets.proofs.Whole.{calls-told}
 use Rattle.offsets.proofs.Tie as T
 use Rattle.offsets.proofs.size_in as size-in
 use Rattle.offsets.proofs.size_in.Symbol as size-in-def
@@ -368,7 +368,7 @@ module _ {M : Type 1} (𝓤 : URA M) (H : Heap 𝓤) (A : Atoms 𝓤) (W : Given
         move ! (47 ∷ 48 ∷ []) $ free1 ! $ move ! (45 ∷ 46 ∷ []) $ free1 ! $ move ! (43 ∷ 44 ∷ []) $ free1 ! $ move ! (41 ∷ 42 ∷ []) $ free1 ! $ move ! (39 ∷ 40 ∷ []) $ free1 ! $ move ! (37 ∷ 38 ∷ []) $ free1 ! $ move ! (35 ∷ 36 ∷ []) $ free1 ! $ move ! (33 ∷ 34 ∷ []) $ free1 ! $ move ! (31 ∷ 32 ∷ []) $ free1 ! $ move ! (29 ∷ 30 ∷ []) $ free1 ! $ move ! (27 ∷ 28 ∷ []) $ free1 ! $ move ! (25 ∷ 26 ∷ []) $ free1 ! $ move ! (23 ∷ 24 ∷ []) $ free1 ! $ move ! (21 ∷ 22 ∷ []) $ free1 ! $ move ! (19 ∷ 20 ∷ []) $ free1 ! $ move ! (17 ∷ 18 ∷ []) $ free1 ! $ move ! (15 ∷ 16 ∷ []) $ free1 ! $ move ! (13 ∷ 14 ∷ []) $ free1 ! $ move ! (11 ∷ 12 ∷ []) $ free1 ! $ move ! (9 ∷ 10 ∷ []) $ free1 ! $ free0 ! $
         keep ! (7 ∷ 5 ∷ 1 ∷ 8 ∷ 6 ∷ 4 ∷ 2 ∷ 0 ∷ []) $
         by ! (leaves k w₆ (hs .1 .1 .1 .0) (hs .1 .1 .1 .1 .0)
-        (told ws n base ts d₀ (zs .1 .1 .1 .1 .1 .0) (us .1 .1 .1 .0) f₀ (hs .1 .1 .1 .1 .0) found cause rounds on (e₆ .0) k e₁ e₂ e₃ e₄ e₅ (l₂′ ∙ l₁′) ll (e₆ .1 .0) (e₆ .1 .1)) (lw ∙ l₂′ ∙ l₁′) ll))))))))))))))))))))))))))))))))))))))))))))))))))))))))
+        (calls-told ws n base ts d₀ (zs .1 .1 .1 .1 .1 .0) (us .1 .1 .1 .0) f₀ (hs .1 .1 .1 .1 .0) found cause rounds on (e₆ .0) k e₁ e₂ e₃ e₄ e₅ (l₂′ ∙ l₁′) ll (e₆ .1 .0) (e₆ .1 .1)) (lw ∙ l₂′ ∙ l₁′) ll))))))))))))))))))))))))))))))))))))))))))))))))))))))))
       where
         room : (ds : List ℤ) → length ds ≡ length d₀ → Room i64 (length ds)
         room ds e = subst (Room i64) (sym e) rw

@@ -60,7 +60,7 @@ use borrow.Author.Tests.{lt-ltb, le-ltb}
 use Rattle.offsets.specs.Relax.{State, relaxed, relaxTie, relaxAll}
 use Rattle.offsets.specs.declared.Tie.{Tie}
 use Rattle.offsets.proofs.Again.{LentAgain, lends-again, comes-back}
-use Rattle.offsets.proofs.Turns.{none, turn, over}
+use Rattle.offsets.proofs.Turns.{none, relax-turn, relax-over}
 use Rattle.offsets.proofs.Tie as T
 use Rattle.offsets.proofs.Tie.Laws as T′
 use Rattle.offsets.proofs.relax as relax
@@ -311,11 +311,11 @@ module _ {M : Type 1} (𝓤 : URA M) (H : Heap 𝓤) (A : Atoms 𝓤) (W : Given
     turn-at zero i ds c f =
         let at-end : i ≡ n = sym (add-zero i) ∙ f .0 in
         subst (λ (j : ℕ). ent 𝓤 (⋆ 𝓤 H A (At j ds c)) (Wp 𝓤 H C Λ En mir.turn-1 (afterTurn 𝓤 H (Below zero) Left))) (sym at-end)
-        (ends ds c (Below zero) (f .1 .0) (over m ts (ds, c) Out (subst (λ (j : ℕ). relaxAll m (drop j ts) (ds, c) ≡ Out) at-end (f .1 .1))))
+        (ends ds c (Below zero) (f .1 .0) (relax-over m ts (ds, c) Out (subst (λ (j : ℕ). relaxAll m (drop j ts) (ds, c) ≡ Out) at-end (f .1 .1))))
     turn-at (suc t) i ds c f =
         let all : i + suc t ≡ n = f .0 in
         let small : i < n = omega (arith, all) in
-        more i ds c (Below (suc t)) small (f .1 .0) (λ zs c′ l e. below t (suc i) zs c′ (omega (arith, all), (l ∙ f .1 .0, turn m ts i (ds, c) (zs, c′) Out small e (f .1 .1))))
+        more i ds c (Below (suc t)) small (f .1 .0) (λ zs c′ l e. below t (suc i) zs c′ (omega (arith, all), (l ∙ f .1 .0, relax-turn m ts i (ds, c) (zs, c′) Out small e (f .1 .1))))
 
     turns : (t : ℕ) → ent 𝓤 (Inv t) (Wp 𝓤 H C Λ En mir.turn-1 (afterTurn 𝓤 H (Below t) Left))
     turns t = exE 𝓤 (λ (i : ℕ). ex 𝓤 (λ (ds : List ℤ). ex 𝓤 (λ (c : Bool). guard 𝓤 (Facts t i ds c) (⋆ 𝓤 H A (At i ds c))))) (λ i.

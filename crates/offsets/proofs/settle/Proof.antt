@@ -53,7 +53,7 @@ use borrow.Author.Tests.{lt-ltb, le-ltb}
 use Rattle.offsets.specs.Relax.{State, relaxAll, leftAfter, settled}
 use Rattle.offsets.specs.declared.Tie.{Tie}
 use Rattle.offsets.proofs.Again.{LentAgain, lends-again, comes-back}
-use Rattle.offsets.proofs.Turns.{again, fewer}
+use Rattle.offsets.proofs.Turns.{passes-again, passes-fewer}
 use Rattle.offsets.proofs.Tie as T
 use Rattle.offsets.proofs.pass as pass
 use Rattle.offsets.proofs.pass.Symbol as pass-def
@@ -286,7 +286,7 @@ module _ {M : Type 1} (𝓤 : URA M) (H : Heap 𝓤) (A : Atoms 𝓤) (W : Given
     turn-at zero ds c f = ends ds c (Below zero) (f .1 .0) (f .1 .1)
     turn-at (suc k) ds c f =
         more (suc k) ds c (Below (suc k)) (zero-lt-suc k) (f .0) (f .1 .0) (λ zs r l e.
-        below (suc k) (leftAfter r (suc k)) zs r (fewer r k) (omega (arith, fewer r k, f .0), (l ∙ f .1 .0, again n ts k ds zs c r e ∙ f .1 .1)))
+        below (suc k) (leftAfter r (suc k)) zs r (passes-fewer r k) (omega (arith, passes-fewer r k, f .0), (l ∙ f .1 .0, passes-again n ts k ds zs c r e ∙ f .1 .1)))
 
     turns : (t : ℕ) → ent 𝓤 (Inv t) (Wp 𝓤 H C Λ En mir.turn-1 (afterTurn 𝓤 H (Below t) Left))
     turns t = exE 𝓤 (λ (ds : List ℤ). ex 𝓤 (λ (c : Bool). guard 𝓤 (Facts t ds c) (⋆ 𝓤 H A (At t ds c)))) (λ ds.

@@ -4,7 +4,7 @@ use Prim.Native.Nat.{suc, _-_}
 use native.Mathlib.Omega.{arith}
 use borrow.Author.Needs.{needs}
 use lib.ListN.{length}
-use Rattle.tables.proofs.BuildLaws.{holds-sequence}
+use Rattle.tables.proofs.BinaryLaws.{holds-sequence}
 use Rattle.tables.proofs.followed.Statement.{statement}
 use Rattle.tables.proofs.followed.Tie as tie
 

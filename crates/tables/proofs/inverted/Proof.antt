@@ -3,7 +3,7 @@ use mathlib.Core.Path.{_≡_, refl}
 use native.Mathlib.Omega.{arith}
 use borrow.Author.Needs.{needs}
 use lib.ListN.{length}
-use Rattle.tables.proofs.BuildLaws.{holds-inverse}
+use Rattle.tables.proofs.UnaryLaws.{holds-inverse}
 use Rattle.tables.proofs.inverted.Statement.{statement}
 use Rattle.tables.proofs.inverted.Tie as tie
 

@@ -5,7 +5,7 @@ use native.Mathlib.Omega.{arith}
 use borrow.Author.Needs.{needs}
 use lib.ListN.{length}
 use Rattle.k2.specs.DigitLaws.{one-shl}
-use Rattle.tables.proofs.BuildLaws.{holds-symbol}
+use Rattle.tables.proofs.SymbolLaws.{holds-symbol}
 use Rattle.tables.proofs.symbol.Statement.{statement}
 use Rattle.tables.proofs.symbol.Tie as tie
 

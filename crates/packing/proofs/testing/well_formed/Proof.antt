@@ -11,7 +11,7 @@ use Rattle.k2.specs.SizeLaws.{treeWords-most}
 use Rattle.bits.specs.BitSetLaws.{bits-none}
 use Rattle.rows.specs.Rows.{flat, noPairs}
 use Rattle.rows.specs.RowLaws.{flat-none, union-none}
-use Rattle.packing.proofs.Stores.{off, nil-of}
+use Rattle.packing.proofs.Stores.{false-absurd, nil-of}
 use Rattle.packing.proofs.testing.well_formed.Statement.{statement}
 use Rattle.packing.proofs.testing.well_formed.Tie as tie
 
@@ -30,7 +30,7 @@ tree-unit-requires c κs = search needs
 returns-2 : tie.Need-returns-2
 returns-2 c =
     let n = c .before .before .before .before .args .n in
-    (λ e. off e, λ w. absurd (let k = ap length (w .tree) in omega (arith, treeWords-most n (w .set))))
+    (λ e. false-absurd e, λ w. absurd (let k = ap length (w .tree) in omega (arith, treeWords-most n (w .set))))
 
 slice-aggregate-load : tie.Need-slice-aggregate-load
 slice-aggregate-load c = search needs
@@ -47,7 +47,7 @@ within-requires c κs = search needs
 returns-3 : tie.Need-returns-3
 returns-3 c =
     let x = c .before .within in
-    (λ e. off e, λ w. sym (not-true (x .result) (c .if3 .taken)) ∙ x .ensures .1 (record { set = w .set; is-set = w .is-set; rows = loaded (c .before .before .before .before) w }))
+    (λ e. false-absurd e, λ w. sym (not-true (x .result) (c .if3 .taken)) ∙ x .ensures .1 (record { set = w .set; is-set = w .is-set; rows = loaded (c .before .before .before .before) w }))
 
 slice-aggregate-pack : tie.Need-slice-aggregate-pack
 slice-aggregate-pack c = search needs

@@ -4,7 +4,7 @@ use mathlib.Core.Path.{_≡_, refl, _∙_}
 use Prim.Native.Nat.{_-_, _≤_, _<_}
 use native.Mathlib.Omega.{arith}
 use lib.ListN.{length, getD, length-set}
-use Rattle.search.proofs.CommitLaws.{Committing, committing-none, committing-more, committed, cleared, held}
+use Rattle.search.proofs.CommitLaws.{Committing, committing-none, committing-more, level-committed, level-cleared, level-held}
 use Rattle.search.proofs.levels.commit.Statement.{statement}
 use Rattle.search.proofs.levels.commit.Tie as tie
 
@@ -110,7 +110,7 @@ returns c =
     let p = c .before .before .before .before .before .before .before .before .pre in
     let e : l .i ≡ length (c .before .before .before .before .before .before .before .before .args .list .now) = omega arith in
     let I = rw e at (l .inv .6) in
-    (cleared I (p .4 .4), held I (p .4 .4) (p .4 .1), λ n L. committed I L)
+    (level-cleared I (p .4 .4), level-held I (p .4 .4) (p .4 .1), λ n L. level-committed I L)
 
 pub commit-spec : {M : Type 1} → statement M
 commit-spec =

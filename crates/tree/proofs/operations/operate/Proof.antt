@@ -8,7 +8,7 @@ use Rattle.k2.specs.BitLaws.{bit-lt}
 use Rattle.k2.specs.PairSets.{Cells}
 use Rattle.tree.specs.Inner.{Room, termSet}
 use Rattle.tree.specs.InnerLaws.{term-set}
-use Rattle.tree.proofs.Copies.{wrong}
+use Rattle.tree.proofs.Copies.{both-absurd}
 use Rattle.tree.proofs.Ops.{told-room, tree-at, pack-room}
 use Rattle.tree.proofs.operations.operate.Statement.{statement}
 use Rattle.tree.proofs.operations.operate.Tie as tie
@@ -55,7 +55,7 @@ same-length-4 c = search needs
 
 returns-2 : tie.Need-returns-2
 returns-2 c =
-    let f : (Room _ _ _ _ _ → ⊥) = λ r. wrong (c .if1 .left) (c .before .before .before .outcome-rows .ensures .done r) in
+    let f : (Room _ _ _ _ _ → ⊥) = λ r. both-absurd (c .if1 .left) (c .before .before .before .outcome-rows .ensures .done r) in
     record { most = omega arith; tree = λ r. absurd (f r); left = λ g. (refl, refl) }
 
 pub operate-spec : {M : Type 1} → statement M

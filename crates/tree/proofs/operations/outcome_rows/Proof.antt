@@ -8,7 +8,7 @@ use Rattle.k2.specs.PairSets.{Cells}
 use Rattle.rows.specs.Rows.{noPairs}
 use Rattle.tree.specs.Inner.{valued, Room}
 use Rattle.tree.specs.InnerLaws.{valued-set}
-use Rattle.tree.proofs.Copies.{wrong}
+use Rattle.tree.proofs.Copies.{both-absurd}
 use Rattle.tree.proofs.Ops.{from-none}
 use Rattle.tree.proofs.operations.outcome_rows.Statement.{statement}
 use Rattle.tree.proofs.operations.outcome_rows.Tie as tie
@@ -18,7 +18,7 @@ room-requires c κs = search needs
 
 returns : tie.Need-returns
 returns c =
-    let f : (Room _ _ _ _ _ → ⊥) = λ r. wrong (not-true (c .before .room .result) (c .if1 .taken)) (c .before .room .ensures .1 r) in
+    let f : (Room _ _ _ _ _ → ⊥) = λ r. both-absurd (not-true (c .before .room .result) (c .if1 .taken)) (c .before .room .ensures .1 r) in
     record { done = λ r. absurd (f r); rows = λ r. absurd (f r); left = λ g. (refl, refl) }
 
 -- there is room
