@@ -3,7 +3,7 @@
 --   bits-set           a store that changes one digit of one word changes one bit alone
 --   digit-or-pow       or with a power of two sets a digit
 --   bits-none          words of 0 have no bit
---   either-word, both-word, minus-word
+--   both-word, minus-word
 --                      the digits of `|`, `&` and `& !` of two words are the union, intersection and difference of their bits
 --   four-in, four-out  four bits from a multiple of 4 on, as the code reads them from one word; past the end they are 0
 --   gap-join           two gaps, one after the other, are one

@@ -7,8 +7,6 @@
 --   first-none     accepted: the first cause is not there, nor any after it
 --   refused-same   a refused call changes nothing
 --   undo-back      an undo after an accepted edit gives the sheet before it
---   after-more, answers-more, answers-length
---                  a history with one call more; it has as many answers as calls
 --   first-proper   what the causes 2, 18 and 3 let pass is a proper link, whose ends are in use
 --   touched-end, end-touched
 --                  a record is touched exactly if it is an end of a link

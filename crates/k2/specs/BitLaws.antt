@@ -3,7 +3,7 @@
 --   bit-lt, bit-in, bit-out, bit-within, bit-zero, bit-replicate
 --                         a bit of words: below 2, a digit of its word, 0 past the end and in a word of 0
 --   bit-set, bit-set-off  after a word is stored: its own bits, and every other as it was
---   bit-drop, bit-take    the bits of a part of the words
+--   bit-take              the bits of a part of the words
 --   bits-tell             words of the same length with the same bits are the same
 --   Upto n f g            f and g agree in the first n words
 --   upto-none, upto-more, upto-all

@@ -9,10 +9,8 @@
 --   digit-add, digit-shl  a digit further up, and the digits of `v << r`
 --   digit-four            four digits as a number
 --   digits-tell           the digits of a number tell it
---   and-pow, or-pow       `&` and `|` with a power of two, as numbers
 -- Assumes nothing.
-use mathlib.Core.Path.{_≡_, refl, sym, ap, ap₂, _∙_}
-use mathlib.Core.Bool.{Bool, true, false}
+use mathlib.Core.Path.{_≡_, sym, _∙_}
 use Prim.Native.Nat.{ℕ, zero, suc, _+_, _-_, _*_, _/_, _%_, _^_, _≤_, _<_, min, max}
 use native.Mathlib.Nat.{div-div-eq-div-mul, pow-suc, pow-succ', zero-div, div-one, mul-div-cancel, mul-mod-left, zero-lt-suc, one-mul, mul-one, div-eq-of-lt, lt-of-lt-of-le, sub-zero, suc-sub-suc}
 use native.Mathlib.Omega.{arith}

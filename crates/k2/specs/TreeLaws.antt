@@ -7,8 +7,6 @@
 --                  the empty set has no words, and no words are a well-formed tree
 --   quadrant-transpose, filled-transpose
 --                  the quarters of a transposed square, with 1 and 2 exchanged; it is empty where the square is
---   bit-transpose, node-transpose
---                  each square of a tree stands in the tree of the transpose, transposed, with its second and third bit exchanged
 -- Assumes nothing.
 use mathlib.Core.Path.{_≡_, refl, sym, ap, _∙_, fun-ext}
 use mathlib.Core.List.{List, [], _∷_, _++_, map}

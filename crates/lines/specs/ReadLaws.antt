@@ -5,7 +5,7 @@
 --   readAfter v w        the rest w of a number, of which v is read
 --   number-begun, number-empty, number-next, number-below, number-above, number-over, number-none
 --                        a number read figure by figure: begun, no byte, one figure more, a byte below or above the figures, too large, none left
---   label-size, label-one, label-below, label-above, label-is
+--   label-size, label-below, label-above, label-is
 --                        a label's only byte, and which bytes are one
 -- Assumes nothing.
 use mathlib.Core.Path.{_≡_, refl}

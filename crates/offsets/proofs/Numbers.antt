@@ -28,8 +28,8 @@ use Rattle.book.specs.Basics.{pick}
 use Rattle.register.specs.Marks.{freeMark, withdrawnMark}
 use Rattle.register.specs.Words.{marksAt}
 use Rattle.offsets.specs.declared.Tie.{Tie}
-use Rattle.offsets.specs.Answers.{maxTies, outside, offsetsWork}
-use Rattle.offsets.specs.Inner.{isWithdrawnIn, sooner, three, tieNumber, baseNumber, orElse}
+use Rattle.offsets.specs.Answers.{maxTies, outside}
+use Rattle.offsets.specs.Inner.{isWithdrawnIn, sooner, three, tieNumber, baseNumber}
 use Rattle.offsets.proofs.Integers.{bits-back}
 
 -- ---- a mark among the words

@@ -28,9 +28,8 @@ use Rattle.offsets.specs.declared.Tie.{Tie}
 use Rattle.offsets.specs.Relax.{State, dist, settled}
 use Rattle.offsets.specs.Offsets.{Placing, Places, cannot, limits, OffsetsAre}
 use Rattle.offsets.specs.Third.{Ready}
-use Rattle.offsets.specs.Thirds.{Starts, choose, length-passed}
-use Rattle.offsets.specs.Relax as relax
-use Rattle.offsets.specs.Arcs.{arcs3, run-length, by-test}
+use Rattle.offsets.specs.Thirds.{Starts}
+use Rattle.offsets.specs.Arcs.{arcs3, by-test}
 use Rattle.offsets.specs.Passes.{settled-is, passes-length}
 use Rattle.offsets.specs.Finds.{ran, least-word, most-word, Told, Fits, cannot-exactly, cannot-are, told-are}
 use Rattle.offsets.specs.Bounds.{words-fit}

@@ -11,7 +11,7 @@
 --   Small cs            every arc rises by at most 20,000
 --   passes-ranged       how large distances grow, pass by pass
 --   Reached             what is known has been reached
---   passes-reached, known-on
+--   passes-reached
 --                       known records are reached; where all arcs hold, an arc that leaves a known record ends at one
 --   settled-is          passes over ties are passes over their arcs
 -- Assumes nothing.
@@ -27,10 +27,10 @@ use lib.ListN.{length, length-set}
 use lib.Signed.{mag, _≤ℤ_, ≤ℤ-refl}
 use borrow.Author.Tests.{lt-ltb}
 use Rattle.offsets.specs.declared.Tie.{Tie}
-use Rattle.offsets.specs.Linear.{up, down, of-le, of-lt, to-le, to-lt, of-add, of-sub, of-pos, of-neg-up, of-neg-down, of-mag, ≤ℤ-trans}
-use Rattle.offsets.specs.Relax.{State, pick, known, dist, relaxAll, settled}
-use Rattle.offsets.specs.Offsets.{In, Placing}
-use Rattle.offsets.specs.Arcs.{Arc, arcs, arcs3, Keeps, arc, run, run-is, Holds, by-test, lower-ind, set-ind, arc-length, run-length, run-down, quiet-holds}
+use Rattle.offsets.specs.Linear.{up, down, of-add, ≤ℤ-trans}
+use Rattle.offsets.specs.Relax.{State, pick, known, dist, settled}
+use Rattle.offsets.specs.Offsets.{In}
+use Rattle.offsets.specs.Arcs.{Arc, arcs3, arc, run, run-is, Holds, lower-ind, set-ind, arc-length, run-down, quiet-holds}
 use Rattle.offsets.specs.Settles.{onePass, passes}
 
 -- ---- what passes keep

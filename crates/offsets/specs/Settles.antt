@@ -32,7 +32,7 @@ use lib.Signed.{leZ, _≤ℤ_, _<ℤ_, ≤ℤ-refl, clashℤ, <ℤ-≤ℤ-trans}
 use Rattle.offsets.specs.Linear.{of-le, of-leb, of-not-leb, to-le, to-lt, of-add, of-sub, ≤ℤ-trans}
 use Rattle.offsets.specs.Relax.{State, pick, known, dist}
 use Rattle.offsets.specs.Offsets.{In, Placing}
-use Rattle.offsets.specs.Arcs.{Arc, Keeps, arc, run, Holds, by-test, lower-ind, set-ind, arc-length, arc-down, run-length, run-down, quiet-holds, holds-quiet, lt-le}
+use Rattle.offsets.specs.Arcs.{Arc, Keeps, arc, run, Holds, by-test, lower-ind, set-ind, run-down, holds-quiet, lt-le}
 
 -- ---- lists of records
 -- a list without one of its members

@@ -21,7 +21,7 @@ use lib.Signed.{_≤ℤ_}
 use Rattle.offsets.specs.declared.Tie.{Tie}
 use Rattle.offsets.specs.Linear.{up, down, of-le, to-le, to-eq, of-sub, of-pos, of-neg-up, of-neg-down, ≤ℤ-trans, ≤ℤ-antisym}
 use Rattle.offsets.specs.Relax.{known}
-use Rattle.offsets.specs.Offsets.{In, Placing, Meets, Places, Joins, Joined, self, onward}
+use Rattle.offsets.specs.Offsets.{In, Placing, Meets, Places, Joined, self, onward}
 use Rattle.offsets.specs.Arcs.{Arc, up-arc, down-arc, arcs, of-ties, in-up, in-down, sums-meet}
 use Rattle.offsets.specs.Passes.{Near, near-add, near-known, far, known-not-far, Small}
 

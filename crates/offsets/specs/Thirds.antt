@@ -32,10 +32,10 @@ use Rattle.offsets.specs.declared.Tie.{Tie}
 use Rattle.offsets.specs.Linear.{up, down, of-le, to-le, of-add, of-sub, of-pos, ≤ℤ-trans}
 use Rattle.offsets.specs.Relax.{known, dist}
 use Rattle.offsets.specs.Sound.{Under, under-lower}
-use Rattle.offsets.specs.Offsets.{In, Placing, Meets, Places, Joined, self}
-use Rattle.offsets.specs.Arcs.{Arc, up-arc, down-arc, arcs, arcs3, at, turned, of-thirds, arc-in-first, arc-in-second, arc-in-third, length-arcs3, in-up, in-down, Keeps, keeps-places, sums-meet, Holds, by-test}
-use Rattle.offsets.specs.Settles.{Open, Left, passes, passes-settle, span, span-length, span-in, span-all}
-use Rattle.offsets.specs.Passes.{passes-keep, passes-length, passes-hold, passes-down, Near, near-known, far, known-not-far, Ranged, Small, passes-ranged, Reached, passes-reached}
+use Rattle.offsets.specs.Offsets.{In, Placing, Places, Joined, self}
+use Rattle.offsets.specs.Arcs.{Arc, up-arc, down-arc, arcs, arcs3, at, turned, of-thirds, arc-in-first, arc-in-second, arc-in-third, length-arcs3, in-up, in-down, Keeps, keeps-places, sums-meet}
+use Rattle.offsets.specs.Settles.{passes, passes-settle, span, span-length, span-in, span-all}
+use Rattle.offsets.specs.Passes.{passes-keep, passes-length, passes-hold, passes-down, Near, near-known, far, known-not-far, Small, passes-ranged, passes-reached}
 use Rattle.offsets.specs.Third.{Ready, far-over, ready-small, ready-inside, joined-arc}
 use Rattle.offsets.specs.Turned.{neg, turned-places, places-turned, turned-ready}
 

@@ -1,5 +1,4 @@
 -- Laws of the pair question: what the book's answer is, by the verdict, the work and the list.
---   asks-refused   the verdict's number
 --   asks-short     12
 --   asks-paired    how many pairs there are, and the first of them
 --   faulty-caused  a verdict's number is a cause's

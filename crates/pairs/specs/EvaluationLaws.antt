@@ -9,7 +9,6 @@
 --   begins             with nothing waiting the whole code is left
 --   runs-rest, runs-height
 --                      what a code that runs asks of its next number
---   standing-count     the count of operands is the stack's height
 --   Top, standing-top  the operand on top: where its tree lies, and what stands below it
 --   standing-kept, standing-store
 --                      what stands below a word stands if only words behind it change, and if only operands above are stored

@@ -3,9 +3,6 @@
 --   reads-as        what is read of a text that is to be accepted
 --   reads-accepted  an accepted text is that of an expression, whose code the array begins with
 --   reads-refused   a refused one has a cause, whose number is given, and is that of no expression within the limits
---   run-read        what was read, run on an empty stack of any kind of value, gives the expression's value
---   few-read        with at most 19 values on the stack at once
---   operands-read   and as many as the next number takes
 -- Assumes nothing.
 use mathlib.Core.Path.{_≡_, refl, sym, ap, _∙_}
 use mathlib.Core.List.{List}

@@ -1,6 +1,6 @@
 -- Laws of ascending lists: the place of a number, one put in and one taken out.
 --   below x l      how many of the first numbers of l are below x
---   below-le, rises-absent
+--   rises-absent
 --                  no more than all; a number below the first is absent
 --   seam-list, seam-has, stands-below
 --                  among ascending numbers there is one place for x, and x is there exactly if it stands at it

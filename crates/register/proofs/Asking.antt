@@ -1,7 +1,7 @@
 -- Laws of what the questions are given.
 --   part-pairs, label-part
 --                  the part of an ascending list between two numbers: the links of a label
---   next-here, next-on, next-end, next-link
+--   next-here, next-on, next-end
 --                  the next place whose word passes a test: here, further on, none; and by the links of the words
 --   touched-from, touched-second
 --                  whether a link touches a record: found as its from; if not, by its to

@@ -4,7 +4,7 @@
 --   length-decimal  a number below 10 ^ k has at most k figures, and a number has at least one
 --   lines-append, lines-more, wrote-line
 --                   lines of joined lists, of one word more, and as they are written
---   length-pair-line, length-pair-line-small, length-step-line
+--   length-pair-line, length-step-line
 --                   a pair word of 32 bits takes at most 13 bytes, one below 1,024 × 1,024 at most 10, a step word at most 9
 --   length-counted, length-counted-most
 --                   a line of a name and a number: of 64 bits it takes at most 21 bytes more than the name
