@@ -4,7 +4,7 @@
 --   digit-or-pow       or with a power of two sets a digit
 --   bits-none          words of 0 have no bit
 --   both-word, minus-word
---                      the digits of `|`, `&` and `& !` of two words are the union, intersection and difference of their bits
+--                      the digits of `&` and `& !` of two words are the intersection and the difference of their bits
 --   four-in, four-out  four bits from a multiple of 4 on, as the code reads them from one word; past the end they are 0
 --   gap-join           two gaps, one after the other, are one
 --   gap-word           a word of 0 is a gap

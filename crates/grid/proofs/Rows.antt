@@ -12,7 +12,7 @@
 --                      a word more, and all of them: the row is merged in
 --   put-is             one word put in is a row merged in
 --   merged-none, merged-more, merged-to
---                      merging nothing, one row after another, beside a row that lies apart, as an equal row
+--                      merging nothing, one row after another, as an equal row
 --   one-mask           `1 << c` in a mask is a power of two
 -- Assumes nothing.
 use mathlib.Core.Path.{_≡_, refl, sym, ap, ap₂, _∙_}

@@ -11,8 +11,7 @@
 --   Small cs            every arc rises by at most 20,000
 --   passes-ranged       how large distances grow, pass by pass
 --   Reached             what is known has been reached
---   passes-reached
---                       known records are reached; where all arcs hold, an arc that leaves a known record ends at one
+--   passes-reached      known records are reached
 --   settled-is          passes over ties are passes over their arcs
 -- Assumes nothing.
 use mathlib.Core.Path.{_≡_, refl, sym, ap, _∙_, subst}

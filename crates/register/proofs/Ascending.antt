@@ -1,7 +1,6 @@
 -- Laws of ascending lists: the place of a number, one put in and one taken out.
 --   below x l      how many of the first numbers of l are below x
---   rises-absent
---                  no more than all; a number below the first is absent
+--   rises-absent   a number below the first is absent
 --   seam-list, seam-has, stands-below
 --                  among ascending numbers there is one place for x, and x is there exactly if it stands at it
 --   seam-insert, length-insert, insert-in, insert-keeps, in-insert, rises-insert

@@ -2,7 +2,7 @@
 --   part-pairs, label-part
 --                  the part of an ascending list between two numbers: the links of a label
 --   next-here, next-on, next-end
---                  the next place whose word passes a test: here, further on, none; and by the links of the words
+--                  the next place whose word passes a test: here, further on, none
 --   touched-from, touched-second
 --                  whether a link touches a record: found as its from; if not, by its to
 -- Assumes nothing.

@@ -1,13 +1,13 @@
 -- The history theorem: whatever calls are made, refused ones included, the answers and the lists given are the book's, and the register at the end represents
 -- the book at the end. And laws of a history as words.
 --   number-answer, answer-done
---                     an answer and its number; no call refuses with the number 0, whatever the register contains
+--                     an answer and its number
 --   answered, kept, given-lent
 --                     of calls made one after the other: the numbers told, the register at the end and the lists lent are the book's
 --   history           so of a history of any length from a fresh register
 --   Members e b       what the register e and the book b have in common, as sets: the links, each once, the totals, and the locks
 --   members, history-members
---                     so of a register that represents the book, at the end of a history, and after `replay`
+--                     so of a register that represents the book, at the end of a history
 --   represents-sound  a book that a register represents is sound
 --   after-append, after-entry
 --                     the book after two lists of calls, and after an entry and more calls

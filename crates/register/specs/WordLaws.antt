@@ -5,8 +5,7 @@
 --   keeps-same     words are those of one register
 --   part-long      how long a part of words is
 --   loaded         words of the form, with their parts read out, keep the register of these parts
---   keeps-formed
---                  words are a register's exactly if they have the form
+--   keeps-formed   words that are a register's have the form
 --   load-done      the number 0 says that they were loaded
 -- Assumes nothing.
 use mathlib.Core.Path.{_≡_, refl, sym, ap, _∙_}

@@ -5,7 +5,7 @@
 --   lines-append, lines-more, wrote-line
 --                   lines of joined lists, of one word more, and as they are written
 --   length-pair-line, length-step-line
---                   a pair word of 32 bits takes at most 13 bytes, one below 1,024 × 1,024 at most 10, a step word at most 9
+--                   a pair word of 32 bits takes at most 13 bytes, a step word at most 9
 --   length-counted, length-counted-most
 --                   a line of a name and a number: of 64 bits it takes at most 21 bytes more than the name
 --   pair-line       a pair's line is the figures of from, and then a line of a space and to

@@ -1,7 +1,7 @@
 -- Laws of rows, of the operations on sets, and of the pairs of link words.
 --   flat-at        a row's bits are the set's cells
 --   flat-none, none-set, union-none, union-right, transpose-none, none-tree
---                  the set with no pair, under each operation, and that of each record with itself
+--                  the set with no pair, under each operation
 --   union-join, union-swap, transpose-union, transpose-twice
 --                  the algebra of unions and transposes
 --   flat-intersection, flat-difference
