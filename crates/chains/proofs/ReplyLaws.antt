@@ -144,6 +144,11 @@ refused-as : {k : ℕ} → Caused k → (j : ℕ) → Refused k ≡ Refused j �
 refused-as {k} c j e = let z : k ≡ j = cc in subst Caused z c
 
 module _ {self : Register} {x y : ℕ} {text : List ℕ} {work : ℕ} {list : List ℕ} where
+  -- what was found, by another equation
+  pub replies-as : {list′ : List ℕ} {r r′ : Found} → r ≡ r′ → Replies self x y text work list list′ (foundAnswer r)
+      → Replies self x y text work list list′ (foundAnswer r′)
+  replies-as {list′} e a = subst (λ (q : Found). Replies self x y text work list list′ (foundAnswer q)) e a
+
   -- a refusal
   pub refuses : (k : ℕ) → Caused k → ((b : Book) → Represents self b → (t : Reply) → ReplyTo (asked b) (verdict text) x y t → chainAnswer b x y (verdict text) t work (length list) ≡ refused k) → Replies self x y text work list list (Refused k)
   unfolding outcomeOf stepsLength listAfter

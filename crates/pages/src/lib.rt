@@ -69,17 +69,26 @@ fn put_blanks(count: usize, out: &mut [u8], at: usize) -> usize
     at + i
 }
 
+// How many figures a number has.
+fn figures(k: u64) -> usize
+    ensures { λ r. ⌜ r ≡ length (decimal k) ⌝ }
+{
+    let mut rest = k;
+    let mut count = 1;
+    while 10 <= rest {
+        rest = rest / 10;
+        count += 1;
+    }
+    count
+}
+
 // A number's figures, right-aligned.
 fn put_right(width: usize, k: u64, out: &mut [u8], at: usize) -> usize
     requires { ⌜ (length (decimal k) ≤ width) × (at + width ≤ length (now out)) ⌝ }
     ensures { λ r. ⌜ Wrote at (rightAligned width k) (now (out .entry)) (now (out .exit)) r ⌝ }
 {
-    if k < 10 {
-        let next = put_blanks(width - 1, out, at);
-        return report::put_byte(48 + k as u8, out, next);
-    }
-    let next = put_right(width - 1, k / 10, out, at);
-    report::put_byte(48 + (k % 10) as u8, out, next)
+    let next = put_blanks(width - figures(k), out, at);
+    report::put_decimal(k, out, next)
 }
 
 // A record's number and a blank.

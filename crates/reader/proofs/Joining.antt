@@ -1,17 +1,18 @@
 -- The laws of the loop over alternatives and of that over parts, as one: what was read first, an operator's byte, and what was read next.
---   starts, ends      what is read before the loop is what is read so far; where no operator's byte comes next, it is all
 --   joins, joins-no-first, joins-no-next
---                     the two as one expression; or one of them is missing
---   has-room          what joining asks is met
---   Turn              a turn of the loop
---   ahead, asks-next  where the next reader starts
---   room              there is room for the operator's number
---   falls             the bytes left fall
---   again             what is read so far after it
+--                       the two as one expression; or one of them is missing
+--   has-room            what joining asks is met
+--   Looped              the loops' invariant
+--   looped, looped-all  it holds of what is read before the loop; where no operator's byte comes next, what is read so far is all
+--   Turn                a turn of the loop
+--   ahead, asks-next    where the next reader starts
+--   room                there is room for the operator's number
+--   falls               the bytes left fall
+--   again               the invariant holds after it
 -- Assumes nothing.
 use mathlib.Core.Path.{_≡_, refl, sym, ap, _∙_, subst}
 use mathlib.Core.List.{List, [], _∷_, _++_}
-use mathlib.Core.Bool.{true, false}
+use mathlib.Core.Bool.{Bool, true, false}
 use Prim.Native.Nat.{ℕ, _+_, _≤_, _<_, max}
 use native.Mathlib.Omega.{arith}
 use lib.Dec.{eqb}
@@ -26,7 +27,7 @@ use Rattle.reader.specs.CodeLaws.{letters-code}
 use Rattle.reader.specs.declared.Spot.{Spot}
 use Rattle.reader.specs.declared.Parsed.{Parsed}
 use Rattle.reader.specs.declared.Parsed.the-variants.{Got, Fault}
-use Rattle.reader.specs.Progress.{Found, Done, none, some, Infix, of-alternatives, of-parts, byteOf, numberOf, joinOf, readOf, wholeOf, moreOf, comesNext, spotOf, bytesLeft, Asks, RoomToJoin, Joins}
+use Rattle.reader.specs.Progress.{Found, Done, none, some, Infix, of-alternatives, of-parts, byteOf, numberOf, joinOf, readOf, wholeOf, moreOf, comesNext, spotOf, bytesLeft, Asks, RoomToJoin, Joins, Since}
 use Rattle.reader.proofs.Steps.{rest-drop, there, sets-append, code-some, on, missed}
 
 -- each operator
@@ -57,11 +58,11 @@ made of-alternatives e f = record { letters-add = refl; depth-max = refl; code-b
 made of-parts e f = record { letters-add = refl; depth-max = refl; code-both = refl }
 
 module _ (o : Infix) {s : List ℕ} {at n : ℕ} {b a : List ℕ} where
-  pub starts : {r : Parsed} → Done got s at n b a (readOf o (drop at s)) r → Done (moreOf o) s at n b a (wholeOf o (drop at s)) r
+  starts : {r : Parsed} → Done got s at n b a (readOf o (drop at s)) r → Done (moreOf o) s at n b a (wholeOf o (drop at s)) r
   starts (none h) = none (whole-is o (drop at s) ∙ ap (on (moreOf o)) h)
   starts (some e h f) = some e (whole-is o (drop at s) ∙ ap (on (moreOf o)) h) f
 
-  pub ends : {x : Parse} {r : Parsed} → Done (moreOf o) s at n b a x r → comesNext s r (byteOf o) ≡ false → Done got s at n b a x r
+  ends : {x : Parse} {r : Parsed} → Done (moreOf o) s at n b a x r → comesNext s r (byteOf o) ≡ false → Done got s at n b a x r
   ends (none h) v = none h
   ends (some {q} e h f) v = some e (h ∙ more-end o e (drop (q .at) s) v) f
 
@@ -139,31 +140,55 @@ fewer-left o (none h) v k = absurd (let z : _≡_ {A = ℕ} 0 1 = cc in omega ar
 fewer-left o (some e h f) v (none i) = omega arith
 fewer-left o (some e h f) v (some e′ i f′) = omega (arith, f′ .short, f′ .inside)
 
--- a turn of the loop: `first` is read so far, an operator's byte comes next, and q is where `first` ends
-pub record Turn (o : Infix) (s : List ℕ) (at n : ℕ) (before code : List ℕ) (first : Parsed) (q : Spot) : Type 0 where
-  pub so-far : Done (moreOf o) s at n before code (wholeOf o (drop at s)) first
+-- the loop: `first` is what it has read, told from `first₀`, which was read before it, and the code is as long as it was
+pub record Looped (o : Infix) (s : List ℕ) (at n : ℕ) (first₀ : Parsed) (code₀ : List ℕ) (first : Parsed) (code : List ℕ) : Type 0 where
+  pub since : Since o s at n first₀ code₀ first code
+  pub told : (before : List ℕ) × Done got s at n before code₀ (readOf o (drop at s)) first₀
+  pub asks : Asks s at n code₀
+  pub as-long : length code ≡ length code₀
+
+module _ (o : Infix) {s : List ℕ} {at n : ℕ} {before code₀ : List ℕ} {first₀ : Parsed} (d : Done got s at n before code₀ (readOf o (drop at s)) first₀) where
+  pub looped : Asks s at n code₀ → Looped o s at n first₀ code₀ first₀ code₀
+  looped h = record { since = λ _ k. starts o k; told = (before, d); asks = h; as-long = refl }
+
+  pub looped-all : {first : Parsed} {code : List ℕ} {b : Bool} → Looped o s at n first₀ code₀ first code → b ≡ comesNext s first (byteOf o) → b ≡ false
+      → Done got s at n before code (wholeOf o (drop at s)) first
+  looped-all l e h = ends o (l .since before d) (sym e ∙ h)
+
+-- a turn of the loop: an operator's byte comes next, and q is where `first` ends
+pub record Turn (o : Infix) (s : List ℕ) (at n : ℕ) (first₀ : Parsed) (code₀ : List ℕ) (first : Parsed) (code : List ℕ) (q : Spot) : Type 0 where
+  pub inv : Looped o s at n first₀ code₀ first code
   pub comes : comesNext s first (byteOf o) ≡ true
   pub spot : q ≡ spotOf first
-  pub asks : Asks s at n code
 
-module _ {o : Infix} {s : List ℕ} {at n : ℕ} {before code : List ℕ} {first : Parsed} {q : Spot} (turn : Turn o s at n before code first q) where
+module _ {o : Infix} {s : List ℕ} {at n : ℕ} {first₀ : Parsed} {code₀ : List ℕ} {first : Parsed} {code : List ℕ} {q : Spot}
+    (turn : Turn o s at n first₀ code₀ first code q) where
+  so-far : Done (moreOf o) s at n (turn .inv .told .0) code (wholeOf o (drop at s)) first
+  so-far = turn .inv .since _ (turn .inv .told .1)
+
   pub ahead : Onward s at q
-  ahead = rw (turn .spot) (onward o (turn .so-far) (turn .comes) (turn .asks .behind))
+  ahead = rw (turn .spot) (onward o so-far (turn .comes) (turn .inv .asks .behind))
 
   pub asks-next : Asks s (q .at + 1) (q .end) code
-  asks-next = let h = ahead in record { inside = omega arith; behind = omega arith; space = turn .asks .space }
+  asks-next = let h = ahead in record { inside = omega arith; behind = omega arith; space = omega (arith, turn .inv .asks .space, turn .inv .as-long) }
 
   -- what is read next
-  module _ {code′ : List ℕ} {next : Parsed} (d : Done got s (q .at + 1) (q .end) code code′ (readOf o (drop (q .at + 1) s)) next) where
+  module _ {code′ : List ℕ} {next : Parsed} (d : Done got s (q .at + 1) (q .end) code code′ (readOf o (drop (q .at + 1) s)) next)
+      (as-long : length code′ ≡ length code) where
     from-first : Done got s (spotOf first .at + 1) (spotOf first .end) code code′ (readOf o (drop (spotOf first .at + 1) s)) next
     from-first = subst (λ (p : Spot). Done got s (p .at + 1) (p .end) code code′ (readOf o (drop (p .at + 1) s)) next) (turn .spot) d
 
-    pub room : (space : ℕ) → length s ≤ space → RoomToJoin space first next
-    room space h = room-to-join o (turn .so-far) from-first (turn .asks .behind) h
+    pub room : RoomToJoin (length code′) first next
+    room = room-to-join o so-far from-first (turn .inv .asks .behind) (omega (arith, turn .inv .asks .space, turn .inv .as-long, as-long))
 
     module _ {x : ℕ} {code″ : List ℕ} {r : Parsed} (j : Joins x first next code′ code″ r) where
       pub falls : bytesLeft s r < bytesLeft s first
-      falls = omega (arith, fewer-left o (turn .so-far) (turn .comes) from-first, j .left s)
+      falls = omega (arith, fewer-left o so-far (turn .comes) from-first, j .left s)
 
-      pub again : x ≡ numberOf o → Done (moreOf o) s at n before code″ (wholeOf o (drop at s)) r
-      again h = j .joins o s at n before code _ h (turn .comes) (turn .so-far) from-first
+      pub again : x ≡ numberOf o → length code″ ≡ length code′ → Looped o s at n first₀ code₀ r code″
+      again h e = record {
+        since = λ before k. j .joins o s at n before code _ h (turn .comes) (turn .inv .since before k) from-first;
+        told = turn .inv .told;
+        asks = turn .inv .asks;
+        as-long = e ∙ as-long ∙ turn .inv .as-long;
+      }

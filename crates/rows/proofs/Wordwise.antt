@@ -1,22 +1,39 @@
--- Laws of loops that write words in place, in turn: the words from i on are still those of the start. Assumes nothing.
+-- Laws of loops that write words in place, in turn: the words from i on are still those of the start (Written); and of one that stores a row's
+-- words (Stored). Assumes nothing.
 use mathlib.Core.Path.{_≡_, refl, sym, ap, _∙_, fun-ext}
 use mathlib.Core.List.{List}
 use Prim.Native.Nat.{ℕ, _+_, _*_, _/_, _%_, _≤_, _<_}
 use native.Mathlib.Decide.{ℕ-discrete}
 use native.Mathlib.Omega.{arith}
-use lib.ListN.{length, getD, set}
+use lib.ListN.{length, getD, set, length-set}
 use lib.Seq.{getD-set-same, getD-set-other}
 use borrow.Author.Tests.{eq-eqb, ne-eqb}
 use Rattle.k2.specs.Bits.{digit, bitAt}
-use Rattle.k2.specs.BitLaws.{bit-out}
+use Rattle.k2.specs.BitLaws.{bit-out, Upto, upto-none, upto-more, upto-all}
 use Rattle.bits.specs.BitSets.{both, minus}
 use Rattle.rows.specs.Steps.{withRow}
 
-abbrev pub Rest : ℕ → List ℕ → List ℕ → Type 0
-Rest i a a₀ = (j : ℕ) → i ≤ j → getD a j 0 ≡ getD a₀ j 0
+-- ---- words written in place, in turn: those before i hold the bits f, those from i on are as at the start
+pub record Written (f : ℕ → ℕ) (i : ℕ) (a a₀ : List ℕ) : Type 0 where
+  pub kept : length a ≡ length a₀
+  pub front : Upto i (bitAt a) f
+  pub rest : (j : ℕ) → i ≤ j → getD a j 0 ≡ getD a₀ j 0
 
-pub rest-more : (i v : ℕ) (a a₀ : List ℕ) → Rest i a a₀ → Rest (i + 1) (set a i v) a₀
-rest-more i v a a₀ r j h = getD-set-other a i j v 0 (λ e. omega arith) ∙ r j (omega arith)
+module _ {f : ℕ → ℕ} {a₀ : List ℕ} where
+  pub written-none : Written f 0 a₀ a₀
+  written-none = record { kept = refl; front = upto-none _ _; rest = λ j h. refl }
+
+  -- one word more, made of the one that stands there
+  pub written-more : {i : ℕ} {a : List ℕ} (v : ℕ → ℕ) → i < length a → Written f i a a₀ → ((k : ℕ) → k < 64 → digit (v (getD a₀ i 0)) k ≡ f (i * 64 + k))
+      → Written f (i + 1) (set a i (v (getD a i 0))) a₀
+  written-more {i} {a} v h w d = record {
+    kept = simp length-set (w .kept);
+    front = upto-more a i _ f h (w .front) (λ k l. rw (w .rest i (omega arith)) (d k l));
+    rest = λ j l. getD-set-other a i j _ 0 (λ e. omega arith) ∙ w .rest j (omega arith);
+  }
+
+  pub written-all : {i : ℕ} {a : List ℕ} → length a ≤ i → Written f i a a₀ → ((p : ℕ) → length a₀ ≤ p / 64 → f p ≡ 0) → bitAt a ≡ f
+  written-all {i} {a} h w z = upto-all a i f h (w .front) (λ p l. z p (omega (arith, w .kept)))
 
 -- past the end
 module _ (a b : List ℕ) (p : ℕ) (ha : length a ≤ p / 64) where
