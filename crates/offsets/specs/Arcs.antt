@@ -20,10 +20,12 @@ use lib.ListN.{length, set, length-set}
 use lib.Seq.{getD-set-same, getD-set-other}
 use lib.Signed.{ltZ, leZ, _≤ℤ_, _<ℤ_, ≤ℤ-refl, clashℤ}
 use borrow.Author.Tests.{ltb-true, ltb-false, eqb-true, eqb-false}
+use Rattle.book.specs.Basics.{In, here, there}
+use Rattle.book.specs.ListLaws.{in-none}
 use Rattle.offsets.specs.declared.Tie.{Tie}
 use Rattle.offsets.specs.Linear.{of-le, of-lt, of-ltb, of-not-ltb, to-le, to-lt, of-add, of-sub, of-neg-up, of-neg-down, least-as-sum, most-as-sum, ≤ℤ-trans}
 use Rattle.offsets.specs.Relax.{State, pick, known, dist, lower, third, relaxed, relaxTie, relaxAll}
-use Rattle.offsets.specs.Offsets.{In, Placing, Meets, Places}
+use Rattle.offsets.specs.Offsets.{Placing, Meets, Places}
 
 pub record Arc : Type 0 where
   pub from : ℕ
@@ -67,29 +69,23 @@ run [] s = s
 run (a ∷ cs) s = run cs (arc a s)
 
 -- ---- the arcs of ties
-pub arcs-in : (ts : List Tie) (a : Arc) → In a (arcs ts) → (t : Tie) × (In t ts × ((a ≡ up-arc t) ⊎ (a ≡ down-arc t)))
-arcs-in [] a h = absurd h
-arcs-in (t ∷ ts) a (inl e) = (t, (inl refl, inl e))
-arcs-in (t ∷ ts) a (inr (inl e)) = (t, (inl refl, inr e))
-arcs-in (t ∷ ts) a (inr (inr h)) = let r = arcs-in ts a h in (r .0, (inr (r .1 .0), r .1 .1))
+-- a property of all members, from the first one's and the others'
+each : {A : Type 0} (P : A → Type 0) {x : A} {l : List A} → P x → ((a : A) → In a l → P a) → (a : A) → In a (x ∷ l) → P a
+each P h f a here = h
+each P h f a (there i) = f a i
 
 pub in-up : (ts : List Tie) (t : Tie) → In t ts → In (up-arc t) (arcs ts)
-in-up [] t h = absurd h
-in-up (u ∷ ts) t (inl e) = inl (ap up-arc e)
-in-up (u ∷ ts) t (inr h) = inr (inr (in-up ts t h))
+in-up (u ∷ ts) t here = here
+in-up (u ∷ ts) t (there h) = there (there (in-up ts t h))
 
 pub in-down : (ts : List Tie) (t : Tie) → In t ts → In (down-arc t) (arcs ts)
-in-down [] t h = absurd h
-in-down (u ∷ ts) t (inl e) = inr (inl (ap down-arc e))
-in-down (u ∷ ts) t (inr h) = inr (inr (in-down ts t h))
+in-down (u ∷ ts) t here = there here
+in-down (u ∷ ts) t (there h) = there (there (in-down ts t h))
 
 -- a property of the arcs of ties, from one for each tie
 pub of-ties : (P : Arc → Type 0) (ts : List Tie) → ((t : Tie) → In t ts → P (up-arc t) × P (down-arc t)) → (a : Arc) → In a (arcs ts) → P a
-of-ties P ts f a h = go (arcs-in ts a h)
-  where
-    go : (t : Tie) × (In t ts × ((a ≡ up-arc t) ⊎ (a ≡ down-arc t))) → P a
-    go (t, (i, inl e)) = subst P (sym e) (f t i .0)
-    go (t, (i, inr e)) = subst P (sym e) (f t i .1)
+of-ties P [] f = λ a h. absurd (in-none h refl)
+of-ties P (t ∷ ts) f = each P (f t here .0) (each P (f t here .1) (of-ties P ts (λ u i. f u (there i))))
 
 pub keeps-places : (p : Placing) (ts : List Tie) → Places p ts → Keeps p (arcs ts)
 keeps-places p ts h = of-ties (λ a. p (a .to) ≤ℤ (p (a .from) +ℤ a .rise)) ts
@@ -162,14 +158,14 @@ arc-quiet a s = lower-ind a s (λ r. r .1 ≡ false → (r ≡ s) × Holds a (s 
 
 -- a pass that lowered nothing left all as it was, and all arcs hold
 pub quiet : (cs : List Arc) (s : State) → run cs s .1 ≡ false → (run cs s ≡ s) × ((a : Arc) → In a cs → Holds a (s .0))
-quiet [] s e = (refl, λ a h. absurd h)
+quiet [] s e = (refl, λ a h. absurd (in-none h refl))
 quiet (a ∷ cs) s e = by-test (arc a s .1)
     (λ t. absurd (true≢false (sym (flag-stays cs (arc a s) t) ∙ e)))
     (λ f. let q = arc-quiet a s f in let r = quiet cs (arc a s) e in (r .0 ∙ q .0, both q r))
   where
     both : (arc a s ≡ s) × Holds a (s .0) → (run cs (arc a s) ≡ arc a s) × ((b : Arc) → In b cs → Holds b (arc a s .0)) → (b : Arc) → In b (a ∷ cs) → Holds b (s .0)
-    both q r b (inl i) = subst (λ (c : Arc). Holds c (s .0)) (sym i) (q .1)
-    both q r b (inr i) = subst (λ (x : State). Holds b (x .0)) (q .0) (r .1 b i)
+    both q r b here = q .1
+    both q r b (there i) = subst (λ (x : State). Holds b (x .0)) (q .0) (r .1 b i)
 
 arc-stays : (a : Arc) (s : State) → Holds a (s .0) → arc a s ≡ s
 arc-stays a s h = lower-ind a s (λ r. r ≡ s) (λ _. refl) (λ f t k l. absurd (clashℤ l (h f t k)))
@@ -178,8 +174,8 @@ arc-stays a s h = lower-ind a s (λ r. r ≡ s) (λ _. refl) (λ f t k l. absurd
 pub stays : (cs : List Arc) (s : State) → ((a : Arc) → In a cs → Holds a (s .0)) → run cs s ≡ s
 stays [] s h = refl
 stays (a ∷ cs) s h =
-    let e = arc-stays a s (h a (inl refl)) in
-    stays cs (arc a s) (λ b i. subst (λ (x : State). Holds b (x .0)) (sym e) (h b (inr i))) ∙ e
+    let e = arc-stays a s (h a here) in
+    stays cs (arc a s) (λ b i. subst (λ (x : State). Holds b (x .0)) (sym e) (h b (there i))) ∙ e
 
 -- ---- a pass over ties is a pass over their arcs in three thirds
 tie-is : (n : ℕ) (t : Tie) (s : State) → relaxTie n t s ≡ run (arcs3 n (t ∷ [])) s
@@ -193,32 +189,26 @@ run-is n (t ∷ ts) s = run-is n ts (relaxTie n t s) ∙ ap (run (arcs3 n ts)) (
 -- a property of all of them, from one of the arcs of ties and of turned ties
 pub of-thirds : (n : ℕ) (P : Arc → Type 0) (ts : List Tie) → ((b : Arc) → In b (arcs ts) → P (at 0 b)) → ((b : Arc) → In b (arcs ts) → P (at n b)) → ((b : Arc) → In b (arcs (turned ts)) → P (at (n * 2) b))
     → (a : Arc) → In a (arcs3 n ts) → P a
-of-thirds n P [] f g h a i = absurd i
-of-thirds n P (t ∷ ts) f g h a (inl e) = subst P (sym e) (f (up-arc t) (inl refl))
-of-thirds n P (t ∷ ts) f g h a (inr (inl e)) = subst P (sym e) (f (down-arc t) (inr (inl refl)))
-of-thirds n P (t ∷ ts) f g h a (inr (inr (inl e))) = subst P (sym e) (g (up-arc t) (inl refl))
-of-thirds n P (t ∷ ts) f g h a (inr (inr (inr (inl e)))) = subst P (sym e) (g (down-arc t) (inr (inl refl)))
-of-thirds n P (t ∷ ts) f g h a (inr (inr (inr (inr (inl e))))) = subst P (sym e) (h (up-arc (turn t)) (inl refl))
-of-thirds n P (t ∷ ts) f g h a (inr (inr (inr (inr (inr (inl e)))))) = subst P (sym e) (h (down-arc (turn t)) (inr (inl refl)))
-of-thirds n P (t ∷ ts) f g h a (inr (inr (inr (inr (inr (inr i)))))) = of-thirds n P ts (λ b j. f b (inr (inr j))) (λ b j. g b (inr (inr j))) (λ b j. h b (inr (inr j))) a i
+of-thirds n P [] f g h = λ a i. absurd (in-none i refl)
+of-thirds n P (t ∷ ts) f g h = each P (f (up-arc t) here) (each P (f (down-arc t) (there here)) (each P (g (up-arc t) here) (each P (g (down-arc t) (there here))
+    (each P (h (up-arc (turn t)) here) (each P (h (down-arc (turn t)) (there here))
+    (of-thirds n P ts (λ b j. f b (there (there j))) (λ b j. g b (there (there j))) (λ b j. h b (there (there j)))))))))
 
 pub in-third0 : (n : ℕ) (ts : List Tie) (b : Arc) → In b (arcs ts) → In (at 0 b) (arcs3 n ts)
-in-third0 n [] b h = absurd h
-in-third0 n (t ∷ ts) b (inl e) = inl (ap (at 0) e)
-in-third0 n (t ∷ ts) b (inr (inl e)) = inr (inl (ap (at 0) e))
-in-third0 n (t ∷ ts) b (inr (inr h)) = inr (inr (inr (inr (inr (inr (in-third0 n ts b h))))))
+in-third0 n [] = λ b h. absurd (in-none h refl)
+in-third0 n (t ∷ ts) = each (λ b. In (at 0 b) (arcs3 n (t ∷ ts))) here (each (λ b. In (at 0 b) (arcs3 n (t ∷ ts))) (there here)
+    (λ b h. there (there (there (there (there (there (in-third0 n ts b h))))))))
 
 pub in-third1 : (n : ℕ) (ts : List Tie) (b : Arc) → In b (arcs ts) → In (at n b) (arcs3 n ts)
-in-third1 n [] b h = absurd h
-in-third1 n (t ∷ ts) b (inl e) = inr (inr (inl (ap (at n) e)))
-in-third1 n (t ∷ ts) b (inr (inl e)) = inr (inr (inr (inl (ap (at n) e))))
-in-third1 n (t ∷ ts) b (inr (inr h)) = inr (inr (inr (inr (inr (inr (in-third1 n ts b h))))))
+in-third1 n [] = λ b h. absurd (in-none h refl)
+in-third1 n (t ∷ ts) = each (λ b. In (at n b) (arcs3 n (t ∷ ts))) (there (there here)) (each (λ b. In (at n b) (arcs3 n (t ∷ ts))) (there (there (there here)))
+    (λ b h. there (there (there (there (there (there (in-third1 n ts b h))))))))
 
 pub in-third2 : (n : ℕ) (ts : List Tie) (b : Arc) → In b (arcs (turned ts)) → In (at (n * 2) b) (arcs3 n ts)
-in-third2 n [] b h = absurd h
-in-third2 n (t ∷ ts) b (inl e) = inr (inr (inr (inr (inl (ap (at (n * 2)) e)))))
-in-third2 n (t ∷ ts) b (inr (inl e)) = inr (inr (inr (inr (inr (inl (ap (at (n * 2)) e))))))
-in-third2 n (t ∷ ts) b (inr (inr h)) = inr (inr (inr (inr (inr (inr (in-third2 n ts b h))))))
+in-third2 n [] = λ b h. absurd (in-none h refl)
+in-third2 n (t ∷ ts) = each (λ b. In (at (n * 2) b) (arcs3 n (t ∷ ts))) (there (there (there (there here))))
+    (each (λ b. In (at (n * 2) b) (arcs3 n (t ∷ ts))) (there (there (there (there (there here)))))
+    (λ b h. there (there (there (there (there (there (in-third2 n ts b h))))))))
 
 pub arcs3-length : (n : ℕ) (ts : List Tie) → length (arcs3 n ts) ≡ length ts * 6
 arcs3-length n [] = refl

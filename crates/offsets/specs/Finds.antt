@@ -22,7 +22,7 @@ use lib.Signed.{mag, _≤ℤ_}
 use Rattle.offsets.specs.declared.Tie.{Tie}
 use Rattle.offsets.specs.Linear.{of-le, to-le, to-eq, of-sub, of-pos, of-neg-up, of-neg-down}
 use Rattle.offsets.specs.Relax.{State, known, dist, settled}
-use Rattle.offsets.specs.Offsets.{In, Placing, Places, Joined, self, Narrowest, Limit, itself, joined, free, Answer, cannot, limits, OffsetsAre, none, some}
+use Rattle.offsets.specs.Offsets.{Placing, Places, Joined, self, Narrowest, Limit, itself, joined, free, Answer, cannot, limits, OffsetsAre, none, some}
 use Rattle.offsets.specs.Arcs.{arcs3, turned}
 use Rattle.offsets.specs.Passes.{settled-is}
 use Rattle.offsets.specs.Settles.{passes}

@@ -12,7 +12,7 @@ use lib.Seq.{ext-getD}
 use lib.Signed.{_≤ℤ_}
 use Rattle.offsets.specs.declared.Tie.{Tie}
 use Rattle.offsets.specs.Linear.{of-le, to-le, to-eq, of-sub, of-pos, ≤ℤ-antisym}
-use Rattle.offsets.specs.Offsets.{In, Placing, Places, Joined, self, Narrowest, Limit, itself, joined, free, Answer, cannot, limits, OffsetsAre, none, some}
+use Rattle.offsets.specs.Offsets.{Placing, Places, Joined, self, Narrowest, Limit, itself, joined, free, Answer, cannot, limits, OffsetsAre, none, some}
 
 pub narrowest-only : (ts : List Tie) (base x : ℕ) (lo hi lo′ hi′ : ℤ) → Narrowest ts base x lo hi → Narrowest ts base x lo′ hi′ → (lo ≡ lo′) × (hi ≡ hi′)
 narrowest-only ts base x lo hi lo′ hi′ a b = (≤ℤ-antisym (low-under lo lo′ hi a (b .low)) (low-under lo′ lo hi′ b (a .low)), ≤ℤ-antisym (high-over lo′ hi hi′ b (a .high)) (high-over lo hi′ hi a (b .high)))

@@ -20,11 +20,12 @@ use lib.IntN.{ℤ, pos, negsuc, negℤ, _+ℤ_, _-ℤ_}
 use lib.ListN.{length}
 use lib.Signed.{_≤ℤ_, _<ℤ_, ≤ℤ-refl, clashℤ}
 use borrow.Author.Tests.{ltb-true, ltb-false, lt-ltb, le-ltb, eqb-true, eqb-false}
+use Rattle.book.specs.Basics.{In}
 use Rattle.offsets.specs.declared.Tie.{Tie}
 use Rattle.offsets.specs.Linear.{up, down, of-le, to-le, to-eq, of-add, of-sub, of-pos, of-neg-up, of-neg-down, ≤ℤ-trans}
 use Rattle.offsets.specs.Relax.{State, known, dist, settled}
 use Rattle.offsets.specs.Sound.{Under, under-lower}
-use Rattle.offsets.specs.Offsets.{In, Placing, Meets, Places, Joined, self}
+use Rattle.offsets.specs.Offsets.{Placing, Meets, Places, Joined, self}
 use Rattle.offsets.specs.Arcs.{Arc, up-arc, down-arc, arcs, arcs3, at, turned, of-thirds, in-third0, in-third1, in-third2, arcs3-length, in-up, in-down, Keeps, keeps-places, meets, Holds, by-test}
 use Rattle.offsets.specs.Settles.{Open, Left, passes, settles, span, span-length, span-in, span-all}
 use Rattle.offsets.specs.Passes.{passes-keep, passes-length, passes-hold, passes-down, Near, near-known, far, known-not-far, Ranged, Small, passes-ranged, Reached, passes-reached}
