@@ -7,7 +7,7 @@
 --   arcs3 n ts        the arcs of ties in a list of three thirds of n each
 --   Keeps p cs        a placing keeps all arcs of a list
 --   arc, run cs s     what an arc does to distances; a pass over arcs
---   arcs-in, in-up, in-down, of-ties
+--   in-up, in-down, of-ties
 --                     the arcs of ties are the two of each; a property of all, from one for each tie
 --   keeps-places, sums-meet
 --                     a placing that meets the ties keeps their arcs; a tie's two limits as sums, turned back to differences
@@ -24,7 +24,6 @@
 --                     a property of all of these, from one of ties and turned ties; the arcs of each third; how many
 -- Assumes nothing.
 use mathlib.Core.Path.{_≡_, refl, sym, ap, _∙_, subst}
-use mathlib.Core.Logic.{_⊎_, inl, inr}
 use mathlib.Core.List.{List, [], _∷_}
 use mathlib.Core.Bool.{Bool, true, false, true≢false}
 use Prim.Native.Nat.{ℕ, _+_, _*_, _<_, _≤_}
@@ -35,10 +34,12 @@ use lib.ListN.{length, set, length-set}
 use lib.Seq.{getD-set-same, getD-set-other}
 use lib.Signed.{ltZ, _≤ℤ_, _<ℤ_, ≤ℤ-refl, clashℤ}
 use borrow.Author.Tests.{ltb-true, ltb-false, eqb-true, eqb-false}
+use Rattle.book.specs.Basics.{In, here, there}
+use Rattle.book.specs.ListLaws.{in-none}
 use Rattle.offsets.specs.declared.Tie.{Tie}
 use Rattle.offsets.specs.Linear.{of-le, of-lt, of-ltb, of-not-ltb, to-le, to-lt, of-add, of-sub, of-neg-up, of-neg-down, least-as-sum, most-as-sum, ≤ℤ-trans}
 use Rattle.offsets.specs.Relax.{State, pick, known, dist, lower, third, relaxed, relaxTie, relaxAll}
-use Rattle.offsets.specs.Offsets.{In, Placing, Places}
+use Rattle.offsets.specs.Offsets.{Placing, Places}
 
 pub record Arc : Type 0 where
   pub from : ℕ
@@ -82,29 +83,23 @@ run [] s = s
 run (a ∷ cs) s = run cs (arc a s)
 
 -- ---- the arcs of ties
-pub arcs-in : (ts : List Tie) (a : Arc) → In a (arcs ts) → (t : Tie) × (In t ts × ((a ≡ up-arc t) ⊎ (a ≡ down-arc t)))
-arcs-in [] a h = absurd h
-arcs-in (t ∷ ts) a (inl e) = (t, (inl refl, inl e))
-arcs-in (t ∷ ts) a (inr (inl e)) = (t, (inl refl, inr e))
-arcs-in (t ∷ ts) a (inr (inr h)) = let r = arcs-in ts a h in (r .0, (inr (r .1 .0), r .1 .1))
+-- a property of all members, from the first one's and the others'
+each : {A : Type 0} (P : A → Type 0) {x : A} {l : List A} → P x → ((a : A) → In a l → P a) → (a : A) → In a (x ∷ l) → P a
+each P h f a here = h
+each P h f a (there i) = f a i
 
 pub in-up : (ts : List Tie) (t : Tie) → In t ts → In (up-arc t) (arcs ts)
-in-up [] t h = absurd h
-in-up (u ∷ ts) t (inl e) = inl (ap up-arc e)
-in-up (u ∷ ts) t (inr h) = inr (inr (in-up ts t h))
+in-up (u ∷ ts) t here = here
+in-up (u ∷ ts) t (there h) = there (there (in-up ts t h))
 
 pub in-down : (ts : List Tie) (t : Tie) → In t ts → In (down-arc t) (arcs ts)
-in-down [] t h = absurd h
-in-down (u ∷ ts) t (inl e) = inr (inl (ap down-arc e))
-in-down (u ∷ ts) t (inr h) = inr (inr (in-down ts t h))
+in-down (u ∷ ts) t here = there here
+in-down (u ∷ ts) t (there h) = there (there (in-down ts t h))
 
 -- a property of the arcs of ties, from one for each tie
 pub of-ties : (P : Arc → Type 0) (ts : List Tie) → ((t : Tie) → In t ts → P (up-arc t) × P (down-arc t)) → (a : Arc) → In a (arcs ts) → P a
-of-ties P ts f a h = go (arcs-in ts a h)
-  where
-    go : (t : Tie) × (In t ts × ((a ≡ up-arc t) ⊎ (a ≡ down-arc t))) → P a
-    go (t, (i, inl e)) = subst P (sym e) (f t i .0)
-    go (t, (i, inr e)) = subst P (sym e) (f t i .1)
+of-ties P [] f = λ a h. absurd (in-none h refl)
+of-ties P (t ∷ ts) f = each P (f t here .0) (each P (f t here .1) (of-ties P ts (λ u i. f u (there i))))
 
 pub keeps-places : (p : Placing) (ts : List Tie) → Places p ts → Keeps p (arcs ts)
 keeps-places p ts h = of-ties (λ a. p (a .to) ≤ℤ (p (a .from) +ℤ a .rise)) ts
@@ -177,14 +172,14 @@ arc-quiet a s = lower-ind a s (λ r. r .1 ≡ false → (r ≡ s) × Holds a (s 
 
 -- a pass that lowered nothing left all as it was, and all arcs hold
 pub quiet-holds : (cs : List Arc) (s : State) → run cs s .1 ≡ false → (run cs s ≡ s) × ((a : Arc) → In a cs → Holds a (s .0))
-quiet-holds [] s e = (refl, λ a h. absurd h)
+quiet-holds [] s e = (refl, λ a h. absurd (in-none h refl))
 quiet-holds (a ∷ cs) s e = by-test (arc a s .1)
     (λ t. absurd (true≢false (sym (flag-stays cs (arc a s) t) ∙ e)))
     (λ f. let q = arc-quiet a s f in let r = quiet-holds cs (arc a s) e in (r .0 ∙ q .0, both q r))
   where
     both : (arc a s ≡ s) × Holds a (s .0) → (run cs (arc a s) ≡ arc a s) × ((b : Arc) → In b cs → Holds b (arc a s .0)) → (b : Arc) → In b (a ∷ cs) → Holds b (s .0)
-    both q r b (inl i) = subst (λ (c : Arc). Holds c (s .0)) (sym i) (q .1)
-    both q r b (inr i) = subst (λ (x : State). Holds b (x .0)) (q .0) (r .1 b i)
+    both q r b here = q .1
+    both q r b (there i) = subst (λ (x : State). Holds b (x .0)) (q .0) (r .1 b i)
 
 arc-stays : (a : Arc) (s : State) → Holds a (s .0) → arc a s ≡ s
 arc-stays a s h = lower-ind a s (λ r. r ≡ s) (λ _. refl) (λ f t k l. absurd (clashℤ l (h f t k)))
@@ -193,8 +188,8 @@ arc-stays a s h = lower-ind a s (λ r. r ≡ s) (λ _. refl) (λ f t k l. absurd
 pub holds-quiet : (cs : List Arc) (s : State) → ((a : Arc) → In a cs → Holds a (s .0)) → run cs s ≡ s
 holds-quiet [] s h = refl
 holds-quiet (a ∷ cs) s h =
-    let e = arc-stays a s (h a (inl refl)) in
-    holds-quiet cs (arc a s) (λ b i. subst (λ (x : State). Holds b (x .0)) (sym e) (h b (inr i))) ∙ e
+    let e = arc-stays a s (h a here) in
+    holds-quiet cs (arc a s) (λ b i. subst (λ (x : State). Holds b (x .0)) (sym e) (h b (there i))) ∙ e
 
 -- ---- a pass over ties is a pass over their arcs in three thirds
 tie-is : (n : ℕ) (t : Tie) (s : State) → relaxTie n t s ≡ run (arcs3 n (t ∷ [])) s
@@ -208,32 +203,26 @@ run-is n (t ∷ ts) s = run-is n ts (relaxTie n t s) ∙ ap (run (arcs3 n ts)) (
 -- a property of all of them, from one of the arcs of ties and of turned ties
 pub of-thirds : (n : ℕ) (P : Arc → Type 0) (ts : List Tie) → ((b : Arc) → In b (arcs ts) → P (at 0 b)) → ((b : Arc) → In b (arcs ts) → P (at n b)) → ((b : Arc) → In b (arcs (turned ts)) → P (at (n * 2) b))
     → (a : Arc) → In a (arcs3 n ts) → P a
-of-thirds n P [] f g h a i = absurd i
-of-thirds n P (t ∷ ts) f g h a (inl e) = subst P (sym e) (f (up-arc t) (inl refl))
-of-thirds n P (t ∷ ts) f g h a (inr (inl e)) = subst P (sym e) (f (down-arc t) (inr (inl refl)))
-of-thirds n P (t ∷ ts) f g h a (inr (inr (inl e))) = subst P (sym e) (g (up-arc t) (inl refl))
-of-thirds n P (t ∷ ts) f g h a (inr (inr (inr (inl e)))) = subst P (sym e) (g (down-arc t) (inr (inl refl)))
-of-thirds n P (t ∷ ts) f g h a (inr (inr (inr (inr (inl e))))) = subst P (sym e) (h (up-arc (turn t)) (inl refl))
-of-thirds n P (t ∷ ts) f g h a (inr (inr (inr (inr (inr (inl e)))))) = subst P (sym e) (h (down-arc (turn t)) (inr (inl refl)))
-of-thirds n P (t ∷ ts) f g h a (inr (inr (inr (inr (inr (inr i)))))) = of-thirds n P ts (λ b j. f b (inr (inr j))) (λ b j. g b (inr (inr j))) (λ b j. h b (inr (inr j))) a i
+of-thirds n P [] f g h = λ a i. absurd (in-none i refl)
+of-thirds n P (t ∷ ts) f g h = each P (f (up-arc t) here) (each P (f (down-arc t) (there here)) (each P (g (up-arc t) here) (each P (g (down-arc t) (there here))
+    (each P (h (up-arc (turn t)) here) (each P (h (down-arc (turn t)) (there here))
+    (of-thirds n P ts (λ b j. f b (there (there j))) (λ b j. g b (there (there j))) (λ b j. h b (there (there j)))))))))
 
 pub arc-in-first : (n : ℕ) (ts : List Tie) (b : Arc) → In b (arcs ts) → In (at 0 b) (arcs3 n ts)
-arc-in-first n [] b h = absurd h
-arc-in-first n (t ∷ ts) b (inl e) = inl (ap (at 0) e)
-arc-in-first n (t ∷ ts) b (inr (inl e)) = inr (inl (ap (at 0) e))
-arc-in-first n (t ∷ ts) b (inr (inr h)) = inr (inr (inr (inr (inr (inr (arc-in-first n ts b h))))))
+arc-in-first n [] = λ b h. absurd (in-none h refl)
+arc-in-first n (t ∷ ts) = each (λ b. In (at 0 b) (arcs3 n (t ∷ ts))) here (each (λ b. In (at 0 b) (arcs3 n (t ∷ ts))) (there here)
+    (λ b h. there (there (there (there (there (there (arc-in-first n ts b h))))))))
 
 pub arc-in-second : (n : ℕ) (ts : List Tie) (b : Arc) → In b (arcs ts) → In (at n b) (arcs3 n ts)
-arc-in-second n [] b h = absurd h
-arc-in-second n (t ∷ ts) b (inl e) = inr (inr (inl (ap (at n) e)))
-arc-in-second n (t ∷ ts) b (inr (inl e)) = inr (inr (inr (inl (ap (at n) e))))
-arc-in-second n (t ∷ ts) b (inr (inr h)) = inr (inr (inr (inr (inr (inr (arc-in-second n ts b h))))))
+arc-in-second n [] = λ b h. absurd (in-none h refl)
+arc-in-second n (t ∷ ts) = each (λ b. In (at n b) (arcs3 n (t ∷ ts))) (there (there here)) (each (λ b. In (at n b) (arcs3 n (t ∷ ts))) (there (there (there here)))
+    (λ b h. there (there (there (there (there (there (arc-in-second n ts b h))))))))
 
 pub arc-in-third : (n : ℕ) (ts : List Tie) (b : Arc) → In b (arcs (turned ts)) → In (at (n * 2) b) (arcs3 n ts)
-arc-in-third n [] b h = absurd h
-arc-in-third n (t ∷ ts) b (inl e) = inr (inr (inr (inr (inl (ap (at (n * 2)) e)))))
-arc-in-third n (t ∷ ts) b (inr (inl e)) = inr (inr (inr (inr (inr (inl (ap (at (n * 2)) e))))))
-arc-in-third n (t ∷ ts) b (inr (inr h)) = inr (inr (inr (inr (inr (inr (arc-in-third n ts b h))))))
+arc-in-third n [] = λ b h. absurd (in-none h refl)
+arc-in-third n (t ∷ ts) = each (λ b. In (at (n * 2) b) (arcs3 n (t ∷ ts))) (there (there (there (there here))))
+    (each (λ b. In (at (n * 2) b) (arcs3 n (t ∷ ts))) (there (there (there (there (there here)))))
+    (λ b h. there (there (there (there (there (there (arc-in-third n ts b h))))))))
 
 pub length-arcs3 : (n : ℕ) (ts : List Tie) → length (arcs3 n ts) ≡ length ts * 6
 length-arcs3 n [] = refl

@@ -6,7 +6,7 @@
 --   words-near, words-fit
 --                  so for the two words of a record
 -- Assumes nothing.
-use mathlib.Core.Path.{_≡_, refl, sym, ap, _∙_, subst}
+use mathlib.Core.Path.{_≡_, refl, sym, subst}
 use mathlib.Core.Logic.{_⊎_, inl, inr}
 use mathlib.Core.List.{List, [], _∷_}
 use mathlib.Core.Bool.{Bool, true, false, true≢false, false≢true}
@@ -18,9 +18,11 @@ use lib.IntN.{ℤ, pos, negsuc, negℤ, _+ℤ_, _-ℤ_}
 use lib.ListN.{length}
 use lib.Signed.{mag}
 use borrow.Author.Tests.{leb-true, leb-false, le-leb}
+use Rattle.book.specs.Basics.{In, here, there}
+use Rattle.book.specs.ListLaws.{in-none}
 use Rattle.offsets.specs.declared.Tie.{Tie}
 use Rattle.offsets.specs.Linear.{up, down, to-eq, of-add, of-sub, of-pos, of-neg-up, of-neg-down, ≤ℤ-trans}
-use Rattle.offsets.specs.Offsets.{In, Placing, Places, Joined, self, onward, Limit, itself, joined, free}
+use Rattle.offsets.specs.Offsets.{Placing, Places, Joined, self, onward, Limit, itself, joined, free}
 use Rattle.offsets.specs.Settles.{out, out-length, out-others, span, span-length, span-all}
 use Rattle.offsets.specs.Passes.{Near, near-add, mag-parts}
 use Rattle.offsets.specs.Third.{Allowed, Ready, near-ends, near-neg}
@@ -29,17 +31,17 @@ use Rattle.offsets.specs.Finds.{ran, least-word, most-word, Fits, limit-
 
 -- a tie that passes a test, or none
 find : (f : Tie → Bool) (ts : List Tie) → ((t : Tie) → In t ts → f t ≡ false) ⊎ ((t : Tie) × (In t ts × (f t ≡ true)))
-find f [] = inl (λ t h. absurd h)
+find f [] = inl (λ t h. absurd (in-none h refl))
 find f (u ∷ ts) = go (f u) refl (find f ts)
   where
     go : (b : Bool) → f u ≡ b → ((t : Tie) → In t ts → f t ≡ false) ⊎ ((t : Tie) × (In t ts × (f t ≡ true))) → ((t : Tie) → In t (u ∷ ts) → f t ≡ false) ⊎ ((t : Tie) × (In t (u ∷ ts) × (f t ≡ true)))
-    go true e r = inr (u, (inl refl, e))
-    go false e (inr (t, (i, k))) = inr (t, (inr i, k))
+    go true e r = inr (u, (here, e))
+    go false e (inr (t, (i, k))) = inr (t, (there i, k))
     go false e (inl g) = inl both
       where
         both : (t : Tie) → In t (u ∷ ts) → f t ≡ false
-        both t (inl d) = ap f d ∙ e
-        both t (inr i) = g t i
+        both t here = e
+        both t (there i) = g t i
 
 abbrev nearb : ℕ → ℤ → Bool
 nearb c z = leb (up z + down z) c

@@ -117,29 +117,29 @@ module _ (n base : ℕ) (ts : List Tie) (ready : Ready n ts) (base-in : base < n
   )
 
   module _ (f : Placing) (places : Places f ts) where
-    quiet : passes (suc n) (arcs3 n ts) (l, false) .1 ≡ false
-    quiet = thirds-settle n ts ready f places l (starts .0)
+    quiet-holds : passes (suc n) (arcs3 n ts) (l, false) .1 ≡ false
+    quiet-holds = thirds-settle n ts ready f places l (starts .0)
 
     most-known : {x : ℕ} → Joined ts base x → known (dist R (n + x)) ≡ true
-    most-known j = joined-known n ts ready base base-in (λ x. dist R (n + x)) (second-holds n ts ready base base-in l starts quiet) (near-at n ts ready base base-in l starts n (omega arith)) (base-at n ts ready base base-in l starts n (inl refl) (omega arith)) j
+    most-known j = joined-known n ts ready base base-in (λ x. dist R (n + x)) (second-holds n ts ready base base-in l starts quiet-holds) (near-at n ts ready base base-in l starts n (omega arith)) (base-at n ts ready base base-in l starts n (inl refl) (omega arith)) j
 
     least-known : {x : ℕ} → Joined ts base x → known (dist R (n * 2 + x)) ≡ true
-    least-known j = joined-known n (turned ts) (turned-ready n ts ready) base base-in (λ x. dist R (n * 2 + x)) (third-holds n ts ready base base-in l starts quiet) (near-at n ts ready base base-in l starts (n * 2) (omega arith))
+    least-known j = joined-known n (turned ts) (turned-ready n ts ready) base base-in (λ x. dist R (n * 2 + x)) (third-holds n ts ready base base-in l starts quiet-holds) (near-at n ts ready base base-in l starts (n * 2) (omega arith))
         (base-at n ts ready base base-in l starts (n * 2) (inr refl) (omega arith)) (turned-joined ts base j)
 
     pub limits-hold : (x : ℕ) → x < n → Joined ts base x → (p : Placing) → Places p ts → (negℤ (dist R (n * 2 + x)) ≤ℤ (p x -ℤ p base)) × ((p x -ℤ p base) ≤ℤ dist R (n + x))
     limits-hold x g j p h = (
-      turn-most (p x) (p base) (dist R (n * 2 + x)) (under-third n ts ready base base-in l starts quiet (neg p) (turned-places p ts h) x g (least-known j)),
-      under-second n ts ready base base-in l starts quiet p h x g (most-known j),
+      turn-most (p x) (p base) (dist R (n * 2 + x)) (under-third n ts ready base base-in l starts quiet-holds (neg p) (turned-places p ts h) x g (least-known j)),
+      under-second n ts ready base base-in l starts quiet-holds p h x g (most-known j),
     )
 
     pub limits-attained : (x : ℕ) → Joined ts base x
         → ((p : Placing) × (Places p ts × (p x -ℤ p base ≡ negℤ (dist R (n * 2 + x))))) × ((p : Placing) × (Places p ts × (p x -ℤ p base ≡ dist R (n + x))))
     limits-attained x j =
-        let a = most-attained n ts ready base base-in (λ x. dist R (n + x)) (second-holds n ts ready base base-in l starts quiet) (near-at n ts ready base base-in l starts n (omega arith)) (base-at n ts ready base base-in l starts n (inl refl) (omega arith))
-        (under-second n ts ready base base-in l starts quiet) f places in
-        let b = most-attained n (turned ts) (turned-ready n ts ready) base base-in (λ x. dist R (n * 2 + x)) (third-holds n ts ready base base-in l starts quiet) (near-at n ts ready base base-in l starts (n * 2) (omega arith))
-        (base-at n ts ready base base-in l starts (n * 2) (inr refl) (omega arith)) (under-third n ts ready base base-in l starts quiet) (neg f) (turned-places f ts places) in
+        let a = most-attained n ts ready base base-in (λ x. dist R (n + x)) (second-holds n ts ready base base-in l starts quiet-holds) (near-at n ts ready base base-in l starts n (omega arith)) (base-at n ts ready base base-in l starts n (inl refl) (omega arith))
+        (under-second n ts ready base base-in l starts quiet-holds) f places in
+        let b = most-attained n (turned ts) (turned-ready n ts ready) base base-in (λ x. dist R (n * 2 + x)) (third-holds n ts ready base base-in l starts quiet-holds) (near-at n ts ready base base-in l starts (n * 2) (omega arith))
+        (base-at n ts ready base base-in l starts (n * 2) (inr refl) (omega arith)) (under-third n ts ready base base-in l starts quiet-holds) (neg f) (turned-places f ts places) in
         ((neg (b .0), (places-turned (b .0) ts (b .1 .0), turn-is (b .0 x) (b .0 base) (dist R (n * 2 + x)) (b .1 .1 x (least-known j)))), (a .0, (a .1 .0, a .1 .1 x (most-known j))))
 
     limit-R : (x : ℕ) → x < n → Limit ts base x (least-word n R x) (most-word n R x)

@@ -6,7 +6,6 @@
 -- Assumes nothing.
 use mathlib.Core.Path.{_≡_, refl, sym, ap, _∙_, subst}
 use mathlib.Core.List.{List, [], _∷_, _++_}
-use mathlib.Core.Logic.{inl, inr}
 use mathlib.Core.Bool.{Bool, true, false}
 use Prim.Native.Nat.{ℕ, zero, suc, _*_, _<_}
 use native.Mathlib.Omega.{arith}
@@ -15,9 +14,9 @@ use lib.ListN.{length, set, length-append, List·getD-append}
 use lib.Seq.{set-append-left}
 use lib.Signed.{ltZ}
 use borrow.Author.Tests.{lt-ltb}
+use Rattle.book.specs.Basics.{In, here, there}
 use Rattle.offsets.specs.declared.Tie.{Tie}
 use Rattle.offsets.specs.Relax.{State, pick, known, dist, lower}
-use Rattle.offsets.specs.Offsets.{In}
 use Rattle.offsets.specs.Arcs.{Arc, arc, run, arcs3, turned, of-thirds, arc-length, run-length}
 use Rattle.offsets.specs.Settles.{passes}
 use Rattle.offsets.specs.Passes.{settled-is}
@@ -59,9 +58,9 @@ module _ (a : Arc) (x y : List ℤ) (c : Bool) (f : a .from < length x) (t : a .
 pub run-front : (cs : List Arc) (x y : List ℤ) (c : Bool) → Inside (length x) cs → run cs (x ++ y, c) ≡ beside y (run cs (x, c))
 run-front [] x y c h = refl
 run-front (a ∷ cs) x y c h =
-    let g = h a (inl refl) in
+    let g = h a here in
     ap (run cs) (arc-front a x y c (g .0) (g .1))
-    ∙ run-front cs (arc a (x, c) .0) y (arc a (x, c) .1) (subst (λ (m : ℕ). Inside m cs) (sym (arc-length a (x, c))) (λ b i. h b (inr i)))
+    ∙ run-front cs (arc a (x, c) .0) y (arc a (x, c) .1) (subst (λ (m : ℕ). Inside m cs) (sym (arc-length a (x, c))) (λ b i. h b (there i)))
 
 pick-front : (y : List ℤ) (b : Bool) (s r : State) → (b ≡ true → s ≡ beside y r) → (z : State) → pick b s (beside y z) ≡ beside y (pick b r z)
 pick-front y true s r f z = f refl

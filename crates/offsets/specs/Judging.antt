@@ -5,8 +5,7 @@
 --   causes-are       so the base's number, then the ties', then the work's are `offsetsCauses`
 --   no-cause-ready   where there is none, the base is a record and every tie is allowed
 -- Assumes nothing.
-use mathlib.Core.Path.{_≡_, refl, sym, ap, _∙_, subst}
-use mathlib.Core.Logic.{inl, inr}
+use mathlib.Core.Path.{_≡_, refl, ap, _∙_}
 use mathlib.Core.List.{List, [], _∷_}
 use mathlib.Core.Bool.{Bool, true, false, _||_}
 use Prim.Native.Nat.{ℕ, _*_, _≤_, _<_}
@@ -16,11 +15,11 @@ use lib.IntN.{pos, negℤ}
 use lib.ListN.{length}
 use lib.Signed.{ltZ, _≤ℤ_}
 use borrow.Author.Tests.{leb-false, ltb-false}
+use Rattle.book.specs.Basics.{In, here, there}
 use Rattle.book.specs.Causes.{no-record, withdrawn-record, bad-tie, short-work, firstNumber, number, maxRecords, InOrder, none-left, same-cause, offsetsOrder}
 use Rattle.book.specs.BookLaws.{first-none}
 use Rattle.offsets.specs.declared.Tie.{Tie}
 use Rattle.offsets.specs.Linear.{to-le, of-not-ltb}
-use Rattle.offsets.specs.Offsets.{In}
 use Rattle.offsets.specs.Third.{Ready}
 use Rattle.offsets.specs.Answers.{maxTies, maxRings, outside, anyTie, offsetsWork, offsetsCauses}
 use Rattle.offsets.specs.Inner.{Records, isWithdrawnIn, sooner, three, tieNumber, baseNumber, judgeAll, orElse}
@@ -117,9 +116,8 @@ or-no false b e = (refl, e)
 
 any-no : (test : Tie → Bool) (ts : List Tie) → anyTie test ts ≡ false → (t : Tie) → In t ts → test t ≡ false
 unfolding anyTie
-any-no test [] e t i = absurd i
-any-no test (u ∷ ts) e t (inl q) = subst (λ (x : Tie). test x ≡ false) (sym q) (or-no (test u) (anyTie test ts) e .0)
-any-no test (u ∷ ts) e t (inr i) = any-no test ts (or-no (test u) (anyTie test ts) e .1) t i
+any-no test (u ∷ ts) e t here = or-no (test u) (anyTie test ts) e .0
+any-no test (u ∷ ts) e t (there i) = any-no test ts (or-no (test u) (anyTie test ts) e .1) t i
 
 inside-limits : (t : Tie) → outside t ≡ false → (negℤ (pos maxRings) ≤ℤ t .least) × ((t .least ≤ℤ t .most) × (t .most ≤ℤ pos maxRings))
 unfolding outside

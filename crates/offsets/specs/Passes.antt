@@ -25,17 +25,17 @@ use lib.IntN.{ℤ, pos, negsuc, _+ℤ_}
 use lib.ListN.{length, length-set}
 use lib.Signed.{mag, _≤ℤ_, ≤ℤ-refl}
 use borrow.Author.Tests.{lt-ltb}
+use Rattle.book.specs.Basics.{In, here, there}
 use Rattle.offsets.specs.declared.Tie.{Tie}
 use Rattle.offsets.specs.Linear.{up, down, of-add, ≤ℤ-trans}
 use Rattle.offsets.specs.Relax.{State, pick, known, dist, settled}
-use Rattle.offsets.specs.Offsets.{In}
 use Rattle.offsets.specs.Arcs.{Arc, arcs3, arc, run, run-is, Holds, lower-ind, set-ind, arc-length, run-down, quiet-holds}
 use Rattle.offsets.specs.Settles.{onePass, passes}
 
 -- ---- what passes keep
 run-keeps : (Q : List ℤ → Type 0) (cs : List Arc) → ((a : Arc) → In a cs → (s : State) → Q (s .0) → Q (arc a s .0)) → (s : State) → Q (s .0) → Q (run cs s .0)
 run-keeps Q [] f s q = q
-run-keeps Q (a ∷ cs) f s q = run-keeps Q cs (λ b i. f b (inr i)) (arc a s) (f a (inl refl) s q)
+run-keeps Q (a ∷ cs) f s q = run-keeps Q cs (λ b i. f b (there i)) (arc a s) (f a here s q)
 
 pick-keeps : (Q : State → Type 0) (b : Bool) (x y : State) → Q x → Q y → Q (pick b x y)
 pick-keeps Q true x y h k = h
@@ -115,7 +115,7 @@ Small cs = (a : Arc) → In a cs → Near 20000 (a .rise)
 run-ranged : (cs : List Arc) → Small cs → (c : ℕ) (s : State) → Ranged c (s .0) → Ranged (c + length cs * 20000) (run cs s .0)
 run-ranged [] w c s r = subst (λ (d : ℕ). Ranged d (s .0)) (let e : c ≡ c + 0 * 20000 = omega arith in e) r
 run-ranged (a ∷ cs) w c s r =
-    let q = run-ranged cs (λ b i. w b (inr i)) (c + 20000) (arc a s) (arc-ranged a (w a (inl refl)) c s r) in
+    let q = run-ranged cs (λ b i. w b (there i)) (c + 20000) (arc a s) (arc-ranged a (w a here) c s r) in
     subst (λ (d : ℕ). Ranged d (run cs (arc a s) .0)) (let e : c + 20000 + length cs * 20000 ≡ c + suc (length cs) * 20000 = omega arith in e) q
 
 ranged-more : (c d : ℕ) → c ≤ d → (l : List ℤ) → Ranged c l → Ranged d l

@@ -29,39 +29,37 @@ use native.Mathlib.Omega.{arith}
 use lib.IntN.{ℤ, _+ℤ_, _-ℤ_}
 use lib.ListN.{length, set, length-set}
 use lib.Signed.{leZ, _≤ℤ_, _<ℤ_, ≤ℤ-refl, clashℤ, <ℤ-≤ℤ-trans}
+use Rattle.book.specs.Basics.{In, here, there}
+use Rattle.book.specs.ListLaws.{in-none}
 use Rattle.offsets.specs.Linear.{of-le, of-leb, of-not-leb, to-le, to-lt, of-add, of-sub, ≤ℤ-trans}
 use Rattle.offsets.specs.Relax.{State, pick, known, dist}
-use Rattle.offsets.specs.Offsets.{In, Placing}
+use Rattle.offsets.specs.Offsets.{Placing}
 use Rattle.offsets.specs.Arcs.{Arc, Keeps, arc, run, Holds, by-test, lower-ind, set-ind, run-down, holds-quiet, lt-le}
 
 -- ---- lists of records
 -- a list without one of its members
 abbrev pub out : (v : ℕ) (os : List ℕ) → In v os → List ℕ
-out v [] h = []
-out v (x ∷ os) (inl e) = os
-out v (x ∷ os) (inr h) = x ∷ out v os h
+out v (x ∷ os) here = os
+out v (x ∷ os) (there h) = x ∷ out v os h
 
 pub out-length : (v : ℕ) (os : List ℕ) (h : In v os) → suc (length (out v os h)) ≡ length os
-out-length v [] h = absurd h
-out-length v (x ∷ os) (inl e) = refl
-out-length v (x ∷ os) (inr h) = ap suc (out-length v os h)
+out-length v (x ∷ os) here = refl
+out-length v (x ∷ os) (there h) = ap suc (out-length v os h)
 
 pub out-less : (v : ℕ) (os : List ℕ) (h : In v os) (x : ℕ) → In x (out v os h) → In x os
-out-less v [] h x i = absurd h
-out-less v (y ∷ os) (inl e) x i = inr i
-out-less v (y ∷ os) (inr h) x (inl e) = inl e
-out-less v (y ∷ os) (inr h) x (inr i) = inr (out-less v os h x i)
+out-less v (y ∷ os) here x i = there i
+out-less v (y ∷ os) (there h) x here = here
+out-less v (y ∷ os) (there h) x (there i) = there (out-less v os h x i)
 
 pub out-others : (v : ℕ) (os : List ℕ) (h : In v os) (x : ℕ) → In x os → (x ≡ v) ⊎ In x (out v os h)
-out-others v [] h x i = absurd h
-out-others v (y ∷ os) (inl e) x (inl d) = inl (d ∙ sym e)
-out-others v (y ∷ os) (inl e) x (inr i) = inr i
-out-others v (y ∷ os) (inr h) x (inl d) = inr (inl d)
-out-others v (y ∷ os) (inr h) x (inr i) = go (out-others v os h x i)
+out-others v (y ∷ os) here x here = inl refl
+out-others v (y ∷ os) here x (there i) = inr i
+out-others v (y ∷ os) (there h) x here = inr here
+out-others v (y ∷ os) (there h) x (there i) = go (out-others v os h x i)
   where
-    go : (x ≡ v) ⊎ In x (out v os h) → (x ≡ v) ⊎ ((x ≡ y) ⊎ In x (out v os h))
+    go : (x ≡ v) ⊎ In x (out v os h) → (x ≡ v) ⊎ In x (y ∷ out v os h)
     go (inl e) = inl e
-    go (inr j) = inr (inr j)
+    go (inr j) = inr (there j)
 
 -- of the members that pass a test, the one with the least number
 pub record Least (k : ℕ → Bool) (f : ℕ → ℤ) (os : List ℕ) : Type 0 where
@@ -74,35 +72,35 @@ abbrev Search : (k : ℕ → Bool) (f : ℕ → ℤ) (os : List ℕ) → Type 0
 Search k f os = ((y : ℕ) → In y os → k y ≡ true → ⊥) ⊎ Least k f os
 
 search-more : (k : ℕ → Bool) (f : ℕ → ℤ) (x : ℕ) (os : List ℕ) (t : Bool) → k x ≡ t → Search k f os → Search k f (x ∷ os)
-search-more k f x os true e (inl none) = inr record { v = x; member = inl refl; passes = e; least = go }
+search-more k f x os true e (inl none) = inr record { v = x; member = here; passes = e; least = go }
   where
     go : (y : ℕ) → In y (x ∷ os) → k y ≡ true → f x ≤ℤ f y
-    go y (inl d) h = subst (λ (z : ℕ). f x ≤ℤ f z) (sym d) (≤ℤ-refl (f x))
-    go y (inr i) h = absurd (none y i h)
+    go y here h = ≤ℤ-refl (f x)
+    go y (there i) h = absurd (none y i h)
 search-more k f x os false e (inl none) = inl go
   where
     go : (y : ℕ) → In y (x ∷ os) → k y ≡ true → ⊥
-    go y (inl d) h = true≢false (sym h ∙ ap k d ∙ e)
-    go y (inr i) h = none y i h
-search-more k f x os false e (inr m) = inr record { v = m .v; member = inr (m .member); passes = m .passes; least = go }
+    go y here h = true≢false (sym h ∙ e)
+    go y (there i) h = none y i h
+search-more k f x os false e (inr m) = inr record { v = m .v; member = there (m .member); passes = m .passes; least = go }
   where
     go : (y : ℕ) → In y (x ∷ os) → k y ≡ true → f (m .v) ≤ℤ f y
-    go y (inl d) h = absurd (true≢false (sym h ∙ ap k d ∙ e))
-    go y (inr i) h = m .least y i h
+    go y here h = absurd (true≢false (sym h ∙ e))
+    go y (there i) h = m .least y i h
 search-more k f x os true e (inr m) = by-test (leZ (f x) (f (m .v)))
-    (λ b. inr record { v = x; member = inl refl; passes = e; least = new (to-le (of-leb (f x) (f (m .v)) b)) })
-    (λ b. inr record { v = m .v; member = inr (m .member); passes = m .passes; least = old (lt-le (to-lt (of-not-leb (f x) (f (m .v)) b))) })
+    (λ b. inr record { v = x; member = here; passes = e; least = new (to-le (of-leb (f x) (f (m .v)) b)) })
+    (λ b. inr record { v = m .v; member = there (m .member); passes = m .passes; least = old (lt-le (to-lt (of-not-leb (f x) (f (m .v)) b))) })
   where
     new : f x ≤ℤ f (m .v) → (y : ℕ) → In y (x ∷ os) → k y ≡ true → f x ≤ℤ f y
-    new b y (inl d) h = subst (λ (z : ℕ). f x ≤ℤ f z) (sym d) (≤ℤ-refl (f x))
-    new b y (inr i) h = ≤ℤ-trans b (m .least y i h)
+    new b y here h = ≤ℤ-refl (f x)
+    new b y (there i) h = ≤ℤ-trans b (m .least y i h)
 
     old : f (m .v) ≤ℤ f x → (y : ℕ) → In y (x ∷ os) → k y ≡ true → f (m .v) ≤ℤ f y
-    old b y (inl d) h = subst (λ (z : ℕ). f (m .v) ≤ℤ f z) (sym d) b
-    old b y (inr i) h = m .least y i h
+    old b y here h = b
+    old b y (there i) h = m .least y i h
 
 pub search-least : (k : ℕ → Bool) (f : ℕ → ℤ) (os : List ℕ) → Search k f os
-search-least k f [] = inl (λ y h _. h)
+search-least k f [] = inl (λ y h _. in-none h refl)
 search-least k f (x ∷ os) = search-more k f x os (k x) refl (search-least k f os)
 
 -- ---- one pass
@@ -196,7 +194,7 @@ module _ (p : Placing) (cs : List Arc) (keeps : Keeps p cs) (D : ℕ → Type 0)
 
     during-run : (bs : List Arc) → ((a : Arc) → In a bs → In a cs) → (s : State) → During (s .0) → During (run bs s .0)
     during-run [] sub s d = d
-    during-run (a ∷ bs) sub s d = during-run bs (λ b i. sub b (inr i)) (arc a s) (during-arc a (sub a (inl refl)) s d)
+    during-run (a ∷ bs) sub s d = during-run bs (λ b i. sub b (there i)) (arc a s) (during-arc a (sub a here) s d)
 
     -- a record that lies no higher than the lowest open one is not changed
     low-stays : (h : List ℤ) (x : ℕ) → (dist h x ≡ dist l x) ⊎ Above h x → gap l x ≤ℤ gap l (m .v) → dist h x ≡ dist l x
@@ -208,9 +206,8 @@ module _ (p : Placing) (cs : List Arc) (keeps : Keeps p cs) (D : ℕ → Type 0)
     -- so the arcs that leave it hold after the pass
     leaves-run : (bs : List Arc) → ((a : Arc) → In a bs → In a cs) → (s : State) → During (s .0) → (a : Arc) → In a bs → D (a .from) → a .from < length l → a .to < length l
         → known (dist l (a .from)) ≡ true → gap l (a .from) ≤ℤ gap l (m .v) → dist (run bs s .0) (a .to) ≤ℤ (dist l (a .from) +ℤ a .rise)
-    leaves-run [] sub s d a i g f t k c = absurd i
-    leaves-run (b ∷ bs) sub s d a (inr i) g f t k c = leaves-run bs (λ e j. sub e (inr j)) (arc b s) (during-arc b (sub b (inl refl)) s d) a i g f t k c
-    leaves-run (b ∷ bs) sub s d a (inl q) w f t k c = ≤ℤ-trans (run-down bs (arc b s) (a .to)) (subst (λ (e : Arc). dist (arc e s .0) (a .to) ≤ℤ (dist l (a .from) +ℤ a .rise)) q now)
+    leaves-run (b ∷ bs) sub s d a (there i) g f t k c = leaves-run bs (λ e j. sub e (there j)) (arc b s) (during-arc b (sub b here) s d) a i g f t k c
+    leaves-run (b ∷ bs) sub s d a here w f t k c = ≤ℤ-trans (run-down bs (arc a s) (a .to)) now
       where
         same : dist (s .0) (a .from) ≡ dist l (a .from)
         same = low-stays (s .0) (a .from) (d .each (a .from) f w) c
@@ -289,7 +286,7 @@ module _ (p : Placing) (cs : List Arc) (keeps : Keeps p cs) (D : ℕ → Type 0)
 
     same-run : (bs : List Arc) → ((a : Arc) → In a bs → In a cs) → (s : State) → Same (s .0) → Same (run bs s .0)
     same-run [] sub s e = e
-    same-run (a ∷ bs) sub s e = same-run bs (λ b i. sub b (inr i)) (arc a s) (same-arc a (sub a (inl refl)) s e)
+    same-run (a ∷ bs) sub s e = same-run bs (λ b i. sub b (there i)) (arc a s) (same-arc a (sub a here) s e)
 
     pub none-stays : (c : Bool) → Open (run cs (l, c) .0) os × NoneKnown (run cs (l, c) .0) os
     none-stays c = (record { inside = λ y i. let h = o .inside y i in (subst (λ (n : ℕ). y < n) (sym (e .0)) (h .0), h .1); others = λ x g. others x (subst (λ (n : ℕ). x < n) (e .0) g) }, still)
@@ -329,17 +326,17 @@ span-length o zero = refl
 span-length o (suc n) = ap suc (span-length o n)
 
 pub span-in : (o n x : ℕ) → In x (span o n) → (o ≤ x) × (x < o + n)
-span-in o zero x h = absurd h
-span-in o (suc n) x (inl e) = (omega (arith, e), omega (arith, e))
-span-in o (suc n) x (inr h) = let k = span-in o n x h in (k .0, omega (arith, k .1))
+span-in o zero x h = absurd (in-none h refl)
+span-in o (suc n) x here = (omega arith, omega arith)
+span-in o (suc n) x (there h) = let k = span-in o n x h in (k .0, omega (arith, k .1))
 
 pub span-all : (o n x : ℕ) → o ≤ x → x < o + n → In x (span o n)
 span-all o zero x g h = absurd (let none : 1 ≤ 0 = omega (arith, g, h) in not-suc-le-zero none)
 span-all o (suc n) x g h = go (decLt x (o + n)) (λ k. span-all o n x g k)
   where
-    go : Dec (x < o + n) → (x < o + n → In x (span o n)) → (x ≡ o + n) ⊎ In x (span o n)
-    go (yes k) f = inr (f k)
-    go (no k) f = inl (omega (arith, h, k))
+    go : Dec (x < o + n) → (x < o + n → In x (span o n)) → In x ((o + n) ∷ span o n)
+    go (yes k) f = there (f k)
+    go (no k) f = let e : x ≡ o + n = omega (arith, h, k) in subst (λ (y : ℕ). In x (y ∷ span o n)) e here
 
 -- ---- records in parts that no arc joins: each part makes one record final in each pass
 module _ (p : Placing) (cs : List Arc) (keeps : Keeps p cs) (I : Type 0) (D : I → ℕ → Type 0) (closed : (j : I) (a : Arc) → In a cs → D j (a .to) → D j (a .from)) (part : (a : Arc) → In a cs → (j : I) × D j (a .from)) where

@@ -18,10 +18,11 @@ use native.Mathlib.Omega.{arith}
 use lib.IntN.{ℤ, pos, negsuc, negℤ, _+ℤ_, _-ℤ_}
 use lib.ListN.{length}
 use lib.Signed.{_≤ℤ_}
+use Rattle.book.specs.Basics.{In}
 use Rattle.offsets.specs.declared.Tie.{Tie}
 use Rattle.offsets.specs.Linear.{up, down, of-le, to-le, to-eq, of-sub, of-pos, of-neg-up, of-neg-down, ≤ℤ-trans, ≤ℤ-antisym}
 use Rattle.offsets.specs.Relax.{known}
-use Rattle.offsets.specs.Offsets.{In, Placing, Meets, Places, Joined, self, onward}
+use Rattle.offsets.specs.Offsets.{Placing, Meets, Places, Joined, self, onward}
 use Rattle.offsets.specs.Arcs.{Arc, up-arc, down-arc, arcs, of-ties, in-up, in-down, sums-meet}
 use Rattle.offsets.specs.Passes.{Near, near-add, near-known, far, known-not-far, Small}
 

@@ -28,11 +28,12 @@ use lib.IntN.{ℤ, pos, _+ℤ_, _-ℤ_}
 use lib.ListN.{length}
 use lib.Signed.{_≤ℤ_, ≤ℤ-refl}
 use borrow.Author.Tests.{ltb-true, ltb-false, lt-ltb, le-ltb, eqb-true, eqb-false}
+use Rattle.book.specs.Basics.{In}
 use Rattle.offsets.specs.declared.Tie.{Tie}
 use Rattle.offsets.specs.Linear.{up, down, of-le, to-le, of-add, of-sub, of-pos, ≤ℤ-trans}
 use Rattle.offsets.specs.Relax.{known, dist}
 use Rattle.offsets.specs.Sound.{Under, under-lower}
-use Rattle.offsets.specs.Offsets.{In, Placing, Places, Joined, self}
+use Rattle.offsets.specs.Offsets.{Placing, Places, Joined, self}
 use Rattle.offsets.specs.Arcs.{Arc, up-arc, down-arc, arcs, arcs3, at, turned, of-thirds, arc-in-first, arc-in-second, arc-in-third, length-arcs3, in-up, in-down, Keeps, keeps-places, sums-meet}
 use Rattle.offsets.specs.Settles.{passes, passes-settle, span, span-length, span-in, span-all}
 use Rattle.offsets.specs.Passes.{passes-keep, passes-length, passes-hold, passes-down, Near, near-known, far, known-not-far, Small, passes-ranged, passes-reached}
@@ -245,10 +246,10 @@ module _ (n : ℕ) (ts : List Tie) (ready : Ready n ts) where
             (λ b i r y c e. absurd (let none : 1 ≤ 0 = omega (arith, c, e) in not-suc-le-zero none))
 
     -- ---- after a pass that changed nothing
-    module _ (quiet : passes (suc n) (arcs3 n ts) (l, false) .1 ≡ false) where
+    module _ (quiet-holds : passes (suc n) (arcs3 n ts) (l, false) .1 ≡ false) where
       hold-at : (us : List Tie) → Ready n us → (o : ℕ) → o ≤ n * 2 → ((b : Arc) → In b (arcs us) → In (at o b) (arcs3 n ts)) → (b : Arc) → In b (arcs us) → known (d o (b .from)) ≡ true → d o (b .to) ≤ℤ (d o (b .from) +ℤ b .rise)
       hold-at us r o g into b i k = let h = ready-inside n us r b i in let f = h .0 in let t = h .1 in
-          passes-hold n (arcs3 n ts) (l, false) quiet (at o b) (into b i) (in-L (let z : o + b .from < n * 3 = omega (arith, g, f) in z)) (in-L (let z : o + b .to < n * 3 = omega (arith, g, t) in z)) k
+          passes-hold n (arcs3 n ts) (l, false) quiet-holds (at o b) (into b i) (in-L (let z : o + b .from < n * 3 = omega (arith, g, f) in z)) (in-L (let z : o + b .to < n * 3 = omega (arith, g, t) in z)) k
 
       pub second-holds : (b : Arc) → In b (arcs ts) → known (d n (b .from)) ≡ true → d n (b .to) ≤ℤ (d n (b .from) +ℤ b .rise)
       second-holds = hold-at ts ready n (omega arith) (arc-in-second n ts)

@@ -13,9 +13,10 @@ use native.Mathlib.Omega.{arith}
 use lib.IntN.{ℤ, negℤ, _-ℤ_}
 use lib.ListN.{length}
 use lib.Signed.{_≤ℤ_}
+use Rattle.book.specs.Basics.{In, here, there}
 use Rattle.offsets.specs.declared.Tie.{Tie}
 use Rattle.offsets.specs.Linear.{of-le, to-le, of-sub, of-neg-up, of-neg-down}
-use Rattle.offsets.specs.Offsets.{In, Placing, Meets, Places, Joined, self, onward}
+use Rattle.offsets.specs.Offsets.{Placing, Meets, Places, Joined, self, onward}
 use Rattle.offsets.specs.Arcs.{turn, turned}
 use Rattle.offsets.specs.Third.{Allowed, Ready}
 
@@ -27,15 +28,13 @@ turned-length [] = refl
 turned-length (t ∷ ts) = ap suc (turned-length ts)
 
 in-turned : (ts : List Tie) (t : Tie) → In t ts → In (turn t) (turned ts)
-in-turned [] t h = absurd h
-in-turned (u ∷ ts) t (inl e) = inl (ap turn e)
-in-turned (u ∷ ts) t (inr h) = inr (in-turned ts t h)
+in-turned (u ∷ ts) t here = here
+in-turned (u ∷ ts) t (there h) = there (in-turned ts t h)
 
 -- a property of turned ties, from one of the ties
 of-turned : (P : Tie → Type 0) (ts : List Tie) → ((t : Tie) → In t ts → P (turn t)) → (t : Tie) → In t (turned ts) → P t
-of-turned P [] f t h = absurd h
-of-turned P (u ∷ ts) f t (inl e) = subst P (sym e) (f u (inl refl))
-of-turned P (u ∷ ts) f t (inr h) = of-turned P ts (λ v i. f v (inr i)) t h
+of-turned P (u ∷ ts) f t here = f u here
+of-turned P (u ∷ ts) f t (there h) = of-turned P ts (λ v i. f v (there i)) t h
 
 -- y - x is -x - -y
 turn-meets : (x y least most : ℤ) → (least ≤ℤ (y -ℤ x)) × ((y -ℤ x) ≤ℤ most) → (least ≤ℤ (negℤ x -ℤ negℤ y)) × ((negℤ x -ℤ negℤ y) ≤ℤ most)
