@@ -156,8 +156,8 @@ impl Register {
         Ok(length.map(|length| Steps::new(&self.list, length)))
     }
 
-    /// The pairs of an expression in lent space: work of [`tree_work`](crate::tree_work) words, and a list, which is left as it was with a refusal. A list that is
-    /// too short for all pairs gets the smallest of them; [`Pairs::total`] tells how many there are.
+    /// The pairs of an expression in lent space: work of [`tree_work`](crate::tree_work) words, and a list, which is left as it was with a refusal. A list
+    /// that is too short for all pairs gets the smallest of them; [`Pairs::total`] tells how many there are.
     ///
     /// ```
     /// # let mut register = dating::Register::fresh(3)?;
