@@ -1,4 +1,5 @@
--- `test_edits::links_out` ends. The loop's invariant: the place is at most the number of words. The measure is what is left of them, since the next place is found onward. Assumes nothing.
+-- `test_edits::links_out` ends. The loop's invariant: the place is at most the number of words. The measure is what is left of them, since
+-- the next place is found onward. Assumes nothing.
 use Prim.Native.Nat.{_≤_, _-_}
 use native.Mathlib.Omega.{arith}
 use lib.ListN.{length}
