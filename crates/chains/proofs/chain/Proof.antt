@@ -36,9 +36,12 @@ mul-if3 c = search needs
 
 returns-3 : tie.Need-returns-3
 returns-3 c =
-    let s = c .before .before .before .before .before .before .before .before .before .before .before .before .args in
-    let z = c .before .before .before .before .before .before .before .before .size .ensures in
-    let a = reads-accepted (c .before .before .before .before .before .read .ensures) (c .before .before .answer2 .given .1) in
+    let after-read = c .before .before .before .before .before in
+    let after-size = after-read .before .before .before in
+    let start = after-size .before .before .before .before in
+    let s = start .args in
+    let z = after-size .size .ensures in
+    let a = reads-accepted (after-read .read .ensures) (c .before .before .answer2 .given .1) in
     let e = a .0 in
     let A = a .1 in
     refuses-work (z .size) (omega arith) (omega arith) e (A .is) (c .if3 .taken)
@@ -56,21 +59,28 @@ part-sought-end : tie.Need-part-sought-end
 part-sought-end c =
     let s = c .before .before .before .before .before .before .before .before .before .before .before .before .before .before .before .before .before .args in
     let z = c .before .before .before .before .before .before .before .before .before .before .before .before .before .size .ensures in
-    let a = reads-accepted (c .before .before .before .before .before .before .before .before .before .before .read .ensures) (c .before .before .before .before .before .before .before .answer2 .given .1) in
+    let a = reads-accepted (c .before .before .before .before .before .before .before .before .before .before .read .ensures)
+    (c .before .before .before .before .before .before .before .answer2 .given .1) in
     let e = a .0 in
     let A = a .1 in
-    let k : length (c .before .before .before .before .before .before .before .before .before .before .read .result .code) ≡ 256 = search needs in omega (arith, A .fits)
+    let k : length (c .before .before .before .before .before .before .before .before .before .before .read .result .code) ≡ 256 = search needs in
+    omega (arith, A .fits)
 
 sought-requires : tie.Need-sought-requires
 sought-requires c κs =
-    let s = c .before .before .before .before .before .before .before .before .before .before .before .before .before .before .before .before .before .before .before .before .args in
-    let z = c .before .before .before .before .before .before .before .before .before .before .before .before .before .before .before .before .size .ensures in
-    let a = reads-accepted (c .before .before .before .before .before .before .before .before .before .before .before .before .before .read .ensures) (c .before .before .before .before .before .before .before .before .before .before .answer2 .given .1) in
+    let after-links = c .before .before .before .before .before .before .before in
+    let after-answer2 = after-links .before .before .before in
+    let after-read = after-answer2 .before .before .before in
+    let after-size = after-read .before .before .before in
+    let start = after-size .before .before .before .before in
+    let s = start .args in
+    let z = after-size .size .ensures in
+    let a = reads-accepted (after-read .read .ensures) (after-answer2 .answer2 .given .1) in
     let e = a .0 in
     let A = a .1 in
-    let part : c .before .before .before .before .before .before .before .before .before .before .answer2 .given .0 .0 - 0 ≡ c .before .before .before .before .before .before .before .before .before .before .answer2 .given .0 .0 = omega arith in
-    let k : length (c .before .before .before .before .before .before .before .links .result .words) ≡ 4096 = search needs in
-    let few = c .before .before .before .before .before .before .before .links .ensures .few in
+    let part : after-answer2 .answer2 .given .0 .0 - 0 ≡ after-answer2 .answer2 .given .0 .0 = omega arith in
+    let k : length (after-links .links .result .words) ≡ 4096 = search needs in
+    let few = after-links .links .ensures .few in
     (omega arith, few, z .small, omega arith, omega arith, omega arith, (s .text .now, e, A .limits, rw part (A .front)))
 
 enum-known-found : tie.Need-enum-known-found
@@ -95,19 +105,26 @@ same-length-2 c = search needs
 
 returns-5 : tie.Need-returns-5
 returns-5 c =
-    let s = c .before .before .before .before .before .before .before .before .before .before .before .before .before .before .before .before .before .before .before .before .before .before .before .before .before .before .before .before .args in
-    let z = c .before .before .before .before .before .before .before .before .before .before .before .before .before .before .before .before .before .before .before .before .before .before .before .before .size .ensures in
-    let a = reads-accepted (c .before .before .before .before .before .before .before .before .before .before .before .before .before .before .before .before .before .before .before .before .before .read .ensures) (c .before .before .before .before .before .before .before .before .before .before .before .before .before .before .before .before .before .before .answer2 .given .1) in
+    let after-sought = c .before .before .before .before .before .before .before in
+    let after-links = after-sought .before .before .before .before .before .before .before .before in
+    let after-answer2 = after-links .before .before .before in
+    let after-read = after-answer2 .before .before .before in
+    let after-size = after-read .before .before .before in
+    let start = after-size .before .before .before .before in
+    let s = start .args in
+    let z = after-size .size .ensures in
+    let a = reads-accepted (after-read .read .ensures) (after-answer2 .answer2 .given .1) in
     let e = a .0 in
     let A = a .1 in
-    let part : c .before .before .before .before .before .before .before .before .before .before .before .before .before .before .before .before .before .before .answer2 .given .0 .0 - 0 ≡ c .before .before .before .before .before .before .before .before .before .before .before .before .before .before .before .before .before .before .answer2 .given .0 .0 = omega arith in
-    let f = c .before .before .before .before .before .before .before .sought in
-    let hx = c .before .before .before .before .before .before .before .before .before .before .before .before .before .before .before .before .before .before .before .before .before .before .before .if1 .left in
-    let hy = c .before .before .before .before .before .before .before .before .before .before .before .before .before .before .before .before .before .before .before .before .before .before .if2 .left in
-    let k : length (c .before .before .before .before .before .before .before .before .before .before .before .before .before .before .before .links .result .words) ≡ 4096 = search needs in
-    let m : c .before .before .before .before .before .before .before .before .before .before .before .before .before .before .before .links .result .count ≤ length (c .before .before .before .before .before .before .before .before .before .before .before .before .before .before .before .links .result .words) = omega (arith, c .before .before .before .before .before .before .before .before .before .before .before .before .before .before .before .links .ensures .few) in
-    let all = replies (z .size) hx hy e (A .is) (c .before .before .before .before .before .before .before .before .before .before .before .before .before .before .before .before .if3 .left) (f .ensures .0) (f .kept .1 .1 .1 .1 .1 .1 .0)
-    (λ b R. f .ensures .1 (s .text .now) e (A .limits) (rw part (A .front)) b R (z .size b R) (spans R (z .size b R) (z .small) _ _ (c .before .before .before .before .before .before .before .before .before .before .before .before .before .before .before .links .ensures .linked b R) m)) in
+    let part : after-answer2 .answer2 .given .0 .0 - 0 ≡ after-answer2 .answer2 .given .0 .0 = omega arith in
+    let f = after-sought .sought in
+    let hx = after-read .before .before .if1 .left in
+    let hy = after-read .before .if2 .left in
+    let k : length (after-links .links .result .words) ≡ 4096 = search needs in
+    let m : after-links .links .result .count ≤ length (after-links .links .result .words) = omega (arith, after-links .links .ensures .few) in
+    let all = replies (z .size) hx hy e (A .is) (after-links .before .if3 .left) (f .ensures .0) (f .kept .1 .1 .1 .1 .1 .1 .0)
+    (λ b R. f .ensures .1 (s .text .now) e (A .limits) (rw part (A .front)) b R (z .size b R)
+    (spans R (z .size b R) (z .small) _ _ (after-links .links .ensures .linked b R) m)) in
     rw (c .before .found .given .1) at all
 
 same-length-3 : tie.Need-same-length-3
@@ -118,19 +135,26 @@ same-length-4 c = search needs
 
 returns-6 : tie.Need-returns-6
 returns-6 c =
-    let s = c .before .before .before .before .before .before .before .before .before .before .before .before .before .before .before .before .before .before .before .before .before .before .before .before .before .before .before .args in
-    let z = c .before .before .before .before .before .before .before .before .before .before .before .before .before .before .before .before .before .before .before .before .before .before .before .size .ensures in
-    let a = reads-accepted (c .before .before .before .before .before .before .before .before .before .before .before .before .before .before .before .before .before .before .before .before .read .ensures) (c .before .before .before .before .before .before .before .before .before .before .before .before .before .before .before .before .before .answer2 .given .1) in
+    let after-sought = c .before .before .before .before .before .before in
+    let after-links = after-sought .before .before .before .before .before .before .before .before in
+    let after-answer2 = after-links .before .before .before in
+    let after-read = after-answer2 .before .before .before in
+    let after-size = after-read .before .before .before in
+    let start = after-size .before .before .before .before in
+    let s = start .args in
+    let z = after-size .size .ensures in
+    let a = reads-accepted (after-read .read .ensures) (after-answer2 .answer2 .given .1) in
     let e = a .0 in
     let A = a .1 in
-    let part : c .before .before .before .before .before .before .before .before .before .before .before .before .before .before .before .before .before .answer2 .given .0 .0 - 0 ≡ c .before .before .before .before .before .before .before .before .before .before .before .before .before .before .before .before .before .answer2 .given .0 .0 = omega arith in
-    let f = c .before .before .before .before .before .before .sought in
-    let hx = c .before .before .before .before .before .before .before .before .before .before .before .before .before .before .before .before .before .before .before .before .before .before .if1 .left in
-    let hy = c .before .before .before .before .before .before .before .before .before .before .before .before .before .before .before .before .before .before .before .before .before .if2 .left in
-    let k : length (c .before .before .before .before .before .before .before .before .before .before .before .before .before .before .links .result .words) ≡ 4096 = search needs in
-    let m : c .before .before .before .before .before .before .before .before .before .before .before .before .before .before .links .result .count ≤ length (c .before .before .before .before .before .before .before .before .before .before .before .before .before .before .links .result .words) = omega (arith, c .before .before .before .before .before .before .before .before .before .before .before .before .before .before .links .ensures .few) in
-    let all = replies (z .size) hx hy e (A .is) (c .before .before .before .before .before .before .before .before .before .before .before .before .before .before .before .if3 .left) (f .ensures .0) (f .kept .1 .1 .1 .1 .1 .1 .0)
-    (λ b R. f .ensures .1 (s .text .now) e (A .limits) (rw part (A .front)) b R (z .size b R) (spans R (z .size b R) (z .small) _ _ (c .before .before .before .before .before .before .before .before .before .before .before .before .before .before .links .ensures .linked b R) m)) in
+    let part : after-answer2 .answer2 .given .0 .0 - 0 ≡ after-answer2 .answer2 .given .0 .0 = omega arith in
+    let f = after-sought .sought in
+    let hx = after-read .before .before .if1 .left in
+    let hy = after-read .before .if2 .left in
+    let k : length (after-links .links .result .words) ≡ 4096 = search needs in
+    let m : after-links .links .result .count ≤ length (after-links .links .result .words) = omega (arith, after-links .links .ensures .few) in
+    let all = replies (z .size) hx hy e (A .is) (after-links .before .if3 .left) (f .ensures .0) (f .kept .1 .1 .1 .1 .1 .1 .0)
+    (λ b R. f .ensures .1 (s .text .now) e (A .limits) (rw part (A .front)) b R (z .size b R)
+    (spans R (z .size b R) (z .small) _ _ (after-links .links .ensures .linked b R) m)) in
     rw (c .enum-told .given .1) at all
 
 same-length-5 : tie.Need-same-length-5
@@ -141,19 +165,26 @@ same-length-6 c = search needs
 
 returns-7 : tie.Need-returns-7
 returns-7 c =
-    let s = c .before .before .before .before .before .before .before .before .before .before .before .before .before .before .before .before .before .before .before .before .before .before .before .before .before .before .before .args in
-    let z = c .before .before .before .before .before .before .before .before .before .before .before .before .before .before .before .before .before .before .before .before .before .before .before .size .ensures in
-    let a = reads-accepted (c .before .before .before .before .before .before .before .before .before .before .before .before .before .before .before .before .before .before .before .before .read .ensures) (c .before .before .before .before .before .before .before .before .before .before .before .before .before .before .before .before .before .answer2 .given .1) in
+    let after-sought = c .before .before .before .before .before .before in
+    let after-links = after-sought .before .before .before .before .before .before .before .before in
+    let after-answer2 = after-links .before .before .before in
+    let after-read = after-answer2 .before .before .before in
+    let after-size = after-read .before .before .before in
+    let start = after-size .before .before .before .before in
+    let s = start .args in
+    let z = after-size .size .ensures in
+    let a = reads-accepted (after-read .read .ensures) (after-answer2 .answer2 .given .1) in
     let e = a .0 in
     let A = a .1 in
-    let part : c .before .before .before .before .before .before .before .before .before .before .before .before .before .before .before .before .before .answer2 .given .0 .0 - 0 ≡ c .before .before .before .before .before .before .before .before .before .before .before .before .before .before .before .before .before .answer2 .given .0 .0 = omega arith in
-    let f = c .before .before .before .before .before .before .sought in
-    let hx = c .before .before .before .before .before .before .before .before .before .before .before .before .before .before .before .before .before .before .before .before .before .before .if1 .left in
-    let hy = c .before .before .before .before .before .before .before .before .before .before .before .before .before .before .before .before .before .before .before .before .before .if2 .left in
-    let k : length (c .before .before .before .before .before .before .before .before .before .before .before .before .before .before .links .result .words) ≡ 4096 = search needs in
-    let m : c .before .before .before .before .before .before .before .before .before .before .before .before .before .before .links .result .count ≤ length (c .before .before .before .before .before .before .before .before .before .before .before .before .before .before .links .result .words) = omega (arith, c .before .before .before .before .before .before .before .before .before .before .before .before .before .before .links .ensures .few) in
-    let all = replies (z .size) hx hy e (A .is) (c .before .before .before .before .before .before .before .before .before .before .before .before .before .before .before .if3 .left) (f .ensures .0) (f .kept .1 .1 .1 .1 .1 .1 .0)
-    (λ b R. f .ensures .1 (s .text .now) e (A .limits) (rw part (A .front)) b R (z .size b R) (spans R (z .size b R) (z .small) _ _ (c .before .before .before .before .before .before .before .before .before .before .before .before .before .before .links .ensures .linked b R) m)) in
+    let part : after-answer2 .answer2 .given .0 .0 - 0 ≡ after-answer2 .answer2 .given .0 .0 = omega arith in
+    let f = after-sought .sought in
+    let hx = after-read .before .before .if1 .left in
+    let hy = after-read .before .if2 .left in
+    let k : length (after-links .links .result .words) ≡ 4096 = search needs in
+    let m : after-links .links .result .count ≤ length (after-links .links .result .words) = omega (arith, after-links .links .ensures .few) in
+    let all = replies (z .size) hx hy e (A .is) (after-links .before .if3 .left) (f .ensures .0) (f .kept .1 .1 .1 .1 .1 .1 .0)
+    (λ b R. f .ensures .1 (s .text .now) e (A .limits) (rw part (A .front)) b R (z .size b R)
+    (spans R (z .size b R) (z .small) _ _ (after-links .links .ensures .linked b R) m)) in
     rw (c .enum-told2 .given .1) at all
 
 pub chain-spec : {M : Type 1} → statement M
