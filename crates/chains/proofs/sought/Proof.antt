@@ -58,10 +58,10 @@ slice-aggregate-first-chain-3 c = search needs
 
 first-chain-requires : tie.Need-first-chain-requires
 first-chain-requires c κs =
-    let a =
-    c .before .before .before .before .before .before .before .before .before .before .before .before .before .before .before .before .before .before .before .before .args in
-    let p =
-    c .before .before .before .before .before .before .before .before .before .before .before .before .before .before .before .before .before .before .before .before .pre in
+    let a = (let earlier = c .before .before .before .before .before .before .before .before .before .before in
+    earlier .before .before .before .before .before .before .before .before .before .before) .args in
+    let p = (let earlier = c .before .before .before .before .before .before .before .before .before .before in
+    earlier .before .before .before .before .before .before .before .before .before .before) .pre in
     let e : length (take (a .count - 0) (a .links .now)) ≡ a .count - 0 = length-take-le (a .count - 0) (a .links .now) (omega arith) in
     (omega arith, p .2, search needs, search needs, search needs, p .3, p .4, p .5)
 
