@@ -46,7 +46,8 @@ module _ {r : Register} {before after : List ℕ} {out : Outcome} (c : Closes r 
         n .list ∙ ap (λ (u : Question·Outcome). listAfter u l) e,
       )
 
-  pub chain-after : (x y : ℕ) → used (b .n) (b .sheet) x ≡ true → used (b .n) (b .sheet) y ≡ true → (text : List ℕ) (work : ℕ) (l l₂ : List ℕ) (a₂ : ChainAnswer) → chainWork (b .n) ≤ work
+  pub chain-after : (x y : ℕ) → used (b .n) (b .sheet) x ≡ true → used (b .n) (b .sheet) y ≡ true
+      → (text : List ℕ) (work : ℕ) (l l₂ : List ℕ) (a₂ : ChainAnswer) → chainWork (b .n) ≤ work
       → Replies (out .register) (newNumber b x) (newNumber b y) text work l l₂ a₂ → (t : Reply) → ReplyTo (asked b) (verdict text) x y t
       → (outcomeOf a₂ l₂ ≡ renamedOutcome (newNumber b) (chainAnswer b x y (verdict text) t work (length l)))
       × (l₂ ≡ listAfter (renamedOutcome (newNumber b) (chainAnswer b x y (verdict text) t work (length l))) l)

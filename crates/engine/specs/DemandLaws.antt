@@ -52,7 +52,8 @@ told-as : {o : Outcome} {a : PairsAnswer} (total : ℕ) (ws : List ℕ) → Tell
 told-as total ws (told-number {k}) e = absurd (let z : _≡_ {A = ℕ} 0 1 = cc in omega arith)
 told-as total ws (told-pairs {total = k}) e = let z : k ≡ total = cc in ap Pairs z
 
-pub pairs-claim : {r : Register} {b : Book} → Represents r b → (q : PairsAsked) → AsksPairs r (q .text) (q .work) (q .before) (q .after) (q .answer) → PairsClaim b q
+pub pairs-claim : {r : Register} {b : Book} → Represents r b → (q : PairsAsked)
+    → AsksPairs r (q .text) (q .work) (q .before) (q .after) (q .answer) → PairsClaim b q
 unfolding listAfter asked
 pairs-claim {r} {b} R q Q e A =
     let v : accepted e ≡ verdict (q .text) = verdict-only (A .expression) in
@@ -60,11 +61,17 @@ pairs-claim {r} {b} R q Q e A =
     let are = pairs-are (asked b) (fit-inside b (R .sheet .fit)) (small R) e in
     let room = length (q .before) in
     let o : pairsAnswer b (verdict (q .text)) (q .work) room ≡ paired (length l) (take room l) =
-    ap (λ (u : Verdict). pairsAnswer b u (q .work) room) (sym v) ∙ asks-paired b (q .work) room e (A .work) in
-    (l, are, told-as (length l) (take room l) (Q .book b R .tells) o, Q .book b R .list ∙ ap (λ (u : Outcome). listAfter u (q .before)) o, λ w v. first-part room w v l (are .ascending))
+    ap (λ (u : Verdict). pairsAnswer b u (q .work) room) (sym v) ∙ asks-paired b (q .work) room e (A .work) in (
+      l,
+      are,
+      told-as (length l) (take room l) (Q .book b R .tells) o,
+      Q .book b R .list ∙ ap (λ (u : Outcome). listAfter u (q .before)) o,
+      λ w v. first-part room w v l (are .ascending),
+    )
 
 -- ---- chain questions
-module _ {e : Register} {b : Book} (R : Represents e b) (x y : ℕ) (text : List ℕ) (work : ℕ) (before after′ : List ℕ) (a : ChainAnswer) (Q : Replies e x y text work before after′ a)
+module _ {e : Register} {b : Book} (R : Represents e b) (x y : ℕ) (text : List ℕ) (work : ℕ)
+    (before after′ : List ℕ) (a : ChainAnswer) (Q : Replies e x y text work before after′ a)
     (f : Expr) (J : Judged text (accepted f)) (hx : x < b .n) (hy : y < b .n) (w : chainWork (b .n) ≤ work) where
   read-as : accepted f ≡ verdict text
   read-as = verdict-only J
@@ -90,7 +97,9 @@ module _ {e : Register} {b : Book} (R : Represents e b) (x y : ℕ) (text : List
   says-chain ws o l h = go a o (Q .fits)
     where
       long : length after′ ≡ length before
-      long = ap length l ∙ length-append ws (drop (length ws) before) ∙ (let d = length-drop (length ws) before in let z : length ws + length (drop (length ws) before) ≡ length before = omega arith in z)
+      long =
+          ap length l ∙ length-append ws (drop (length ws) before)
+          ∙ (let d = length-drop (length ws) before in let z : length ws + length (drop (length ws) before) ≡ length before = omega arith in z)
 
       go : (r : ChainAnswer) → outcomeOf r after′ ≡ replied (chain ws) → stepsLength r ≤ length before → r ≡ Chain (length ws)
       go (Chain k) o q =
@@ -128,7 +137,8 @@ module _ {e : Register} {b : Book} (R : Represents e b) (x y : ℕ) (text : List
       let F = has-first (asked b) (fit-inside b (R .sheet .fit)) f x y (ss, A) in
       let t : Reply = chain (stepWords (F .0)) in
       let o = Q .answers b R t (reply-to t (first-chain (F .0) (F .1))) .0 in
-      not-none (firstNumber (chainCauses b x y (verdict text) t work (length before))) (stepWords (F .0)) (sym (ap (λ (r : ChainAnswer). outcomeOf r after′) q) ∙ o)
+      not-none (firstNumber (chainCauses b x y (verdict text) t work (length before)))
+      (stepWords (F .0)) (sym (ap (λ (r : ChainAnswer). outcomeOf r after′) q) ∙ o)
 
   -- where there is a chain there is a first one
   first-of : (ts : List Step) → Answers (asked b) f x y ts
@@ -176,9 +186,11 @@ told-front (w ∷ ws) [] ys h = absurd (omega arith)
 told-front (w ∷ ws) (k ∷ xs) ys h = ap (λ (l : List ℕ). pick (isCall (wordCall w)) (k ∷ l) l) (told-front ws xs ys (omega arith))
 
 -- the calls among the words are told the book's answers
-pub replayed-calls : (n : ℕ) (words old new : List ℕ) → new ≡ wordAnswers (fresh n) words ++ drop (length words) old → toldCalls words new ≡ answers (fresh n) (callsOf words)
+pub replayed-calls : (n : ℕ) (words old new : List ℕ) → new ≡ wordAnswers (fresh n) words ++ drop (length words) old
+    → toldCalls words new ≡ answers (fresh n) (callsOf words)
 replayed-calls n words old new e =
-    ap (toldCalls words) e ∙ told-front words (wordAnswers (fresh n) words) (drop (length words) old) (word-answers-length (fresh n) words) ∙ told-calls (fresh n) words
+    ap (toldCalls words) e ∙ told-front words (wordAnswers (fresh n) words) (drop (length words) old) (word-answers-length (fresh n) words)
+    ∙ told-calls (fresh n) words
 
 -- a fresh register shows no link
 pub none-linked : (n : ℕ) (ws : List ℕ) → Linked ws (fresh n .sheet) → ws ≡ []

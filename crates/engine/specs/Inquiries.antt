@@ -74,5 +74,6 @@ pub record Inquired (n : ℕ) (words : List ℕ) (heard lists : Lent) (p : Pairs
 
 pub record Inquires (n : ℕ) (words : List ℕ) (heard lists : Lent) (p : PairsAsked) (c : ChainAsked) (r : Inquiry) : Type 0 where
   pub answer : r .answer ≡ answerOf (replayNumber n words (heard .before) (lists .before))
-  pub refused : (replayNumber n words (heard .before) (lists .before) ≡ 0 → ⊥) → Unasked (replayNumber n words (heard .before) (lists .before)) heard lists p c r
+  pub refused : (replayNumber n words (heard .before) (lists .before) ≡ 0 → ⊥)
+      → Unasked (replayNumber n words (heard .before) (lists .before)) heard lists p c r
   pub made : replayNumber n words (heard .before) (lists .before) ≡ 0 → Inquired n words heard lists p c r

@@ -80,7 +80,12 @@ module _ {c : Call} {before after : List ℕ} {k : ℕ} {r : Register} (w : Keep
       stepped (λ _. a) (ap (drop stateWords) a) (o, t, e, subst (λ (ws : List ℕ). Keeps ws (o .register)) (sym a) (subst (Keeps before) (sym (t .refused n)) w))
   edit-kept {o} t (kept n e v p) = stepped (λ z. absurd (z e)) p (o, t, e ∙ sym (ap answerNumber n), v)
   edit-kept {o} t (lost e a g) =
-      stepped (λ _. a) (ap (drop stateWords) a) (record { register = r; answer = answerOf (number not-open) }, unmet, told e, subst (λ (ws : List ℕ). Keeps ws r) (sym a) w)
+      stepped (λ _. a) (ap (drop stateWords) a) (
+        record { register = r; answer = answerOf (number not-open) },
+        unmet,
+        told e,
+        subst (λ (ws : List ℕ). Keeps ws r) (sym a) w,
+      )
     where
       none : (b : Book) → Represents r b → ⊥
       none b h = g (keeps-long w) (t .follows b h .ranged) (represents-marked (t .follows b h))
@@ -92,11 +97,19 @@ module _ {c : Call} {before after : List ℕ} {k : ℕ} {r : Register} (w : Keep
       told-as q = cc
 
       unmet : Steps r c (record { register = r; answer = answerOf (number not-open) })
-      unmet = record { caused = λ j q. (not-open, sym (told-as q)); refused = λ _. refl; foreign = λ _. refl; answers = λ b h. absurd (none b h); follows = λ b h. absurd (none b h) }
+      unmet =
+          record {
+            caused = λ j q. (not-open, sym (told-as q));
+            refused = λ _. refl;
+            foreign = λ _. refl;
+            answers = λ b h. absurd (none b h);
+            follows = λ b h. absurd (none b h);
+          }
 
 -- ---- closing up
 pub close-foreign : (ws list : List ℕ) → Foreign ws → Renumbers (record { before = ws; after = ws }) (record { before = list; after = list }) (number not-open)
-close-foreign ws list f = record { edits = edit-foreign (close (length list)) ws f; refused = λ _. refl; past = λ r k. refl; given = λ b h. absurd (f (h .0) (h .1)) }
+close-foreign ws list f =
+    record { edits = edit-foreign (close (length list)) ws f; refused = λ _. refl; past = λ r k. refl; given = λ b h. absurd (f (h .0) (h .1)) }
 
 -- what a closing up hands back has words, accepted or not
 formed : {before list list′ : List ℕ} {r : Register} {o : Outcome} → Keeps before r → Closes r list list′ o → (a : Answer) → o .answer ≡ a
@@ -158,7 +171,8 @@ module _ {n : ℕ} {o : Outcome} (p : Opens n o) (before : List ℕ) where
     past = refl;
   }
 
-  pub fresh-short : answerNumber (o .answer) ≡ 0 → (after : List ℕ) (ok : Bool) → Stores (o .register) before after ok → ok ≡ false → Freshens n before after (number short-work)
+  pub fresh-short : answerNumber (o .answer) ≡ 0 → (after : List ℕ) (ok : Bool)
+      → Stores (o .register) before after ok → ok ≡ false → Freshens n before after (number short-work)
   unfolding number
   fresh-short e after ok s f = go (decLt (length before) stateWords)
     where
@@ -174,7 +188,8 @@ module _ {n : ℕ} {o : Outcome} (p : Opens n o) (before : List ℕ) where
       }
       go (no l) = absurd (s .refused f .1 (omega (arith, l)) (p .made z .ranged) (represents-marked (p .made z)))
 
-  pub fresh-made : answerNumber (o .answer) ≡ 0 → (after : List ℕ) (ok : Bool) → length after ≡ length before → Stores (o .register) before after ok → ok ≡ true → Freshens n before after 0
+  pub fresh-made : answerNumber (o .answer) ≡ 0 → (after : List ℕ) (ok : Bool) → length after ≡ length before
+      → Stores (o .register) before after ok → ok ≡ true → Freshens n before after 0
   fresh-made e after ok l s f =
       let z : freshAnswer n ≡ 0 = sym (answered (sym e)) in
       let w = s .done f in
@@ -197,11 +212,16 @@ module _ {A : Type 0} {ws : List ℕ} {P : Register → A → Type 0} {f : A →
 abbrev front : Links → List ℕ
 front ls = take (ls .count) (ls .words)
 
-pub links-handed : {ws before after : List ℕ} {r : Register} → Keeps ws r → (ls : Links) → Listing r ls → (xs : List ℕ) {ok : Bool} → Copies xs 0 before after ok → length xs ≤ length before
+pub links-handed : {ws before after : List ℕ} {r : Register} → Keeps ws r → (ls : Links)
+    → Listing r ls → (xs : List ℕ) {ok : Bool} → Copies xs 0 before after ok → length xs ≤ length before
     → xs ≡ take (length before) (front ls) → {k : ℕ} → k ≡ length (front ls) → Asked ws (Lists before after) toldPairs before after k
 links-handed {before = before} w ls g xs c h q e =
     let z : 0 + length xs ≡ length xs = omega arith in
-    asked w (Pairs (length (front ls))) (ls, g, handed (c .fits (omega (arith, h)) .1 ∙ ap (λ (j : ℕ). xs ++ drop j before) z ∙ ap (λ (l : List ℕ). l ++ drop (length l) before) q)) e
+    asked w (Pairs (length (front ls))) (
+      ls,
+      g,
+      handed (c .fits (omega (arith, h)) .1 ∙ ap (λ (j : ℕ). xs ++ drop j before) z ∙ ap (λ (l : List ℕ). l ++ drop (length l) before) q),
+    ) e
 
 byte : (l : Bool) → boolByte l ≡ bit l
 byte true = refl
@@ -218,7 +238,8 @@ module _ {ws : List ℕ} where
   total-foreign g e = record { total = λ r w. absurd (g r w); foreign = λ _. e }
 
   pub totalled : {r : Register} {l k : ℕ} → Keeps ws r → (a : TotalAnswer) → Totals r l a → k ≡ toldTotal a → TellsTotal ws l k
-  totalled {r} {l} {k} w a p e = record { total = λ s v. subst (λ (t : Register). Told (Totals t l) toldTotal k) (keeps-same w v) (a, p, e); foreign = λ g. absurd (g r w) }
+  totalled {r} {l} {k} w a p e =
+      record { total = λ s v. subst (λ (t : Register). Told (Totals t l) toldTotal k) (keeps-same w v) (a, p, e); foreign = λ g. absurd (g r w) }
 
   pub lock-foreign : (x : ℕ) → Foreign ws → TellsLock ws x 0
   lock-foreign x g = record { locked = λ b h. absurd (g (h .0) (h .1)); foreign = λ _. refl }

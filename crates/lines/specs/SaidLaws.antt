@@ -25,7 +25,8 @@ use Rattle.book.specs.Causes.{labels}
 use Rattle.book.specs.Book.{Link, Edit, edit}
 use Rattle.report.specs.Report.{bytes}
 use Rattle.session.specs.Program.{Request, asks, call, chain, totalling}
-use Rattle.lines.specs.Typed.{word, rest, skip, sameBytes, empty, isNumber, numberOf, isLabel, labelOf, text, hash, maxLine, nothing, saying, unknown, misfit, numbered, linked, alone, chained, lettered, requested, begun, typed}
+use Rattle.lines.specs.Typed.{word, rest, skip, sameBytes, empty, isNumber, numberOf, isLabel, labelOf, text, hash, maxLine, nothing, saying, unknown}
+use Rattle.lines.specs.Typed.{misfit, numbered, linked, alone, chained, lettered, requested, begun, typed}
 use Rattle.lines.specs.TypedLaws.{and-false, same-equal}
 use Rattle.lines.specs.Read.{unfit, read}
 use Rattle.lines.specs.ReadLaws.{read-fits, read-not, number-small, label-small}

@@ -97,7 +97,8 @@ last-blank s i h b = rw (take-suc s i 0 h, reverse-append (take i s) (getD s i 0
 
 last-at : (s : List ℕ) (i : ℕ) → i < length s → blank (getD s i 0) ≡ false → trim (take (suc i) s) ≡ take (suc i) s
 unfolding trim skip
-last-at s i h b = rw (take-suc s i 0 h, reverse-append (take i s) (getD s i 0 ∷ []), b, reverse-cons (getD s i 0) (reverse (take i s)), reverse-reverse (take i s))
+last-at s i h b =
+    rw (take-suc s i 0 h, reverse-append (take i s) (getD s i 0 ∷ []), b, reverse-cons (getD s i 0) (reverse (take i s)), reverse-reverse (take i s))
 
 pub trim-blank : (s : List ℕ) (n : ℕ) → 0 < n → n ≤ length s → blank (getD s (n - 1) 0) ≡ true → trim (take n s) ≡ trim (take (n - 1) s)
 trim-blank s n z h b =

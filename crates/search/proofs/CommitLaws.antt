@@ -27,7 +27,13 @@ use Rattle.search.proofs.FrontierLaws.{listed-some}
 
 -- an empty level, committed by nothing
 pub commit-zero : (w s nx : List ℕ) (mark n : ℕ) → Zero nx → Committed w s nx mark n w s
-commit-zero w s nx mark n z = record { hit = λ r q h g o. absurd (none-on q (rw (z r) at o)); miss = λ r q h e. refl; seen-more = λ r q h. rw (z r, digit-none) (omega arith); seen-same = λ r q h. refl }
+commit-zero w s nx mark n z =
+    record {
+      hit = λ r q h g o. absurd (none-on q (rw (z r) at o));
+      miss = λ r q h e. refl;
+      seen-more = λ r q h. rw (z r, digit-none) (omega arith);
+      seen-same = λ r q h. refl;
+    }
 
 pub record Committing (w seen nx : List ℕ) (mark : ℕ) (list : List ℕ) (i : ℕ) (w′ seen′ nx′ records masks : List ℕ) : Type 0 where
   pub hit : (h q : ℕ) → h < i → q < 64 → On (digit (getD nx (getD list h 0) 0) q) → numberAt w′ (getD list h 0) q ≡ mark
@@ -51,7 +57,8 @@ committing-none w seen nx mark list records masks = record {
   masks-at = λ h l. absurd (omega arith);
 }
 
-module _ {w seen nx : List ℕ} {mark : ℕ} {list : List ℕ} {i : ℕ} {w′ seen′ nx′ records masks : List ℕ} (I : Committing w seen nx mark list i w′ seen′ nx′ records masks) {c n : ℕ} (L : Listed list c n nx) where
+module _ {w seen nx : List ℕ} {mark : ℕ} {list : List ℕ} {i : ℕ} {w′ seen′ nx′ records masks : List ℕ}
+    (I : Committing w seen nx mark list i w′ seen′ nx′ records masks) {c n : ℕ} (L : Listed list c n nx) where
   -- the record at i is not among the first
   first-here : i < c → (h : ℕ) → h < i → getD list h 0 ≡ getD list i 0 → ⊥
   first-here l h g e = L .apart h i g l e
@@ -64,7 +71,8 @@ module _ {w seen nx : List ℕ} {mark : ℕ} {list : List ℕ} {i : ℕ} {w′ s
     word : getD nx′ r₀ 0 ≡ getD nx r₀ 0
     word = I .left r₀ (first-here hi)
 
-    pub committing-more : Committing w seen nx mark list (i + 1) w₂ (set seen′ r₀ (bitOr (getD seen′ r₀ 0) (getD nx′ r₀ 0))) (set nx′ r₀ 0) (set records i r₀) (set masks i (getD nx′ r₀ 0))
+    pub committing-more : Committing w seen nx mark list (i + 1) w₂
+        (set seen′ r₀ (bitOr (getD seen′ r₀ 0) (getD nx′ r₀ 0))) (set nx′ r₀ 0) (set records i r₀) (set masks i (getD nx′ r₀ 0))
     committing-more = record {
       hit = λ h q l g o. ht h q g o (which h i) l;
       miss = λ r q g e. ms r q g e (ℕ-discrete r r₀);
@@ -91,7 +99,8 @@ module _ {w seen nx : List ℕ} {mark : ℕ} {list : List ℕ} {i : ℕ} {w′ s
         ms r q g e (yes f) = let d : digit (getD nx r₀ 0) q ≡ 0 = rw f at e in rw f (S .miss q g (rw word d) ∙ I .miss r₀ q g d)
         ms r q g e (no f) = S .rest r q g f ∙ I .miss r q g e
 
-        si : (h q : ℕ) → h < i + 1 → Which h i → digit (getD (set seen′ r₀ (bitOr (getD seen′ r₀ 0) (getD nx′ r₀ 0))) (getD list h 0) 0) q ≡ max (digit (getD seen (getD list h 0) 0) q) (digit (getD nx (getD list h 0) 0) q)
+        si : (h q : ℕ) → h < i + 1 → Which h i → digit (getD (set seen′ r₀ (bitOr (getD seen′ r₀ 0) (getD nx′ r₀ 0))) (getD list h 0) 0) q
+            ≡ max (digit (getD seen (getD list h 0) 0) q) (digit (getD nx (getD list h 0) 0) q)
         si h q l (less f) = seen-other (getD list h 0) q (first-here hi h f) ∙ I .seen-in h q f
         si h q l (same f) =
             rw f (ap (λ (x : ℕ). digit x q) (getD-set-same seen′ r₀ (bitOr (getD seen′ r₀ 0) (getD nx′ r₀ 0)) 0 hs)
@@ -115,7 +124,8 @@ module _ {w seen nx : List ℕ} {mark : ℕ} {list : List ℕ} {i : ℕ} {w′ s
         ma h l (same f) = rw f (getD-set-same masks i (getD nx′ r₀ 0) 0 hm ∙ word)
         ma h l (more f) = absurd (omega arith)
 
-module _ {w seen nx : List ℕ} {mark : ℕ} {list : List ℕ} {c : ℕ} {w′ seen′ nx′ records masks : List ℕ} (I : Committing w seen nx mark list c w′ seen′ nx′ records masks) {n : ℕ} (L : Listed list c n nx) where
+module _ {w seen nx : List ℕ} {mark : ℕ} {list : List ℕ} {c : ℕ} {w′ seen′ nx′ records masks : List ℕ}
+    (I : Committing w seen nx mark list c w′ seen′ nx′ records masks) {n : ℕ} (L : Listed list c n nx) where
   -- a record with no state is not on the list
   not-listed : (r : ℕ) → getD nx r 0 ≡ 0 → (h : ℕ) → h < c → getD list h 0 ≡ r → ⊥
   not-listed r e h l f = let z : 0 < getD nx r 0 = rw f at (listed-some L h l) in omega arith
@@ -127,7 +137,9 @@ module _ {w seen nx : List ℕ} {mark : ℕ} {list : List ℕ} {c : ℕ} {w′ s
       ht r q g o z = rw (z .2) at (I .hit (z .0) q (z .1) g (rw (z .2) o))
 
       sm : (r q : ℕ) → Digit (getD nx r 0) → digit (getD seen′ r 0) q ≡ max (digit (getD seen r 0) q) (digit (getD nx r 0) q)
-      sm r q (is-off e) = let z : digit (getD nx r 0) q ≡ 0 = rw e (digit-none q) in I .seen-off r q (not-listed r e) ∙ (let y : digit (getD seen r 0) q ≡ max (digit (getD seen r 0) q) (digit (getD nx r 0) q) = omega arith in y)
+      sm r q (is-off e) =
+          let z : digit (getD nx r 0) q ≡ 0 = rw e (digit-none q) in
+          I .seen-off r q (not-listed r e) ∙ (let y : digit (getD seen r 0) q ≡ max (digit (getD seen r 0) q) (digit (getD nx r 0) q) = omega arith in y)
       sm r q (is-on o) = let z = L .all r o in rw (z .2) at (I .seen-in (z .0) q (z .1))
 
   pub level-cleared : Zero nx′

@@ -45,7 +45,8 @@ use Rattle.pairs.specs.declared.PairsAnswer.the-variants.{Pairs, Refused as Dec
 use Rattle.support.specs.declared.SupportAnswer.{SupportAnswer}
 use Rattle.support.specs.declared.SupportAnswer.the-variants.{Records, Refused}
 use Rattle.support.specs.declared.Marks.{Marks}
-use Rattle.support.specs.Support.{without, some, chosen, reaches, falls, fallen, orderly, supportWork, fallenOf, supportCauses, supportNumber, answered, listed, BookSupports, recordsLength, SupportsFor}
+use Rattle.support.specs.Support.{without, some, chosen, reaches, falls, fallen, orderly, supportWork, fallenOf, supportCauses, supportNumber, answered}
+use Rattle.support.specs.Support.{listed, BookSupports, recordsLength, SupportsFor}
 use Rattle.support.specs.SupportLaws.{some-same, some-none, chosen-same}
 use Rattle.support.specs.Inner.{joinedBy, lost, Marked, Parted, Handed, too-long, handed, Compares}
 
@@ -58,7 +59,8 @@ or-false false = refl
 relation-number : (b : Book) (v : Verdict) (work : ℕ) → firstNumber (relationCauses b v work rowWords) ≡ firstNumber (pairsCauses b v work)
 unfolding relationCauses pairsCauses
 relation-number b v work =
-    ap (λ (t : Bool). firstNumber (verdictCause v ++ ((short-work, t) ∷ []))) (ap (λ (u : Bool). ltb work (pairsWork (b .n)) || u) (le-ltb rowWords rowWords (omega arith)) ∙ or-false (ltb work (pairsWork (b .n))))
+    ap (λ (t : Bool). firstNumber (verdictCause v ++ ((short-work, t) ∷ [])))
+    (ap (λ (u : Bool). ltb work (pairsWork (b .n)) || u) (le-ltb rowWords rowWords (omega arith)) ∙ or-false (ltb work (pairsWork (b .n))))
 
 told-refused : {o : Outcome} {a : PairsAnswer} {k : ℕ} → Tells o a → a ≡ Declined k → o ≡ refused k
 told-refused {k = k} (told-number {k = j}) e = let z : j ≡ k = cc in ap refused z
@@ -93,7 +95,8 @@ module _ {r : Register} {v : Verdict} {anchors : List ℕ} {work n : ℕ} {befor
         records = λ b R f s z. absurd (omega (arith, caused-positive c, z));
       }
 
-  pub marks-made : {k : ℕ} → a ≡ Pairs k → n ≤ maxRecords → some (leb n) anchors ≡ false → length after ≡ length before → (rs : List Bool) → length rs ≡ maxRecords
+  pub marks-made : {k : ℕ} → a ≡ Pairs k → n ≤ maxRecords → some (leb n) anchors ≡ false
+      → length after ≡ length before → (rs : List Bool) → length rs ≡ maxRecords
       → ((x : ℕ) → x < n → getD rs x false ≡ reaches (joinedBy after) anchors x) → Marked r v anchors work n (record { records = rs; number = 0 })
   unfolding relationAnswer reaches joinedBy
   marks-made {k} e small below m rs l joined = record {
@@ -211,7 +214,8 @@ module _ {r : Register} {core n : ℕ} {v : Verdict} {anchors : List ℕ} {work 
   pub refuses-unordered : core < n → some (leb n) anchors ≡ false → orderly 0 anchors ≡ false → SupportsFor r core v anchors work before before (Refused 20)
   unfolding number
   refuses-unordered h a o = refuses (unordered-anchors, refl) (λ b R.
-      number-unordered b core v anchors work (length before) (subst (λ (i : ℕ). core < i) (size b R) h) (subst (λ (i : ℕ). some (leb i) anchors ≡ false) (size b R) a) o)
+      number-unordered b core v anchors work (length before) (subst (λ (i : ℕ). core < i) (size b R) h)
+      (subst (λ (i : ℕ). some (leb i) anchors ≡ false) (size b R) a) o)
 
 -- ---- words handed over
 module _ (words : List ℕ) (count : ℕ) (fits : count ≤ length words) {l : List ℕ} (e : take count words ≡ l) where
@@ -227,7 +231,8 @@ module _ (words : List ℕ) (count : ℕ) (fits : count ≤ length words) {l : L
       (handed (subst (λ (i : ℕ). i ≤ length before) counted h) (q ∙ ap (λ (k : List ℕ). over k before) e))
 
 -- ---- the two marks compared
-module _ (r : Register) (core n : ℕ) (v : Verdict) (anchors : List ℕ) (work : ℕ) (before : List ℕ) (small : n ≤ maxRecords) (below : core < n) (within : some (leb n) anchors ≡ false)
+module _ (r : Register) (core n : ℕ) (v : Verdict) (anchors : List ℕ) (work : ℕ) (before : List ℕ)
+    (small : n ≤ maxRecords) (below : core < n) (within : some (leb n) anchors ≡ false)
     (o : orderly 0 anchors ≡ true) where
   here-core : (b : Book) → n ≡ b .n → core < b .n
   here-core b z = subst (λ (i : ℕ). core < i) z below
@@ -236,7 +241,8 @@ module _ (r : Register) (core n : ℕ) (v : Verdict) (anchors : List ℕ) (work 
   here-anchors b z = subst (λ (i : ℕ). some (leb i) anchors ≡ false) z within
 
   declines : {k : ℕ} → Caused k
-      → ((b : Book) → Represents r b → n ≡ b .n → (whole : ℕ) → ltb whole (supportWork (b .n)) ≡ ltb work (pairsWork (b .n)) → supportNumber b core v anchors whole (length before) ≡ k)
+      → ((b : Book) → Represents r b → n ≡ b .n → (whole : ℕ) → ltb whole (supportWork (b .n)) ≡ ltb work (pairsWork (b .n))
+      → supportNumber b core v anchors whole (length before) ≡ k)
       → Compares r core n v anchors work before before (Refused k)
   unfolding recordsLength
   declines {k} c f = record {
@@ -249,7 +255,8 @@ module _ (r : Register) (core n : ℕ) (v : Verdict) (anchors : List ℕ) (work 
   -- by the text or the work
   pub first-refused : {m : Marks} → Marked r v anchors work n m → (m .number ≡ 0 → ⊥) → Compares r core n v anchors work before before (Refused (m .number))
   first-refused {m} M z =
-      declines (M .caused z) (λ b R e whole w. number-pairs b core v anchors work whole (length before) w (here-core b e) (here-anchors b e) o (M .number b R) z)
+      declines (M .caused z)
+      (λ b R e whole w. number-pairs b core v anchors work whole (length before) w (here-core b e) (here-anchors b e) o (M .number b R) z)
 
   module _ {rest : Register} {m : Marks} (M : Marked r v anchors work n m) (z : m .number ≡ 0) {p : Marks}
       (P : (b : Book) → Represents r b → b .n ≤ maxRecords → Parted core b rest) {later : ℕ} (kept : later ≡ work) (Q : Marked rest v anchors later n p) where
@@ -270,7 +277,8 @@ module _ (r : Register) (core n : ℕ) (v : Verdict) (anchors : List ℕ) (work 
     second-refused y = declines (Q .caused y) (λ b R e whole w. absurd (y (second-none b R e)))
 
     -- the records lost are those that fall
-    lost-fallen : (b : Book) → Represents r b → n ≡ b .n → (e : Expr) → v ≡ accepted e → chosen (lost (m .records) (p .records) core) n ≡ fallenOf b v core anchors
+    lost-fallen : (b : Book) → Represents r b → n ≡ b .n → (e : Expr) → v ≡ accepted e
+        → chosen (lost (m .records) (p .records) core) n ≡ fallenOf b v core anchors
     unfolding lost falls fallenOf fallen asked
     lost-fallen b R s e q =
         chosen-same (lost (m .records) (p .records) core) (falls (asked b) e core anchors) n (λ x h. same x h)
@@ -289,7 +297,8 @@ module _ (r : Register) (core n : ℕ) (v : Verdict) (anchors : List ℕ) (work 
     -- with no number so far: the text is an expression, and the records lost are those that fall
     record Known (b : Book) (whole : ℕ) : Type 0 where
       pub fallen : chosen (lost (m .records) (p .records) core) n ≡ fallenOf b v core anchors
-      pub number : supportNumber b core v anchors whole (length before) ≡ firstNumber ((short-list, ltb (length before) (length (fallenOf b v core anchors))) ∷ [])
+      pub number : supportNumber b core v anchors whole (length before)
+          ≡ firstNumber ((short-list, ltb (length before) (length (fallenOf b v core anchors))) ∷ [])
 
     known : (b : Book) → Represents r b → n ≡ b .n → (whole : ℕ) → ltb whole (supportWork (b .n)) ≡ ltb work (pairsWork (b .n)) → Known b whole
     known b R s whole w =
@@ -302,7 +311,8 @@ module _ (r : Register) (core n : ℕ) (v : Verdict) (anchors : List ℕ) (work 
     handed-over {after} (too-long h e) = subst (λ (l : List ℕ). Compares r core n v anchors work before l (Refused 13)) (sym e)
         (declines (short-list, refl) (λ b R s whole w.
         let K = known b R s whole w in
-        K .number ∙ ap (λ (t : Bool). pick t 13 0) (lt-ltb (length before) (length (fallenOf b v core anchors)) (subst (λ (l : List ℕ). length before < length l) (K .fallen) h))))
+        K .number ∙ ap (λ (t : Bool). pick t 13 0)
+        (lt-ltb (length before) (length (fallenOf b v core anchors)) (subst (λ (l : List ℕ). length before < length l) (K .fallen) h))))
     handed-over {after} (handed h e) = record {
       fits = h;
       past = ap (drop (length lost-ones)) e ∙ drop-at lost-ones (drop (length lost-ones) before) (length lost-ones) refl;
@@ -316,7 +326,8 @@ module _ (r : Register) (core n : ℕ) (v : Verdict) (anchors : List ℕ) (work 
         given : (b : Book) (whole : ℕ) → Known b whole → BookSupports b core v anchors whole before after (Records (length lost-ones))
         given b whole K =
             let y : supportNumber b core v anchors whole (length before) ≡ 0 =
-            K .number ∙ ap (λ (t : Bool). pick t 13 0) (le-ltb (length before) (length (fallenOf b v core anchors)) (subst (λ (l : List ℕ). length l ≤ length before) (K .fallen) h)) in
+            K .number ∙ ap (λ (t : Bool). pick t 13 0)
+            (le-ltb (length before) (length (fallenOf b v core anchors)) (subst (λ (l : List ℕ). length l ≤ length before) (K .fallen) h)) in
             record {
               answer = ap (λ (l : List ℕ). Records (length l)) (K .fallen) ∙ sym (ap (λ (i : ℕ). answered i (fallenOf b v core anchors)) y);
               list = e ∙ ap (λ (l : List ℕ). over l before) (K .fallen) ∙ sym (ap (λ (i : ℕ). listed i (fallenOf b v core anchors) before) y);

@@ -145,7 +145,8 @@ cut-more core (v ∷ ws) w b = cut-more core ws w (cut core (wordLink v) b)
 pub cut-next : (core : ℕ) (words : List ℕ) (i : ℕ) (b : Book) → i < length words
     → cut core (wordLink (getD words i 0)) (cutAll core (take i words) b) ≡ cutAll core (take (i + 1) words) b
 cut-next core words i b h =
-    sym (ap (λ (j : ℕ). cutAll core (take j words) b) (add-one i) ∙ ap (λ (ws : List ℕ). cutAll core ws b) (take-suc words i 0 h) ∙ cut-more core (take i words) (getD words i 0) b)
+    sym (ap (λ (j : ℕ). cutAll core (take j words) b) (add-one i)
+    ∙ ap (λ (ws : List ℕ). cutAll core ws b) (take-suc words i 0 h) ∙ cut-more core (take i words) (getD words i 0) b)
 
 -- what a cut of every word of ws leaves
 record CutsAll (core : ℕ) (ws : List ℕ) (b b′ : Book) : Type 0 where
@@ -207,7 +208,8 @@ cut-graph core b fit s ws L = λ i. record { n = C .size i; inUse = in-use i; pr
     C : CutsAll core ws b (cutAll core ws b)
     C = cuts-all core ws b named
 
-    in-use : _≡_ {A = ℕ → Bool} (λ x. ltb x (cutAll core ws b .n) && not (isWithdrawn (cutAll core ws b .sheet) x)) (λ x. ltb x (b .n) && not (isWithdrawn (b .sheet) x))
+    in-use : _≡_ {A = ℕ → Bool} (λ x. ltb x (cutAll core ws b .n) && not (isWithdrawn (cutAll core ws b .sheet) x))
+        (λ x. ltb x (b .n) && not (isWithdrawn (b .sheet) x))
     in-use = fun-ext (λ x. ap₂ (λ (m : ℕ) (t : Bool). ltb x m && not t) (C .size) (C .withdrawn x))
 
     at : (j : Link) (t : Bool) → touches core j ≡ t → (u : Bool) → present (b .sheet) j ≡ u → present (cutAll core ws b .sheet) j ≡ (u && not t)

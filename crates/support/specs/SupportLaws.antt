@@ -36,7 +36,8 @@ use Rattle.paths.specs.Relations.{cells}
 use Rattle.paths.specs.ChainLaws.{Inside}
 use Rattle.paths.specs.RelationLaws.{cells-is}
 use Rattle.paths.specs.PairLaws.{history-inside, text-in-order}
-use Rattle.support.specs.Support.{touches, without, Held, Falls, FallenAre, some, chosen, reaches, falls, fallen, orderly, supportWork, fallenOf, supportCauses}
+use Rattle.support.specs.Support.{touches, without, Held, Falls, FallenAre, some, chosen, reaches, falls, fallen, orderly, supportWork, fallenOf}
+use Rattle.support.specs.Support.{supportCauses}
 
 -- ---- tests of members
 pub some-in : (t : ℕ → Bool) (l : List ℕ) → some t l ≡ true → (x : ℕ) × In x l × (t x ≡ true)

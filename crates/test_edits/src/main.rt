@@ -1,5 +1,6 @@
-// Runs the register's calls and prints the answers: the edits of the sample (S7.8), as calls and as words, closings up in a history, a register kept as words, every refusal that a
-// register can give, a record withdrawn and reinstated, 257 edits with 257 undos, and a register filled to 4,096 links with one more, of which a removed link's space is used again.
+// Runs the register's calls and prints the answers: the edits of the sample (S7.8), as calls and as words, closings up in a history, a register kept as
+// words, every refusal that a register can give, a record withdrawn and reinstated, 257 edits with 257 undos, and a register filled to 4,096 links with one
+// more, of which a removed link's space is used again.
 use libc::STDOUT_FILENO;
 use register::Answer;
 use register::Outcome;

@@ -20,7 +20,10 @@ cast-result : tie.Need-cast-result
 cast-result c = search needs
 
 returns-2 : tie.Need-returns-2
-returns-2 c = locked-word (c .is-locked .result) (load-some (c .before .before .before .before .load .ensures) (c .before .before .before .number-of .ensures) (c .before .before .if1 .left)) (c .is-locked .ensures)
+returns-2 c =
+    locked-word (c .is-locked .result)
+    (load-some (c .before .before .before .before .load .ensures) (c .before .before .before .number-of .ensures) (c .before .before .if1 .left))
+    (c .is-locked .ensures)
 
 pub dating-locked-spec : {M : Type 1} → statement M
 dating-locked-spec =
