@@ -12,7 +12,8 @@
 -- Assumes nothing.
 use mathlib.Core.Path.{_≡_, sym, _∙_}
 use Prim.Native.Nat.{ℕ, zero, suc, _+_, _-_, _*_, _/_, _%_, _^_, _≤_, _<_, min, max}
-use native.Mathlib.Nat.{div-div-eq-div-mul, pow-suc, pow-succ', zero-div, div-one, mul-div-cancel, mul-mod-left, zero-lt-suc, one-mul, mul-one, div-eq-of-lt, lt-of-lt-of-le, sub-zero, suc-sub-suc}
+use native.Mathlib.Nat.{div-div-eq-div-mul, pow-suc, pow-succ', zero-div, div-one, mul-div-cancel, mul-mod-left, zero-lt-suc, one-mul, mul-one, div-eq-of-lt}
+use native.Mathlib.Nat.{lt-of-lt-of-le, sub-zero, suc-sub-suc}
 use native.Mathlib.Omega.{arith}
 use lib.Bits.{bitAnd, bitOr, and-step, or-step, and-shr, or-shr, shifted-half, shifted-even}
 use lib.Dec.{lit<, eqb, leb, leb·zero, leb·suc-zero, leb·suc-suc, eqb·zero-suc, eqb·suc-zero, eqb·suc-suc}
@@ -99,7 +100,8 @@ digit-four w r =
     let x : ℕ = w / 2 ^ r in
     let d₁ : digit w (r + 1) ≡ x / 2 % 2 = digit-add w r 1 ∙ digit-suc x 0 ∙ digit-zero (x / 2) in
     let d₂ : digit w (r + 2) ≡ x / 2 / 2 % 2 = digit-add w r 2 ∙ digit-suc x 1 ∙ digit-suc (x / 2) 0 ∙ digit-zero (x / 2 / 2) in
-    let d₃ : digit w (r + 3) ≡ x / 2 / 2 / 2 % 2 = digit-add w r 3 ∙ digit-suc x 2 ∙ digit-suc (x / 2) 1 ∙ digit-suc (x / 2 / 2) 0 ∙ digit-zero (x / 2 / 2 / 2) in
+    let d₃ : digit w (r + 3) ≡ x / 2 / 2 / 2 % 2 =
+    digit-add w r 3 ∙ digit-suc x 2 ∙ digit-suc (x / 2) 1 ∙ digit-suc (x / 2 / 2) 0 ∙ digit-zero (x / 2 / 2 / 2) in
     rw (d₁, d₂, d₃) (unfold digit in (four-of x))
 
 -- the digits of a number tell it

@@ -26,8 +26,12 @@ begun-none n base l k h = absurd (not-suc-le-zero h)
 firstly-fits : (n base i : ℕ) → mag (firstly n base i) < 2 ^ 63
 firstly-fits n base i = firstly-ind n base i (λ z. mag z < 2 ^ 63) (λ _. omega arith) (λ _. omega arith) (λ _. omega arith) (λ _. omega arith)
 
-pub begun-more : (n base i : ℕ) (l : List ℤ) (v : ℤ) → i < length l → v ≡ firstly n base i → Begun n base i l → Begun n base (i + 1) (set l i (toZ w64 (ofZ w64 v)))
-begun-more n base i l v g e b k h = set-ind l i (toZ w64 (ofZ w64 v)) g k (λ z. z ≡ firstly n base k) (λ q. ap (λ (z : ℤ). toZ w64 (ofZ w64 z)) e ∙ bits-back w64 (firstly n base i) (firstly-fits n base i) ∙ ap (firstly n base) (sym q)) (λ q. b k (omega (arith, h, q)))
+pub begun-more : (n base i : ℕ) (l : List ℤ) (v : ℤ) → i < length l → v ≡ firstly n base i
+    → Begun n base i l → Begun n base (i + 1) (set l i (toZ w64 (ofZ w64 v)))
+begun-more n base i l v g e b k h =
+    set-ind l i (toZ w64 (ofZ w64 v)) g k (λ z. z ≡ firstly n base k)
+    (λ q. ap (λ (z : ℤ). toZ w64 (ofZ w64 z)) e ∙ bits-back w64 (firstly n base i) (firstly-fits n base i) ∙ ap (firstly n base) (sym q))
+    (λ q. b k (omega (arith, h, q)))
 
 pub begun-all : (n base i m : ℕ) (l : List ℤ) → length l ≡ m → m ≡ n * 3 → m ≤ i → Begun n base i l → Starts n base l
 begun-all n base i m l e d g b = (e ∙ d, λ k h. b k (omega (arith, d, g, h)))

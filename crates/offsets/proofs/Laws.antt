@@ -37,10 +37,12 @@ module _ (from to : ℕ) (w : ℤ) (l : List ℤ) (c : Bool) where
     not-known k = rw (lt-ltb _ _ f, lt-ltb _ _ t, le-ltb _ _ k)
 
     pub too-low : ltZ a (negsuc 4611686018427387903) ≡ true → _≡_ {A = State} (l, c) (lower from to w (l, c))
-    too-low e = not-known (under (dist l from) 4611686018427387903 (subst (λ (z : ℤ). ltZ z (negsuc 4611686018427387903) ≡ true) (bits-back w64 (dist l from) fa) e))
+    too-low e =
+        not-known (under (dist l from) 4611686018427387903 (subst (λ (z : ℤ). ltZ z (negsuc 4611686018427387903) ≡ true) (bits-back w64 (dist l from) fa) e))
 
     pub too-high : leZ (pos 4611686018427387904) a ≡ true → _≡_ {A = State} (l, c) (lower from to w (l, c))
-    too-high e = not-known (over (dist l from) 4611686018427387904 (subst (λ (z : ℤ). leZ (pos 4611686018427387904) z ≡ true) (bits-back w64 (dist l from) fa) e))
+    too-high e =
+        not-known (over (dist l from) 4611686018427387904 (subst (λ (z : ℤ). leZ (pos 4611686018427387904) z ≡ true) (bits-back w64 (dist l from) fa) e))
 
     module _ (lo : ltZ a (negsuc 4611686018427387903) ≡ false) (hi : leZ (pos 4611686018427387904) a ≡ false) (fw : mag w ≤ 2 ^ 31) where
       is-known : mag (dist l from) < 2 ^ 62
@@ -68,7 +70,9 @@ module _ (from to : ℕ) (w : ℤ) (l : List ℤ) (c : Bool) where
 
       module _ (fb : mag (dist l to) < 2 ^ 63) where
         test-is : (u : Bool) → ltZ sum (toZ w64 (ofZ w64 (dist l to))) ≡ u → ltZ (dist l from +ℤ w) (dist l to) ≡ u
-        test-is u e = ap (λ (z : ℤ). ltZ (dist l from +ℤ w) z) (sym (bits-back w64 (dist l to) fb)) ∙ ap (λ (z : ℤ). ltZ z (toZ w64 (ofZ w64 (dist l to)))) (sym sum-is) ∙ e
+        test-is u e =
+            ap (λ (z : ℤ). ltZ (dist l from +ℤ w) z) (sym (bits-back w64 (dist l to) fb))
+            ∙ ap (λ (z : ℤ). ltZ z (toZ w64 (ofZ w64 (dist l to)))) (sym sum-is) ∙ e
 
         pub stored : ltZ sum (toZ w64 (ofZ w64 (dist l to))) ≡ true → _≡_ {A = State} (set l to sum, true) (lower from to w (l, c))
         unfolding lower
@@ -82,13 +86,17 @@ module _ (from to : ℕ) (w : ℤ) (l : List ℤ) (c : Bool) where
 abbrev pub pair : ℕ → ℕ → ℕ → ℤ → ℤ → State → State
 pair o a b u w s = lower (o + b) (o + a) w (lower (o + a) (o + b) u s)
 
-pub both : (o a b : ℕ) (u w : ℤ) (s s₁ s₂ : State) → SFits w64 u → SFits w64 w → s₁ ≡ lower (o + a) (o + b) (toZ w64 (ofZ w64 u)) s → s₂ ≡ lower (o + b) (o + a) (toZ w64 (ofZ w64 w)) s₁ → s₂ ≡ pair o a b u w s
+pub both : (o a b : ℕ) (u w : ℤ) (s s₁ s₂ : State) → SFits w64 u → SFits w64 w
+    → s₁ ≡ lower (o + a) (o + b) (toZ w64 (ofZ w64 u)) s → s₂ ≡ lower (o + b) (o + a) (toZ w64 (ofZ w64 w)) s₁ → s₂ ≡ pair o a b u w s
 both o a b u w s s₁ s₂ fu fw e₁ e₂ =
-    e₂ ∙ ap (λ (z : ℤ). lower (o + b) (o + a) z s₁) (bits-back w64 w (fw .sfits)) ∙ ap (lower (o + b) (o + a) w) (e₁ ∙ ap (λ (z : ℤ). lower (o + a) (o + b) z s) (bits-back w64 u (fu .sfits)))
+    e₂ ∙ ap (λ (z : ℤ). lower (o + b) (o + a) z s₁) (bits-back w64 w (fw .sfits))
+    ∙ ap (lower (o + b) (o + a) w) (e₁ ∙ ap (λ (z : ℤ). lower (o + a) (o + b) z s) (bits-back w64 u (fu .sfits)))
 
 -- three of these, at the numbers as the code has them, are `relaxed`
-pub all-three : (n first second : ℕ) (least most : ℤ) (s s₁ s₂ s₃ : State) → SFits w32 least → SFits w32 most → s₁ ≡ pair 0 first second (wide most) (minus least) s
-    → s₂ ≡ pair n first second (wide most) (minus least) s₁ → s₃ ≡ pair (n * 2) second first (wide most) (minus least) s₂ → s₃ ≡ relaxed n first second least most s
+pub all-three : (n first second : ℕ) (least most : ℤ) (s s₁ s₂ s₃ : State)
+    → SFits w32 least → SFits w32 most → s₁ ≡ pair 0 first second (wide most) (minus least) s
+    → s₂ ≡ pair n first second (wide most) (minus least) s₁ → s₃ ≡ pair (n * 2) second first (wide most) (minus least) s₂
+    → s₃ ≡ relaxed n first second least most s
 unfolding relaxed third
 all-three n first second least most s s₁ s₂ s₃ fl fm e₁ e₂ e₃ =
     e₃ ∙ ap (pair (n * 2) second first (wide most) (minus least)) (e₂ ∙ ap (pair n first second (wide most) (minus least)) e₁)

@@ -165,7 +165,9 @@ module _ (n : ℕ) (ms : List ℕ) (first second : ℕ) (least most : ℤ) where
           high-is b e = ap (λ (z : ℤ). ltZ (pos 20000) z) (sym (bits-back w32 most (fm .sfits))) ∙ e
 
           cross-is : (b : Bool) → ltZ (toZ w32 (ofZ w32 most)) (toZ w32 (ofZ w32 least)) ≡ b → cross ≡ b
-          cross-is b e = ap (λ (z : ℤ). ltZ z least) (sym (bits-back w32 most (fm .sfits))) ∙ ap (λ (z : ℤ). ltZ (toZ w32 (ofZ w32 most)) z) (sym (bits-back w32 least (fl .sfits))) ∙ e
+          cross-is b e =
+              ap (λ (z : ℤ). ltZ z least) (sym (bits-back w32 most (fm .sfits)))
+              ∙ ap (λ (z : ℤ). ltZ (toZ w32 (ofZ w32 most)) z) (sym (bits-back w32 least (fl .sfits))) ∙ e
 
           out : (b : Bool) → (low || (high || cross)) ≡ b → outside t ≡ b
           unfolding outside
@@ -183,11 +185,15 @@ module _ (n : ℕ) (ms : List ℕ) (first second : ℕ) (least most : ℤ) where
             module _ (hi : ltZ (pos 20000) (toZ w32 (ofZ w32 most)) ≡ false) where
               pub crossed : ltZ (toZ w32 (ofZ w32 most)) (toZ w32 (ofZ w32 least)) ≡ true → 19 ≡ tieNumber n ms t
               unfolding tieNumber
-              crossed e = three-tie R M (outside t) here used (out true (or-right low (high || cross) (low-is false lo) (or-right high cross (high-is false hi) (cross-is true e))))
+              crossed e =
+                  three-tie R M (outside t) here used
+                  (out true (or-right low (high || cross) (low-is false lo) (or-right high cross (high-is false hi) (cross-is true e))))
 
               pub no-cause : ltZ (toZ w32 (ofZ w32 most)) (toZ w32 (ofZ w32 least)) ≡ false → 0 ≡ tieNumber n ms t
               unfolding tieNumber
-              no-cause e = three-none R M (outside t) here used (out false (or-none low (high || cross) (low-is false lo) (or-none high cross (high-is false hi) (cross-is false e))))
+              no-cause e =
+                  three-none R M (outside t) here used
+                  (out false (or-none low (high || cross) (low-is false lo) (or-none high cross (high-is false hi) (cross-is false e))))
 
 -- a tie whose limits were handed on as bits is the tie
 pub tie-back : (n : ℕ) (ms : List ℕ) (first second : ℕ) (least most : ℤ) → SFits w32 least → SFits w32 most

@@ -70,7 +70,8 @@ module _ (g : Records) (base found count : ℕ) (l : List ℤ) where
       pub plan-short : length l < g .n * 64 → Plans g base found count l l (record { cause = 12; rounds = 0 })
       plan-short h = record { cause = short-is h ∙ work-is; filled = λ e. absurd (let z : _≡_ {A = ℕ} 12 0 = e in omega (arith, z)) }
 
-      pub plan-made : g .n * 64 ≤ length l → (x y : List ℤ) → Starts (g .n) base x → Plans g base found count l (x ++ y) (record { cause = 0; rounds = suc (g .n) })
+      pub plan-made : g .n * 64 ≤ length l → (x y : List ℤ) → Starts (g .n) base x
+          → Plans g base found count l (x ++ y) (record { cause = 0; rounds = suc (g .n) })
       plan-made h x y s = record { cause = long-is h ∙ work-is; filled = λ _. ((x, (y, (refl, s))), refl) }
 
 -- ---- a number that is handed over

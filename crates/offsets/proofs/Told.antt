@@ -46,10 +46,12 @@ module _ (n x : ℕ) (l : List ℤ) (fa : mag (dist l (n + x)) < 2 ^ 63) where
   a-is = bits-back w64 (dist l (n + x)) fa
 
   too-low : ltZ a (negsuc 4611686018427387903) ≡ true → known (dist l (n + x)) ≡ false
-  too-low e = le-ltb (mag (dist l (n + x))) (2 ^ 62) (under (dist l (n + x)) 4611686018427387903 (subst (λ (z : ℤ). ltZ z (negsuc 4611686018427387903) ≡ true) a-is e))
+  too-low e =
+      le-ltb (mag (dist l (n + x))) (2 ^ 62) (under (dist l (n + x)) 4611686018427387903 (subst (λ (z : ℤ). ltZ z (negsuc 4611686018427387903) ≡ true) a-is e))
 
   too-high : leZ (pos 4611686018427387904) a ≡ true → known (dist l (n + x)) ≡ false
-  too-high e = le-ltb (mag (dist l (n + x))) (2 ^ 62) (over (dist l (n + x)) 4611686018427387904 (subst (λ (z : ℤ). leZ (pos 4611686018427387904) z ≡ true) a-is e))
+  too-high e =
+      le-ltb (mag (dist l (n + x))) (2 ^ 62) (over (dist l (n + x)) 4611686018427387904 (subst (λ (z : ℤ). leZ (pos 4611686018427387904) z ≡ true) a-is e))
 
   least-free : known (dist l (n + x)) ≡ false → pos 1 ≡ least-word n l x
   unfolding least-word
@@ -73,7 +75,9 @@ module _ (n x : ℕ) (l : List ℤ) (fa : mag (dist l (n + x)) < 2 ^ 63) where
 
   module _ (lo : ltZ a (negsuc 4611686018427387903) ≡ false) (hi : leZ (pos 4611686018427387904) a ≡ false) where
     is-known : known (dist l (n + x)) ≡ true
-    is-known = lt-ltb (mag (dist l (n + x))) (2 ^ 62) (within (dist l (n + x)) 4611686018427387903 (subst (λ (z : ℤ). ltZ z (negsuc 4611686018427387903) ≡ false) a-is lo) (subst (λ (z : ℤ). leZ (pos 4611686018427387904) z ≡ false) a-is hi))
+    is-known =
+        lt-ltb (mag (dist l (n + x))) (2 ^ 62) (within (dist l (n + x)) 4611686018427387903
+        (subst (λ (z : ℤ). ltZ z (negsuc 4611686018427387903) ≡ false) a-is lo) (subst (λ (z : ℤ). leZ (pos 4611686018427387904) z ≡ false) a-is hi))
 
     most-here : most-word n l x ≡ dist l (n + x)
     unfolding most-word
@@ -86,7 +90,8 @@ module _ (n x : ℕ) (l : List ℤ) (fa : mag (dist l (n + x)) < 2 ^ 63) where
     -- what `narrow` makes of the most
     pub most-narrowed : (r : ℤ) → (mag a < 2 ^ 31 → r ≡ a) → mag (most-word n l x) < 2 ^ 31 → toZ w32 (ofZ w32 r) ≡ most-word n l x
     most-narrowed r f small =
-        ap (λ (z : ℤ). toZ w32 (ofZ w32 z)) (f (subst (λ (z : ℤ). mag z < 2 ^ 31) (most-here ∙ sym a-is) small) ∙ a-is ∙ sym most-here) ∙ bits-back w32 (most-word n l x) small
+        ap (λ (z : ℤ). toZ w32 (ofZ w32 z)) (f (subst (λ (z : ℤ). mag z < 2 ^ 31) (most-here ∙ sym a-is) small) ∙ a-is ∙ sym most-here)
+        ∙ bits-back w32 (most-word n l x) small
 
     module _ (fb : mag (dist l (n * 2 + x)) < 2 ^ 63) where
       abbrev b : ℤ
@@ -108,19 +113,24 @@ module _ (n x : ℕ) (l : List ℤ) (fa : mag (dist l (n + x)) < 2 ^ 63) where
 
       module _ (lo′ : ltZ b (negsuc 4611686018427387903) ≡ false) (hi′ : leZ (pos 4611686018427387904) b ≡ false) where
         b-known : mag (dist l (n * 2 + x)) < 2 ^ 62
-        b-known = within (dist l (n * 2 + x)) 4611686018427387903 (subst (λ (z : ℤ). ltZ z (negsuc 4611686018427387903) ≡ false) b-is lo′) (subst (λ (z : ℤ). leZ (pos 4611686018427387904) z ≡ false) b-is hi′)
+        b-known =
+            within (dist l (n * 2 + x)) 4611686018427387903 (subst (λ (z : ℤ). ltZ z (negsuc 4611686018427387903) ≡ false) b-is lo′)
+            (subst (λ (z : ℤ). leZ (pos 4611686018427387904) z ≡ false) b-is hi′)
 
         minus-b : pos 0 -ℤ b ≡ least-word n l x
         minus-b = minus-neg b ∙ ap negℤ b-is ∙ sym least-here
 
         pub sub-fits : SFits w64 (pos 0 -ℤ b)
-        sub-fits = record { sfits = subst (λ (z : ℤ). mag z < 2 ^ 63) (sym (minus-neg b ∙ ap negℤ b-is)) (omega (arith, b-known, mag-neg (dist l (n * 2 + x)))) }
+        sub-fits =
+            record { sfits = subst (λ (z : ℤ). mag z < 2 ^ 63) (sym (minus-neg b ∙ ap negℤ b-is)) (omega (arith, b-known, mag-neg (dist l (n * 2 + x)))) }
 
         v-is : toZ w64 (ofZ w64 (pos 0 -ℤ b)) ≡ least-word n l x
         v-is = bits-back w64 (pos 0 -ℤ b) (sub-fits .sfits) ∙ minus-b
 
-        pub least-narrowed : (r : ℤ) → (mag (toZ w64 (ofZ w64 (pos 0 -ℤ b))) < 2 ^ 31 → r ≡ toZ w64 (ofZ w64 (pos 0 -ℤ b))) → mag (least-word n l x) < 2 ^ 31 → toZ w32 (ofZ w32 r) ≡ least-word n l x
-        least-narrowed r f small = ap (λ (z : ℤ). toZ w32 (ofZ w32 z)) (f (subst (λ (z : ℤ). mag z < 2 ^ 31) (sym v-is) small) ∙ v-is) ∙ bits-back w32 (least-word n l x) small
+        pub least-narrowed : (r : ℤ) → (mag (toZ w64 (ofZ w64 (pos 0 -ℤ b))) < 2 ^ 31 → r ≡ toZ w64 (ofZ w64 (pos 0 -ℤ b)))
+            → mag (least-word n l x) < 2 ^ 31 → toZ w32 (ofZ w32 r) ≡ least-word n l x
+        least-narrowed r f small =
+            ap (λ (z : ℤ). toZ w32 (ofZ w32 z)) (f (subst (λ (z : ℤ). mag z < 2 ^ 31) (sym v-is) small) ∙ v-is) ∙ bits-back w32 (least-word n l x) small
 
 -- ---- a number that fits 32 bits
 module _ (v : ℤ) (fv : mag v < 2 ^ 63) where
@@ -138,7 +148,8 @@ module _ (v : ℤ) (fv : mag v < 2 ^ 63) where
     pub narrow-fits : SFits w32 (toZ w64 (ofZ w64 v))
     narrow-fits = record {
       sfits = subst (λ (z : ℤ). mag z < 2 ^ 31) (sym (bits-back w64 v fv)) (within v 2147483647
-          (subst (λ (z : ℤ). ltZ z (negsuc 2147483647) ≡ false) (bits-back w64 v fv) lo) (subst (λ (z : ℤ). leZ (pos 2147483648) z ≡ false) (bits-back w64 v fv) hi));
+          (subst (λ (z : ℤ). ltZ z (negsuc 2147483647) ≡ false) (bits-back w64 v fv) lo)
+          (subst (λ (z : ℤ). leZ (pos 2147483648) z ≡ false) (bits-back w64 v fv) hi));
     }
 
     pub narrow-is : toZ w32 (ofZ w32 (toZ w64 (ofZ w64 v))) ≡ v
@@ -148,13 +159,16 @@ module _ (v : ℤ) (fv : mag v < 2 ^ 63) where
 pub told-none : (n : ℕ) (r ws : List ℤ) → Fits n r → Told n r 0 ws
 told-none n r ws f y h = absurd (not-suc-le-zero h)
 
-pub told-more : (n : ℕ) (r ws : List ℤ) (x : ℕ) (u v : ℤ) → x < n → x * 2 + 1 < length ws → (mag (least-word n r x) < 2 ^ 31 → u ≡ least-word n r x) → (mag (most-word n r x) < 2 ^ 31 → v ≡ most-word n r x)
+pub told-more : (n : ℕ) (r ws : List ℤ) (x : ℕ) (u v : ℤ) → x < n → x * 2 + 1 < length ws
+    → (mag (least-word n r x) < 2 ^ 31 → u ≡ least-word n r x) → (mag (most-word n r x) < 2 ^ 31 → v ≡ most-word n r x)
     → (Fits n r → Told n r x ws) → Fits n r → Told n r (x + 1) (set (set ws (x * 2) (toZ w32 (ofZ w32 u))) (x * 2 + 1) (toZ w32 (ofZ w32 v)))
 told-more n r ws x u v g₀ g eu ev t fits y h = (
   set-ind one (x * 2 + 1) v′ g′ (y * 2) (λ z. z ≡ least-word n r y) (λ q. absurd (let none : 1 ≤ 0 = omega (arith, q) in not-suc-le-zero none))
-      (λ _. set-ind ws (x * 2) u′ (omega (arith, g)) (y * 2) (λ z. z ≡ least-word n r y) (λ q. let e : y ≡ x = omega (arith, q) in u-is ∙ ap (least-word n r) (sym e)) (λ q. t fits y (less q) .0)),
+      (λ _. set-ind ws (x * 2) u′ (omega (arith, g)) (y * 2) (λ z. z ≡ least-word n r y) (λ q. let e : y ≡ x =
+      omega (arith, q) in u-is ∙ ap (least-word n r) (sym e)) (λ q. t fits y (less q) .0)),
   set-ind one (x * 2 + 1) v′ g′ (y * 2 + 1) (λ z. z ≡ most-word n r y) (λ q. let e : y ≡ x = omega (arith, q) in v-is ∙ ap (most-word n r) (sym e))
-      (λ p. set-ind ws (x * 2) u′ (omega (arith, g)) (y * 2 + 1) (λ z. z ≡ most-word n r y) (λ q. absurd (let none : 1 ≤ 0 = omega (arith, q) in not-suc-le-zero none)) (λ _. t fits y (less′ p) .1)),
+      (λ p. set-ind ws (x * 2) u′ (omega (arith, g)) (y * 2 + 1) (λ z. z ≡ most-word n r y) (λ q. absurd (let none : 1 ≤ 0 =
+      omega (arith, q) in not-suc-le-zero none)) (λ _. t fits y (less′ p) .1)),
 )
   where
     u′ : ℤ

@@ -23,7 +23,8 @@ use Rattle.offsets.specs.declared.Tie.{Tie}
 abbrev pub none : Tie
 none = record { first = 0; second = 0; least = pos 0; most = pos 0 }
 
-pub relax-turn : (n : ℕ) (ts : List Tie) (i : ℕ) (s s′ out : State) → i < length ts → s′ ≡ relaxTie n (getD ts i none) s → relaxAll n (drop i ts) s ≡ out → relaxAll n (drop (suc i) ts) s′ ≡ out
+pub relax-turn : (n : ℕ) (ts : List Tie) (i : ℕ) (s s′ out : State) → i < length ts
+    → s′ ≡ relaxTie n (getD ts i none) s → relaxAll n (drop i ts) s ≡ out → relaxAll n (drop (suc i) ts) s′ ≡ out
 relax-turn n ts i s s′ out h e inv = ap (relaxAll n (drop (suc i) ts)) e ∙ sym (ap (λ (l : List Tie). relaxAll n l s) (drop-cons ts i none h)) ∙ inv
 
 pub relax-over : (n : ℕ) (ts : List Tie) (s out : State) → relaxAll n (drop (length ts) ts) s ≡ out → s ≡ out
@@ -41,7 +42,8 @@ pub passes-fewer : (on : Bool) (k : ℕ) → leftAfter on (suc k) < suc k
 passes-fewer true k = omega arith
 passes-fewer false k = omega arith
 
-pub passes-again : (n : ℕ) (ts : List Tie) (k : ℕ) (ds zs : List ℤ) (c r : Bool) → _≡_ {A = State} (zs, r) (relaxAll n ts (ds, false)) → settled n (leftAfter r (suc k)) ts (zs, r) ≡ settled n (suc k) ts (ds, c)
+pub passes-again : (n : ℕ) (ts : List Tie) (k : ℕ) (ds zs : List ℤ) (c r : Bool)
+    → _≡_ {A = State} (zs, r) (relaxAll n ts (ds, false)) → settled n (leftAfter r (suc k)) ts (zs, r) ≡ settled n (suc k) ts (ds, c)
 unfolding settled
 passes-again n ts k ds zs c r e = subst (λ (s : State). settled n (leftAfter r (suc k)) ts (zs, r) ≡ pick (s .1) (settled n k ts s) s) e (here r)
   where
@@ -50,7 +52,8 @@ passes-again n ts k ds zs c r e = subst (λ (s : State). settled n (leftAfter r 
     here false = refl
 
 -- the same of judging: what the ties that are left make of the number is what all of them make of 0
-pub judge-turn : (n : ℕ) (ws : List ℕ) (ts : List Tie) (i k r out : ℕ) → i < length ts → r ≡ judgeTie n ws (getD ts i none) k → judgeAll n ws (drop i ts) k ≡ out → judgeAll n ws (drop (suc i) ts) r ≡ out
+pub judge-turn : (n : ℕ) (ws : List ℕ) (ts : List Tie) (i k r out : ℕ) → i < length ts
+    → r ≡ judgeTie n ws (getD ts i none) k → judgeAll n ws (drop i ts) k ≡ out → judgeAll n ws (drop (suc i) ts) r ≡ out
 judge-turn n ws ts i k r out h e inv = ap (judgeAll n ws (drop (suc i) ts)) e ∙ sym (ap (λ (l : List Tie). judgeAll n ws l k) (drop-cons ts i none h)) ∙ inv
 
 pub judge-over : (n : ℕ) (ws : List ℕ) (ts : List Tie) (k out : ℕ) → judgeAll n ws (drop (length ts) ts) k ≡ out → k ≡ out

@@ -94,7 +94,8 @@ module _ (n base : ℕ) (ts : List Tie) (ready : Ready n ts) (base-in : base < n
   pub some-holds : ran n ts l .1 ≡ false → (p : Placing) × Places p ts
   some-holds e = cannot-exactly n base ts ready base-in x starts .1 (sym flag-is ∙ e)
 
-  pub limits-told : ran n ts l .1 ≡ false → (ws : List ℤ) → n * 2 ≤ length ws → (Fits n (ran n ts l .0) → Told n (ran n ts l .0) n ws) → OffsetsAre n base ts (limits (take (n * 2) ws))
+  pub limits-told : ran n ts l .1 ≡ false → (ws : List ℤ) → n * 2 ≤ length ws
+      → (Fits n (ran n ts l .0) → Told n (ran n ts l .0) n ws) → OffsetsAre n base ts (limits (take (n * 2) ws))
   limits-told e ws h t =
       let p = some-holds e in
       let fits = words-fit n base ts ready base-in x starts (p .0) (p .1) in
@@ -105,8 +106,10 @@ module _ (n base : ℕ) (ts : List Tie) (ready : Ready n ts) (base-in : base < n
 no-number : {k : ℕ} → suc k ≡ 0 → {X : Type 0} → X
 no-number e = absurd (let none : 1 ≤ 0 = omega (arith, e) in not-suc-le-zero none)
 
-module _ (g : Records) (base : ℕ) (ts : List Tie) (work₀ work₁ work₂ before after : List ℤ) (found : ℕ) (p : Plan) (on : Bool) (judged : found ≡ judgeAll (g .n) (g .marks) ts 0)
-    (plans : Plans g base found (length ts) work₀ work₁ p) (ends : _≡_ {A = State} (work₂, on) (settled (g .n) (p .rounds) ts (work₁, false))) (same : length work₂ ≡ length work₀) where
+module _ (g : Records) (base : ℕ) (ts : List Tie) (work₀ work₁ work₂ before after : List ℤ)
+    (found : ℕ) (p : Plan) (on : Bool) (judged : found ≡ judgeAll (g .n) (g .marks) ts 0)
+    (plans : Plans g base found (length ts) work₀ work₁ p) (ends : _≡_ {A = State} (work₂, on) (settled (g .n) (p .rounds) ts (work₁, false)))
+    (same : length work₂ ≡ length work₀) where
   abbrev n : ℕ
   n = g .n
 
@@ -155,12 +158,14 @@ module _ (g : Records) (base : ℕ) (ts : List Tie) (work₀ work₁ work₂ bef
     placed e = some-holds n base ts (able .0) (able .1 .0) work₁ filled (sym on-is ∙ e)
 
     told-case : on ≡ false → n * 2 ≤ length after → (Fits n work₂ → Told n work₂ n after) → OffsetsAre n base ts (limits (take (n * 2) after))
-    told-case e h t = limits-told n base ts (able .0) (able .1 .0) work₁ filled (sym on-is ∙ e) after h (subst (λ (r : List ℤ). Fits n r → Told n r n after) work-is t)
+    told-case e h t =
+        limits-told n base ts (able .0) (able .1 .0) work₁ filled (sym on-is ∙ e) after h (subst (λ (r : List ℤ). Fits n r → Told n r n after) work-is t)
 
     scant-not : length work₂ < n * 3 → ⊥
     scant-not h = let big = able .1 .1 in let none′ : 1 ≤ 0 = omega (arith, h, big, same) in not-suc-le-zero none′
 
-  pub calls-among : (a : OffsetsAnswer) → length after ≡ length before → HandsOver (p .cause) n on work₂ before after a → Among g base ts (length work₀) before after a
+  pub calls-among : (a : OffsetsAnswer) → length after ≡ length before
+      → HandsOver (p .cause) n on work₂ before after a → Among g base ts (length work₀) before after a
   unfolding toldWords
   calls-among a kept (inner.refused {k} e q) = record {
     past = q;
@@ -216,7 +221,12 @@ module _ (ws : List ℕ) (r : Register) (k : Keeps ws r) where
 
   front-long : length front ≡ marksAt
   unfolding front
-  front-long = let a = length-append (numbersOf r ++ r .links) (r .ring) in let b = length-append (numbersOf r) (r .links) in let c = k .links in let d = k .ring in omega (arith, a, b, c, d)
+  front-long =
+      let a = length-append (numbersOf r ++ r .links) (r .ring) in
+      let b = length-append (numbersOf r) (r .links) in
+      let c = k .links in
+      let d = k .ring in
+      omega (arith, a, b, c, d)
 
   words-at : (j : ℕ) → j < maxRecords → getD ws (marksAt + j) freeMark ≡ getD (r .marks) j freeMark
   unfolding front
@@ -235,15 +245,21 @@ module _ (ws : List ℕ) (r : Register) (k : Keeps ws r) where
       within h = sym (mark-here ws j h) ∙ ap (λ (z : ℕ). eqb z withdrawnMark) (words-at j h)
 
       past : maxRecords ≤ j → isWithdrawnIn ws j ≡ hasMark withdrawnMark (r .marks) j
-      past h = sym (mark-none ws j h) ∙ sym (ap (λ (z : ℕ). eqb z withdrawnMark) (List·getD-eq-default (r .marks) freeMark (let m = k .marks in omega (arith, h, m))))
+      past h =
+          sym (mark-none ws j h)
+          ∙ sym (ap (λ (z : ℕ). eqb z withdrawnMark) (List·getD-eq-default (r .marks) freeMark (let m = k .marks in omega (arith, h, m))))
 
-pub calls-told : (ws : List ℕ) (n base : ℕ) (ts : List Tie) (work₀ work₁ work₂ before after : List ℤ) (found cause rounds : ℕ) (on : Bool) (a : OffsetsAnswer) (answer : ℕ) → SizeIn ws n → found ≡ judgeAll n ws ts 0
-    → Begins ws n base found (length ts) work₀ work₁ cause → rounds ≡ roundsOf cause n → _≡_ {A = State} (work₂, on) (settled n rounds ts (work₁, false)) → length work₂ ≡ length work₀
-    → length after ≡ length before → HandsOver cause n on work₂ before after a → answer ≡ toldOffsets a → OffsetsTold ws base ts (length work₀) before after answer
+pub calls-told : (ws : List ℕ) (n base : ℕ) (ts : List Tie) (work₀ work₁ work₂ before after : List ℤ)
+    (found cause rounds : ℕ) (on : Bool) (a : OffsetsAnswer) (answer : ℕ) → SizeIn ws n → found ≡ judgeAll n ws ts 0
+    → Begins ws n base found (length ts) work₀ work₁ cause → rounds ≡ roundsOf cause n
+    → _≡_ {A = State} (work₂, on) (settled n rounds ts (work₁, false)) → length work₂ ≡ length work₀
+    → length after ≡ length before → HandsOver cause n on work₂ before after a
+    → answer ≡ toldOffsets a → OffsetsTold ws base ts (length work₀) before after answer
 unfolding number
 calls-told ws n base ts work₀ work₁ work₂ before after found cause rounds on a answer sized judged (k₀, (open′, plans)) e ends same kept hands tells =
     let g : Records = record { refused = k₀; n = n; marks = ws } in
-    let m = calls-among g base ts work₀ work₁ work₂ before after found (record { cause = cause; rounds = roundsOf cause n }) on judged plans (ends ∙ ap (λ (j : ℕ). settled n j ts (work₁, false)) e) same a kept hands in
+    let m = calls-among g base ts work₀ work₁ work₂ before after found (record { cause = cause; rounds = roundsOf cause n })
+    on judged plans (ends ∙ ap (λ (j : ℕ). settled n j ts (work₁, false)) e) same a kept hands in
     record {
       answers = λ r w.
           let z = open′ .kept r w in (
@@ -254,7 +270,8 @@ calls-told ws n base ts work₀ work₁ work₂ before after found cause rounds 
                 caused = m .caused z;
                 book = λ b rep.
                     subst (λ (j : ℕ). OffsetsFor j (isWithdrawn (b .sheet)) base ts (length work₀) before after a) (sized .kept r w .size b rep)
-                    (subst (λ (v : ℕ → Bool). OffsetsFor n v base ts (length work₀) before after a) (fun-ext (λ j. withdrawn-in ws r w j ∙ shows-withdrawn (rep .sheet) j)) (m .found z (sized .small)));
+                    (subst (λ (v : ℕ → Bool). OffsetsFor n v base ts (length work₀) before after a)
+                    (fun-ext (λ j. withdrawn-in ws r w j ∙ shows-withdrawn (rep .sheet) j)) (m .found z (sized .small)));
               },
               tells,
             ),

@@ -37,7 +37,8 @@ use borrow.Author.Tests.{ltb-true, ltb-false, eqb-true, eqb-false}
 use Rattle.book.specs.Basics.{In, here, there}
 use Rattle.book.specs.ListLaws.{in-none}
 use Rattle.offsets.specs.declared.Tie.{Tie}
-use Rattle.offsets.specs.Linear.{of-le, of-lt, of-ltb, of-not-ltb, to-le, to-lt, of-add, of-sub, of-neg-up, of-neg-down, least-as-sum, most-as-sum, ≤ℤ-trans}
+use Rattle.offsets.specs.Linear.{of-le, of-lt, of-ltb, of-not-ltb, to-le, to-lt, of-add, of-sub, of-neg-up, of-neg-down, least-as-sum, most-as-sum}
+use Rattle.offsets.specs.Linear.{≤ℤ-trans}
 use Rattle.offsets.specs.Relax.{State, pick, known, dist, lower, third, relaxed, relaxTie, relaxAll}
 use Rattle.offsets.specs.Offsets.{Placing, Places}
 
@@ -70,7 +71,9 @@ at o a = record { from = o + a .from; to = o + a .to; rise = a .rise }
 -- the arcs of ties in a list of three thirds of n each
 abbrev pub arcs3 : ℕ → List Tie → List Arc
 arcs3 n [] = []
-arcs3 n (t ∷ ts) = at 0 (up-arc t) ∷ (at 0 (down-arc t) ∷ (at n (up-arc t) ∷ (at n (down-arc t) ∷ (at (n * 2) (up-arc (turn t)) ∷ (at (n * 2) (down-arc (turn t)) ∷ arcs3 n ts)))))
+arcs3 n (t ∷ ts) =
+    at 0 (up-arc t)
+    ∷ (at 0 (down-arc t) ∷ (at n (up-arc t) ∷ (at n (down-arc t) ∷ (at (n * 2) (up-arc (turn t)) ∷ (at (n * 2) (down-arc (turn t)) ∷ arcs3 n ts)))))
 
 abbrev pub Keeps : Placing → List Arc → Type 0
 Keeps p cs = (a : Arc) → In a cs → p (a .to) ≤ℤ (p (a .from) +ℤ a .rise)
@@ -107,8 +110,10 @@ keeps-places p ts h = of-ties (λ a. p (a .to) ≤ℤ (p (a .from) +ℤ a .rise)
 
 -- a tie's two limits as sums, turned back to differences
 pub sums-meet : (x y least most : ℤ) → y ≤ℤ (x +ℤ most) → x ≤ℤ (y +ℤ negℤ least) → (least ≤ℤ (y -ℤ x)) × ((y -ℤ x) ≤ℤ most)
-sums-meet x y least most h k =
-    (to-le (omega (arith, of-le k, of-sub y x, of-add y (negℤ least), of-neg-up least, of-neg-down least)), to-le (omega (arith, of-le h, of-sub y x, of-add x most)))
+sums-meet x y least most h k = (
+  to-le (omega (arith, of-le k, of-sub y x, of-add y (negℤ least), of-neg-up least, of-neg-down least)),
+  to-le (omega (arith, of-le h, of-sub y x, of-add x most)),
+)
 
 -- ---- one arc
 abbrev pub Holds : Arc → List ℤ → Type 0
@@ -128,9 +133,11 @@ pub lower-ind : (a : Arc) (s : State) (Q : State → Type 0) → (Holds a (s .0)
 unfolding lower
 lower-ind a s Q f g =
     let l = s .0 in
-    pick-ind (ltb (a .from) (length (s .0))) _ s Q (λ ef. pick-ind (ltb (a .to) (length (s .0))) _ s Q (λ et. pick-ind (known (dist (s .0) (a .from))) _ s Q (λ ek.
+    pick-ind (ltb (a .from) (length (s .0))) _ s Q
+    (λ ef. pick-ind (ltb (a .to) (length (s .0))) _ s Q (λ et. pick-ind (known (dist (s .0) (a .from))) _ s Q (λ ek.
     pick-ind (ltZ (dist (s .0) (a .from) +ℤ a .rise) (dist (s .0) (a .to))) _ s Q
-    (λ e. g (ltb-true (a .from) (length (s .0)) ef) (ltb-true (a .to) (length (s .0)) et) ek (to-lt (of-ltb (dist (s .0) (a .from) +ℤ a .rise) (dist (s .0) (a .to)) e)))
+    (λ e. g (ltb-true (a .from) (length (s .0)) ef) (ltb-true (a .to) (length (s .0)) et)
+    ek (to-lt (of-ltb (dist (s .0) (a .from) +ℤ a .rise) (dist (s .0) (a .to)) e)))
     (λ e. f (λ _ _ _. to-le (of-not-ltb (dist (s .0) (a .from) +ℤ a .rise) (dist (s .0) (a .to)) e))))
     (λ e. f (λ _ _ k. absurd (true≢false (sym k ∙ e)))))
     (λ e. f (λ _ h _. absurd (no-lt (a .to) (length (s .0)) h e))))
@@ -152,7 +159,8 @@ lt-le h = to-le (omega (arith, of-lt h))
 
 pub arc-down : (a : Arc) (s : State) (i : ℕ) → dist (arc a s .0) i ≤ℤ dist (s .0) i
 arc-down a s i = lower-ind a s (λ r. dist (r .0) i ≤ℤ dist (s .0) i) (λ _. ≤ℤ-refl (dist (s .0) i))
-    (λ f t k h. set-ind (s .0) (a .to) (dist (s .0) (a .from) +ℤ a .rise) t i (λ z. z ≤ℤ dist (s .0) i) (λ e. subst (λ (j : ℕ). (dist (s .0) (a .from) +ℤ a .rise) ≤ℤ dist (s .0) j) (sym e) (lt-le h)) (λ _. ≤ℤ-refl (dist (s .0) i)))
+    (λ f t k h. set-ind (s .0) (a .to) (dist (s .0) (a .from) +ℤ a .rise) t i (λ z. z ≤ℤ dist (s .0) i)
+    (λ e. subst (λ (j : ℕ). (dist (s .0) (a .from) +ℤ a .rise) ≤ℤ dist (s .0) j) (sym e) (lt-le h)) (λ _. ≤ℤ-refl (dist (s .0) i)))
 
 -- ---- a pass
 pub run-length : (cs : List Arc) (s : State) → length (run cs s .0) ≡ length (s .0)
@@ -177,7 +185,8 @@ quiet-holds (a ∷ cs) s e = by-test (arc a s .1)
     (λ t. absurd (true≢false (sym (flag-stays cs (arc a s) t) ∙ e)))
     (λ f. let q = arc-quiet a s f in let r = quiet-holds cs (arc a s) e in (r .0 ∙ q .0, both q r))
   where
-    both : (arc a s ≡ s) × Holds a (s .0) → (run cs (arc a s) ≡ arc a s) × ((b : Arc) → In b cs → Holds b (arc a s .0)) → (b : Arc) → In b (a ∷ cs) → Holds b (s .0)
+    both : (arc a s ≡ s) × Holds a (s .0) → (run cs (arc a s) ≡ arc a s) × ((b : Arc) → In b cs → Holds b (arc a s .0))
+        → (b : Arc) → In b (a ∷ cs) → Holds b (s .0)
     both q r b here = q .1
     both q r b (there i) = subst (λ (x : State). Holds b (x .0)) (q .0) (r .1 b i)
 
@@ -201,10 +210,12 @@ run-is n [] s = refl
 run-is n (t ∷ ts) s = run-is n ts (relaxTie n t s) ∙ ap (run (arcs3 n ts)) (tie-is n t s)
 
 -- a property of all of them, from one of the arcs of ties and of turned ties
-pub of-thirds : (n : ℕ) (P : Arc → Type 0) (ts : List Tie) → ((b : Arc) → In b (arcs ts) → P (at 0 b)) → ((b : Arc) → In b (arcs ts) → P (at n b)) → ((b : Arc) → In b (arcs (turned ts)) → P (at (n * 2) b))
+pub of-thirds : (n : ℕ) (P : Arc → Type 0) (ts : List Tie) → ((b : Arc) → In b (arcs ts) → P (at 0 b))
+    → ((b : Arc) → In b (arcs ts) → P (at n b)) → ((b : Arc) → In b (arcs (turned ts)) → P (at (n * 2) b))
     → (a : Arc) → In a (arcs3 n ts) → P a
 of-thirds n P [] f g h = λ a i. absurd (in-none i refl)
-of-thirds n P (t ∷ ts) f g h = each P (f (up-arc t) here) (each P (f (down-arc t) (there here)) (each P (g (up-arc t) here) (each P (g (down-arc t) (there here))
+of-thirds n P (t ∷ ts) f g h =
+    each P (f (up-arc t) here) (each P (f (down-arc t) (there here)) (each P (g (up-arc t) here) (each P (g (down-arc t) (there here))
     (each P (h (up-arc (turn t)) here) (each P (h (down-arc (turn t)) (there here))
     (of-thirds n P ts (λ b j. f b (there (there j))) (λ b j. g b (there (there j))) (λ b j. h b (there (there j)))))))))
 
@@ -215,7 +226,8 @@ arc-in-first n (t ∷ ts) = each (λ b. In (at 0 b) (arcs3 n (t ∷ ts))) here (
 
 pub arc-in-second : (n : ℕ) (ts : List Tie) (b : Arc) → In b (arcs ts) → In (at n b) (arcs3 n ts)
 arc-in-second n [] = λ b h. absurd (in-none h refl)
-arc-in-second n (t ∷ ts) = each (λ b. In (at n b) (arcs3 n (t ∷ ts))) (there (there here)) (each (λ b. In (at n b) (arcs3 n (t ∷ ts))) (there (there (there here)))
+arc-in-second n (t ∷ ts) =
+    each (λ b. In (at n b) (arcs3 n (t ∷ ts))) (there (there here)) (each (λ b. In (at n b) (arcs3 n (t ∷ ts))) (there (there (there here)))
     (λ b h. there (there (there (there (there (there (arc-in-second n ts b h))))))))
 
 pub arc-in-third : (n : ℕ) (ts : List Tie) (b : Arc) → In b (arcs (turned ts)) → In (at (n * 2) b) (arcs3 n ts)

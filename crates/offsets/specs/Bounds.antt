@@ -34,7 +34,8 @@ find : (f : Tie → Bool) (ts : List Tie) → ((t : Tie) → In t ts → f t ≡
 find f [] = inl (λ t h. absurd (in-none h refl))
 find f (u ∷ ts) = go (f u) refl (find f ts)
   where
-    go : (b : Bool) → f u ≡ b → ((t : Tie) → In t ts → f t ≡ false) ⊎ ((t : Tie) × (In t ts × (f t ≡ true))) → ((t : Tie) → In t (u ∷ ts) → f t ≡ false) ⊎ ((t : Tie) × (In t (u ∷ ts) × (f t ≡ true)))
+    go : (b : Bool) → f u ≡ b → ((t : Tie) → In t ts → f t ≡ false) ⊎ ((t : Tie) × (In t ts × (f t ≡ true)))
+        → ((t : Tie) → In t (u ∷ ts) → f t ≡ false) ⊎ ((t : Tie) × (In t (u ∷ ts) × (f t ≡ true)))
     go true e r = inr (u, (here, e))
     go false e (inr (t, (i, k))) = inr (t, (there i, k))
     go false e (inl g) = inl both
@@ -80,11 +81,15 @@ module _ (n : ℕ) (ts : List Tie) (allowed : (t : Tie) → In t ts → Allowed 
       joint x y b = to-eq ((x -ℤ b) +ℤ (y -ℤ x)) (y -ℤ b) (omega (arith, of-add (x -ℤ b) (y -ℤ x), of-sub x b, of-sub y x, of-sub y b))
 
   back : (t : Tie) → In t ts → (c : ℕ) → Near c (q (t .second)) → Near (c + 20000) (q (t .first))
-  back t i c h = subst (Near (c + 20000)) (joint (p (t .first)) (p (t .second)) (p base)) (near-add c 20000 (q (t .second)) (negℤ (p (t .second) -ℤ p (t .first))) h
-      (near-neg (p (t .second) -ℤ p (t .first)) (near-ends (p (t .second) -ℤ p (t .first)) (≤ℤ-trans (allowed t i .least-in) (places t i .0)) (≤ℤ-trans (places t i .1) (allowed t i .most-in)))))
+  back t i c h =
+      subst (Near (c + 20000)) (joint (p (t .first)) (p (t .second)) (p base)) (near-add c 20000 (q (t .second)) (negℤ (p (t .second) -ℤ p (t .first))) h
+      (near-neg (p (t .second) -ℤ p (t .first))
+      (near-ends (p (t .second) -ℤ p (t .first)) (≤ℤ-trans (allowed t i .least-in) (places t i .0)) (≤ℤ-trans (places t i .1) (allowed t i .most-in)))))
     where
       joint : (x y b : ℤ) → (y -ℤ b) +ℤ negℤ (y -ℤ x) ≡ x -ℤ b
-      joint x y b = to-eq ((y -ℤ b) +ℤ negℤ (y -ℤ x)) (x -ℤ b) (omega (arith, of-add (y -ℤ b) (negℤ (y -ℤ x)), of-neg-up (y -ℤ x), of-neg-down (y -ℤ x), of-sub x b, of-sub y x, of-sub y b))
+      joint x y b =
+          to-eq ((y -ℤ b) +ℤ negℤ (y -ℤ x)) (x -ℤ b)
+          (omega (arith, of-add (y -ℤ b) (negℤ (y -ℤ x)), of-neg-up (y -ℤ x), of-neg-down (y -ℤ x), of-sub x b, of-sub y x, of-sub y b))
 
   base-near : (c : ℕ) → Near c (q base)
   base-near c = let e : q base ≡ pos 0 = let v = of-pos 0 in to-eq (p base -ℤ p base) (pos 0) (omega (arith, of-sub (p base) (p base), v .0, v .1)) in
@@ -96,13 +101,17 @@ module _ (n : ℕ) (ts : List Tie) (allowed : (t : Tie) → In t ts → Allowed 
   -- where no tie crosses the bound, all that is joined lies within
   within : (c : ℕ) → ((t : Tie) → In t ts → crosses c t ≡ false) → {x : ℕ} → Joined ts base x → nearb c (q x) ≡ true
   within c f self = le-leb (up (q base) + down (q base)) c (parts (q base) c (base-near c))
-  within c f (onward t j i (inl (e, g))) = subst (λ (x : ℕ). nearb c (q x) ≡ true) g (step (nearb c (q (t .first))) (nearb c (q (t .second))) (subst (λ (x : ℕ). nearb c (q x) ≡ true) (sym e) (within c f j)) (f t i))
+  within c f (onward t j i (inl (e, g))) =
+      subst (λ (x : ℕ). nearb c (q x) ≡ true) g
+      (step (nearb c (q (t .first))) (nearb c (q (t .second))) (subst (λ (x : ℕ). nearb c (q x) ≡ true) (sym e) (within c f j)) (f t i))
     where
       step : (a b : Bool) → a ≡ true → differ a b ≡ false → b ≡ true
       step true true h d = refl
       step true false h d = absurd (true≢false d)
       step false b h d = absurd (false≢true h)
-  within c f (onward t j i (inr (e, g))) = subst (λ (x : ℕ). nearb c (q x) ≡ true) g (step (nearb c (q (t .first))) (nearb c (q (t .second))) (subst (λ (x : ℕ). nearb c (q x) ≡ true) (sym e) (within c f j)) (f t i))
+  within c f (onward t j i (inr (e, g))) =
+      subst (λ (x : ℕ). nearb c (q x) ≡ true) g
+      (step (nearb c (q (t .first))) (nearb c (q (t .second))) (subst (λ (x : ℕ). nearb c (q x) ≡ true) (sym e) (within c f j)) (f t i))
     where
       step : (a b : Bool) → b ≡ true → differ a b ≡ false → a ≡ true
       step true true h d = refl
@@ -154,9 +163,12 @@ module _ (n : ℕ) (ts : List Tie) (allowed : (t : Tie) → In t ts → Allowed 
       go (inr (t, (i, e))) = f (next c os h t i e)
 
   grow : (k c : ℕ) (os : List ℕ) → length os ≤ k → Counted c os → (x : ℕ) → Joined ts base x → Near (c + k * 20000) (q x)
-  grow zero c os l h x j = grow-step zero c os h x j (λ m. absurd (let e = out-length (m .v) os (m .member) in let none : 1 ≤ 0 = omega (arith, e, l) in not-suc-le-zero none))
-  grow (suc k) c os l h x j = grow-step (suc k) c os h x j (λ m. subst (λ (d : ℕ). Near d (q x)) (let z : c + 20000 + k * 20000 ≡ c + suc k * 20000 = omega arith in z)
-      (grow k (c + 20000) (out (m .v) os (m .member)) (let e = out-length (m .v) os (m .member) in omega (arith, e, l)) (count c os h (m .v) (m .member) (m .near)) x j))
+  grow zero c os l h x j =
+      grow-step zero c os h x j (λ m. absurd (let e = out-length (m .v) os (m .member) in let none : 1 ≤ 0 = omega (arith, e, l) in not-suc-le-zero none))
+  grow (suc k) c os l h x j =
+      grow-step (suc k) c os h x j (λ m. subst (λ (d : ℕ). Near d (q x)) (let z : c + 20000 + k * 20000 ≡ c + suc k * 20000 = omega arith in z)
+      (grow k (c + 20000) (out (m .v) os (m .member)) (let e = out-length (m .v) os (m .member) in
+      omega (arith, e, l)) (count c os h (m .v) (m .member) (m .near)) x j))
 
   all : (x : ℕ) → x < n → In x (span 0 n)
   all x h = span-all 0 n x (omega arith) (omega (arith, h))
@@ -176,7 +188,8 @@ module _ (n : ℕ) (ts : List Tie) (allowed : (t : Tie) → In t ts → Allowed 
           by (inr i) = inl i
 
 -- so for all words, those of free records too
-module _ (n base : ℕ) (ts : List Tie) (ready : Ready n ts) (base-in : base < n) (l : List ℤ) (starts : Starts n base l) (f : Placing) (places : Places f ts) where
+module _ (n base : ℕ) (ts : List Tie) (ready : Ready n ts) (base-in : base < n)
+    (l : List ℤ) (starts : Starts n base l) (f : Placing) (places : Places f ts) where
   attained-near : (x : ℕ) (z : ℤ) → Joined ts base x → (p : Placing) × (Places p ts × (p x -ℤ p base ≡ z)) → Near 20460000 z
   attained-near x z j (p, (h, e)) = let r = reach-near n ts (ready .allowed) base base-in p h j in
       subst (Near 20460000) e (near-more ((n - 1) * 20000) 20460000 (p x -ℤ p base) (let k = ready .few-records in omega (arith, k)) r)

@@ -40,13 +40,20 @@ module _ (a : Arc) (x y : List ℤ) (c : Bool) (f : a .from < length x) (t : a .
 
   long-is : arc a (x ++ y, c) ≡ pick (known (dist x (a .from))) (pick (ltZ v (dist x (a .to))) (set (x ++ y) (a .to) v, true) (x ++ y, c)) (x ++ y, c)
   unfolding lower
-  long-is = rw (lt-ltb (a .from) (length (x ++ y)) (longer (a .from) f), lt-ltb (a .to) (length (x ++ y)) (longer (a .to) t), List·getD-append x y (pos 0) (a .from) f, List·getD-append x y (pos 0) (a .to) t)
+  long-is =
+      rw (
+        lt-ltb (a .from) (length (x ++ y)) (longer (a .from) f),
+        lt-ltb (a .to) (length (x ++ y)) (longer (a .to) t),
+        List·getD-append x y (pos 0) (a .from) f,
+        List·getD-append x y (pos 0) (a .to) t,
+      )
 
   short-is : arc a (x, c) ≡ pick (known (dist x (a .from))) (pick (ltZ v (dist x (a .to))) (set x (a .to) v, true) (x, c)) (x, c)
   unfolding lower
   short-is = rw (lt-ltb (a .from) (length x) f, lt-ltb (a .to) (length x) t)
 
-  both : (k b : Bool) → pick k (pick b (set (x ++ y) (a .to) v, true) (x ++ y, c)) (x ++ y, c) ≡ beside y (pick k (pick b (set x (a .to) v, true) (x, c)) (x, c))
+  both : (k b : Bool) → pick k (pick b (set (x ++ y) (a .to) v, true) (x ++ y, c)) (x ++ y, c)
+      ≡ beside y (pick k (pick b (set x (a .to) v, true) (x, c)) (x, c))
   both true true = ap (λ (l : List ℤ). (l, true)) (set-append-left x y (a .to) v t)
   both true false = refl
   both false b = refl
@@ -72,7 +79,8 @@ passes-front (suc k) cs x y c h =
     let e = run-front cs x y false h in
     ap (λ (s : State). pick (s .1) (passes k cs s) s) e
     ∙ pick-front y (run cs (x, false) .1) (passes k cs (beside y (run cs (x, false)))) (passes k cs (run cs (x, false)))
-    (λ _. passes-front k cs (run cs (x, false) .0) y (run cs (x, false) .1) (subst (λ (m : ℕ). Inside m cs) (sym (run-length cs (x, false))) h)) (run cs (x, false))
+    (λ _. passes-front k cs (run cs (x, false) .0) y (run cs (x, false) .1) (subst (λ (m : ℕ). Inside m cs) (sym (run-length cs (x, false))) h))
+    (run cs (x, false))
 
 -- ---- ties
 inside3 : (n : ℕ) (ts : List Tie) → Ready n ts → Inside (n * 3) (arcs3 n ts)
@@ -84,5 +92,6 @@ inside3 n ts ready = of-thirds n (λ a. (a .from < n * 3) × (a .to < n * 3)) ts
 pub ran-front : (n : ℕ) (ts : List Tie) → Ready n ts → (x y : List ℤ) → length x ≡ n * 3 → ran n ts (x ++ y) ≡ beside y (ran n ts x)
 unfolding ran
 ran-front n ts ready x y e =
-    settled-is n (suc n) ts (x ++ y, false) ∙ passes-front (suc n) (arcs3 n ts) x y false (subst (λ (m : ℕ). Inside m (arcs3 n ts)) (sym e) (inside3 n ts ready))
+    settled-is n (suc n) ts (x ++ y, false)
+    ∙ passes-front (suc n) (arcs3 n ts) x y false (subst (λ (m : ℕ). Inside m (arcs3 n ts)) (sym e) (inside3 n ts ready))
     ∙ sym (ap (beside y) (settled-is n (suc n) ts (x, false)))

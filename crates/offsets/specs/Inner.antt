@@ -89,13 +89,15 @@ abbrev pub Filled : ℕ → ℕ → List ℤ → Type 0
 Filled n base l = (x : List ℤ) × ((y : List ℤ) × ((l ≡ x ++ y) × Starts n base x))
 
 pub record Plans (g : Records) (base found count : ℕ) (before after : List ℤ) (p : Plan) : Type 0 where
-  pub cause : p .cause ≡ orElse (g .refused) (orElse (sooner (baseNumber (g .n) (g .marks) base count) found) (firstNumber ((short-work, ltb (length before) (offsetsWork (g .n))) ∷ [])))
+  pub cause : p .cause ≡ orElse (g .refused)
+      (orElse (sooner (baseNumber (g .n) (g .marks) base count) found) (firstNumber ((short-work, ltb (length before) (offsetsWork (g .n))) ∷ [])))
   pub filled : p .cause ≡ 0 → Filled (g .n) base after × (p .rounds ≡ suc (g .n))
 
 -- what `begin` promises of words
 abbrev pub Begins : List ℕ → ℕ → ℕ → ℕ → ℕ → List ℤ → List ℤ → ℕ → Type 0
 Begins ws n base found count before after cause =
-    (k : ℕ) × (OpenNumber ws k × Plans (record { refused = k; n = n; marks = ws }) base found count before after (record { cause = cause; rounds = roundsOf cause n }))
+    (k : ℕ)
+    × (OpenNumber ws k × Plans (record { refused = k; n = n; marks = ws }) base found count before after (record { cause = cause; rounds = roundsOf cause n }))
 
 pub data HandsOver (cause n : ℕ) (on : Bool) (work before after : List ℤ) : OffsetsAnswer → Type 0 where
   refused : {k : ℕ} → cause ≡ suc k → after ≡ before → HandsOver cause n on work before after (Refused (suc k))

@@ -69,7 +69,8 @@ module _ (g : Records) where
   unfolding tieNumber
   tie-is t = refl
 
-  pub judge-all : (ts : List Tie) (a b c : Bool) → judgeAll (g .n) (g .marks) ts (three a b c) ≡ three (a || anyTie far ts) (b || anyTie gone ts) (c || anyTie outside ts)
+  pub judge-all : (ts : List Tie) (a b c : Bool)
+      → judgeAll (g .n) (g .marks) ts (three a b c) ≡ three (a || anyTie far ts) (b || anyTie gone ts) (c || anyTie outside ts)
   unfolding anyTie
   judge-all [] a b c = three-same (or-false a) (or-false b) (or-false c)
     where
@@ -92,7 +93,8 @@ module _ (g : Records) where
       ap (sooner (three (leb n base) (w base) (ltb maxTies (length ts)))) (ap (judgeAll (g .n) (g .marks) ts) zero-is ∙ judge-all ts false false false)
       ∙ sooner-three (leb n base) (w base) (ltb maxTies (length ts)) (anyTie far ts) (anyTie gone ts) (anyTie outside ts)
 
-  four : (a b c s : Bool) → orElse (three a b c) (firstNumber ((short-work, s) ∷ [])) ≡ firstNumber ((no-record, a) ∷ (withdrawn-record, b) ∷ (bad-tie, c) ∷ (short-work, s) ∷ [])
+  four : (a b c s : Bool) → orElse (three a b c) (firstNumber ((short-work, s) ∷ []))
+      ≡ firstNumber ((no-record, a) ∷ (withdrawn-record, b) ∷ (bad-tie, c) ∷ (short-work, s) ∷ [])
   unfolding three firstNumber number
   four true b c s = refl
   four false true c s = refl
@@ -100,7 +102,8 @@ module _ (g : Records) where
   four false false false s = refl
 
   pub causes-are : (base : ℕ) (ts : List Tie) (work : ℕ)
-      → orElse (sooner (baseNumber n (g .marks) base (length ts)) (judgeAll (g .n) (g .marks) ts 0)) (firstNumber ((short-work, ltb work (offsetsWork n)) ∷ [])) ≡ firstNumber (offsetsCauses n w base ts work)
+      → orElse (sooner (baseNumber n (g .marks) base (length ts)) (judgeAll (g .n) (g .marks) ts 0)) (firstNumber ((short-work, ltb work (offsetsWork n)) ∷ []))
+      ≡ firstNumber (offsetsCauses n w base ts work)
   unfolding offsetsCauses
   causes-are base ts work =
       ap (λ (k : ℕ). orElse k (firstNumber ((short-work, ltb work (offsetsWork n)) ∷ []))) (found-is base ts)
@@ -123,10 +126,13 @@ inside-limits : (t : Tie) → outside t ≡ false → (negℤ (pos maxRings) ≤
 unfolding outside
 inside-limits t e =
     let p = or-no (ltZ (t .least) (negℤ (pos maxRings))) (ltZ (pos maxRings) (t .most) || ltZ (t .most) (t .least)) e in
-    let q = or-no (ltZ (pos maxRings) (t .most)) (ltZ (t .most) (t .least)) (p .1) in
-    (to-le (of-not-ltb (t .least) (negℤ (pos maxRings)) (p .0)), (to-le (of-not-ltb (t .most) (t .least) (q .1)), to-le (of-not-ltb (pos maxRings) (t .most) (q .0))))
+    let q = or-no (ltZ (pos maxRings) (t .most)) (ltZ (t .most) (t .least)) (p .1) in (
+      to-le (of-not-ltb (t .least) (negℤ (pos maxRings)) (p .0)),
+      (to-le (of-not-ltb (t .most) (t .least) (q .1)), to-le (of-not-ltb (pos maxRings) (t .most) (q .0))),
+    )
 
-pub no-cause-ready : (n : ℕ) (w : ℕ → Bool) (base : ℕ) (ts : List Tie) (work : ℕ) → n ≤ maxRecords → firstNumber (offsetsCauses n w base ts work) ≡ 0 → Ready n ts × ((base < n) × (n * 64 ≤ work))
+pub no-cause-ready : (n : ℕ) (w : ℕ → Bool) (base : ℕ) (ts : List Tie) (work : ℕ) → n ≤ maxRecords
+    → firstNumber (offsetsCauses n w base ts work) ≡ 0 → Ready n ts × ((base < n) × (n * 64 ≤ work))
 unfolding offsetsCauses
 no-cause-ready n w base ts work few e =
     let one = first-none no-record _ _ e in
@@ -141,7 +147,13 @@ no-cause-ready n w base ts work few e =
         allowed = λ t i.
             let f = or-no (leb n (t .first)) (leb n (t .second)) (any-no (λ t. leb n (t .first) || leb n (t .second)) ts (r .1) t i) in
             let l = inside-limits t (any-no outside ts (m .1) t i) in
-            record { first-in = leb-false n (t .first) (f .0); second-in = leb-false n (t .second) (f .1); least-in = l .0; ordered = l .1 .0; most-in = l .1 .1 };
+            record {
+              first-in = leb-false n (t .first) (f .0);
+              second-in = leb-false n (t .second) (f .1);
+              least-in = l .0;
+              ordered = l .1 .0;
+              most-in = l .1 .1;
+            };
       },
       (leb-false n base (r .0), ltb-false work (n * 64) (four′ .0)),
     )

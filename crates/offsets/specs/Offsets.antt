@@ -51,5 +51,6 @@ pub data Answer : Type 0 where
 
 pub data OffsetsAre (n base : ℕ) (ts : List Tie) : Answer → Type 0 where
   none : ((p : Placing) → Places p ts → ⊥) → OffsetsAre n base ts cannot
-  some : {ws : List ℤ} (p : Placing) → Places p ts → length ws ≡ n * 2 → ((x : ℕ) → x < n → Limit ts base x (getD ws (x * 2) (pos 0)) (getD ws (x * 2 + 1) (pos 0)))
+  some : {ws : List ℤ} (p : Placing) → Places p ts → length ws ≡ n * 2
+      → ((x : ℕ) → x < n → Limit ts base x (getD ws (x * 2) (pos 0)) (getD ws (x * 2 + 1) (pos 0)))
       → OffsetsAre n base ts (limits ws)

@@ -16,7 +16,10 @@ use Rattle.offsets.specs.Linear.{to-eq, of-sub, of-pos, ≤ℤ-antisym}
 use Rattle.offsets.specs.Offsets.{Placing, Places, Narrowest, Limit, itself, joined, free, Answer, limits, OffsetsAre, none, some}
 
 pub narrowest-only : (ts : List Tie) (base x : ℕ) (lo hi lo′ hi′ : ℤ) → Narrowest ts base x lo hi → Narrowest ts base x lo′ hi′ → (lo ≡ lo′) × (hi ≡ hi′)
-narrowest-only ts base x lo hi lo′ hi′ a b = (≤ℤ-antisym (low-under lo lo′ hi a (b .low)) (low-under lo′ lo hi′ b (a .low)), ≤ℤ-antisym (high-over lo′ hi hi′ b (a .high)) (high-over lo hi′ hi a (b .high)))
+narrowest-only ts base x lo hi lo′ hi′ a b = (
+  ≤ℤ-antisym (low-under lo lo′ hi a (b .low)) (low-under lo′ lo hi′ b (a .low)),
+  ≤ℤ-antisym (high-over lo′ hi hi′ b (a .high)) (high-over lo hi′ hi a (b .high)),
+)
   where
     low-under : (l m h : ℤ) → Narrowest ts base x l h → (p : Placing) × (Places p ts × (p x -ℤ p base ≡ m)) → l ≤ℤ m
     low-under l m h a (p, (k, e)) = subst (λ (z : ℤ). l ≤ℤ z) e (a .holds p k .0)
@@ -61,4 +64,5 @@ pub offsets-only : (n base : ℕ) (ts : List Tie) (a b : Answer) → OffsetsAre 
 offsets-only n base ts a b (none f) (none g) = refl
 offsets-only n base ts a b (none f) (some p h e w) = absurd (f p h)
 offsets-only n base ts a b (some p h e w) (none f) = absurd (f p h)
-offsets-only n base ts a b (some {ws = v} p h e f) (some {ws = w} q k d g) = ap limits (words-only n v w e d (λ x l. limit-only ts base x _ _ _ _ (f x l) (g x l)))
+offsets-only n base ts a b (some {ws = v} p h e f) (some {ws = w} q k d g) =
+    ap limits (words-only n v w e d (λ x l. limit-only ts base x _ _ _ _ (f x l) (g x l)))

@@ -41,7 +41,8 @@ pick-keeps : (Q : State → Type 0) (b : Bool) (x y : State) → Q x → Q y →
 pick-keeps Q true x y h k = h
 pick-keeps Q false x y h k = k
 
-pub passes-keep : (Q : List ℤ → Type 0) (cs : List Arc) → ((a : Arc) → In a cs → (s : State) → Q (s .0) → Q (arc a s .0)) → (k : ℕ) (s : State) → Q (s .0) → Q (passes k cs s .0)
+pub passes-keep : (Q : List ℤ → Type 0) (cs : List Arc) → ((a : Arc) → In a cs → (s : State) → Q (s .0) → Q (arc a s .0))
+    → (k : ℕ) (s : State) → Q (s .0) → Q (passes k cs s .0)
 passes-keep Q cs f zero s q = q
 passes-keep Q cs f (suc k) s q =
     let r = run-keeps Q cs f (s .0, false) q in
@@ -50,7 +51,8 @@ passes-keep Q cs f (suc k) s q =
 pub passes-length : (k : ℕ) (cs : List Arc) (s : State) → length (passes k cs s .0) ≡ length (s .0)
 passes-length k cs s = passes-keep (λ l. length l ≡ length (s .0)) cs (λ a _ r e. arc-length a r ∙ e) k s refl
 
-passes-case : (k : ℕ) (cs : List Arc) (s : State) (b : Bool) → onePass cs s .1 ≡ b → (passes k cs (onePass cs s) .1 ≡ false → b ≡ true → (a : Arc) → In a cs → Holds a (passes k cs (onePass cs s) .0))
+passes-case : (k : ℕ) (cs : List Arc) (s : State) (b : Bool) → onePass cs s .1 ≡ b
+    → (passes k cs (onePass cs s) .1 ≡ false → b ≡ true → (a : Arc) → In a cs → Holds a (passes k cs (onePass cs s) .0))
     → pick b (passes k cs (onePass cs s)) (onePass cs s) .1 ≡ false → (a : Arc) → In a cs → Holds a (pick b (passes k cs (onePass cs s)) (onePass cs s) .0)
 passes-case k cs s true e f h = f h refl
 passes-case k cs s false e f h = λ a i. let q = quiet-holds cs (s .0, false) e in subst (λ (x : State). Holds a (x .0)) (sym (q .0)) (q .1 a i)
@@ -98,7 +100,8 @@ Ranged c l = (i : ℕ) → i < length l → (dist l i ≡ far) ⊎ Near c (dist 
 
 arc-ranged : (a : Arc) → Near 20000 (a .rise) → (c : ℕ) (s : State) → Ranged c (s .0) → Ranged (c + 20000) (arc a s .0)
 arc-ranged a w c s r = lower-ind a s (λ x. Ranged (c + 20000) (x .0)) (λ _ i g. more (dist (s .0) i) (r i g)) (λ f t k _ i g.
-    set-ind (s .0) (a .to) (dist (s .0) (a .from) +ℤ a .rise) t i (λ z. (z ≡ far) ⊎ Near (c + 20000) z) (λ _. inr (near-add c 20000 (dist (s .0) (a .from)) (a .rise) (near (r (a .from) f) k) w))
+    set-ind (s .0) (a .to) (dist (s .0) (a .from) +ℤ a .rise) t i (λ z. (z ≡ far) ⊎ Near (c + 20000) z)
+    (λ _. inr (near-add c 20000 (dist (s .0) (a .from)) (a .rise) (near (r (a .from) f) k) w))
     (λ _. more (dist (s .0) i) (r i (subst (λ (n : ℕ). i < n) (length-set (s .0) (a .to) (dist (s .0) (a .from) +ℤ a .rise)) g))))
   where
     more : (z : ℤ) → (z ≡ far) ⊎ Near c z → (z ≡ far) ⊎ Near (c + 20000) z
@@ -126,7 +129,8 @@ ranged-more c d h l r i g = go (r i g)
     go (inr k) = inr (omega (arith, h, k .0), omega (arith, h, k .1))
 
 -- b is what one pass may add
-pub passes-ranged : (k : ℕ) (cs : List Arc) → Small cs → (b : ℕ) → length cs * 20000 ≤ b → (c : ℕ) (s : State) → Ranged c (s .0) → Ranged (c + k * b) (passes k cs s .0)
+pub passes-ranged : (k : ℕ) (cs : List Arc) → Small cs → (b : ℕ) → length cs * 20000 ≤ b
+    → (c : ℕ) (s : State) → Ranged c (s .0) → Ranged (c + k * b) (passes k cs s .0)
 passes-ranged zero cs w b h c s r = ranged-more c (c + 0 * b) (omega arith) (s .0) r
 passes-ranged (suc k) cs w b h c s r =
     let one = ranged-more (c + length cs * 20000) (c + b) (omega (arith, h)) (onePass cs s .0) (run-ranged cs w c (s .0, false) r) in
@@ -139,7 +143,8 @@ passes-ranged (suc k) cs w b h c s r =
 abbrev pub Reached : (ℕ → Type 0) → List ℤ → Type 0
 Reached R l = (i : ℕ) → i < length l → known (dist l i) ≡ true → R i
 
-pub passes-reached : (R : ℕ → Type 0) (cs : List Arc) → ((a : Arc) → In a cs → R (a .from) → R (a .to)) → (k : ℕ) (s : State) → Reached R (s .0) → Reached R (passes k cs s .0)
+pub passes-reached : (R : ℕ → Type 0) (cs : List Arc) → ((a : Arc) → In a cs → R (a .from) → R (a .to))
+    → (k : ℕ) (s : State) → Reached R (s .0) → Reached R (passes k cs s .0)
 passes-reached R cs f = passes-keep (Reached R) cs (λ a i s r. lower-ind a s (λ x. Reached R (x .0)) (λ _. r) (λ g t k _ j h.
     set-ind (s .0) (a .to) (dist (s .0) (a .from) +ℤ a .rise) t j (λ z. known z ≡ true → R j) (λ e _. subst R (sym e) (f a i (r (a .from) g k)))
     (λ _. r j (subst (λ (n : ℕ). j < n) (length-set (s .0) (a .to) (dist (s .0) (a .from) +ℤ a .rise)) h))))

@@ -36,7 +36,8 @@ abbrev pub putLess : ℕ → ℤ → State → State
 putLess to v s = pick (ltZ v (dist (s .0) to)) (set (s .0) to v, true) s
 
 unfoldable pub lower : ℕ → ℕ → ℤ → State → State
-lower from to w s = pick (ltb from (length (s .0))) (pick (ltb to (length (s .0))) (pick (known (dist (s .0) from)) (putLess to (dist (s .0) from +ℤ w) s) s) s) s
+lower from to w s =
+    pick (ltb from (length (s .0))) (pick (ltb to (length (s .0))) (pick (known (dist (s .0) from)) (putLess to (dist (s .0) from +ℤ w) s) s) s) s
 
 -- both limits of a tie, for records that stand from place o on
 unfoldable pub third : ℕ → ℕ → ℕ → ℤ → ℤ → State → State

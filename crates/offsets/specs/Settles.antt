@@ -154,7 +154,8 @@ module _ (p : Placing) (cs : List Arc) (keeps : Keeps p cs) (D : ℕ → Type 0)
             by : In (a .from) os ⊎ Final l os (a .from) → gap l (m .v) ≤ℤ gap h (a .from)
             by (inl j) = subst (λ (z : ℤ). gap l (m .v) ≤ℤ (z -ℤ p (a .from))) (sym e) (m .least (a .from) j (subst (λ (z : ℤ). known z ≡ true) e k))
             by (inr c) =
-                let over : dist l (a .to) ≤ℤ (dist h (a .from) +ℤ a .rise) = subst (λ (z : ℤ). dist l (a .to) ≤ℤ (z +ℤ a .rise)) (sym e) (c .leaves a i refl t) in
+                let over : dist l (a .to) ≤ℤ (dist h (a .from) +ℤ a .rise) =
+                subst (λ (z : ℤ). dist l (a .to) ≤ℤ (z +ℤ a .rise)) (sym e) (c .leaves a i refl t) in
                 clashℤ (<ℤ-≤ℤ-trans b (no-more h (a .to) (d .each (a .to) t g))) over
 
     during-arc : (a : Arc) → In a cs → (s : State) → During (s .0) → During (arc a s .0)
@@ -188,8 +189,11 @@ module _ (p : Placing) (cs : List Arc) (keeps : Keeps p cs) (D : ℕ → Type 0)
             kept x e (inr c) = inr (made x (dist (s .0) x) (c .above) (c .less) e)
 
             each : (x : ℕ) → x < length l → D x → (dist (set (s .0) (a .to) new) x ≡ dist l x) ⊎ Above (set (s .0) (a .to) new) x
-            each x g w = set-ind (s .0) (a .to) new t x (λ z. dist (set (s .0) (a .to) new) x ≡ z → (dist (set (s .0) (a .to) new) x ≡ dist l x) ⊎ Above (set (s .0) (a .to) new) x)
-                (λ e q. inr (made x new (subst (λ (y : ℕ). gap l (m .v) ≤ℤ (new -ℤ p y)) (sym e) (low (subst D e w))) (subst (λ (y : ℕ). new <ℤ dist l y) (sym e) (less (subst D e w))) q))
+            each x g w =
+                set-ind (s .0) (a .to) new t x (λ z. dist (set (s .0) (a .to) new) x ≡ z
+                → (dist (set (s .0) (a .to) new) x ≡ dist l x) ⊎ Above (set (s .0) (a .to) new) x)
+                (λ e q. inr (made x new (subst (λ (y : ℕ). gap l (m .v) ≤ℤ (new -ℤ p y)) (sym e) (low (subst D e w)))
+                (subst (λ (y : ℕ). new <ℤ dist l y) (sym e) (less (subst D e w))) q))
                 (λ _ q. kept x q (d .each x g w)) refl
 
     during-run : (bs : List Arc) → ((a : Arc) → In a bs → In a cs) → (s : State) → During (s .0) → During (run bs s .0)
@@ -204,7 +208,8 @@ module _ (p : Placing) (cs : List Arc) (keeps : Keeps p cs) (D : ℕ → Type 0)
         clashℤ (b .less) wrong
 
     -- so the arcs that leave it hold after the pass
-    leaves-run : (bs : List Arc) → ((a : Arc) → In a bs → In a cs) → (s : State) → During (s .0) → (a : Arc) → In a bs → D (a .from) → a .from < length l → a .to < length l
+    leaves-run : (bs : List Arc) → ((a : Arc) → In a bs → In a cs) → (s : State)
+        → During (s .0) → (a : Arc) → In a bs → D (a .from) → a .from < length l → a .to < length l
         → known (dist l (a .from)) ≡ true → gap l (a .from) ≤ℤ gap l (m .v) → dist (run bs s .0) (a .to) ≤ℤ (dist l (a .from) +ℤ a .rise)
     leaves-run (b ∷ bs) sub s d a (there i) g f t k c = leaves-run bs (λ e j. sub e (there j)) (arc b s) (during-arc b (sub b here) s d) a i g f t k c
     leaves-run (b ∷ bs) sub s d a here w f t k c = ≤ℤ-trans (run-down bs (arc a s) (a .to)) now
@@ -215,11 +220,17 @@ module _ (p : Placing) (cs : List Arc) (keeps : Keeps p cs) (D : ℕ → Type 0)
         now : dist (arc a s .0) (a .to) ≤ℤ (dist l (a .from) +ℤ a .rise)
         now = subst (λ (z : ℤ). dist (arc a s .0) (a .to) ≤ℤ (z +ℤ a .rise)) same
             (lower-ind a s (λ r. dist (r .0) (a .to) ≤ℤ (dist (s .0) (a .from) +ℤ a .rise))
-            (λ h. h (subst (λ (n : ℕ). a .from < n) (sym (d .long)) f) (subst (λ (n : ℕ). a .to < n) (sym (d .long)) t) (subst (λ (z : ℤ). known z ≡ true) (sym same) k))
-            (λ _ g _ _. set-ind (s .0) (a .to) (dist (s .0) (a .from) +ℤ a .rise) g (a .to) (λ z. z ≤ℤ (dist (s .0) (a .from) +ℤ a .rise)) (λ _. ≤ℤ-refl (dist (s .0) (a .from) +ℤ a .rise)) (λ n. absurd (n refl))))
+            (λ h. h (subst (λ (n : ℕ). a .from < n) (sym (d .long)) f) (subst (λ (n : ℕ). a .to < n) (sym (d .long)) t)
+            (subst (λ (z : ℤ). known z ≡ true) (sym same) k))
+            (λ _ g _ _. set-ind (s .0) (a .to) (dist (s .0) (a .from) +ℤ a .rise) g (a .to)
+            (λ z. z ≤ℤ (dist (s .0) (a .from) +ℤ a .rise)) (λ _. ≤ℤ-refl (dist (s .0) (a .from) +ℤ a .rise)) (λ n. absurd (n refl))))
 
     pub one-final : (c : Bool) → Open (run cs (l, c) .0) (out (m .v) os (m .member))
-    one-final c = record { inside = λ y i. let e = o .inside y (out-less (m .v) os (m .member) y i) in (subst (λ (n : ℕ). y < n) (sym (d .long)) (e .0), e .1); others = λ x g. others x (subst (λ (n : ℕ). x < n) (d .long) g) }
+    one-final c =
+        record {
+          inside = λ y i. let e = o .inside y (out-less (m .v) os (m .member) y i) in (subst (λ (n : ℕ). y < n) (sym (d .long)) (e .0), e .1);
+          others = λ x g. others x (subst (λ (n : ℕ). x < n) (d .long) g);
+        }
       where
         end : List ℤ
         end = run cs (l, c) .0
@@ -236,13 +247,19 @@ module _ (p : Placing) (cs : List Arc) (keeps : Keeps p cs) (D : ℕ → Type 0)
             same : dist (run cs (l, c) .0) x ≡ dist l x
             same = low-stays (run cs (l, c) .0) x (d .each x g w) h
 
-            leaves : (a : Arc) → In a cs → a .from ≡ x → a .to < length (run cs (l, c) .0) → dist (run cs (l, c) .0) (a .to) ≤ℤ (dist (run cs (l, c) .0) x +ℤ a .rise)
-            leaves a i e t = subst (λ (z : ℤ). dist (run cs (l, c) .0) (a .to) ≤ℤ (z +ℤ a .rise)) (sym (same)) (subst (λ (y : ℕ). dist (run cs (l, c) .0) (a .to) ≤ℤ (dist l y +ℤ a .rise)) e
-                (leaves-run cs (λ a i. i) (l, c) (record { long = refl; each = λ x _ _. inl refl }) a i (subst D (sym e) w) (subst (λ (y : ℕ). y < length l) (sym e) g) (subst (λ (n : ℕ). a .to < n) (d .long) t)
+            leaves : (a : Arc) → In a cs → a .from ≡ x → a .to < length (run cs (l, c) .0)
+                → dist (run cs (l, c) .0) (a .to) ≤ℤ (dist (run cs (l, c) .0) x +ℤ a .rise)
+            leaves a i e t =
+                subst (λ (z : ℤ). dist (run cs (l, c) .0) (a .to) ≤ℤ (z +ℤ a .rise)) (sym (same))
+                (subst (λ (y : ℕ). dist (run cs (l, c) .0) (a .to) ≤ℤ (dist l y +ℤ a .rise)) e
+                (leaves-run cs (λ a i. i) (l, c) (record { long = refl; each = λ x _ _. inl refl }) a i
+                (subst D (sym e) w) (subst (λ (y : ℕ). y < length l) (sym e) g) (subst (λ (n : ℕ). a .to < n) (d .long) t)
                 (subst (λ (y : ℕ). known (dist l y) ≡ true) (sym e) k) (subst (λ (y : ℕ). gap l y ≤ℤ gap l (m .v)) (sym e) h)))
 
-            lowest : (y : ℕ) → In y (out (m .v) os (m .member)) → known (dist (run cs (l, c) .0) y) ≡ true → gap (run cs (l, c) .0) x ≤ℤ gap (run cs (l, c) .0) y
-            lowest y i q = subst (λ (z : ℤ). (z -ℤ p x) ≤ℤ gap (run cs (l, c) .0) y) (sym same) (≤ℤ-trans h (go (d .each y (o .inside y j .0) (o .inside y j .1))))
+            lowest : (y : ℕ) → In y (out (m .v) os (m .member)) → known (dist (run cs (l, c) .0) y) ≡ true
+                → gap (run cs (l, c) .0) x ≤ℤ gap (run cs (l, c) .0) y
+            lowest y i q =
+                subst (λ (z : ℤ). (z -ℤ p x) ≤ℤ gap (run cs (l, c) .0) y) (sym same) (≤ℤ-trans h (go (d .each y (o .inside y j .0) (o .inside y j .1))))
               where
                 j : In y os
                 j = out-less (m .v) os (m .member) y i
@@ -260,7 +277,9 @@ module _ (p : Placing) (cs : List Arc) (keeps : Keeps p cs) (D : ℕ → Type 0)
               where
                 by : (x ≡ m .v) ⊎ In x (out (m .v) os (m .member)) → In x (out (m .v) os (m .member)) ⊎ Final (run cs (l, c) .0) (out (m .v) os (m .member)) x
                 by (inr j) = inl j
-                by (inl e) = inr (final x g w (subst (λ (y : ℕ). known (dist l y) ≡ true) (sym e) (m .passes)) (subst (λ (y : ℕ). gap l y ≤ℤ gap l (m .v)) (sym e) (≤ℤ-refl (gap l (m .v)))))
+                by (inl e) =
+                    inr (final x g w (subst (λ (y : ℕ). known (dist l y) ≡ true) (sym e) (m .passes))
+                    (subst (λ (y : ℕ). gap l y ≤ℤ gap l (m .v)) (sym e) (≤ℤ-refl (gap l (m .v)))))
 
   abbrev NoneKnown : List ℤ → List ℕ → Type 0
   NoneKnown l os = (y : ℕ) → In y os → known (dist l y) ≡ true → ⊥
@@ -276,20 +295,28 @@ module _ (p : Placing) (cs : List Arc) (keeps : Keeps p cs) (D : ℕ → Type 0)
       λ x g w. set-ind (s .0) (a .to) (dist (s .0) (a .from) +ℤ a .rise) t x (λ z. z ≡ dist l x) (λ q. absurd (wrong f t k b (subst D q w))) (λ _. e .1 x g w),
     ))
       where
-        wrong : a .from < length (s .0) → a .to < length (s .0) → known (dist (s .0) (a .from)) ≡ true → (dist (s .0) (a .from) +ℤ a .rise) <ℤ dist (s .0) (a .to) → D (a .to) → ⊥
+        wrong : a .from < length (s .0) → a .to < length (s .0) → known (dist (s .0) (a .from)) ≡ true
+            → (dist (s .0) (a .from) +ℤ a .rise) <ℤ dist (s .0) (a .to) → D (a .to) → ⊥
         wrong f t k b w =
             let f′ = subst (λ (n : ℕ). a .from < n) (e .0) f in
             let t′ = subst (λ (n : ℕ). a .to < n) (e .0) t in
             let ef = e .1 (a .from) f′ (closed a i w) in
             let h = none-open l os o none a i (closed a i w) f′ t′ (subst (λ (z : ℤ). known z ≡ true) ef k) in
-            clashℤ b (subst (λ (z : ℤ). z ≤ℤ (dist (s .0) (a .from) +ℤ a .rise)) (sym (e .1 (a .to) t′ w)) (subst (λ (z : ℤ). dist l (a .to) ≤ℤ (z +ℤ a .rise)) (sym ef) h))
+            clashℤ b (subst (λ (z : ℤ). z ≤ℤ (dist (s .0) (a .from) +ℤ a .rise))
+            (sym (e .1 (a .to) t′ w)) (subst (λ (z : ℤ). dist l (a .to) ≤ℤ (z +ℤ a .rise)) (sym ef) h))
 
     same-run : (bs : List Arc) → ((a : Arc) → In a bs → In a cs) → (s : State) → Same (s .0) → Same (run bs s .0)
     same-run [] sub s e = e
     same-run (a ∷ bs) sub s e = same-run bs (λ b i. sub b (there i)) (arc a s) (same-arc a (sub a here) s e)
 
     pub none-stays : (c : Bool) → Open (run cs (l, c) .0) os × NoneKnown (run cs (l, c) .0) os
-    none-stays c = (record { inside = λ y i. let h = o .inside y i in (subst (λ (n : ℕ). y < n) (sym (e .0)) (h .0), h .1); others = λ x g. others x (subst (λ (n : ℕ). x < n) (e .0) g) }, still)
+    none-stays c = (
+      record {
+        inside = λ y i. let h = o .inside y i in (subst (λ (n : ℕ). y < n) (sym (e .0)) (h .0), h .1);
+        others = λ x g. others x (subst (λ (n : ℕ). x < n) (e .0) g);
+      },
+      still,
+    )
       where
         e : Same (run cs (l, c) .0)
         e = same-run cs (λ a i. i) (l, c) (refl, λ x _ _. refl)
@@ -304,7 +331,9 @@ module _ (p : Placing) (cs : List Arc) (keeps : Keeps p cs) (D : ℕ → Type 0)
             go (inl i) = inl i
             go (inr f) = inr (record {
               is-known = subst (λ (z : ℤ). known z ≡ true) (sym (e .1 x g w)) (f .is-known);
-              leaves = λ a i q t. subst (λ (z : ℤ). dist (run cs (l, c) .0) (a .to) ≤ℤ (z +ℤ a .rise)) (sym (e .1 x g w)) (≤ℤ-trans (run-down cs (l, c) (a .to)) (f .leaves a i q (subst (λ (n : ℕ). a .to < n) (e .0) t)));
+              leaves =
+                  λ a i q t. subst (λ (z : ℤ). dist (run cs (l, c) .0) (a .to) ≤ℤ (z +ℤ a .rise)) (sym (e .1 x g w))
+                  (≤ℤ-trans (run-down cs (l, c) (a .to)) (f .leaves a i q (subst (λ (n : ℕ). a .to < n) (e .0) t)));
               lowest = λ y i k. absurd (still y i k);
             })
 
@@ -339,7 +368,8 @@ span-all o (suc n) x g h = go (decLt x (o + n)) (λ k. span-all o n x g k)
     go (no k) f = let e : x ≡ o + n = omega (arith, h, k) in subst (λ (y : ℕ). In x (y ∷ span o n)) e here
 
 -- ---- records in parts that no arc joins: each part makes one record final in each pass
-module _ (p : Placing) (cs : List Arc) (keeps : Keeps p cs) (I : Type 0) (D : I → ℕ → Type 0) (closed : (j : I) (a : Arc) → In a cs → D j (a .to) → D j (a .from)) (part : (a : Arc) → In a cs → (j : I) × D j (a .from)) where
+module _ (p : Placing) (cs : List Arc) (keeps : Keeps p cs) (I : Type 0) (D : I → ℕ → Type 0)
+    (closed : (j : I) (a : Arc) → In a cs → D j (a .to) → D j (a .from)) (part : (a : Arc) → In a cs → (j : I) × D j (a .from)) where
   abbrev OpenAt : I → List ℤ → List ℕ → Type 0
   OpenAt j l os = Open p cs keeps (D j) (closed j) l os
 
@@ -368,7 +398,8 @@ module _ (p : Placing) (cs : List Arc) (keeps : Keeps p cs) (I : Type 0) (D : I 
       still : None (s .0) (r .os) → Left k (run cs (s .0, false) .0) j
       still n = let q = none-stays p cs keeps (D j) (closed j) (s .0) (r .os) (r .opened) n false in record { os = r .os; opened = q .0; few = inr (q .1) }
 
-      by : length (r .os) ≤ suc k → (None (s .0) (r .os)) ⊎ Least (λ x. known (dist (s .0) x)) (λ x. dist (s .0) x -ℤ p x) (r .os) → Left k (run cs (s .0, false) .0) j
+      by : length (r .os) ≤ suc k → (None (s .0) (r .os)) ⊎ Least (λ x. known (dist (s .0) x)) (λ x. dist (s .0) x -ℤ p x) (r .os)
+          → Left k (run cs (s .0, false) .0) j
       by h (inl n) = still n
       by h (inr m) = record {
         os = out (m .v) (r .os) (m .member);
@@ -380,12 +411,14 @@ module _ (p : Placing) (cs : List Arc) (keeps : Keeps p cs) (I : Type 0) (D : I 
       go (inr n) = still n
       go (inl h) = by h (search-least (λ x. known (dist (s .0) x)) (λ x. dist (s .0) x -ℤ p x) (r .os))
 
-  settles-case : (k : ℕ) (s : State) (b : Bool) → onePass cs s .1 ≡ b → (b ≡ true → passes k cs (onePass cs s) .1 ≡ false) → pick b (passes k cs (onePass cs s)) (onePass cs s) .1 ≡ false
+  settles-case : (k : ℕ) (s : State) (b : Bool) → onePass cs s .1 ≡ b
+      → (b ≡ true → passes k cs (onePass cs s) .1 ≡ false) → pick b (passes k cs (onePass cs s)) (onePass cs s) .1 ≡ false
   settles-case k s true e f = f refl
   settles-case k s false e f = e
 
   pub passes-settle : (k : ℕ) (s : State) → ((j : I) → Left k (s .0) j) → passes (suc k) cs s .1 ≡ false
   passes-settle zero s r = settles-case zero s (onePass cs s .1) refl (λ e.
-      let q : onePass cs s .1 ≡ false = ap (λ (x : State). x .1) (holds-quiet cs (s .0, false) (λ a i. let g = part a i in none-open p cs keeps (D (g .0)) (closed (g .0)) (s .0) (r (g .0) .os) (r (g .0) .opened) (left-zero (s .0) (g .0) (r (g .0))) a i (g .1))) in
+      let q : onePass cs s .1 ≡ false = ap (λ (x : State). x .1) (holds-quiet cs (s .0, false) (λ a i. let g = part a i in
+      none-open p cs keeps (D (g .0)) (closed (g .0)) (s .0) (r (g .0) .os) (r (g .0) .opened) (left-zero (s .0) (g .0) (r (g .0))) a i (g .1))) in
       absurd (true≢false (sym e ∙ q)))
   passes-settle (suc k) s r = settles-case (suc k) s (onePass cs s .1) refl (λ e. passes-settle k (onePass cs s) (λ j. left-less k s j (r j)))

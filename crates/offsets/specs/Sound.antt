@@ -33,7 +33,8 @@ by-test false f g = g refl
 -- a number that p is under is put in
 under-set : (p : Placing) (l : List ℤ) (to : ℕ) (v : ℤ) → to < length l → p to ≤ℤ v → Under p l → Under p (set l to v)
 under-set p l to v t h u i small k = by-test (eqb i to)
-    (λ e. let at : i ≡ to = eqb-true i to e in subst (λ (j : ℕ). p j ≤ℤ dist (set l to v) j) (sym at) (subst (λ (z : ℤ). p to ≤ℤ z) (sym (getD-set-same l to v (pos 0) t)) h))
+    (λ e. let at : i ≡ to = eqb-true i to e in
+    subst (λ (j : ℕ). p j ≤ℤ dist (set l to v) j) (sym at) (subst (λ (z : ℤ). p to ≤ℤ z) (sym (getD-set-same l to v (pos 0) t)) h))
     (λ e. let same : dist (set l to v) i ≡ dist l i = getD-set-other l to i v (pos 0) (eqb-false i to e) in
     subst (λ (z : ℤ). p i ≤ℤ z) (sym same) (u i (subst (λ (n : ℕ). i < n) (length-set l to v) small) (subst (λ (z : ℤ). known z ≡ true) same k)))
 

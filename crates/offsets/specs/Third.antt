@@ -47,20 +47,30 @@ pub near-neg : (z : ℤ) → Near 20000 z → Near 20000 (negℤ z)
 near-neg z h = (omega (arith, of-neg-up z, h .1), omega (arith, of-neg-down z, h .0))
 
 pub far-over : far ≤ℤ pos 0 → ⊥
-far-over h = let u = of-le h in let v = of-pos (2 ^ 62) in let w = of-pos 0 in let none : 1 ≤ 0 = omega (arith, u, v .0, v .1, w .0, w .1) in not-suc-le-zero none
+far-over h =
+    let u = of-le h in
+    let v = of-pos (2 ^ 62) in
+    let w = of-pos 0 in
+    let none : 1 ≤ 0 = omega (arith, u, v .0, v .1, w .0, w .1) in
+    not-suc-le-zero none
 
 pub ready-small : (n : ℕ) (ts : List Tie) → Ready n ts → Small (arcs ts)
-ready-small n ts ready = of-ties (λ a. Near 20000 (a .rise)) ts (λ t i. let a = ready .allowed t i in
-    (near-ends (t .most) (≤ℤ-trans (a .least-in) (a .ordered)) (a .most-in), near-neg (t .least) (near-ends (t .least) (a .least-in) (≤ℤ-trans (a .ordered) (a .most-in)))))
+ready-small n ts ready = of-ties (λ a. Near 20000 (a .rise)) ts (λ t i. let a = ready .allowed t i in (
+  near-ends (t .most) (≤ℤ-trans (a .least-in) (a .ordered)) (a .most-in),
+  near-neg (t .least) (near-ends (t .least) (a .least-in) (≤ℤ-trans (a .ordered) (a .most-in))),
+))
 
 pub ready-inside : (n : ℕ) (ts : List Tie) → Ready n ts → (a : Arc) → In a (arcs ts) → (a .from < n) × (a .to < n)
-ready-inside n ts ready = of-ties (λ a. (a .from < n) × (a .to < n)) ts (λ t i. let a = ready .allowed t i in ((a .first-in, a .second-in), (a .second-in, a .first-in)))
+ready-inside n ts ready =
+    of-ties (λ a. (a .from < n) × (a .to < n)) ts (λ t i. let a = ready .allowed t i in ((a .first-in, a .second-in), (a .second-in, a .first-in)))
 
 -- 125,952,000,000 = 1,025 × 6,144 × 20,000: the most that n + 1 passes over six arcs for each of 1,024 ties add to a distance
 pub joined-arc : (ts : List Tie) (base : ℕ) (a : Arc) → In a (arcs ts) → Joined ts base (a .from) → Joined ts base (a .to)
-joined-arc ts base = of-ties (λ a. Joined ts base (a .from) → Joined ts base (a .to)) ts (λ t i. (λ j. onward t j i (inl (refl, refl)), λ j. onward t j i (inr (refl, refl))))
+joined-arc ts base =
+    of-ties (λ a. Joined ts base (a .from) → Joined ts base (a .to)) ts (λ t i. (λ j. onward t j i (inl (refl, refl)), λ j. onward t j i (inr (refl, refl))))
 
-module _ (n : ℕ) (us : List Tie) (ready : Ready n us) (base : ℕ) (base-in : base < n) (d : ℕ → ℤ) (hold : (a : Arc) → In a (arcs us) → known (d (a .from)) ≡ true → d (a .to) ≤ℤ (d (a .from) +ℤ a .rise))
+module _ (n : ℕ) (us : List Tie) (ready : Ready n us) (base : ℕ) (base-in : base < n) (d : ℕ → ℤ)
+    (hold : (a : Arc) → In a (arcs us) → known (d (a .from)) ≡ true → d (a .to) ≤ℤ (d (a .from) +ℤ a .rise))
     (near : (x : ℕ) → x < n → (d x ≡ far) ⊎ Near 125952000000 (d x)) (base-low : d base ≤ℤ pos 0) where
   near-is : (z : ℤ) → (z ≡ far) ⊎ Near 125952000000 z → (z ≡ far → ⊥) → known z ≡ true
   near-is z (inl e) f = absurd (f e)
@@ -82,8 +92,10 @@ module _ (n : ℕ) (us : List Tie) (ready : Ready n us) (base : ℕ) (base-in : 
 
   pub joined-known : {x : ℕ} → Joined us base x → known (d x) ≡ true
   joined-known self = base-known
-  joined-known (onward t j i (inl (e, g))) = subst (λ (z : ℕ). known (d z) ≡ true) g (on (up-arc t) (in-up us t i) (subst (λ (z : ℕ). known (d z) ≡ true) (sym e) (joined-known j)))
-  joined-known (onward t j i (inr (e, g))) = subst (λ (z : ℕ). known (d z) ≡ true) g (on (down-arc t) (in-down us t i) (subst (λ (z : ℕ). known (d z) ≡ true) (sym e) (joined-known j)))
+  joined-known (onward t j i (inl (e, g))) =
+      subst (λ (z : ℕ). known (d z) ≡ true) g (on (up-arc t) (in-up us t i) (subst (λ (z : ℕ). known (d z) ≡ true) (sym e) (joined-known j)))
+  joined-known (onward t j i (inr (e, g))) =
+      subst (λ (z : ℕ). known (d z) ≡ true) g (on (down-arc t) (in-down us t i) (subst (λ (z : ℕ). known (d z) ≡ true) (sym e) (joined-known j)))
 
   module _ (under : (p : Placing) → Places p us → (x : ℕ) → x < n → known (d x) ≡ true → (p x -ℤ p base) ≤ℤ d x) (f : Placing) (places : Places f us) where
     base-zero : d base ≡ pos 0
@@ -108,13 +120,17 @@ module _ (n : ℕ) (us : List Tie) (ready : Ready n us) (base : ℕ) (base-in : 
     best-places t i = go (known (d (t .first))) (known (d (t .second))) refl refl
       where
         at : (b : Bool) → known (d (t .first)) ≡ b → known (d (t .second)) ≡ b
-            → (t .least ≤ℤ (choose b (d (t .second)) (f (t .second)) -ℤ choose b (d (t .first)) (f (t .first)))) × ((choose b (d (t .second)) (f (t .second)) -ℤ choose b (d (t .first)) (f (t .first))) ≤ℤ t .most)
+            → (t .least ≤ℤ (choose b (d (t .second)) (f (t .second)) -ℤ choose b (d (t .first)) (f (t .first))))
+            × ((choose b (d (t .second)) (f (t .second)) -ℤ choose b (d (t .first)) (f (t .first))) ≤ℤ t .most)
             → Meets best t
         at b e g m = subst (λ (y : ℤ). (t .least ≤ℤ (y -ℤ best (t .first))) × ((y -ℤ best (t .first)) ≤ℤ t .most)) (sym (best-at (t .second) b g))
-            (subst (λ (x : ℤ). (t .least ≤ℤ (choose b (d (t .second)) (f (t .second)) -ℤ x)) × ((choose b (d (t .second)) (f (t .second)) -ℤ x) ≤ℤ t .most)) (sym (best-at (t .first) b e)) m)
+            (subst (λ (x : ℤ). (t .least ≤ℤ (choose b (d (t .second)) (f (t .second)) -ℤ x)) × ((choose b (d (t .second)) (f (t .second)) -ℤ x) ≤ℤ t .most))
+            (sym (best-at (t .first) b e)) m)
 
         go : (b c : Bool) → known (d (t .first)) ≡ b → known (d (t .second)) ≡ c → Meets best t
-        go true true e g = at true e g (sums-meet (d (t .first)) (d (t .second)) (t .least) (t .most) (hold (up-arc t) (in-up us t i) e) (hold (down-arc t) (in-down us t i) g))
+        go true true e g =
+            at true e g (sums-meet (d (t .first)) (d (t .second)) (t .least) (t .most)
+            (hold (up-arc t) (in-up us t i) e) (hold (down-arc t) (in-down us t i) g))
         go false false e g = at false e g (places t i)
         go true false e g = absurd (true≢false (sym (on (up-arc t) (in-up us t i) e) ∙ g))
         go false true e g = absurd (true≢false (sym (on (down-arc t) (in-down us t i) g) ∙ e))
@@ -123,7 +139,10 @@ module _ (n : ℕ) (us : List Tie) (ready : Ready n us) (base : ℕ) (base-in : 
     most-attained = (best, (best-places, at))
       where
         minus-zero : (y z w : ℤ) → y ≡ w → z ≡ pos 0 → y -ℤ z ≡ w
-        minus-zero y z w e g = let q : y -ℤ pos 0 ≡ y = let v = of-pos 0 in to-eq (y -ℤ pos 0) y (omega (arith, of-sub y (pos 0), v .0, v .1)) in ap (λ (u : ℤ). y -ℤ u) g ∙ q ∙ e
+        minus-zero y z w e g =
+            let q : y -ℤ pos 0 ≡ y = let v = of-pos 0 in
+            to-eq (y -ℤ pos 0) y (omega (arith, of-sub y (pos 0), v .0, v .1)) in
+            ap (λ (u : ℤ). y -ℤ u) g ∙ q ∙ e
 
         at : (x : ℕ) → known (d x) ≡ true → best x -ℤ best base ≡ d x
         at x k = minus-zero (best x) (best base) (d x) (best-at x true k) (best-at base true base-known ∙ base-zero)

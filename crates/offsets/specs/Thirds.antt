@@ -34,9 +34,11 @@ use Rattle.offsets.specs.Linear.{up, down, of-le, to-le, of-add, of-sub,
 use Rattle.offsets.specs.Relax.{known, dist}
 use Rattle.offsets.specs.Sound.{Under, under-lower}
 use Rattle.offsets.specs.Offsets.{Placing, Places, Joined, self}
-use Rattle.offsets.specs.Arcs.{Arc, up-arc, down-arc, arcs, arcs3, at, turned, of-thirds, arc-in-first, arc-in-second, arc-in-third, length-arcs3, in-up, in-down, Keeps, keeps-places, sums-meet}
+use Rattle.offsets.specs.Arcs.{Arc, up-arc, down-arc, arcs, arcs3, at, turned, of-thirds, arc-in-first, arc-in-second, arc-in-third, length-arcs3, in-up}
+use Rattle.offsets.specs.Arcs.{in-down, Keeps, keeps-places, sums-meet}
 use Rattle.offsets.specs.Settles.{passes, passes-settle, span, span-length, span-in, span-all}
-use Rattle.offsets.specs.Passes.{passes-keep, passes-length, passes-hold, passes-down, Near, near-known, far, known-not-far, Small, passes-ranged, passes-reached}
+use Rattle.offsets.specs.Passes.{passes-keep, passes-length, passes-hold, passes-down, Near, near-known, far, known-not-far, Small, passes-ranged}
+use Rattle.offsets.specs.Passes.{passes-reached}
 use Rattle.offsets.specs.Third.{Ready, far-over, ready-small, ready-inside, joined-arc}
 use Rattle.offsets.specs.Turned.{neg, turned-places, places-turned, turned-ready}
 
@@ -54,9 +56,11 @@ choose-ind : (b : Bool) (y z : ℤ) (Q : ℤ → Type 0) → (b ≡ true → Q y
 choose-ind true y z Q f g = f refl
 choose-ind false y z Q f g = g refl
 
-pub firstly-ind : (n base i : ℕ) (Q : ℤ → Type 0) → (i < n → Q (pos 0)) → (i ≡ n + base → Q (pos 0)) → (i ≡ n * 2 + base → Q (pos 0)) → (n ≤ i → Q far) → Q (firstly n base i)
+pub firstly-ind : (n base i : ℕ) (Q : ℤ → Type 0) → (i < n → Q (pos 0)) → (i ≡ n + base → Q (pos 0))
+    → (i ≡ n * 2 + base → Q (pos 0)) → (n ≤ i → Q far) → Q (firstly n base i)
 unfolding firstly
-firstly-ind n base i Q f g h k = choose-ind (ltb i n) (pos 0) (choose (eqb i (n + base)) (pos 0) (choose (eqb i (n * 2 + base)) (pos 0) far)) Q (λ e. f (ltb-true i n e)) (λ e.
+firstly-ind n base i Q f g h k =
+    choose-ind (ltb i n) (pos 0) (choose (eqb i (n + base)) (pos 0) (choose (eqb i (n * 2 + base)) (pos 0) far)) Q (λ e. f (ltb-true i n e)) (λ e.
     choose-ind (eqb i (n + base)) (pos 0) (choose (eqb i (n * 2 + base)) (pos 0) far) Q (λ d. g (eqb-true i (n + base) d)) (λ _.
     choose-ind (eqb i (n * 2 + base)) (pos 0) far Q (λ d. h (eqb-true i (n * 2 + base) d)) (λ _. k (ltb-false i n e))))
 
@@ -64,11 +68,17 @@ pub firstly-base : (n base : ℕ) → (o : ℕ) → (o ≡ n) ⊎ (o ≡ n * 2) 
 unfolding firstly
 firstly-base n base o h l = go h
   where
-    go : (o ≡ n) ⊎ (o ≡ n * 2) → choose (ltb (o + base) n) (pos 0) (choose (eqb (o + base) (n + base)) (pos 0) (choose (eqb (o + base) (n * 2 + base)) (pos 0) far)) ≤ℤ pos 0
-    go (inl e) = choose-ind (ltb (o + base) n) (pos 0) _ (λ z. z ≤ℤ pos 0) (λ _. ≤ℤ-refl (pos 0)) (λ _. choose-ind (eqb (o + base) (n + base)) (pos 0) _ (λ z. z ≤ℤ pos 0) (λ _. ≤ℤ-refl (pos 0))
+    go : (o ≡ n) ⊎ (o ≡ n * 2) → choose (ltb (o + base) n) (pos 0)
+        (choose (eqb (o + base) (n + base)) (pos 0) (choose (eqb (o + base) (n * 2 + base)) (pos 0) far)) ≤ℤ pos 0
+    go (inl e) =
+        choose-ind (ltb (o + base) n) (pos 0) _ (λ z. z ≤ℤ pos 0) (λ _. ≤ℤ-refl (pos 0))
+        (λ _. choose-ind (eqb (o + base) (n + base)) (pos 0) _ (λ z. z ≤ℤ pos 0) (λ _. ≤ℤ-refl (pos 0))
         (λ d. absurd (eqb-false (o + base) (n + base) d (ap (λ (m : ℕ). m + base) e))))
-    go (inr e) = choose-ind (ltb (o + base) n) (pos 0) _ (λ z. z ≤ℤ pos 0) (λ _. ≤ℤ-refl (pos 0)) (λ _. choose-ind (eqb (o + base) (n + base)) (pos 0) _ (λ z. z ≤ℤ pos 0) (λ _. ≤ℤ-refl (pos 0))
-        (λ _. choose-ind (eqb (o + base) (n * 2 + base)) (pos 0) far (λ z. z ≤ℤ pos 0) (λ _. ≤ℤ-refl (pos 0)) (λ d. absurd (eqb-false (o + base) (n * 2 + base) d (ap (λ (m : ℕ). m + base) e)))))
+    go (inr e) =
+        choose-ind (ltb (o + base) n) (pos 0) _ (λ z. z ≤ℤ pos 0) (λ _. ≤ℤ-refl (pos 0))
+        (λ _. choose-ind (eqb (o + base) (n + base)) (pos 0) _ (λ z. z ≤ℤ pos 0) (λ _. ≤ℤ-refl (pos 0))
+        (λ _. choose-ind (eqb (o + base) (n * 2 + base)) (pos 0) far (λ z. z ≤ℤ pos 0) (λ _. ≤ℤ-refl (pos 0))
+        (λ d. absurd (eqb-false (o + base) (n * 2 + base) d (ap (λ (m : ℕ). m + base) e)))))
 
 -- ---- a placing of each third, as one
 unfoldable pub three : ℕ → Placing → Placing → Placing → Placing
@@ -77,21 +87,27 @@ three n f p q x = choose (ltb x n) (f x) (choose (ltb x (n * 2)) (p (x - n)) (q 
 module _ (n : ℕ) (f p q : Placing) where
   three-0 : (x : ℕ) → x < n → three n f p q (0 + x) ≡ f x
   unfolding three
-  three-0 x h = let e : 0 + x ≡ x = omega arith in ap (λ (y : ℕ). choose (ltb y n) (f y) (choose (ltb y (n * 2)) (p (y - n)) (q (y - n * 2)))) e ∙ ap (λ (b : Bool). choose b (f x) (choose (ltb x (n * 2)) (p (x - n)) (q (x - n * 2)))) (lt-ltb x n h)
+  three-0 x h =
+      let e : 0 + x ≡ x = omega arith in
+      ap (λ (y : ℕ). choose (ltb y n) (f y) (choose (ltb y (n * 2)) (p (y - n)) (q (y - n * 2)))) e
+      ∙ ap (λ (b : Bool). choose b (f x) (choose (ltb x (n * 2)) (p (x - n)) (q (x - n * 2)))) (lt-ltb x n h)
 
   three-1 : (x : ℕ) → x < n → three n f p q (n + x) ≡ p x
   unfolding three
   three-1 x h =
       let e : n + x - n ≡ x = omega arith in
-      ap (λ (b : Bool). choose b (f (n + x)) (choose (ltb (n + x) (n * 2)) (p (n + x - n)) (q (n + x - n * 2)))) (le-ltb (n + x) n (let z : n ≤ n + x = omega arith in z))
+      ap (λ (b : Bool). choose b (f (n + x)) (choose (ltb (n + x) (n * 2)) (p (n + x - n)) (q (n + x - n * 2))))
+      (le-ltb (n + x) n (let z : n ≤ n + x = omega arith in z))
       ∙ ap (λ (b : Bool). choose b (p (n + x - n)) (q (n + x - n * 2))) (lt-ltb (n + x) (n * 2) (let z : n + x < n * 2 = omega (arith, h) in z)) ∙ ap p e
 
   three-2 : (x : ℕ) → x < n → three n f p q (n * 2 + x) ≡ q x
   unfolding three
   three-2 x h =
       let e : n * 2 + x - n * 2 ≡ x = omega arith in
-      ap (λ (b : Bool). choose b (f (n * 2 + x)) (choose (ltb (n * 2 + x) (n * 2)) (p (n * 2 + x - n)) (q (n * 2 + x - n * 2)))) (le-ltb (n * 2 + x) n (let z : n ≤ n * 2 + x = omega arith in z))
-      ∙ ap (λ (b : Bool). choose b (p (n * 2 + x - n)) (q (n * 2 + x - n * 2))) (le-ltb (n * 2 + x) (n * 2) (let z : n * 2 ≤ n * 2 + x = omega arith in z)) ∙ ap q e
+      ap (λ (b : Bool). choose b (f (n * 2 + x)) (choose (ltb (n * 2 + x) (n * 2)) (p (n * 2 + x - n)) (q (n * 2 + x - n * 2))))
+      (le-ltb (n * 2 + x) n (let z : n ≤ n * 2 + x = omega arith in z))
+      ∙ ap (λ (b : Bool). choose b (p (n * 2 + x - n)) (q (n * 2 + x - n * 2))) (le-ltb (n * 2 + x) (n * 2) (let z : n * 2 ≤ n * 2 + x = omega arith in z))
+      ∙ ap q e
 
   keeps-three : (ts : List Tie) → Ready n ts → Keeps f (arcs ts) → Keeps p (arcs ts) → Keeps q (arcs (turned ts)) → Keeps (three n f p q) (arcs3 n ts)
   keeps-three ts ready hf hp hq = of-thirds n (λ a. three n f p q (a .to) ≤ℤ (three n f p q (a .from) +ℤ a .rise)) ts
@@ -192,12 +208,15 @@ module _ (n : ℕ) (ts : List Tie) (ready : Ready n ts) where
     L-ranged : (i : ℕ) → i < n * 3 → (dist L i ≡ far) ⊎ Near 125952000000 (dist L i)
     L-ranged i g =
         let e = length-arcs3 n ts in
-        let h : suc n * 122880000 ≤ 1025 * 122880000 = mul-le-mul (let k = ready .few-records in let z : suc n ≤ 1025 = omega (arith, k) in z) (let z : 122880000 ≤ 122880000 = omega arith in z) in
+        let h : suc n * 122880000 ≤ 1025 * 122880000 =
+        mul-le-mul (let k = ready .few-records in let z : suc n ≤ 1025 = omega (arith, k) in z) (let z : 122880000 ≤ 122880000 = omega arith in z) in
         let w : length (arcs3 n ts) * 20000 ≤ 122880000 = let k = ready .few-ties in omega (arith, e, k) in
         more h (passes-ranged (suc n) (arcs3 n ts) small3 122880000 w 0 (l, false)
-        (λ j b. at-first j (in-l b) (λ z. (z ≡ far) ⊎ Near 0 z) (firstly-ind n base j (λ z. (z ≡ far) ⊎ Near 0 z) (λ _. inr zero-near) (λ _. inr zero-near) (λ _. inr zero-near) (λ _. inl refl))) i (in-L g))
+        (λ j b. at-first j (in-l b) (λ z. (z ≡ far) ⊎ Near 0 z)
+        (firstly-ind n base j (λ z. (z ≡ far) ⊎ Near 0 z) (λ _. inr zero-near) (λ _. inr zero-near) (λ _. inr zero-near) (λ _. inl refl))) i (in-L g))
       where
-        more : suc n * 122880000 ≤ 1025 * 122880000 → (dist L i ≡ far) ⊎ Near (0 + suc n * 122880000) (dist L i) → (dist L i ≡ far) ⊎ Near 125952000000 (dist L i)
+        more : suc n * 122880000 ≤ 1025 * 122880000 → (dist L i ≡ far) ⊎ Near (0 + suc n * 122880000) (dist L i)
+            → (dist L i ≡ far) ⊎ Near 125952000000 (dist L i)
         more h (inl e) = inl e
         more h (inr k) = inr (omega (arith, h, k .0), omega (arith, h, k .1))
 
@@ -206,7 +225,10 @@ module _ (n : ℕ) (ts : List Tie) (ready : Ready n ts) where
 
     first-low : (x : ℕ) → x < n → dist L x ≤ℤ pos 0
     unfolding firstly
-    first-low x h = subst (λ (z : ℤ). dist L x ≤ℤ z) (ap (λ (b : Bool). choose b (pos 0) (choose (eqb x (n + base)) (pos 0) (choose (eqb x (n * 2 + base)) (pos 0) far))) (lt-ltb x n h)) (down-first x (omega (arith, h)))
+    first-low x h =
+        subst (λ (z : ℤ). dist L x ≤ℤ z)
+        (ap (λ (b : Bool). choose b (pos 0) (choose (eqb x (n + base)) (pos 0) (choose (eqb x (n * 2 + base)) (pos 0) far))) (lt-ltb x n h))
+        (down-first x (omega (arith, h)))
 
     first-known : (x : ℕ) → x < n → known (dist L x) ≡ true
     first-known x h = go (L-ranged x (omega (arith, h)))
@@ -224,8 +246,10 @@ module _ (n : ℕ) (ts : List Tie) (ready : Ready n ts) where
     -- ---- what is known in the second third
     pub known-joined : (x : ℕ) → x < n → known (d n x) ≡ true → Joined ts base x
     known-joined x h k = passes-reached R (arcs3 n ts) onward3 (suc n) (l, false)
-        (λ i g. at-first i (in-l g) (λ z. known z ≡ true → R i) (firstly-ind n base i (λ z. known z ≡ true → R i) (λ b _ y c e. absurd (no-way i y b e)) (λ b _ y c e. same y (sym b ∙ e))
-        (λ b _ y c e. absurd (no-way2 i y c b e)) (λ _ q. absurd (known-not-far far q refl)))) (n + x) (in-L (let z : n + x < n * 3 = omega (arith, h) in z)) k x h refl
+        (λ i g. at-first i (in-l g) (λ z. known z ≡ true → R i)
+        (firstly-ind n base i (λ z. known z ≡ true → R i) (λ b _ y c e. absurd (no-way i y b e)) (λ b _ y c e. same y (sym b ∙ e))
+        (λ b _ y c e. absurd (no-way2 i y c b e)) (λ _ q. absurd (known-not-far far q refl))))
+        (n + x) (in-L (let z : n + x < n * 3 = omega (arith, h) in z)) k x h refl
       where
         R : ℕ → Type 0
         R i = (y : ℕ) → y < n → i ≡ n + y → Joined ts base y
@@ -242,14 +266,17 @@ module _ (n : ℕ) (ts : List Tie) (ready : Ready n ts) where
         onward3 : (a : Arc) → In a (arcs3 n ts) → R (a .from) → R (a .to)
         onward3 = of-thirds n (λ a. R (a .from) → R (a .to)) ts
             (λ b i r y c e. let g = ready-inside n ts ready b i .1 in absurd (let none : 1 ≤ 0 = omega (arith, g, e) in not-suc-le-zero none))
-            (λ b i r y c e. let q : b .to ≡ y = omega (arith, e) in subst (λ (z : ℕ). Joined ts base z) q (joined-arc ts base b i (r (b .from) (ready-inside n ts ready b i .0) refl)))
+            (λ b i r y c e. let q : b .to ≡ y = omega (arith, e) in
+            subst (λ (z : ℕ). Joined ts base z) q (joined-arc ts base b i (r (b .from) (ready-inside n ts ready b i .0) refl)))
             (λ b i r y c e. absurd (let none : 1 ≤ 0 = omega (arith, c, e) in not-suc-le-zero none))
 
     -- ---- after a pass that changed nothing
     module _ (quiet-holds : passes (suc n) (arcs3 n ts) (l, false) .1 ≡ false) where
-      hold-at : (us : List Tie) → Ready n us → (o : ℕ) → o ≤ n * 2 → ((b : Arc) → In b (arcs us) → In (at o b) (arcs3 n ts)) → (b : Arc) → In b (arcs us) → known (d o (b .from)) ≡ true → d o (b .to) ≤ℤ (d o (b .from) +ℤ b .rise)
+      hold-at : (us : List Tie) → Ready n us → (o : ℕ) → o ≤ n * 2 → ((b : Arc) → In b (arcs us) → In (at o b) (arcs3 n ts))
+          → (b : Arc) → In b (arcs us) → known (d o (b .from)) ≡ true → d o (b .to) ≤ℤ (d o (b .from) +ℤ b .rise)
       hold-at us r o g into b i k = let h = ready-inside n us r b i in let f = h .0 in let t = h .1 in
-          passes-hold n (arcs3 n ts) (l, false) quiet-holds (at o b) (into b i) (in-L (let z : o + b .from < n * 3 = omega (arith, g, f) in z)) (in-L (let z : o + b .to < n * 3 = omega (arith, g, t) in z)) k
+          passes-hold n (arcs3 n ts) (l, false) quiet-holds (at o b) (into b i)
+          (in-L (let z : o + b .from < n * 3 = omega (arith, g, f) in z)) (in-L (let z : o + b .to < n * 3 = omega (arith, g, t) in z)) k
 
       pub second-holds : (b : Arc) → In b (arcs ts) → known (d n (b .from)) ≡ true → d n (b .to) ≤ℤ (d n (b .from) +ℤ b .rise)
       second-holds = hold-at ts ready n (omega arith) (arc-in-second n ts)
@@ -261,11 +288,15 @@ module _ (n : ℕ) (ts : List Tie) (ready : Ready n ts) where
       plain x = let e : 0 + x ≡ x = omega arith in ap (dist L) e
 
       first-hold : (b : Arc) → In b (arcs ts) → dist L (b .to) ≤ℤ (dist L (b .from) +ℤ b .rise)
-      first-hold b i = subst (λ (z : ℤ). z ≤ℤ (dist L (b .from) +ℤ b .rise)) (plain (b .to)) (subst (λ (z : ℤ). dist L (0 + b .to) ≤ℤ (z +ℤ b .rise)) (plain (b .from))
-          (hold-at ts ready 0 (omega arith) (arc-in-first n ts) b i (subst (λ (z : ℤ). known z ≡ true) (sym (plain (b .from))) (first-known (b .from) (ready-inside n ts ready b i .0)))))
+      first-hold b i =
+          subst (λ (z : ℤ). z ≤ℤ (dist L (b .from) +ℤ b .rise)) (plain (b .to)) (subst (λ (z : ℤ). dist L (0 + b .to) ≤ℤ (z +ℤ b .rise)) (plain (b .from))
+          (hold-at ts ready 0 (omega arith) (arc-in-first n ts) b i
+          (subst (λ (z : ℤ). known z ≡ true) (sym (plain (b .from))) (first-known (b .from) (ready-inside n ts ready b i .0)))))
 
       pub first-places : Places (dist L) ts
-      first-places t i = sums-meet (dist L (t .first)) (dist L (t .second)) (t .least) (t .most) (first-hold (up-arc t) (in-up ts t i)) (first-hold (down-arc t) (in-down ts t i))
+      first-places t i =
+          sums-meet (dist L (t .first)) (dist L (t .second)) (t .least) (t .most)
+          (first-hold (up-arc t) (in-up ts t i)) (first-hold (down-arc t) (in-down ts t i))
 
       -- a placing, shifted so that the base begins at 0, is at or under the distances of its third
       abbrev shift : Placing → Placing
@@ -282,7 +313,8 @@ module _ (n : ℕ) (ts : List Tie) (ready : Ready n ts) where
 
       under-all : (p q : Placing) → Places p ts → Places q (turned ts) → Under (three n (dist L) (shift p) (shift q)) L
       under-all p q hp hq = passes-keep (Under T) (arcs3 n ts) (λ a i s u. under-lower T (a .from) (a .to) (a .rise) s
-          (keeps-three n (dist L) (shift p) (shift q) ts ready (λ b j. first-hold b j) (shift-keeps ts p hp) (shift-keeps (turned ts) q hq) a i) u) (suc n) (l, false)
+          (keeps-three n (dist L) (shift p) (shift q) ts ready (λ b j. first-hold b j) (shift-keeps ts p hp) (shift-keeps (turned ts) q hq) a i)
+          u) (suc n) (l, false)
           (λ i g. at-first i (in-l g) (λ z. known z ≡ true → T i ≤ℤ z) (firstly-ind n base i (λ z. known z ≡ true → T i ≤ℤ z)
           (λ b _. subst (λ (z : ℤ). z ≤ℤ pos 0) (sym (let e : i ≡ 0 + i = omega arith in ap T e ∙ three-0 n (dist L) (shift p) (shift q) i b)) (first-low i b))
           (λ b _. subst (λ (z : ℤ). z ≤ℤ pos 0) (sym (ap T b ∙ three-1 n (dist L) (shift p) (shift q) base base-in)) (less-self (p base)))

@@ -58,5 +58,7 @@ pub turned-ready : (n : ℕ) (ts : List Tie) → Ready n ts → Ready n (turned 
 turned-ready n ts r = record {
   few-records = r .few-records;
   few-ties = subst (λ (k : ℕ). k ≤ 1024) (sym (turned-length ts)) (r .few-ties);
-  allowed = of-turned (Allowed n) ts (λ t i. let a = r .allowed t i in record { first-in = a .second-in; second-in = a .first-in; least-in = a .least-in; ordered = a .ordered; most-in = a .most-in });
+  allowed =
+      of-turned (Allowed n) ts (λ t i. let a = r .allowed t i in
+      record { first-in = a .second-in; second-in = a .first-in; least-in = a .least-in; ordered = a .ordered; most-in = a .most-in });
 }

@@ -45,7 +45,10 @@ loop-again c =
     let l = c .before .before .loop in
     let a = c .before .before .before .args in (
       simp length-set (omega arith),
-      (length-set (l .d) (l .i) _ ∙ l .inv .1 .0, begun-more (a .n) (a .base) (l .i) (l .d) (c .first-number .result) (c .before .loop-test .taken) (c .first-number .ensures) (l .inv .1 .1)),
+      (
+        length-set (l .d) (l .i) _ ∙ l .inv .1 .0,
+        begun-more (a .n) (a .base) (l .i) (l .d) (c .first-number .result) (c .before .loop-test .taken) (c .first-number .ensures) (l .inv .1 .1),
+      ),
     )
 
 -- src/lib.rt:129:1

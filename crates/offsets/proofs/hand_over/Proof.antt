@@ -73,7 +73,12 @@ same-length-2 c = search needs
 
 -- src/lib.rt:391:1
 returns-5 : tie.Need-returns-5
-returns-5 c = (Limits (c .before .before .before .before .before .before .before .before .args .n * 2), (told (c .before .before .before .before .before .before .before .if1 .left) (c .before .before .before .before .before .before .if2 .left) (c .before .before .before .before .if4 .left) (c .before .tell .ensures .0) (c .before .tell .ensures .1), refl))
+returns-5 c =
+    let else4 = c .before .before .before .before in
+    let else1 = else4 .before .before .before in (
+      Limits (else1 .before .args .n * 2),
+      (told (else1 .if1 .left) (else4 .before .before .if2 .left) (else4 .if4 .left) (c .before .tell .ensures .0) (c .before .tell .ensures .1), refl),
+    )
 
 pub hand-over-spec : {M : Type 1} → statement M
 hand-over-spec =

@@ -26,7 +26,9 @@ shared-slice-read-result c = search needs
 
 -- src/lib.rt:69:1
 returns-3 : tie.Need-returns-3
-returns-3 c = mark-here (c .before .before .before .args .state .now) (c .before .before .before .args .«record») (c .before .before .if1 .left)
+returns-3 c =
+    let start = c .before .before .before in
+    mark-here (start .args .state .now) (start .args .«record») (c .before .before .if1 .left)
 
 pub is-withdrawn-spec : {M : Type 1} → statement M
 is-withdrawn-spec =

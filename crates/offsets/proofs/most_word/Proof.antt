@@ -31,7 +31,8 @@ narrow-requires c κs = search needs
 -- src/lib.rt:350:1
 returns-3 : tie.Need-returns-3
 returns-3 c = let s = c .before .before .before .before in
-    most-narrowed (s .args .n) (s .args .x) (s .args .d .now) (c .before .before .before .a .given) (c .before .before .if1 .left) (c .before .if2 .left) (c .narrow .result) (c .narrow .ensures)
+    most-narrowed (s .args .n) (s .args .x) (s .args .d .now) (c .before .before .before .a .given)
+    (c .before .before .if1 .left) (c .before .if2 .left) (c .narrow .result) (c .narrow .ensures)
 
 pub most-word-spec : {M : Type 1} → statement M
 most-word-spec =

@@ -1,5 +1,5 @@
--- `tell` writes the two words of each record in turn. The loop's invariant: the words of the records before x are there, if all fit, and those past the last record's are as they were. The measure is what is left.
--- Assumes nothing.
+-- `tell` writes the two words of each record in turn. The loop's invariant: the words of the records before x are there, if all fit, and those past the last
+-- record's are as they were. The measure is what is left. Assumes nothing.
 use mathlib.Core.Path.{_≡_, refl, _∙_}
 use Prim.Native.Nat.{_≤_, _-_, _+_, _*_}
 use native.Mathlib.Omega.{arith}
@@ -70,7 +70,8 @@ loop-again c =
       (
         length-set (set (l .list) (l .x * 2) _) (l .x * 2 + 1) _ ∙ length-set (l .list) (l .x * 2) _ ∙ l .inv .1 .0,
         (
-          told-more (a .n) (a .d .now) (l .list) (l .x) (c .before .least-word .result) (c .most-word .result) t (omega arith) (c .before .least-word .ensures) (c .most-word .ensures) (l .inv .1 .1 .0),
+          told-more (a .n) (a .d .now) (l .list) (l .x) (c .before .least-word .result) (c .most-word .result)
+              t (omega arith) (c .before .least-word .ensures) (c .most-word .ensures) (l .inv .1 .1 .0),
           past-same (a .n * 2) (l .x * 2) (l .x * 2 + 1) _ _ (l .list) (a .list .now) (omega arith) (omega arith) (l .inv .1 .1 .1),
         ),
       ),

@@ -29,7 +29,8 @@ same-length c = search needs
 returns : tie.Need-returns
 returns c =
     let a = c .before .before .before .before .before .before in
-    both (a .args .o) (a .args .a) (a .args .b) (a .args .up) (a .args .down) (a .args .d .now, a .args .was) _ _ (a .fits .up) (a .fits .down) (c .before .before .before .before .lower .ensures) (c .before .lower2 .ensures)
+    both (a .args .o) (a .args .a) (a .args .b) (a .args .up) (a .args .down) (a .args .d .now, a .args .was) _ _
+    (a .fits .up) (a .fits .down) (c .before .before .before .before .lower .ensures) (c .before .lower2 .ensures)
 
 pub third-spec : {M : Type 1} → statement M
 third-spec = tie.close (tie.spec add-x add-y lower-requires lower-requires-2 same-length returns)
