@@ -1,6 +1,6 @@
 -- The needs of `alternatives`, a list of sequences with | between them: each by a law of `Joining`. The loop's invariant is `Looped`; the measure is the
 -- bytes left. Each turn reads the | and the sequence after it, and joins the two. Assumes nothing.
-use mathlib.Core.Path.{_≡_, refl, sym, _∙_}
+use mathlib.Core.Path.{refl, sym, _∙_}
 use Prim.Native.Nat.{ℕ}
 use native.Mathlib.Omega.{arith}
 use borrow.Author.Needs.{needs}
