@@ -18,7 +18,7 @@
 use mathlib.Core.Path.{_≡_, refl, sym, ap, subst, _∙_}
 use mathlib.Core.List.{List, [], _∷_}
 use mathlib.Core.Bool.{Bool, true, false, not, false≢true}
-use Prim.Native.Nat.{ℕ, zero, suc, _≤_}
+use Prim.Native.Nat.{ℕ, zero, suc, _≤_, _<_}
 use native.Mathlib.Omega.{arith}
 use lib.Dec.{leb, eqb}
 use lib.ListN.{length, take, set}
@@ -34,7 +34,7 @@ use Rattle.register.specs.Packed.{Packed, heldWord, takeBackKind, takeBa
 use Rattle.register.specs.Counters.{Ranged, InRange}
 use Rattle.register.specs.Representation.{heldWords, packedOf, Represents}
 use Rattle.register.specs.Calls.{answerOf, Opens, Steps}
-use Rattle.register.specs.Inner.{linkCauses, Guarded, Counted, Holding, Changed}
+use Rattle.register.specs.Inner.{linkCauses, Guarded, Counted, Kept, Holding, Changed}
 use Rattle.register.specs.declared.Register.{Register}
 use Rattle.register.specs.declared.Answer.the-variants.{Done, Refused}
 use Rattle.register.proofs.Counting.{held-counted, represents-counted, counted-totals}
@@ -103,6 +103,10 @@ piled-take (suc k) n p [] [] h = tt
 piled-take (suc k) n p [] (s ∷ ss) h = h
 piled-take (suc k) n p (w ∷ ws) [] h = h
 piled-take (suc k) n p (w ∷ ws) (s ∷ ss) h = (h .0, piled-take k n (takeBack w p) ws ss (h .1))
+
+-- after a change of the sheet there is room to hold the edit
+pub kept-room : {self m : Register} → Kept self m → InRange self → (m .top < maxHeld) × (m .held ≤ maxHeld)
+kept-room k h = (omega (arith, k .top, h .top), omega (arith, k .held, h .held))
 
 -- an accepted edit: the sheet is changed, then the edit is held
 module _ (self : Register) (e : Edit) (m r : Register) (inside : InRange self) (long : length (self .marks) ≡ maxRecords)

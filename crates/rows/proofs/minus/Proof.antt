@@ -50,9 +50,11 @@ loop-less c = omega arith
 loop-again : tie.Need-loop-again Inv-loop μ-loop
 loop-again c =
     let l = c .before .before .before .loop in
-    let args = c .before .before .before .before .args in
-    (omega arith, written-more (λ (w : ℕ). bitAnd w ((2 ^ 64 - 1) - getD (args .b .now) (l .i) 0)) (omega arith) (l .inv .1)
-    (λ k h. minus-word (args .a .now) (args .b .now) (l .i) k h (c .shared-slice-known .given (l .i) .fits)))
+    let args = c .before .before .before .before .args in (
+      omega arith,
+      written-more (λ (w : ℕ). bitAnd w ((2 ^ 64 - 1) - getD (args .b .now) (l .i) 0)) (omega arith) (l .inv .1)
+          (λ k h. minus-word (args .a .now) (args .b .now) (l .i) k h (c .shared-slice-known .given (l .i) .fits)),
+    )
 
 same-length : tie.Need-same-length Inv-loop μ-loop
 same-length c = search needs

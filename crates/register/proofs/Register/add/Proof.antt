@@ -17,7 +17,7 @@ use Rattle.register.specs.Representation.{packedOf}
 use Rattle.register.specs.Inner.{Checks}
 use Rattle.register.specs.declared.LinkCheck.the-variants.{Word, Fault}
 use Rattle.register.proofs.Showing.{packedCauses, packedEdit}
-use Rattle.register.proofs.Stepping.{refuse, refuse-ranged, accept, add-cause, add-stop}
+use Rattle.register.proofs.Stepping.{refuse, refuse-ranged, kept-room, accept, add-cause, add-stop}
 use Rattle.register.proofs.Register.add.Statement.{statement}
 use Rattle.register.proofs.Register.add.Tie as tie
 
@@ -66,10 +66,7 @@ put-in-requires : tie.Need-put-in-requires
 put-in-requires c κs = c .if2 .left
 
 hold-requires : tie.Need-hold-requires
-hold-requires c κs =
-    let h = word (c .before .before .before .before .before .before .before .before) .0 in
-    let k = c .put-in .ensures .kept in
-    (omega (arith, k .top, h .top), omega (arith, k .held, h .held))
+hold-requires c κs = kept-room (c .put-in .ensures .kept) (word (c .before .before .before .before .before .before .before .before) .0)
 
 returns-3 : tie.Need-returns-3
 returns-3 c =

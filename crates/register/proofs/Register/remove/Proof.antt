@@ -14,7 +14,7 @@ use Rattle.register.specs.Representation.{packedOf}
 use Rattle.register.specs.Inner.{Checks}
 use Rattle.register.specs.declared.LinkCheck.the-variants.{Word, Fault}
 use Rattle.register.proofs.Showing.{packedCauses, packedEdit}
-use Rattle.register.proofs.Stepping.{refuse, refuse-ranged, accept, remove-cause, remove-stop, link-proper}
+use Rattle.register.proofs.Stepping.{refuse, refuse-ranged, kept-room, accept, remove-cause, remove-stop, link-proper}
 use Rattle.register.proofs.Register.remove.Statement.{statement}
 use Rattle.register.proofs.Register.remove.Tie as tie
 
@@ -61,10 +61,7 @@ add-hold c =
     omega (arith, p .from, p .label, p .to, w .0 .size, w .1)
 
 hold-requires : tie.Need-hold-requires
-hold-requires c κs =
-    let h = word (c .before .before .before .before .before .before .before) .0 in
-    let k = c .take-out .ensures .kept in
-    (omega (arith, k .top, h .top), omega (arith, k .held, h .held))
+hold-requires c κs = kept-room (c .take-out .ensures .kept) (word (c .before .before .before .before .before .before .before) .0)
 
 returns-2 : tie.Need-returns-2
 returns-2 c =

@@ -9,7 +9,7 @@ use Rattle.book.specs.Book.{withdraw}
 use Rattle.register.specs.Packed.{heldWord}
 use Rattle.register.specs.Counters.{InRange}
 use Rattle.register.proofs.Showing.{packedCauses, packedEdit}
-use Rattle.register.proofs.Stepping.{outside, inside, refuse-foreign, refuse-ranged, accept}
+use Rattle.register.proofs.Stepping.{outside, inside, refuse-foreign, refuse-ranged, kept-room, accept}
 use Rattle.register.proofs.Register.withdraw.Statement.{statement}
 use Rattle.register.proofs.Register.withdraw.Tie as tie
 
@@ -57,10 +57,7 @@ add-hold : tie.Need-add-hold
 add-hold c = search needs
 
 hold-requires : tie.Need-hold-requires
-hold-requires c κs =
-    let h = in-range (c .before .before .before .before .before .before .before .before .before .before) in
-    let k = c .set-mark .ensures .kept in
-    (omega (arith, k .top, h .top), omega (arith, k .held, h .held))
+hold-requires c κs = kept-room (c .set-mark .ensures .kept) (in-range (c .before .before .before .before .before .before .before .before .before .before))
 
 marks-long : (c : tie.Start) → length (c .args .t1 .marks) ≡ 1024
 marks-long c = search needs
