@@ -30,9 +30,11 @@ lowest-requires c κs = tt
 loop-holds : tie.Need-loop-holds Inv-loop μ-loop
 loop-holds c =
     let a = c .before .before .before .args in
-    let L = c .lowest .ensures in
-    (L .hit, looked-gap (a .n) (a .b) (a .n * a .w) (a .mask) (a .seen) (a .cells .now) 0 (c .lowest .result) (a .n) (L .gap)
-    (record { found = λ h. absurd (omega arith); all = λ h y l o e. absurd (omega arith) }))
+    let L = c .lowest .ensures in (
+      L .hit,
+      looked-gap (a .n) (a .b) (a .n * a .w) (a .mask) (a .seen) (a .cells .now) 0 (c .lowest .result) (a .n) (L .gap)
+          (record { found = λ h. absurd (omega arith); all = λ h y l o e. absurd (omega arith) }),
+    )
 
 add-lacking : tie.Need-add-lacking Inv-loop μ-loop
 add-lacking c = let a = c .before .before .before .before .before .args in omega (arith, unit-fits (a .n) (a .w) (omega arith) (omega arith))
