@@ -78,15 +78,22 @@ bit-else z v n = go (ℕ-discrete (v / 64) (z / 64))
     go (no e) = word-off (z / 64) (2 ^ (z % 64)) v e
 
 -- ---- a column that is not seen
+-- r is one, if it is below n; else the columns below p are seen
+pub record LookedTo (n p : ℕ) (f g : ℕ → ℕ) (r : ℕ) : Type 0 where
+  pub found : r < n → (f r ≡ 1) × (g r ≡ 0)
+  pub all : n ≤ r → (y : ℕ) → y < n → y < p → f y ≡ 1 → g y ≡ 1
+
 module _ (n b at m s : ℕ) (ws : List ℕ) where
+  abbrev Looked : (p r : ℕ) → Type 0
+  Looked p r = LookedTo n p (rowOf ws b m) (rowOf ws at s) r
+
   -- words that are not in the mask
-  pub seen-gap : (c k : ℕ) → Gap (digit m) c k → ((y : ℕ) → y < n → y < c * 64 → rowOf ws b m y ≡ 1 → rowOf ws at s y ≡ 1)
-      → (y : ℕ) → y < n → y < k * 64 → rowOf ws b m y ≡ 1 → rowOf ws at s y ≡ 1
-  seen-gap c k g S y l h e = go (decLt y (c * 64))
+  pub looked-gap : (c k r : ℕ) → Gap (digit m) c k → Looked (c * 64) r → Looked (k * 64) r
+  looked-gap c k r g L = record { found = L .found; all = λ o y l h e. go o y l h e (decLt y (c * 64)) }
     where
-      go : Dec (y < c * 64) → rowOf ws at s y ≡ 1
-      go (yes d) = S y l d e
-      go (no d) = absurd (omega (arith, e, row-empty ws b m y (g (y / 64) (omega arith) (omega arith))))
+      go : n ≤ r → (y : ℕ) → y < n → y < k * 64 → rowOf ws b m y ≡ 1 → Dec (y < c * 64) → rowOf ws at s y ≡ 1
+      go o y l h e (yes d) = L .all o y l d e
+      go o y l h e (no d) = absurd (omega (arith, e, row-empty ws b m y (g (y / 64) (omega arith) (omega arith))))
 
   module _ (c word left : ℕ) (d : digit m c ≡ 1)
       (lack : (j : ℕ) → j < 64 → digit word j ≡ min (digit (getD ws (b + c) 0) j) (1 - min (digit s c) (digit (getD ws (at + c) 0) j)))
@@ -115,16 +122,18 @@ module _ (n b at m s : ℕ) (ws : List ℕ) where
             let z : pick (ltb (c * 64 + k) n) (digit word k) 0 ≡ 0 = rw (le-ltb (c * 64 + k) n (omega arith)) refl in
             absurd (omega (arith, e, cut k h ∙ z))
 
-    pub seen-word : left ≡ 0 → ((y : ℕ) → y < n → y < c * 64 → rowOf ws b m y ≡ 1 → rowOf ws at s y ≡ 1)
-        → (y : ℕ) → y < n → y < (c + 1) * 64 → rowOf ws b m y ≡ 1 → rowOf ws at s y ≡ 1
-    seen-word z S y l h e = go (decLt y (c * 64))
+    pub looked-word : (f r : ℕ) → ((r ≡ f) × ((f < n) ⊎ (left ≡ 0))) ⊎ ((n ≤ f) × (k : ℕ) × (k < 64) × (digit left k ≡ 1) × (r ≡ c * 64 + k))
+        → Looked (c * 64) f → Looked ((c + 1) * 64) r
+    looked-word f r (inl (e, inl l)) L = rw e (record { found = L .found; all = λ o. absurd (omega arith) })
+    looked-word f r (inl (q, inr z)) L = rw q (record { found = L .found; all = λ o y l h e. go o y l h e (decLt y (c * 64)) })
       where
-        go : Dec (y < c * 64) → rowOf ws at s y ≡ 1
-        go (yes k) = S y l k e
-        go (no k) =
-            let q : y / 64 ≡ c = omega arith in
-            let f : digit left (y % 64) ≡ 0 = ap (λ (v : ℕ). digit v (y % 64)) z ∙ digit-none (y % 64) in
-            omega (arith, left-is y q l, f, e, row-bit ws at s y)
+        go : n ≤ f → (y : ℕ) → y < n → y < (c + 1) * 64 → rowOf ws b m y ≡ 1 → Dec (y < c * 64) → rowOf ws at s y ≡ 1
+        go o y l h e (yes k) = L .all o y l k e
+        go o y l h e (no k) =
+            let i : y / 64 ≡ c = omega arith in
+            let t : digit left (y % 64) ≡ 0 = ap (λ (v : ℕ). digit v (y % 64)) z ∙ digit-none (y % 64) in
+            omega (arith, left-is y i l, t, e, row-bit ws at s y)
+    looked-word f r (inr (o, k, l, d, e)) L = rw e (let F = fresh-found k l d in record { found = F .found; all = λ o y l h e. F .all o y l e })
 
 -- ---- a search
 pub record Search (n : ℕ) (a : Cells) (x : ℕ) (r v : ℕ → ℕ) : Type 0 where

@@ -7,32 +7,51 @@ use crate::words::cut;
 use crate::words::lacking;
 use crate::words::lowest;
 ghost use mathlib.Core.Path.{_≡_};
+ghost use mathlib.Core.Logic.{_⊎_};
 ghost use Prim.Native.Nat.{ℕ, _+_, _*_, _/_, _%_, _^_, _≤_, _<_, max};
 ghost use lib.Dec.{eqb};
 ghost use lib.ListN.{length};
 ghost use Rattle.book.specs.Basics.{pick};
-ghost use Rattle.k2.specs.Bits.{bitAt};
+ghost use Rattle.k2.specs.Bits.{digit, bitAt};
 ghost use Rattle.k2.specs.PairSets.{Cells, IsSet, closure};
 ghost use Rattle.grid.specs.Grid.{rowOf, firstRows, first};
 ghost use Rattle.grid.specs.Steps.{wordAt, Merged, Fresh, Half};
 
-// A column below n of the row at place b with the mask that is not seen, that is, not in the row after the relation; n or more if there is none.
-fn fresh(cells: &[u64], mask: u16, seen: u16, n: usize, w: usize, b: usize) -> usize
-    requires { ⌜ (n ≤ 1024) × (w ≤ 16) × (n ≤ w * 64) × (n * w + w ≤ length (now cells)) × (b + w ≤ n * w) ⌝ }
+// The place found, if it is below n; else the lowest bit of word c of a row, if it has one.
+fn found_or(found: usize, n: usize, left: u64, c: usize) -> usize
+    requires { ⌜ c < 16 ⌝ }
+    ensures { λ r. ⌜ ((r ≡ found) × ((found < n) ⊎ (left ≡ 0))) ⊎ ((n ≤ found) × (k : ℕ) × (k < 64) × (digit left k ≡ 1) × (r ≡ c * 64 + k)) ⌝ }
+{
+    if found < n {
+        return found;
+    }
+    if left == 0 {
+        return found;
+    }
+    c * 64 + lowest(left)
+}
+
+// A column below n of the row at place b with the mask that is not seen, that is, not in the row after the relation; n or more if there is none. That
+// of a closed record, where there is one: all that it leads to is then seen at once. Nothing but speed rests on that choice.
+fn fresh(cells: &[u64], mask: u16, seen: u16, n: usize, w: usize, b: usize, closed: &[u64]) -> usize
+    requires { ⌜ (n ≤ 1024) × (w ≤ 16) × (n ≤ w * 64) × (n * w + w ≤ length (now cells)) × (b + w ≤ n * w) × (16 ≤ length (now closed)) ⌝ }
     ensures { λ r. ⌜ Fresh n (rowOf (now (cells .entry)) b mask) (rowOf (now (cells .entry)) (n * w) seen) r ⌝ }
 {
     let words = mask as u64;
     let at = n * w;
+    let mut found = n;
     let mut c = lowest(words);
     while c < w {
         let word = lacking(cells[b + c], seen, c, cells[at + c]);
         let left = cut(word, c, n);
-        if left != 0 {
-            return c * 64 + lowest(left);
+        let best = left & closed[c];
+        if best != 0 {
+            return c * 64 + lowest(best);
         }
+        found = found_or(found, n, left, c);
         c = above(words, c);
     }
-    n
+    found
 }
 
 // Record z is seen, and, if its row is whole, all that it leads to.
@@ -65,7 +84,7 @@ fn lead_on(cells: &mut [u64], masks: &mut [u16], n: usize, w: usize, x: usize, z
 
 // Row x closed, if the rows of the records that are closed are. The row after the relation has what the search has seen.
 fn close_row(cells: &mut [u64], masks: &mut [u16], n: usize, w: usize, x: usize, closed: &[u64])
-    requires { ⌜ (n ≤ 1024) × (w ≤ 16) × (n ≤ w * 64) × (n * w + w ≤ length (now cells)) × (n < length (now masks)) × (x < n) ⌝ }
+    requires { ⌜ (n ≤ 1024) × (w ≤ 16) × (n ≤ w * 64) × (n * w + w ≤ length (now cells)) × (n < length (now masks)) × (x < n) × (16 ≤ length (now closed)) ⌝ }
     ensures { λ _. ⌜ ((u y : ℕ) → u < n → y < n → (u ≡ x → ⊥)
         → firstRows w (now (cells .exit)) (now (masks .exit)) u y ≡ firstRows w (now (cells .entry)) (now (masks .entry)) u y)
         × ((a : Cells) → IsSet n a → Half n a (bitAt (now (closed .entry))) (firstRows w (now (cells .entry)) (now (masks .entry)))
@@ -73,11 +92,11 @@ fn close_row(cells: &mut [u64], masks: &mut [u16], n: usize, w: usize, x: usize,
 {
     masks[n] = 0;
     let b = x * w;
-    let mut z = fresh(cells, masks[x], masks[n], n, w, b);
+    let mut z = fresh(cells, masks[x], masks[n], n, w, b, closed);
     while z < n {
         mark(cells, masks, n, w, z, bits::bit(closed, z));
         lead_on(cells, masks, n, w, x, z);
-        z = fresh(cells, masks[x], masks[n], n, w, b);
+        z = fresh(cells, masks[x], masks[n], n, w, b, closed);
     }
 }
 

@@ -2,10 +2,9 @@
 use crate::row::put;
 ghost use mathlib.Core.Path.{_≡_};
 ghost use mathlib.Core.List.{List, [], _∷_};
-ghost use Prim.Native.Nat.{ℕ, _*_, _≤_};
-ghost use lib.Dec.{eqb};
+ghost use Prim.Native.Nat.{ℕ, _*_, _≤_, _<_};
 ghost use lib.ListN.{length};
-ghost use Rattle.k2.specs.Bits.{digit, bitAt};
+ghost use Rattle.k2.specs.Bits.{bitAt};
 ghost use Rattle.k2.specs.PairSets.{union, diagonal};
 ghost use Rattle.rows.specs.Rows.{noPairs, crossedWords};
 ghost use Rattle.grid.specs.Grid.{within, first};
@@ -52,16 +51,6 @@ pub fn put_diagonal(used: &[u64], cells: &mut [u64], masks: &mut [u16], n: usize
     }
 }
 
-// Is a label in a set of labels?
-fn has_label(labels: u32, label: u32) -> bool
-    ensures { λ r. ⌜ r ≡ eqb (digit labels label) 1 ⌝ }
-{
-    if 32 <= label {
-        return false;
-    }
-    (labels >> label) % 2 == 1
-}
-
 // The pair of one link's word put in, as `put_letters` does.
 fn put_word(
     word: u32,
@@ -78,10 +67,10 @@ fn put_word(
 {
     let label = word / 1048576;
     let p = (word % 1048576) as usize;
-    if has_label(forward, label) {
+    if rows::has_label(forward, label) {
         put_pair(cells, masks, n, w, p / 1024, p % 1024);
     }
-    if has_label(against, label) {
+    if rows::has_label(against, label) {
         put_pair(cells, masks, n, w, p % 1024, p / 1024);
     }
 }

@@ -66,7 +66,7 @@ pub fn set_diagonal(rows: &mut [u64], records: &[u64])
 }
 
 // Is a label in a set of labels?
-fn has_label(labels: u32, label: u32) -> bool
+pub fn has_label(labels: u32, label: u32) -> bool
     ensures { λ r. ⌜ r ≡ eqb (digit labels label) 1 ⌝ }
 {
     if 32 <= label {

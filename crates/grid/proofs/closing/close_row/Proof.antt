@@ -52,7 +52,7 @@ slice-read-fresh-2 c = simp length-set (omega arith)
 fresh-requires : tie.Need-fresh-requires Inv-loop μ-loop
 fresh-requires c κs =
     let a = c .before .before .before .before .before .before .args in
-    (omega arith, omega arith, omega arith, omega arith, omega (arith, rows-apart (a .x) (a .n) (a .w) (omega arith)))
+    (omega arith, omega arith, omega arith, omega arith, omega (arith, rows-apart (a .x) (a .n) (a .w) (omega arith)), omega arith)
 
 loop-holds : tie.Need-loop-holds Inv-loop μ-loop
 loop-holds c =
@@ -104,7 +104,7 @@ slice-read-fresh-4 c = omega (arith, after (c .before .before .before .before .b
 fresh-requires-2 : tie.Need-fresh-requires-2 Inv-loop μ-loop
 fresh-requires-2 c κs =
     let a = c .before .before .before .before .before .before .before .before .before .before .before .before .before .before .before .before .before .before .before .before .before .before .before .before .before .before .before .args in
-    (omega arith, omega arith, omega arith, omega (arith, after (c .before .before .before .before .before .before .before) .0), omega (arith, rows-apart (a .x) (a .n) (a .w) (omega arith)))
+    (omega arith, omega arith, omega arith, omega (arith, after (c .before .before .before .before .before .before .before) .0), omega (arith, rows-apart (a .x) (a .n) (a .w) (omega arith)), omega arith)
 
 -- what `mark` has merged in
 marked : (c : tie.After-mark Inv-loop μ-loop) → let a = c .before .before .before .before .before .before .before .before .before .before .before .before .before .args in let l = c .before .before .before .before .before .loop in
