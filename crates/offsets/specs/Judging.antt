@@ -5,7 +5,7 @@
 --     causes-in-order      which keep to the order of causes
 --     no-cause-ready       where there is none, the base is a record and every tie is allowed
 -- Assumes nothing.
-use mathlib.Core.Path.{_≡_, refl, sym, ap, _∙_, subst}
+use mathlib.Core.Path.{_≡_, refl, ap, _∙_}
 use mathlib.Core.List.{List, [], _∷_}
 use mathlib.Core.Bool.{Bool, true, false, _||_}
 use Prim.Native.Nat.{ℕ, zero, suc, _*_, _≤_, _<_}
