@@ -132,7 +132,8 @@ module _ {g : Graph} {M : Automaton} {y n l : ℕ} (shut : Shut g M n) {d : ℕ 
       let j : d (v .0 .reached) (v .1) ≡ suc (d (v .0 .reached) (v .1) - 1) = omega arith in
       pick (v .0) (v .1) (v .2) j (which (d (v .0 .reached) (v .1)) (suc l)) (z .0) (z .1) b
     where
-      pick : (s : Step) (q′ : ℕ) → Moves g M r q s q′ → d (s .reached) q′ ≡ suc (d (s .reached) q′ - 1) → Which (d (s .reached) q′) (suc l) → s .reached < n → q′ < 64 → d (s .reached) q′ ≤ suc l → 0 < d r q
+      pick : (s : Step) (q′ : ℕ) → Moves g M r q s q′ → d (s .reached) q′ ≡ suc (d (s .reached) q′ - 1)
+          → Which (d (s .reached) q′) (suc l) → s .reached < n → q′ < 64 → d (s .reached) q′ ≤ suc l → 0 < d r q
       pick s q′ m j (same f) a b h = absurd (none (s .reached) q′ a b f)
       pick s q′ m j (more f) a b h = absurd (omega arith)
       pick s q′ m j (less f) a b h = near r q q′ (d (s .reached) q′ - 1) s hr hq m j (omega arith) .0
@@ -146,7 +147,8 @@ module _ {g : Graph} {M : Automaton} {y n l : ℕ} (shut : Shut g M n) {d : ℕ 
       let j : d (s .reached) q′ ≡ suc (d (s .reached) q′ - 1) = omega arith in
       pick (which (d (s .reached) q′) (suc m)) p j b
     where
-      pick : Which (d (s .reached) q′) (suc m) → (0 < d (s .reached) q′) × (d (s .reached) q′ ≤ suc m) → d (s .reached) q′ ≡ suc (d (s .reached) q′ - 1) → d r q ≤ suc l → d (s .reached) q′ ≡ suc m
+      pick : Which (d (s .reached) q′) (suc m) → (0 < d (s .reached) q′) × (d (s .reached) q′ ≤ suc m)
+          → d (s .reached) q′ ≡ suc (d (s .reached) q′ - 1) → d r q ≤ suc l → d (s .reached) q′ ≡ suc m
       pick (same f) p j b = f
       pick (more f) p j b = absurd (omega arith)
       pick (less f) p j b = absurd (let o = near r q q′ (d (s .reached) q′ - 1) s hr hq v j (omega arith) in omega arith)

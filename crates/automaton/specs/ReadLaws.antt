@@ -5,8 +5,10 @@ use mathlib.Core.List.{List, [], _∷_, _++_, append-nil}
 use Prim.Native.Nat.{ℕ, suc, _+_, _<_, _≤_, max, min}
 use native.Mathlib.Omega.{arith}
 use Rattle.book.specs.Basics.{bit}
-use Rattle.paths.specs.Expressions.{Letter, Symbol, standsFor, Expr, symbol, group, inverse, star, plus, optional as optional-part, alternative, sequence, letters}
-use Rattle.paths.specs.Words.{backwards, Words, itself, inside, reversed as word-reversed, left, right, joined, once, again, star-none, star-some, optional-none, optional-once}
+use Rattle.paths.specs.Expressions.{Letter, Symbol, standsFor, Expr, symbol, group, inverse, star, plus, optional as optional-part, alternative, sequence}
+use Rattle.paths.specs.Expressions.{letters}
+use Rattle.paths.specs.Words.{backwards, Words, itself, inside, reversed as word-reversed, left, right, joined, once, again, star-none, star-some}
+use Rattle.paths.specs.Words.{optional-none, optional-once}
 use Rattle.paths.specs.ChainLaws.{backwards-backwards}
 use Rattle.automaton.specs.Automata.{On, is, Fragment, single, reversed, repeated, optional, either, followed, fragment}
 use Rattle.automaton.specs.SetLaws.{on-max, on-left, on-right, on-both, on-min, is-on, on-bit, bit-on}
@@ -76,7 +78,8 @@ module _ {A B : Fragment} {lo mid hi : ℕ} (U : Within lo mid A) (W : Within mi
       e : On (A .enters q a)
       e = low q _ _ l (W .enters q a) h
 
-      go : On (max (A .follow q q′) (B .follow q q′)) ⊎ On (min (A .last q) (B .first q′)) → (q′ ≤ mid → Cut q′ w r) → Trace (followed A B) q′ w r → Cut q (a ∷ w) r
+      go : On (max (A .follow q q′) (B .follow q q′)) ⊎ On (min (A .last q) (B .first q′))
+          → (q′ ≤ mid → Cut q′ w r) → Trace (followed A B) q′ w r → Cut q (a ∷ w) r
       go (inl o) ih t′ = let g = low q _ _ l (W .from q q′) o in longer e g (ih (U .to q q′ g .1))
       go (inr o) ih t′ = let g = on-min (A .last q) (B .first q′) o in goes (at e) (g .0) (g .1) (followed-high (W .first q′ (g .1) .0) t′) refl
 
@@ -119,7 +122,10 @@ module _ {A B : Fragment} {lo mid hi : ℕ} (U : Within lo mid A) (W : Within mi
 
       go : On (A .first q) ⊎ On (min (A .nullable) (B .first q)) → (v u : List Letter) × Reads A v × Reads B u × (w ≡ v ++ u)
       go (inl p) = parted p (cut (U .first q p .1) t)
-      go (inr p) = let k = on-min (A .nullable) (B .first q) p in let s = followed-high (W .first q (k .1) .0) t in ([], w, nothing (k .0), along (k .1) s (last-high (ends W s .0)), refl)
+      go (inr p) =
+          let k = on-min (A .nullable) (B .first q) p in
+          let s = followed-high (W .first q (k .1) .0) t in
+          ([], w, nothing (k .0), along (k .1) s (last-high (ends W s .0)), refl)
 
 -- ---- one or more
 module _ (e : Expr) (A : Fragment) (s : (w : List Letter) → Reads A w → Words e w) where
@@ -185,7 +191,8 @@ sound (optional-part e) o w r = go (reads-optional r) (sound e o w)
     go (inr h) s = optional-once (s h)
 sound (alternative e f) o w r = go (reads-either (within e o) (within f (o + letters e)) r) (sound e o w) (sound f (o + letters e) w)
   where
-    go : Reads (fragment e o) w ⊎ Reads (fragment f (o + letters e)) w → (Reads (fragment e o) w → Words e w) → (Reads (fragment f (o + letters e)) w → Words f w) → Words (alternative e f) w
+    go : Reads (fragment e o) w ⊎ Reads (fragment f (o + letters e)) w → (Reads (fragment e o) w → Words e w)
+        → (Reads (fragment f (o + letters e)) w → Words f w) → Words (alternative e f) w
     go (inl h) s t = left (s h)
     go (inr h) s t = right (t h)
 sound (sequence e f) o w r =
@@ -203,7 +210,8 @@ add-repeated : {A : Fragment} {v w : List Letter} → Reads A v → Reads (repea
 unfolding repeated
 add-repeated (nothing o) r = r
 add-repeated {A} {v} (along f t l) (nothing o) = subst (λ (m : List Letter). Reads (repeated A) m) (sym (append-nil v)) (to-repeated (along f t l))
-add-repeated {A} (along f t l) (along {q = q} g s k) = along f (trace-join (trace-map (λ q a h. h) (λ p q h. on-left _ _ h) t) (on-right _ _ (on-both _ _ l g)) s) k
+add-repeated {A} (along f t l) (along {q = q} g s k) =
+    along f (trace-join (trace-map (λ q a h. h) (λ p q h. on-left _ _ h) t) (on-right _ _ (on-both _ _ l g)) s) k
 
 to-optional : {A : Fragment} {w : List Letter} → Reads A w → Reads (optional A) w
 unfolding optional
@@ -242,7 +250,8 @@ module _ (A B : Fragment) where
   unfolding followed
   to-followed (nothing o) (nothing p) = nothing (on-both _ _ o p)
   to-followed (nothing o) (along f t l) = along (on-right _ _ (on-both _ _ o f)) (in-second t) (on-left _ _ l)
-  to-followed {v} (along f t l) (nothing o) = subst (λ (m : List Letter). Reads (followed A B) m) (sym (append-nil v)) (along (on-left _ _ f) (in-first t) (on-right _ _ (on-both _ _ o l)))
+  to-followed {v} (along f t l) (nothing o) =
+      subst (λ (m : List Letter). Reads (followed A B) m) (sym (append-nil v)) (along (on-left _ _ f) (in-first t) (on-right _ _ (on-both _ _ o l)))
   to-followed (along f t l) (along g s k) = along (on-left _ _ f) (trace-join (in-first t) (on-right _ _ (on-both _ _ l g)) (in-second s)) (on-left _ _ k)
 
 -- the automaton reads every word of the expression

@@ -58,7 +58,8 @@ module _ (g : Graph) (I : Inside g) (e : Expr) (y : ℕ) where
   -- the places that a walk comes to, one for each step
   data Places : ℕ → ℕ → List Step → List ℕ → Type 0 where
     stays : {r q : ℕ} → Places r q [] []
-    comes : {r q q′ : ℕ} {s : Step} {ss : List Step} {ps : List ℕ} → Moves g M r q s q′ → Walk g M y (s .reached) q′ ss → Places (s .reached) q′ ss ps → Places r q (s ∷ ss) (place q′ (s .reached) ∷ ps)
+    comes : {r q q′ : ℕ} {s : Step} {ss : List Step} {ps : List ℕ} → Moves g M r q s q′
+        → Walk g M y (s .reached) q′ ss → Places (s .reached) q′ ss ps → Places r q (s ∷ ss) (place q′ (s .reached) ∷ ps)
 
   places : {r q : ℕ} (ss : List Step) → Walk g M y r q ss → (ps : List ℕ) × Places r q ss ps
   places [] w = ([], stays)
@@ -76,7 +77,9 @@ module _ (g : Graph) (I : Inside g) (e : Expr) (y : ℕ) where
       (I .below (s .reached) (crossing-in g I (s .spelt) r (s .reached) (m .crosses) .1), b .0, omega arith)
 
   place-lt : (q r : ℕ) → 0 < q → q ≤ letters e → r < g .n → place q r < letters e * g .n
-  place-lt q r a b c = let m : suc (q - 1) * g .n ≤ letters e * g .n = mul-le-mul-right (g .n) (let z : suc (q - 1) ≤ letters e = omega arith in z) in omega arith
+  place-lt q r a b c =
+      let m : suc (q - 1) * g .n ≤ letters e * g .n = mul-le-mul-right (g .n) (let z : suc (q - 1) ≤ letters e = omega arith in z) in
+      omega arith
 
   place-same : (p x q r : ℕ) → 0 < p → 0 < q → x < g .n → r < g .n → place p x ≡ place q r → (p ≡ q) × (x ≡ r)
   place-same p x q r a b h l z = go (decLt (p - 1) (q - 1)) (decLt (q - 1) (p - 1))
@@ -99,12 +102,14 @@ module _ (g : Graph) (I : Inside g) (e : Expr) (y : ℕ) where
       go false z h ih = ih h
 
   -- the rest of a walk from where it comes by a place
-  suffix : (p x : ℕ) → 0 < p → x < g .n → {r q : ℕ} {ss : List Step} {ps : List ℕ} → Places r q ss ps → has eqb (place p x) ps ≡ true → (ts : List Step) × (length ts < length ss) × Walk g M y x p ts
+  suffix : (p x : ℕ) → 0 < p → x < g .n → {r q : ℕ} {ss : List Step} {ps : List ℕ} → Places r q ss ps
+      → has eqb (place p x) ps ≡ true → (ts : List Step) × (length ts < length ss) × Walk g M y x p ts
   unfolding has
   suffix p x a h stays i = absurd (false≢true i)
   suffix p x a h (comes {q′ = q′} {s = s} {ss = ss} {ps = ps} m w k) i = go (eqb (place q′ (s .reached)) (place p x)) refl i (λ j. suffix p x a h k j)
     where
-      go : (b : Bool) → eqb (place q′ (s .reached)) (place p x) ≡ b → (b || has eqb (place p x) ps) ≡ true → (has eqb (place p x) ps ≡ true → (ts : List Step) × (length ts < length ss) × Walk g M y x p ts)
+      go : (b : Bool) → eqb (place q′ (s .reached)) (place p x) ≡ b → (b || has eqb (place p x) ps) ≡ true
+          → (has eqb (place p x) ps ≡ true → (ts : List Step) × (length ts < length ss) × Walk g M y x p ts)
           → (ts : List Step) × (length ts < suc (length ss)) × Walk g M y x p ts
       go true z i ih =
           let u = moved m in
@@ -134,7 +139,8 @@ module _ (g : Graph) (I : Inside g) (e : Expr) (y : ℕ) where
       by : (ps : List ℕ) → Places x 0 ss ps → Distinct eqb ps ⊎ ((ts : List Step) × (length ts < length ss) × Walk g M y x 0 ts) → length ss ≤ letters e * g .n
       by ps p (inl d) = omega (arith, few (letters e * g .n) ps d (places-lt p), places-length p)
       by ps p (inr d) =
-          let a : Answers g e x y (d .0) = record { begins = f .answers .begins; ends = f .answers .ends; chain = d .2 .chain; spells = words-run e (spell (d .0)) .1 (d .2 .run) } in
+          let a : Answers g e x y (d .0) =
+          record { begins = f .answers .begins; ends = f .answers .ends; chain = d .2 .chain; spells = words-run e (spell (d .0)) .1 (d .2 .run) } in
           absurd (omega (arith, not-longer (f .least (d .0) a), length-stepWords ss, length-stepWords (d .0), d .1))
 
 pub chains-63 : (g : Graph) → Inside g → (e : Expr) → letters e ≤ 63 → (x y : ℕ) (ss : List Step) → First g e x y ss → length ss ≤ 63 * g .n

@@ -98,7 +98,8 @@ within-optional W = record { first = W .first; last = W .last; from = W .from; t
 
 pub within-reversed : {A : Fragment} {lo hi : ℕ} → Within lo hi A → Within lo hi (reversed A)
 unfolding reversed
-within-reversed W = record { first = W .last; last = W .first; from = λ p q o. W .to q p o; to = λ p q o. W .from q p o; enters = λ q a o. W .enters q (inverseLetter a) o }
+within-reversed W =
+    record { first = W .last; last = W .first; from = λ p q o. W .to q p o; to = λ p q o. W .from q p o; enters = λ q a o. W .enters q (inverseLetter a) o }
 
 pub within-single : (o : ℕ) (f : Letter → Bool) → Within o (o + 1) (single (suc o) f)
 unfolding single
@@ -118,5 +119,9 @@ within (inverse e) o = within-reversed (within e o)
 within (star e) o = within-optional (within-repeated (within e o))
 within (plus e) o = within-repeated (within e o)
 within (optional-part e) o = within-optional (within e o)
-within (alternative e f) o = within-either o (o + letters e) (o + (letters e + letters f)) (omega arith) (omega arith) (within e o) (rw (let z : o + (letters e + letters f) ≡ o + letters e + letters f = omega arith in z) (within f (o + letters e)))
-within (sequence e f) o = within-followed o (o + letters e) (o + (letters e + letters f)) (omega arith) (omega arith) (within e o) (rw (let z : o + (letters e + letters f) ≡ o + letters e + letters f = omega arith in z) (within f (o + letters e)))
+within (alternative e f) o =
+    within-either o (o + letters e) (o + (letters e + letters f)) (omega arith) (omega arith) (within e o)
+    (rw (let z : o + (letters e + letters f) ≡ o + letters e + letters f = omega arith in z) (within f (o + letters e)))
+within (sequence e f) o =
+    within-followed o (o + letters e) (o + (letters e + letters f)) (omega arith) (omega arith) (within e o)
+    (rw (let z : o + (letters e + letters f) ≡ o + letters e + letters f = omega arith in z) (within f (o + letters e)))

@@ -34,7 +34,8 @@ module _ {g : Graph} {M : Automaton} {y : ℕ} where
       let c = P .came (B .from) (B .among) in
       record { from = c .0; among = c .1; walk = walk-more (c .2) (B .walk); long = ap suc (B .long); least = all }
     where
-      side : (q′ : ℕ) (t : Step) (ts : List Step) → (stepWord s < stepWord t) ⊎ ((s ≡ t) × On (K q′)) → Walk g M y (t .reached) q′ ts → length ts ≡ m → Before (stepWord s ∷ stepWords ss) (stepWord t ∷ stepWords ts)
+      side : (q′ : ℕ) (t : Step) (ts : List Step) → (stepWord s < stepWord t) ⊎ ((s ≡ t) × On (K q′))
+          → Walk g M y (t .reached) q′ ts → length ts ≡ m → Before (stepWord s ∷ stepWords ss) (stepWord t ∷ stepWords ts)
       side q′ t ts (inl h) w e = smaller h
       side q′ t ts (inr p) w e =
           subst (λ (u : Step). Before (stepWord s ∷ stepWords ss) (stepWord u ∷ stepWords ts)) (p .0)
@@ -72,8 +73,11 @@ module _ {g : Graph} {y n l x : ℕ} {d : ℕ → ℕ → ℕ} (e : Expr) (K : K
       least : (ts : List Step) → Answers g e x y ts → NotAfter (stepWords ss) (stepWords ts)
       least ts a = go (which (length ts) m) (length-stepWords ss) (length-stepWords ts) (B .long)
         where
-          go : Which (length ts) m → length (stepWords ss) ≡ length ss → length (stepWords ts) ≡ length ts → length ss ≡ m → NotAfter (stepWords ss) (stepWords ts)
-          go (less f) i j b = absurd (let u = K .bound x 0 h (omega arith) in let z = K .complete x 0 (length ts) h (omega arith) (omega arith) (ts, refl, answers-walk a) in omega arith)
+          go : Which (length ts) m → length (stepWords ss) ≡ length ss
+              → length (stepWords ts) ≡ length ts → length ss ≡ m → NotAfter (stepWords ss) (stepWords ts)
+          go (less f) i j b =
+              absurd (let u = K .bound x 0 h (omega arith) in let z =
+              K .complete x 0 (length ts) h (omega arith) (omega arith) (ts, refl, answers-walk a) in omega arith)
           go (same f) i j b = as-long (omega arith) (B .least 0 ts (is-on 0) (answers-walk a) f)
           go (more f) i j b = shorter (omega arith)
 
