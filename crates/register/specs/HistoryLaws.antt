@@ -11,7 +11,8 @@ use lib.Dec.{eqb}
 use lib.ListN.{length, take, getD}
 use Rattle.book.specs.Basics.{pick, All, all-none, all-more}
 use Rattle.book.specs.Causes.{labels}
-use Rattle.book.specs.Book.{sameLink, Sheet, Book, add, remove, lock, unlock, withdraw, reinstate, Call, edit, undo, close, isLocked, isWithdrawn, total, answer, next, fresh, answers, after, givens}
+use Rattle.book.specs.Book.{sameLink, Sheet, Book, add, remove, lock, unlock, withdraw, reinstate, Call, edit, undo, close, isLocked, isWithdrawn, total}
+use Rattle.book.specs.Book.{answer, next, fresh, answers, after, givens}
 use Rattle.book.specs.BookLaws.{caused-positive}
 use Rattle.book.specs.Sheets.{Distinct, Fit, Sound}
 use Rattle.register.specs.Links.{Linked}
@@ -54,14 +55,16 @@ module _ {e : Register} where
       let c = close (length (l .before)) in
       told-more (out .answer) (answer b c) (s .steps .answers b h) (answered run (next b c) (s .steps .follows b h))
 
-  pub kept : {r : Register} {cs : List Call} {told : List ℕ} {ls : List Lent} → CallsMade r cs told ls e → (b : Book) → Represents r b → Represents e (after b cs)
+  pub kept : {r : Register} {cs : List Call} {told : List ℕ} {ls : List Lent}
+      → CallsMade r cs told ls e → (b : Book) → Represents r b → Represents e (after b cs)
   unfolding after
   kept done b h = h
   kept (more-edit out s run) b h = kept run (next b _) (s .follows b h)
   kept (more-undo out s run) b h = kept run (next b _) (s .follows b h)
   kept (more-close l out s run) b h = kept run (next b _) (s .steps .follows b h)
 
-  pub given-lent : {r : Register} {cs : List Call} {told : List ℕ} {ls : List Lent} → CallsMade r cs told ls e → (b : Book) → Represents r b → Gives (givens b cs) ls
+  pub given-lent : {r : Register} {cs : List Call} {told : List ℕ} {ls : List Lent}
+      → CallsMade r cs told ls e → (b : Book) → Represents r b → Gives (givens b cs) ls
   unfolding givens
   given-lent done b h = none-given
   given-lent (more-edit out s run) b h = given-lent run (next b _) (s .follows b h)
@@ -106,7 +109,8 @@ pub history-members : (n : ℕ) {r e : Register} {cs : List Call} {told : List �
 history-members n h run = let o = history n h run in (o .0, o .1, members (o .2))
 
 -- the same of the code itself
-pub replay-members : {n : ℕ} {ws : List ℕ} {list numbers : Lent} {out : Outcome} → Replays n ws list numbers out → replayNumber n ws (list .before) (numbers .before) ≡ 0
+pub replay-members : {n : ℕ} {ws : List ℕ} {list numbers : Lent} {out : Outcome}
+    → Replays n ws list numbers out → replayNumber n ws (list .before) (numbers .before) ≡ 0
     → Members (out .register) (after (fresh n) (callsOf ws))
 replay-members r z = members (r .book z)
 
@@ -119,7 +123,8 @@ piled-fit n p (w ∷ ws) [] h = absurd h
 piled-fit n p (w ∷ ws) (s ∷ ss) h = all-more (h .0 .fit) (piled-fit n (takeBack w p) ws ss (h .1))
 
 pub represents-sound : {r : Register} {b : Book} → Represents r b → Sound b
-represents-sound {r} {b} h = record { small = omega (arith, h .size, h .ranged .size); sheet = h .sheet .fit; pile = piled-fit (b .n) (packedOf r) (heldWords r) (b .pile) (h .pile) }
+represents-sound {r} {b} h =
+    record { small = omega (arith, h .size, h .ranged .size); sheet = h .sheet .fit; pile = piled-fit (b .n) (packedOf r) (heldWords r) (b .pile) (h .pile) }
 
 -- ---- entries
 pub after-append : (b : Book) (cs ds : List Call) → after b (cs ++ ds) ≡ after (after b cs) ds

@@ -21,7 +21,8 @@ same-test r = fun-ext (λ w. let e : w / 1 % 1024 ≡ w % 1024 = omega arith in 
 returns : tie.Need-returns
 returns c =
     let s = c .before .before .args in
-    next-link end (s .words .now) (s .«record») (s .at) (c .next-side .result) (c .next-side .ensures ∙ ap (λ (t : ℕ → Bool). nextPlace t (s .words .now) (s .at)) (same-test (s .«record»)))
+    next-link end (s .words .now) (s .«record») (s .at) (c .next-side .result)
+    (c .next-side .ensures ∙ ap (λ (t : ℕ → Bool). nextPlace t (s .words .now) (s .at)) (same-test (s .«record»)))
 
 pub next-in-spec : {M : Type 1} → statement M
 next-in-spec = tie.close (tie.spec next-side-requires returns)
