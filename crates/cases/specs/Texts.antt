@@ -41,7 +41,8 @@ texts =
     (bytes "!(a|b|c|d|e|f|g|h|i|j|k|l|m|n|o|p|q|r|s|t|u|v|w|x|y|z)", 0) ∷
     -- their faults
     (bytes "!", 9) ∷ (bytes "!()", 9) ∷ (bytes "!(a", 9) ∷ (bytes "!(a|", 9) ∷ (bytes "!(a|)", 9) ∷ (bytes "!(|a)", 9) ∷ (bytes "!((a))", 9) ∷
-    (bytes "!(a*)", 9) ∷ (bytes "!a**", 9) ∷ (bytes "!(a/b)", 9) ∷ (bytes "!(!a)", 9) ∷ (bytes "!!a", 9) ∷ (bytes "!^^a", 9) ∷ (bytes "^^!a", 9) ∷ (bytes "!*", 9) ∷ (bytes "!A", 9) ∷
+    (bytes "!(a*)", 9) ∷ (bytes "!a**", 9) ∷ (bytes "!(a/b)", 9) ∷ (bytes "!(!a)", 9)
+    ∷ (bytes "!!a", 9) ∷ (bytes "!^^a", 9) ∷ (bytes "^^!a", 9) ∷ (bytes "!*", 9) ∷ (bytes "!A", 9) ∷
     (bytes "a!", 9) ∷ (bytes "!(a b)", 9) ∷ (bytes "!(^)", 9) ∷
     -- a set's parentheses are no group: eight groups around one pass, nine give 10
     (repeated 8 (bytes "(") ++ (bytes "!(a|b)" ++ repeated 8 (bytes ")")), 0) ∷
