@@ -14,7 +14,8 @@ use Rattle.book.specs.Basics.{bit}
 use Rattle.k2.specs.PairSets.{most}
 use Rattle.k2.specs.PairSetLaws.{one-of, bit-on, on-bit, most-some, some-most}
 use Rattle.paths.specs.Expressions.{Letter, Symbol, standsFor, Expr, symbol, group, inverse, star, plus, optional, alternative, sequence}
-use Rattle.paths.specs.Words.{backwards, Words, itself, inside, reversed, left, right, joined, once, again, star-none, star-some, optional-none, optional-once}
+use Rattle.paths.specs.Words.{backwards, Words, itself, inside, reversed, left, right, joined, once, again, star-none, star-some, optional-none}
+use Rattle.paths.specs.Words.{optional-once}
 use Rattle.paths.specs.ChainLaws.{backwards-backwards}
 
 abbrev pub isLetter : Symbol → List Letter → ℕ
@@ -71,7 +72,8 @@ unfolding many
 many-words e f zero w h = once (f w h)
 many-words e f (suc k) w h = ⊎-elim
     (λ p. once (f w p))
-    (λ p. let r = parted-some (accepts e) (many k (accepts e)) w p in subst (λ (v : List Letter). Words (plus e) v) (r .2) (again (f (r .0) (r .3)) (many-words e f k (r .1) (r .4))))
+    (λ p. let r = parted-some (accepts e) (many k (accepts e)) w p in
+    subst (λ (v : List Letter). Words (plus e) v) (r .2) (again (f (r .0) (r .3)) (many-words e f k (r .1) (r .4))))
     (one-of (accepts e w) (parted (accepts e) (many k (accepts e)) w) h)
 
 pub accepts-words : (e : Expr) (w : List Letter) → 1 ≤ accepts e w → Words e w
@@ -123,14 +125,16 @@ many-mono (suc k) (suc j) f w l h = go (one-of (f w) (parted f (many k f) w) h) 
     go (inl p) ih = omega arith
     go (inr p) ih =
         let r = parted-some f (many k f) w p in
-        let q : 1 ≤ parted f (many j f) w = subst (λ (v : List Letter). 1 ≤ parted f (many j f) v) (r .2) (some-parted f (many j f) (r .0) (r .1) (r .3) (ih (r .1) (r .4))) in
+        let q : 1 ≤ parted f (many j f) w =
+        subst (λ (v : List Letter). 1 ≤ parted f (many j f) v) (r .2) (some-parted f (many j f) (r .0) (r .1) (r .3) (ih (r .1) (r .4))) in
         omega arith
 
 again-many : (f : List Letter → ℕ) (u v : List Letter) → 1 ≤ f u → 1 ≤ many (length v) f v → 1 ≤ many (length (u ++ v)) f (u ++ v)
 unfolding many
 again-many f [] v p q = q
 again-many f (a ∷ u) v p q =
-    let r : 1 ≤ parted f (many (length (u ++ v)) f) (a ∷ (u ++ v)) = some-parted f (many (length (u ++ v)) f) (a ∷ u) v p (many-mono (length v) (length (u ++ v)) f v (omega (arith, length-append u v)) q) in
+    let r : 1 ≤ parted f (many (length (u ++ v)) f) (a ∷ (u ++ v)) =
+    some-parted f (many (length (u ++ v)) f) (a ∷ u) v p (many-mono (length v) (length (u ++ v)) f v (omega (arith, length-append u v)) q) in
     omega arith
 
 pub words-accepts : {e : Expr} {w : List Letter} → Words e w → 1 ≤ accepts e w

@@ -76,7 +76,8 @@ not-after-then (as-long e h) (as-long f q) = as-long (e ∙ f) (before-then h q)
 pub label-first : (s t : Step) → s .reached < 1024 → t .reached < 1024 → s .spelt .label < t .spelt .label → stepWord s < stepWord t
 label-first s t p q h = omega (arith, bit-small (s .spelt .inverted), bit-small (t .spelt .inverted))
 
-pub sense-next : (s t : Step) → s .reached < 1024 → t .reached < 1024 → s .spelt .label ≡ t .spelt .label → s .spelt .inverted ≡ false → t .spelt .inverted ≡ true → stepWord s < stepWord t
+pub sense-next : (s t : Step) → s .reached < 1024 → t .reached < 1024 → s .spelt .label ≡ t .spelt .label
+    → s .spelt .inverted ≡ false → t .spelt .inverted ≡ true → stepWord s < stepWord t
 sense-next s t p q e f g = rw (f, g) (omega arith)
 
 pub record-last : (s t : Step) → s .spelt ≡ t .spelt → s .reached < t .reached → stepWord s < stepWord t
@@ -98,7 +99,8 @@ before-yes [] (b ∷ w) e h = absurd (omega arith)
 before-yes (a ∷ v) [] e h = absurd (omega arith)
 before-yes (a ∷ v) (b ∷ w) e h = go (ltb a b) refl (eqb a b) refl h (before-yes v w (omega arith))
   where
-    go : (s : Bool) → ltb a b ≡ s → (t : Bool) → eqb a b ≡ t → pick s true (pick t (before v w) false) ≡ true → (before v w ≡ true → Before v w) → Before (a ∷ v) (b ∷ w)
+    go : (s : Bool) → ltb a b ≡ s → (t : Bool) → eqb a b ≡ t → pick s true (pick t (before v w) false) ≡ true
+        → (before v w ≡ true → Before v w) → Before (a ∷ v) (b ∷ w)
     go true p t q h ih = smaller (ltb-true a b p)
     go false p true q h ih = subst (λ (c : ℕ). Before (a ∷ v) (c ∷ w)) (eqb-true a b q) (alike (ih h))
     go false p false q h ih = absurd (false≢true h)
@@ -109,7 +111,8 @@ before-no [] w e h = absurd (true≢false h)
 before-no (a ∷ v) [] e h = absurd (omega arith)
 before-no (a ∷ v) (b ∷ w) e h = go (ltb a b) refl (eqb a b) refl h (before-no v w (omega arith))
   where
-    go : (s : Bool) → ltb a b ≡ s → (t : Bool) → eqb a b ≡ t → pick s true (pick t (before v w) false) ≡ false → (before v w ≡ false → Before w v) → Before (b ∷ w) (a ∷ v)
+    go : (s : Bool) → ltb a b ≡ s → (t : Bool) → eqb a b ≡ t → pick s true (pick t (before v w) false) ≡ false
+        → (before v w ≡ false → Before w v) → Before (b ∷ w) (a ∷ v)
     go true p t q h ih = absurd (true≢false h)
     go false p true q h ih = subst (λ (c : ℕ). Before (c ∷ w) (a ∷ v)) (eqb-true a b q) (alike (ih h))
     go false p false q h ih = smaller {a = b} {b = a} (omega (arith, ltb-false a b p, eqb-false a b q))
@@ -125,7 +128,8 @@ leads-yes v w h = go (ltb (length v) (length w)) refl (eqb (length v) (length w)
 pub leads-no : (v w : List ℕ) → leads v w ≡ false → NotAfter w v
 leads-no v w h = go (ltb (length v) (length w)) refl (eqb (length v) (length w)) refl h
   where
-    go : (s : Bool) → ltb (length v) (length w) ≡ s → (t : Bool) → eqb (length v) (length w) ≡ t → pick s true (pick t (before v w) false) ≡ false → NotAfter w v
+    go : (s : Bool) → ltb (length v) (length w) ≡ s → (t : Bool) → eqb (length v) (length w) ≡ t
+        → pick s true (pick t (before v w) false) ≡ false → NotAfter w v
     go true p t q h = absurd (true≢false h)
     go false p true q h = let e = eqb-true (length v) (length w) q in as-long (sym e) (before-no v w e h)
     go false p false q h = shorter (omega (arith, ltb-false (length v) (length w) p, eqb-false (length v) (length w) q))

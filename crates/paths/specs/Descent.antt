@@ -93,7 +93,8 @@ unfoldable mutual
 
   pub moreAlternativesIn : ℕ → Expr → List ℕ → Parse
   moreAlternativesIn zero e l = fault
-  moreAlternativesIn (suc f) e l = elim (eqb (firstByte l) bar) [ true ↦ then (partsIn f (rest l)) (λ g r. moreAlternativesIn f (alternative e g) r) | false ↦ got e l ]
+  moreAlternativesIn (suc f) e l =
+      elim (eqb (firstByte l) bar) [ true ↦ then (partsIn f (rest l)) (λ g r. moreAlternativesIn f (alternative e g) r) | false ↦ got e l ]
 
   pub partsIn : ℕ → List ℕ → Parse
   partsIn zero l = fault

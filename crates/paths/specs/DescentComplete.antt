@@ -13,9 +13,14 @@ use lib.ListN.{length, length-append}
 use borrow.Author.Tests.{ne-eqb, le-leb, lt-ltb}
 use Rattle.book.specs.Causes.{labels}
 use Rattle.paths.specs.Expressions.{Letter, letter, noneOf, Expr, symbol, alternative, sequence}
-use Rattle.paths.specs.Grammar.{bar, slash, hat, bang, asterisk, plus-sign, question-mark, open-group, close-group, letter-a, Member, plain-member, inverted-member, Members, one-member, more-members, Rule, alternatives, parts, part, marked, atom, Is, one-alternative, more-alternatives, one-part, more-parts, plain, inverted, bare, with-star, with-plus, with-optional, is-letter, is-negated, is-set, is-group}
-use Rattle.paths.specs.Descent.{Parse, got, fault, firstByte, rest, isLetter, then, readMark, readClose, invertRead, readMember, membersIn, gotNegated, readNegated, readAlternatives, readMoreAlternatives, readParts, readMoreParts, readPart, readAtom}
-use Rattle.paths.specs.DescentWhole.{if-true, if-false, alternatives-is, more-alternatives-bar, more-alternatives-end, parts-is, more-parts-slash, more-parts-end, part-hat, part-plain, atom-group, atom-letter, atom-negated, mark-none}
+use Rattle.paths.specs.Grammar.{bar, slash, hat, bang, asterisk, plus-sign, question-mark, open-group, close-group, letter-a, Member, plain-member}
+use Rattle.paths.specs.Grammar.{inverted-member, Members, one-member, more-members, Rule, alternatives, parts, part, marked, atom, Is, one-alternative}
+use Rattle.paths.specs.Grammar.{more-alternatives, one-part, more-parts, plain, inverted, bare, with-star, with-plus, with-optional, is-letter}
+use Rattle.paths.specs.Grammar.{is-negated, is-set, is-group}
+use Rattle.paths.specs.Descent.{Parse, got, fault, firstByte, rest, isLetter, then, readMark, readClose, invertRead, readMember, membersIn, gotNegated}
+use Rattle.paths.specs.Descent.{readNegated, readAlternatives, readMoreAlternatives, readParts, readMoreParts, readPart, readAtom}
+use Rattle.paths.specs.DescentWhole.{if-true, if-false, alternatives-is, more-alternatives-bar, more-alternatives-end, parts-is, more-parts-slash}
+use Rattle.paths.specs.DescentWhole.{more-parts-end, part-hat, part-plain, atom-group, atom-letter, atom-negated, mark-none}
 
 -- no mark comes first
 record NoMark (l : List ℕ) : Type 0 where
@@ -49,7 +54,10 @@ no-mark-close l = record { no-star = refl; no-plus = refl; no-optional = refl }
 
 -- a letter's byte, and its label
 letter-is : (k : ℕ) → k < labels → isLetter (letter-a + k) ≡ true
-letter-is k h = let z : (leb letter-a (letter-a + k) && ltb (letter-a + k) (letter-a + labels)) ≡ true = rw (le-leb letter-a (letter-a + k) (omega arith), lt-ltb (letter-a + k) (letter-a + labels) (omega arith)) in z
+letter-is k h =
+    let z : (leb letter-a (letter-a + k) && ltb (letter-a + k) (letter-a + labels)) ≡ true =
+    rw (le-leb letter-a (letter-a + k) (omega arith), lt-ltb (letter-a + k) (letter-a + labels) (omega arith)) in
+    z
 
 label-back : (k : ℕ) → letter-a + k - letter-a ≡ k
 label-back k = omega arith
@@ -59,7 +67,8 @@ member-reads : {s : List ℕ} {a : Letter} → Member s a → (k : Letter → Li
 member-reads (plain-member {k = j} h) k r =
     if-false (eqb (letter-a + j) hat) _ _ (ne-eqb (letter-a + j) hat (λ q. omega arith)) ∙ if-true (isLetter (letter-a + j)) _ _ (letter-is j h)
     ∙ ap (λ (i : ℕ). k (record { label = i; inverted = false }) r) (label-back j)
-member-reads (inverted-member {k = j} h) k r = if-true (isLetter (letter-a + j)) _ _ (letter-is j h) ∙ ap (λ (i : ℕ). k (record { label = i; inverted = true }) r) (label-back j)
+member-reads (inverted-member {k = j} h) k r =
+    if-true (isLetter (letter-a + j)) _ _ (letter-is j h) ∙ ap (λ (i : ℕ). k (record { label = i; inverted = true }) r) (label-back j)
 
 -- what is done after the members w
 abbrev after-members : ℕ → List Letter → List ℕ → Parse
@@ -71,10 +80,12 @@ after-members f w r =
 
 members-read : {s : List ℕ} {w : List Letter} → Members s w → (g : ℕ) (r : List ℕ) → membersIn (length w + g) [] (s ++ r) ≡ after-members g w r
 unfolding membersIn
-members-read (one-member {s} {a} m) g r = ap (λ (f : ℕ). membersIn f [] (s ++ r)) (let z : 1 + g ≡ suc g = omega arith in z) ∙ member-reads m (λ b q. after-members g (b ∷ []) q) r
+members-read (one-member {s} {a} m) g r =
+    ap (λ (f : ℕ). membersIn f [] (s ++ r)) (let z : 1 + g ≡ suc g = omega arith in z) ∙ member-reads m (λ b q. after-members g (b ∷ []) q) r
 members-read (more-members {s} {t} {w} {a} d m) g r =
     ap (λ (l : List ℕ). membersIn (length (w ++ (a ∷ [])) + g) [] l) (append-assoc s (bar ∷ t) r) ∙
-    ap (λ (f : ℕ). membersIn f [] (s ++ (bar ∷ (t ++ r)))) (let z : length (w ++ (a ∷ [])) + g ≡ length w + suc g = omega (arith, length-append w (a ∷ [])) in z) ∙
+    ap (λ (f : ℕ). membersIn f [] (s ++ (bar ∷ (t ++ r)))) (let z : length (w ++ (a ∷ [])) + g ≡ length w + suc g =
+    omega (arith, length-append w (a ∷ [])) in z) ∙
     members-read d (suc g) (bar ∷ (t ++ r)) ∙ member-reads m (λ b q. after-members g (w ++ (b ∷ [])) q) r
 
 -- there are at most as many members as bytes
@@ -87,7 +98,8 @@ members-few (one-member m) = omega (arith, member-some m)
 members-few (more-members {s} {t} {w} {a} d m) = omega (arith, members-few d, length-append w (a ∷ []), length-append s (bar ∷ t))
 
 negated-reads : {s : List ℕ} {a : Letter} → Member s a → (r : List ℕ) → readNegated (s ++ r) ≡ got (symbol (noneOf (a ∷ []))) r
-negated-reads (plain-member {k = j} h) r = if-false (eqb (letter-a + j) open-group) _ _ (ne-eqb (letter-a + j) open-group (λ q. omega arith)) ∙ member-reads (plain-member h) gotNegated r
+negated-reads (plain-member {k = j} h) r =
+    if-false (eqb (letter-a + j) open-group) _ _ (ne-eqb (letter-a + j) open-group (λ q. omega arith)) ∙ member-reads (plain-member h) gotNegated r
 negated-reads (inverted-member {k = j} h) r = member-reads (inverted-member h) gotNegated r
 
 complete : {R : Rule} {s : List ℕ} {e : Expr} → Is R s e → Reads R s e
@@ -106,7 +118,8 @@ complete (with-star {s} {e} d) = λ r m. rw append-assoc (ap (on readMark) (comp
 complete (with-plus {s} {e} d) = λ r m. rw append-assoc (ap (on readMark) (complete d (plus-sign ∷ r) .0), complete d (plus-sign ∷ r) .1)
 complete (with-optional {s} {e} d) = λ r m. rw append-assoc (ap (on readMark) (complete d (question-mark ∷ r) .0), complete d (question-mark ∷ r) .1)
 complete (is-letter {k} h) = λ r. (
-  atom-letter ((letter-a + k) ∷ r) (ne-eqb (letter-a + k) open-group (λ q. omega arith)) (letter-is k h) ∙ ap (λ (j : ℕ). got (symbol (letter j)) r) (label-back k),
+  atom-letter ((letter-a + k) ∷ r) (ne-eqb (letter-a + k) open-group (λ q. omega arith)) (letter-is k h)
+      ∙ ap (λ (j : ℕ). got (symbol (letter j)) r) (label-back k),
   ne-eqb (letter-a + k) hat (λ q. omega arith),
 )
 complete (is-negated {s} {a} m) = λ r. (atom-negated (bang ∷ (s ++ r)) refl refl refl ∙ negated-reads m r, refl)
@@ -114,13 +127,15 @@ complete (is-set {s} {w} d) = λ r.
     let n : ℕ = length (open-group ∷ (s ++ (close-group ∷ r))) in (
       atom-negated (bang ∷ open-group ∷ ((s ++ (close-group ∷ [])) ++ r)) refl refl refl ∙
           ap (λ (l : List ℕ). membersIn (length (open-group ∷ l)) [] l) (append-assoc s (close-group ∷ []) r) ∙
-          ap (λ (f : ℕ). membersIn f [] (s ++ (close-group ∷ r))) (let z : n ≡ length w + (n - length w) = omega (arith, members-few d, length-append s (close-group ∷ r)) in z) ∙
+          ap (λ (f : ℕ). membersIn f [] (s ++ (close-group ∷ r))) (let z : n ≡ length w + (n - length w) =
+          omega (arith, members-few d, length-append s (close-group ∷ r)) in z) ∙
           members-read d (n - length w) (close-group ∷ r),
       refl,
     )
 complete (is-group {s} {e} d) = λ r. (
   atom-group (open-group ∷ ((s ++ (close-group ∷ [])) ++ r)) refl ∙
-      ap (on readClose) (ap readAlternatives (append-assoc s (close-group ∷ []) r) ∙ complete d (close-group ∷ r) (no-mark-close r) refl ∙ more-alternatives-end e (close-group ∷ r) refl),
+      ap (on readClose) (ap readAlternatives (append-assoc s (close-group ∷ []) r)
+      ∙ complete d (close-group ∷ r) (no-mark-close r) refl ∙ more-alternatives-end e (close-group ∷ r) refl),
   refl,
 )
 

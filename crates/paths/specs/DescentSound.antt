@@ -15,8 +15,12 @@ use lib.ListN.{length, length-append}
 use borrow.Author.Tests.{eqb-true, leb-true, ltb-true}
 use Rattle.book.specs.Causes.{labels}
 use Rattle.paths.specs.Expressions.{Letter, Expr, alternative, sequence}
-use Rattle.paths.specs.Grammar.{bar, slash, hat, bang, asterisk, plus-sign, question-mark, open-group, close-group, letter-a, Member, plain-member, inverted-member, Members, one-member, more-members, Rule, alternatives, parts, part, marked, atom, Is, one-alternative, more-alternatives, one-part, more-parts, plain, inverted, bare, with-star, with-plus, with-optional, is-letter, is-negated, is-set, is-group}
-use Rattle.paths.specs.Descent.{Parse, got, fault, firstByte, rest, isLetter, then, readMark, readClose, invertRead, letterOf, readMember, membersIn, gotNegated, readNegated, alternativesIn, moreAlternativesIn, partsIn, morePartsIn, partIn, atomIn}
+use Rattle.paths.specs.Grammar.{bar, slash, hat, bang, asterisk, plus-sign, question-mark, open-group, close-group, letter-a, Member, plain-member}
+use Rattle.paths.specs.Grammar.{inverted-member, Members, one-member, more-members, Rule, alternatives, parts, part, marked, atom, Is, one-alternative}
+use Rattle.paths.specs.Grammar.{more-alternatives, one-part, more-parts, plain, inverted, bare, with-star, with-plus, with-optional, is-letter}
+use Rattle.paths.specs.Grammar.{is-negated, is-set, is-group}
+use Rattle.paths.specs.Descent.{Parse, got, fault, firstByte, rest, isLetter, then, readMark, readClose, invertRead, letterOf, readMember, membersIn}
+use Rattle.paths.specs.Descent.{gotNegated, readNegated, alternativesIn, moreAlternativesIn, partsIn, morePartsIn, partIn, atomIn}
 
 pub data All (P : Expr → List ℕ → Type 0) : Parse → Type 0 where
   nothing : All P fault
@@ -25,7 +29,8 @@ pub data All (P : Expr → List ℕ → Type 0) : Parse → Type 0 where
 abbrev pub By : Rule → List ℕ → Expr → List ℕ → Type 0
 By R l e r = (s : List ℕ) × Is R s e × (l ≡ s ++ r)
 
-all-then : {P Q : Expr → List ℕ → Type 0} (x : Parse) (k : Expr → List ℕ → Parse) → All Q x → ((e : Expr) (r : List ℕ) → Q e r → All P (k e r)) → All P (then x k)
+all-then : {P Q : Expr → List ℕ → Type 0} (x : Parse) (k : Expr → List ℕ → Parse)
+    → All Q x → ((e : Expr) (r : List ℕ) → Q e r → All P (k e r)) → All P (then x k)
 all-then x k nothing f = nothing
 all-then x k (gives {e} {r} h) f = f e r h
 
@@ -60,17 +65,22 @@ after l₀ s l p r c h e q = h ∙ ap (λ (m : List ℕ). s ++ m) (e ∙ ap (λ 
 
 sound-mark : (l₀ s : List ℕ) (e : Expr) (l : List ℕ) → Is atom s e → l₀ ≡ s ++ l → All (By marked l₀) (readMark e l)
 sound-mark l₀ s e l d h =
-    all-if (eqb (firstByte l) asterisk) _ _ (λ b. gives (s ++ (asterisk ∷ []), with-star d, after l₀ s l [] (rest l) asterisk h (eat l asterisk (omega arith) b) refl)) (λ _.
-    all-if (eqb (firstByte l) plus-sign) _ _ (λ b. gives (s ++ (plus-sign ∷ []), with-plus d, after l₀ s l [] (rest l) plus-sign h (eat l plus-sign (omega arith) b) refl)) (λ _.
-    all-if (eqb (firstByte l) question-mark) _ _ (λ b. gives (s ++ (question-mark ∷ []), with-optional d, after l₀ s l [] (rest l) question-mark h (eat l question-mark (omega arith) b) refl)) (λ _.
+    all-if (eqb (firstByte l) asterisk) _ _
+    (λ b. gives (s ++ (asterisk ∷ []), with-star d, after l₀ s l [] (rest l) asterisk h (eat l asterisk (omega arith) b) refl)) (λ _.
+    all-if (eqb (firstByte l) plus-sign) _ _
+    (λ b. gives (s ++ (plus-sign ∷ []), with-plus d, after l₀ s l [] (rest l) plus-sign h (eat l plus-sign (omega arith) b) refl)) (λ _.
+    all-if (eqb (firstByte l) question-mark) _ _
+    (λ b. gives (s ++ (question-mark ∷ []), with-optional d, after l₀ s l [] (rest l) question-mark h (eat l question-mark (omega arith) b) refl)) (λ _.
     gives (s, bare d, h))))
 
 -- a member of a negated set, and what is done after it
-all-member : {P : Expr → List ℕ → Type 0} (l : List ℕ) (k : Letter → List ℕ → Parse) → ((s : List ℕ) (a : Letter) (r : List ℕ) → Member s a → l ≡ s ++ r → All P (k a r)) → All P (readMember k l)
+all-member : {P : Expr → List ℕ → Type 0} (l : List ℕ) (k : Letter → List ℕ → Parse)
+    → ((s : List ℕ) (a : Letter) (r : List ℕ) → Member s a → l ≡ s ++ r → All P (k a r)) → All P (readMember k l)
 all-member l k h =
     all-if (eqb (firstByte l) hat) _ _
     (λ b. all-if (isLetter (firstByte (rest l))) _ _
-    (λ b′. let p = letter-byte (rest l) b′ in h (hat ∷ (letter-a + (firstByte (rest l) - letter-a)) ∷ []) (letterOf true (firstByte (rest l))) (rest (rest l)) (inverted-member (p .1)) (eat l hat (omega arith) b ∙ ap (λ (m : List ℕ). hat ∷ m) (p .0)))
+    (λ b′. let p = letter-byte (rest l) b′ in h (hat ∷ (letter-a + (firstByte (rest l) - letter-a)) ∷ []) (letterOf true (firstByte (rest l)))
+    (rest (rest l)) (inverted-member (p .1)) (eat l hat (omega arith) b ∙ ap (λ (m : List ℕ). hat ∷ m) (p .0)))
     (λ _. nothing))
     (λ _. all-if (isLetter (firstByte l)) _ _
     (λ b. let p = letter-byte l b in h ((letter-a + (firstByte l - letter-a)) ∷ []) (letterOf false (firstByte l)) (rest l) (plain-member (p .1)) (p .0))
@@ -81,7 +91,8 @@ data Before (l₀ : List ℕ) : List Letter → List ℕ → Type 0 where
   first : Before l₀ [] l₀
   next : {w : List Letter} {s l : List ℕ} → Members s w → l₀ ≡ s ++ (bar ∷ l) → Before l₀ w l
 
-one-more : {l₀ : List ℕ} {w : List Letter} {l t : List ℕ} {a : Letter} (r : List ℕ) → Before l₀ w l → Member t a → l ≡ t ++ r → (s : List ℕ) × Members s (w ++ (a ∷ [])) × (l₀ ≡ s ++ r)
+one-more : {l₀ : List ℕ} {w : List Letter} {l t : List ℕ} {a : Letter} (r : List ℕ) → Before l₀ w l
+    → Member t a → l ≡ t ++ r → (s : List ℕ) × Members s (w ++ (a ∷ [])) × (l₀ ≡ s ++ r)
 one-more {t = t} r first m e = (t, one-member m, e)
 one-more {t = t} r (next {s = s} d q) m e = (s ++ (bar ∷ t), more-members d m, q ∙ ap (λ (x : List ℕ). s ++ (bar ∷ x)) e ∙ sym (append-assoc s (bar ∷ t) r))
 
@@ -93,7 +104,11 @@ sound-members (suc f) w l l₀ b = all-member l _ (λ t a r m e.
     all-if (eqb (firstByte r) bar) _ _
     (λ c. sound-members f (w ++ (a ∷ [])) (rest r) l₀ (next (g .1) (g .2 ∙ ap (λ (x : List ℕ). g .0 ++ x) (eat r bar (omega arith) c))))
     (λ _. all-if (eqb (firstByte r) close-group) _ _
-    (λ c. gives (bang ∷ open-group ∷ (g .0 ++ (close-group ∷ [])), is-set (g .1), ap (λ (x : List ℕ). bang ∷ open-group ∷ x) (after l₀ (g .0) r [] (rest r) close-group (g .2) (eat r close-group (omega arith) c) refl)))
+    (λ c. gives (
+      bang ∷ open-group ∷ (g .0 ++ (close-group ∷ [])),
+      is-set (g .1),
+      ap (λ (x : List ℕ). bang ∷ open-group ∷ x) (after l₀ (g .0) r [] (rest r) close-group (g .2) (eat r close-group (omega arith) c) refl),
+    ))
     (λ _. nothing)))
 
 by-same : {R : Rule} {l m : List ℕ} {x : Parse} → l ≡ m → All (By R m) x → All (By R l) x
@@ -117,7 +132,8 @@ mutual
   sound-more-alternatives (suc f) e l l₀ s d h =
       all-if (eqb (firstByte l) bar) _ _
       (λ b. all-then (partsIn f (rest l)) _ (sound-parts f (rest l)) (λ g r q.
-      sound-more-alternatives f (alternative e g) r l₀ (s ++ (bar ∷ q .0)) (more-alternatives d (q .1)) (after l₀ s l (q .0) r bar h (eat l bar (omega arith) b) (q .2))))
+      sound-more-alternatives f (alternative e g) r l₀ (s ++ (bar ∷ q .0))
+      (more-alternatives d (q .1)) (after l₀ s l (q .0) r bar h (eat l bar (omega arith) b) (q .2))))
       (λ _. gives (s, d, h))
 
   pub sound-parts : (f : ℕ) (l : List ℕ) → All (By parts l) (partsIn f l)
@@ -147,9 +163,15 @@ mutual
       all-if (eqb (firstByte l) open-group) _ _
       (λ b. all-then (alternativesIn f (rest l)) readClose (sound-alternatives f (rest l)) (λ e r q.
       all-if (eqb (firstByte r) close-group) _ _
-      (λ b′. gives (open-group ∷ (q .0 ++ (close-group ∷ [])), is-group (q .1), eat l open-group (omega arith) b ∙ ap (λ (m : List ℕ). open-group ∷ m) (after (rest l) (q .0) r [] (rest r) close-group (q .2) (eat r close-group (omega arith) b′) refl)))
+      (λ b′. gives (
+        open-group ∷ (q .0 ++ (close-group ∷ [])),
+        is-group (q .1),
+        eat l open-group (omega arith) b
+            ∙ ap (λ (m : List ℕ). open-group ∷ m) (after (rest l) (q .0) r [] (rest r) close-group (q .2) (eat r close-group (omega arith) b′) refl),
+      ))
       (λ _. nothing)))
-      (λ _. all-if (isLetter (firstByte l)) _ _ (λ b. gives ((letter-a + (firstByte l - letter-a)) ∷ [], is-letter (letter-byte l b .1), letter-byte l b .0)) (λ _.
+      (λ _. all-if (isLetter (firstByte l)) _ _ (λ b. gives ((letter-a + (firstByte l - letter-a)) ∷ [], is-letter (letter-byte l b .1), letter-byte l b .0))
+      (λ _.
       all-if (eqb (firstByte l) bang) _ _ (λ b. by-same (eat l bang (omega arith) b) (sound-negated (rest l))) (λ _. nothing)))
 
 -- no rule takes the empty list

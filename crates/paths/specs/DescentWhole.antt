@@ -19,14 +19,18 @@ use lib.Dec.{eqb}
 use lib.ListN.{length}
 use Rattle.paths.specs.Expressions.{Expr, symbol, letter, star, plus, optional, alternative, sequence}
 use Rattle.paths.specs.Grammar.{bar, slash, hat, bang, asterisk, plus-sign, question-mark, open-group, letter-a, alternatives, parts, part}
-use Rattle.paths.specs.Descent.{Parse, got, fault, firstByte, rest, isLetter, then, readMark, readClose, invertRead, readNegated, alternativesIn, moreAlternativesIn, partsIn, morePartsIn, partIn, atomIn, readAlternatives, readMoreAlternatives, readParts, readMoreParts, readPart, readAtom}
+use Rattle.paths.specs.Descent.{Parse, got, fault, firstByte, rest, isLetter, then, readMark, readClose, invertRead, readNegated, alternativesIn}
+use Rattle.paths.specs.Descent.{moreAlternativesIn, partsIn, morePartsIn, partIn, atomIn, readAlternatives, readMoreAlternatives, readParts}
+use Rattle.paths.specs.Descent.{readMoreParts, readPart, readAtom}
 use Rattle.paths.specs.DescentSound.{eat, All, nothing, gives, By, shorter, sound-alternatives, sound-parts, sound-part}
 
-then-same : {Q : Expr → List ℕ → Type 0} {x : Parse} (k k′ : Expr → List ℕ → Parse) → All Q x → ((e : Expr) (r : List ℕ) → Q e r → k e r ≡ k′ e r) → then x k ≡ then x k′
+then-same : {Q : Expr → List ℕ → Type 0} {x : Parse} (k k′ : Expr → List ℕ → Parse)
+    → All Q x → ((e : Expr) (r : List ℕ) → Q e r → k e r ≡ k′ e r) → then x k ≡ then x k′
 then-same k k′ nothing f = refl
 then-same k k′ (gives {e} {r} h) f = f e r h
 
-if-same : (b : Bool) (x x′ y y′ : Parse) → (b ≡ true → x ≡ x′) → (b ≡ false → y ≡ y′) → _≡_ {A = Parse} (elim b [ true ↦ x | false ↦ y ]) (elim b [ true ↦ x′ | false ↦ y′ ])
+if-same : (b : Bool) (x x′ y y′ : Parse) → (b ≡ true → x ≡ x′) → (b ≡ false → y ≡ y′)
+    → _≡_ {A = Parse} (elim b [ true ↦ x | false ↦ y ]) (elim b [ true ↦ x′ | false ↦ y′ ])
 if-same true x x′ y y′ h g = h refl
 if-same false x x′ y y′ h g = g refl
 
@@ -57,7 +61,8 @@ mutual
   same-more-alternatives (suc f) (suc g) e l h h′ = if-same (eqb (firstByte l) bar) _ _ _ _
       (λ b. let n = taken l (bar - 1) b in
       ap (λ (x : Parse). then x (λ i r. moreAlternativesIn f (alternative e i) r)) (same-parts f g (rest l) (omega arith) (omega arith)) ∙
-      then-same _ _ (sound-parts g (rest l)) (λ i r q. let m = shorter parts (rest l) i r q in same-more-alternatives f g (alternative e i) r (omega arith) (omega arith)))
+      then-same _ _ (sound-parts g (rest l)) (λ i r q. let m = shorter parts (rest l) i r q in
+      same-more-alternatives f g (alternative e i) r (omega arith) (omega arith)))
       (λ _. refl)
 
   same-parts : (f g : ℕ) (l : List ℕ) → 4 * length l + 3 ≤ f → 4 * length l + 3 ≤ g → partsIn f l ≡ partsIn g l
@@ -97,14 +102,17 @@ alternatives-is l =
     then-same _ _ (sound-parts (suc (suc (suc (4 * length l)))) l)
     (λ e r q. let n = shorter parts l e r q in same-more-alternatives (suc (suc (suc (4 * length l)))) (suc (4 * length r)) e r (omega arith) (omega arith))
 
-pub more-alternatives-bar : (e : Expr) (l : List ℕ) → eqb (firstByte l) bar ≡ true → readMoreAlternatives e l ≡ then (readParts (rest l)) (λ g r. readMoreAlternatives (alternative e g) r)
+pub more-alternatives-bar : (e : Expr) (l : List ℕ) → eqb (firstByte l) bar ≡ true
+    → readMoreAlternatives e l ≡ then (readParts (rest l)) (λ g r. readMoreAlternatives (alternative e g) r)
 unfolding readParts readMoreAlternatives alternativesIn
 more-alternatives-bar e l b =
     let n = taken l (bar - 1) b in
     if-true (eqb (firstByte l) bar) _ _ b ∙
-    ap (λ (x : Parse). then x (λ g r. moreAlternativesIn (4 * length l) (alternative e g) r)) (same-parts (4 * length l) (suc (suc (suc (4 * length (rest l))))) (rest l) (omega arith) (omega arith)) ∙
+    ap (λ (x : Parse). then x (λ g r. moreAlternativesIn (4 * length l) (alternative e g) r))
+    (same-parts (4 * length l) (suc (suc (suc (4 * length (rest l))))) (rest l) (omega arith) (omega arith)) ∙
     then-same _ _ (sound-parts (suc (suc (suc (4 * length (rest l))))) (rest l))
-    (λ g r q. let m = shorter parts (rest l) g r q in same-more-alternatives (4 * length l) (suc (4 * length r)) (alternative e g) r (omega arith) (omega arith))
+    (λ g r q. let m = shorter parts (rest l) g r q in
+    same-more-alternatives (4 * length l) (suc (4 * length r)) (alternative e g) r (omega arith) (omega arith))
 
 pub more-alternatives-end : (e : Expr) (l : List ℕ) → eqb (firstByte l) bar ≡ false → readMoreAlternatives e l ≡ got e l
 unfolding readMoreAlternatives alternativesIn
@@ -117,12 +125,14 @@ parts-is l =
     then-same _ _ (sound-part (suc (suc (4 * length l))) l)
     (λ e r q. let n = shorter part l e r q in same-more-parts (suc (suc (4 * length l))) (suc (4 * length r)) e r (omega arith) (omega arith))
 
-pub more-parts-slash : (e : Expr) (l : List ℕ) → eqb (firstByte l) slash ≡ true → readMoreParts e l ≡ then (readPart (rest l)) (λ g r. readMoreParts (sequence e g) r)
+pub more-parts-slash : (e : Expr) (l : List ℕ) → eqb (firstByte l) slash ≡ true
+    → readMoreParts e l ≡ then (readPart (rest l)) (λ g r. readMoreParts (sequence e g) r)
 unfolding readPart readMoreParts alternativesIn
 more-parts-slash e l b =
     let n = taken l (slash - 1) b in
     if-true (eqb (firstByte l) slash) _ _ b ∙
-    ap (λ (x : Parse). then x (λ g r. morePartsIn (4 * length l) (sequence e g) r)) (same-part (4 * length l) (suc (suc (4 * length (rest l)))) (rest l) (omega arith) (omega arith)) ∙
+    ap (λ (x : Parse). then x (λ g r. morePartsIn (4 * length l) (sequence e g) r))
+    (same-part (4 * length l) (suc (suc (4 * length (rest l)))) (rest l) (omega arith) (omega arith)) ∙
     then-same _ _ (sound-part (suc (suc (4 * length (rest l)))) (rest l))
     (λ g r q. let m = shorter part (rest l) g r q in same-more-parts (4 * length l) (suc (4 * length r)) (sequence e g) r (omega arith) (omega arith))
 
@@ -135,7 +145,8 @@ pub part-hat : (l : List ℕ) → eqb (firstByte l) hat ≡ true → readPart l 
 unfolding readPart readAtom alternativesIn
 part-hat l b =
     let n = taken l (hat - 1) b in
-    if-true (eqb (firstByte l) hat) _ _ b ∙ ap (λ (x : Parse). then (then x readMark) invertRead) (same-atom (suc (4 * length l)) (suc (4 * length (rest l))) (rest l) (omega arith) (omega arith))
+    if-true (eqb (firstByte l) hat) _ _ b
+    ∙ ap (λ (x : Parse). then (then x readMark) invertRead) (same-atom (suc (4 * length l)) (suc (4 * length (rest l))) (rest l) (omega arith) (omega arith))
 
 pub part-plain : (l : List ℕ) → eqb (firstByte l) hat ≡ false → readPart l ≡ then (readAtom l) readMark
 unfolding readPart readAtom alternativesIn
@@ -146,13 +157,16 @@ pub atom-group : (l : List ℕ) → eqb (firstByte l) open-group ≡ true → re
 unfolding readAtom readAlternatives alternativesIn
 atom-group l b =
     let n = taken l (open-group - 1) b in
-    if-true (eqb (firstByte l) open-group) _ _ b ∙ ap (λ (x : Parse). then x readClose) (same-alternatives (4 * length l) (suc (suc (suc (suc (4 * length (rest l)))))) (rest l) (omega arith) (omega arith))
+    if-true (eqb (firstByte l) open-group) _ _ b
+    ∙ ap (λ (x : Parse). then x readClose) (same-alternatives (4 * length l) (suc (suc (suc (suc (4 * length (rest l)))))) (rest l) (omega arith) (omega arith))
 
-pub atom-letter : (l : List ℕ) → eqb (firstByte l) open-group ≡ false → isLetter (firstByte l) ≡ true → readAtom l ≡ got (symbol (letter (firstByte l - letter-a))) (rest l)
+pub atom-letter : (l : List ℕ) → eqb (firstByte l) open-group ≡ false → isLetter (firstByte l) ≡ true
+    → readAtom l ≡ got (symbol (letter (firstByte l - letter-a))) (rest l)
 unfolding readAtom alternativesIn
 atom-letter l b h = if-false (eqb (firstByte l) open-group) _ _ b ∙ if-true (isLetter (firstByte l)) _ _ h
 
-pub atom-negated : (l : List ℕ) → eqb (firstByte l) open-group ≡ false → isLetter (firstByte l) ≡ false → eqb (firstByte l) bang ≡ true → readAtom l ≡ readNegated (rest l)
+pub atom-negated : (l : List ℕ) → eqb (firstByte l) open-group ≡ false
+    → isLetter (firstByte l) ≡ false → eqb (firstByte l) bang ≡ true → readAtom l ≡ readNegated (rest l)
 unfolding readAtom alternativesIn
 atom-negated l b h c = if-false (eqb (firstByte l) open-group) _ _ b ∙ if-false (isLetter (firstByte l)) _ _ h ∙ if-true (eqb (firstByte l) bang) _ _ c
 
@@ -167,11 +181,15 @@ mark-star e l b = if-true (eqb (firstByte l) asterisk) _ _ b
 pub mark-plus : (e : Expr) (l : List ℕ) → eqb (firstByte l) asterisk ≡ false → eqb (firstByte l) plus-sign ≡ true → readMark e l ≡ got (plus e) (rest l)
 mark-plus e l b c = if-false (eqb (firstByte l) asterisk) _ _ b ∙ if-true (eqb (firstByte l) plus-sign) _ _ c
 
-pub mark-optional : (e : Expr) (l : List ℕ) → eqb (firstByte l) asterisk ≡ false → eqb (firstByte l) plus-sign ≡ false → eqb (firstByte l) question-mark ≡ true → readMark e l ≡ got (optional e) (rest l)
-mark-optional e l b c d = if-false (eqb (firstByte l) asterisk) _ _ b ∙ (if-false (eqb (firstByte l) plus-sign) _ _ c ∙ if-true (eqb (firstByte l) question-mark) _ _ d)
+pub mark-optional : (e : Expr) (l : List ℕ) → eqb (firstByte l) asterisk ≡ false → eqb (firstByte l) plus-sign ≡ false
+    → eqb (firstByte l) question-mark ≡ true → readMark e l ≡ got (optional e) (rest l)
+mark-optional e l b c d =
+    if-false (eqb (firstByte l) asterisk) _ _ b ∙ (if-false (eqb (firstByte l) plus-sign) _ _ c ∙ if-true (eqb (firstByte l) question-mark) _ _ d)
 
-pub mark-none : (e : Expr) (l : List ℕ) → eqb (firstByte l) asterisk ≡ false → eqb (firstByte l) plus-sign ≡ false → eqb (firstByte l) question-mark ≡ false → readMark e l ≡ got e l
-mark-none e l b c d = if-false (eqb (firstByte l) asterisk) _ _ b ∙ (if-false (eqb (firstByte l) plus-sign) _ _ c ∙ if-false (eqb (firstByte l) question-mark) _ _ d)
+pub mark-none : (e : Expr) (l : List ℕ) → eqb (firstByte l) asterisk ≡ false
+    → eqb (firstByte l) plus-sign ≡ false → eqb (firstByte l) question-mark ≡ false → readMark e l ≡ got e l
+mark-none e l b c d =
+    if-false (eqb (firstByte l) asterisk) _ _ b ∙ (if-false (eqb (firstByte l) plus-sign) _ _ c ∙ if-false (eqb (firstByte l) question-mark) _ _ d)
 
 pub alternatives-sound : (l : List ℕ) → All (By alternatives l) (readAlternatives l)
 unfolding readAlternatives

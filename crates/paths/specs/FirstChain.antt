@@ -22,7 +22,8 @@ use Rattle.book.specs.SetLaws.{and-both}
 use Rattle.book.specs.ListLaws.{in-left, in-right, in-either, in-none, in-front}
 use Rattle.k2.specs.PairSetLaws.{bit-on, on-bit}
 use Rattle.paths.specs.Expressions.{Letter, Expr}
-use Rattle.paths.specs.Chains.{Graph, Step, crossing, stepWord, stepWords, spell, Chain, stay, cross, Answers, Has, NotAfter, shorter, as-long, First, Reply, none as no-reply, chain as chain-reply, ChainIs, no-chain, first-chain}
+use Rattle.paths.specs.Chains.{Graph, Step, crossing, stepWord, stepWords, spell, Chain, stay, cross, Answers, Has, NotAfter, shorter, as-long, First}
+use Rattle.paths.specs.Chains.{Reply, none as no-reply, chain as chain-reply, ChainIs, no-chain, first-chain}
 use Rattle.paths.specs.Relations.{cells}
 use Rattle.paths.specs.ChainLaws.{Inside, crossing-in, crossing-label}
 use Rattle.paths.specs.RelationLaws.{cells-has}
@@ -104,15 +105,21 @@ not-after-self v = as-long refl (before-self v)
 module _ (t : List Step → ℕ) where
   choose-best : (ss : List Step) (l : List (List Step)) (v : ℕ) (m : Maybe) → t ss ≡ v → Best t l m → Best t (ss ∷ l) (choose v ss m)
   choose-best ss l zero nothing e (none f) = none (λ ts i p. ⊎-elim (λ q. let z : t ts ≡ 0 = ap t q ∙ e in omega arith) (λ j. f ts j p) (in-front i refl))
-  choose-best ss l zero (just us) e (some i p f) = some (there i) p (λ ts j q. ⊎-elim (λ r. absurd (let z : t ts ≡ 0 = ap t r ∙ e in omega arith)) (λ k. f ts k q) (in-front j refl))
-  choose-best ss l (suc v) nothing e (none f) = some here (omega arith) (λ ts i p. ⊎-elim (λ q. subst (λ (u : List Step). NotAfter (stepWords ss) (stepWords u)) (sym q) (not-after-self (stepWords ss))) (λ j. absurd (f ts j p)) (in-front i refl))
+  choose-best ss l zero (just us) e (some i p f) =
+      some (there i) p (λ ts j q. ⊎-elim (λ r. absurd (let z : t ts ≡ 0 = ap t r ∙ e in omega arith)) (λ k. f ts k q) (in-front j refl))
+  choose-best ss l (suc v) nothing e (none f) =
+      some here (omega arith) (λ ts i p. ⊎-elim (λ q. subst (λ (u : List Step). NotAfter (stepWords ss) (stepWords u)) (sym q) (not-after-self (stepWords ss)))
+      (λ j. absurd (f ts j p)) (in-front i refl))
   choose-best ss l (suc v) (just us) e (some i p f) = go (leads (stepWords ss) (stepWords us)) refl
     where
       go : (b : Bool) → leads (stepWords ss) (stepWords us) ≡ b → Best t (ss ∷ l) (pick b (just ss) (just us))
       go true q = let h = leads-yes (stepWords ss) (stepWords us) q in
-          some here (omega arith) (λ ts j r. ⊎-elim (λ z. subst (λ (u : List Step). NotAfter (stepWords ss) (stepWords u)) (sym z) (not-after-self (stepWords ss))) (λ k. not-after-then h (f ts k r)) (in-front j refl))
+          some here (omega arith)
+          (λ ts j r. ⊎-elim (λ z. subst (λ (u : List Step). NotAfter (stepWords ss) (stepWords u)) (sym z) (not-after-self (stepWords ss)))
+          (λ k. not-after-then h (f ts k r)) (in-front j refl))
       go false q = let h = leads-no (stepWords ss) (stepWords us) q in
-          some (there i) p (λ ts j r. ⊎-elim (λ z. subst (λ (u : List Step). NotAfter (stepWords us) (stepWords u)) (sym z) h) (λ k. f ts k r) (in-front j refl))
+          some (there i) p
+          (λ ts j r. ⊎-elim (λ z. subst (λ (u : List Step). NotAfter (stepWords us) (stepWords u)) (sym z) h) (λ k. f ts k r) (in-front j refl))
 
   pub best-is : (l : List (List Step)) → Best t l (best t l)
   unfolding best
@@ -121,7 +128,8 @@ module _ (t : List Step → ℕ) where
 
 -- ---- what `walks` lists
 module _ (g : Graph) where
-  in-reach : (x l : ℕ) (b : Bool) (m r : ℕ) → r < m → g .present (crossing (record { label = l; inverted = b }) x r) ≡ true → In (record { spelt = record { label = l; inverted = b }; reached = r }) (reach g x l b m)
+  in-reach : (x l : ℕ) (b : Bool) (m r : ℕ) → r < m → g .present (crossing (record { label = l; inverted = b }) x r) ≡ true
+      → In (record { spelt = record { label = l; inverted = b }; reached = r }) (reach g x l b m)
   unfolding reach
   in-reach x l b zero r h p = absurd (omega arith)
   in-reach x l b (suc m) r h p = go (decLt r m) (in-reach x l b m r)
@@ -133,11 +141,17 @@ module _ (g : Graph) where
       on true a k i = there i
       on false a k i = i
 
-      go : Dec (r < m) → (r < m → g .present (crossing (record { label = l; inverted = b }) x r) ≡ true → In (record { spelt = record { label = l; inverted = b }; reached = r }) (reach g x l b m)) → In (record { spelt = record { label = l; inverted = b }; reached = r }) (put-front (g .present (crossing (s .spelt) x (s .reached))) s (reach g x l b m))
-      go (yes k) ih = on (g .present (crossing (s .spelt) x (s .reached))) (record { spelt = record { label = l; inverted = b }; reached = r }) (reach g x l b m) (ih k p)
+      go : Dec (r < m)
+          → (r < m → g .present (crossing (record { label = l; inverted = b }) x r) ≡ true
+          → In (record { spelt = record { label = l; inverted = b }; reached = r }) (reach g x l b m))
+          → In (record { spelt = record { label = l; inverted = b }; reached = r })
+          (put-front (g .present (crossing (s .spelt) x (s .reached))) s (reach g x l b m))
+      go (yes k) ih =
+          on (g .present (crossing (s .spelt) x (s .reached))) (record { spelt = record { label = l; inverted = b }; reached = r }) (reach g x l b m) (ih k p)
       go (no k) ih =
           let e : r ≡ m = omega arith in
-          let q : g .present (crossing (s .spelt) x (s .reached)) ≡ true = subst (λ (v : ℕ). g .present (crossing (record { label = l; inverted = b }) x v) ≡ true) e p in
+          let q : g .present (crossing (s .spelt) x (s .reached)) ≡ true =
+          subst (λ (v : ℕ). g .present (crossing (record { label = l; inverted = b }) x v) ≡ true) e p in
           rw (q, e) here
 
   in-steps : (x k : ℕ) (s : Step) → s .spelt .label < k → s .reached < g .n → g .present (crossing (s .spelt) x (s .reached)) ≡ true → In s (stepsBelow g x k)
@@ -156,7 +170,9 @@ module _ (g : Graph) where
       by-sense true q e = in-right (reach g x l false (g .n)) (in-left (stepsBelow g x l) (at-label true q e))
       by-sense false q e = in-left (reach g x l true (g .n) ++ stepsBelow g x l) (at-label false q e)
 
-      go : Dec (s .spelt .label < l) → (s .spelt .label < l → s .reached < g .n → g .present (crossing (s .spelt) x (s .reached)) ≡ true → In s (stepsBelow g x l)) → In s (reach g x l false (g .n) ++ (reach g x l true (g .n) ++ stepsBelow g x l))
+      go : Dec (s .spelt .label < l)
+          → (s .spelt .label < l → s .reached < g .n → g .present (crossing (s .spelt) x (s .reached)) ≡ true → In s (stepsBelow g x l))
+          → In s (reach g x l false (g .n) ++ (reach g x l true (g .n) ++ stepsBelow g x l))
       go (yes k) ih = in-right (reach g x l false (g .n)) (in-right (reach g x l true (g .n)) (ih k r p))
       go (no k) ih = by-sense (s .spelt .inverted) refl (omega arith)
 
@@ -193,7 +209,9 @@ module _ (g : Graph) where
   reach-in x l b zero s i = absurd (in-none i refl)
   reach-in x l b (suc m) s i = go (g .present (crossing (record { label = l; inverted = b }) x m)) refl i (reach-in x l b m s)
     where
-      go : (c : Bool) → g .present (crossing (record { label = l; inverted = b }) x m) ≡ c → In s (put-front c (record { spelt = record { label = l; inverted = b }; reached = m }) (reach g x l b m)) → (In s (reach g x l b m) → g .present (crossing (s .spelt) x (s .reached)) ≡ true) → g .present (crossing (s .spelt) x (s .reached)) ≡ true
+      go : (c : Bool) → g .present (crossing (record { label = l; inverted = b }) x m) ≡ c
+          → In s (put-front c (record { spelt = record { label = l; inverted = b }; reached = m }) (reach g x l b m))
+          → (In s (reach g x l b m) → g .present (crossing (s .spelt) x (s .reached)) ≡ true) → g .present (crossing (s .spelt) x (s .reached)) ≡ true
       go true q i ih = ⊎-elim (λ e. rw e q) ih (in-front i refl)
       go false q i ih = ih i
 
@@ -209,7 +227,8 @@ module _ (g : Graph) where
   before-in s [] ss i = absurd (in-none i refl)
   before-in s (us ∷ l) ss i = ⊎-elim (λ e. (us, e, here)) (λ j. let r = before-in s l ss j in (r .0, r .1, there (r .2))) (in-front i refl)
 
-  after-in : (f : Step → List (List Step)) (l : List Step) (ss : List Step) → In ss (after-each f l) → (s : Step) × (us : List Step) × (ss ≡ s ∷ us) × In s l × In us (f s)
+  after-in : (f : Step → List (List Step)) (l : List Step) (ss : List Step)
+      → In ss (after-each f l) → (s : Step) × (us : List Step) × (ss ≡ s ∷ us) × In s l × In us (f s)
   unfolding after-each
   after-in f [] ss i = absurd (in-none i refl)
   after-in f (s ∷ l) ss i = ⊎-elim

@@ -17,10 +17,12 @@ use borrow.Author.Tests.{eq-eqb, eqb-true}
 use Rattle.book.specs.Basics.{pick, bit}
 use Rattle.book.specs.Causes.{labels}
 use Rattle.k2.specs.PairSets.{Cells, IsSet, union, transpose, most, serves, product, OneOrMore, once as once-more, more, closure, diagonal}
-use Rattle.k2.specs.PairSetLaws.{one-of, bit-small, bit-on, on-bit, most-some, some-most, most-bit, most-none, union-set, product-set, transpose-set, closure-set, diagonal-set, product-middle, middle-product, closure-leads, leads-closure}
+use Rattle.k2.specs.PairSetLaws.{one-of, bit-small, bit-on, on-bit, most-some, some-most, most-bit, most-none, union-set, product-set, transpose-set}
+use Rattle.k2.specs.PairSetLaws.{closure-set, diagonal-set, product-middle, middle-product, closure-leads, leads-closure}
 use Rattle.paths.specs.Expressions.{Letter, standsFor, Expr, symbol, group, inverse, star, plus, optional, alternative, sequence}
 use Rattle.paths.specs.Chains.{Graph, crossing, Has}
-use Rattle.paths.specs.Relations.{Rel, link, inside, swapped, left, right, joined, once, again, star-none, star-some, optional-none, optional-once, joins, crossedBy, zeroSteps, cells}
+use Rattle.paths.specs.Relations.{Rel, link, inside, swapped, left, right, joined, once, again, star-none, star-some, optional-none, optional-once, joins}
+use Rattle.paths.specs.Relations.{crossedBy, zeroSteps, cells}
 use Rattle.paths.specs.ChainLaws.{Inside, crossing-in, crossing-label, rel-in-use, rel-has}
 
 -- ---- one step
@@ -159,7 +161,8 @@ module _ (g : Graph) where
     unfolding union
     in-either-set a b x y h = one-of (a x y) (b x y) (omega arith)
 
-    or-none : (e : Expr) (a : Cells) (x y : ℕ) → a x y < 2 → (a x y ≡ 1 → Rel g e x y) → (g .inUse x ≡ true → Rel g e x x) → union a (zeroSteps g) x y ≡ 1 → Rel g e x y
+    or-none : (e : Expr) (a : Cells) (x y : ℕ) → a x y < 2 → (a x y ≡ 1 → Rel g e x y)
+        → (g .inUse x ≡ true → Rel g e x x) → union a (zeroSteps g) x y ≡ 1 → Rel g e x y
     or-none e a x y l f n h = ⊎-elim
         (λ p. f (omega arith))
         (λ p. let z = zero-steps x y p in subst (λ (v : ℕ). Rel g e x v) (z .1) (n (z .0)))

@@ -41,7 +41,8 @@ found (got e r) = ended e r
 unfoldable pub verdict : List ℕ → Verdict
 verdict s = pick (leb (length s) maxBytes) (found (readAlternatives s)) long
 
-sized-right : (s : List ℕ) (e : Expr) → length s ≤ maxBytes → Is alternatives s e → (b c : Bool) → leb (letters e) maxLetters ≡ b → leb (depth e) maxDepth ≡ c → Judged s (pick b (pick c (accepted e) large) large)
+sized-right : (s : List ℕ) (e : Expr) → length s ≤ maxBytes → Is alternatives s e → (b c : Bool)
+    → leb (letters e) maxLetters ≡ b → leb (depth e) maxDepth ≡ c → Judged s (pick b (pick c (accepted e) large) large)
 sized-right s e h d false c p q = over-limits h d (inl (leb-false (letters e) maxLetters p))
 sized-right s e h d true false p q = over-limits h d (inr (leb-false (depth e) maxDepth q))
 sized-right s e h d true true p q = good h d (leb-true (letters e) maxLetters p) (leb-true (depth e) maxDepth q)
@@ -85,18 +86,21 @@ verdict-letters s e h q k =
     let z : sized e ≡ large = rw (lt-leb (letters e) maxLetters k) in
     verdict-short s h ∙ ap found q ∙ z
 
-pub verdict-deep : (s : List ℕ) (e : Expr) → length s ≤ maxBytes → readAlternatives s ≡ got e [] → letters e ≤ maxLetters → maxDepth < depth e → verdict s ≡ large
+pub verdict-deep : (s : List ℕ) (e : Expr) → length s ≤ maxBytes → readAlternatives s ≡ got e []
+    → letters e ≤ maxLetters → maxDepth < depth e → verdict s ≡ large
 verdict-deep s e h q k d =
     let z : sized e ≡ large = rw (le-leb (letters e) maxLetters k, lt-leb (depth e) maxDepth d) in
     verdict-short s h ∙ ap found q ∙ z
 
-pub verdict-accepted : (s : List ℕ) (e : Expr) → length s ≤ maxBytes → readAlternatives s ≡ got e [] → letters e ≤ maxLetters → depth e ≤ maxDepth → verdict s ≡ accepted e
+pub verdict-accepted : (s : List ℕ) (e : Expr) → length s ≤ maxBytes → readAlternatives s ≡ got e []
+    → letters e ≤ maxLetters → depth e ≤ maxDepth → verdict s ≡ accepted e
 verdict-accepted s e h q k d =
     let z : sized e ≡ accepted e = rw (le-leb (letters e) maxLetters k, le-leb (depth e) maxDepth d) in
     verdict-short s h ∙ ap found q ∙ z
 
 -- and no other verdict is right
-none-reads : (s : List ℕ) (x : Parse) → length s ≤ maxBytes → ((e : Expr) → Is alternatives s e → ⊥) → readAlternatives s ≡ x → All (By alternatives s) x → outside ≡ verdict s
+none-reads : (s : List ℕ) (x : Parse) → length s ≤ maxBytes → ((e : Expr) → Is alternatives s e → ⊥)
+    → readAlternatives s ≡ x → All (By alternatives s) x → outside ≡ verdict s
 none-reads s x h n p nothing = sym (verdict-none s h p)
 none-reads s x h n p (gives {e} {r} q) = go r p q
   where
