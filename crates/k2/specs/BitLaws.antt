@@ -6,7 +6,8 @@
 use mathlib.Core.Path.{_≡_, refl, sym, ap, _∙_, fun-ext}
 use mathlib.Core.List.{List, [], _∷_, _++_}
 use Prim.Native.Nat.{ℕ, zero, suc, _+_, _-_, _*_, _/_, _%_, _^_, _≤_, _<_, zero-le}
-use native.Mathlib.Nat.{add-zero, zero-add, add-suc, suc-add, add-comm, mod-lt, mod-one, mod-eq-of-lt, mul-div-cancel, mul-mod-left, pow-suc, not-suc-le-zero, le-of-suc-le-suc}
+use native.Mathlib.Nat.{add-zero, zero-add, add-suc, suc-add, add-comm, mod-lt, mod-one, mod-eq-of-lt, mul-div-cancel, mul-mod-left, pow-suc, not-suc-le-zero}
+use native.Mathlib.Nat.{le-of-suc-le-suc}
 use native.Mathlib.Numerals.{one-add}
 use native.Mathlib.Omega.{arith}
 use native.Mathlib.Decide.{decLt, ℕ-discrete}
@@ -242,6 +243,7 @@ unfolding wordsOf
 words-fit bs b = packed-fits ((length bs + 63) / 64) (bitsOf bs) b
 
 -- no other words of this length have these bits
-pub words-tell : (ws bs : List ℕ) → Bits (bitsOf bs) → ((i : ℕ) → getD ws i 0 < 2 ^ 64) → length ws ≡ (length bs + 63) / 64 → bitAt ws ≡ bitsOf bs → ws ≡ wordsOf bs
+pub words-tell : (ws bs : List ℕ) → Bits (bitsOf bs) → ((i : ℕ) → getD ws i 0 < 2 ^ 64)
+    → length ws ≡ (length bs + 63) / 64 → bitAt ws ≡ bitsOf bs → ws ≡ wordsOf bs
 words-tell ws bs b f l e =
     bits-tell ws (wordsOf bs) (l ∙ sym (words-length bs)) f (words-fit bs b) (e ∙ sym (words-bits bs b))

@@ -2,7 +2,8 @@
 use mathlib.Core.Path.{_≡_, refl, sym, ap, ap₂, _∙_}
 use mathlib.Core.Bool.{Bool, true, false}
 use Prim.Native.Nat.{ℕ, zero, suc, _+_, _-_, _*_, _/_, _%_, _^_, _≤_, _<_, min, max}
-use native.Mathlib.Nat.{mod-lt, mod-eq-of-lt, mul-add-mod-self-right, div-div-eq-div-mul, pow-suc, pow-succ', zero-div, zero-mod, div-one, mul-div-cancel, mul-mod-left, zero-lt-suc, one-mul, mul-one, div-eq-of-lt, lt-of-lt-of-le, mul-assoc, sub-zero, suc-sub-suc}
+use native.Mathlib.Nat.{mod-lt, mod-eq-of-lt, mul-add-mod-self-right, div-div-eq-div-mul, pow-suc, pow-succ', zero-div, zero-mod, div-one, mul-div-cancel}
+use native.Mathlib.Nat.{mul-mod-left, zero-lt-suc, one-mul, mul-one, div-eq-of-lt, lt-of-lt-of-le, mul-assoc, sub-zero, suc-sub-suc}
 use native.Mathlib.Omega.{arith}
 use lib.Bits.{bitAnd, bitOr, and-step, or-step, and-shr, or-shr, and-mask, or-disjoint, shifted-half, shifted-even}
 use lib.Dec.{lit<, eqb, leb, leb·zero, leb·suc-zero, leb·suc-suc, eqb·zero-suc, eqb·suc-zero, eqb·suc-suc}
@@ -89,7 +90,8 @@ digit-four w r =
     let x : ℕ = w / 2 ^ r in
     let d₁ : digit w (r + 1) ≡ x / 2 % 2 = digit-add w r 1 ∙ digit-suc x 0 ∙ digit-zero (x / 2) in
     let d₂ : digit w (r + 2) ≡ x / 2 / 2 % 2 = digit-add w r 2 ∙ digit-suc x 1 ∙ digit-suc (x / 2) 0 ∙ digit-zero (x / 2 / 2) in
-    let d₃ : digit w (r + 3) ≡ x / 2 / 2 / 2 % 2 = digit-add w r 3 ∙ digit-suc x 2 ∙ digit-suc (x / 2) 1 ∙ digit-suc (x / 2 / 2) 0 ∙ digit-zero (x / 2 / 2 / 2) in
+    let d₃ : digit w (r + 3) ≡ x / 2 / 2 / 2 % 2 =
+    digit-add w r 3 ∙ digit-suc x 2 ∙ digit-suc (x / 2) 1 ∙ digit-suc (x / 2 / 2) 0 ∙ digit-zero (x / 2 / 2 / 2) in
     rw (d₁, d₂, d₃) (unfold digit in (four-of x))
 
 -- the digits of a number tell it

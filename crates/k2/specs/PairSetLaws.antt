@@ -15,7 +15,8 @@ use borrow.Author.Tests.{eqb-true, lt-ltb, le-ltb}
 use Rattle.book.specs.Basics.{bit, has, In, here, Rises, ended, rises}
 use Rattle.book.specs.ListLaws.{in-left, in-right, in-either, in-none, in-one}
 use Rattle.book.specs.SetLaws.{eqb-test, has-in, in-has}
-use Rattle.k2.specs.PairSets.{Cells, IsSet, pairWord, ifSet, rowPairs, rowsPairs, listed, setOf, PairsBelow, union, intersection, difference, transpose, most, serves, product, OneOrMore, once, more, via, closure, diagonal}
+use Rattle.k2.specs.PairSets.{Cells, IsSet, pairWord, ifSet, rowPairs, rowsPairs, listed, setOf, PairsBelow, union, intersection, difference, transpose}
+use Rattle.k2.specs.PairSets.{most, serves, product, OneOrMore, once, more, via, closure, diagonal}
 
 -- ---- numbers that are not 0
 pub one-of : (a b : ℕ) → 1 ≤ max a b → (1 ≤ a) ⊎ (1 ≤ b)
@@ -181,7 +182,8 @@ module _ (n : ℕ) (a : Cells) (A : IsSet n a) where
   closure-joins zero z x y l p q = absurd (omega arith)
   closure-joins (suc k) z x y l p q =
       go (decLt z k) (λ x y. closure-joins k z x y)
-      (via-by k Q x z (closure-bit k x z) (closure-bit k x k) (closure-bit k k z) p) (via-by k Q z y (closure-bit k z y) (closure-bit k z k) (closure-bit k k y) q)
+      (via-by k Q x z (closure-bit k x z) (closure-bit k x k) (closure-bit k k z) p)
+      (via-by k Q z y (closure-bit k z y) (closure-bit k z k) (closure-bit k k y) q)
     where
       Q : Cells
       Q = closure k a

@@ -27,7 +27,8 @@ module _ (side : ℕ) (a b : Cells) (f : ℕ → ℕ) (ea : f ≡ bitsOf (treeBi
       let ey : y ≡ 0 = omega arith in
       rw (ex, ey) (omega arith)
   same-cell (suc h) {s} {t} {p} n m fs ft x y hx hy =
-      ap (min 1) (sym (quadrant-cell h s x y hy)) ∙ go (λ e. same-cell h (child q n ql e) (child q m ql e) (sym bs ∙ e) (sym bt ∙ e) i j li lj) (f (p + q)) refl (rw bs (filled-lt h (quadrant h q s))) ∙ ap (min 1) (quadrant-cell h t x y hy)
+      ap (min 1) (sym (quadrant-cell h s x y hy)) ∙ go (λ e. same-cell h (child q n ql e) (child q m ql e) (sym bs ∙ e) (sym bt ∙ e) i j li lj)
+      (f (p + q)) refl (rw bs (filled-lt h (quadrant h q s))) ∙ ap (min 1) (quadrant-cell h t x y hy)
     where
       q : ℕ
       q = quarterOf (2 ^ h) x y
@@ -87,7 +88,8 @@ same-bits : (n : ℕ) (a b : Cells) → IsSet n a → IsSet n b → bitsOf (tree
 same-bits n a b ia ib e = tree-tells (height n) a b (height-is n .0) (wider ia) (wider ib) e
   where
     wider : {c : Cells} → IsSet n c → IsSet (2 ^ height n) c
-    wider i = record { bit = i .bit; row = λ x y l. i .row x y (omega (arith, height-is n .1)); column = λ x y l. i .column x y (omega (arith, height-is n .1)) }
+    wider i =
+        record { bit = i .bit; row = λ x y l. i .row x y (omega (arith, height-is n .1)); column = λ x y l. i .column x y (omega (arith, height-is n .1)) }
 
 -- the bits of a tree are 0 and 1
 levels-bits : (h : ℕ) (qs : List Cells) → Bits (bitsOf (levels h qs))
