@@ -9,12 +9,18 @@ use lib.ListN.{length, take}
 use lib.Dec.{leb, eqb}
 use borrow.Author.Tests.{leb-false, not-false, eq-eqb, eqb-true, ne-eqb}
 use Rattle.book.specs.Basics.{pick, In, here, there, has, without, All, all-none, all-more}
-use Rattle.book.specs.Causes.{Cause, bad-size, no-record, bad-label, locked-end, already, missing, full, none-held, no-expression, too-many-bytes, too-large, bad-tree, short-work, short-list, broken-frame, unknown-kind, not-open, touched-record, withdrawn-record, bad-tie, unordered-anchors, none-in-use, number, Caused, editOrder, closeOrder, firstNumber, InOrder, none-left, same-cause, passed-over, maxRecords, labels, maxLinks, maxHeld}
-use Rattle.book.specs.Book.{Link, sameLink, Sheet, Book, Edit, add, remove, lock, unlock, withdraw, reinstate, Call, edit, undo, close, present, isLocked, isWithdrawn, touched, used, causes, editAnswer, edited, turned, undoAnswer, undone, closeCauses, closeAnswer, closed, answer, next, fresh, answers, after}
+use Rattle.book.specs.Causes.{Cause, bad-size, no-record, bad-label, locked-end, already, missing, full, none-held, no-expression, too-many-bytes}
+use Rattle.book.specs.Causes.{too-large, bad-tree, short-work, short-list, broken-frame, unknown-kind, not-open, touched-record, withdrawn-record}
+use Rattle.book.specs.Causes.{bad-tie, unordered-anchors, none-in-use, number, Caused, editOrder, closeOrder, firstNumber, InOrder, none-left, same-cause}
+use Rattle.book.specs.Causes.{passed-over, maxRecords, labels, maxLinks, maxHeld}
+use Rattle.book.specs.Book.{Link, sameLink, Sheet, Book, Edit, add, remove, lock, unlock, withdraw, reinstate, Call, edit, undo, close, present, isLocked}
+use Rattle.book.specs.Book.{isWithdrawn, touched, used, causes, editAnswer, edited, turned, undoAnswer, undone, closeCauses, closeAnswer, closed, answer}
+use Rattle.book.specs.Book.{next, fresh, answers, after}
 use Rattle.book.specs.Sheets.{Distinct, Proper, Fit, Sound}
 use Rattle.book.specs.RankLaws.{rank-le}
 use Rattle.book.specs.CloseLaws.{closed-fit}
-use Rattle.book.specs.SetLaws.{sameLink-test, eqb-test, and-both, or-neither, or-true, has-in, in-has, has-without, absent-without, distinct-without, length-without}
+use Rattle.book.specs.SetLaws.{sameLink-test, eqb-test, and-both, or-neither, or-true, has-in, in-has, has-without, absent-without, distinct-without}
+use Rattle.book.specs.SetLaws.{length-without}
 
 -- ---- causes
 -- every edit's causes are looked for in the order of S6.6
@@ -239,8 +245,10 @@ edited-fit n s (withdraw r) f e =
           let h : (eqb r (k .from) ≡ false) × (eqb r (k .to) ≡ false) = (
             ne-eqb r (k .from) (λ c. true≢false (sym (end-touched r (s .links) at (inl (sym c))) ∙ t .0)),
             ne-eqb r (k .to) (λ c. true≢false (sym (end-touched r (s .links) at (inr (sym c))) ∙ t .0)),
-          ) in
-          (or-none (eqb r (k .from)) (isWithdrawn s (k .from)) (h .0) (f .ends k i .0), or-none (eqb r (k .to)) (isWithdrawn s (k .to)) (h .1) (f .ends k i .1));
+          ) in (
+            or-none (eqb r (k .from)) (isWithdrawn s (k .from)) (h .0) (f .ends k i .0),
+            or-none (eqb r (k .to)) (isWithdrawn s (k .to)) (h .1) (f .ends k i .1),
+          );
       free = λ j i. or-none (eqb r j) (isWithdrawn s j) (unlike j i) (f .free j i);
       withdrawn = λ j i. or-else (eqb r j) (isWithdrawn s j) i (j < n) (below j) (f .withdrawn j);
       once = f .once;
@@ -283,7 +291,8 @@ undone-sound b (s ∷ ss) o (all-more p a) = record { small = o .small; sheet = 
 
 closed-sound : (b : Book) (z : ℕ) → Sound b → Sound (closed z b)
 unfolding closed
-closed-sound b zero o = record { small = omega (arith, o .small, rank-le (used (b .n) (b .sheet)) (b .n)); sheet = closed-fit (b .n) (b .sheet) (o .sheet); pile = all-none }
+closed-sound b zero o =
+    record { small = omega (arith, o .small, rank-le (used (b .n) (b .sheet)) (b .n)); sheet = closed-fit (b .n) (b .sheet) (o .sheet); pile = all-none }
 closed-sound b (suc z) o = o
 
 pub next-sound : (b : Book) (c : Call) → Sound b → Sound (next b c)

@@ -73,7 +73,8 @@ module _ {A : Type 0} {same : A → A → Bool} (T : EqualityTest same) where
         where
           go2 : (t : Bool) → same x y ≡ t → t ≡ false
           go2 false q = refl
-          go2 true q = absurd (false≢true (sym e ∙ ap (λ (v : A). same v x) (T .sound z y f) ∙ ap (λ (v : A). same v x) (sym (T .sound x y q)) ∙ T .reflexive x))
+          go2 true q =
+              absurd (false≢true (sym e ∙ ap (λ (v : A). same v x) (T .sound z y f) ∙ ap (λ (v : A). same v x) (sym (T .sound x y q)) ∙ T .reflexive x))
       go false e false f ih = rw f ih
 
 module _ {A : Type 0} {same : A → A → Bool} (T : EqualityTest same) where
