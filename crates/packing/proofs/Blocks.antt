@@ -51,10 +51,21 @@ raised-or b s v f = fun-ext (λ k. go k (decLt k b) (decLt k (b + s)))
     go : (k : ℕ) → Dec (k < b) → Dec (k < b + s) → max (raised b f k) (shifted (b + s) v k) ≡ raised b (λ p. max (f p) (shifted s v p)) k
     go k (yes a) c = rw (raised-out b f k a, shifted-out (b + s) v k (omega arith), raised-out b (λ p. max (f p) (shifted s v p)) k a) (omega arith)
     go k (no a) (yes c) =
-        rw (raised-in b f k (omega arith), shifted-out (b + s) v k c, raised-in b (λ p. max (f p) (shifted s v p)) k (omega arith), shifted-out s v (k - b) (omega arith)) refl
+        rw (
+          raised-in b f k (omega arith),
+          shifted-out (b + s) v k c,
+          raised-in b (λ p. max (f p) (shifted s v p)) k (omega arith),
+          shifted-out s v (k - b) (omega arith),
+        ) refl
     go k (no a) (no c) =
         let e : k - (b + s) ≡ k - b - s = omega arith in
-        rw (raised-in b f k (omega arith), shifted-in (b + s) v k (omega arith), raised-in b (λ p. max (f p) (shifted s v p)) k (omega arith), shifted-in s v (k - b) (omega arith), e) refl
+        rw (
+          raised-in b f k (omega arith),
+          shifted-in (b + s) v k (omega arith),
+          raised-in b (λ p. max (f p) (shifted s v p)) k (omega arith),
+          shifted-in s v (k - b) (omega arith),
+          e,
+        ) refl
 
 module _ (h : ℕ) (a : Cells) (z : ℕ) where
   pub cells-in : z < 4 ^ h → cells h a z ≡ a (rowAt h z) (columnAt h z)
@@ -98,7 +109,9 @@ to-none b h a = fun-ext (λ k. go k (decLt k b) (decLt (k - b) (4 ^ h)))
   where
     go : (k : ℕ) → Dec (k < b) → Dec (k - b < 4 ^ h) → raised b (cells h (blocksTo 0 a)) k ≡ 0
     go k (yes c) d = raised-out b (cells h (blocksTo 0 a)) k c
-    go k (no c) (yes d) = raised-in b (cells h (blocksTo 0 a)) k (omega arith) ∙ cells-in h (blocksTo 0 a) (k - b) d ∙ to-out a (rowAt h (k - b)) (columnAt h (k - b)) 0 (omega arith)
+    go k (no c) (yes d) =
+        raised-in b (cells h (blocksTo 0 a)) k (omega arith) ∙ cells-in h (blocksTo 0 a) (k - b) d
+        ∙ to-out a (rowAt h (k - b)) (columnAt h (k - b)) 0 (omega arith)
     go k (no c) (no d) = raised-in b (cells h (blocksTo 0 a)) k (omega arith) ∙ cells-out h (blocksTo 0 a) (k - b) (omega arith)
 
 -- ---- a set of pairs below 2 ^ (g + 3), 2 ^ g blocks to a side
@@ -172,7 +185,12 @@ module _ (g : ℕ) (gl : g ≤ 7) (a : Cells) (is : IsSet (2 ^ (g + 3)) a) where
 
         go : (z : ℕ) → Dec (z < 4 ^ (g + 3)) → Dec (z / 64 ≡ Z)
             → max (cells (g + 3) (blocksTo M a) z) (shifted (64 * Z) v z) ≡ cells (g + 3) (blocksTo (M + 1) a) z
-        go z (no l) d = rw (cells-out (g + 3) (blocksTo M a) z (omega arith), cells-out (g + 3) (blocksTo (M + 1) a) z (omega arith), far z (λ e. omega (arith, all, Zl))) (omega arith)
+        go z (no l) d =
+            rw (
+              cells-out (g + 3) (blocksTo M a) z (omega arith),
+              cells-out (g + 3) (blocksTo (M + 1) a) z (omega arith),
+              far z (λ e. omega (arith, all, Zl)),
+            ) (omega arith)
         go z (yes l) d =
             rw (cells-in (g + 3) (blocksTo M a) z l, cells-in (g + 3) (blocksTo (M + 1) a) z l) (by d)
           where
@@ -203,7 +221,12 @@ module _ (g : ℕ) (gl : g ≤ 7) (a : Cells) (is : IsSet (2 ^ (g + 3)) a) where
                 let ec : columnAt g (z / 64) ≡ c = ap (columnAt g) e ∙ column-place g r c rl cg in
                 let s : z - 64 * Z ≡ z % 64 = omega arith in
                 let w : digit v (z % 64) ≡ a x y = digits (z % 64) (omega arith) ∙ ap₂ a (omega (arith, ex, er)) (omega (arith, ey, ec)) in
-                rw (to-out a x y M (omega (arith, ex, ey, lx, ly)), to-in a x y (M + 1) (omega (arith, ex, ey, lx, ly)), shifted-in (64 * Z) v z (omega arith), s) (omega arith)
+                rw (
+                  to-out a x y M (omega (arith, ex, ey, lx, ly)),
+                  to-in a x y (M + 1) (omega (arith, ex, ey, lx, ly)),
+                  shifted-in (64 * Z) v z (omega arith),
+                  s,
+                ) (omega arith)
             by (no n) = rw (far z n) (same (decLt (x / 8 * 128 + y / 8) M))
               where
                 lc : columnAt g (z / 64) < 2 ^ g
@@ -252,7 +275,8 @@ module _ (rows : List ℕ) (a : Cells) (e : bitAt rows ≡ flat a) (r c : ℕ) (
     turn-none e = before ∙ ap (λ (s : Cells). raised base (cells (g + 3) s)) (block-none g gl a is r c v rl cl vl digits-of e)
 
     pub turn-some : (v ≡ 0 → ⊥) → (w z : ℕ) → w < 2 ^ 64 → ((j : ℕ) → j < 64 → digit w j ≡ digit v (8 * rowAt 3 j + columnAt 3 j))
-        → z ≡ place g (r % 2 ^ g) (c % 2 ^ g) → (b′ : ℕ → ℕ) → b′ ≡ either b (shifted (base + 64 * z) w) → b′ ≡ raised base (cells (g + 3) (blocksTo (r * 128 + c + 1) a))
+        → z ≡ place g (r % 2 ^ g) (c % 2 ^ g) → (b′ : ℕ → ℕ) → b′ ≡ either b (shifted (base + 64 * z) w)
+        → b′ ≡ raised base (cells (g + 3) (blocksTo (r * 128 + c + 1) a))
     turn-some n w z wl dw ez b′ e′ =
         let cg = block-inside g gl a is r c v rl cl vl digits-of n in
         let z′ : z ≡ place g r c = ez ∙ ap₂ (place g) (mod-eq-of-lt rl) (mod-eq-of-lt cg) in

@@ -158,5 +158,6 @@ module _ (b : ℕ) (f : ℕ → ℕ) (heap : Heaped b f) where
         go : (k : ℕ) → k < b → q - 1 ≤ k → Dec (k ≡ q - 1) → put (q - 1) 1 w k ≡ f k
         go k a c (yes d) =
             let s : 4 * (k + 1) ≡ 4 * q = omega arith in
-            ap (put (q - 1) 1 w) d ∙ put-at (q - 1) 1 w ∙ sym (heap .upper k a ∙ ap (anyFour f) s ∙ omega (arith, some, rw (heap .upper k a ∙ ap (anyFour f) s) at (heap .bit k)))
+            ap (put (q - 1) 1 w) d ∙ put-at (q - 1) 1 w
+            ∙ sym (heap .upper k a ∙ ap (anyFour f) s ∙ omega (arith, some, rw (heap .upper k a ∙ ap (anyFour f) s) at (heap .bit k)))
         go k a c (no d) = put-off (q - 1) 1 w k d ∙ here w q k e (omega (arith, d))

@@ -13,7 +13,8 @@ use Rattle.rows.specs.RowLaws.{union-none}
 use Rattle.packing.specs.Reading.{inside, Reads, squareBit, squareRow, squareColumn, squaresTo, Fits, FitAll, ReadAll}
 
 -- what holds of the first m places holds of one more that is written
-pub all-set : (P : ℕ → Type 0) (l : List ℕ) (m w : ℕ) → m < length l → ((j : ℕ) → j < m → P (getD l (0 + j) 0)) → P w → (j : ℕ) → j < m + 1 → P (getD (set l m w) (0 + j) 0)
+pub all-set : (P : ℕ → Type 0) (l : List ℕ) (m w : ℕ) → m < length l
+    → ((j : ℕ) → j < m → P (getD l (0 + j) 0)) → P w → (j : ℕ) → j < m + 1 → P (getD (set l m w) (0 + j) 0)
 all-set P l m w h p pw j g = go (ℕ-discrete j m)
   where
     go : Dec (j ≡ m) → P (getD (set l m w) (0 + j) 0)
@@ -21,18 +22,21 @@ all-set P l m w h p pw j g = go (ℕ-discrete j m)
     go (no e) = subst P (sym (getD-set-other l m (0 + j) w 0 (λ d. e (omega arith)))) (p j (omega (arith, e)))
 
 -- the squares of two lists that are alike
-pub squares-same : (k h : ℕ) (l l' : List ℕ) (i : ℕ) (t : Cells) → ((j : ℕ) → j < k → getD l (i + j) 0 ≡ getD l' (i + j) 0) → squaresTo k h l i t ≡ squaresTo k h l' i t
+pub squares-same : (k h : ℕ) (l l' : List ℕ) (i : ℕ) (t : Cells)
+    → ((j : ℕ) → j < k → getD l (i + j) 0 ≡ getD l' (i + j) 0) → squaresTo k h l i t ≡ squaresTo k h l' i t
 unfolding squaresTo
 squares-same zero h l l' i t e = refl
 squares-same (suc k) h l l' i t e =
     ap₂ union (squares-same k h l l' i t (λ j g. e j (omega arith))) (ap (λ (w : ℕ). inside h (squareRow w) (squareColumn w) t) (e k (omega arith)))
 
 -- one square more
-pub squares-next : (k h : ℕ) (l : List ℕ) (i : ℕ) (t : Cells) → squaresTo (k + 1) h l i t ≡ union (squaresTo k h l i t) (inside h (squareRow (getD l (i + k) 0)) (squareColumn (getD l (i + k) 0)) t)
+pub squares-next : (k h : ℕ) (l : List ℕ) (i : ℕ) (t : Cells)
+    → squaresTo (k + 1) h l i t ≡ union (squaresTo k h l i t) (inside h (squareRow (getD l (i + k) 0)) (squareColumn (getD l (i + k) 0)) t)
 unfolding squaresTo
 squares-next k h l i t = rw add-one refl
 
-pub squares-set : (m h : ℕ) (l : List ℕ) (w : ℕ) (t : Cells) → m < length l → squaresTo (m + 1) h (set l m w) 0 t ≡ union (squaresTo m h l 0 t) (inside h (squareRow w) (squareColumn w) t)
+pub squares-set : (m h : ℕ) (l : List ℕ) (w : ℕ) (t : Cells) → m < length l
+    → squaresTo (m + 1) h (set l m w) 0 t ≡ union (squaresTo m h l 0 t) (inside h (squareRow w) (squareColumn w) t)
 squares-set m h l w t g =
     let z : 0 + m ≡ m = omega arith in
     squares-next m h (set l m w) 0 t

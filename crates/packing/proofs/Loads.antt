@@ -59,7 +59,8 @@ module _ (h x y : ℕ) (a : Cells) (i j : ℕ) where
       go (yes p) q r s = n (rw (lt-leb x i p)) (λ a b c d. omega arith)
       go (no p) (no q) r s = n (rw (le-leb x i (omega arith), le-ltb i (x + 2 ^ h) (omega arith))) (λ a b c d. omega arith)
       go (no p) (yes q) (yes r) s = n (rw (le-leb x i (omega arith), lt-ltb i (x + 2 ^ h) q, lt-leb y j r)) (λ a b c d. omega arith)
-      go (no p) (yes q) (no r) (no s) = n (rw (le-leb x i (omega arith), lt-ltb i (x + 2 ^ h) q, le-leb y j (omega arith), le-ltb j (y + 2 ^ h) (omega arith))) (λ a b c d. omega arith)
+      go (no p) (yes q) (no r) (no s) =
+          n (rw (le-leb x i (omega arith), lt-ltb i (x + 2 ^ h) q, le-leb y j (omega arith), le-ltb j (y + 2 ^ h) (omega arith))) (λ a b c d. omega arith)
       go (no p) (yes q) (no r) (yes s) = f (omega arith) q (omega arith) s
 
   pub inside-out : (x ≤ i → i < x + 2 ^ h → y ≤ j → j < y + 2 ^ h → ⊥) → inside h x y a i j ≡ 0
@@ -99,20 +100,45 @@ module _ (h x y : ℕ) (a : Cells) (i j : ℕ) where
       within : x ≤ i → i < x + (s + s) → y ≤ j → j < y + (s + s) → Dec (i < x + s) → Dec (j < y + s)
           → max (max (max (max 0 (quarter 0 0)) (quarter 0 1)) (quarter 1 0)) (quarter 1 1) ≡ a i j
       within p q r t (yes k) (yes l) =
-          omega (arith, hit 0 0 (omega arith) (omega arith) (omega arith) (omega arith), out 0 1 (λ b c d e. omega arith), out 1 0 (λ b c d e. omega arith), out 1 1 (λ b c d e. omega arith))
+          omega (
+            arith,
+            hit 0 0 (omega arith) (omega arith) (omega arith) (omega arith),
+            out 0 1 (λ b c d e. omega arith),
+            out 1 0 (λ b c d e. omega arith),
+            out 1 1 (λ b c d e. omega arith),
+          )
       within p q r t (yes k) (no l) =
-          omega (arith, hit 0 1 (omega arith) (omega arith) (omega arith) (omega arith), out 0 0 (λ b c d e. omega arith), out 1 0 (λ b c d e. omega arith), out 1 1 (λ b c d e. omega arith))
+          omega (
+            arith,
+            hit 0 1 (omega arith) (omega arith) (omega arith) (omega arith),
+            out 0 0 (λ b c d e. omega arith),
+            out 1 0 (λ b c d e. omega arith),
+            out 1 1 (λ b c d e. omega arith),
+          )
       within p q r t (no k) (yes l) =
-          omega (arith, hit 1 0 (omega arith) (omega arith) (omega arith) (omega arith), out 0 0 (λ b c d e. omega arith), out 0 1 (λ b c d e. omega arith), out 1 1 (λ b c d e. omega arith))
+          omega (
+            arith,
+            hit 1 0 (omega arith) (omega arith) (omega arith) (omega arith),
+            out 0 0 (λ b c d e. omega arith),
+            out 0 1 (λ b c d e. omega arith),
+            out 1 1 (λ b c d e. omega arith),
+          )
       within p q r t (no k) (no l) =
-          omega (arith, hit 1 1 (omega arith) (omega arith) (omega arith) (omega arith), out 0 0 (λ b c d e. omega arith), out 0 1 (λ b c d e. omega arith), out 1 0 (λ b c d e. omega arith))
+          omega (
+            arith,
+            hit 1 1 (omega arith) (omega arith) (omega arith) (omega arith),
+            out 0 0 (λ b c d e. omega arith),
+            out 0 1 (λ b c d e. omega arith),
+            out 1 0 (λ b c d e. omega arith),
+          )
 
 pub quarters-all : (h x y : ℕ) (a : Cells) → quartersTo 4 h x y a ≡ inside (suc h) x y a
 unfolding quartersTo union noPairs
 quarters-all h x y a = fun-ext (λ i. fun-ext (λ j. four-quarters h x y a i j))
 
 -- one quarter more
-pub quarters-more : (k h x y : ℕ) (a b : Cells) → union (union b (quartersTo k h x y a)) (inside h (x + k / 2 * 2 ^ h) (y + k % 2 * 2 ^ h) a) ≡ union b (quartersTo (k + 1) h x y a)
+pub quarters-more : (k h x y : ℕ) (a b : Cells)
+    → union (union b (quartersTo k h x y a)) (inside h (x + k / 2 * 2 ^ h) (y + k % 2 * 2 ^ h) a) ≡ union b (quartersTo (k + 1) h x y a)
 unfolding quartersTo union
 quarters-more k h x y a b = rw add-one (fun-ext (λ i. fun-ext (λ j. omega arith)))
 
@@ -207,7 +233,8 @@ pub reads-cell : (s : ℕ) (ws : List ℕ) (b x y : ℕ) (a : Cells) → Reads s
 unfolding filled
 reads-cell s ws b x y a n q l =
     let Q : Cells = quadrant 0 (turned s q) (n .square) in
-    let c : turnedBy s Q 0 0 ≡ a (x + q / 2) (y + q % 2) = quarter-cell s ws 0 b x y a n q l 0 0 (omega arith) (omega arith) ∙ ap₂ a (omega arith) (omega arith) in
+    let c : turnedBy s Q 0 0 ≡ a (x + q / 2) (y + q % 2) =
+    quarter-cell s ws 0 b x y a n q l 0 0 (omega arith) (omega arith) ∙ ap₂ a (omega arith) (omega arith) in
     let z : turnedBy s Q 0 0 < 2 = turnedBy-bit s Q (λ i j. unfold quadrant in (n .bit _ _)) 0 0 in
     reads-bit s ws 0 b x y a n q l ∙ sym (filled-turnedBy s 0 Q) ∙ omega arith
 
@@ -254,13 +281,15 @@ module _ (x : Cells) (r c v : ℕ) (t : Cells) (cl : c + 2 ≤ 1024) (vl : v < 1
   upper-in : (p : ℕ) → p / 1024 ≡ r → c ≤ p % 1024 → p % 1024 < c + 2 → upper p ≡ t (p / 1024) (p % 1024)
   upper-in p e l h =
       let k : p - (r * 1024 + c) ≡ p % 1024 - c = omega arith in
-      shifted-in (r * 1024 + c) (v % 4) p (omega arith) ∙ ap (digit (v % 4)) k ∙ digit-mod 2 v (p % 1024 - c) (omega arith) ∙ digits (p % 1024 - c) (omega arith)
+      shifted-in (r * 1024 + c) (v % 4) p (omega arith) ∙ ap (digit (v % 4)) k
+      ∙ digit-mod 2 v (p % 1024 - c) (omega arith) ∙ digits (p % 1024 - c) (omega arith)
       ∙ ap₂ t (omega arith) (omega arith)
 
   lower-in : (p : ℕ) → p / 1024 ≡ r + 1 → c ≤ p % 1024 → p % 1024 < c + 2 → lower p ≡ t (p / 1024) (p % 1024)
   lower-in p e l h =
       let k : p - ((r + 1) * 1024 + c) ≡ p % 1024 - c = omega arith in
-      shifted-in ((r + 1) * 1024 + c) (v / 4) p (omega arith) ∙ ap (digit (v / 4)) k ∙ sym (digit-add v 2 (p % 1024 - c)) ∙ digits (2 + (p % 1024 - c)) (omega arith)
+      shifted-in ((r + 1) * 1024 + c) (v / 4) p (omega arith) ∙ ap (digit (v / 4)) k
+      ∙ sym (digit-add v 2 (p % 1024 - c)) ∙ digits (2 + (p % 1024 - c)) (omega arith)
       ∙ ap₂ t (omega arith) (omega arith)
 
   upper-off : (p : ℕ) → (p / 1024 ≡ r → c ≤ p % 1024 → p % 1024 < c + 2 → ⊥) → upper p ≡ 0
@@ -281,7 +310,8 @@ module _ (x : Cells) (r c v : ℕ) (t : Cells) (cl : c + 2 ≤ 1024) (vl : v < 1
       hit p a b d e (no k) = rw (lower-in p (omega (arith, k)) d e, upper-off p (λ f g h. k f)) (omega arith)
 
 -- ---- counts and children
-pub count-set : (ws : List ℕ) (i n : ℕ) (f : ℕ → ℕ) → i < length ws → ((k : ℕ) → k < i → getD ws k 0 ≡ f k) → n ≡ f i → (k : ℕ) → k < i + 1 → getD (set ws i n) k 0 ≡ f k
+pub count-set : (ws : List ℕ) (i n : ℕ) (f : ℕ → ℕ) → i < length ws
+    → ((k : ℕ) → k < i → getD ws k 0 ≡ f k) → n ≡ f i → (k : ℕ) → k < i + 1 → getD (set ws i n) k 0 ≡ f k
 count-set ws i n f l h e k g = go (ℕ-discrete k i)
   where
     go : Dec (k ≡ i) → getD (set ws i n) k 0 ≡ f k
@@ -295,7 +325,9 @@ module _ (ws : List ℕ) (i : ℕ) (f : ℕ → ℕ) where
   count-begun n l z h e k g = go (ℕ-discrete k (i / 4))
     where
       go : Dec (k ≡ i / 4) → getD (set ws (i / 4) n) k 0 ≡ onesBelow f (k * 256)
-      go (yes s) = let p : i * 64 ≡ k * 256 = omega arith in ap (λ (j : ℕ). getD (set ws (i / 4) n) j 0) s ∙ getD-set-same ws (i / 4) n 0 l ∙ e ∙ ap (onesBelow f) p
+      go (yes s) =
+          let p : i * 64 ≡ k * 256 = omega arith in
+          ap (λ (j : ℕ). getD (set ws (i / 4) n) j 0) s ∙ getD-set-same ws (i / 4) n 0 l ∙ e ∙ ap (onesBelow f) p
       go (no s) = getD-set-other ws (i / 4) k n 0 s ∙ h k (omega (arith, s))
 
   -- or has begun
@@ -306,7 +338,8 @@ pub child-count : (ws : List ℕ) (p m : ℕ) → m ≡ onesBelow (bitAt ws) (p 
     → m + ones ((getD ws (p / 64) 0 * 2 ^ (63 - p % 64)) % 2 ^ 64) ≡ onesBelow (bitAt ws) (p + 1)
 child-count ws p m e =
     let j : p % 64 + 1 + (63 - p % 64) ≡ 64 = omega arith in
-    let s : ones ((getD ws (p / 64) 0 * 2 ^ (63 - p % 64)) % 2 ^ 64) ≡ ones (getD ws (p / 64) 0 % 2 ^ (p % 64 + 1)) = rw j at (ones-shl (getD ws (p / 64) 0) (p % 64 + 1) (63 - p % 64)) in
+    let s : ones ((getD ws (p / 64) 0 * 2 ^ (63 - p % 64)) % 2 ^ 64) ≡ ones (getD ws (p / 64) 0 % 2 ^ (p % 64 + 1)) =
+    rw j at (ones-shl (getD ws (p / 64) 0) (p % 64 + 1) (63 - p % 64)) in
     let q : p / 64 * 64 + (p % 64 + 1) ≡ p + 1 = omega arith in
     ap₂ (λ (a b : ℕ). a + b) e s ∙ sym (ones-part ws (p / 64) (p % 64 + 1) (omega arith)) ∙ ap (onesBelow (bitAt ws)) q
 
@@ -334,7 +367,8 @@ module _ (f : ℕ → ℕ) (bits : Bits f) (b v : ℕ) (e : v ≡ fourAt f b) wh
       )
 
   -- the digits of a number below 16
-  digit-at : (w : ℕ) → w < 16 → (q : ℕ) → q < 4 → (w₀ w₁ w₂ w₃ : ℕ) → w % 2 ≡ w₀ → w / 2 % 2 ≡ w₁ → w / 4 % 2 ≡ w₂ → w / 8 ≡ w₃ → (g : ℕ → ℕ) → w₀ ≡ g 0 → w₁ ≡ g 1 → w₂ ≡ g 2 → w₃ ≡ g 3 → digit w q ≡ g q
+  digit-at : (w : ℕ) → w < 16 → (q : ℕ) → q < 4 → (w₀ w₁ w₂ w₃ : ℕ) → w % 2 ≡ w₀ → w / 2 % 2 ≡ w₁
+      → w / 4 % 2 ≡ w₂ → w / 8 ≡ w₃ → (g : ℕ → ℕ) → w₀ ≡ g 0 → w₁ ≡ g 1 → w₂ ≡ g 2 → w₃ ≡ g 3 → digit w q ≡ g q
   unfolding digit
   digit-at w l zero h w₀ w₁ w₂ w₃ a₀ a₁ a₂ a₃ g b₀ b₁ b₂ b₃ = omega arith
   digit-at w l (suc zero) h w₀ w₁ w₂ w₃ a₀ a₁ a₂ a₃ g b₀ b₁ b₂ b₃ = omega arith
@@ -343,7 +377,8 @@ module _ (f : ℕ → ℕ) (bits : Bits f) (b v : ℕ) (e : v ≡ fourAt f b) wh
   digit-at w l (suc (suc (suc (suc q)))) h w₀ w₁ w₂ w₃ a₀ a₁ a₂ a₃ g b₀ b₁ b₂ b₃ = absurd (omega arith)
 
   pub square-plain : (s : ℕ) → s ≡ 0 → (v < 16) × ((q : ℕ) → q < 4 → digit v q ≡ f (b + turned s q))
-  square-plain s z = rw z (small, λ q l. digit-at v small q l _ _ _ _ refl refl refl refl (λ k. f (b + k)) (digits-of .0) (digits-of .1) (digits-of .2) (digits-of .3))
+  square-plain s z =
+      rw z (small, λ q l. digit-at v small q l _ _ _ _ refl refl refl refl (λ k. f (b + k)) (digits-of .0) (digits-of .1) (digits-of .2) (digits-of .3))
 
   abbrev swapped : ℕ
   swapped = v % 2 + v / 2 % 2 * 4 + v / 4 % 2 * 2 + v / 8 * 8
@@ -373,16 +408,20 @@ dive-all zero x y t l = absurd (omega arith)
 dive-all (suc h) x y t l = let e : suc h - 1 ≡ h = omega arith in rw e (quarters-all h x y t)
 
 -- quarters passed that are empty
-pub dive-gap : (s : ℕ) (ws : List ℕ) (h b x y : ℕ) (t a : Cells) → 1 ≤ h → Reads s ws h b x y t → (q r : ℕ) → q ≤ r → r ≤ 4 → ((j : ℕ) → q ≤ j → j < r → bitAt ws (b + turned s j) ≡ 0)
+pub dive-gap : (s : ℕ) (ws : List ℕ) (h b x y : ℕ) (t a : Cells) → 1 ≤ h → Reads s ws h b x y t
+    → (q r : ℕ) → q ≤ r → r ≤ 4 → ((j : ℕ) → q ≤ j → j < r → bitAt ws (b + turned s j) ≡ 0)
     → union a (quartersTo q (h - 1) x y t) ≡ union a (quartersTo r (h - 1) x y t)
 dive-gap s ws h b x y t a l n q zero k g o = let e : q ≡ 0 = omega arith in rw e refl
-dive-gap s ws h b x y t a l n q (suc r) k g o = go (ℕ-discrete q (suc r)) (λ p. dive-gap s ws h b x y t a l n q r p (omega arith) (λ j u v. o j u (omega arith)))
+dive-gap s ws h b x y t a l n q (suc r) k g o =
+    go (ℕ-discrete q (suc r)) (λ p. dive-gap s ws h b x y t a l n q r p (omega arith) (λ j u v. o j u (omega arith)))
   where
-    go : Dec (q ≡ suc r) → (q ≤ r → union a (quartersTo q (h - 1) x y t) ≡ union a (quartersTo r (h - 1) x y t)) → union a (quartersTo q (h - 1) x y t) ≡ union a (quartersTo (suc r) (h - 1) x y t)
+    go : Dec (q ≡ suc r) → (q ≤ r → union a (quartersTo q (h - 1) x y t) ≡ union a (quartersTo r (h - 1) x y t))
+        → union a (quartersTo q (h - 1) x y t) ≡ union a (quartersTo (suc r) (h - 1) x y t)
     go (yes e) more = rw e refl
     go (no e) more =
         let i : r + 1 ≡ suc r = omega arith in
-        more (omega (arith, e)) ∙ dive-empty s ws h b x y t a l n r (omega arith) (o r (omega (arith, e)) (omega arith)) ∙ ap (λ (i : ℕ). union a (quartersTo i (h - 1) x y t)) i
+        more (omega (arith, e)) ∙ dive-empty s ws h b x y t a l n r (omega arith) (o r (omega (arith, e)) (omega arith))
+        ∙ ap (λ (i : ℕ). union a (quartersTo i (h - 1) x y t)) i
 
 -- a quarter fits where its square does
 quarter-fits : (u s w x : ℕ) → u < 2 → s + s ≡ w → x + w ≤ 1024 → x + u * s + s ≤ 1024

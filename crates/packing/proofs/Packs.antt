@@ -44,7 +44,8 @@ cells-wider h a is = fun-ext (λ z. go z (decLt z (4 ^ h)) (decLt z (4 ^ suc h))
     go : (z : ℕ) → Dec (z < n) → Dec (z < 4 ^ suc h) → cells h a z ≡ cells (suc h) a z
     go z (yes l) d =
         cells-in h a z l
-        ∙ sym (cells-in (suc h) a z (omega (arith, more)) ∙ rw (row-step h z, column-step h z, div-eq-of-lt l, mod-eq-of-lt l) (ap₂ a (omega arith) (omega arith)))
+        ∙ sym (cells-in (suc h) a z (omega (arith, more))
+        ∙ rw (row-step h z, column-step h z, div-eq-of-lt l, mod-eq-of-lt l) (ap₂ a (omega arith) (omega arith)))
     go z (no l) (no d) = cells-out h a z (omega arith) ∙ sym (cells-out (suc h) a z (omega arith))
     go z (no l) (yes d) = cells-out h a z (omega arith) ∙ sym (cells-in (suc h) a z d ∙ past (z / n) refl)
       where
@@ -80,7 +81,8 @@ full-cells h a is = fun-ext (λ k. go k (decLt k b) (decLt (k - b) (4 ^ suc h)))
         let y : ℕ = columnAt (suc h) z in
         let e : b + place (suc h) x y ≡ k = omega (arith, place-at (suc h) z d) in
         raised-in b (cells (suc h) a) k (omega arith) ∙ cells-in (suc h) a z d
-        ∙ sym (above-in b (full (suc h) a) k (omega arith) ∙ ap (full (suc h) a) (sym e) ∙ full-cell h a x y (row-lt (suc h) z d) (column-lt (suc h) z d) ∙ omega (arith, is .bit x y))
+        ∙ sym (above-in b (full (suc h) a) k (omega arith) ∙ ap (full (suc h) a) (sym e)
+        ∙ full-cell h a x y (row-lt (suc h) z d) (column-lt (suc h) z d) ∙ omega (arith, is .bit x y))
     go k (no l) (no d) =
         raised-in b (cells (suc h) a) k (omega arith) ∙ cells-out (suc h) a (k - b) (omega arith)
         ∙ sym (above-in b (full (suc h) a) k (omega arith) ∙ full-past (suc h) a k (omega (arith, fullSize-last h 1)))

@@ -38,7 +38,8 @@ le-mul z zero h = absurd (omega arith)
 le-mul z (suc x) h = rw mul-suc (omega arith)
 
 pub place-turn : (k x y z : ℕ) → 0 < k
-    → z * 4 ^ k + place k (x % 2 ^ k) (y % 2 ^ k) ≡ (z * 4 + x / 2 ^ (k - 1) % 2 * 2 + y / 2 ^ (k - 1) % 2) * 4 ^ (k - 1) + place (k - 1) (x % 2 ^ (k - 1)) (y % 2 ^ (k - 1))
+    → z * 4 ^ k + place k (x % 2 ^ k) (y % 2 ^ k) ≡ (z * 4 + x / 2 ^ (k - 1) % 2 * 2 + y / 2 ^ (k - 1) % 2) * 4 ^ (k - 1)
+    + place (k - 1) (x % 2 ^ (k - 1)) (y % 2 ^ (k - 1))
 place-turn zero x y z h = absurd (omega arith)
 place-turn (suc k) x y z h = let e : suc k - 1 ≡ k = omega arith in rw e (place-step k x y z)
 

@@ -199,7 +199,8 @@ left-end f i r w ws e n =
     squeeze-gap f (n .q) (16 * (i + 1)) r ws (n .high)
     (λ j a b.
     let s : j ≡ 4 * n .q + (j - 4 * n .q) = omega arith in
-    rw s (sym (sym (ap (λ (x : ℕ). digit x (j - 4 * n .q)) e ∙ digit-none (j - 4 * n .q)) ∙ n .word (j - 4 * n .q) ∙ rw (lt-ltb (4 * n .q + (j - 4 * n .q)) (64 * (i + 1)) (omega arith)))))
+    rw s (sym (sym (ap (λ (x : ℕ). digit x (j - 4 * n .q)) e ∙ digit-none (j - 4 * n .q))
+    ∙ n .word (j - 4 * n .q) ∙ rw (lt-ltb (4 * n .q + (j - 4 * n .q)) (64 * (i + 1)) (omega arith)))))
     (n .squeezing)
 
 -- a group less is left in each turn
@@ -213,7 +214,8 @@ turns-left w zero p l = absurd (omega arith)
 turns-left w (suc d) p l = omega arith
 
 -- four words of 0
-pub squeeze-quiet : (f : ℕ → ℕ) (i g : ℕ) (ws : List ℕ) → ((j : ℕ) → i ≤ j → j < i + 4 → getD ws j 0 ≡ 0) → Squeezing f (16 * i) g ws → Squeezing f (16 * (i + 4)) g ws
+pub squeeze-quiet : (f : ℕ → ℕ) (i g : ℕ) (ws : List ℕ) → ((j : ℕ) → i ≤ j → j < i + 4 → getD ws j 0 ≡ 0)
+    → Squeezing f (16 * i) g ws → Squeezing f (16 * (i + 4)) g ws
 squeeze-quiet f i g ws z s =
     squeeze-gap f (16 * i) (16 * (i + 4)) g ws (omega arith)
     (λ k a b. sym (s .rest k a) ∙ unfold bitAt in (rw (z (k / 64) (omega arith) (omega arith)) (digit-none (k % 64))))
@@ -236,7 +238,9 @@ module _ (f : ℕ → ℕ) (n g : ℕ) (ws out : List ℕ) (s : Squeezing f n g 
   taken = rw length-take (omega (arith, long))
 
   pub squeeze-end : take r out ≡ wordsOf (squeezed f n)
-  squeeze-end = words-tell (take r out) (squeezed f n) two (λ i. fit i (decLt i r)) (omega (arith, taken, whole-length)) (fun-ext (λ p. at p (decLt (p / 64) r) (decLt p (4 * g))))
+  squeeze-end =
+      words-tell (take r out) (squeezed f n) two (λ i. fit i (decLt i r))
+      (omega (arith, taken, whole-length)) (fun-ext (λ p. at p (decLt (p / 64) r) (decLt p (4 * g))))
     where
       past : (p : ℕ) → 4 * g ≤ p → bitsOf (squeezed f n) p ≡ 0
       past p l = List·getD-eq-default (squeezed f n) 0 (rw whole-length l)

@@ -47,7 +47,8 @@ or-more x w k ih e j l = go (or-none w (x k) e) (decLt j k)
     go b (yes g) = ih (b .0) j g
     go b (no g) = let z : j ≡ k = omega arith in ap x z ∙ b .1
 
-pub or-digits : (x : ℕ → ℕ) (w k : ℕ) → ((d j : ℕ) → j < k → digit w d ≡ 0 → digit (x j) d ≡ 0) → (d j : ℕ) → j < k + 1 → digit (bitOr w (x k)) d ≡ 0 → digit (x j) d ≡ 0
+pub or-digits : (x : ℕ → ℕ) (w k : ℕ) → ((d j : ℕ) → j < k → digit w d ≡ 0 → digit (x j) d ≡ 0)
+    → (d j : ℕ) → j < k + 1 → digit (bitOr w (x k)) d ≡ 0 → digit (x j) d ≡ 0
 or-digits x w k ih d j l e = go (decLt j k)
   where
     m : max (digit w d) (digit (x k) d) ≡ 0
@@ -88,7 +89,8 @@ bytes-more ws i k r v rl b j l =
         let q : r ≡ j / 8 = omega arith in
         let d : j - 8 * r ≡ j % 8 = omega arith in
         let e : digit y (j % 8) ≡ goal =
-        digit-mod 8 (x / 2 ^ (8 * k)) (j % 8) (omega arith) ∙ sym (digit-add x (8 * k) (j % 8)) ∙ ap (λ (t : ℕ). digit (getD ws (i + 16 * t) 0) (8 * k + j % 8)) q in
+        digit-mod 8 (x / 2 ^ (8 * k)) (j % 8) (omega arith) ∙ sym (digit-add x (8 * k) (j % 8))
+        ∙ ap (λ (t : ℕ). digit (getD ws (i + 16 * t) 0) (8 * k + j % 8)) q in
         rw (le-ltb j (8 * r) (omega arith), shifted-in (8 * r) y j (omega arith), lt-ltb j (8 * (r + 1)) c, d) (omega arith)
     go (no a) (no c) =
         let e : digit y (j - 8 * r) ≡ 0 = digit-past 8 (x / 2 ^ (8 * k)) (j - 8 * r) (omega arith) in
@@ -131,7 +133,13 @@ module _ (ws : List ℕ) (p v : ℕ) (vl : v < 2 ^ 64) (h : p / 64 + 1 < length 
           let d : 64 - s + k % 64 ≡ k - p = omega arith in
           bit-set first (q + 1) (bitOr (getD first (q + 1) 0) high) k (rw first-length h) a
           ∙ digit-or (getD first (q + 1) 0) high (k % 64)
-          ∙ rw (getD-set-other ws q (q + 1) (bitOr (getD ws q 0) ((v * 2 ^ s) % 2 ^ 64)) 0 (λ x. omega arith), high-digit (k % 64), d, shifted-in p v k (omega arith), a) refl
+          ∙ rw (
+            getD-set-other ws q (q + 1) (bitOr (getD ws q 0) ((v * 2 ^ s) % 2 ^ 64)) 0 (λ x. omega arith),
+            high-digit (k % 64),
+            d,
+            shifted-in p v k (omega arith),
+            a,
+          ) refl
       go k (no a) (yes b) =
           bit-set-off first (q + 1) (bitOr (getD first (q + 1) 0) high) k a
           ∙ bit-set ws q (bitOr (getD ws q 0) ((v * 2 ^ s) % 2 ^ 64)) k (omega arith) b
@@ -174,7 +182,8 @@ or-short ws p v n f vl h = fun-ext (λ k. go k (ℕ-discrete (k / 64) (p / 64)))
     off k e (yes l) = shifted-out p v k l
     off k e (no l) = far k (omega (arith, e))
 
-    go : (k : ℕ) → Dec (k / 64 ≡ p / 64) → bitAt (set ws (p / 64) (bitOr (getD ws (p / 64) 0) ((v * 2 ^ (p % 64)) % 2 ^ 64))) k ≡ max (bitAt ws k) (shifted p v k)
+    go : (k : ℕ) → Dec (k / 64 ≡ p / 64) → bitAt (set ws (p / 64) (bitOr (getD ws (p / 64) 0) ((v * 2 ^ (p % 64)) % 2 ^ 64))) k
+        ≡ max (bitAt ws k) (shifted p v k)
     go k (yes e) =
         bit-set ws (p / 64) (bitOr (getD ws (p / 64) 0) ((v * 2 ^ r) % 2 ^ 64)) k h e ∙ digit-or (getD ws (p / 64) 0) ((v * 2 ^ r) % 2 ^ 64) (k % 64)
         ∙ ap₂ max (unfold bitAt in (rw e refl)) (digit-left v r (k % 64) (omega arith) ∙ moved k e (decLt k p))
@@ -200,7 +209,8 @@ module _ (ws : List ℕ) (g v : ℕ) (vl : v < 16) (h : g / 16 < length ws) wher
   four = bitOr (bitAnd w ((2 ^ 64 - 1) - (15 * 2 ^ t) % 2 ^ 64)) ((v * 2 ^ t) % 2 ^ 64)
 
   four-digit : (j : ℕ) → j < 64 → digit four j ≡ max (min (digit w j) (1 - shifted t 15 j)) (shifted t v j)
-  four-digit j l = rw (digit-or, digit-and, digit-not 64 j ((15 * 2 ^ t) % 2 ^ 64) (mod-lt (15 * 2 ^ t) (pow-pos 64)) l, digit-left 15 t j l, digit-left v t j l) refl
+  four-digit j l =
+      rw (digit-or, digit-and, digit-not 64 j ((15 * 2 ^ t) % 2 ^ 64) (mod-lt (15 * 2 ^ t) (pow-pos 64)) l, digit-left 15 t j l, digit-left v t j l) refl
 
   -- four digits from t on
   four-clear : (u : ℕ) → u < 2 ^ 4 → (k : ℕ) → k / 64 ≡ g / 16 → (k / 4 ≡ g → ⊥) → shifted t u (k % 64) ≡ 0
@@ -219,7 +229,8 @@ module _ (ws : List ℕ) (g v : ℕ) (vl : v < 16) (h : g / 16 < length ws) wher
           let c : k / 64 ≡ g / 16 = omega arith in
           let d : k % 64 - t ≡ k % 4 = omega arith in
           bit-set ws (g / 16) four k h c ∙ four-digit (k % 64) (omega arith)
-          ∙ rw (shifted-in t 15 (k % 64) (omega arith), shifted-in t v (k % 64) (omega arith), d, fifteen (k % 4) (omega arith), eq-eqb (k / 4) g a) (omega arith)
+          ∙ rw (shifted-in t 15 (k % 64) (omega arith), shifted-in t v (k % 64) (omega arith), d, fifteen (k % 4) (omega arith), eq-eqb (k / 4) g a)
+          (omega arith)
       go k (no a) (yes b) =
           bit-set ws (g / 16) four k h b ∙ four-digit (k % 64) (omega arith)
           ∙ rw (four-clear 15 (omega arith) k b a, four-clear v vl k b a, ne-eqb (k / 4) g a)

@@ -49,7 +49,8 @@ module _ (w k m : ℕ) (wl : w < 2 ^ 64) (ml : m < 2 ^ 64) (apart : (j : ℕ) �
       d = digit w
 
       by : (b : ℕ) → digit m j ≡ b → b < 2 → Dec (j < k)
-          → max (max (min (d j) (1 - max (digit m j) (pick (leb k j) (digit m (j - k)) 0))) (pick (leb k j) (digit (bitAnd w m) (j - k)) 0)) (min (d (k + j)) (digit m j))
+          → max (max (min (d j) (1 - max (digit m j) (pick (leb k j) (digit m (j - k)) 0))) (pick (leb k j) (digit (bitAnd w m) (j - k)) 0))
+          (min (d (k + j)) (digit m j))
           ≡ d (pick (eqb (digit m j) 1) (j + k) (pick (leb k j) (pick (eqb (digit m (j - k)) 1) (j - k) j) j))
       by zero e g (yes s) = rw (e, lt-leb k j s) (omega (arith, digit-lt w j))
       by zero e g (no s) = rw (e, le-leb k j (omega arith), digit-and w m (j - k)) (inner (digit m (j - k)) refl (digit-lt m (j - k)))

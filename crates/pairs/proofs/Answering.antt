@@ -40,12 +40,14 @@ use Rattle.pairs.specs.declared.PairsAnswer.the-variants.{Pairs, Refused
 use Rattle.pairs.specs.declared.Related.{Related}
 use Rattle.pairs.specs.declared.Related.the-variants.{Rows, Refused as Declined}
 use Rattle.pairs.specs.Asking.{pairsLength, told-number, told-pairs, Handed, BookPairs, AsksFor, RelatesFor, rowWords, relationAnswer}
-use Rattle.pairs.specs.AskingLaws.{relation-refused, relation-short, relation-few, relation-paired, refused-alike, asks-handed, faulty-caused, handed-past, handed-some}
+use Rattle.pairs.specs.AskingLaws.{relation-refused, relation-short, relation-few, relation-paired, refused-alike, asks-handed, faulty-caused}
+use Rattle.pairs.specs.AskingLaws.{handed-past, handed-some}
 use Rattle.pairs.specs.Relating.{Relating, turned-down, in-rows, RelatingFor}
 use Rattle.pairs.specs.Steps.{Lettered, Coded}
 
 -- ---- the rows made
-declines : (r : Register) (v : Verdict) (work k : ℕ) (before : List ℕ) → Caused k → ((b : Book) → Represents r b → relationAnswer b v work (length before) ≡ refused k)
+declines : (r : Register) (v : Verdict) (work k : ℕ) (before : List ℕ) → Caused k
+    → ((b : Book) → Represents r b → relationAnswer b v work (length before) ≡ refused k)
     → RelatingFor r v work before before (Declined k)
 declines r v work k before z f = record {
   small = λ n e. absurd (let y : _≡_ {A = ℕ} 0 1 = cc in omega arith);
@@ -74,7 +76,8 @@ module _ (r : Register) (e : Expr) (n u work : ℕ) (before : List ℕ) (size : 
   few-rows h l = declines r (accepted e) work 12 before (short-work, refl) (λ b R. relation-few b work (length before) e (enough h b R) l)
 
   pub made-rows : (s ws used code part : List ℕ) → length part ≡ rowWords → n ≤ maxRecords → 32 * u ≤ work → rowWords ≤ length before
-      → ((b : Book) → Represents r b → Linked ws (b .sheet)) → ((b : Book) → Represents r b → n ≡ b .n → bitAt used ≡ (λ x. bit (asked b .inUse x))) → Coded s e code
+      → ((b : Book) → Represents r b → Linked ws (b .sheet)) → ((b : Book) → Represents r b → n ≡ b .n → bitAt used ≡ (λ x. bit (asked b .inUse x)))
+      → Coded s e code
       → ((b : Book) → Lettered b n ws used → (s : List ℕ) (e : Expr) → Coded s e code → bitAt part ≡ flat (cells (asked b) e))
       → RelatingFor r (accepted e) work before (part ++ drop rowWords before) (Rows n)
   unfolding asked
@@ -89,14 +92,17 @@ module _ (r : Register) (e : Expr) (n u work : ℕ) (before : List ℕ) (size : 
         let few : b .n ≤ maxRecords = subst (λ (j : ℕ). j ≤ maxRecords) z small in
         let L : Lettered b n ws used = record { size = z; small = few; fit = R .sheet .fit; linked = linked b R; in-use = bits b R z } in
         subst (λ (i : ℕ). Relating b (accepted e) work (length before) (part ++ drop rowWords before) (Rows i)) (sym z)
-        (in-rows e refl (enough h b R) l few (cells-set (asked b) (fit-inside b (R .sheet .fit)) e) (ap bitAt (take-at part (drop rowWords before) rowWords wide) ∙ made b L s e C));
+        (in-rows e refl (enough h b R) l few (cells-set (asked b) (fit-inside b (R .sheet .fit)) e)
+        (ap bitAt (take-at part (drop rowWords before) rowWords wide) ∙ made b L s e C));
   }
 
-pub same-verdict : (r : Register) (v : Verdict) (e : Expr) (work : ℕ) (before after : List ℕ) (q : Related) → v ≡ accepted e → RelatingFor r (accepted e) work before after q → RelatingFor r v work before after q
+pub same-verdict : (r : Register) (v : Verdict) (e : Expr) (work : ℕ) (before after : List ℕ) (q : Related)
+    → v ≡ accepted e → RelatingFor r (accepted e) work before after q → RelatingFor r v work before after q
 same-verdict r v e work before after q d A = subst (λ (w : Verdict). RelatingFor r w work before after q) (sym d) A
 
 -- ---- what the rows are
-declined : {b : Book} {v : Verdict} {work room k : ℕ} {after : List ℕ} {q : Related} → Relating b v work room after q → q ≡ Declined k → relationAnswer b v work room ≡ refused k
+declined : {b : Book} {v : Verdict} {work room k : ℕ} {after : List ℕ} {q : Related}
+    → Relating b v work room after q → q ≡ Declined k → relationAnswer b v work room ≡ refused k
 declined {b} {v} {work} {room} {k} (turned-down {k = j} e) d = let z : j ≡ k = cc in e ∙ ap refused z
 declined (in-rows e s h l few S m) d = absurd (let y : _≡_ {A = ℕ} 0 1 = cc in omega arith)
 
@@ -152,7 +158,9 @@ module _ (r : Register) (v : Verdict) (work : ℕ) (before after : List ℕ) whe
         ap (λ (w : Verdict). relationAnswer b w work (length before)) (m .is) ∙ relation-paired b work (length before) (m .syntax) (m .enough) (m .long) in
         record {
           tells = rw (o, k) told-pairs;
-          rows = λ e s i q. let z : m .syntax ≡ e = accepted-same (sym (m .is) ∙ s) in subst (λ (f : Expr). bitAt (take rowWords after) ≡ flat (cells (asked b) f)) z (m .rows);
+          rows =
+              λ e s i q. let z : m .syntax ≡ e = accepted-same (sym (m .is) ∙ s) in
+              subst (λ (f : Expr). bitAt (take rowWords after) ≡ flat (cells (asked b) f)) z (m .rows);
         };
   }
 

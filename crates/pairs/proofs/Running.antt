@@ -52,8 +52,15 @@ module _ (n : ℕ) (ws used c : List ℕ) where
   pub going-begins : {s : List ℕ} {e : Expr} → Coded s e c → (work : List ℕ) (os : List Operand) → length os ≡ most-waiting
       → Going n ws used c work (record { operands = os; count = 0; end = 0 }) 0
   going-begins {s} {e} k work os l = record {
-    room = subst (λ (x : List ℕ). Room (treeUnit n) x (record { operands = os; count = 0; end = 0 })) (sym (k .is)) (room-begins (treeUnit n) e (k .syntax) (k .shallow) os l);
-    waits = λ b L t f q. ([], subst (λ (x : List ℕ). Waiting (asked b) f x ws work (record { operands = os; count = 0; end = 0 }) []) (sym (q .is)) (begins (asked b) f (q .syntax) (q .shallow) ws work os));
+    room =
+        subst (λ (x : List ℕ). Room (treeUnit n) x (record { operands = os; count = 0; end = 0 }))
+        (sym (k .is)) (room-begins (treeUnit n) e (k .syntax) (k .shallow) os l);
+    waits =
+        λ b L t f q. (
+          [],
+          subst (λ (x : List ℕ). Waiting (asked b) f x ws work (record { operands = os; count = 0; end = 0 }) [])
+              (sym (q .is)) (begins (asked b) f (q .syntax) (q .shallow) ws work os),
+        );
   }
 
   module _ {work : List ℕ} {S : Stack} (i : ℕ) (h : i < length c) (G : Going n ws used c work S i) where
@@ -70,7 +77,9 @@ module _ (n : ℕ) (ws used c : List ℕ) where
     pub going-more : {y : Item} {work′ : List ℕ} {S′ : Stack} → itemOf (getD c i 0) ≡ y → Goes n ws used y work work′ S S′ → Going n ws used c work′ S′ (i + 1)
     going-more is g = rw add-one (record {
       room = g .room (getD c i 0) (drop (suc i) c) is going-room;
-      waits = λ b L s e q. let w = G .waits b L s e q in g .waits b L e (getD c i 0) (drop (suc i) c) (w .0) is (subst (λ (x : List ℕ). Waiting (asked b) e x ws work S (w .0)) next-number (w .1));
+      waits =
+          λ b L s e q. let w = G .waits b L s e q in
+          g .waits b L e (getD c i 0) (drop (suc i) c) (w .0) is (subst (λ (x : List ℕ). Waiting (asked b) e x ws work S (w .0)) next-number (w .1));
     })
 
   -- a code has a number
@@ -81,22 +90,26 @@ module _ (n : ℕ) (ws used c : List ℕ) where
       some [] R = absurd (omega (arith, room-ends R))
       some (i ∷ c) R = omega arith
 
-  pub going-ends : {y : Item} {work : List ℕ} {S : Stack} {rows : List ℕ} → 1 ≤ length c → itemOf (getD c (length c - 1) 0) ≡ y → Going n ws used c work S (length c - 1)
+  pub going-ends : {y : Item} {work : List ℕ} {S : Stack} {rows : List ℕ} → 1 ≤ length c
+      → itemOf (getD c (length c - 1) 0) ≡ y → Going n ws used c work S (length c - 1)
       → Ends n ws used y work S rows
       → (b : Book) → Lettered b n ws used → (s : List ℕ) (e : Expr) → Coded s e c → bitAt rows ≡ flat (cells (asked b) e)
   going-ends {work = work} {S} h is G l b L s e k =
       let w = G .waits b L s e k in
       let z : drop (length c - 1) c ≡ getD c (length c - 1) 0 ∷ [] =
-      next-number (length c - 1) (omega arith) G ∙ ap (λ (x : List ℕ). getD c (length c - 1) 0 ∷ x) (drop-of-length-le c {i = suc (length c - 1)} (omega arith)) in
+      next-number (length c - 1) (omega arith) G
+      ∙ ap (λ (x : List ℕ). getD c (length c - 1) 0 ∷ x) (drop-of-length-le c {i = suc (length c - 1)} (omega arith)) in
       l .value b L e (getD c (length c - 1) 0) (w .0) is (subst (λ (x : List ℕ). Waiting (asked b) e x ws work S (w .0)) z (w .1))
 
 -- ---- the last number's value
 head-same : {x y : Cells} {xs ys : List Cells} → x ∷ xs ≡ y ∷ ys → x ≡ y
 head-same e = cc
 
-module _ (n : ℕ) (y : Item) (ws used work before after : List ℕ) (r : Bool) (S : Stack) (small : n ≤ 1024) (wide : 32 * treeUnit n ≤ length work) (sixteen : length used ≡ 16)
+module _ (n : ℕ) (y : Item) (ws used work before after : List ℕ) (r : Bool) (S : Stack)
+    (small : n ≤ 1024) (wide : 32 * treeUnit n ≤ length work) (sixteen : length used ≡ 16)
     (rows : length before ≡ 16384) where
-  pub ends-term : (q : Taken) → Takes (treeUnit n) y S q → q .below ≤ 18 → InRows (q .term) n ws used (take (length work - q .start) (drop (q .start) work)) before after r
+  pub ends-term : (q : Taken) → Takes (treeUnit n) y S q → q .below ≤ 18
+      → InRows (q .term) n ws used (take (length work - q .start) (drop (q .start) work)) before after r
       → Ends n ws used y work S after
   unfolding run asked
   ends-term q T early made = record { value = value }
@@ -106,16 +119,24 @@ module _ (n : ℕ) (y : Item) (ws used work before after : List ℕ) (r : Bool) 
 
       room : Spaces n (q .term) (length (drop (q .start) work)) (length used) (length before)
       room = record {
-        trees = record { size = small; first = T .first; second = T .second; work = rw (length-drop (q .start) work) (omega (arith, starts-early (T .totals) early)) };
+        trees =
+            record {
+              size = small;
+              first = T .first;
+              second = T .second;
+              work = rw (length-drop (q .start) work) (omega (arith, starts-early (T .totals) early));
+            };
         records = sixteen;
         bits = rows;
       }
 
-      value : (b : Book) → Lettered b n ws used → (e : Expr) (i : ℕ) (st : List Cells) → itemOf i ≡ y → Waiting (asked b) e (i ∷ []) ws work S st → bitAt after ≡ flat (cells (asked b) e)
+      value : (b : Book) → Lettered b n ws used → (e : Expr) (i : ℕ) (st : List Cells) → itemOf i ≡ y
+          → Waiting (asked b) e (i ∷ []) ws work S st → bitAt after ≡ flat (cells (asked b) e)
       value b L e i st is w =
           let m = lent n y ws used work S q T b L st (w .stand) in
           let t = m .0 in
-          let c : termSet (q .term) (b .n) ws (bitAt used) (t .a) (t .b) ≡ cells (asked b) e = head-same (sym (ap (λ (z : Item). does (relations (asked b)) z st) is ∙ t .does) ∙ w .rest) in
+          let c : termSet (q .term) (b .n) ws (bitAt used) (t .a) (t .b) ≡ cells (asked b) e =
+          head-same (sym (ap (λ (z : Item). does (relations (asked b)) z st) is ∙ t .does) ∙ w .rest) in
           I .rows room (t .a) (t .b) (m .1) ∙ ap flat (ap (λ (i : ℕ). termSet (q .term) i ws (bitAt used) (t .a) (t .b)) (L .size) ∙ c)
 
 -- ---- the records in use, one after the other

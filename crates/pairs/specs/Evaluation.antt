@@ -81,7 +81,12 @@ abbrev pub takenOne : Operation → Stack → Taken
 takenOne k S = record { term = record { operation = k; first = nothing; second = onTop S }; start = S .end - onTop S .size; below = S .count - 1 }
 
 abbrev pub takenTwo : Operation → Stack → Taken
-takenTwo k S = record { term = record { operation = k; first = belowTop S; second = onTop S }; start = S .end - onTop S .size - belowTop S .size; below = S .count - 1 - 1 }
+takenTwo k S =
+    record {
+      term = record { operation = k; first = belowTop S; second = onTop S };
+      start = S .end - onTop S .size - belowTop S .size;
+      below = S .count - 1 - 1;
+    }
 
 unfoldable pub usedBelow : ℕ → List ℕ → ℕ → ℕ
 usedBelow n ms x = bit (ltb x n && not (hasMark withdrawnMark ms x))

@@ -124,7 +124,8 @@ insert-in x (y ∷ ys) = elim (ltb y x) as (λ (t : Bool). In x (pick t (y ∷ i
 pub insert-keeps : (x : ℕ) {v : ℕ} {l : List ℕ} → In v l → In v (insert x l)
 unfolding insert
 insert-keeps x {v} (here {l = l}) = elim (ltb v x) as (λ (t : Bool). In v (pick t (v ∷ insert x l) (x ∷ v ∷ l))) [ true ↦ here | false ↦ there here ]
-insert-keeps x {v} (there {v = y} {l = l} h) = elim (ltb y x) as (λ (t : Bool). In v (pick t (y ∷ insert x l) (x ∷ y ∷ l))) [ true ↦ there (insert-keeps x h) | false ↦ there (there h) ]
+insert-keeps x {v} (there {v = y} {l = l} h) =
+    elim (ltb y x) as (λ (t : Bool). In v (pick t (y ∷ insert x l) (x ∷ y ∷ l))) [ true ↦ there (insert-keeps x h) | false ↦ there (there h) ]
 
 pub in-insert : {v : ℕ} (x : ℕ) (l : List ℕ) → In v (insert x l) → (v ≡ x) ⊎ In v l
 unfolding insert
@@ -140,7 +141,8 @@ unfolding insert has
 rises-insert x ended h e = rises h ended
 rises-insert {m} x (rises {w = y} {l = ys} g r) h e = go (ltb y x) refl (eqb y x) refl e (λ (q : suc y ≤ x). rises-insert x r q)
   where
-    go : (t : Bool) → ltb y x ≡ t → (u : Bool) → eqb y x ≡ u → (u || has eqb x ys) ≡ false → (suc y ≤ x → has eqb x ys ≡ false → Rises (suc y) (insert x ys)) → Rises m (pick t (y ∷ insert x ys) (x ∷ y ∷ ys))
+    go : (t : Bool) → ltb y x ≡ t → (u : Bool) → eqb y x ≡ u → (u || has eqb x ys) ≡ false
+        → (suc y ≤ x → has eqb x ys ≡ false → Rises (suc y) (insert x ys)) → Rises m (pick t (y ∷ insert x ys) (x ∷ y ∷ ys))
     go t q true f e ih = absurd (true≢false e)
     go true q false f e ih = rises g (ih (ltb-true y x q) e)
     go false q false f e ih = let k : suc x ≤ y = omega (arith, ltb-false y x q, eqb-false y x f) in rises h (rises k r)
@@ -175,7 +177,8 @@ unfolding has without
 length-out x [] r e = absurd (false≢true e)
 length-out x (y ∷ ys) (rises h r) e = go (eqb y x) refl e (length-out x ys r)
   where
-    go : (t : Bool) → eqb y x ≡ t → (t || has eqb x ys) ≡ true → (has eqb x ys ≡ true → suc (length (without eqb x ys)) ≡ length ys) → suc (length (pick t (without eqb x ys) (y ∷ without eqb x ys))) ≡ suc (length ys)
+    go : (t : Bool) → eqb y x ≡ t → (t || has eqb x ys) ≡ true → (has eqb x ys ≡ true → suc (length (without eqb x ys)) ≡ length ys)
+        → suc (length (pick t (without eqb x ys) (y ∷ without eqb x ys))) ≡ suc (length ys)
     go true q e ih = ap (λ (l : List ℕ). suc (length l)) (without-absent eqb-test x ys (rises-absent x r (omega (arith, eqb-true y x q))))
     go false q e ih = ap suc (ih e)
 
@@ -185,7 +188,8 @@ unfolding without insert
 without-insert x [] = rw (eq-eqb x x refl)
 without-insert x (y ∷ ys) = go (ltb y x) (without-insert x ys)
   where
-    go : (t : Bool) → without eqb x (insert x ys) ≡ without eqb x ys → without eqb x (pick t (y ∷ insert x ys) (x ∷ y ∷ ys)) ≡ pick (eqb y x) (without eqb x ys) (y ∷ without eqb x ys)
+    go : (t : Bool) → without eqb x (insert x ys) ≡ without eqb x ys
+        → without eqb x (pick t (y ∷ insert x ys) (x ∷ y ∷ ys)) ≡ pick (eqb y x) (without eqb x ys) (y ∷ without eqb x ys)
     go true ih = rw ih
     go false ih = rw (eq-eqb x x refl)
 
@@ -199,7 +203,8 @@ unfolding insert without has
 insert-without x [] r e = absurd (false≢true e)
 insert-without x (y ∷ ys) (rises h r) e = go (eqb y x) refl e (insert-without x ys r)
   where
-    go : (t : Bool) → eqb y x ≡ t → (t || has eqb x ys) ≡ true → (has eqb x ys ≡ true → insert x (without eqb x ys) ≡ ys) → insert x (pick t (without eqb x ys) (y ∷ without eqb x ys)) ≡ y ∷ ys
+    go : (t : Bool) → eqb y x ≡ t → (t || has eqb x ys) ≡ true → (has eqb x ys ≡ true → insert x (without eqb x ys) ≡ ys)
+        → insert x (pick t (without eqb x ys) (y ∷ without eqb x ys)) ≡ y ∷ ys
     go true q e ih =
         let z : y ≡ x = eqb-true y x q in
         rw (without-absent eqb-test x ys (rises-absent x r (omega arith))) (insert-front x r (omega arith) ∙ ap (λ (v : ℕ). v ∷ ys) (sym z))

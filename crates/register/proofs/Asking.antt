@@ -81,15 +81,18 @@ take-in {w} b (rises {w = y} {l = ys} g r) h p = go (ltb y b) refl (take-in b r)
     go true e ih = ⊎-elim (λ q. subst (λ (v : ℕ). In w (v ∷ take (below b ys) ys)) q here) (λ i. there (ih i p)) (in-front h refl)
     go false e ih = ⊎-elim (λ q. absurd (omega (arith, ltb-false y b e))) (λ i. absurd (omega (arith, ltb-false y b e, rises-least r i))) (in-front h refl)
 
-rises-pairs : {m : ℕ} (label : ℕ) {l : List ℕ} → Rises m l → label * 1048576 ≤ m → ((w : ℕ) → In w l → w < label * 1048576 + 1048576) → Rises (m - label * 1048576) (map pairOf l)
+rises-pairs : {m : ℕ} (label : ℕ) {l : List ℕ} → Rises m l → label * 1048576 ≤ m
+    → ((w : ℕ) → In w l → w < label * 1048576 + 1048576) → Rises (m - label * 1048576) (map pairOf l)
 rises-pairs label ended h f = ended
 rises-pairs {m} label (rises {w = w} {l = l} g r) h f =
     let p = f w here in
     let q : w % 1048576 ≡ w - label * 1048576 = omega arith in
     let t : suc w - label * 1048576 ≡ suc (w % 1048576) = omega arith in
-    rises {m = m - label * 1048576} {w = w % 1048576} (omega arith) (subst (λ (v : ℕ). Rises v (map pairOf l)) t (rises-pairs label r (omega arith) (λ v i. f v (there i))))
+    rises {m = m - label * 1048576} {w = w % 1048576} (omega arith)
+    (subst (λ (v : ℕ). Rises v (map pairOf l)) t (rises-pairs label r (omega arith) (λ v i. f v (there i))))
 
-module _ (ws : List ℕ) (label i k : ℕ) (first : Seam (label * 1048576) ws (length ws) i) (second : Seam (label * 1048576 + 1048576) (drop i ws) (length (drop i ws)) k)
+module _ (ws : List ℕ) (label i k : ℕ) (first : Seam (label * 1048576) ws (length ws) i)
+    (second : Seam (label * 1048576 + 1048576) (drop i ws) (length (drop i ws)) k)
     {n : ℕ} (small : n ≤ maxRecords) {s : Sheet} (fit : Fit n s) (linked : Linked ws s) where
   rest-rises : Rises (label * 1048576) (drop i ws)
   rest-rises = rw (seam-list (label * 1048576) ws i (linked .ascending) first) (rises-drop (label * 1048576) (linked .ascending))
@@ -126,7 +129,8 @@ module _ (ws : List ℕ) (label i k : ℕ) (first : Seam (label * 1048576) ws (l
         subst (λ (u : ℕ). In u (map pairOf (take k (drop i ws)))) v (map-in pairOf (part-in (linked .whole _ e) (omega arith) (omega (arith, p .from, p .to))));
   }
 
-pub label-part : (ws rest : List ℕ) (label i k : ℕ) → rest ≡ drop i ws → Seam (label * 1048576) ws (length ws) i → Seam (label * 1048576 + 1048576) rest (length rest) k →
+pub label-part : (ws rest : List ℕ) (label i k : ℕ) → rest ≡ drop i ws
+    → Seam (label * 1048576) ws (length ws) i → Seam (label * 1048576 + 1048576) rest (length rest) k →
     LabelPart ws label (take k rest)
 label-part ws rest label i k e first second = rw e (record {
   inside = (i, k, refl);
@@ -147,7 +151,8 @@ unfolding firstPlace
 first-found test [] h = absurd (omega arith)
 first-found test (w ∷ ws) h = go (test w) refl h (first-found test ws)
   where
-    go : (t : Bool) → test w ≡ t → pick t 0 (suc (firstPlace test ws)) < suc (length ws) → (firstPlace test ws < length ws → test (getD ws (firstPlace test ws) 0) ≡ true) → test (getD (w ∷ ws) (pick t 0 (suc (firstPlace test ws))) 0) ≡ true
+    go : (t : Bool) → test w ≡ t → pick t 0 (suc (firstPlace test ws)) < suc (length ws)
+        → (firstPlace test ws < length ws → test (getD ws (firstPlace test ws) 0) ≡ true) → test (getD (w ∷ ws) (pick t 0 (suc (firstPlace test ws))) 0) ≡ true
     go true e h ih = e
     go false e h ih = ih (omega arith)
 
@@ -222,7 +227,8 @@ module _ (ws : List ℕ) (r : ℕ) where
           let w = getD ws (a .0) 0 in
           let k : o .0 ≡ linkOf w = q .2 ∙ ap linkOf (sym (a .2)) in
           ⊎-elim
-          (λ p. absurd (true≢false (sym (eq-eqb (w / 1024 % 1024) r (sym (ap (λ (l : Link). l .from) k) ∙ p)) ∙ next-passed (hasAt 1024 r) ws 0 (a .0) (omega arith) (omega (arith, a .1)))))
+          (λ p. absurd (true≢false (sym (eq-eqb (w / 1024 % 1024) r (sym (ap (λ (l : Link). l .from) k) ∙ p))
+          ∙ next-passed (hasAt 1024 r) ws 0 (a .0) (omega arith) (omega (arith, a .1)))))
           (λ p.
           let y : w % 1024 ≡ r = sym (ap (λ (l : Link). l .to) k) ∙ p in
           let z : w / 1 % 1024 ≡ r = omega (arith, y) in

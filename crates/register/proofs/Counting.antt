@@ -41,7 +41,8 @@ pub word-total-insert : (l x : ℕ) (ws : List ℕ) → wordTotal l (insert x ws
 unfolding wordTotal
 word-total-insert l x ws = tally-insert (λ w. eqb (w / labelUnit) l) x ws
 
-pub word-total-without : {m : ℕ} (l x : ℕ) (ws : List ℕ) → Rises m ws → has eqb x ws ≡ true → wordTotal l ws ≡ bit (eqb (x / labelUnit) l) + wordTotal l (without eqb x ws)
+pub word-total-without : {m : ℕ} (l x : ℕ) (ws : List ℕ) → Rises m ws → has eqb x ws ≡ true
+    → wordTotal l ws ≡ bit (eqb (x / labelUnit) l) + wordTotal l (without eqb x ws)
 unfolding wordTotal
 word-total-without l x ws r e = tally-without (λ w. eqb (w / labelUnit) l) eqb-test x ws (rises-distinct r) e
 
@@ -71,7 +72,8 @@ pub raised-set : (l : ℕ) (ts : List ℕ) → l < length ts → Raised l ts (se
 raised-set l ts h = raised (λ _ _. getD-set-same ts l (getD ts l 0 + 1) 0 h ∙ omega arith) (λ j z. getD-set-other ts l j (getD ts l 0 + 1) 0 z)
 
 pub lowered-set : (l : ℕ) (ts : List ℕ) → l < length ts → 1 ≤ getD ts l 0 → Lowered l ts (set ts l (getD ts l 0 - 1))
-lowered-set l ts h k = lowered (λ _ _. let e = getD-set-same ts l (getD ts l 0 - 1) 0 h in omega (arith, e)) (λ j z. getD-set-other ts l j (getD ts l 0 - 1) 0 z)
+lowered-set l ts h k =
+    lowered (λ _ _. let e = getD-set-same ts l (getD ts l 0 - 1) 0 h in omega (arith, e)) (λ j z. getD-set-other ts l j (getD ts l 0 - 1) 0 z)
 
 -- ---- the totals of a register
 abbrev TotalsOf : List ℕ → List ℕ → Type 0
@@ -79,9 +81,11 @@ TotalsOf ts ws = (l : ℕ) → l < labels → getD ts l 0 ≡ wordTotal l ws
 
 pub raised-counted : (x : ℕ) (ts us ws vs : List ℕ) → length ws < maxLinks → vs ≡ insert x ws → Raised (x / labelUnit) ts us → TotalsOf ts ws → TotalsOf us vs
 raised-counted x ts us ws vs n e r k l h =
-    r .more l h (omega (arith, k l h, word-total-le l ws)) ∙ ap (λ (t : ℕ). bit (eqb (x / labelUnit) l) + t) (k l h) ∙ sym (ap (wordTotal l) e ∙ word-total-insert l x ws)
+    r .more l h (omega (arith, k l h, word-total-le l ws)) ∙ ap (λ (t : ℕ). bit (eqb (x / labelUnit) l) + t) (k l h)
+    ∙ sym (ap (wordTotal l) e ∙ word-total-insert l x ws)
 
-pub lowered-counted : (x : ℕ) (ts us ws vs : List ℕ) → Rises 0 ws → has eqb x ws ≡ true → vs ≡ without eqb x ws → Lowered (x / labelUnit) ts us → TotalsOf ts ws → TotalsOf us vs
+pub lowered-counted : (x : ℕ) (ts us ws vs : List ℕ) → Rises 0 ws → has eqb x ws ≡ true
+    → vs ≡ without eqb x ws → Lowered (x / labelUnit) ts us → TotalsOf ts ws → TotalsOf us vs
 lowered-counted x ts us ws vs a i e r k l h =
     let w = word-total-without l x ws a i in
     let v : wordTotal l vs ≡ wordTotal l (without eqb x ws) = ap (wordTotal l) e in

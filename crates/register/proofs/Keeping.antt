@@ -36,7 +36,8 @@ pub tested : {P : Type 0} → P → Tested P true
 tested p = record { sure = λ _. p; none = λ e. absurd (true≢false e) }
 
 -- ---- copy
-pub copied-all : (xs : List ℕ) (at : ℕ) (before after : List ℕ) → at + length xs ≤ length before → after ≡ paste before at xs (length xs) → Copies xs at before after true
+pub copied-all : (xs : List ℕ) (at : ℕ) (before after : List ℕ) → at + length xs ≤ length before
+    → after ≡ paste before at xs (length xs) → Copies xs at before after true
 copied-all xs at before after h e = record {
   fits = λ _. (refl, e ∙ ap (λ (t : List ℕ). take at before ++ t ++ drop (at + length xs) before) (take-length xs));
   short = λ l. absurd (omega arith);
@@ -44,7 +45,8 @@ copied-all xs at before after h e = record {
 
 pub copied-more : (xs : List ℕ) (at : ℕ) (before now : List ℕ) (i : ℕ) → now ≡ paste before at xs i → i < length xs → at + i < length before
     → set now (at + i) (getD xs i 0) ≡ paste before at xs (i + 1)
-copied-more xs at before now i e l h = ap (λ (t : List ℕ). set t (at + i) (getD xs i 0)) e ∙ paste-suc before at xs i 0 h l ∙ ap (paste before at xs) (sym (add-one i))
+copied-more xs at before now i e l h =
+    ap (λ (t : List ℕ). set t (at + i) (getD xs i 0)) e ∙ paste-suc before at xs i 0 h l ∙ ap (paste before at xs) (sym (add-one i))
 
 pub copied-none : (xs : List ℕ) (at : ℕ) (before : List ℕ) → length before < at + length xs → Copies xs at before before false
 copied-none xs at before h = record { fits = λ l. absurd (omega arith); short = λ _. (refl, refl) }
@@ -114,8 +116,10 @@ stored r w₀ w₁ w₂ w₃ w₄ w₅ g v ls rs ks ts l₀ l₁ l₂ l₃ l₄ 
     let f₂ : length (numbersOf r ++ r .links) ≡ ringAt = length-append (numbersOf r) (r .links) ∙ omega (arith, ls) in
     let e₂ : take ringAt w₂ ≡ numbersOf r ++ r .links = behind (numbersOf r) (r .links) w₁ w₂ linksAt ringAt e₁ refl (omega (arith, ls)) b in
     let f₃ : length (numbersOf r ++ r .links ++ r .ring) ≡ marksAt = length-append (numbersOf r ++ r .links) (r .ring) ∙ omega (arith, f₂, rs) in
-    let e₃ : take marksAt w₃ ≡ numbersOf r ++ r .links ++ r .ring = behind (numbersOf r ++ r .links) (r .ring) w₂ w₃ ringAt marksAt e₂ f₂ (omega (arith, rs)) c in
-    let f₄ : length (numbersOf r ++ r .links ++ r .ring ++ r .marks) ≡ totalsAt = length-append (numbersOf r ++ r .links ++ r .ring) (r .marks) ∙ omega (arith, f₃, ks) in
+    let e₃ : take marksAt w₃ ≡ numbersOf r ++ r .links ++ r .ring =
+    behind (numbersOf r ++ r .links) (r .ring) w₂ w₃ ringAt marksAt e₂ f₂ (omega (arith, rs)) c in
+    let f₄ : length (numbersOf r ++ r .links ++ r .ring ++ r .marks) ≡ totalsAt =
+    length-append (numbersOf r ++ r .links ++ r .ring) (r .marks) ∙ omega (arith, f₃, ks) in
     let e₄ : take totalsAt w₄ ≡ numbersOf r ++ r .links ++ r .ring ++ r .marks =
     behind (numbersOf r ++ r .links ++ r .ring) (r .marks) w₃ w₄ marksAt totalsAt e₃ f₃ (omega (arith, ks)) d in
     let e₅ : take stateWords w₅ ≡ stateOf r =
@@ -126,7 +130,10 @@ stored r w₀ w₁ w₂ w₃ w₄ w₅ g v ls rs ks ts l₀ l₁ l₂ l₃ l₄ 
     ∙ past (r .ring) w₂ w₃ ringAt stateWords (omega (arith, rs)) l₂ c
     ∙ past (r .links) w₁ w₂ linksAt stateWords (omega (arith, ls)) l₁ b
     ∙ past (numbersOf r) w₀ w₁ 0 stateWords (omega arith) l₀ a in
-    record { done = λ _. (record { ranged = g; links = ls; ring = rs; marks = ks; marked = v; totals = ts; words = e₅ }, rest); refused = λ e. absurd (true≢false e) }
+    record {
+      done = λ _. (record { ranged = g; links = ls; ring = rs; marks = ks; marked = v; totals = ts; words = e₅ }, rest);
+      refused = λ e. absurd (true≢false e);
+    }
 
 pub store-refused : (r : Register) (ws : List ℕ) → (stateWords ≤ length ws → InRange r → Marked (r .marks) → ⊥) → Stores r ws ws false
 store-refused r ws f = record { done = λ e. absurd (false≢true e); refused = λ _. (refl, f) }

@@ -30,7 +30,8 @@ use lib.Seq.{getD-set-same, getD-set-other, take-suc, drop-cons, take-at, drop-a
 use borrow.Author.Tests.{eqb-true, eq-eqb, ne-eqb, lt-ltb, le-ltb}
 use Rattle.book.specs.Basics.{pick, In, has, Rises, over}
 use Rattle.book.specs.Causes.{none-in-use, short-list, number, Caused, firstNumber, maxRecords}
-use Rattle.book.specs.Book.{Link, Sheet, Book, close, present, isLocked, used, rank, renamedLink, closedSheet, closeCauses, closeAnswer, closed, noNumber, newNumbers, closeGiven, answer, next, given}
+use Rattle.book.specs.Book.{Link, Sheet, Book, close, present, isLocked, used, rank, renamedLink, closedSheet, closeCauses, closeAnswer, closed, noNumber}
+use Rattle.book.specs.Book.{newNumbers, closeGiven, answer, next, given}
 use Rattle.book.specs.ListLaws.{map-in, length-map, in-map, rises-map}
 use Rattle.book.specs.TotalLaws.{tally-map}
 use Rattle.book.specs.SetLaws.{eqb-test, sameLink-test, has-map, map-has}
@@ -75,7 +76,8 @@ pub ranked-small : (ms rs : List ℕ) → maxRecords ≤ length rs → Ranked ms
 ranked-small ms rs l f = record { long = l; below = λ x h. omega (arith, f x (omega arith), rank-le (inUse ms) x) }
 
 -- ---- the list of new numbers
-pub told-more : (ms old now : List ℕ) (i a : ℕ) → now ≡ newNumbers (inUse ms) i ++ drop i old → i < length old → a ≡ pick (inUse ms i) (rank (inUse ms) i) noNumber
+pub told-more : (ms old now : List ℕ) (i a : ℕ) → now ≡ newNumbers (inUse ms) i ++ drop i old
+    → i < length old → a ≡ pick (inUse ms i) (rank (inUse ms) i) noNumber
     → set now i a ≡ newNumbers (inUse ms) (i + 1) ++ drop (i + 1) old
 unfolding newNumbers
 told-more ms old now i a e h n =
@@ -97,8 +99,10 @@ pub renamed-more : (f : ℕ → ℕ) (old now : List ℕ) (i : ℕ) → now ≡ 
 renamed-more f old now i e h =
     let l : length (map f (take i old)) ≡ i = length-map f (take i old) ∙ length-take-le i old (omega arith) in
     let a : getD now i 0 ≡ getD old i 0 =
-    ap (λ (k : List ℕ). getD k i 0) (e ∙ ap (λ (k : List ℕ). map f (take i old) ++ k) (drop-cons old i 0 h)) ∙ getD-at (map f (take i old)) (getD old i 0) (drop (suc i) old) 0 i l in
-    let m : map f (take (suc i) old) ≡ map f (take i old) ++ (f (getD old i 0) ∷ []) = ap (map f) (take-suc old i 0 h) ∙ map-append f (take i old) (getD old i 0 ∷ []) in
+    ap (λ (k : List ℕ). getD k i 0) (e ∙ ap (λ (k : List ℕ). map f (take i old) ++ k) (drop-cons old i 0 h))
+    ∙ getD-at (map f (take i old)) (getD old i 0) (drop (suc i) old) 0 i l in
+    let m : map f (take (suc i) old) ≡ map f (take i old) ++ (f (getD old i 0) ∷ []) =
+    ap (map f) (take-suc old i 0 h) ∙ map-append f (take i old) (getD old i 0 ∷ []) in
     ap₂ (λ (k : List ℕ) (w : ℕ). set k i (f w)) e a
     ∙ set-next (map f (take i old)) old i (f (getD old i 0)) l h
     ∙ ap (λ (k : List ℕ). k ++ drop (suc i) old) (sym m)
@@ -109,11 +113,13 @@ map-same f g h [] = refl
 map-same f g h (x ∷ l) = ap₂ (λ (w : ℕ) (k : List ℕ). w ∷ k) (h x) (map-same f g h l)
 
 -- the words renamed by the ranks that were counted
-pub links-closed : (ms rs old new : List ℕ) (count : ℕ) → Ranked ms rs → count ≤ length old → new ≡ map (renamedWord (newOf rs)) (take count old) ++ drop count old
+pub links-closed : (ms rs old new : List ℕ) (count : ℕ) → Ranked ms rs → count ≤ length old
+    → new ≡ map (renamedWord (newOf rs)) (take count old) ++ drop count old
     → take count new ≡ map (renamedWord (rank (inUse ms))) (take count old)
 links-closed ms rs old new count r h e =
     ap (take count) e
-    ∙ take-at (map (renamedWord (newOf rs)) (take count old)) (drop count old) count (length-map (renamedWord (newOf rs)) (take count old) ∙ length-take-le count old h)
+    ∙ take-at (map (renamedWord (newOf rs)) (take count old)) (drop count old) count
+    (length-map (renamedWord (newOf rs)) (take count old) ∙ length-take-le count old h)
     ∙ map-same (renamedWord (newOf rs)) (renamedWord (rank (inUse ms)))
     (λ w. ap₂ (λ (x y : ℕ). (w / 1048576 * 1024 + x) * 1024 + y) (r (w / 1024 % 1024) (omega arith)) (r (w % 1024) (omega arith)))
     (take count old)
@@ -148,7 +154,8 @@ moved-other ms rs os i m z = record {
     go x h e (yes l) = m .all x l e
     go x h e (no l) = let q : x ≡ i = omega arith in absurd (z (ap (λ (j : ℕ). getD ms j freeMark) (sym q) ∙ e))
 
-pub moved-lock : (ms rs os : List ℕ) (i : ℕ) → Moved ms rs i os → getD ms i freeMark ≡ lockMark → newOf rs i < length os → Moved ms rs (i + 1) (set os (newOf rs i) lockMark)
+pub moved-lock : (ms rs os : List ℕ) (i : ℕ) → Moved ms rs i os → getD ms i freeMark ≡ lockMark
+    → newOf rs i < length os → Moved ms rs (i + 1) (set os (newOf rs i) lockMark)
 moved-lock ms rs os i m z s = record {
   all = λ x h e. go x h e (decLt x i);
   from = λ y. there′ y (eqb y (newOf rs i)) refl;
@@ -310,7 +317,8 @@ module _ {self : Register} {b : Book} (h : Represents self b) {r : Register} (c 
           let d′ : m .to < 1024 = omega (arith, g .to) in
           let used-k = link-used (b .n) (b .sheet) (h .sheet .fit) k p in
           let o = renamed-less (k .label) (m .label) (k .from) (m .from) (k .to) (m .to) (rank u (k .from)) (rank u (m .from)) (rank u (k .to)) (rank u (m .to))
-          c′ a′ d′ (omega (arith, rank-le u (k .from))) (omega (arith, rank-le u (m .from))) (omega (arith, rank-le u (k .to))) (omega (arith, rank-le u (m .to)))
+          c′ a′ d′ (omega (arith, rank-le u (k .from))) (omega (arith, rank-le u (m .from)))
+          (omega (arith, rank-le u (k .to))) (omega (arith, rank-le u (m .to)))
           (omega (arith, e, d)) (rank-less u (k .from) (m .from) (used-k .0)) (ap (rank u)) (rank-less u (k .to) (m .to) (used-k .1)) a in
           let x : renamedWord (rank v) w ≡ linkWord (renamedLink (rank u) k) = word-renamed w i in
           let z : renamedWord (rank v) y ≡ linkWord (renamedLink (rank u) m) = word-renamed y j in
@@ -378,7 +386,8 @@ module _ {self : Register} {b : Book} (h : Represents self b) {r : Register} (c 
       unlocked p true q =
           let m = map-has eqb-test (rank u) y (b .sheet .locks) q in
           let l : m .0 < self .n = omega (arith, h .sheet .fit .locks (m .0) (m .1), h .size) in
-          let e : getD (self .marks) (m .0) freeMark ≡ lockMark = eqb-true (getD (self .marks) (m .0) freeMark) lockMark (shows-locked (h .sheet) (m .0) ∙ m .1) in
+          let e : getD (self .marks) (m .0) freeMark ≡ lockMark =
+          eqb-true (getD (self .marks) (m .0) freeMark) lockMark (shows-locked (h .sheet) (m .0) ∙ m .1) in
           let a : getD (r .marks) (newOf rs (m .0)) freeMark ≡ lockMark = c .marks .2 .all (m .0) l e in
           let z : newOf rs (m .0) ≡ y = new-is (m .0) l ∙ m .2 in
           let d : getD (r .marks) y freeMark ≡ lockMark = ap (λ (j : ℕ). getD (r .marks) j freeMark) (sym z) ∙ a in
@@ -439,7 +448,8 @@ module _ (self r : Register) (old new : List ℕ) (inside : InRange self) (some 
     refused = λ x. absurd (x refl);
     past =
         ap (drop (self .n)) told
-        ∙ drop-at (newNumbers (inUse (self .marks)) (self .n)) (drop (length (newNumbers (inUse (self .marks)) (self .n))) old) (self .n) (length-numbers (inUse (self .marks)) (self .n))
+        ∙ drop-at (newNumbers (inUse (self .marks)) (self .n)) (drop (length (newNumbers (inUse (self .marks)) (self .n))) old)
+        (self .n) (length-numbers (inUse (self .marks)) (self .n))
         ∙ ap (λ (k : ℕ). drop k old) (length-numbers (inUse (self .marks)) (self .n));
     formed = λ _. (closed-ranged self r inside c, marks-right);
     given = λ b h. told ∙ ap (λ (g : List ℕ). over g old) (sym (given-told b h));

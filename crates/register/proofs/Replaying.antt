@@ -28,8 +28,10 @@ use Rattle.book.specs.Basics.{pick, tally}
 use Rattle.book.specs.Causes.{unknown-kind, number, firstNumber, maxRecords}
 use Rattle.book.specs.Book.{Book, add, remove, lock, unlock, withdraw, reinstate, Call, edit, undo, freshAnswer, fresh, after, givens}
 use Rattle.book.specs.Sheets.{Sound}
-use Rattle.register.specs.History.{addKind, removeKind, lockKind, unlockKind, undoKind, withdrawKind, reinstateKind, Entry, is-call, no-call, kindCall, wordCall}
-use Rattle.register.specs.History.{entryNumber, entryNext, entryCalls, wordAnswers, callsOf, isClose, closings, roomMost, EntryCloses, EntrySteps, laid, replayNumber, Replays}
+use Rattle.register.specs.History.{addKind, removeKind, lockKind, unlockKind, undoKind, withdrawKind, reinstateKind, Entry, is-call, no-call, kindCall}
+use Rattle.register.specs.History.{wordCall}
+use Rattle.register.specs.History.{entryNumber, entryNext, entryCalls, wordAnswers, callsOf, isClose, closings, roomMost, EntryCloses, EntrySteps, laid}
+use Rattle.register.specs.History.{replayNumber, Replays}
 use Rattle.register.specs.LaidLaws.{givens-append, length-givens, givens-short, laid-past, laid-append}
 use Rattle.register.specs.Representation.{Represents}
 use Rattle.register.specs.Calls.{callOf, answerOf, Steps, Closes}
@@ -88,7 +90,15 @@ pub kind-none : (k f l t : ℕ) → (k ≡ addKind → ⊥) → (k ≡ removeKin
     → kindCall k f l t ≡ no-call
 unfolding kindCall
 kind-none k f l t a b c d e g h =
-    rw (ne-eqb k addKind a, ne-eqb k removeKind b, ne-eqb k lockKind c, ne-eqb k unlockKind d, ne-eqb k undoKind e, ne-eqb k withdrawKind g, ne-eqb k reinstateKind h)
+    rw (
+      ne-eqb k addKind a,
+      ne-eqb k removeKind b,
+      ne-eqb k lockKind c,
+      ne-eqb k unlockKind d,
+      ne-eqb k undoKind e,
+      ne-eqb k withdrawKind g,
+      ne-eqb k reinstateKind h,
+    )
 
 -- ---- entries that are no closing up: the list is as it was
 pub called : (self : Register) (c : Code·Call) {e : Entry} (l : List ℕ) (out : Outcome) → is-call (callOf c) ≡ e → Steps self (callOf c) out
@@ -108,7 +118,8 @@ called self c l out q s = subst (λ (x : Entry). EntrySteps self x (record { bef
 pub uncalled : (self : Register) {e : Entry} (l : List ℕ) → no-call ≡ e
     → EntrySteps self e (record { before = l; after = l }) (record { register = self; answer = answerOf (number unknown-kind) })
 uncalled self l q =
-    subst (λ (x : Entry). EntrySteps self x (record { before = l; after = l }) (record { register = self; answer = answerOf (number unknown-kind) })) q (refl, refl, refl)
+    subst (λ (x : Entry). EntrySteps self x (record { before = l; after = l }) (record { register = self; answer = answerOf (number unknown-kind) }))
+    q (refl, refl, refl)
 
 -- ---- one word more
 pub set-next : (told old : List ℕ) (i a : ℕ) → length told ≡ i → i < length old → set (told ++ drop i old) i a ≡ (told ++ (a ∷ [])) ++ drop (suc i) old
@@ -136,7 +147,8 @@ module _ (b : Book) (ws : List ℕ) (i : ℕ) (h : i < length ws) where
   told-turn old a k e =
       let l : length (wordAnswers b (take i ws)) ≡ i = word-answers-length b (take i ws) ∙ length-take-le i ws (omega arith) in
       let m : wordAnswers b (take (i + 1) ws) ≡ wordAnswers b (take i ws) ++ (a ∷ []) =
-      ap (wordAnswers b) (one-more ws i h) ∙ word-answers-append b (take i ws) (getD ws i 0 ∷ []) ∙ ap (λ (x : ℕ). wordAnswers b (take i ws) ++ (x ∷ [])) (sym e) in
+      ap (wordAnswers b) (one-more ws i h) ∙ word-answers-append b (take i ws) (getD ws i 0 ∷ [])
+      ∙ ap (λ (x : ℕ). wordAnswers b (take i ws) ++ (x ∷ [])) (sym e) in
       rw (m, add-one) (set-next (wordAnswers b (take i ws)) old i a l k)
 
   -- the lists after one word more
@@ -190,11 +202,13 @@ closings-turn ws i h =
 pub closings-part : (ws : List ℕ) (i : ℕ) → closings (callsOf (take i ws)) ≤ closings (callsOf ws)
 closings-part ws i =
     let e : closings (callsOf ws) ≡ closings (callsOf (take i ws)) + closings (callsOf (drop i ws)) =
-    ap (λ (l : List ℕ). closings (callsOf l)) (sym (take-append-drop i ws)) ∙ ap closings (calls-append (take i ws) (drop i ws)) ∙ tally-append (callsOf (take i ws)) (callsOf (drop i ws)) in
+    ap (λ (l : List ℕ). closings (callsOf l)) (sym (take-append-drop i ws))
+    ∙ ap closings (calls-append (take i ws) (drop i ws)) ∙ tally-append (callsOf (take i ws)) (callsOf (drop i ws)) in
     omega arith
 
 -- the words that a closing up uses
-pub roomed : (room length k : ℕ) (t : Bool) → ltb maxRecords room ≡ t → k ≤ length → k ≤ pick t maxRecords room → (k < pick t maxRecords room → k ≡ length) → Roomed room length k
+pub roomed : (room length k : ℕ) (t : Bool) → ltb maxRecords room ≡ t → k ≤ length
+    → k ≤ pick t maxRecords room → (k < pick t maxRecords room → k ≡ length) → Roomed room length k
 roomed room length k t e p q r = record {
   within = p;
   most = subst (λ (u : Bool). k ≤ pick u maxRecords room) (sym e) q;
@@ -202,34 +216,42 @@ roomed room length k t e p q r = record {
 }
 
 -- a closing up with the words that it uses, and the rest behind them
-pub entry-closes : (self : Register) (room k : ℕ) (before last : List ℕ) (out : Outcome) → Roomed room (length before) k → length last ≡ k → Closes self (take k before) last out
+pub entry-closes : (self : Register) (room k : ℕ) (before last : List ℕ) (out : Outcome)
+    → Roomed room (length before) k → length last ≡ k → Closes self (take k before) last out
     → EntryCloses self (roomMost room) (record { before = before; after = last ++ drop k before }) out
 entry-closes self room k before last out r l c = record {
-  closes = subst (λ (x : List ℕ). Closes self x (take (roomMost room) (last ++ drop k before)) out) (sym (lent .0)) (subst (λ (y : List ℕ). Closes self (take k before) y out) (sym (lent .1)) c);
+  closes =
+      subst (λ (x : List ℕ). Closes self x (take (roomMost room) (last ++ drop k before)) out)
+      (sym (lent .0)) (subst (λ (y : List ℕ). Closes self (take k before) y out) (sym (lent .1)) c);
   past = lent .2;
 }
   where
-    whole : k ≡ length before → k ≤ roomMost room → (take (roomMost room) before ≡ take k before) × (take (roomMost room) (last ++ drop k before) ≡ last) × (drop (roomMost room) (last ++ drop k before) ≡ drop (roomMost room) before)
+    whole : k ≡ length before → k ≤ roomMost room → (take (roomMost room) before ≡ take k before)
+        × (take (roomMost room) (last ++ drop k before) ≡ last) × (drop (roomMost room) (last ++ drop k before) ≡ drop (roomMost room) before)
     whole e m =
         let none : drop k before ≡ [] = drop-of-length-le before {i = k} (omega arith) in
         let same : last ++ drop k before ≡ last = ap (λ (x : List ℕ). last ++ x) none ∙ append-nil last in (
           take-all (roomMost room) before (omega arith) ∙ sym (take-all k before (omega arith)),
           ap (take (roomMost room)) same ∙ take-all (roomMost room) last (omega arith),
-          ap (drop (roomMost room)) same ∙ drop-of-length-le last {i = roomMost room} (omega arith) ∙ sym (drop-of-length-le before {i = roomMost room} (omega arith)),
+          ap (drop (roomMost room)) same ∙ drop-of-length-le last {i = roomMost room} (omega arith)
+              ∙ sym (drop-of-length-le before {i = roomMost room} (omega arith)),
         )
 
-    exact : k ≡ roomMost room → (take (roomMost room) before ≡ take k before) × (take (roomMost room) (last ++ drop k before) ≡ last) × (drop (roomMost room) (last ++ drop k before) ≡ drop (roomMost room) before)
+    exact : k ≡ roomMost room → (take (roomMost room) before ≡ take k before) × (take (roomMost room) (last ++ drop k before) ≡ last)
+        × (drop (roomMost room) (last ++ drop k before) ≡ drop (roomMost room) before)
     exact e = (
       ap (λ (i : ℕ). take i before) (sym e),
       ap (λ (i : ℕ). take i (last ++ drop k before)) (sym e) ∙ take-at last (drop k before) k l,
       ap (λ (i : ℕ). drop i (last ++ drop k before)) (sym e) ∙ drop-at last (drop k before) k l ∙ ap (λ (i : ℕ). drop i before) e,
     )
 
-    go : Dec (k < roomMost room) → (take (roomMost room) before ≡ take k before) × (take (roomMost room) (last ++ drop k before) ≡ last) × (drop (roomMost room) (last ++ drop k before) ≡ drop (roomMost room) before)
+    go : Dec (k < roomMost room) → (take (roomMost room) before ≡ take k before) × (take (roomMost room) (last ++ drop k before) ≡ last)
+        × (drop (roomMost room) (last ++ drop k before) ≡ drop (roomMost room) before)
     go (yes h) = whole (r .whole h) (r .most)
     go (no h) = exact (let m = r .most in omega arith)
 
-    lent : (take (roomMost room) before ≡ take k before) × (take (roomMost room) (last ++ drop k before) ≡ last) × (drop (roomMost room) (last ++ drop k before) ≡ drop (roomMost room) before)
+    lent : (take (roomMost room) before ≡ take k before) × (take (roomMost room) (last ++ drop k before) ≡ last)
+        × (drop (roomMost room) (last ++ drop k before) ≡ drop (roomMost room) before)
     lent = go (decLt k (roomMost room))
 
 -- the part that is lent is the rest of the list

@@ -48,11 +48,14 @@ pub previous-next : (top : ℕ) → previous (top + 1) ≡ top
 previous-next top = rw add-one refl
 
 -- fewer than 256 were held, or 256 were
-pub hold-more : (ring : List ℕ) (top e t h : ℕ) → previous t ≡ top → top < length ring → h < 256 → latest (set ring top e) t (h + 1) ≡ take 256 (e ∷ latest ring top h)
+pub hold-more : (ring : List ℕ) (top e t h : ℕ) → previous t ≡ top → top < length ring
+    → h < 256 → latest (set ring top e) t (h + 1) ≡ take 256 (e ∷ latest ring top h)
 hold-more ring top e t h p q k =
-    rw (add-one, latest-held ring top e t h p q k) (ap (λ (l : List ℕ). e ∷ l) (sym (take-all 255 (latest ring top h) (omega (arith, latest-length ring top h)))))
+    rw (add-one, latest-held ring top e t h p q k)
+    (ap (λ (l : List ℕ). e ∷ l) (sym (take-all 255 (latest ring top h) (omega (arith, latest-length ring top h)))))
 
-pub hold-full : (ring : List ℕ) (top e t h : ℕ) → previous t ≡ top → top < length ring → h ≡ 256 → latest (set ring top e) t h ≡ take 256 (e ∷ latest ring top h)
+pub hold-full : (ring : List ℕ) (top e t h : ℕ) → previous t ≡ top → top < length ring
+    → h ≡ 256 → latest (set ring top e) t h ≡ take 256 (e ∷ latest ring top h)
 hold-full ring top e t h p q k =
     rw k (latest-held ring top e t 255 p q (omega arith) ∙ ap (λ (l : List ℕ). e ∷ l) (sym (latest-take ring 255 top 256 (omega arith))))
 

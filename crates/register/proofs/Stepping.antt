@@ -25,7 +25,8 @@ use lib.ListN.{length, take, set}
 use borrow.Author.Tests.{not-true, not-false}
 use Rattle.book.specs.Basics.{Rises, has}
 use Rattle.book.specs.Causes.{already, missing, full, none-held, not-open, firstNumber, number, Caused, maxRecords, maxLinks, maxHeld}
-use Rattle.book.specs.Book.{Link, Sheet, Book, Edit, add, remove, Call, edit, undo, editAnswer, edited, turned, undoAnswer, undone, freshAnswer, fresh, answer, next}
+use Rattle.book.specs.Book.{Link, Sheet, Book, Edit, add, remove, Call, edit, undo, editAnswer, edited, turned, undoAnswer, undone, freshAnswer, fresh, answer}
+use Rattle.book.specs.Book.{next}
 use Rattle.book.specs.Sheets.{Proper}
 use Rattle.book.specs.BookLaws.{caused-positive, first-proper}
 use Rattle.register.specs.Links.{linkWord}
@@ -68,7 +69,8 @@ refuse-foreign self c none = record {
 
 -- ---- edits
 -- the book's answer, by what the register keeps
-same-answer : (self : Register) (b : Book) (e : Edit) → Represents self b → firstNumber (packedCauses (self .n) (packedOf self) e) ≡ editAnswer (b .n) (b .sheet) e
+same-answer : (self : Register) (b : Book) (e : Edit) → Represents self b
+    → firstNumber (packedCauses (self .n) (packedOf self) e) ≡ editAnswer (b .n) (b .sheet) e
 same-answer self b e h = rw (h .size) (shows-cause (subst (λ (n : ℕ). n ≤ maxRecords) (h .size) (h .ranged .size)) (h .sheet) e)
 
 module _ (self : Register) (e : Edit) where
@@ -131,10 +133,13 @@ module _ (self : Register) (e : Edit) (m r : Register) (inside : InRange self) (
         let shown : Shows (b .n) (packedOf r) (edited e (b .sheet)) = rw s (shows-edited small long (h .sheet) e (none b h)) in
         rw (none b h) (record {
           size = o .n ∙ c .kept .n ∙ h .size;
-          ranged = record { size = omega (arith, o .n, c .kept .n, inside .size); count = omega (arith, o .count, c .kept .count); top = o .top; held = o .few };
+          ranged =
+              record { size = omega (arith, o .n, c .kept .n, inside .size); count = omega (arith, o .count, c .kept .count); top = o .top; held = o .few };
           sheet = shown;
           totals = counted-totals r (held-counted o (c .counted (h .sheet .links .ascending) (represents-counted h))) shown;
-          pile = rw (s, words) (piled-take maxHeld (b .n) (packedEdit e (packedOf self)) (heldWord e ∷ heldWords self) (b .sheet ∷ b .pile) (rw (taken-back small (h .sheet) e (none b h)) (h .sheet, h .pile)));
+          pile =
+              rw (s, words) (piled-take maxHeld (b .n) (packedEdit e (packedOf self)) (heldWord e ∷ heldWords self)
+              (b .sheet ∷ b .pile) (rw (taken-back small (h .sheet) e (none b h)) (h .sheet, h .pile)));
         });
   }
 
@@ -144,7 +149,8 @@ module _ (self : Register) (k : Link) (x : ℕ) (word : x ≡ linkWord k) (free 
   has-link : has eqb (linkWord k) (packedOf self .links) ≡ held
   has-link = ap (λ (w : ℕ). has eqb w (packedOf self .links)) (sym word) ∙ sym (found ascends)
 
-  pub add-cause : firstNumber (packedCauses (self .n) (packedOf self) (add k)) ≡ firstNumber ((already, held) ∷ (full, leb maxLinks (length (packedOf self .links))) ∷ [])
+  pub add-cause : firstNumber (packedCauses (self .n) (packedOf self) (add k))
+      ≡ firstNumber ((already, held) ∷ (full, leb maxLinks (length (packedOf self .links))) ∷ [])
   unfolding packedCauses firstNumber
   add-cause = first-append (linkCauses (self .n) (self .marks) k) _ free ∙ rw has-link
 
@@ -152,11 +158,13 @@ module _ (self : Register) (k : Link) (x : ℕ) (word : x ≡ linkWord k) (free 
   unfolding packedCauses firstNumber
   remove-cause = first-append (linkCauses (self .n) (self .marks) k) _ free ∙ rw has-link
 
-pub add-stop : (self : Register) (k : Link) (z : ℕ) → z ≡ firstNumber (linkCauses (self .n) (self .marks) k) → (z ≡ 0 → ⊥) → firstNumber (packedCauses (self .n) (packedOf self) (add k)) ≡ z
+pub add-stop : (self : Register) (k : Link) (z : ℕ) → z ≡ firstNumber (linkCauses (self .n) (self .marks) k)
+    → (z ≡ 0 → ⊥) → firstNumber (packedCauses (self .n) (packedOf self) (add k)) ≡ z
 unfolding packedCauses
 add-stop self k z e n = first-stop (linkCauses (self .n) (self .marks) k) _ (λ q. n (e ∙ q)) ∙ sym e
 
-pub remove-stop : (self : Register) (k : Link) (z : ℕ) → z ≡ firstNumber (linkCauses (self .n) (self .marks) k) → (z ≡ 0 → ⊥) → firstNumber (packedCauses (self .n) (packedOf self) (remove k)) ≡ z
+pub remove-stop : (self : Register) (k : Link) (z : ℕ) → z ≡ firstNumber (linkCauses (self .n) (self .marks) k)
+    → (z ≡ 0 → ⊥) → firstNumber (packedCauses (self .n) (packedOf self) (remove k)) ≡ z
 unfolding packedCauses
 remove-stop self k z e n = first-stop (linkCauses (self .n) (self .marks) k) _ (λ q. n (e ∙ q)) ∙ sym e
 

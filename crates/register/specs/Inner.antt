@@ -20,7 +20,8 @@ use Prim.Native.Nat.{ℕ, suc, _+_, _/_, _%_, _≤_, _<_}
 use lib.ListN.{length, take, drop, getD}
 use lib.Dec.{leb, ltb, eqb}
 use Rattle.book.specs.Basics.{bit, Rises}
-use Rattle.book.specs.Causes.{Cause, no-record, bad-label, locked-end, not-open, withdrawn-record, number, Caused, firstNumber, labels, maxRecords, maxLinks, maxHeld}
+use Rattle.book.specs.Causes.{Cause, no-record, bad-label, locked-end, not-open, withdrawn-record, number, Caused, firstNumber, labels, maxRecords, maxLinks}
+use Rattle.book.specs.Causes.{maxHeld}
 use Rattle.book.specs.Book.{Link}
 use Rattle.register.specs.Links.{linkWord, wordTotal}
 use Rattle.register.specs.Marks.{lockMark, withdrawnMark, hasMark, Marked}

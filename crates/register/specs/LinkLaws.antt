@@ -70,6 +70,7 @@ module _ {n : ℕ} (small : n ≤ maxRecords) where
         go false e true f =
             let o = touched-end r (s .links) f in
             let p : present s (o .0) ≡ true = in-has sameLink-test (o .0) (s .links) (o .1) in
-            let i : In (o .0) (map linkOf ws) = subst (λ (k : Link). In k (map linkOf ws)) (word-link (fit .links (o .0) p)) (map-in linkOf (l .whole (o .0) p)) in
+            let i : In (o .0) (map linkOf ws) =
+            subst (λ (k : Link). In k (map linkOf ws)) (word-link (fit .links (o .0) p)) (map-in linkOf (l .whole (o .0) p)) in
             sym e ∙ end-touched r (map linkOf ws) i (o .2)
         go false e false f = refl

@@ -59,7 +59,8 @@ module _ {ws : List ℕ} where
       = omega (arith, marks-front r, marks-front s, k .links, l .links, k .ring, l .ring) in
       let marked : length (numbersOf r ++ r .links ++ r .ring ++ r .marks) ≡ length (numbersOf s ++ s .links ++ s .ring ++ s .marks)
       = omega (arith, totals-front r, totals-front s, k .links, l .links, k .ring, l .ring, k .marks, l .marks) in
-      let d = parted (numbersOf r ++ r .links ++ r .ring ++ r .marks) (r .totals) (numbersOf s ++ s .links ++ s .ring ++ s .marks) (s .totals) marked (sym (k .words) ∙ l .words) in
+      let d = parted (numbersOf r ++ r .links ++ r .ring ++ r .marks) (r .totals)
+      (numbersOf s ++ s .links ++ s .ring ++ s .marks) (s .totals) marked (sym (k .words) ∙ l .words) in
       let a = parted (numbersOf r ++ r .links ++ r .ring) (r .marks) (numbersOf s ++ s .links ++ s .ring) (s .marks) ringed (d .0) in
       let b = parted (numbersOf r ++ r .links) (r .ring) (numbersOf s ++ s .links) (s .ring) front (a .0) in
       let c = parted (numbersOf r) (r .links) (numbersOf s) (s .links) refl (b .0) in
@@ -97,7 +98,8 @@ loaded ws ls rs ks ts f e g h t = record {
     front : take marksAt ws ≡ (getD ws 0 0 ∷ getD ws 1 0 ∷ getD ws 2 0 ∷ getD ws 3 0 ∷ []) ++ ls ++ rs
     front =
         take-add ringAt maxHeld ws ∙ ap (λ (t : List ℕ). take ringAt ws ++ t) (sym g)
-        ∙ ap (λ (t : List ℕ). t ++ rs) (take-add linksAt maxLinks ws ∙ ap (λ (t : List ℕ). take linksAt ws ++ t) (sym e) ∙ ap (λ (t : List ℕ). t ++ ls) (four ws (omega (arith, f .long))))
+        ∙ ap (λ (t : List ℕ). t ++ rs) (take-add linksAt maxLinks ws ∙ ap (λ (t : List ℕ). take linksAt ws ++ t) (sym e)
+        ∙ ap (λ (t : List ℕ). t ++ ls) (four ws (omega (arith, f .long))))
 
     marked : take totalsAt ws ≡ (getD ws 0 0 ∷ getD ws 1 0 ∷ getD ws 2 0 ∷ getD ws 3 0 ∷ []) ++ ls ++ rs ++ ks
     marked = take-add marksAt maxRecords ws ∙ ap (λ (u : List ℕ). take marksAt ws ++ u) (sym h) ∙ ap (λ (u : List ℕ). u ++ ks) front

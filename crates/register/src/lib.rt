@@ -61,8 +61,8 @@ pub const WITHDRAWN_MARK: u32 = 2;
 // The last place of the ring.
 const LAST_HELD: usize = book::MAX_HELD - 1;
 
-// n records, and the mark of each; the first count words of links, ascending, are the links present; of ring, the held words before top are the latest accepted edits;
-// totals has the number of links of each label.
+// n records, and the mark of each; the first count words of links, ascending, are the links present; of ring, the held words before top are the latest accepted
+// edits; totals has the number of links of each label.
 pub struct Register {
     n: u16,
     count: usize,

@@ -52,5 +52,12 @@ module _ (n i : ℕ) (us before after : List ℕ) (r : ℕ) (len : length us ≡
       → (a : Cells) → IsSet n a → take i before ≡ treeWords n a → TreeAt n (union a (identity n)) after r
   identity-made o p a A e =
       let l : Lent (onOne Optional i Plain) n [] (bitAt us) before noPairs a =
-      record { first = none-set n; second = A; front = none-tree n; behind = e; links = λ w i. absurd (in-none i refl); used = λ x h. ap (λ (f : ℕ → ℕ). f x) marked ∙ below-past n x h } in
+      record {
+        first = none-set n;
+        second = A;
+        front = none-tree n;
+        behind = e;
+        links = λ w i. absurd (in-none i refl);
+        used = λ x h. ap (λ (f : ℕ → ℕ). f x) marked ∙ below-past n x h;
+      } in
       subst (λ (s : Cells). TreeAt n s after r) (marked-set a) (o .tree (record { trees = p; records = len; bits = refl }) noPairs a l)

@@ -33,7 +33,12 @@ element-set-from-operand c = search needs
 
 -- src/lib.rt:160:1
 returns : tie.Need-returns
-returns c = ap (λ (o : Operand). record { operands = set (c .before .before .args .stack .operands) (c .before .before .args .stack .count - 1) o; count = c .before .before .args .stack .count; end = c .before .before .args .stack .end }) (c .inverted .ensures)
+returns c =
+    ap (λ (o : Operand). record {
+      operands = set (c .before .before .args .stack .operands) (c .before .before .args .stack .count - 1) o;
+      count = c .before .before .args .stack .count;
+      end = c .before .before .args .stack .end;
+    }) (c .inverted .ensures)
 
 pub inverse-spec : {M : Type 1} → statement M
 inverse-spec =

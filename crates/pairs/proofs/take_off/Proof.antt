@@ -32,7 +32,9 @@ inverse-requires : tie.Need-inverse-requires
 inverse-requires c κs = let h = has-one (c .before .before .pre .1 .1) (c .before .before .pre .0) (inverts c) in (h .0, h .1, h .2)
 
 on-one-requires : tie.Need-on-one-requires
-on-one-requires c κs = rw (c .inverse .ensures) (has-turned (c .before .before .before .pre .1 .1) (c .before .before .before .pre .0) (inverts (c .before)))
+on-one-requires c κs =
+    let start = c .before .before .before in
+    rw (c .inverse .ensures) (has-turned (start .pre .1 .1) (start .pre .0) (inverts (c .before)))
 
 enum-told-2 : tie.Need-enum-told-2
 enum-told-2 c = search needs
@@ -80,10 +82,14 @@ on-two-requires-2 : tie.Need-on-two-requires-2
 on-two-requires-2 c κs = has-two (c .before .before .pre .1 .1) (c .before .before .pre .0) (is-sequence c)
 
 returns : tie.Need-returns
-returns c = λ d P. rw (c .before .no-operand .ensures, c .letters .ensures) (takes-letters P (c .before .before .before .before .before .pre .0) _ _ (c .before .before .before .item .given .1))
+returns c =
+    λ d P. rw (c .before .no-operand .ensures, c .letters .ensures)
+    (takes-letters P (c .before .before .before .before .before .pre .0) _ _ (c .before .before .before .item .given .1))
 
 returns-2 : tie.Need-returns-2
-returns-2 c = λ d P. rw (c .on-one .ensures, c .before .inverse .ensures) (takes-inverse P (c .before .before .before .before .pre .0) (c .before .before .enum-told .given .1))
+returns-2 c =
+    λ d P. rw (c .on-one .ensures, c .before .inverse .ensures)
+    (takes-inverse P (c .before .before .before .before .pre .0) (c .before .before .enum-told .given .1))
 
 returns-3 : tie.Need-returns-3
 returns-3 c = λ d P. rw (c .on-one2 .ensures) (takes-one P (c .before .before .before .pre .0) (is-star (c .before)))

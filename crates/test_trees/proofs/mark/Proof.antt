@@ -22,7 +22,9 @@ loop-holds : tie.Need-loop-holds Inv-loop μ-loop
 loop-holds c = (omega arith, refl, λ e. e ∙ below-none)
 
 set-bit-requires : tie.Need-set-bit-requires Inv-loop μ-loop
-set-bit-requires c κs = omega (arith, c .before .before .loop .inv .1, c .before .before .before .before .pre .0, c .before .before .before .before .pre .1)
+set-bit-requires c κs =
+    let start = c .before .before .before .before in
+    omega (arith, c .before .before .loop .inv .1, start .pre .0, start .pre .1)
 
 add-i : tie.Need-add-i Inv-loop μ-loop
 add-i c = omega arith

@@ -64,8 +64,11 @@ loop-less c = omega arith
 loop-again : tie.Need-loop-again Inv-loop μ-loop
 loop-again c =
     let a = c .before .before .before .before .args in
-    let l = c .before .before .loop in
-    (omega arith, omega arith, ap (λ (x : ℕ). x + ones (getD (a .tree .now) (l .i) 0)) (l .inv .2) ∙ sym (ones-word (a .tree .now) (l .i) (c .shared-slice-known2 .given (l .i) .fits)))
+    let l = c .before .before .loop in (
+      omega arith,
+      omega arith,
+      ap (λ (x : ℕ). x + ones (getD (a .tree .now) (l .i) 0)) (l .inv .2) ∙ sym (ones-word (a .tree .now) (l .i) (c .shared-slice-known2 .given (l .i) .fits)),
+    )
 
 mul-result : tie.Need-mul-result Inv-loop μ-loop
 mul-result c = omega arith

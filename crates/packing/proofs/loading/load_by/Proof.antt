@@ -30,8 +30,18 @@ slice-aggregate-dive-2 c = search needs
 dive-requires : tie.Need-dive-requires
 dive-requires c κs =
     let h = c .before .before .height .ensures in
-    let p = c .before .before .before .before .before .before .before .before .before .pre in
-    (h .1, h .2, p .2, p .1, search needs, c .before .before .before .before .before .count .ensures, omega arith, omega arith, p .3, root-fits (c .before .before .height .result) (pow-mono {j = 10} (h .2)))
+    let p = c .before .before .before .before .before .before .before .before .before .pre in (
+      h .1,
+      h .2,
+      p .2,
+      p .1,
+      search needs,
+      c .before .before .before .before .before .count .ensures,
+      omega arith,
+      omega arith,
+      p .3,
+      root-fits (c .before .before .height .result) (pow-mono {j = 10} (h .2)),
+    )
 
 same-length : tie.Need-same-length
 same-length c = search needs
@@ -42,7 +52,8 @@ returns c =
     let g = c .before .before .before .before .before .before .before .before .before .before .before .before .args in
     λ a x is e r.
     let t : Cells = turnedBy (g .sense) a in
-    c .before .before .dive .ensures x t r (root-reads (g .sense) (g .tree .now) (h .result) t (reads-tree (g .sense) (g .n) (h .result) (g .tree .now) a (h .ensures .0) is e))
+    c .before .before .dive .ensures x t r
+    (root-reads (g .sense) (g .tree .now) (h .result) t (reads-tree (g .sense) (g .n) (h .result) (g .tree .now) a (h .ensures .0) is e))
     ∙ ap (λ (s : Cells). flat (union x s)) (root-squares (h .result) t ∙ inside-all (g .n) (h .result) t (h .ensures .3) (turnedBy-set (g .sense) (g .n) a is))
 
 pub load-by-spec : {M : Type 1} → statement M

@@ -13,7 +13,8 @@ use Rattle.packing.proofs.loading.spread.Tie as tie
 abbrev Inv-loop : tie.InvT-loop
 Inv-loop tree before h list sense next₀ from count m₀ i₀ next m i =
     (i ≤ count) × (m ≤ 4 * i) × (length next ≡ length next₀) × FitAll (h - 1) next 0 m
-    × ((t : Cells) → ReadAll sense tree h list from count t → ReadAll sense tree (h - 1) next 0 m t × (squaresTo m (h - 1) next 0 t ≡ squaresTo i h list from t))
+    × ((t : Cells) → ReadAll sense tree h list from count t
+    → ReadAll sense tree (h - 1) next 0 m t × (squaresTo m (h - 1) next 0 t ≡ squaresTo i h list from t))
 
 abbrev μ-loop : tie.MeasureT-loop
 μ-loop tree before h list sense next₀ from count m₀ i₀ next m i = count - i
@@ -56,8 +57,11 @@ loop-again c =
       p .ensures .1,
       λ u n.
           let R = l .inv .4 u n in
-          let C = p .ensures .2 u (n (l .i) (omega arith)) (R .0) in
-          (C .0, C .1 ∙ ap (λ (s : Cells). union s (inside (a .h) (squareRow w) (squareColumn w) u)) (R .1) ∙ sym (squares-next (l .i) (a .h) (a .list .now) (a .part .from) u)),
+          let C = p .ensures .2 u (n (l .i) (omega arith)) (R .0) in (
+            C .0,
+            C .1 ∙ ap (λ (s : Cells). union s (inside (a .h) (squareRow w) (squareColumn w) u)) (R .1)
+                ∙ sym (squares-next (l .i) (a .h) (a .list .now) (a .part .from) u),
+          ),
     )
 
 same-length : tie.Need-same-length Inv-loop μ-loop

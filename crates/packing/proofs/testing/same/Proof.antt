@@ -53,8 +53,11 @@ returns-3 : tie.Need-returns-3 Inv-loop μ-loop
 returns-3 c =
     let l = c .before .loop in
     let a = c .before .before .before .args in
-    let n : length (take (a .len) (a .b .now)) ≡ length (a .a .now) = rw length-take (omega arith) in
-    (λ e. ext-getD 0 (a .a .now) (take (a .len) (a .b .now)) (sym n) (λ k h. l .inv .1 k (omega arith) ∙ sym (getD-take (a .len) (a .b .now) k 0 (omega arith))), λ e. refl)
+    let n : length (take (a .len) (a .b .now)) ≡ length (a .a .now) = rw length-take (omega arith) in (
+      λ e. ext-getD 0 (a .a .now) (take (a .len) (a .b .now)) (sym n)
+          (λ k h. l .inv .1 k (omega arith) ∙ sym (getD-take (a .len) (a .b .now) k 0 (omega arith))),
+      λ e. refl,
+    )
 
 pub same-spec : {M : Type 1} → statement M
 same-spec =

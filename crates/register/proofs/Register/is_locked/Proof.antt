@@ -28,8 +28,9 @@ long c = search needs
 
 returns-2 : tie.Need-returns-2
 returns-2 c =
-    let a = c .before .before .before .args in
-    let none = List·getD-eq-default (a .t1 .marks) freeMark {n = a .«record»} (omega (arith, long (c .before .before .before))) in
+    let start = c .before .before .before in
+    let a = start .args in
+    let none = List·getD-eq-default (a .t1 .marks) freeMark {n = a .«record»} (omega (arith, long start)) in
     record { foreign = λ _. refl; locked = λ b h. ap (λ (m : ℕ). eqb m lockMark) (sym none) ∙ shows-locked (h .sheet) _ }
 
 mul-result : tie.Need-mul-result

@@ -46,7 +46,8 @@ loop-again : tie.Need-loop-again Inv-loop μ-loop
 loop-again c = (
   omega arith,
   simp length-set (c .before .before .loop .inv .1),
-  cut-turn (c .before .before .loop .a) (c .before .before .before .args .count) (c .before .before .loop .j) (omega arith) (omega arith) ∙ c .before .before .loop .inv .2,
+  cut-turn (c .before .before .loop .a) (c .before .before .before .args .count) (c .before .before .loop .j) (omega arith) (omega arith)
+      ∙ c .before .before .loop .inv .2,
 )
 
 returns : tie.Need-returns Inv-loop μ-loop

@@ -100,8 +100,8 @@ forward-requires c κs =
     earlier .before .before .before .before .before .before .before .before .before .before .before .before) .pre in (
       omega (
         arith,
-        part-long ((let earlier = c .before .before .before .before .before .before .before .before in
-            earlier .before .before .before .before .before .before .before .before)),
+        part-long (let earlier = c .before .before .before .before .before .before .before .before in
+            earlier .before .before .before .before .before .before .before .before),
         (let earlier = c .before .before .before .before .before .before .before .before in
             earlier .before .before .before .before .before .before .before .before) .arcs-of .ensures .0,
       ),
