@@ -186,14 +186,19 @@ module _ (b : Book) (F : Fit (b .n) (b .sheet)) (small : b .n ≤ 1024) (ws : Li
       let f : crossedBy (asked b) (lettersIn m 0) x y ≡ 1 = sym (ap (λ (a : Cells). a x y) crossed-links) ∙ e in
       let r = crossed-is (asked b) (lettersIn m 0) x y (omega arith) in
       let p = letter-plain (r .0) (r .1) in
-      let h : has eqb (r .0 .label) ls ≡ true = bit-on (has eqb (r .0 .label) ls) (let z = C (r .0 .label) in omega (arith, p .1)) in
-      (r .0 .label, h, subst (λ (t : Bool). asked b .present (pick t (record { from = y; label = r .0 .label; to = x }) (record { from = x; label = r .0 .label; to = y })) ≡ true) (p .0) (r .2))
+      let h : has eqb (r .0 .label) ls ≡ true = bit-on (has eqb (r .0 .label) ls) (let z = C (r .0 .label) in omega (arith, p .1)) in (
+        r .0 .label,
+        h,
+        subst (λ (t : Bool). asked b .present (pick t (record { from = y; label = r .0 .label; to = x }) (record { from = x; label = r .0 .label; to = y }))
+            ≡ true) (p .0) (r .2),
+      )
 
   joins-pair : (x y : ℕ) → Joins x y → crossedWords ws m 0 x y ≡ 1
   unfolding lettersIn
   joins-pair x y j =
       ap (λ (a : Cells). a x y) crossed-links
-      ∙ is-crossed (asked b) (lettersIn m 0) I (record { label = j .0; inverted = false }) x y (eq-eqb (digit m (j .0)) 1 (C (j .0) ∙ on-bit (has eqb (j .0) ls) (j .1))) (j .2)
+      ∙ is-crossed (asked b) (lettersIn m 0) I (record { label = j .0; inverted = false })
+      x y (eq-eqb (digit m (j .0)) 1 (C (j .0) ∙ on-bit (has eqb (j .0) ls) (j .1))) (j .2)
 
   pairs-stepped : {x y : ℕ} → OneOrMore (crossedWords ws m 0) x y → Stepped x y
   pairs-stepped {x} {y} (once-pair e) = one-step (pair-joins x y e)

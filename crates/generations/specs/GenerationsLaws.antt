@@ -23,14 +23,21 @@ use Rattle.book.specs.Book.{Book}
 use Rattle.paths.specs.Chains.{Graph, Step, crossing, Chain, stay, cross, stepWords}
 use Rattle.paths.specs.ChainOrder.{not-after-both}
 use Rattle.automaton.specs.LevelLaws.{Which, less, same, more, which}
-use Rattle.generations.specs.Generations.{Run, on, Longest, Over, Returns, FirstLoop, Numbered, no-record, not-in-use, in-use, Outcome, refused, numbers, loop, GenerationsAre, no-loop, first-loop, generationsOrder, argumentCauses, generationsCauses, unless, OutcomeIs, not-asked, answered}
+use Rattle.generations.specs.Generations.{Run, on, Longest, Over, Returns, FirstLoop, Numbered, no-record, not-in-use, in-use, Outcome, refused, numbers}
+use Rattle.generations.specs.Generations.{loop, GenerationsAre, no-loop, first-loop, generationsOrder, argumentCauses, generationsCauses, unless}
+use Rattle.generations.specs.Generations.{OutcomeIs, not-asked, answered}
 
 -- ---- runs
 -- a link crossed forward
 pub forward-link : (g : Graph) {ls : List ℕ} (s : Step) (x : ℕ) → Over ls s → g .present (crossing (s .spelt) x (s .reached)) ≡ true
     → g .present (record { from = x; label = s .spelt .label; to = s .reached }) ≡ true
 forward-link g s x o p =
-    subst (λ (b : Bool). g .present (pick b (record { from = s .reached; label = s .spelt .label; to = x }) (record { from = x; label = s .spelt .label; to = s .reached })) ≡ true) (o .forward) p
+    subst
+    (λ (b : Bool). g .present (pick b (record { from = s .reached; label = s .spelt .label; to = x }) (record {
+      from = x;
+      label = s .spelt .label;
+      to = s .reached;
+    })) ≡ true) (o .forward) p
 
 module _ {g : Graph} {ls : List ℕ} where
   pub longest-only : {y m k : ℕ} → Longest g ls y m → Longest g ls y k → m ≡ k

@@ -3,7 +3,7 @@
 --   merged-here, merged-else, merged-self
 --                         a row merged into another, as rows of the relation: this one, every other, and into itself
 --   bit-here, bit-else    the word of one bit
---   fresh-found, seen-word, seen-gap
+--   fresh-found
 --                         a column found and not yet seen; a word with none; words that are not in the mask
 --   Search n a x r v      r is among what x leads to by a, with the columns of a x, and with all that the seen, v, lead to in one step
 --   search-done           all that is found is seen: the row is closed
@@ -155,7 +155,8 @@ right-one : (p q : ℕ) → p < 2 → q ≡ 1 → max p q ≡ 1
 right-one p q b e = omega arith
 
 -- all that is found is seen: the row is closed
-module _ (n : ℕ) (a : Cells) (A : IsSet n a) (x : ℕ) (r v : ℕ → ℕ) (rb : (y : ℕ) → r y < 2) (S : Search n a x r v) (all : (y : ℕ) → y < n → r y ≡ 1 → v y ≡ 1) where
+module _ (n : ℕ) (a : Cells) (A : IsSet n a) (x : ℕ) (r v : ℕ → ℕ) (rb : (y : ℕ) → r y < 2)
+    (S : Search n a x r v) (all : (y : ℕ) → y < n → r y ≡ 1 → v y ≡ 1) where
   inside : (u y : ℕ) → a u y ≡ 1 → y < n
   inside u y e = go (decLt y n)
     where
@@ -178,7 +179,8 @@ module _ (n : ℕ) (a : Cells) (A : IsSet n a) (x : ℕ) (r v : ℕ → ℕ) (rb
       go (no e) (no d) = omega (arith, rb y, closure-set n n a A .bit x y, e, d)
 
 -- record z, which is found, is seen
-module _ (n : ℕ) (a : Cells) (A : IsSet n a) (x z : ℕ) (zl : z < n) (r v r′ v′ q : ℕ → ℕ) (rb : (y : ℕ) → r y < 2) (vb : (y : ℕ) → v y < 2) (qb : (y : ℕ) → q y < 2)
+module _ (n : ℕ) (a : Cells) (A : IsSet n a) (x z : ℕ) (zl : z < n) (r v r′ v′ q : ℕ → ℕ)
+    (rb : (y : ℕ) → r y < 2) (vb : (y : ℕ) → v y < 2) (qb : (y : ℕ) → q y < 2)
     (S : Search n a x r v) (found : r z ≡ 1) (row : (y : ℕ) → y < n → r′ y ≡ max (r y) (q y)) where
   -- its row is that of a, or is that of x
   pub search-plain : ((y : ℕ) → y < n → v′ y ≡ 1 → (v y ≡ 1) ⊎ (y ≡ z)) → ((y : ℕ) → y < n → a z y ≡ 1 → max (r y) (q y) ≡ 1)
@@ -186,7 +188,9 @@ module _ (n : ℕ) (a : Cells) (A : IsSet n a) (x z : ℕ) (zl : z < n) (r v r�
   search-plain seen all sound = record {
     sound = λ y l e. ⊎-elim (S .sound y l) (sound y l) (either (r y) (q y) (rb y) (qb y) (sym (row y l) ∙ e));
     start = λ y l e. row y l ∙ left-one (r y) (q y) (qb y) (S .start y l e);
-    step = λ u y ul l e f. row y l ∙ ⊎-elim (λ h. left-one (r y) (q y) (qb y) (S .step u y ul l h f)) (λ h. all y l (ap (λ (k : ℕ). a k y) (sym h) ∙ f)) (seen u ul e);
+    step =
+        λ u y ul l e f. row y l ∙ ⊎-elim (λ h. left-one (r y) (q y) (qb y) (S .step u y ul l h f))
+        (λ h. all y l (ap (λ (k : ℕ). a k y) (sym h) ∙ f)) (seen u ul e);
   }
 
   -- its row is closed

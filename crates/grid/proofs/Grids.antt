@@ -57,7 +57,8 @@ module _ (n w i b : ℕ) (new : Cells) (ws ms ws′ ms′ : List ℕ) (il : i < 
   pub through-row : (y : ℕ) → y < w * 64 → rowOf ws′ b (getD ms′ i 0) y ≡ firstRows w ws ms i y
   unfolding firstRows
   through-row y l =
-      rw at (row-same ws′ ws (i * w) (getD ms′ i 0) (getD ms i 0) y (T .masks i (omega arith) (omega arith)) (T .words (i * w + y / 64) (omega arith) (omega (arith, end))))
+      rw at (row-same ws′ ws (i * w) (getD ms′ i 0) (getD ms i 0) y (T .masks i (omega arith) (omega arith))
+      (T .words (i * w + y / 64) (omega arith) (omega (arith, end))))
 
   -- the second relation's row as it was
   pub second-row : (x : ℕ) → x < n → (y : ℕ) → y < w * 64 → secondRows n w ws′ ms′ x y ≡ secondRows n w ws ms x y
@@ -93,7 +94,8 @@ module _ (n w i b : ℕ) (new : Cells) (ws ms ws′ ms′ : List ℕ) (il : i < 
       (λ y l. through-row y l ∙ e y l)
 
   -- a row merged in
-  pub through-merge : (ws″ ms″ : List ℕ) (src : ℕ → ℕ) → Merged w i b src ws′ ms′ ws″ ms″ → ((y : ℕ) → y < w * 64 → max (firstRows w ws ms i y) (src y) ≡ new i y)
+  pub through-merge : (ws″ ms″ : List ℕ) (src : ℕ → ℕ) → Merged w i b src ws′ ms′ ws″ ms″
+      → ((y : ℕ) → y < w * 64 → max (firstRows w ws ms i y) (src y) ≡ new i y)
       → Through n w (i + 1) new ws ms ws″ ms″
   through-merge ws″ ms″ src M e =
       through-more ws″ ms″ _ (merged-replaced n w i b src ws′ ms′ ws″ ms″ M) (λ y l. ap (λ (v : ℕ). max v (src y)) (through-row y l) ∙ e y l)
@@ -109,9 +111,11 @@ within-union n a b = fun-ext (λ x. fun-ext (λ y. go x y (decLt x n) (decLt y n
   where
     go : (x y : ℕ) → Dec (x < n) → Dec (y < n) → within n (λ u v. max (a u v) (b u v)) x y ≡ max (within n a x y) (within n b x y)
     go x y (yes h) (yes l) = within-in n (λ u v. max (a u v) (b u v)) x y h l ∙ sym (ap₂ max (within-in n a x y h l) (within-in n b x y h l))
-    go x y (no h) l = within-row n (λ u v. max (a u v) (b u v)) x y (omega arith) ∙ sym (ap₂ max (within-row n a x y (omega arith)) (within-row n b x y (omega arith)))
+    go x y (no h) l =
+        within-row n (λ u v. max (a u v) (b u v)) x y (omega arith) ∙ sym (ap₂ max (within-row n a x y (omega arith)) (within-row n b x y (omega arith)))
     go x y (yes h) (no l) =
-        within-column n (λ u v. max (a u v) (b u v)) x y (omega arith) ∙ sym (ap₂ max (within-column n a x y (omega arith)) (within-column n b x y (omega arith)))
+        within-column n (λ u v. max (a u v) (b u v)) x y (omega arith)
+        ∙ sym (ap₂ max (within-column n a x y (omega arith)) (within-column n b x y (omega arith)))
 
 -- the row that is merged in for a union
 pub unite-row : (n w i b : ℕ) (new : Cells) (ws ms ws′ ms′ : List ℕ) → i < n → b ≡ i * w → Through n w i new ws ms ws′ ms′ → (y : ℕ) → y < w * 64

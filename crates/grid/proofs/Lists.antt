@@ -178,7 +178,8 @@ module _ (l e now : List ℕ) (v : ℕ) (S : Shown l e now) where
   shown-in h =
       ap (λ (t : List ℕ). set t (length l) v) (S ∙ ap₂ (λ (s t : List ℕ). s ++ t) (take-all (length e) l (omega arith)) (drop-cons e (length l) 0 h))
       ∙ set-at l (getD e (length l) 0) (drop (suc (length l)) e) v (length l) refl
-      ∙ sym (ap₂ (λ (s : List ℕ) (k : ℕ). s ++ drop k e) (take-all (length e) (l ++ (v ∷ [])) (omega (arith, long))) long ∙ append-assoc l (v ∷ []) (drop (suc (length l)) e))
+      ∙ sym (ap₂ (λ (s : List ℕ) (k : ℕ). s ++ drop k e) (take-all (length e) (l ++ (v ∷ [])) (omega (arith, long))) long
+      ∙ append-assoc l (v ∷ []) (drop (suc (length l)) e))
 
   pub shown-out : length e ≤ length l → Shown (l ++ (v ∷ [])) e now
   shown-out h =

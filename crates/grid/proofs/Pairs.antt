@@ -64,7 +64,8 @@ one-turned x y = fun-ext (λ u. fun-ext (λ v. go u v (ℕ-discrete v x) (ℕ-di
     go u v (no e) d = one-off x y v u (λ p q. e p) ∙ sym (one-off y x u v (λ p q. e q))
     go u v (yes e) (no d) = one-off x y v u (λ p q. d q) ∙ sym (one-off y x u v (λ p q. d p))
 
-module _ (n w x y : ℕ) (ws ms ws′ ms′ : List ℕ) (nl : n ≤ w * 64) (xl : x < n) (yl : y < n) (M : Merged w x (x * w) (wordAt (y / 64) (2 ^ (y % 64))) ws ms ws′ ms′) where
+module _ (n w x y : ℕ) (ws ms ws′ ms′ : List ℕ) (nl : n ≤ w * 64) (xl : x < n)
+    (yl : y < n) (M : Merged w x (x * w) (wordAt (y / 64) (2 ^ (y % 64))) ws ms ws′ ms′) where
   other : (u v : ℕ) → v < w * 64 → (u ≡ x → ⊥) → Dec (u < x) → firstRows w ws′ ms′ u v ≡ firstRows w ws ms u v
   unfolding firstRows
   other u v l n (yes h) = row-same ws′ ws (u * w) _ _ v (M .masks u n) (M .below (u * w + v / 64) (omega (arith, rows-apart u x w h)))
@@ -123,7 +124,8 @@ none-left n w ws ms z = fun-ext (λ u. fun-ext (λ v. unfold noPairs in (go u v 
   where
     go : (u v : ℕ) → Dec (u < n) → Dec (v < n) → within n (firstRows w ws ms) u v ≡ 0
     go u v (yes a) (yes b) =
-        within-in n (firstRows w ws ms) u v a b ∙ unfold firstRows in (row-empty ws (u * w) (getD ms u 0) v (ap (λ (k : ℕ). digit k (v / 64)) (z u a) ∙ digit-none (v / 64)))
+        within-in n (firstRows w ws ms) u v a b ∙ unfold firstRows in
+        (row-empty ws (u * w) (getD ms u 0) v (ap (λ (k : ℕ). digit k (v / 64)) (z u a) ∙ digit-none (v / 64)))
     go u v (no a) b = within-row n (firstRows w ws ms) u v (omega arith)
     go u v (yes a) (no b) = within-column n (firstRows w ws ms) u v (omega arith)
 
@@ -197,7 +199,8 @@ has-append w (u ∷ ps) qs = go (eqb u w) (has-append w ps qs)
 
 set-append : (ps qs : List ℕ) → setOf (ps ++ qs) ≡ union (setOf ps) (setOf qs)
 unfolding setOf union
-set-append ps qs = fun-ext (λ x. fun-ext (λ y. rw (has-append (x * 1024 + y) ps qs) (go (bit (ltb y 1024)) (has eqb (x * 1024 + y) ps) (has eqb (x * 1024 + y) qs))))
+set-append ps qs =
+    fun-ext (λ x. fun-ext (λ y. rw (has-append (x * 1024 + y) ps qs) (go (bit (ltb y 1024)) (has eqb (x * 1024 + y) ps) (has eqb (x * 1024 + y) qs))))
   where
     go : (l : ℕ) (a b : Bool) → min l (bit (a || b)) ≡ max (min l (bit a)) (min l (bit b))
     go l true true = omega arith
@@ -238,7 +241,8 @@ letters-append m ws vs =
 pub crossed-append : (ws vs : List ℕ) (f a : ℕ) → crossedWords (ws ++ vs) f a ≡ union (crossedWords ws f a) (crossedWords vs f a)
 unfolding crossedWords
 crossed-append ws vs f a =
-    ap₂ (λ (s t : Cells). union s (transpose t)) (letters-append f ws vs) (letters-append a ws vs) ∙ unfold union transpose in (fun-ext (λ x. fun-ext (λ y. omega arith)))
+    ap₂ (λ (s t : Cells). union s (transpose t)) (letters-append f ws vs) (letters-append a ws vs) ∙ unfold union transpose in
+    (fun-ext (λ x. fun-ext (λ y. omega arith)))
 
 -- the pair of one link word, if its label is in the set
 unfoldable pub letter : ℕ → ℕ → Cells

@@ -38,7 +38,8 @@ most-far : (f : ℕ → ℕ) (p d : ℕ) → Gap f p (p + d) → most (p + d) f 
 unfolding most
 most-far f p zero g = ap (λ (k : ℕ). most k f) (add-zero p)
 most-far f p (suc d) g =
-    ap (λ (k : ℕ). most k f) (add-suc p d) ∙ ap (max (most (p + d) f)) (g (p + d) (omega arith) (omega arith)) ∙ omega (arith, most-far f p d (λ k a b. g k a (omega arith)))
+    ap (λ (k : ℕ). most k f) (add-suc p d) ∙ ap (max (most (p + d) f)) (g (p + d) (omega arith) (omega arith))
+    ∙ omega (arith, most-far f p d (λ k a b. g k a (omega arith)))
 
 most-gap : (f : ℕ → ℕ) (p q : ℕ) → p ≤ q → Gap f p q → most q f ≡ most p f
 most-gap f p q l g = let e : q ≡ p + (q - p) = omega arith in ap (λ (k : ℕ). most k f) e ∙ most-far f p (q - p) (λ k a b. g k a (omega arith))
@@ -95,7 +96,8 @@ module _ (n w x : ℕ) (ws ms : List ℕ) (nl : n ≤ w * 64) (xl : x < n) where
         → Merged w (n + n) (n * w + n * w) (rowOf ws′ (n * w + z * w) (getD ms′ (n + z) 0)) ws′ ms′ ws″ ms″ → Gathered n w x ws ms r ws″ ms″
     gathered-more r ws″ ms″ zl e L N = merged-more M N (λ y. most (min r n) (linked n w ws ms x y)) here
       where
-        here : (y : ℕ) → y < w * 64 → most (min r n) (linked n w ws ms x y) ≡ max (most (min z n) (linked n w ws ms x y)) (rowOf ws′ (n * w + z * w) (getD ms′ (n + z) 0) y)
+        here : (y : ℕ) → y < w * 64 → most (min r n) (linked n w ws ms x y)
+            ≡ max (most (min z n) (linked n w ws ms x y)) (rowOf ws′ (n * w + z * w) (getD ms′ (n + z) 0) y)
         here y l =
             let s : min z n ≡ z = omega arith in
             let g : Gap (linked n w ws ms x y) (z + 1) (min r n) = λ k a b. gap-linked (z + 1) r y (L .gap) k a (omega arith) in
@@ -152,7 +154,8 @@ module _ (n w i b : ℕ) (ws ms ws′ ms′ : List ℕ) (nl : n ≤ w * 64) (il 
   compose-more ws″ ms″ R =
       through-more n w i b _ ws ms ws′ ms′ il at T ws″ ms″ _ R
       (λ y l. most-same n (linked n w ws′ ms′ i y) (linked n w ws ms i y)
-      (λ z h. ap₂ min (unfold firstRows in (rw (← at) refl) ∙ through-row n w i b _ ws ms ws′ ms′ il at T z (omega arith)) (second-row n w i b _ ws ms ws′ ms′ il at T z h y l)))
+      (λ z h. ap₂ min (unfold firstRows in
+      (rw (← at) refl) ∙ through-row n w i b _ ws ms ws′ ms′ il at T z (omega arith)) (second-row n w i b _ ws ms ws′ ms′ il at T z h y l)))
 
   pub compose-skip : getD ms′ i 0 ≡ 0 → Through n w (i + 1) (composed n w ws ms) ws ms ws′ ms′
   compose-skip e =
@@ -173,13 +176,15 @@ within-product n w ws ms = fun-ext (λ x. fun-ext (λ y. go x y (decLt x n) (dec
     S : Cells
     S = secondRows n w ws ms
 
-    go : (x y : ℕ) → Dec (x < n) → Dec (y < n) → within n (composed n w ws ms) x y ≡ most n (λ z. min (within n (firstRows w ws ms) x z) (within n (secondRows n w ws ms) z y))
+    go : (x y : ℕ) → Dec (x < n) → Dec (y < n) → within n (composed n w ws ms) x y
+        ≡ most n (λ z. min (within n (firstRows w ws ms) x z) (within n (secondRows n w ws ms) z y))
     go x y (yes h) (yes l) =
         within-in n (composed n w ws ms) x y h l
         ∙ most-same n (linked n w ws ms x y) _ (λ z k. sym (ap₂ min (within-in n (firstRows w ws ms) x z h k) (within-in n (secondRows n w ws ms) z y k l)))
     go x y (no h) l =
         within-row n (composed n w ws ms) x y (omega arith)
-        ∙ sym (most-none n _ (λ z k. ap (λ (v : ℕ). min v (within n (secondRows n w ws ms) z y)) (within-row n (firstRows w ws ms) x z (omega arith)) ∙ omega arith))
+        ∙ sym (most-none n _ (λ z k. ap (λ (v : ℕ). min v (within n (secondRows n w ws ms) z y)) (within-row n (firstRows w ws ms) x z (omega arith))
+        ∙ omega arith))
     go x y (yes h) (no l) =
         within-column n (composed n w ws ms) x y (omega arith)
         ∙ sym (most-none n _ (λ z k. ap (min (within n (firstRows w ws ms) x z)) (within-column n (secondRows n w ws ms) z y (omega arith)) ∙ omega arith))

@@ -115,7 +115,8 @@ module _ (w b f c m s r : ℕ) (ws ws′ : List ℕ) (cl : c < w) (bl : b + w �
       from (inl h) = let e : f + c ≡ b + (f + c - b) = omega arith in rw e (J .above (f + c - b) (omega arith))
       from (inr h) = J .below (f + c) (omega arith)
 
-      go : (k : ℕ) → k < w → k < c′ → digit s k ≡ 1 → Dec (k ≡ c) → Dec (k < c) → Join m k (getD ws (b + k) 0) (getD ws (f + k) 0) (getD (set ws′ (b + c) r) (b + k) 0)
+      go : (k : ℕ) → k < w → k < c′ → digit s k ≡ 1 → Dec (k ≡ c) → Dec (k < c)
+          → Join m k (getD ws (b + k) 0) (getD ws (f + k) 0) (getD (set ws′ (b + c) r) (b + k) 0)
       go k l h g (yes q) p =
           rw (q, getD-set-same ws′ (b + c) r 0 (omega arith), ← J .ahead c (omega arith), ← from A) e
       go k l h g (no q) (yes p) = rw (other (b + k) (λ z. q (same k z))) (J .there k l p g)
@@ -202,7 +203,9 @@ module _ {w t b : ℕ} {s : ℕ → ℕ} {ws ms ws′ ms′ : List ℕ} (M : Mer
   pub merged-more : {r : ℕ → ℕ} {ws″ ms″ : List ℕ} → Merged w t b r ws′ ms′ ws″ ms″ → (g : ℕ → ℕ) → ((y : ℕ) → y < w * 64 → g y ≡ max (s y) (r y))
       → Merged w t b g ws ms ws″ ms″
   merged-more {r} {ws″} {ms″} N g e = record {
-    row = λ y h. N .row y h ∙ ap (λ (x : ℕ). max x (r y)) (M .row y h) ∙ assoc (rowOf ws b (getD ms t 0) y) (s y) (r y) ∙ ap (max (rowOf ws b (getD ms t 0) y)) (sym (e y h));
+    row =
+        λ y h. N .row y h ∙ ap (λ (x : ℕ). max x (r y)) (M .row y h)
+        ∙ assoc (rowOf ws b (getD ms t 0) y) (s y) (r y) ∙ ap (max (rowOf ws b (getD ms t 0) y)) (sym (e y h));
     below = λ k h. N .below k h ∙ M .below k h;
     above = λ k h. N .above k h ∙ M .above k h;
     masks = λ k n. N .masks k n ∙ M .masks k n;

@@ -133,7 +133,9 @@ module _ (n w x : ℕ) (ws ms : List ℕ) where
   turned-all y ws′ ms′ l T = record {
     words = T .words;
     masks = T .masks;
-    second = T .second ∙ ap (union (second n w ws ms)) (within-same n (transpose (onlyRow x y (firstRows w ws ms))) (transpose (onlyRow x n (firstRows w ws ms))) same);
+    second =
+        T .second ∙ ap (union (second n w ws ms))
+        (within-same n (transpose (onlyRow x y (firstRows w ws ms))) (transpose (onlyRow x n (firstRows w ws ms))) same);
   }
     where
       same : (u v : ℕ) → u < n → v < n → transpose (onlyRow x y (firstRows w ws ms)) u v ≡ transpose (onlyRow x n (firstRows w ws ms)) u v
@@ -172,7 +174,8 @@ module _ (n w : ℕ) (ws ms : List ℕ) where
       nothing : within n (transpose (rowsBelow 0 (firstRows w ws ms))) ≡ noPairs
       nothing =
           sym (union-none (within n (transpose (rowsBelow 0 (firstRows w ws ms)))))
-          ∙ sym (union-empty n noPairs (transpose (rowsBelow 0 (firstRows w ws ms))) (λ u v. unfold transpose in (rows-out 0 (firstRows w ws ms) v u (omega arith))))
+          ∙ sym (union-empty n noPairs (transpose (rowsBelow 0 (firstRows w ws ms))) (λ u v. unfold transpose in
+          (rows-out 0 (firstRows w ws ms) v u (omega arith))))
 
   module _ (x : ℕ) (ws′ ms′ ws″ ms″ : List ℕ) (nl : n ≤ w * 64) (xl : x < n) (S : Turning n w x ws ms ws′ ms′) where
     here : (v : ℕ) → v < n → firstRows w ws′ ms′ x v ≡ firstRows w ws ms x v
@@ -186,7 +189,8 @@ module _ (n w : ℕ) (ws ms : List ℕ) where
       second =
           T .second ∙ ap (λ (a : Cells). union a (within n (transpose (onlyRow x n (firstRows w ws′ ms′))))) (S .second)
           ∙ sym (within-union n (transpose (rowsBelow x (firstRows w ws ms))) (transpose (onlyRow x n (firstRows w ws′ ms′))))
-          ∙ within-same n _ (transpose (rowsBelow (x + 1) (firstRows w ws ms))) (λ v u a b. unfold union transpose in (go u v a b (ℕ-discrete u x) (decLt u x)));
+          ∙ within-same n _ (transpose (rowsBelow (x + 1) (firstRows w ws ms))) (λ v u a b. unfold union transpose in
+          (go u v a b (ℕ-discrete u x) (decLt u x)));
     }
       where
         go : (u v : ℕ) → v < n → u < n → Dec (u ≡ x) → Dec (u < x)
@@ -211,8 +215,10 @@ module _ (n w : ℕ) (ws ms : List ℕ) where
           → within n (λ i j. rowsBelow n (firstRows w ws ms) j i) v u ≡ within n (firstRows w ws ms) u v
       go u v (yes a) (yes b) =
           within-in n (λ i j. rowsBelow n (firstRows w ws ms) j i) v u b a ∙ rows-in n (firstRows w ws ms) u v a ∙ sym (within-in n (firstRows w ws ms) u v a b)
-      go u v (no a) b = within-column n (λ i j. rowsBelow n (firstRows w ws ms) j i) v u (omega arith) ∙ sym (within-row n (firstRows w ws ms) u v (omega arith))
-      go u v (yes a) (no b) = within-row n (λ i j. rowsBelow n (firstRows w ws ms) j i) v u (omega arith) ∙ sym (within-column n (firstRows w ws ms) u v (omega arith))
+      go u v (no a) b =
+          within-column n (λ i j. rowsBelow n (firstRows w ws ms) j i) v u (omega arith) ∙ sym (within-row n (firstRows w ws ms) u v (omega arith))
+      go u v (yes a) (no b) =
+          within-row n (λ i j. rowsBelow n (firstRows w ws ms) j i) v u (omega arith) ∙ sym (within-column n (firstRows w ws ms) u v (omega arith))
 
 -- the first relation depends on its own masks
 pub first-same : (n w : ℕ) (ws ms ms′ : List ℕ) → ((k : ℕ) → k < n → getD ms′ k 0 ≡ getD ms k 0) → first n w ws ms′ ≡ first n w ws ms
@@ -244,7 +250,8 @@ taken-more n w i b ws ms ws′ ms′ ws″ ms″ il at T R =
     (λ y l. second-row n w i b (secondRows n w ws ms) ws ms ws′ ms′ il at T i il y l)
 
 -- a mask more of the second relation is empty
-pub second-zero : (ms : List ℕ) (n x : ℕ) → n + x < length ms → ((k : ℕ) → k < x → getD ms (n + k) 0 ≡ 0) → (k : ℕ) → k < x + 1 → getD (set ms (n + x) 0) (n + k) 0 ≡ 0
+pub second-zero : (ms : List ℕ) (n x : ℕ) → n + x < length ms
+    → ((k : ℕ) → k < x → getD ms (n + k) 0 ≡ 0) → (k : ℕ) → k < x + 1 → getD (set ms (n + x) 0) (n + k) 0 ≡ 0
 second-zero ms n x l z k h = go (ℕ-discrete k x)
   where
     go : Dec (k ≡ x) → getD (set ms (n + x) 0) (n + k) 0 ≡ 0

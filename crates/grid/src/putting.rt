@@ -2,7 +2,7 @@
 use crate::row::put;
 ghost use mathlib.Core.Path.{_≡_};
 ghost use mathlib.Core.List.{List, [], _∷_};
-ghost use Prim.Native.Nat.{ℕ, _*_, _≤_, _<_};
+ghost use Prim.Native.Nat.{ℕ, _*_, _≤_};
 ghost use lib.ListN.{length};
 ghost use Rattle.k2.specs.Bits.{bitAt};
 ghost use Rattle.k2.specs.PairSets.{union, diagonal};
@@ -25,7 +25,8 @@ pub fn start(masks: &mut [u16], n: usize)
 // The pair (x, y) put into the first relation, if both records are below n.
 fn put_pair(cells: &mut [u64], masks: &mut [u16], n: usize, w: usize, x: usize, y: usize)
     requires { ⌜ (n ≤ 1024) × (w ≤ 16) × (n ≤ w * 64) × (n * w ≤ length (now cells)) × (n ≤ length (now masks)) ⌝ }
-    ensures { λ _. ⌜ first n w (now (cells .exit)) (now (masks .exit)) ≡ union (first n w (now (cells .entry)) (now (masks .entry))) (within n (onePair x y)) ⌝ }
+    ensures { λ _. ⌜ first n w (now (cells .exit)) (now (masks .exit))
+        ≡ union (first n w (now (cells .entry)) (now (masks .entry))) (within n (onePair x y)) ⌝ }
 {
     if n <= x {
         return;

@@ -1,5 +1,11 @@
 -- `lower` of `specs/Relax.antt` on each way through the code: where it stops, and where it stores.
 -- A value that the code reads from its bits is `toZ w64 (ofZ w64 z)`: each law takes the facts as the code's tests leave them.
+--   no-from, no-to     a record past the end: nothing is done
+--   too-low, too-high  a distance that is not known: nothing is done
+--   sum-fits           the sum of a known distance and a limit fits 64 bits
+--   stored, stayed     the sum is lower, and is stored; it is not, and nothing is done
+--   pair, both         the two arcs of a tie, one after the other
+--   all-three          the same in all three parts
 -- Assumes nothing.
 use mathlib.Core.Path.{_≡_, sym, _∙_, ap, subst}
 use Prim.Native.Nat.{ℕ, _+_, _*_, _≤_, _<_, _^_}

@@ -33,8 +33,10 @@ use Rattle.pairs.specs.declared.PairsAnswer.{PairsAnswer}
 use Rattle.pairs.specs.declared.PairsAnswer.the-variants.{Pairs as Told, Refused as Turned}
 use Rattle.pairs.specs.Asking.{Tells, rowWords, relationAnswer, RelatesFor}
 use Rattle.pages.specs.Pages.{pages}
-use Rattle.pages.specs.PageCalls.{Filled, refused, filled, spaceAfter, printOutcome, told-number, told-bytes, BookPrints, bytesWritten, Prints, Content, listing, nothing, are-pages, no-pages, readOutcome, TellsPairs, told-refusal, told-pairs, ReadsPages}
-use Rattle.pages.specs.PageCallLaws.{tells-number, Asked, asked-enough, print-refused, print-short, print-filled, read-refused, read-broken, read-short, read-filled}
+use Rattle.pages.specs.PageCalls.{Filled, refused, filled, spaceAfter, printOutcome, told-number, told-bytes, BookPrints, bytesWritten, Prints, Content}
+use Rattle.pages.specs.PageCalls.{listing, nothing, are-pages, no-pages, readOutcome, TellsPairs, told-refusal, told-pairs, ReadsPages}
+use Rattle.pages.specs.PageCallLaws.{tells-number, Asked, asked-enough, print-refused, print-short, print-filled, read-refused, read-broken, read-short}
+use Rattle.pages.specs.PageCallLaws.{read-filled}
 use Rattle.pages.specs.Lines.{wordsBefore, LaidOut, no-room, laid-out, Judged, good, bad}
 use Rattle.pages.specs.declared.PagesAnswer.{PagesAnswer}
 use Rattle.pages.specs.declared.PagesAnswer.the-variants.{Refused}
@@ -62,14 +64,16 @@ module _ (r : Register) (text : List ℕ) (work : ℕ) (none rows before : List 
     caused = λ j d. let z : k ≡ j = cc in A .caused j (e ∙ ap Turned z);
     book = λ b R.
         let o : printOutcome b text work (length before) ≡ refused k =
-        print-refused b text work (length before) k (verdict text) refl (tells-number e (subst (λ (i : ℕ). Tells (relationAnswer b (verdict text) work i) q) wide (A .book b R .tells))) in
+        print-refused b text work (length before) k (verdict text) refl
+        (tells-number e (subst (λ (i : ℕ). Tells (relationAnswer b (verdict text) work i) q) wide (A .book b R .tells))) in
         record { tells = rw o told-number; space = rw o refl };
   }
 
   laid-past : {ws after : List ℕ} {a : PagesAnswer} → LaidOut text ws before after a → drop (bytesWritten a) after ≡ drop (bytesWritten a) before
   unfolding bytesWritten
   laid-past (no-room h e) = e
-  laid-past {ws} (laid-out h e) = ap (drop (length (pages text ws))) e ∙ drop-at (pages text ws) (drop (length (pages text ws)) before) (length (pages text ws)) refl
+  laid-past {ws} (laid-out h e) =
+      ap (drop (length (pages text ws))) e ∙ drop-at (pages text ws) (drop (length (pages text ws)) before) (length (pages text ws)) refl
 
   laid-unchanged : {ws after : List ℕ} {a : PagesAnswer} (k : ℕ) → LaidOut text ws before after a → a ≡ Refused k → after ≡ before
   laid-unchanged k (no-room h e) d = e
@@ -88,10 +92,12 @@ module _ (r : Register) (text : List ℕ) (work : ℕ) (none rows before : List 
       record { tells = rw o told-number; space = rw o z }
   laid-book b e v q {ws} {after} w (laid-out h z) =
       let o : printOutcome b text work (length before) ≡ filled (pages text ws) =
-      print-filled b text work (length before) e v (q .enough) (subst (λ (l : List ℕ). length (pages text l) ≤ length before) w h) ∙ ap (λ (l : List ℕ). filled (pages text l)) (sym w) in
+      print-filled b text work (length before) e v (q .enough) (subst (λ (l : List ℕ). length (pages text l) ≤ length before) w h)
+      ∙ ap (λ (l : List ℕ). filled (pages text l)) (sym w) in
       record { tells = rw o told-bytes; space = rw o z }
 
-  pub prints-laid : {t : ℕ} {q : PairsAnswer} {after : List ℕ} {a : PagesAnswer} → q ≡ Told t → take rowWords rows ≡ rows → RelatesFor r (verdict text) work none rows q
+  pub prints-laid : {t : ℕ} {q : PairsAnswer} {after : List ℕ} {a : PagesAnswer}
+      → q ≡ Told t → take rowWords rows ≡ rows → RelatesFor r (verdict text) work none rows q
       → LaidOut text (pairsIn 1024 rows) before after a → Prints r text work before after a
   prints-laid {t} {q} {after} {a} d whole A L = record {
     past = laid-past L;

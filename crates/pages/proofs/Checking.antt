@@ -22,14 +22,16 @@ use lib.ListN.{length, take, drop, getD, length-append}
 use lib.Seq.{length-take-le, getD-take}
 use Rattle.k2.specs.PairSetLaws.{Within, ends, within-length}
 use Rattle.pages.specs.Pages.{pairLine, headLine}
-use Rattle.pages.specs.Lines.{pairWords, mostLines, linesOf, cellWords, byteLine, wordsAt, wordsBefore, after, Stands, Rising, up, down, Line, stands, falls, Judged, good, bad}
+use Rattle.pages.specs.Lines.{pairWords, mostLines, linesOf, cellWords, byteLine, wordsAt, wordsBefore, after, Stands, Rising, up, down, Line, stands}
+use Rattle.pages.specs.Lines.{falls, Judged, good, bad}
 use Rattle.pages.specs.LineLaws.{line-head, line-pairs, joined-next}
 use Rattle.pages.specs.ReadLaws.{words-head, words-pairs, after-le, after-append, within-small, AsPages, pages-stand, stand-within, stand-pages}
 use Rattle.pages.specs.declared.Judgement.{Judgement}
 use Rattle.pages.specs.declared.Judgement.the-variants.{Listing, Broken}
 
 -- ---- one line
-pub rising-small : {low next : ℕ} (ws : List ℕ) (n : ℕ) → n ≤ length ws → Rising low (take n ws) next → next ≤ pairWords → (i : ℕ) → i < n → getD ws i 0 < pairWords
+pub rising-small : {low next : ℕ} (ws : List ℕ) (n : ℕ) → n ≤ length ws
+    → Rising low (take n ws) next → next ≤ pairWords → (i : ℕ) → i < n → getD ws i 0 < pairWords
 rising-small ws n h (up W) l i k =
     let e = length-take-le n ws h in
     subst (λ (v : ℕ). v < pairWords) (getD-take n ws i 0 k) (within-small (take n ws) W i (omega arith))
@@ -64,7 +66,8 @@ module _ (text bytes : List ℕ) (i last low : ℕ) where
     pub line-falls : (byteLine bytes i ≡ pairLine ws → ⊥) → Line text bytes i last low 0 (pairWords + 1)
     line-falls n = falls (λ S. n (S .shows ∙ line-pairs text (wordsAt bytes i) i p ∙ ap pairLine is-words))
 
-    pub line-stands : {next : ℕ} → Rising low ws next → next ≤ pairWords → byteLine bytes i ≡ pairLine ws → (i + 1 < last → length ws ≡ 6) → Line text bytes i last low (length ws) next
+    pub line-stands : {next : ℕ} → Rising low ws next → next ≤ pairWords → byteLine bytes i ≡ pairLine ws
+        → (i + 1 < last → length ws ≡ 6) → Line text bytes i last low (length ws) next
     line-stands (down n) h s f = absurd (omega arith)
     line-stands (up W) h s f =
         let S : Stands text bytes i last low = record {

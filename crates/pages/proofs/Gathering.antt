@@ -32,7 +32,8 @@ pub ahead-hit : (f : ℕ → ℕ) (r : ℕ) → r < pairWords → f r ≡ 1 → 
 unfolding ahead
 ahead-hit f r h e =
     let s : pairWords - r ≡ suc (pairWords - (r + 1)) = omega arith in
-    ap (ahead f r) s ∙ ap (λ (v : ℕ). ifSet v r ++ ahead f (suc r) (pairWords - (r + 1))) e ∙ ap (λ (q : ℕ). r ∷ ahead f q (pairWords - (r + 1))) (sym (add-one r))
+    ap (ahead f r) s ∙ ap (λ (v : ℕ). ifSet v r ++ ahead f (suc r) (pairWords - (r + 1))) e
+    ∙ ap (λ (q : ℕ). r ∷ ahead f q (pairWords - (r + 1))) (sym (add-one r))
 
 pub ahead-end : (f : ℕ → ℕ) → ahead f pairWords (pairWords - pairWords) ≡ []
 unfolding ahead
@@ -51,7 +52,8 @@ unfolding places
 places-all f n e = ap (places f) (e ∙ sym (zero-add pairWords)) ∙ places-ahead f 0 pairWords
 
 -- one more is found
-pub gathered-more : (f : ℕ → ℕ) (words l : List ℕ) (count place next : ℕ) → count < length words → place ≤ next → next < pairWords → Gap f place next → f next ≡ 1
+pub gathered-more : (f : ℕ → ℕ) (words l : List ℕ) (count place next : ℕ)
+    → count < length words → place ≤ next → next < pairWords → Gap f place next → f next ≡ 1
     → l ≡ take count words ++ ahead f place (pairWords - place) → l ≡ take (count + 1) (set words count next) ++ ahead f (next + 1) (pairWords - (next + 1))
 gathered-more f words l count place next c h n g e q =
     let rest = ahead f (next + 1) (pairWords - (next + 1)) in

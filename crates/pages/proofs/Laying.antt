@@ -33,8 +33,11 @@ gathered-six f p {words} {q} {count} n G = go (decLt count 6)
 
     go : Dec (count < 6) → (take 6 (ahead f p (pairWords - p)) ≡ take count words) × (drop 6 (ahead f p (pairWords - p)) ≡ rest)
     go (yes h) =
-        let s : ahead f p (pairWords - p) ≡ take count words = G .found ∙ ap (λ (t : List ℕ). take count words ++ t) (G .all h) ∙ append-nil (take count words) in
-        (ap (take 6) s ∙ take-all 6 (take count words) (omega (arith, long)), ap (drop 6) s ∙ drop-of-length-le (take count words) {i = 6} (omega (arith, long)) ∙ sym (G .all h))
+        let s : ahead f p (pairWords - p) ≡ take count words =
+        G .found ∙ ap (λ (t : List ℕ). take count words ++ t) (G .all h) ∙ append-nil (take count words) in (
+          ap (take 6) s ∙ take-all 6 (take count words) (omega (arith, long)),
+          ap (drop 6) s ∙ drop-of-length-le (take count words) {i = 6} (omega (arith, long)) ∙ sym (G .all h),
+        )
     go (no h) =
         let z : length (take count words) ≡ 6 = omega (arith, long, G .few) in
         (ap (take 6) (G .found) ∙ take-at (take count words) rest 6 z, ap (drop 6) (G .found) ∙ drop-at (take count words) rest 6 z)
@@ -58,7 +61,8 @@ module _ (f : ℕ → ℕ) (text : List ℕ) (i p : ℕ) {before after : List �
   laid-pairs {words} {q} {count} {r} e n G w =
       let few : count ≤ length words = omega (arith, G .few) in
       let z : r ≡ 73 * i + 73 =
-      w .place ∙ ap (λ (n : ℕ). 73 * i + n) (length-pair-line (take count words) (small-take words count few (G .small)) (omega (arith, G .few, length-take-le count words few))) in
+      w .place ∙ ap (λ (n : ℕ). 73 * i + n)
+      (length-pair-line (take count words) (small-take words count few (G .small)) (omega (arith, G .few, length-take-le count words few))) in
       let s = gathered-six f p n G in
       record {
         in-range = G .in-range;

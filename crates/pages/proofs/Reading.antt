@@ -64,18 +64,22 @@ module _ (words : List ℕ) (low i : ℕ) where
   rising-more h W a b =
       let w = getD words i 0 in
       let e : take (i + 1) words ≡ take i words ++ (w ∷ []) = ap (λ (n : ℕ). take n words) (add-one i) ∙ take-suc words i 0 h in
-      let n : Within (after low (take i words)) (w ∷ []) pairWords = goes {w = w} a (ends {m = suc w} {t = pairWords} (omega arith)) in
-      (ap (after low) e ∙ after-append low (take i words) (w ∷ []) ∙ sym (add-one w), subst (λ (l : List ℕ). Within low l pairWords) (sym e) (within-then (take i words) (w ∷ []) W n))
+      let n : Within (after low (take i words)) (w ∷ []) pairWords = goes {w = w} a (ends {m = suc w} {t = pairWords} (omega arith)) in (
+        ap (after low) e ∙ after-append low (take i words) (w ∷ []) ∙ sym (add-one w),
+        subst (λ (l : List ℕ). Within low l pairWords) (sym e) (within-then (take i words) (w ∷ []) W n),
+      )
 
   first-rises : {m w : ℕ} {l k : List ℕ} → k ≡ w ∷ l → Within m k pairWords → (m ≤ w) × (w < pairWords)
   first-rises e (ends h) = absurd (let z : _≡_ {A = ℕ} 0 1 = cc in omega arith)
   first-rises {m} {w} e (goes {w = v} h q) = let z : v ≡ w = cc in (omega arith, omega (arith, within-length q))
 
-  pub rising-not : (count : ℕ) → i < count → count ≤ length words → Within low (take count words) pairWords → (after low (take i words) ≤ getD words i 0) × (getD words i 0 < pairWords)
+  pub rising-not : (count : ℕ) → i < count → count ≤ length words → Within low (take count words) pairWords
+      → (after low (take i words) ≤ getD words i 0) × (getD words i 0 < pairWords)
   rising-not count h l W =
       let n : length (take count words) ≡ count = length-take-le count words l in
       let e : take count words ≡ take i words ++ (getD words i 0 ∷ drop (suc i) (take count words)) =
-      split-at (take count words) i 0 (omega arith) ∙ ap (λ (t : List ℕ). t ++ (getD (take count words) i 0 ∷ drop (suc i) (take count words))) (take-take i count words (omega arith))
+      split-at (take count words) i 0 (omega arith)
+      ∙ ap (λ (t : List ℕ). t ++ (getD (take count words) i 0 ∷ drop (suc i) (take count words))) (take-take i count words (omega arith))
       ∙ ap (λ (v : ℕ). take i words ++ (v ∷ drop (suc i) (take count words))) (getD-take count words i 0 h) in
       first-rises refl (within-rest (take i words) (getD words i 0 ∷ drop (suc i) (take count words)) (subst (λ (t : List ℕ). Within low t pairWords) e W) .1)
 
@@ -89,6 +93,7 @@ pub joined-fits : (f : ℕ → List ℕ) (i n : ℕ) → i < n → length (joine
 joined-fits f i n h =
     let s : n ≡ (i + 1) + (n - (i + 1)) = omega arith in
     let e : length (joined f n) ≡ length (joined f (i + 1)) + length (joined (λ j. f (i + 1 + j)) (n - (i + 1))) =
-    ap (λ (m : ℕ). length (joined f m)) s ∙ ap length (joined-add f (i + 1) (n - (i + 1))) ∙ length-append (joined f (i + 1)) (joined (λ j. f (i + 1 + j)) (n - (i + 1))) in
+    ap (λ (m : ℕ). length (joined f m)) s ∙ ap length (joined-add f (i + 1) (n - (i + 1)))
+    ∙ length-append (joined f (i + 1)) (joined (λ j. f (i + 1 + j)) (n - (i + 1))) in
     let g : length (joined f (i + 1)) ≡ length (joined f i) + length (f i) = ap length (joined-next f i) ∙ length-append (joined f i) (f i) in
     omega arith

@@ -25,7 +25,8 @@ pub wrote-pairs : {p q r s : ℕ} {l m k j : List ℕ} (ws : List ℕ) (n : ℕ)
     → Wrote p (lines pairCell (take n ws)) l m q → Wrote q (blanks (72 - 12 * n)) m k r → Wrote r (newline ∷ []) k j s → Wrote p (pairLine (take n ws)) l j s
 unfolding pairLine padded
 wrote-pairs ws n h small a b c =
-    let e : length (lines pairCell (take n ws)) ≡ 12 * n = length-cells (take n ws) (small-take ws n h small) ∙ ap (λ (i : ℕ). 12 * i) (length-take-le n ws h) in
+    let e : length (lines pairCell (take n ws)) ≡ 12 * n =
+    length-cells (take n ws) (small-take ws n h small) ∙ ap (λ (i : ℕ). 12 * i) (length-take-le n ws h) in
     wrote-as (ap (λ (i : ℕ). line (lines pairCell (take n ws) ++ blanks (72 - i))) (sym e)) (wrote-then (wrote-then a b) c)
 
 shown-take : (text : List ℕ) (n : ℕ) → n ≡ min 60 (length text) → take n text ≡ take 60 text
@@ -41,7 +42,8 @@ pub wrote-head : {p q r s t : ℕ} {l m k j i : List ℕ} (text : List ℕ) (n p
 unfolding headLine padded
 wrote-head text n page e a b c d =
     let f : n ≡ length (take 60 text) = e ∙ sym (length-take 60 text) in
-    wrote-as (ap₂ (λ (u : List ℕ) (v : ℕ). line ((u ++ blanks (60 - v)) ++ rightAligned 12 (page + 1))) (shown-take text n e) f) (wrote-then (wrote-then (wrote-then a b) c) d)
+    wrote-as (ap₂ (λ (u : List ℕ) (v : ℕ). line ((u ++ blanks (60 - v)) ++ rightAligned 12 (page + 1))) (shown-take text n e) f)
+    (wrote-then (wrote-then (wrote-then a b) c) d)
 
 -- a line written into a space of its length is that space
 pub wrote-whole : {t l m : List ℕ} {q : ℕ} → length m ≡ 73 → length t ≡ 73 → Wrote 0 t l m q → m ≡ t

@@ -34,7 +34,8 @@ use Rattle.pairs.specs.declared.PairsAnswer.the-variants.{Pairs, Refused}
 use Rattle.pairs.specs.Asking.{Tells, told-number, told-pairs, rowWords, relationAnswer, relationCauses}
 use Rattle.pairs.specs.AskingLaws.{relation-short, relation-paired}
 use Rattle.pages.specs.Pages.{pages}
-use Rattle.pages.specs.PageCalls.{refused, filled, printCauses, printOutcome, Content, listing, nothing, wordsIn, isNothing, readOrder, readCauses, readOutcome}
+use Rattle.pages.specs.PageCalls.{refused, filled, printCauses, printOutcome, Content, listing, nothing, wordsIn, isNothing, readOrder, readCauses}
+use Rattle.pages.specs.PageCalls.{readOutcome}
 
 -- ---- printing
 pub tells-number : {o : Outcome} {a : PairsAnswer} {k : ℕ} → a ≡ Refused k → Tells o a → o ≡ turned k

@@ -28,7 +28,8 @@ use Rattle.register.specs.declared.Register.{Register}
 use Rattle.pairs.specs.Asking.{relationAnswer, relationCauses, rowWords}
 use Rattle.pairs.specs.AskingLaws.{relation-short}
 use Rattle.pages.specs.Pages.{pages, IsPages}
-use Rattle.pages.specs.PageCalls.{Filled, refused, filled, spaceAfter, printOutcome, TellsBytes, told-number, told-bytes, Prints, Content, listing, nothing, Holds, are-pages, no-pages, readCauses, readOutcome, TellsPairs, told-refusal, told-pairs, ReadsPages}
+use Rattle.pages.specs.PageCalls.{Filled, refused, filled, spaceAfter, printOutcome, TellsBytes, told-number, told-bytes, Prints, Content, listing}
+use Rattle.pages.specs.PageCalls.{nothing, Holds, are-pages, no-pages, readCauses, readOutcome, TellsPairs, told-refusal, told-pairs, ReadsPages}
 use Rattle.pages.specs.PageCallLaws.{print-refused, print-short, print-filled, read-broken, read-short, read-filled}
 use Rattle.pages.specs.Lines.{linesOf, wordsBefore}
 use Rattle.pages.specs.ReadLaws.{pages-stand}
@@ -46,7 +47,8 @@ pages-only {text} {bytes} {l} {m} P Q =
     sym (A .words) ∙ ap (wordsBefore bytes) n ∙ B .words
 
 pub pages-tell : (text l m : List ℕ) → Rises 0 l → PairsBelow maxRecords l → Rises 0 m → PairsBelow maxRecords m → pages text l ≡ pages text m → l ≡ m
-pages-tell text l m r b s c e = pages-only {text = text} {bytes = pages text l} (record { ascending = r; below = b; are = refl }) (record { ascending = s; below = c; are = e })
+pages-tell text l m r b s c e =
+    pages-only {text = text} {bytes = pages text l} (record { ascending = r; below = b; are = refl }) (record { ascending = s; below = c; are = e })
 
 pub holds-only : {text bytes : List ℕ} {c d : Content} → Holds text bytes c → Holds text bytes d → c ≡ d
 holds-only (are-pages P) (are-pages Q) = ap listing (pages-only P Q)
@@ -72,7 +74,8 @@ record Printed (b : Book) (text : List ℕ) (work room k : ℕ) : Type 0 where
   pub outcome : printOutcome b text work room ≡ filled (pages text (pairs (asked b) syntax))
   pub size : k ≡ length (pages text (pairs (asked b) syntax))
 
-printed : (b : Book) (text : List ℕ) (work room k : ℕ) (v : Verdict) → verdict text ≡ v → TellsBytes (printOutcome b text work room) (Bytes k) → Printed b text work room k
+printed : (b : Book) (text : List ℕ) (work room k : ℕ) (v : Verdict) → verdict text ≡ v
+    → TellsBytes (printOutcome b text work room) (Bytes k) → Printed b text work room k
 unfolding relationAnswer relationCauses verdictCause firstNumber number
 printed b text work room k long v T = absurd (not-refused T refl (print-refused b text work room 10 long v refl))
 printed b text work room k outside v T = absurd (not-refused T refl (print-refused b text work room 9 outside v refl))

@@ -460,7 +460,8 @@ fn list_lines(pages: &[u8], lines: usize, list: &mut [u32])
 
 // The pairs of pages, the expression being accepted.
 fn read_accepted(text: &[u8], pages: &[u8], list: &mut [u32]) -> ReadAnswer
-    ensures { λ a. ⌜ ((e : Expr) → verdict (now (text .entry)) ≡ accepted e → ReadsPages (now (text .entry)) (now (pages .entry)) (now (list .entry)) (now (list .exit)) a) ⌝ }
+    ensures { λ a. ⌜ ((e : Expr) → verdict (now (text .entry)) ≡ accepted e
+        → ReadsPages (now (text .entry)) (now (pages .entry)) (now (list .entry)) (now (list .exit)) a) ⌝ }
 {
     let judgement = judge(text, pages);
     match judgement {

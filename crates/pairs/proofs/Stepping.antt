@@ -41,8 +41,10 @@ use Rattle.tree.specs.Inner.{nothing, treeAlone, flipped, valued, outcome, Room
 use Rattle.tree.specs.InnerLaws.{valued-flipped, valued-alone, valued-nothing, term-set}
 use Rattle.pairs.specs.declared.Stack.{Stack}
 use Rattle.pairs.specs.declared.Taken.{Taken}
-use Rattle.pairs.specs.Evaluation.{relations, lettersOperand, pushed, turned, onTop, belowTop, takenNone, takenOne, takenTwo, Standing, Ready, Waiting, Totals, Placed, Room}
-use Rattle.pairs.specs.EvaluationLaws.{Unary, Binary, unary-one, binary-two, does-letters, does-inverse, does-one, does-two, standing-top, standing-kept, standing-put, waits-next}
+use Rattle.pairs.specs.Evaluation.{relations, lettersOperand, pushed, turned, onTop, belowTop, takenNone, takenOne, takenTwo, Standing, Ready, Waiting}
+use Rattle.pairs.specs.Evaluation.{Totals, Placed, Room}
+use Rattle.pairs.specs.EvaluationLaws.{Unary, Binary, unary-one, binary-two, does-letters, does-inverse, does-one, does-two, standing-top, standing-kept}
+use Rattle.pairs.specs.EvaluationLaws.{standing-put, waits-next}
 use Rattle.pairs.specs.RoomLaws.{placed-put, room-operands, room-next, totals-below, totals-most}
 use Rattle.pairs.specs.LetterLaws.{links-below, letters-crossed, zero-used, used-below}
 use Rattle.pairs.specs.Steps.{Lettered, Taking, Takes, Goes}
@@ -58,7 +60,8 @@ module _ (work part : List ℕ) (start : ℕ) (h : start ≤ length work) where
   back : drop start changed ≡ part
   back =
       drop-at (take start work) (part ++ drop (length work - start) (drop start work)) start (length-take-le start work h)
-      ∙ ap (λ (l : List ℕ). part ++ l) (drop-drop (length work - start) start work ∙ ap (λ (k : ℕ). drop k work) (let e : start + (length work - start) ≡ length work = omega arith in e) ∙ drop-length work)
+      ∙ ap (λ (l : List ℕ). part ++ l) (drop-drop (length work - start) start work
+      ∙ ap (λ (k : ℕ). drop k work) (let e : start + (length work - start) ≡ length work = omega arith in e) ∙ drop-length work)
       ∙ append-nil part
 
 -- a list's first words, as many as another has
@@ -102,7 +105,8 @@ module _ {d : ℕ} {y : Item} {S : Stack} (P : Placed d S) (Q : Ready y (S .coun
         behind = none-tree (g .n);
         stand = s;
         does = ap (λ (i : Item). does (relations g) i st) e ∙ does-letters g forward against st ∙ ap (λ (x : Cells). x ∷ st)
-            (sym (ap₂ union (valued-nothing ws) (union-none (crossedWords ws forward against)) ∙ union-none (crossedWords ws forward against) ∙ l forward against));
+            (sym (ap₂ union (valued-nothing ws) (union-none (crossedWords ws forward against))
+            ∙ union-none (crossedWords ws forward against) ∙ l forward against));
       }
 
   module _ (some : 1 ≤ operands y) where
@@ -116,8 +120,12 @@ module _ {d : ℕ} {y : Item} {S : Stack} (P : Placed d S) (Q : Ready y (S .coun
     -- the same of the operand on top, read with the other sense
     pub has-turned : (1 ≤ S .count) × (S .count ≤ 19) × (length (turned S .operands) ≡ 19) × (onTop (turned S) .size ≤ S .end)
     has-turned =
-        let h = has-one in
-        (h .0, h .1, length-set (S .operands) (S .count - 1) (flipped (onTop S)) ∙ h .2, rw (getD-set-same (S .operands) (S .count - 1) (flipped (onTop S)) nothing (omega arith)) (h .3))
+        let h = has-one in (
+          h .0,
+          h .1,
+          length-set (S .operands) (S .count - 1) (flipped (onTop S)) ∙ h .2,
+          rw (getD-set-same (S .operands) (S .count - 1) (flipped (onTop S)) nothing (omega arith)) (h .3),
+        )
 
   -- `^`
   pub takes-inverse : y ≡ Inverse → Takes d y S (takenOne Union (turned S))
@@ -125,13 +133,21 @@ module _ {d : ℕ} {y : Item} {S : Stack} (P : Placed d S) (Q : Ready y (S .coun
       let o : operands y ≡ 1 = ap operands e in
       let t = top-totals (omega arith) in
       let h = has-one (omega arith) in
-      subst (λ (o : Operand). Takes d y S (record { term = record { operation = Union; first = nothing; second = o }; start = S .end - o .size; below = S .count - 1 }))
+      subst (λ (o : Operand). Takes d y S (record {
+        term = record { operation = Union; first = nothing; second = o };
+        start = S .end - o .size;
+        below = S .count - 1;
+      }))
       (sym (getD-set-same (S .operands) (S .count - 1) (flipped (onTop S)) nothing (omega arith)))
       (record { below = omega arith; totals = t .2; first = omega arith; second = t .1; taking = taken (h .0) })
     where
       taken : 1 ≤ S .count → (g : Graph) (ws work : List ℕ) (u : ℕ → ℕ) (st : List Cells) → diagonal u ≡ zeroSteps g
           → ((f a : ℕ) → crossedWords ws f a ≡ crossedBy g (lettersIn f a)) → Standing (g .n) ws work (S .operands) (S .count) (S .end) st
-          → Taking g ws work u y S (record { term = record { operation = Union; first = nothing; second = flipped (onTop S) }; start = S .end - onTop S .size; below = S .count - 1 }) st
+          → Taking g ws work u y S (record {
+            term = record { operation = Union; first = nothing; second = flipped (onTop S) };
+            start = S .end - onTop S .size;
+            below = S .count - 1;
+          }) st
       taken h g ws work u st z l s =
           let T = standing-top s (S .count - 1) (omega arith) in
           record {
@@ -143,8 +159,11 @@ module _ {d : ℕ} {y : Item} {S : Stack} (P : Placed d S) (Q : Ready y (S .coun
             front = none-tree (g .n);
             behind = T .tree;
             stand = T .below;
-            does = ap₂ (λ (i : Item) (x : List Cells). does (relations g) i x) e (T .is) ∙ (does-inverse g (valued ws (onTop S) (T .a)) (T .others) ∙ ap (λ (x : Cells). x ∷ T .others)
-                (sym (valued-flipped ws (onTop S) (T .a)) ∙ sym (union-none _) ∙ ap (λ (x : Cells). union x (valued ws (flipped (onTop S)) (T .a))) (sym (valued-nothing ws))));
+            does =
+                ap₂ (λ (i : Item) (x : List Cells). does (relations g) i x) e (T .is)
+                ∙ (does-inverse g (valued ws (onTop S) (T .a)) (T .others) ∙ ap (λ (x : Cells). x ∷ T .others)
+                (sym (valued-flipped ws (onTop S) (T .a)) ∙ sym (union-none _)
+                ∙ ap (λ (x : Cells). union x (valued ws (flipped (onTop S)) (T .a))) (sym (valued-nothing ws))));
           }
 
   -- an operator on one operand
@@ -156,7 +175,8 @@ module _ {d : ℕ} {y : Item} {S : Stack} (P : Placed d S) (Q : Ready y (S .coun
       record { below = omega arith; totals = t .2; first = omega arith; second = t .1; taking = taken (h .0) }
     where
       taken : 1 ≤ S .count → (g : Graph) (ws work : List ℕ) (u : ℕ → ℕ) (st : List Cells) → diagonal u ≡ zeroSteps g
-          → ((f a : ℕ) → crossedWords ws f a ≡ crossedBy g (lettersIn f a)) → Standing (g .n) ws work (S .operands) (S .count) (S .end) st → Taking g ws work u y S (takenOne k S) st
+          → ((f a : ℕ) → crossedWords ws f a ≡ crossedBy g (lettersIn f a))
+          → Standing (g .n) ws work (S .operands) (S .count) (S .end) st → Taking g ws work u y S (takenOne k S) st
       taken h g ws work u st z l s =
           let T = standing-top s (S .count - 1) (omega arith) in
           record {
@@ -174,7 +194,8 @@ module _ {d : ℕ} {y : Item} {S : Stack} (P : Placed d S) (Q : Ready y (S .coun
 
   -- an operator on two
   module _ {k : Operation} (B : Binary y k) where
-    below-totals : (belowTop S .size ≤ S .end - onTop S .size) × (belowTop S .size ≤ d) × Totals d (S .operands) (S .count - 1 - 1) (S .end - onTop S .size - belowTop S .size)
+    below-totals : (belowTop S .size ≤ S .end - onTop S .size) × (belowTop S .size ≤ d)
+        × Totals d (S .operands) (S .count - 1 - 1) (S .end - onTop S .size - belowTop S .size)
     below-totals = let o = binary-two B in totals-below (top-totals (omega arith) .2) (S .count - 1 - 1) (omega (arith, Q .found))
 
     pub has-two : (2 ≤ S .count) × (S .count ≤ 19) × (length (S .operands) ≡ 19) × (onTop S .size ≤ S .end) × (belowTop S .size ≤ S .end - onTop S .size)
@@ -189,7 +210,8 @@ module _ {d : ℕ} {y : Item} {S : Stack} (P : Placed d S) (Q : Ready y (S .coun
         record { below = omega arith; totals = t′ .2; first = t′ .1; second = t .1; taking = taken (h .0) }
       where
         taken : 2 ≤ S .count → (g : Graph) (ws work : List ℕ) (u : ℕ → ℕ) (st : List Cells) → diagonal u ≡ zeroSteps g
-            → ((f a : ℕ) → crossedWords ws f a ≡ crossedBy g (lettersIn f a)) → Standing (g .n) ws work (S .operands) (S .count) (S .end) st → Taking g ws work u y S (takenTwo k S) st
+            → ((f a : ℕ) → crossedWords ws f a ≡ crossedBy g (lettersIn f a))
+            → Standing (g .n) ws work (S .operands) (S .count) (S .end) st → Taking g ws work u y S (takenTwo k S) st
         taken n g ws work u st z l s =
             let T = standing-top s (S .count - 1) (omega arith) in
             let U = standing-top (T .below) (S .count - 1 - 1) (omega arith) in
@@ -201,7 +223,9 @@ module _ {d : ℕ} {y : Item} {S : Stack} (P : Placed d S) (Q : Ready y (S .coun
               first = U .set;
               second = T .set;
               front = U .tree;
-              behind = ap (take (onTop S .size)) (drop-drop (belowTop S .size) (S .end - onTop S .size - belowTop S .size) work ∙ ap (λ (i : ℕ). drop i work) q) ∙ T .tree;
+              behind =
+                  ap (take (onTop S .size)) (drop-drop (belowTop S .size) (S .end - onTop S .size - belowTop S .size) work ∙ ap (λ (i : ℕ). drop i work) q)
+                  ∙ T .tree;
               stand = U .below;
               does = ap (does (relations g) y) (T .is ∙ ap (λ (x : List Cells). valued ws (onTop S) (T .a) ∷ x) (U .is))
                   ∙ does-two g u z B (valued ws (belowTop S) (U .a)) (valued ws (onTop S) (T .a)) (U .others);
@@ -216,24 +240,29 @@ module _ (n forward against : ℕ) (ws used work : List ℕ) (S : Stack) where
   abbrev letters : Operand
   letters = lettersOperand forward against
 
-  letters-room : (i : ℕ) (c : List ℕ) → itemOf i ≡ Letters forward against → Room (treeUnit n) (i ∷ c) S → Room (treeUnit n) c (pushed letters (S .count) (S .end) S)
+  letters-room : (i : ℕ) (c : List ℕ) → itemOf i ≡ Letters forward against
+      → Room (treeUnit n) (i ∷ c) S → Room (treeUnit n) c (pushed letters (S .count) (S .end) S)
   letters-room i c e R =
       let o : operands (itemOf i) ≡ 0 = ap operands e in
       let z : S .end + 0 ≡ S .end = omega arith in
       room-next R (subst (λ (j : ℕ). Placed (treeUnit n) (pushed letters (S .count) j S)) z
       (placed-put (S .end) (S .count) letters (R .placed) (R .placed .totals) (omega arith) (let q = room-operands R in omega (arith, q .room)))) (omega arith)
 
-  letters-waits : (b : Book) → Lettered b n ws used → (e : Expr) (i : ℕ) (c : List ℕ) (st : List Cells) → itemOf i ≡ Letters forward against → length (S .operands) ≡ 19 → S .count < 19
+  letters-waits : (b : Book) → Lettered b n ws used → (e : Expr) (i : ℕ) (c : List ℕ) (st : List Cells)
+      → itemOf i ≡ Letters forward against → length (S .operands) ≡ 19 → S .count < 19
       → Waiting (asked b) e (i ∷ c) ws work S st → (st′ : List Cells) × Waiting (asked b) e c ws work (pushed letters (S .count) (S .end) S) st′
   unfolding asked
   letters-waits b L e i c st is k m w =
       let g : Graph = asked b in
-      let v : valued ws letters noPairs ≡ crossedBy g (lettersIn forward against) = union-none (crossedWords ws forward against) ∙ letters-crossed b n ws used L forward against in
+      let v : valued ws letters noPairs ≡ crossedBy g (lettersIn forward against) =
+      union-none (crossedWords ws forward against) ∙ letters-crossed b n ws used L forward against in
       let z : S .end + 0 ≡ S .end = omega arith in (
         valued ws letters noPairs ∷ st,
-        waits-next (valued ws letters noPairs ∷ st) w (ap (λ (y : Item). does (relations g) y st) is ∙ does-letters g forward against st ∙ ap (λ (a : Cells). a ∷ st) (sym v))
+        waits-next (valued ws letters noPairs ∷ st) w
+            (ap (λ (y : Item). does (relations g) y st) is ∙ does-letters g forward against st ∙ ap (λ (a : Cells). a ∷ st) (sym v))
             (subst (λ (j : ℕ). Standing (b .n) ws work (set (S .operands) (S .count) letters) (S .count + 1) j (valued ws letters noPairs ∷ st)) z
-            (standing-put (b .n) ws work (S .operands) (S .count) (S .end) letters noPairs st (w .stand) (omega arith) (none-set (b .n)) (none-tree (b .n)) (ap length (none-tree (b .n))))),
+            (standing-put (b .n) ws work (S .operands) (S .count) (S .end) letters noPairs st (w .stand)
+            (omega arith) (none-set (b .n)) (none-tree (b .n)) (ap length (none-tree (b .n))))),
       )
 
   pub goes-letters : length (S .operands) ≡ 19 → S .count < 19 → Goes n ws used (Letters forward against) work work S (pushed letters (S .count) (S .end) S)
@@ -251,12 +280,17 @@ module _ (n : ℕ) (ws used work : List ℕ) (S : Stack) where
     same-end : S .end - onTop S .size + onTop S .size ≡ S .end
     same-end = omega arith
 
-    turned-placed : {d : ℕ} → Placed d (record { operands = set (S .operands) top (flipped (onTop S)); count = top + 1; end = S .end - onTop S .size + onTop S .size }) → Placed d (turned S)
+    turned-placed : {d : ℕ} → Placed d (record {
+      operands = set (S .operands) top (flipped (onTop S));
+      count = top + 1;
+      end = S .end - onTop S .size + onTop S .size;
+    }) → Placed d (turned S)
     turned-placed {d} P =
         subst (λ (i : ℕ). Placed d (record { operands = set (S .operands) top (flipped (onTop S)); count = i; end = S .end })) one-more
         (subst (λ (i : ℕ). Placed d (record { operands = set (S .operands) top (flipped (onTop S)); count = top + 1; end = i })) same-end P)
 
-    turned-stands : {m : ℕ} {st : List Cells} → Standing m ws work (set (S .operands) top (flipped (onTop S))) (top + 1) (S .end - onTop S .size + onTop S .size) st
+    turned-stands : {m : ℕ} {st : List Cells}
+        → Standing m ws work (set (S .operands) top (flipped (onTop S))) (top + 1) (S .end - onTop S .size + onTop S .size) st
         → Standing m ws work (set (S .operands) top (flipped (onTop S))) (S .count) (S .end) st
     turned-stands {m} {st} s =
         subst (λ (i : ℕ). Standing m ws work (set (S .operands) top (flipped (onTop S))) i (S .end) st) one-more
@@ -268,9 +302,11 @@ module _ (n : ℕ) (ws used work : List ℕ) (S : Stack) where
       let Q = room-operands R in
       let h = has-one (R .placed) Q (omega arith) in
       let t = top-totals (R .placed) Q (omega arith) in
-      room-next R (turned-placed (h .0) (t .0) (placed-put (S .end - onTop S .size) top (flipped (onTop S)) (R .placed) (t .2) (t .1) (omega arith))) (omega arith)
+      room-next R (turned-placed (h .0) (t .0) (placed-put (S .end - onTop S .size) top (flipped (onTop S)) (R .placed) (t .2) (t .1) (omega arith)))
+      (omega arith)
 
-  inverse-waits : 1 ≤ S .count → S .count ≤ 19 → length (S .operands) ≡ 19 → (b : Book) (e : Expr) (i : ℕ) (c : List ℕ) (st : List Cells) → itemOf i ≡ Inverse → Waiting (asked b) e (i ∷ c) ws work S st
+  inverse-waits : 1 ≤ S .count → S .count ≤ 19 → length (S .operands) ≡ 19
+      → (b : Book) (e : Expr) (i : ℕ) (c : List ℕ) (st : List Cells) → itemOf i ≡ Inverse → Waiting (asked b) e (i ∷ c) ws work S st
       → (st′ : List Cells) × Waiting (asked b) e c ws work (turned S) st′
   unfolding asked
   inverse-waits some few slots b e i c st is w =
@@ -278,11 +314,13 @@ module _ (n : ℕ) (ws used work : List ℕ) (S : Stack) where
       let T = standing-top (w .stand) top (omega arith) in
       let v : Cells = valued ws (flipped (onTop S)) (T .a) in
       let d : does (relations g) (itemOf i) st ≡ v ∷ T .others =
-      ap₂ (λ (y : Item) (x : List Cells). does (relations g) y x) is (T .is) ∙ (does-inverse g (valued ws (onTop S) (T .a)) (T .others) ∙ ap (λ (x : Cells). x ∷ T .others) (sym (valued-flipped ws (onTop S) (T .a)))) in
+      ap₂ (λ (y : Item) (x : List Cells). does (relations g) y x) is (T .is)
+      ∙ (does-inverse g (valued ws (onTop S) (T .a)) (T .others) ∙ ap (λ (x : Cells). x ∷ T .others) (sym (valued-flipped ws (onTop S) (T .a)))) in
       let l : top < length (S .operands) = omega arith in (
         v ∷ T .others,
         waits-next (v ∷ T .others) w d (turned-stands some (T .within)
-            (standing-put (b .n) ws work (S .operands) top (S .end - onTop S .size) (flipped (onTop S)) (T .a) (T .others) (T .below) l (T .set) (T .tree) (T .long))),
+            (standing-put (b .n) ws work (S .operands) top (S .end - onTop S .size)
+            (flipped (onTop S)) (T .a) (T .others) (T .below) l (T .set) (T .tree) (T .long))),
       )
 
   pub goes-inverse : 1 ≤ S .count → S .count ≤ 19 → length (S .operands) ≡ 19 → Goes n ws used Inverse work work S (turned S)
@@ -309,7 +347,8 @@ module _ (n : ℕ) (y : Item) (ws used work : List ℕ) (S : Stack) (q : Taken) 
       )
 
 module _ (n : ℕ) (y : Item) (ws used work part : List ℕ) (S : Stack) (q : Taken) (r size : ℕ) (small : n ≤ 1024) (wide : 32 * treeUnit n ≤ length work)
-    (T : Takes (treeUnit n) y S q) (h : q .start ≤ length work) (few : size ≤ treeUnit n) (cut : r ≤ treeUnit n → size ≡ r) (long : length part ≡ length (take (length work - q .start) (drop (q .start) work)))
+    (T : Takes (treeUnit n) y S q) (h : q .start ≤ length work) (few : size ≤ treeUnit n)
+    (cut : r ≤ treeUnit n → size ≡ r) (long : length part ≡ length (take (length work - q .start) (drop (q .start) work)))
     (rows : ℕ) (bits : rows ≡ 16384) (made : Operated (q .term) n ws used rows (take (length work - q .start) (drop (q .start) work)) part r)
     (sixteen : length used ≡ 16) (early : q .below ≤ 18) where
   abbrev after : Stack
@@ -321,7 +360,8 @@ module _ (n : ℕ) (y : Item) (ws used work part : List ℕ) (S : Stack) (q : Ta
 
   spaces : Spaces n (q .term) (length (drop (q .start) work)) (length used) 16384
   spaces = record {
-    trees = record { size = small; first = T .first; second = T .second; work = rw (length-drop (q .start) work) (omega (arith, starts-early (T .totals) early)) };
+    trees =
+        record { size = small; first = T .first; second = T .second; work = rw (length-drop (q .start) work) (omega (arith, starts-early (T .totals) early)) };
     records = sixteen;
     bits = refl;
   }
@@ -332,7 +372,8 @@ module _ (n : ℕ) (y : Item) (ws used work part : List ℕ) (S : Stack) (q : Ta
       let k = T .below in
       room-next R (placed-put (q .start) (q .below) (treeAlone size Plain) (R .placed) (T .totals) few (omega (arith, early))) (omega arith)
 
-  operator-waits : length (S .operands) ≡ 19 → (b : Book) → Lettered b n ws used → (e : Expr) (i : ℕ) (c : List ℕ) (st : List Cells) → itemOf i ≡ y → Waiting (asked b) e (i ∷ c) ws work S st
+  operator-waits : length (S .operands) ≡ 19 → (b : Book) → Lettered b n ws used
+      → (e : Expr) (i : ℕ) (c : List ℕ) (st : List Cells) → itemOf i ≡ y → Waiting (asked b) e (i ∷ c) ws work S st
       → (st′ : List Cells) × Waiting (asked b) e c ws (changed work part (q .start) h) after st′
   unfolding asked
   operator-waits slots b L e i c st is w =
@@ -347,10 +388,13 @@ module _ (n : ℕ) (y : Item) (ws used work part : List ℕ) (S : Stack) (q : Ta
       let x : Cells = valued ws (treeAlone size Plain) v in
       let j : q .below < length (S .operands) = omega (arith, early, slots) in (
         x ∷ t .others,
-        waits-next (x ∷ t .others) w (ap (λ (z : Item). does (relations (asked b)) z st) is ∙ t .does ∙ ap (λ (z : Cells). z ∷ t .others) (sym (valued-alone ws size Plain v)))
+        waits-next (x ∷ t .others) w (ap (λ (z : Item). does (relations (asked b)) z st) is
+            ∙ t .does ∙ ap (λ (z : Cells). z ∷ t .others) (sym (valued-alone ws size Plain v)))
             (standing-put (b .n) ws (changed work part (q .start) h) (S .operands) (q .below) (q .start) (treeAlone size Plain) v (t .others)
             (standing-kept (t .stand) (q .start) (omega arith) (front work part (q .start) h)) j
-            (subst (λ (i : ℕ). IsSet i (termSet (q .term) i ws (bitAt used) (t .a) (t .b))) (L .size) (term-set (q .term) n ws (bitAt used) _ (t .a) (t .b) small (bit-lt used) (m .1))) (ap (take size) (back work part (q .start) h) ∙ words) (long-as size part (treeWords (b .n) v) (omega (arith, O .most, part-length work (q .start), length-drop (q .start) work)) words)),
+            (subst (λ (i : ℕ). IsSet i (termSet (q .term) i ws (bitAt used) (t .a) (t .b))) (L .size)
+            (term-set (q .term) n ws (bitAt used) _ (t .a) (t .b) small (bit-lt used) (m .1))) (ap (take size) (back work part (q .start) h) ∙ words)
+            (long-as size part (treeWords (b .n) v) (omega (arith, O .most, part-length work (q .start), length-drop (q .start) work)) words)),
       )
 
   pub goes-operator : length (S .operands) ≡ 19 → Goes n ws used y work (changed work part (q .start) h) S after

@@ -28,7 +28,8 @@ use Rattle.reader.proofs.Steps.{Gave}
 abbrev pub Refuses : ℕ → Reading → Type 0
 Refuses k r = (r .answer ≡ Refused k) × (r .code ≡ replicate maxBytes 0)
 
-refuses : {s : List ℕ} {r : Reading} (v : Verdict) (k : ℕ) → readAnswer v ≡ Refused k → codeArray v ≡ replicate maxBytes 0 → verdict s ≡ v → Refuses k r → Reads s r
+refuses : {s : List ℕ} {r : Reading} (v : Verdict) (k : ℕ) → readAnswer v ≡ Refused k
+    → codeArray v ≡ replicate maxBytes 0 → verdict s ≡ v → Refuses k r → Reads s r
 refuses v k a c h f = record { answered = f .0 ∙ sym a ∙ ap readAnswer (sym h); coded = f .1 ∙ sym c ∙ ap codeArray (sym h) }
 
 pub refuses-long : {s : List ℕ} {r : Reading} → verdict s ≡ long → Refuses 10 r → Reads s r
@@ -72,7 +73,8 @@ module _ {s b a : List ℕ} {q : Spot} (h : length s ≤ maxBytes) (g : Gave got
   pub too-deep : length s ≤ q .at → q .letters ≤ maxLetters → maxDepth < q .depth → verdict s ≡ large
   too-deep k l d = verdict-deep s (g .e) h (whole-text k) (omega (arith, g .found .letters-are)) (omega (arith, g .found .depth-is))
 
-pub accepts : {s a : List ℕ} {q : Spot} → length s ≤ maxBytes → Gave got s 0 0 (replicate maxBytes 0) a (readAlternatives s) q → length s ≤ q .at → q .letters ≤ maxLetters → q .depth ≤ maxDepth → Reads s (record { answer = Accepted (q .end); code = a })
+pub accepts : {s a : List ℕ} {q : Spot} → length s ≤ maxBytes → Gave got s 0 0 (replicate maxBytes 0) a (readAlternatives s) q
+    → length s ≤ q .at → q .letters ≤ maxLetters → q .depth ≤ maxDepth → Reads s (record { answer = Accepted (q .end); code = a })
 unfolding readAnswer codeArray
 accepts {s} {a} {q} h g k l d =
     let f = g .found in

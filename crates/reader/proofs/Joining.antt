@@ -27,7 +27,8 @@ use Rattle.reader.specs.CodeLaws.{letters-code}
 use Rattle.reader.specs.declared.Spot.{Spot}
 use Rattle.reader.specs.declared.Parsed.{Parsed}
 use Rattle.reader.specs.declared.Parsed.the-variants.{Got, Fault}
-use Rattle.reader.specs.Progress.{Found, Done, none, some, Infix, of-alternatives, of-parts, byteOf, numberOf, joinOf, readOf, wholeOf, moreOf, comesNext, spotOf, bytesLeft, Asks, RoomToJoin, Joins, Since}
+use Rattle.reader.specs.Progress.{Found, Done, none, some, Infix, of-alternatives, of-parts, byteOf, numberOf, joinOf, readOf, wholeOf, moreOf, comesNext}
+use Rattle.reader.specs.Progress.{spotOf, bytesLeft, Asks, RoomToJoin, Joins, Since}
 use Rattle.reader.proofs.Steps.{rest-drop, there, sets-append, code-some, on, missed}
 
 -- each operator
@@ -72,18 +73,22 @@ pub record Onward (s : List ℕ) (at : ℕ) (q : Spot) : Type 0 where
   pub inside : q .at < length s
   pub behind : q .end ≤ q .at
 
-onward : (o : Infix) {s : List ℕ} {at n : ℕ} {b a : List ℕ} {x : Parse} {r : Parsed} → Done (moreOf o) s at n b a x r → comesNext s r (byteOf o) ≡ true → n ≤ at → Onward s at (spotOf r)
+onward : (o : Infix) {s : List ℕ} {at n : ℕ} {b a : List ℕ} {x : Parse} {r : Parsed}
+    → Done (moreOf o) s at n b a x r → comesNext s r (byteOf o) ≡ true → n ≤ at → Onward s at (spotOf r)
 onward o (none h) v k = absurd (let z : _≡_ {A = ℕ} 0 1 = cc in omega arith)
 onward o {s} (some {q} e h f) v k =
     let i = there s (q .at) (byteOf o) (eqb-true _ _ v) (byte-some o) in
     record { past = omega (arith, f .short, code-some e); inside = i; behind = omega (arith, f .end-is, f .short) }
 
 -- the two as one
-both-found : (x : ℕ) {s : List ℕ} {at n : ℕ} {b m c : List ℕ} {e f g : Expr} {p q : Spot} → Made x e f g → Found s at n b m e p → Found s (p .at + 1) (p .end) m c f q
+both-found : (x : ℕ) {s : List ℕ} {at n : ℕ} {b m c : List ℕ} {e f g : Expr} {p q : Spot}
+    → Made x e f g → Found s at n b m e p → Found s (p .at + 1) (p .end) m c f q
     → Found s at n b (set c (q .end) x) g (record { at = q .at; end = q .end + 1; letters = p .letters + q .letters; depth = max (p .depth) (q .depth) })
 both-found x {s} {at} {n} {b} {m} {c} {e} {f} {g} {p} {q} made h k =
-    let long : length (code g) ≡ length (code e) + length (code f) + 1 = ap length (made .code-both) ∙ length-append (code e ++ code f) (x ∷ []) ∙ ap (λ (j : ℕ). j + 1) (length-append (code e) (code f)) in
-    let front : c ≡ sets b n (code e ++ code f) = k .written ∙ ap (λ (l : List ℕ). sets l (p .end) (code f)) (h .written) ∙ ap (λ (j : ℕ). sets (sets b n (code e)) j (code f)) (h .end-is) ∙ sets-append (code e) (code f) b n in
+    let long : length (code g) ≡ length (code e) + length (code f) + 1 =
+    ap length (made .code-both) ∙ length-append (code e ++ code f) (x ∷ []) ∙ ap (λ (j : ℕ). j + 1) (length-append (code e) (code f)) in
+    let front : c ≡ sets b n (code e ++ code f) = k .written ∙ ap (λ (l : List ℕ). sets l (p .end) (code f)) (h .written)
+    ∙ ap (λ (j : ℕ). sets (sets b n (code e)) j (code f)) (h .end-is) ∙ sets-append (code e) (code f) b n in
     let end : q .end ≡ n + length (code e ++ code f) = let z = length-append (code e) (code f) in omega (arith, h .end-is, k .end-is) in
     record {
       inside = k .inside;
@@ -92,25 +97,40 @@ both-found x {s} {at} {n} {b} {m} {c} {e} {f} {g} {p} {q} made h k =
       letters-are = let z = made .letters-add in omega (arith, h .letters-are, k .letters-are);
       depth-is = let z = made .depth-max in omega (arith, h .depth-is, k .depth-is);
       end-is = omega (arith, h .end-is, k .end-is);
-      written = ap (λ (l : List ℕ). set l (q .end) x) front ∙ ap (λ (j : ℕ). set (sets b n (code e ++ code f)) j x) end ∙ sets-append (code e ++ code f) (x ∷ []) b n ∙ ap (sets b n) (sym (made .code-both));
+      written =
+          ap (λ (l : List ℕ). set l (q .end) x) front ∙ ap (λ (j : ℕ). set (sets b n (code e ++ code f)) j x) end
+          ∙ sets-append (code e ++ code f) (x ∷ []) b n ∙ ap (sets b n) (sym (made .code-both));
     }
 
 -- what comes after an operator's byte
-after-byte : (o : Infix) (s : List ℕ) {y : Parse} (e : Expr) (p : ℕ) → eqb (firstByte (drop p s)) (byteOf o) ≡ true → y ≡ moreOf o e (drop p s) → y ≡ then (readOf o (drop (p + 1) s)) (λ g r. moreOf o (joinOf o e g) r)
+after-byte : (o : Infix) (s : List ℕ) {y : Parse} (e : Expr) (p : ℕ) → eqb (firstByte (drop p s)) (byteOf o) ≡ true
+    → y ≡ moreOf o e (drop p s) → y ≡ then (readOf o (drop (p + 1) s)) (λ g r. moreOf o (joinOf o e g) r)
 after-byte o s e p v h = h ∙ more-on o e (drop p s) v ∙ ap (λ (t : List ℕ). then (readOf o t) (λ g r. moreOf o (joinOf o e g) r)) (rest-drop s p)
 
-both : (x : ℕ) (p q : Spot) (c : List ℕ) → Joins x (Got p) (Got q) c (set c (q .end) x) (Got (record { at = q .at; end = q .end + 1; letters = p .letters + q .letters; depth = max (p .depth) (q .depth) }))
+both : (x : ℕ) (p q : Spot) (c : List ℕ) → Joins x (Got p) (Got q) c (set c (q .end) x)
+    (Got (record { at = q .at; end = q .end + 1; letters = p .letters + q .letters; depth = max (p .depth) (q .depth) }))
 both x p q c = record { joins = λ o s at n b m y h v d k. go o s at n b m y h v d k; left = λ s. omega arith }
   where
     go : (o : Infix) (s : List ℕ) (at n : ℕ) (b m : List ℕ) (y : Parse) → x ≡ numberOf o → eqb (firstByte (drop (p .at) s)) (byteOf o) ≡ true →
         Done (moreOf o) s at n b m y (Got p) → Done got s (p .at + 1) (p .end) m c (readOf o (drop (p .at + 1) s)) (Got q) →
-        Done (moreOf o) s at n b (set c (q .end) x) y (Got (record { at = q .at; end = q .end + 1; letters = p .letters + q .letters; depth = max (p .depth) (q .depth) }))
+        Done (moreOf o) s at n b (set c (q .end) x) y (Got (record {
+          at = q .at;
+          end = q .end + 1;
+          letters = p .letters + q .letters;
+          depth = max (p .depth) (q .depth);
+        }))
     go o s at n b m y h v (some e i f) (some e′ i′ f′) =
         some (joinOf o e e′)
         (after-byte o s e (p .at) v i ∙ ap (on (λ g r. moreOf o (joinOf o e g) r)) i′)
         (both-found x (subst (λ (j : ℕ). Made j e e′ (joinOf o e e′)) (sym h) (made o e e′)) f f′)
 
-pub joins : (x : ℕ) {first next : Parsed} {p q : Spot} (c : List ℕ) → first ≡ Got p → next ≡ Got q → Joins x first next c (set c (q .end) x) (Got (record { at = q .at; end = q .end + 1; letters = p .letters + q .letters; depth = max (p .depth) (q .depth) }))
+pub joins : (x : ℕ) {first next : Parsed} {p q : Spot} (c : List ℕ) → first ≡ Got p → next ≡ Got q
+    → Joins x first next c (set c (q .end) x) (Got (record {
+      at = q .at;
+      end = q .end + 1;
+      letters = p .letters + q .letters;
+      depth = max (p .depth) (q .depth);
+    }))
 joins x {first} {next} {p} {q} c h k = rw (h, k) (both x p q c)
 
 pub joins-no-first : (x : ℕ) {first : Parsed} (next : Parsed) (c c′ : List ℕ) → first ≡ Fault → Joins x first next c c′ Fault
@@ -126,16 +146,21 @@ no-next x p c c′ = record { joins = λ o s at n b m y h v d k. go o s at n b m
 pub joins-no-next : (x : ℕ) {first next : Parsed} {p : Spot} (c c′ : List ℕ) → first ≡ Got p → next ≡ Fault → Joins x first next c c′ Fault
 joins-no-next x {p = p} c c′ h k = rw (h, k) (no-next x p c c′)
 
-pub has-room : {space : ℕ} {first next : Parsed} {p q : Spot} → first ≡ Got p → next ≡ Got q → RoomToJoin space first next → (q .end < space) × (p .letters + q .letters ≤ space)
+pub has-room : {space : ℕ} {first next : Parsed} {p q : Spot} → first ≡ Got p → next ≡ Got q
+    → RoomToJoin space first next → (q .end < space) × (p .letters + q .letters ≤ space)
 has-room {space} {next = next} {p = p} h k g = subst (RoomToJoin space (Got p)) k (subst (λ (r : Parsed). RoomToJoin space r next) h g)
 
-room-to-join : (o : Infix) {s : List ℕ} {at n space : ℕ} {b m c : List ℕ} {x y : Parse} {first next : Parsed} → Done (moreOf o) s at n b m x first → Done got s (spotOf first .at + 1) (spotOf first .end) m c y next → n ≤ at → length s ≤ space → RoomToJoin space first next
+room-to-join : (o : Infix) {s : List ℕ} {at n space : ℕ} {b m c : List ℕ} {x y : Parse} {first next : Parsed} → Done (moreOf o) s at n b m x first
+    → Done got s (spotOf first .at + 1) (spotOf first .end) m c y next → n ≤ at → length s ≤ space → RoomToJoin space first next
 room-to-join o (none h) k u g = tt
 room-to-join o (some e h f) (none i) u g = tt
-room-to-join o (some e h f) (some e′ i f′) u g =
-    (omega (arith, f .end-is, f .short, f′ .end-is, f′ .short, f′ .inside), omega (arith, f .letters-are, letters-code e, f .short, f′ .letters-are, letters-code e′, f′ .short, f′ .inside))
+room-to-join o (some e h f) (some e′ i f′) u g = (
+  omega (arith, f .end-is, f .short, f′ .end-is, f′ .short, f′ .inside),
+  omega (arith, f .letters-are, letters-code e, f .short, f′ .letters-are, letters-code e′, f′ .short, f′ .inside),
+)
 
-fewer-left : (o : Infix) {s : List ℕ} {at n : ℕ} {b m c : List ℕ} {x y : Parse} {first next : Parsed} → Done (moreOf o) s at n b m x first → comesNext s first (byteOf o) ≡ true → Done got s (spotOf first .at + 1) (spotOf first .end) m c y next → bytesLeft s next < bytesLeft s first
+fewer-left : (o : Infix) {s : List ℕ} {at n : ℕ} {b m c : List ℕ} {x y : Parse} {first next : Parsed} → Done (moreOf o) s at n b m x first
+    → comesNext s first (byteOf o) ≡ true → Done got s (spotOf first .at + 1) (spotOf first .end) m c y next → bytesLeft s next < bytesLeft s first
 fewer-left o (none h) v k = absurd (let z : _≡_ {A = ℕ} 0 1 = cc in omega arith)
 fewer-left o (some e h f) v (none i) = omega arith
 fewer-left o (some e h f) v (some e′ i f′) = omega (arith, f′ .short, f′ .inside)

@@ -35,7 +35,8 @@ use Rattle.reader.specs.declared.symbols.Symbol.the-variants.{Read, Miss
 use Rattle.reader.specs.declared.Spot.{Spot}
 use Rattle.reader.specs.declared.Parsed.{Parsed}
 use Rattle.reader.specs.declared.Parsed.the-variants.{Got, Fault}
-use Rattle.reader.specs.Progress.{Found, Done, none, some, StandsFor, Stands, missing, stands, Asks, Fit, no-mark, Fits, RoomToWrap, RoomToWrite, Closes, markNumber, markOf, wrap, wrapCode}
+use Rattle.reader.specs.Progress.{Found, Done, none, some, StandsFor, Stands, missing, stands, Asks, Fit, no-mark, Fits, RoomToWrap, RoomToWrite, Closes}
+use Rattle.reader.specs.Progress.{markNumber, markOf, wrap, wrapCode}
 
 -- one byte on
 rest-suc : (p : ℕ) (s : List ℕ) → rest (drop p s) ≡ drop (suc p) s
@@ -73,7 +74,9 @@ code-some e = omega (arith, letters-some e, letters-code e)
 -- one run of stores after another
 pub sets-append : (cs ds b : List ℕ) (n : ℕ) → sets (sets b n cs) (n + length cs) ds ≡ sets b n (cs ++ ds)
 sets-append [] ds b n = ap (λ (k : ℕ). sets b k ds) (let z : n + 0 ≡ n = omega arith in z)
-sets-append (c ∷ cs) ds b n = ap (λ (k : ℕ). sets (sets (set b n c) (suc n) cs) k ds) (let z : n + suc (length cs) ≡ suc n + length cs = omega arith in z) ∙ sets-append cs ds (set b n c) (suc n)
+sets-append (c ∷ cs) ds b n =
+    ap (λ (k : ℕ). sets (sets (set b n c) (suc n) cs) k ds) (let z : n + suc (length cs) ≡ suc n + length cs = omega arith in z)
+    ∙ sets-append cs ds (set b n c) (suc n)
 
 abbrev pub on : (Expr → List ℕ → Parse) → Parse → Parse
 on k x = then x k
@@ -102,7 +105,8 @@ module _ {k : Expr → List ℕ → Parse} {s : List ℕ} {at n : ℕ} {b a : Li
 pub fit : {s : List ℕ} {r : Parsed} {q : Spot} → r ≡ Got q → Fits s r → Fit s q
 fit {s} h g = subst (Fits s) h g
 
-pub has-room : {space x : ℕ} (passed : ℕ) {r : Parsed} {q : Spot} → r ≡ Got q → RoomToWrap space x passed r → (x ≡ no-mark → ⊥) → (q .end < space) × (q .at + passed ≤ space)
+pub has-room : {space x : ℕ} (passed : ℕ) {r : Parsed} {q : Spot} → r ≡ Got q
+    → RoomToWrap space x passed r → (x ≡ no-mark → ⊥) → (q .end < space) × (q .at + passed ≤ space)
 has-room {space} {x} passed h g = subst (RoomToWrap space x passed) h g
 
 -- e′ is e with an operator of number x on it
@@ -112,7 +116,8 @@ record Wraps (x : ℕ) (e e′ : Expr) : Type 0 where
   code-more : code e′ ≡ code e ++ (x ∷ [])
 
 -- one number more: the reading now begins at at′ and ends at p′
-one-more : {s : List ℕ} {at n : ℕ} {b a : List ℕ} {e : Expr} {q : Spot} (x at′ p′ : ℕ) (e′ : Expr) → Found s at n b a e q → Wraps x e e′ → p′ ≤ length s → at′ + 1 + q .at ≤ p′ + at
+one-more : {s : List ℕ} {at n : ℕ} {b a : List ℕ} {e : Expr} {q : Spot} (x at′ p′ : ℕ) (e′ : Expr)
+    → Found s at n b a e q → Wraps x e e′ → p′ ≤ length s → at′ + 1 + q .at ≤ p′ + at
     → Found s at′ n b (set a (q .end) x) e′ (record { at = p′; end = q .end + 1; letters = q .letters; depth = q .depth })
 one-more {n = n} {b = b} {a = a} {e = e} {q = q} x at′ p′ e′ f w h g =
     let long : length (code e′) ≡ length (code e) + 1 = ap length (w .code-more) ∙ length-append (code e) (x ∷ []) in
@@ -124,12 +129,15 @@ one-more {n = n} {b = b} {a = a} {e = e} {q = q} x at′ p′ e′ f w h g =
       letters-are = f .letters-are ∙ sym (w .letters-same);
       depth-is = f .depth-is ∙ sym (w .depth-same);
       end-is = omega (arith, f .end-is);
-      written = ap (λ (c : List ℕ). set c (q .end) x) (f .written) ∙ ap (λ (k : ℕ). set (sets b n (code e)) k x) (f .end-is) ∙ sets-append (code e) (x ∷ []) b n ∙ ap (sets b n) (sym (w .code-more));
+      written =
+          ap (λ (c : List ℕ). set c (q .end) x) (f .written) ∙ ap (λ (k : ℕ). set (sets b n (code e)) k x) (f .end-is)
+          ∙ sets-append (code e) (x ∷ []) b n ∙ ap (sets b n) (sym (w .code-more));
     }
 
 -- a mark
 data MarkIs (c : ℕ) : ℕ → Type 0 where
-  a-mark : {x : ℕ} (M : Expr → Expr) → 0 < c → (x ≡ no-mark → ⊥) → ((e : Expr) (l : List ℕ) → firstByte l ≡ c → readMark e l ≡ got (M e) (rest l)) → ((e : Expr) → Wraps x e (M e)) → MarkIs c x
+  a-mark : {x : ℕ} (M : Expr → Expr) → 0 < c → (x ≡ no-mark → ⊥)
+      → ((e : Expr) (l : List ℕ) → firstByte l ≡ c → readMark e l ≡ got (M e) (rest l)) → ((e : Expr) → Wraps x e (M e)) → MarkIs c x
   not-one : ((e : Expr) (l : List ℕ) → firstByte l ≡ c → readMark e l ≡ got e l) → MarkIs c no-mark
 
 wraps-star : (e : Expr) → Wraps op-star e (star e)
@@ -151,13 +159,26 @@ wraps-inverse e = record { letters-same = refl; depth-same = refl; code-more = r
 mark-is : (c : ℕ) → MarkIs c (markNumber c)
 mark-is c = go (eqb c asterisk) (eqb c plus-sign) (eqb c question-mark) refl refl refl
   where
-    go : (x y z : Bool) → eqb c asterisk ≡ x → eqb c plus-sign ≡ y → eqb c question-mark ≡ z → MarkIs c (pick x op-star (pick y op-plus (pick z op-optional no-mark)))
-    go true y z f g h = let v = eqb-true c asterisk f in a-mark {x = op-star} star (omega arith) (λ z. omega arith) (λ e l w. mark-star e l (ap (λ (t : ℕ). eqb t asterisk) w ∙ f)) wraps-star
-    go false true z f g h = let v = eqb-true c plus-sign g in a-mark {x = op-plus} plus (omega arith) (λ z. omega arith) (λ e l w. mark-plus e l (ap (λ (t : ℕ). eqb t asterisk) w ∙ f) (ap (λ (t : ℕ). eqb t plus-sign) w ∙ g)) wraps-plus
-    go false false true f g h = let v = eqb-true c question-mark h in a-mark {x = op-optional} optional (omega arith) (λ z. omega arith) (λ e l w. mark-optional e l (ap (λ (t : ℕ). eqb t asterisk) w ∙ f) (ap (λ (t : ℕ). eqb t plus-sign) w ∙ g) (ap (λ (t : ℕ). eqb t question-mark) w ∙ h)) wraps-optional
-    go false false false f g h = not-one (λ e l w. mark-none e l (ap (λ (t : ℕ). eqb t asterisk) w ∙ f) (ap (λ (t : ℕ). eqb t plus-sign) w ∙ g) (ap (λ (t : ℕ). eqb t question-mark) w ∙ h))
+    go : (x y z : Bool) → eqb c asterisk ≡ x → eqb c plus-sign ≡ y → eqb c question-mark ≡ z
+        → MarkIs c (pick x op-star (pick y op-plus (pick z op-optional no-mark)))
+    go true y z f g h =
+        let v = eqb-true c asterisk f in
+        a-mark {x = op-star} star (omega arith) (λ z. omega arith) (λ e l w. mark-star e l (ap (λ (t : ℕ). eqb t asterisk) w ∙ f)) wraps-star
+    go false true z f g h =
+        let v = eqb-true c plus-sign g in
+        a-mark {x = op-plus} plus (omega arith) (λ z. omega arith)
+        (λ e l w. mark-plus e l (ap (λ (t : ℕ). eqb t asterisk) w ∙ f) (ap (λ (t : ℕ). eqb t plus-sign) w ∙ g)) wraps-plus
+    go false false true f g h =
+        let v = eqb-true c question-mark h in
+        a-mark {x = op-optional} optional (omega arith) (λ z. omega arith)
+        (λ e l w. mark-optional e l (ap (λ (t : ℕ). eqb t asterisk) w ∙ f) (ap (λ (t : ℕ). eqb t plus-sign) w ∙ g) (ap (λ (t : ℕ). eqb t question-mark) w ∙ h))
+        wraps-optional
+    go false false false f g h =
+        not-one (λ e l w. mark-none e l (ap (λ (t : ℕ). eqb t asterisk) w ∙ f)
+        (ap (λ (t : ℕ). eqb t plus-sign) w ∙ g) (ap (λ (t : ℕ). eqb t question-mark) w ∙ h))
 
-mark-read : {s : List ℕ} {at n : ℕ} {b a : List ℕ} {x : Parse} {r : Parsed} → Done got s at n b a x r → Done got s at n b (wrapCode (markOf s r) r a) (then x readMark) (wrap (markOf s r) 1 r)
+mark-read : {s : List ℕ} {at n : ℕ} {b a : List ℕ} {x : Parse} {r : Parsed} → Done got s at n b a x r
+    → Done got s at n b (wrapCode (markOf s r) r a) (then x readMark) (wrap (markOf s r) 1 r)
 mark-read (none h) = none (ap (on readMark) h)
 mark-read {s} {at} {n} {b} {a} {x} (some {q} e h f) = go (firstByte (drop (q .at) s)) (markNumber (firstByte (drop (q .at) s))) refl (mark-is _)
   where
@@ -165,23 +186,29 @@ mark-read {s} {at} {n} {b} {a} {x} (some {q} e h f) = go (firstByte (drop (q .at
     go c y w (a-mark M k j m u) =
         let inside = there s (q .at) c w k in
         rw (ne-eqb y no-mark j)
-        (some (M e) (ap (on readMark) h ∙ m e (drop (q .at) s) w ∙ ap (got (M e)) (rest-drop s (q .at))) (one-more y at (q .at + 1) (M e) f (u e) (omega arith) (omega arith)))
+        (some (M e) (ap (on readMark) h ∙ m e (drop (q .at) s) w ∙ ap (got (M e)) (rest-drop s (q .at)))
+        (one-more y at (q .at + 1) (M e) f (u e) (omega arith) (omega arith)))
     go c y w (not-one m) = some e (ap (on readMark) h ∙ m e (drop (q .at) s) w) f
 
-pub marks : {s : List ℕ} {at n : ℕ} {b a a′ : List ℕ} {x : Parse} {r q : Parsed} {y : ℕ} → y ≡ markOf s r → (q ≡ wrap y 1 r) × (a′ ≡ wrapCode y r a) → Done got s at n b a x r → Done got s at n b a′ (then x readMark) q
+pub marks : {s : List ℕ} {at n : ℕ} {b a a′ : List ℕ} {x : Parse} {r q : Parsed} {y : ℕ} → y ≡ markOf s r
+    → (q ≡ wrap y 1 r) × (a′ ≡ wrapCode y r a) → Done got s at n b a x r → Done got s at n b a′ (then x readMark) q
 marks h w d = rw (w .0, w .1, h) (mark-read d)
 
 -- a ^ before
-hat-read : {s : List ℕ} {at n : ℕ} {b a : List ℕ} {x : Parse} {r : Parsed} → Done got s (at + 1) n b a x r → Done got s at n b (wrapCode op-inverse r a) (then x invertRead) (wrap op-inverse 0 r)
+hat-read : {s : List ℕ} {at n : ℕ} {b a : List ℕ} {x : Parse} {r : Parsed} → Done got s (at + 1) n b a x r
+    → Done got s at n b (wrapCode op-inverse r a) (then x invertRead) (wrap op-inverse 0 r)
 hat-read (none h) = none (ap (on invertRead) h)
 hat-read {s} {at} (some {q} e h f) =
-    some (inverse e) (ap (on invertRead) h ∙ ap (λ (p : ℕ). got (inverse e) (drop p s)) (let z : q .at ≡ q .at + 0 = omega arith in z)) (one-more op-inverse at (q .at + 0) (inverse e) f (wraps-inverse e) (omega (arith, f .inside)) (omega arith))
+    some (inverse e) (ap (on invertRead) h ∙ ap (λ (p : ℕ). got (inverse e) (drop p s)) (let z : q .at ≡ q .at + 0 = omega arith in z))
+    (one-more op-inverse at (q .at + 0) (inverse e) f (wraps-inverse e) (omega (arith, f .inside)) (omega arith))
 
-pub inverts : {s : List ℕ} {at n : ℕ} {b a a′ : List ℕ} {x : Parse} {r q : Parsed} → (q ≡ wrap op-inverse 0 r) × (a′ ≡ wrapCode op-inverse r a) → Done got s (at + 1) n b a x r → Done got s at n b a′ (then x invertRead) q
+pub inverts : {s : List ℕ} {at n : ℕ} {b a a′ : List ℕ} {x : Parse} {r q : Parsed}
+    → (q ≡ wrap op-inverse 0 r) × (a′ ≡ wrapCode op-inverse r a) → Done got s (at + 1) n b a x r → Done got s at n b a′ (then x invertRead) q
 inverts w d = rw (w .0, w .1) (hat-read d)
 
 -- there is room for the numbers of a mark and of a ^
-mark-room : {s : List ℕ} {at n space : ℕ} {b a : List ℕ} {x : Parse} {r : Parsed} → Done got s at n b a x r → n ≤ at → length s ≤ space → RoomToWrap space (markOf s r) 1 r
+mark-room : {s : List ℕ} {at n space : ℕ} {b a : List ℕ} {x : Parse} {r : Parsed}
+    → Done got s at n b a x r → n ≤ at → length s ≤ space → RoomToWrap space (markOf s r) 1 r
 mark-room (none h) u g = tt
 mark-room {s} {space = space} (some {q} e h f) u g = λ k. go (firstByte (drop (q .at) s)) (markNumber (firstByte (drop (q .at) s))) refl (mark-is _) k
   where
@@ -189,15 +216,18 @@ mark-room {s} {space = space} (some {q} e h f) u g = λ k. go (firstByte (drop (
     go c y w (a-mark M k j m v) i = let inside = there s (q .at) c w k in (omega (arith, f .end-is, f .short), omega arith)
     go c y w (not-one m) i = absurd (i refl)
 
-pub room-for-mark : {s : List ℕ} {at n space : ℕ} {b a : List ℕ} {x : Parse} {r : Parsed} {y : ℕ} → y ≡ markOf s r → Done got s at n b a x r → n ≤ at → length s ≤ space → RoomToWrap space y 1 r
+pub room-for-mark : {s : List ℕ} {at n space : ℕ} {b a : List ℕ} {x : Parse} {r : Parsed} {y : ℕ}
+    → y ≡ markOf s r → Done got s at n b a x r → n ≤ at → length s ≤ space → RoomToWrap space y 1 r
 room-for-mark h d u g = rw h (mark-room d u g)
 
-pub room-for-hat : {s : List ℕ} {at n space : ℕ} {b a : List ℕ} {x : Parse} {r : Parsed} → Done got s (at + 1) n b a x r → n ≤ at → length s ≤ space → RoomToWrap space op-inverse 0 r
+pub room-for-hat : {s : List ℕ} {at n space : ℕ} {b a : List ℕ} {x : Parse} {r : Parsed}
+    → Done got s (at + 1) n b a x r → n ≤ at → length s ≤ space → RoomToWrap space op-inverse 0 r
 room-for-hat (none h) u g = tt
 room-for-hat (some e h f) u g = λ k. (omega (arith, f .end-is, f .short, f .inside), omega (arith, f .inside))
 
 -- the ) of a group
-grouped : {s : List ℕ} {at n : ℕ} {b a : List ℕ} {e : Expr} {q : Spot} → Found s (at + 1) n b a e q → q .at < length s → Found s at n b a (group e) (record { at = q .at + 1; end = q .end; letters = q .letters; depth = q .depth + 1 })
+grouped : {s : List ℕ} {at n : ℕ} {b a : List ℕ} {e : Expr} {q : Spot} → Found s (at + 1) n b a e q → q .at < length s
+    → Found s at n b a (group e) (record { at = q .at + 1; end = q .end; letters = q .letters; depth = q .depth + 1 })
 unfolding letters depth code
 grouped f i = record {
   inside = omega arith;
@@ -209,7 +239,8 @@ grouped f i = record {
   written = f .written;
 }
 
-pub closes : {s : List ℕ} {r : Parsed} {q : Spot} → r ≡ Got q → firstByte (drop (q .at) s) ≡ close-group → Closes s r (Got (record { at = q .at + 1; end = q .end; letters = q .letters; depth = q .depth + 1 }))
+pub closes : {s : List ℕ} {r : Parsed} {q : Spot} → r ≡ Got q → firstByte (drop (q .at) s) ≡ close-group
+    → Closes s r (Got (record { at = q .at + 1; end = q .end; letters = q .letters; depth = q .depth + 1 }))
 closes {s} {q = q} is v at n b a x d =
     let g = gave is d in
     some (group (g .e))
@@ -227,7 +258,15 @@ symbol-found : {s : List ℕ} {at n : ℕ} {b : List ℕ} {x : Parse} {y : Symbo
     → Found s at n b (set b n (lettersNumber (q .forward) (q .against))) (symbol y) (record { at = q .at; end = n + 1; letters = 1; depth = 0 })
 unfolding letters depth code
 symbol-found {n = n} {b = b} h =
-    record { inside = h .inside; short = omega (arith, h .past); flat = omega (arith, h .past); letters-are = refl; depth-is = refl; end-is = refl; written = ap₂ (λ (y z : ℕ). set b n (lettersNumber y z)) (h .forward) (h .against) }
+    record {
+      inside = h .inside;
+      short = omega (arith, h .past);
+      flat = omega (arith, h .past);
+      letters-are = refl;
+      depth-is = refl;
+      end-is = refl;
+      written = ap₂ (λ (y z : ℕ). set b n (lettersNumber y z)) (h .forward) (h .against);
+    }
 
 abbrev Symbols : List ℕ → ℕ → Parse → Symbol-read → Type 0
 Symbols s at x Missing = x ≡ fault
@@ -262,7 +301,8 @@ hat-is s at v = part-hat (drop at s) (eq-eqb _ _ v) ∙ ap (λ (t : List ℕ). t
 pub plain-is : (s : List ℕ) (at : ℕ) → (firstByte (drop at s) ≡ hat → ⊥) → readPart (drop at s) ≡ then (readAtom (drop at s)) readMark
 plain-is s at v = part-plain (drop at s) (ne-eqb _ _ v)
 
-pub read-as : {k : Expr → List ℕ → Parse} {s : List ℕ} {at n : ℕ} {b a : List ℕ} {x y : Parse} {r : Parsed} → x ≡ y → Done k s at n b a y r → Done k s at n b a x r
+pub read-as : {k : Expr → List ℕ → Parse} {s : List ℕ} {at n : ℕ} {b a : List ℕ} {x y : Parse} {r : Parsed}
+    → x ≡ y → Done k s at n b a y r → Done k s at n b a x r
 read-as h d = rw h d
 
 -- what a reader asks, of a code as long, and from the next byte on

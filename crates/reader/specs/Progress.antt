@@ -38,7 +38,8 @@ use Rattle.book.specs.Causes.{labels}
 use Rattle.k2.specs.Bits.{digit}
 use Rattle.paths.specs.Expressions.{Letter, Symbol, sameLetter, hasSense, standsFor, Expr, symbol, alternative, sequence, letters, depth}
 use Rattle.paths.specs.Grammar.{bar, slash, asterisk, plus-sign, question-mark, letter-a}
-use Rattle.paths.specs.Descent.{Parse, got, fault, firstByte, isLetter, then, readMember, readClose, readAlternatives, readMoreAlternatives, readParts, readMoreParts, readPart}
+use Rattle.paths.specs.Descent.{Parse, got, fault, firstByte, isLetter, then, readMember, readClose, readAlternatives, readMoreAlternatives, readParts}
+use Rattle.paths.specs.Descent.{readMoreParts, readPart}
 use Rattle.reader.specs.Code.{op-star, op-plus, op-optional, op-alternative, op-sequence, label-sets, code}
 use Rattle.reader.specs.Letters.{forwardOf, againstOf}
 use Rattle.reader.specs.declared.symbols.Letters.{Letters}
@@ -173,7 +174,8 @@ pub record Joins (x : ℕ) (first next : Parsed) (code code′ : List ℕ) (r : 
   pub left : (s : List ℕ) → bytesLeft s r ≤ bytesLeft s next
 
 abbrev pub Since : Infix → List ℕ → ℕ → ℕ → Parsed → List ℕ → Parsed → List ℕ → Type 0
-Since o s at n first₀ code₀ first code = (before : List ℕ) → Done got s at n before code₀ (readOf o (drop at s)) first₀ → Done (moreOf o) s at n before code (wholeOf o (drop at s)) first
+Since o s at n first₀ code₀ first code =
+    (before : List ℕ) → Done got s at n before code₀ (readOf o (drop at s)) first₀ → Done (moreOf o) s at n before code (wholeOf o (drop at s)) first
 
 abbrev pub markNumber : ℕ → ℕ
 markNumber c = pick (eqb c asterisk) op-star (pick (eqb c plus-sign) op-plus (pick (eqb c question-mark) op-optional no-mark))

@@ -30,7 +30,8 @@ number-of large = refl
 pub reads-number : {text : List ℕ} {r : Reading} → Reads text r → readNumber (r .answer) ≡ firstNumber (verdictCause (verdict text))
 reads-number {text} h = ap readNumber (h .answered) ∙ number-of (verdict text)
 
-pub reads-as : {text : List ℕ} {r : Reading} (e : Expr) → Reads text r → verdict text ≡ accepted e → (r .answer ≡ Accepted (length (code e))) × ReadAs text (length (code e)) (r .code) e
+pub reads-as : {text : List ℕ} {r : Reading} (e : Expr) → Reads text r → verdict text ≡ accepted e
+    → (r .answer ≡ Accepted (length (code e))) × ReadAs text (length (code e)) (r .code) e
 unfolding readAnswer codeArray
 reads-as {text} {r} e h v =
     let limits = accepted-is text e v in (
@@ -45,7 +46,8 @@ reads-as {text} {r} e h v =
     )
 
 -- by the verdict
-accepted-as : {text : List ℕ} {r : Reading} {n : ℕ} (v : Verdict) → verdict text ≡ v → Reads text r → readAnswer v ≡ Accepted n → (e : Expr) × ReadAs text n (r .code) e
+accepted-as : {text : List ℕ} {r : Reading} {n : ℕ} (v : Verdict) → verdict text ≡ v
+    → Reads text r → readAnswer v ≡ Accepted n → (e : Expr) × ReadAs text n (r .code) e
 unfolding readAnswer
 accepted-as {text} {r} {n} (accepted e) q h a = let p = reads-as e h q in let z : length (code e) ≡ n = cc in (e, rw (← z) (p .1))
 accepted-as long q h a = absurd (let z : _≡_ {A = ℕ} 0 1 = cc in omega arith)
@@ -62,5 +64,6 @@ refused-some long k a = (let z : 10 ≡ k = cc in omega arith, λ e h. let z : _
 refused-some outside k a = (let z : 9 ≡ k = cc in omega arith, λ e h. let z : _≡_ {A = ℕ} 0 1 = cc in omega arith)
 refused-some large k a = (let z : 10 ≡ k = cc in omega arith, λ e h. let z : _≡_ {A = ℕ} 0 1 = cc in omega arith)
 
-pub reads-refused : {text : List ℕ} {r : Reading} {k : ℕ} → Reads text r → r .answer ≡ Refused k → (firstNumber (verdictCause (verdict text)) ≡ k) × ((0 < k) × ((e : Expr) → verdict text ≡ accepted e → ⊥))
+pub reads-refused : {text : List ℕ} {r : Reading} {k : ℕ} → Reads text r → r .answer ≡ Refused k
+    → (firstNumber (verdictCause (verdict text)) ≡ k) × ((0 < k) × ((e : Expr) → verdict text ≡ accepted e → ⊥))
 reads-refused {text} {r} {k} h a = (sym (reads-number h) ∙ ap readNumber a, refused-some (verdict text) k (sym (h .answered) ∙ a))

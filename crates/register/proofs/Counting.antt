@@ -1,4 +1,14 @@
--- Laws of the register's totals: a word put in or taken out moves the count of its label by one, and the kept totals follow. Assumes nothing.
+-- Laws of the register's totals: a word put in or taken out moves the count of its label by one, and the kept totals follow.
+--   word-total-insert, word-total-without
+--                   a word put in, or taken out, moves the count of its label by one
+--   raised, lowered, raised-set, lowered-set
+--                   one total more or less, the others as they were; by a store into the list
+--   raised-counted, lowered-counted
+--                   totals that are the counts stay so, with a word put in or taken out
+--   held-counted    holding an edit leaves them
+--   represents-counted, counted-totals
+--                   they are the counts of a register that represents a book, and then the book's totals
+-- Assumes nothing.
 use mathlib.Core.Path.{_≡_, refl, sym, ap, _∙_}
 use mathlib.Core.List.{List, [], _∷_}
 use mathlib.Core.Bool.{Bool, true, false}

@@ -18,9 +18,12 @@ use lib.Dec.{leb, eqb}
 use lib.ListN.{length, getD, set, replicate}
 use borrow.Author.Tests.{leb-false, eq-eqb, not-false}
 use Rattle.book.specs.Basics.{pick, bit, In, has, without}
-use Rattle.book.specs.Causes.{Cause, no-record, locked-end, already, missing, full, touched-record, withdrawn-record, number, firstNumber, maxRecords, labels, maxLinks}
-use Rattle.book.specs.Book.{Link, sameLink, Sheet, Edit, add, remove, lock, unlock, withdraw, reinstate, present, isLocked, isWithdrawn, touched, total, causes, editAnswer, edited}
-use Rattle.book.specs.SetLaws.{eqb-test, sameLink-test, and-both, or-neither, has-in, in-has, has-without, without-self, without-other, length-without, without-absent}
+use Rattle.book.specs.Causes.{Cause, no-record, locked-end, already, missing, full, touched-record, withdrawn-record, number, firstNumber, maxRecords, labels}
+use Rattle.book.specs.Causes.{maxLinks}
+use Rattle.book.specs.Book.{Link, sameLink, Sheet, Edit, add, remove, lock, unlock, withdraw, reinstate, present, isLocked, isWithdrawn, touched, total, causes}
+use Rattle.book.specs.Book.{editAnswer, edited}
+use Rattle.book.specs.SetLaws.{eqb-test, sameLink-test, and-both, or-neither, has-in, in-has, has-without, without-self, without-other, length-without}
+use Rattle.book.specs.SetLaws.{without-absent}
 use Rattle.book.specs.Sheets.{Proper, Fit}
 use Rattle.book.specs.BookLaws.{first-none, first-proper, edited-fit, fit-bare}
 use Rattle.book.specs.TotalLaws.{total-add, total-remove}
@@ -30,7 +33,8 @@ use Rattle.register.specs.Packed.{Packed, markOf, insert, kindUnit, held
 use Rattle.register.specs.Inner.{linkCauses}
 use Rattle.register.specs.LinkLaws.{word-test, linked-has, linked-touched}
 use Rattle.register.specs.MarkLaws.{mark-by, shows-locked, shows-withdrawn, marks-set, mark-back}
-use Rattle.register.proofs.Ascending.{insert-in, insert-keeps, in-insert, length-insert, rises-insert, rises-without, length-out, without-insert, insert-without}
+use Rattle.register.proofs.Ascending.{insert-in, insert-keeps, in-insert, length-insert, rises-insert, rises-without, length-out, without-insert}
+use Rattle.register.proofs.Ascending.{insert-without}
 use Rattle.register.proofs.Counting.{word-total-insert, word-total-without}
 
 -- ---- the same cause
@@ -38,7 +42,8 @@ unfoldable pub packedCauses : ℕ → Packed → Edit → List (Cause × Bool)
 packedCauses n p (add k) = linkCauses n (p .marks) k ++ ((already, has eqb (linkWord k) (p .links)) ∷ (full, leb maxLinks (length (p .links))) ∷ [])
 packedCauses n p (remove k) = linkCauses n (p .marks) k ++ ((missing, not (has eqb (linkWord k) (p .links))) ∷ [])
 packedCauses n p (lock r) = (no-record, leb n r) ∷ (withdrawn-record, hasMark withdrawnMark (p .marks) r) ∷ (already, hasMark lockMark (p .marks) r) ∷ []
-packedCauses n p (unlock r) = (no-record, leb n r) ∷ (withdrawn-record, hasMark withdrawnMark (p .marks) r) ∷ (missing, not (hasMark lockMark (p .marks) r)) ∷ []
+packedCauses n p (unlock r) =
+    (no-record, leb n r) ∷ (withdrawn-record, hasMark withdrawnMark (p .marks) r) ∷ (missing, not (hasMark lockMark (p .marks) r)) ∷ []
 packedCauses n p (withdraw r) =
     (no-record, leb n r) ∷ (locked-end, hasMark lockMark (p .marks) r) ∷ (already, hasMark withdrawnMark (p .marks) r) ∷
     (touched-record, touched r (map linkOf (p .links))) ∷ []
@@ -61,13 +66,16 @@ unfolding firstNumber
 first-stop [] ds z = absurd (z refl)
 first-stop (c ∷ cs) ds z = go (c .1) z (first-stop cs ds)
   where
-    go : (t : Bool) → (pick t (number (c .0)) (firstNumber cs) ≡ 0 → ⊥) → ((firstNumber cs ≡ 0 → ⊥) → firstNumber (cs ++ ds) ≡ firstNumber cs) → pick t (number (c .0)) (firstNumber (cs ++ ds)) ≡ pick t (number (c .0)) (firstNumber cs)
+    go : (t : Bool) → (pick t (number (c .0)) (firstNumber cs) ≡ 0 → ⊥) → ((firstNumber cs ≡ 0 → ⊥) → firstNumber (cs ++ ds) ≡ firstNumber cs)
+        → pick t (number (c .0)) (firstNumber (cs ++ ds)) ≡ pick t (number (c .0)) (firstNumber cs)
     go true z ih = refl
     go false z ih = ih z
 
 module _ {n : ℕ} (small : n ≤ maxRecords) where
   is-proper : (k : Link) → (leb n (k .from) || leb n (k .to)) ≡ false → leb labels (k .label) ≡ false → Proper n k
-  is-proper k u v = let h = or-neither (leb n (k .from)) (leb n (k .to)) u in record { from = leb-false _ _ (h .0); label = leb-false labels (k .label) v; to = leb-false _ _ (h .1) }
+  is-proper k u v =
+      let h = or-neither (leb n (k .from)) (leb n (k .to)) u in
+      record { from = leb-false _ _ (h .0); label = leb-false labels (k .label) v; to = leb-false _ _ (h .1) }
 
   pub shows-cause : {p : Packed} {s : Sheet} → Shows n p s → (e : Edit) → firstNumber (packedCauses n p e) ≡ editAnswer n s e
   unfolding packedCauses linkCauses editAnswer causes firstNumber
@@ -96,7 +104,8 @@ or-either true c e P f g = f refl
 or-either false c e P f g = g e
 
 module _ {n : ℕ} (small : n ≤ maxRecords) where
-  add-linked : {ws : List ℕ} {s : Sheet} (k : Link) → Fit n s → Linked ws s → Proper n k → present s k ≡ false → Linked (insert (linkWord k) ws) (edited (add k) s)
+  add-linked : {ws : List ℕ} {s : Sheet} (k : Link) → Fit n s → Linked ws s → Proper n k
+      → present s k ≡ false → Linked (insert (linkWord k) ws) (edited (add k) s)
   unfolding edited has
   add-linked {ws} {s} k f l p z = record {
     ascending = rises-insert (linkWord k) (l .ascending) (omega arith) (linked-has small f l p ∙ z);
@@ -147,7 +156,8 @@ module _ {n : ℕ} (small : n ≤ maxRecords) where
   word-label : {k : Link} → Proper n k → linkWord k / labelUnit ≡ k .label
   word-label p = omega (arith, p .from, p .to)
 
-  pub shows-edited : {p : Packed} {s : Sheet} → length (p .marks) ≡ maxRecords → Shows n p s → (e : Edit) → editAnswer n s e ≡ 0 → Shows n (packedEdit e p) (edited e s)
+  pub shows-edited : {p : Packed} {s : Sheet} → length (p .marks) ≡ maxRecords
+      → Shows n p s → (e : Edit) → editAnswer n s e ≡ 0 → Shows n (packedEdit e p) (edited e s)
   unfolding packedEdit edited editAnswer causes has
   shows-edited {p} {s} m h (add k) z =
       let u = first-proper n k _ _ z in
@@ -156,7 +166,9 @@ module _ {n : ℕ} (small : n ≤ maxRecords) where
       record {
         links = add-linked k (h .fit) (h .links) (u .0) (a .0);
         count = length-insert (linkWord k) (p .links) ∙ ap suc (h .count);
-        totals = λ l. word-total-insert l (linkWord k) (p .links) ∙ rw (word-label (u .0)) (ap (λ (t : ℕ). bit (eqb (k .label) l) + t) (h .totals l) ∙ sym (total-add k s l));
+        totals =
+            λ l. word-total-insert l (linkWord k) (p .links)
+            ∙ rw (word-label (u .0)) (ap (λ (t : ℕ). bit (eqb (k .label) l) + t) (h .totals l) ∙ sym (total-add k s l));
         marks = h .marks;
         fit = edited-fit n s (add k) (h .fit) z;
       }
@@ -219,7 +231,8 @@ module _ {n : ℕ} (small : n ≤ maxRecords) where
       let q = u .0 in
       let x : linkWord k / kindUnit ≡ 0 = omega (arith, q .from, q .label, q .to) in
       let y : linkWord k % kindUnit ≡ linkWord k = omega (arith, q .from, q .label, q .to) in
-      rw (x, y) (ap (λ (l : List ℕ). record { links = l; marks = p .marks }) (without-insert (linkWord k) (p .links) ∙ without-absent eqb-test (linkWord k) (p .links) (linked-has small (h .fit) (h .links) q ∙ a .0)))
+      rw (x, y) (ap (λ (l : List ℕ). record { links = l; marks = p .marks }) (without-insert (linkWord k) (p .links)
+      ∙ without-absent eqb-test (linkWord k) (p .links) (linked-has small (h .fit) (h .links) q ∙ a .0)))
   taken-back {p} {s} h (remove k) z =
       let u = first-proper n k _ _ z in
       let v = first-none locked-end _ _ (u .2) in
@@ -227,7 +240,8 @@ module _ {n : ℕ} (small : n ≤ maxRecords) where
       let q = u .0 in
       let x : (kindUnit + linkWord k) / kindUnit ≡ 1 = omega (arith, q .from, q .label, q .to) in
       let y : (kindUnit + linkWord k) % kindUnit ≡ linkWord k = omega (arith, q .from, q .label, q .to) in
-      rw (x, y) (ap (λ (l : List ℕ). record { links = l; marks = p .marks }) (insert-without (linkWord k) (p .links) (h .links .ascending) (linked-has small (h .fit) (h .links) q ∙ a)))
+      rw (x, y) (ap (λ (l : List ℕ). record { links = l; marks = p .marks })
+      (insert-without (linkWord k) (p .links) (h .links .ascending) (linked-has small (h .fit) (h .links) q ∙ a)))
   taken-back {p} {s} h (lock r) z =
       let u = first-none no-record _ _ z in
       let w = first-none withdrawn-record _ _ (u .1) in

@@ -25,7 +25,8 @@ use lib.Dec.{eqb}
 use lib.ListN.{length, take, getD}
 use Rattle.book.specs.Basics.{pick, All, all-none, all-more}
 use Rattle.book.specs.Causes.{labels}
-use Rattle.book.specs.Book.{sameLink, Sheet, Book, add, remove, lock, unlock, withdraw, reinstate, Call, edit, undo, close, isLocked, isWithdrawn, total, answer, next, fresh, answers, after, givens}
+use Rattle.book.specs.Book.{sameLink, Sheet, Book, add, remove, lock, unlock, withdraw, reinstate, Call, edit, undo, close, isLocked, isWithdrawn, total}
+use Rattle.book.specs.Book.{answer, next, fresh, answers, after, givens}
 use Rattle.book.specs.Sheets.{Distinct, Fit, Sound}
 use Rattle.register.specs.Links.{Linked}
 use Rattle.register.specs.Marks.{lockMark, withdrawnMark, hasMark}
@@ -62,14 +63,16 @@ module _ {e : Register} where
       let c = close (length (l .before)) in
       told-more (out .answer) (answer b c) (s .steps .answers b h) (answered run (next b c) (s .steps .follows b h))
 
-  pub kept : {r : Register} {cs : List Call} {told : List ℕ} {ls : List Lent} → CallsMade r cs told ls e → (b : Book) → Represents r b → Represents e (after b cs)
+  pub kept : {r : Register} {cs : List Call} {told : List ℕ} {ls : List Lent}
+      → CallsMade r cs told ls e → (b : Book) → Represents r b → Represents e (after b cs)
   unfolding after
   kept done b h = h
   kept (more-edit out s run) b h = kept run (next b _) (s .follows b h)
   kept (more-undo out s run) b h = kept run (next b _) (s .follows b h)
   kept (more-close l out s run) b h = kept run (next b _) (s .steps .follows b h)
 
-  pub given-lent : {r : Register} {cs : List Call} {told : List ℕ} {ls : List Lent} → CallsMade r cs told ls e → (b : Book) → Represents r b → Gives (givens b cs) ls
+  pub given-lent : {r : Register} {cs : List Call} {told : List ℕ} {ls : List Lent}
+      → CallsMade r cs told ls e → (b : Book) → Represents r b → Gives (givens b cs) ls
   unfolding givens
   given-lent done b h = none-given
   given-lent (more-edit out s run) b h = given-lent run (next b _) (s .follows b h)
@@ -122,7 +125,8 @@ piled-fit n p (w ∷ ws) [] h = absurd h
 piled-fit n p (w ∷ ws) (s ∷ ss) h = all-more (h .0 .fit) (piled-fit n (takeBack w p) ws ss (h .1))
 
 pub represents-sound : {r : Register} {b : Book} → Represents r b → Sound b
-represents-sound {r} {b} h = record { small = omega (arith, h .size, h .ranged .size); sheet = h .sheet .fit; pile = piled-fit (b .n) (packedOf r) (heldWords r) (b .pile) (h .pile) }
+represents-sound {r} {b} h =
+    record { small = omega (arith, h .size, h .ranged .size); sheet = h .sheet .fit; pile = piled-fit (b .n) (packedOf r) (heldWords r) (b .pile) (h .pile) }
 
 -- ---- entries
 pub after-append : (b : Book) (cs ds : List Call) → after b (cs ++ ds) ≡ after (after b cs) ds

@@ -51,8 +51,10 @@ head-same e = cc
 alone-cells : (g : Graph) (l : ℕ) (s : List ℕ) (e : Expr) (c : List ℕ) → Coded s e c → Alone l c → cells g e ≡ crossedBy g (lettersIn (2 ^ l) 0)
 unfolding run does relations
 alone-cells g l s e c C A =
-    let one : c ≡ getD c 0 0 ∷ [] = drop-cons c 0 0 (omega (arith, A .single)) ∙ ap (λ (x : List ℕ). getD c 0 0 ∷ x) (drop-of-length-le c {i = 1} (omega (arith, A .single))) in
-    let r : run (relations g) c [] ≡ cells g e ∷ [] = ap (λ (x : List ℕ). run (relations g) x []) (C .is) ∙ run-code (relations g) (C .syntax) [] ∙ ap (λ (a : Cells). a ∷ []) (value-cells g e) in
+    let one : c ≡ getD c 0 0 ∷ [] =
+    drop-cons c 0 0 (omega (arith, A .single)) ∙ ap (λ (x : List ℕ). getD c 0 0 ∷ x) (drop-of-length-le c {i = 1} (omega (arith, A .single))) in
+    let r : run (relations g) c [] ≡ cells g e ∷ [] =
+    ap (λ (x : List ℕ). run (relations g) x []) (C .is) ∙ run-code (relations g) (C .syntax) [] ∙ ap (λ (a : Cells). a ∷ []) (value-cells g e) in
     let d : run (relations g) c [] ≡ crossedBy g (lettersIn (2 ^ l) 0) ∷ [] =
     ap (λ (x : List ℕ). run (relations g) x []) one ∙ ap (λ (y : Item). does (relations g) y []) (A .letter) in
     head-same (sym r ∙ d)
@@ -80,7 +82,9 @@ module _ (b : Book) (n : ℕ) (links used : List ℕ) (L : Lettered b n links us
 
   letter-set : crossedBy (asked b) (lettersIn (2 ^ l) 0) ≡ setOf ps
   unfolding asked
-  letter-set = fun-ext (λ x. fun-ext (λ y. go x y (decLt 0 (crossedBy (asked b) (lettersIn (2 ^ l) 0) x y)) (present (b .sheet) (record { from = x; label = l; to = y })) refl))
+  letter-set =
+      fun-ext
+      (λ x. fun-ext (λ y. go x y (decLt 0 (crossedBy (asked b) (lettersIn (2 ^ l) 0) x y)) (present (b .sheet) (record { from = x; label = l; to = y })) refl))
     where
       go : (x y : ℕ) → Dec (0 < crossedBy (asked b) (lettersIn (2 ^ l) 0) x y) → (t : Bool) → present (b .sheet) (record { from = x; label = l; to = y }) ≡ t
           → crossedBy (asked b) (lettersIn (2 ^ l) 0) x y ≡ setOf ps x y
@@ -93,7 +97,8 @@ module _ (b : Book) (n : ℕ) (links used : List ℕ) (L : Lettered b n links us
           let o = only-letter l (r .0) (r .1) in
           let p : present (b .sheet) (record { from = x; label = l; to = y }) ≡ true =
           subst (λ (i : ℕ). present (b .sheet) (record { from = x; label = i; to = y }) ≡ true) (o .1)
-          (subst (λ (s : Bool). present (b .sheet) (pick s (record { from = y; label = r .0 .label; to = x }) (record { from = x; label = r .0 .label; to = y })) ≡ true) (o .0) (r .2)) in
+          (subst (λ (s : Bool). present (b .sheet)
+          (pick s (record { from = y; label = r .0 .label; to = x }) (record { from = x; label = r .0 .label; to = y })) ≡ true) (o .0) (r .2)) in
           absurd (let z : _≡_ {A = ℕ} 1 0 = ap bit (sym p ∙ e) in omega arith)
 
   -- its pairs, ascending
@@ -111,7 +116,8 @@ module _ (b : Book) (n : ℕ) (links used : List ℕ) (L : Lettered b n links us
           let h = under w i in
           let q : pairWord (w / 1024) (w % 1024) ≡ w = omega arith in
           subst (λ (v : ℕ). In v (listed (b .n) (setOf ps))) q
-          (listed-in (b .n) (setOf ps) (w / 1024) (w % 1024) (h .0) (h .1) (omega (arith, in-set ps (w / 1024) (w % 1024) (omega arith) (subst (λ (v : ℕ). In v ps) (sym q) i))))
+          (listed-in (b .n) (setOf ps) (w / 1024) (w % 1024) (h .0) (h .1)
+          (omega (arith, in-set ps (w / 1024) (w % 1024) (omega arith) (subst (λ (v : ℕ). In v ps) (sym q) i))))
 
       back : (w : ℕ) → In w (listed (b .n) (setOf ps)) → In w ps
       back w i = let r = in-listed (b .n) (setOf ps) i in subst (λ (v : ℕ). In v ps) (sym (r .5)) (set-in ps (r .0) (r .1) (r .4))
@@ -139,11 +145,13 @@ written-more i ws list l h k e =
     ap₂ (λ (x : List ℕ) (v : ℕ). set x i v) e (pair-at i ws h) ∙ written i (map linkPair ws) l (omega (arith, length-pairs ws)) k
     ∙ ap (λ (j : ℕ). take j (map linkPair ws) ++ drop j l) (let z : suc i ≡ i + 1 = omega arith in z)
 
-pub written-all : (i c : ℕ) (ws list l : List ℕ) → i ≡ c → (c ≤ length ws) × (c ≤ length l) × ((c ≡ length ws) ⊎ (c ≡ length l)) → list ≡ take i (map linkPair ws) ++ drop i l
+pub written-all : (i c : ℕ) (ws list l : List ℕ) → i ≡ c → (c ≤ length ws) × (c ≤ length l) × ((c ≡ length ws) ⊎ (c ≡ length l))
+    → list ≡ take i (map linkPair ws) ++ drop i l
     → list ≡ take (length l) (map linkPair ws) ++ drop (length (map linkPair ws)) l
 written-all i c ws list l z h e = e ∙ ⊎-elim
     (λ k. let p : length (map linkPair ws) ≡ i = length-pairs ws ∙ omega arith in
-    ap₂ (λ (x : List ℕ) (j : ℕ). x ++ drop j l) (take-all i (map linkPair ws) (omega arith) ∙ sym (take-all (length l) (map linkPair ws) (omega arith))) (sym p))
+    ap₂ (λ (x : List ℕ) (j : ℕ). x ++ drop j l) (take-all i (map linkPair ws) (omega arith) ∙ sym (take-all (length l) (map linkPair ws) (omega arith)))
+    (sym p))
     (λ k. let q : i ≡ length l = omega arith in
     ap₂ (λ (j : ℕ) (x : List ℕ). take j (map linkPair ws) ++ x) q
     (drop-of-length-le l {i = i} (omega arith) ∙ sym (drop-of-length-le l {i = length (map linkPair ws)} (omega (arith, length-pairs ws))))) (h .2)

@@ -39,7 +39,8 @@ use Rattle.rowpairs.specs.Evaluation.{ValueFirst}
 use Rattle.rowpairs.proofs.Alone.{some-used, letter-listed}
 
 -- ---- refused
-declines : (r : Register) (v : Verdict) (work k : ℕ) (before : List ℕ) → Caused k → ((b : Book) → Represents r b → rowsAnswer b v work (length before) ≡ refused k)
+declines : (r : Register) (v : Verdict) (work k : ℕ) (before : List ℕ) → Caused k
+    → ((b : Book) → Represents r b → rowsAnswer b v work (length before) ≡ refused k)
     → AsksRowsFor r v work before before (Refused k)
 unfolding pairsLength listAfter
 declines r v work k before z f = record {
@@ -61,33 +62,41 @@ module _ (r : Register) (e : Expr) (n work : ℕ) (before : List ℕ) (size : (b
 
   -- ---- the pairs of the value handed over
   pub listed-value : (s links used code ws ms after : List ℕ) (t w : ℕ) → w ≡ rowWidth n → n ≤ maxRecords → 32 * (n * w) ≤ work
-      → ((b : Book) → Represents r b → Linked links (b .sheet)) → ((b : Book) → Represents r b → n ≡ b .n → bitAt used ≡ (λ x. bit (asked b .inUse x))) → Coded s e code
+      → ((b : Book) → Represents r b → Linked links (b .sheet))
+      → ((b : Book) → Represents r b → n ≡ b .n → bitAt used ≡ (λ x. bit (asked b .inUse x))) → Coded s e code
       → ValueFirst n links used code ws ms
       → t ≡ length (listed n (first n w ws ms))
       → after ≡ take (length before) (listed n (first n w ws ms)) ++ drop (length (listed n (first n w ws ms))) before
       → AsksRowsFor r (accepted e) work before after (Pairs t)
   unfolding pairs asked
   listed-value s links used code ws ms after t w width small h linked bits C made total written =
-      let H : Handed (listed n (first n w ws ms)) before after (Pairs t) = subst (λ (k : ℕ). Handed (listed n (first n w ws ms)) before after (Pairs k)) (sym total) (handed (written ∙ first-over (listed n (first n w ws ms)) before)) in
+      let H : Handed (listed n (first n w ws ms)) before after (Pairs t) =
+      subst (λ (k : ℕ). Handed (listed n (first n w ws ms)) before after (Pairs k))
+      (sym total) (handed (written ∙ first-over (listed n (first n w ws ms)) before)) in
       record {
         past = handed-past H;
         unchanged = λ k q. handed-some H k q;
         caused = λ k q. handed-some H k q;
-        book = λ b R. rows-handed b e work (subst (λ (i : ℕ). rowsWork i ≤ work) (size b R) (subst (λ (v : ℕ). 32 * (n * v) ≤ work) width h)) (subst (λ (l : List ℕ). Handed l before after (Pairs t)) (value b R) H);
+        book =
+            λ b R. rows-handed b e work (subst (λ (i : ℕ). rowsWork i ≤ work) (size b R) (subst (λ (v : ℕ). 32 * (n * v) ≤ work) width h))
+            (subst (λ (l : List ℕ). Handed l before after (Pairs t)) (value b R) H);
       }
     where
       value : (b : Book) → Represents r b → listed n (first n w ws ms) ≡ pairs (asked b) e
       value b R =
           let z : n ≡ b .n = size b R in
-          let L : Lettered b n links used = record { size = z; small = subst (λ (i : ℕ). i ≤ maxRecords) z small; fit = R .sheet .fit; linked = linked b R; in-use = bits b R z } in
+          let L : Lettered b n links used =
+          record { size = z; small = subst (λ (i : ℕ). i ≤ maxRecords) z small; fit = R .sheet .fit; linked = linked b R; in-use = bits b R z } in
           ap₂ (λ (i v : ℕ). listed i (first n v ws ms)) z width ∙ ap (listed (b .n)) (made .value b L s e C)
 
   -- ---- a letter alone
   pub alone-asks : (l : ℕ) (s links code after : List ℕ) (t w : ℕ) → w ≡ rowWidth n → n ≤ maxRecords → 32 * (n * w) ≤ work
-      → ((b : Book) → Represents r b → Linked links (b .sheet)) → Coded s e code → Alone l code → LetterListed links l before after t → AsksRowsFor r (accepted e) work before after (Pairs t)
+      → ((b : Book) → Represents r b → Linked links (b .sheet)) → Coded s e code → Alone l code
+      → LetterListed links l before after t → AsksRowsFor r (accepted e) work before after (Pairs t)
   alone-asks l s links code after t w width small h linked C A T =
       let ps : List ℕ = map linkPair (T .part) in
-      let H : Handed ps before after (Pairs t) = subst (λ (k : ℕ). Handed ps before after (Pairs k)) (sym (T .total)) (handed (T .written ∙ first-over ps before)) in
+      let H : Handed ps before after (Pairs t) =
+      subst (λ (k : ℕ). Handed ps before after (Pairs k)) (sym (T .total)) (handed (T .written ∙ first-over ps before)) in
       record {
         past = handed-past H;
         unchanged = λ k q. handed-some H k q;
@@ -101,5 +110,6 @@ module _ (r : Register) (e : Expr) (n work : ℕ) (before : List ℕ) (size : (b
             (subst (λ (x : List ℕ). Handed x before after (Pairs t)) (letter-listed b n links (u .0) L l (T .part) (T .of-label) s e code C A) H);
       }
 
-pub same-verdict : (r : Register) (v : Verdict) (e : Expr) (work : ℕ) (before after : List ℕ) (a : PairsAnswer) → v ≡ accepted e → AsksRowsFor r (accepted e) work before after a → AsksRowsFor r v work before after a
+pub same-verdict : (r : Register) (v : Verdict) (e : Expr) (work : ℕ) (before after : List ℕ) (a : PairsAnswer)
+    → v ≡ accepted e → AsksRowsFor r (accepted e) work before after a → AsksRowsFor r v work before after a
 same-verdict r v e work before after a d A = subst (λ (w : Verdict). AsksRowsFor r w work before after a) (sym d) A

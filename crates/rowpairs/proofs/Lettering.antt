@@ -78,7 +78,9 @@ module _ (b : Book) (n : ℕ) (links used : List ℕ) (L : Lettered b n links us
       omega (arith, f .label)
 
   pub below : PairsBelow n (map linkPair part)
-  below p h = let r = in-map linkPair part h in links-below b n links used L p (subst (λ (v : ℕ). In v (map linkPair links)) (sym (r .2)) (map-in linkPair (in-part (r .1))))
+  below p h =
+      let r = in-map linkPair part h in
+      links-below b n links used L p (subst (λ (v : ℕ). In v (map linkPair links)) (sym (r .2)) (map-in linkPair (in-part (r .1))))
 
   pub part-pairs : PairsOf (b .sheet) l (map linkPair part)
   unfolding linkPair
@@ -87,7 +89,8 @@ module _ (b : Book) (n : ℕ) (links used : List ℕ) (L : Lettered b n links us
   pub part-set : (x y : ℕ) → setOf (map linkPair part) x y ≡ bit (present (b .sheet) (record { from = x; label = l; to = y }))
   part-set x y = go (present (b .sheet) (record { from = x; label = l; to = y })) refl (decLt 0 (setOf (map linkPair part) x y))
     where
-      go : (t : Bool) → present (b .sheet) (record { from = x; label = l; to = y }) ≡ t → Dec (0 < setOf (map linkPair part) x y) → setOf (map linkPair part) x y ≡ bit t
+      go : (t : Bool) → present (b .sheet) (record { from = x; label = l; to = y }) ≡ t
+          → Dec (0 < setOf (map linkPair part) x y) → setOf (map linkPair part) x y ≡ bit t
       go true e d = let f = L .fit .links _ e in let s = L .small in in-set (map linkPair part) x y (omega (arith, f .to)) (part-pairs .whole x y e)
       go false e (no d) = omega arith
       go false e (yes d) = absurd (same (decLt y 1024))
@@ -108,11 +111,13 @@ module _ (b : Book) (n : ℕ) (links used : List ℕ) (L : Lettered b n links us
               omega arith
 
   -- the part of a set that has the label or not
-  side : (m x y : ℕ) → setOf (map linkPair (labelled (everyIf m l) part)) x y ≡ pick (eqb (digit m l) 1) (bit (present (b .sheet) (record { from = x; label = l; to = y }))) 0
+  side : (m x y : ℕ) → setOf (map linkPair (labelled (everyIf m l) part)) x y
+      ≡ pick (eqb (digit m l) 1) (bit (present (b .sheet) (record { from = x; label = l; to = y }))) 0
   unfolding everyIf noPairs
   side m x y = go (eqb (digit m l) 1)
     where
-      go : (t : Bool) → setOf (map linkPair (labelled (pick t everyLabel 0) part)) x y ≡ pick t (bit (present (b .sheet) (record { from = x; label = l; to = y }))) 0
+      go : (t : Bool) → setOf (map linkPair (labelled (pick t everyLabel 0) part)) x y
+          ≡ pick t (bit (present (b .sheet) (record { from = x; label = l; to = y }))) 0
       go true = ap (λ (ws : List ℕ). setOf (map linkPair ws) x y) (every-labelled part labels-few) ∙ part-set x y
       go false = ap (λ (ws : List ℕ). setOf (map linkPair ws) x y) (labelled-none part) ∙ ap (λ (a : Cells). a x y) set-none
 
@@ -149,8 +154,10 @@ module _ (n w : ℕ) (links : List ℕ) (forward against : ℕ) (ws ms : List �
   pub put-begins : PutBelow n w links forward against ws ms ws ms 0
   put-begins b used L = sym (ap (union (first n w ws ms)) (below-none (asked b) (lettersIn forward against)) ∙ union-right (first n w ws ms))
 
-  module _ (l p t : ℕ) (vs ns : List ℕ) (plain : p ≡ everyIf forward l) (turned : t ≡ everyIf against l) (so-far : PutBelow n w links forward against ws ms vs ns l) where
-    next-label : (b : Book) (used vs′ ns′ : List ℕ) → Lettered b n links used → first n w vs′ ns′ ≡ union (first n w vs ns) (steppedBy (asked b) (lettersIn forward against) l)
+  module _ (l p t : ℕ) (vs ns : List ℕ) (plain : p ≡ everyIf forward l)
+      (turned : t ≡ everyIf against l) (so-far : PutBelow n w links forward against ws ms vs ns l) where
+    next-label : (b : Book) (used vs′ ns′ : List ℕ) → Lettered b n links used
+        → first n w vs′ ns′ ≡ union (first n w vs ns) (steppedBy (asked b) (lettersIn forward against) l)
         → first n w vs′ ns′ ≡ union (first n w ws ms) (steppedBelow (asked b) (lettersIn forward against) (l + 1))
     next-label b used vs′ ns′ L made =
         let g : Graph = asked b in
@@ -159,16 +166,19 @@ module _ (n w : ℕ) (links : List ℕ) (forward against : ℕ) (ws ms : List �
         ∙ ap (union (first n w ws ms)) (below-more g f l)
 
     -- a label of the letters: its part of the links has been put in
-    pub put-more : (part vs′ ns′ : List ℕ) → LabelPart links l part → first n w vs′ ns′ ≡ union (first n w vs ns) (within n (crossedWords part p t)) → PutBelow n w links forward against ws ms vs′ ns′ (l + 1)
+    pub put-more : (part vs′ ns′ : List ℕ) → LabelPart links l part
+        → first n w vs′ ns′ ≡ union (first n w vs ns) (within n (crossedWords part p t)) → PutBelow n w links forward against ws ms vs′ ns′ (l + 1)
     put-more part vs′ ns′ P made b used L =
         next-label b used vs′ ns′ L
-        (made ∙ ap (union (first n w vs ns)) (ap₂ (λ (i j : ℕ). within n (crossedWords part i j)) plain turned ∙ part-stepped b n links used L l part P forward against))
+        (made ∙ ap (union (first n w vs ns))
+        (ap₂ (λ (i j : ℕ). within n (crossedWords part i j)) plain turned ∙ part-stepped b n links used L l part P forward against))
 
     -- any other label
     pub put-same : p + t ≡ 0 → PutBelow n w links forward against ws ms vs ns (l + 1)
     put-same z b used L =
         next-label b used vs ns L
-        (sym (ap (union (first n w vs ns)) (none-stepped (asked b) forward against l (sym plain ∙ omega arith) (sym turned ∙ omega arith)) ∙ union-right (first n w vs ns)))
+        (sym (ap (union (first n w vs ns)) (none-stepped (asked b) forward against l (sym plain ∙ omega arith) (sym turned ∙ omega arith))
+        ∙ union-right (first n w vs ns)))
 
   pub put-ends : (k : ℕ) (vs ns : List ℕ) → k ≡ 26 → PutBelow n w links forward against ws ms vs ns k
       → (b : Book) (used : List ℕ) → Lettered b n links used → first n w vs ns ≡ union (first n w ws ms) (crossedBy (asked b) (lettersIn forward against))

@@ -1,30 +1,24 @@
 -- What each item's operation leaves, in plain variables: letters, and the operators. Assumes nothing.
 use mathlib.Core.Path.{_≡_, sym, ap, ap₂, _∙_}
 use mathlib.Core.List.{List}
-use Prim.Native.Nat.{ℕ, _≤_}
-use native.Mathlib.Omega.{arith}
+use Prim.Native.Nat.{ℕ}
 use Rattle.book.specs.Book.{Book}
 use Rattle.k2.specs.Bits.{bitAt}
 use Rattle.k2.specs.PairSets.{Cells, union, closure, diagonal}
 use Rattle.paths.specs.Chains.{asked}
 use Rattle.paths.specs.Relations.{crossedBy, zeroSteps}
-use Rattle.rows.specs.Rows.{noPairs, crossedWords}
-use Rattle.rows.specs.RowLaws.{union-none, crossed-set, diagonal-used}
+use Rattle.rows.specs.Rows.{noPairs}
+use Rattle.rows.specs.RowLaws.{union-none, diagonal-used}
 use Rattle.reader.specs.declared.items.Item.{Item}
 use Rattle.reader.specs.declared.items.Item.the-variants.{Letters, Star}
 use Rattle.reader.specs.Letters.{lettersIn}
 use Rattle.grid.specs.Grid.{within}
 use Rattle.grid.specs.GridLaws.{within-set}
 use Rattle.pairs.specs.Steps.{Lettered}
-use Rattle.pairs.specs.LetterLaws.{links-below, letters-crossed, zero-used, used-below}
+use Rattle.pairs.specs.LetterLaws.{zero-used, used-below}
 use Rattle.rowpairs.specs.Evaluation.{outcomeOf}
 
--- the links of letters, and zero steps, have no record past n
-pub letters-within : (b : Book) (n : ℕ) (links used : List ℕ) → Lettered b n links used → (forward against : ℕ)
-    → within n (crossedWords links forward against) ≡ crossedBy (asked b) (lettersIn forward against)
-letters-within b n links used L forward against =
-    within-set n _ (crossed-set n links forward against (omega (arith, L .size, L .small)) (links-below b n links used L)) ∙ letters-crossed b n links used L forward against
-
+-- zero steps have no record past n
 pub diagonal-within : (b : Book) (n : ℕ) (links used : List ℕ) → Lettered b n links used → within n (diagonal (bitAt used)) ≡ zeroSteps (asked b)
 diagonal-within b n links used L = within-set n _ (diagonal-used n used (used-below b n links used L)) ∙ zero-used b n links used L
 

@@ -45,7 +45,12 @@ height-next : {i k k′ : ℕ} {c : List ℕ} → Height (i ∷ c) k → k′ �
 height-next {i} {k} {k′} {c} H e = go (H .runs) (H .count)
   where
     go : {st : List ℕ} → Runs heights most-waiting (i ∷ c) st → k ≡ length st → Height c k′
-    go {st} (next b h q) l = record { stack = does heights (itemOf i) st; runs = q; count = e ∙ ap (λ (x : ℕ). suc (x - operands (itemOf i))) l ∙ sym (height-after (itemOf i) st b) }
+    go {st} (next b h q) l =
+        record {
+          stack = does heights (itemOf i) st;
+          runs = q;
+          count = e ∙ ap (λ (x : ℕ). suc (x - operands (itemOf i))) l ∙ sym (height-after (itemOf i) st b);
+        }
 
 -- ---- letters and `^`
 turned-crossed : (g : Graph) (forward against : ℕ) → transpose (crossedBy g (lettersIn forward against)) ≡ crossedBy g (lettersIn against forward)
@@ -55,7 +60,8 @@ turned-crossed g forward against = fun-ext (λ x. fun-ext (λ y. ap (most labels
     swap : (u v : ℕ) → max u v ≡ max v u
     swap u v = omega arith
 
-turned-does : (g : Graph) (forward against : ℕ) (st : List Cells) → does (relations g) Inverse (does (relations g) (Letters forward against) st) ≡ does (relations g) (Letters against forward) st
+turned-does : (g : Graph) (forward against : ℕ) (st : List Cells)
+    → does (relations g) Inverse (does (relations g) (Letters forward against) st) ≡ does (relations g) (Letters against forward) st
 unfolding does relations
 turned-does g forward against st = ap (λ (a : Cells). a ∷ st) (turned-crossed g forward against)
 
@@ -64,8 +70,16 @@ module _ (n : ℕ) (links used c : List ℕ) where
   pub going-begins : {s : List ℕ} {e : Expr} → Coded s e c → (ws ms : List ℕ) → Going n links used c ws ms 0 0
   unfolding lying
   going-begins {s} {e} k ws ms = record {
-    height = record { stack = []; runs = subst (λ (x : List ℕ). Runs heights most-waiting x []) (sym (k .is)) (runs-code heights (k .syntax) most-waiting [] (omega (arith, k .shallow))); count = refl };
-    rest = λ b L t f q. ap (λ (x : List ℕ). run (relations (asked b)) x []) (q .is) ∙ run-code (relations (asked b)) (q .syntax) [] ∙ ap (λ (a : Cells). a ∷ []) (value-cells (asked b) f);
+    height =
+        record {
+          stack = [];
+          runs =
+              subst (λ (x : List ℕ). Runs heights most-waiting x []) (sym (k .is)) (runs-code heights (k .syntax) most-waiting [] (omega (arith, k .shallow)));
+          count = refl;
+        };
+    rest =
+        λ b L t f q. ap (λ (x : List ℕ). run (relations (asked b)) x []) (q .is)
+        ∙ run-code (relations (asked b)) (q .syntax) [] ∙ ap (λ (a : Cells). a ∷ []) (value-cells (asked b) f);
   }
 
   module _ {ws ms : List ℕ} {k : ℕ} (i : ℕ) (h : i < length c) (G : Going n links used c ws ms k i) where
@@ -79,7 +93,8 @@ module _ (n : ℕ) (links used c : List ℕ) where
     pub going-ready : {y : Item} → itemOf (getD c i 0) ≡ y → Ready y k
     going-ready is = subst (λ (z : Item). Ready z k) is (height-ready next-height)
 
-    pub going-more : {y : Item} {ws′ ms′ : List ℕ} {k′ : ℕ} → itemOf (getD c i 0) ≡ y → Goes n links used y ws ws′ ms ms′ k k′ → Going n links used c ws′ ms′ k′ (i + 1)
+    pub going-more : {y : Item} {ws′ ms′ : List ℕ} {k′ : ℕ} → itemOf (getD c i 0) ≡ y
+        → Goes n links used y ws ws′ ms ms′ k k′ → Going n links used c ws′ ms′ k′ (i + 1)
     unfolding run
     going-more {y} {ws′} {ms′} {k′} is S = rw add-one (record {
       height = height-next next-height (S .count ∙ ap (λ (z : Item). suc (k - operands z)) (sym is));
@@ -99,7 +114,8 @@ module _ (n : ℕ) (links used c : List ℕ) where
     reading-ready (turned-letters is more then) =
         let r = going-ready is in record { found = r .found; few = r .few; room = r .room }
 
-    pub reading-more : {q : Next} {ws′ ms′ : List ℕ} {k′ : ℕ} → Reading c i q → Goes n links used (q .item) ws ws′ ms ms′ k k′ → Going n links used c ws′ ms′ k′ (i + q .used)
+    pub reading-more : {q : Next} {ws′ ms′ : List ℕ} {k′ : ℕ} → Reading c i q
+        → Goes n links used (q .item) ws ws′ ms ms′ k k′ → Going n links used c ws′ ms′ k′ (i + q .used)
     unfolding run
     reading-more (one-number is) S = going-more is S
     reading-more {ws′ = ws′} {ms′} {k′} (turned-letters {forward} {against} is more then) S =
@@ -126,7 +142,11 @@ module _ (n : ℕ) (links used c : List ℕ) where
   -- one relation is left, and it is the value
   pub going-ends : {ws ms : List ℕ} {k i : ℕ} → length c ≤ i → Going n links used c ws ms k i → ValueFirst n links used c ws ms
   unfolding run lying relationAt
-  going-ends {ws} {ms} {k} {i} h G = record { value = λ b L s e q. alone k (ap (λ (x : List ℕ). run (relations (asked b)) x (lying n ws ms k)) (sym (drop-of-length-le c {i = i} h)) ∙ G .rest b L s e q) }
+  going-ends {ws} {ms} {k} {i} h G =
+      record {
+        value =
+            λ b L s e q. alone k (ap (λ (x : List ℕ). run (relations (asked b)) x (lying n ws ms k)) (sym (drop-of-length-le c {i = i} h)) ∙ G .rest b L s e q);
+      }
     where
       head-same : {x y : Cells} {xs ys : List Cells} → x ∷ xs ≡ y ∷ ys → x ≡ y
       head-same e = cc
@@ -135,7 +155,9 @@ module _ (n : ℕ) (links used c : List ℕ) where
       tail-same e = cc
 
       at-first : first n (rowWidth n) ws ms ≡ relationAt n ws ms 0
-      at-first = ap₂ (λ (i j : ℕ). first n (rowWidth n) (drop i ws) (drop j ms)) (let z : 0 ≡ 0 * (n * rowWidth n) = omega arith in z) (let z : 0 ≡ 0 * n = omega arith in z)
+      at-first =
+          ap₂ (λ (i j : ℕ). first n (rowWidth n) (drop i ws) (drop j ms)) (let z : 0 ≡ 0 * (n * rowWidth n) = omega arith in z) (let z : 0 ≡ 0 * n =
+          omega arith in z)
 
       alone : {v : Cells} (k : ℕ) → lying n ws ms k ≡ v ∷ [] → first n (rowWidth n) ws ms ≡ v
       alone zero e = absurd (let z : _≡_ {A = ℕ} 0 1 = ap length e in omega arith)

@@ -85,7 +85,8 @@ module _ (xs part : List ℕ) (start : ℕ) (h : start ≤ length xs) where
   back : drop start changed ≡ part
   back =
       drop-at (take start xs) (part ++ drop (length xs - start) (drop start xs)) start (length-take-le start xs h)
-      ∙ ap (λ (l : List ℕ). part ++ l) (drop-drop (length xs - start) start xs ∙ ap (λ (k : ℕ). drop k xs) (let e : start + (length xs - start) ≡ length xs = omega arith in e) ∙ drop-length xs)
+      ∙ ap (λ (l : List ℕ). part ++ l) (drop-drop (length xs - start) start xs ∙ ap (λ (k : ℕ). drop k xs) (let e : start + (length xs - start) ≡ length xs =
+      omega arith in e) ∙ drop-length xs)
       ∙ append-nil part
 
 -- the part that is lent is the rest
@@ -97,7 +98,8 @@ pub part-length : (xs : List ℕ) (start : ℕ) → length (take (length xs - st
 part-length xs start = mid-len start (length xs) xs (omega arith)
 
 -- ---- relations that lie below what has changed are as they were
-module _ (n : ℕ) (ws ws′ ms ms′ : List ℕ) (k : ℕ) (same : (i : ℕ) → i < k * (n * rowWidth n) → getD ws′ i 0 ≡ getD ws i 0) (marks : (i : ℕ) → i < k * n → getD ms′ i 0 ≡ getD ms i 0) where
+module _ (n : ℕ) (ws ws′ ms ms′ : List ℕ) (k : ℕ) (same : (i : ℕ) → i < k * (n * rowWidth n) → getD ws′ i 0 ≡ getD ws i 0)
+    (marks : (i : ℕ) → i < k * n → getD ms′ i 0 ≡ getD ms i 0) where
   relation-kept : (j : ℕ) → j < k → relationAt n ws′ ms′ j ≡ relationAt n ws ms j
   unfolding relationAt firstRows rowOf
   relation-kept j h = within-same n (rows ws′ ms′) (rows ws ms) cell
@@ -108,7 +110,8 @@ module _ (n : ℕ) (ws ws′ ms ms′ : List ℕ) (k : ℕ) (same : (i : ℕ) �
       cell : (x y : ℕ) → x < n → y < n → rows ws′ ms′ x y ≡ rows ws ms x y
       cell x y a b =
           let c : y / 64 < rowWidth n = omega (arith, width-wide n) in
-          let p : j * (n * rowWidth n) + (x * rowWidth n + y / 64) < k * (n * rowWidth n) = omega (arith, next-le x n (rowWidth n) a, next-le j k (n * rowWidth n) h) in
+          let p : j * (n * rowWidth n) + (x * rowWidth n + y / 64) < k * (n * rowWidth n) =
+          omega (arith, next-le x n (rowWidth n) a, next-le j k (n * rowWidth n) h) in
           let q : j * n + x < k * n = omega (arith, next-le j k n h) in
           ap₂ (λ (d v : ℕ). min (digit d (y / 64)) (digit v (y % 64)))
           (getD-drop (j * n) ms′ x 0 ∙ marks (j * n + x) q ∙ sym (getD-drop (j * n) ms x 0))
@@ -145,7 +148,8 @@ module _ (n : ℕ) (ws ms : List ℕ) (k : ℕ) where
 module _ (n : ℕ) (links used : List ℕ) (y : Item) (ws part ms marks : List ℕ) (m k : ℕ) (is : m ≡ k + operands y)
     (a : k * (n * rowWidth n) ≤ length ws) (b : k * n ≤ length ms)
     (made : (book : Book) → Lettered book n links used → first n (rowWidth n) part marks
-    ≡ outcomeOf (asked book) y (first n (rowWidth n) (drop (k * (n * rowWidth n)) ws) (drop (k * n) ms)) (second n (rowWidth n) (drop (k * (n * rowWidth n)) ws) (drop (k * n) ms))) where
+    ≡ outcomeOf (asked book) y (first n (rowWidth n) (drop (k * (n * rowWidth n)) ws) (drop (k * n) ms))
+    (second n (rowWidth n) (drop (k * (n * rowWidth n)) ws) (drop (k * n) ms))) where
   abbrev ws′ : List ℕ
   ws′ = changed ws part (k * (n * rowWidth n)) a
 
@@ -162,7 +166,8 @@ module _ (n : ℕ) (links used : List ℕ) (y : Item) (ws part ms marks : List �
     count = omega arith;
     value = λ book L.
         let g : Graph = asked book in
-        let below : lying n ws′ ms′ k ≡ lying n ws ms k = lying-kept n ws ws′ ms ms′ k (front ws part (k * (n * rowWidth n)) a) (front ms marks (k * n) b) k (omega arith) in
+        let below : lying n ws′ ms′ k ≡ lying n ws ms k =
+        lying-kept n ws ws′ ms ms′ k (front ws part (k * (n * rowWidth n)) a) (front ms marks (k * n) b) k (omega arith) in
         let top : relationAt n ws′ ms′ k ≡ outcomeOf g y (relationAt n ws ms k) (relationAt n ws ms (suc k)) =
         at-place ∙ made book L ∙ ap (outcomeOf g y (relationAt n ws ms k)) (second-at n ws ms k) in
         let more : k + 1 ≡ suc k = omega arith in
@@ -179,17 +184,22 @@ lent-space n k w ws ms e L h =
     (subst (λ (i : ℕ). Space n (rowWidth n) i (length (take (length ms - k * n) (drop (k * n) ms)))) (sym (part-length ws (k * (n * rowWidth n))))
     (subst (λ (i : ℕ). Space n (rowWidth n) (length ws - k * (n * rowWidth n)) i) (sym (part-length ms (k * n))) (space n k (length ws) (length ms) L h)))
 
-pub goes-part : (n : ℕ) (links used : List ℕ) (y : Item) (ws part ms marks : List ℕ) (m k w : ℕ) → w ≡ rowWidth n → m ≡ k + operands y → Lent n (length ws) (length ms) → k ≤ 18
+pub goes-part : (n : ℕ) (links used : List ℕ) (y : Item) (ws part ms marks : List ℕ) (m k w : ℕ)
+    → w ≡ rowWidth n → m ≡ k + operands y → Lent n (length ws) (length ms) → k ≤ 18
     → Operates n w links used y (take (length ws - k * (n * w)) (drop (k * (n * w)) ws)) part (take (length ms - k * n) (drop (k * n) ms)) marks
     → Goes n links used y ws (putMid (k * (n * w)) (length ws - k * (n * w)) ws part) ms (putMid (k * n) (length ms - k * n) ms marks) m (k + 1)
 goes-part n links used y ws part ms marks m k w e is L h made =
     subst (λ (v : ℕ). Operates n v links used y (take (length ws - k * (n * v)) (drop (k * (n * v)) ws)) part (take (length ms - k * n) (drop (k * n) ms)) marks
-    → Goes n links used y ws (putMid (k * (n * v)) (length ws - k * (n * v)) ws part) ms (putMid (k * n) (length ms - k * n) ms marks) m (k + 1)) (sym e) whole made
+    → Goes n links used y ws (putMid (k * (n * v)) (length ws - k * (n * v)) ws part)
+    ms (putMid (k * n) (length ms - k * n) ms marks) m (k + 1)) (sym e) whole made
   where
-    whole : Operates n (rowWidth n) links used y (take (length ws - k * (n * rowWidth n)) (drop (k * (n * rowWidth n)) ws)) part (take (length ms - k * n) (drop (k * n) ms)) marks
-        → Goes n links used y ws (putMid (k * (n * rowWidth n)) (length ws - k * (n * rowWidth n)) ws part) ms (putMid (k * n) (length ms - k * n) ms marks) m (k + 1)
+    whole : Operates n (rowWidth n) links used y (take (length ws - k * (n * rowWidth n)) (drop (k * (n * rowWidth n)) ws))
+        part (take (length ms - k * n) (drop (k * n) ms)) marks
+        → Goes n links used y ws (putMid (k * (n * rowWidth n)) (length ws - k * (n * rowWidth n)) ws part)
+        ms (putMid (k * n) (length ms - k * n) ms marks) m (k + 1)
     whole o =
         goes-step n links used y ws part ms marks m k is
         (omega (arith, start-le n k (length ws) (length ms) L h, L .words)) (omega (arith, mark-le n k (length ws) (length ms) L h, L .marks))
         (subst (λ (l : List ℕ). Operates n (rowWidth n) links used y (drop (k * (n * rowWidth n)) ws) part l marks) (rest ms (k * n))
-        (subst (λ (l : List ℕ). Operates n (rowWidth n) links used y l part (take (length ms - k * n) (drop (k * n) ms)) marks) (rest ws (k * (n * rowWidth n))) o))
+        (subst (λ (l : List ℕ). Operates n (rowWidth n) links used y l part (take (length ms - k * n) (drop (k * n) ms)) marks)
+        (rest ws (k * (n * rowWidth n))) o))

@@ -87,7 +87,8 @@ pub record Height (c : List ℕ) (k : ℕ) : Type 0 where
 
 pub record Going (n : ℕ) (links used c ws ms : List ℕ) (k i : ℕ) : Type 0 where
   pub height : Height (drop i c) k
-  pub rest : (b : Book) → Lettered b n links used → (s : List ℕ) (e : Expr) → Coded s e c → run (relations (asked b)) (drop i c) (lying n ws ms k) ≡ cells (asked b) e ∷ []
+  pub rest : (b : Book) → Lettered b n links used → (s : List ℕ) (e : Expr) → Coded s e c
+      → run (relations (asked b)) (drop i c) (lying n ws ms k) ≡ cells (asked b) e ∷ []
 
 pub record ValueFirst (n : ℕ) (links used c ws ms : List ℕ) : Type 0 where
   pub value : (b : Book) → Lettered b n links used → (s : List ℕ) (e : Expr) → Coded s e c → first n (rowWidth n) ws ms ≡ cells (asked b) e

@@ -104,7 +104,8 @@ fn operate(
     item: Item,
 )
     requires { ⌜ Space n w (length (now cells)) (length (now masks)) ⌝ }
-    ensures { λ _. ⌜ Operates n w (now (links .entry)) (now (used .entry)) item (now (cells .entry)) (now (cells .exit)) (now (masks .entry)) (now (masks .exit)) ⌝ }
+    ensures { λ _. ⌜ Operates n w (now (links .entry)) (now (used .entry)) item
+        (now (cells .entry)) (now (cells .exit)) (now (masks .entry)) (now (masks .exit)) ⌝ }
 {
     match item {
         Item::Letters(forward, against) => {
@@ -149,7 +150,8 @@ fn step(
     item: Item,
 ) -> usize
     requires { ⌜ Lent n (length (now cells)) (length (now masks)) × Ready item count ⌝ }
-    ensures { λ r. ⌜ Goes n (now (links .entry)) (now (used .entry)) item (now (cells .entry)) (now (cells .exit)) (now (masks .entry)) (now (masks .exit)) count r ⌝ }
+    ensures { λ r. ⌜ Goes n (now (links .entry)) (now (used .entry)) item (now (cells .entry))
+        (now (cells .exit)) (now (masks .entry)) (now (masks .exit)) count r ⌝ }
 {
     let w = row_width(n);
     let unit = n * w;

@@ -88,7 +88,8 @@ part-end i k x = fun-ext (λ p. go p (ℕ-discrete (p / 1024) i))
   where
     go : (p : ℕ) → Dec (p / 1024 ≡ i) → partRow i k 16 (flat x) p ≡ flat (plusRow i k x) p
     go p (yes s) =
-        part-in i k (flat x) p 16 s (omega arith) ∙ ap (max (flat x p)) (flat-at x k (p % 1024) (omega arith)) ∙ unfold flat plusRow in (rw (eq-eqb (p / 1024) i s))
+        part-in i k (flat x) p 16 s (omega arith) ∙ ap (max (flat x p)) (flat-at x k (p % 1024) (omega arith)) ∙ unfold flat plusRow in
+        (rw (eq-eqb (p / 1024) i s))
     go p (no s) = part-off i k (flat x) p 16 s ∙ unfold flat plusRow in (rw (ne-eqb (p / 1024) i s))
 
 plus-off : (i k : ℕ) (x : Cells) (v y : ℕ) → (v ≡ i → ⊥) → plusRow i k x v y ≡ x v y
@@ -191,7 +192,8 @@ module _ (n m : ℕ) (x : Cells) (nl : n ≤ 1024) (X : IsSet n x) (r : ℕ → 
 
   pub rounds-more : (t : ℕ) → t < m → via (r t) (closure (r t) x) ≡ closure (r (t + 1)) x
   rounds-more t l =
-      sym (closure-gap (r t + 1) (r (t + 1)) (omega (arith, O .rise t l)) (λ i a b. O .gap t l i (omega arith) b) ∙ ap (λ (k : ℕ). closure k x) (add-one (r t)) ∙ unfold closure in refl)
+      sym (closure-gap (r t + 1) (r (t + 1)) (omega (arith, O .rise t l)) (λ i a b. O .gap t l i (omega arith) b)
+      ∙ ap (λ (k : ℕ). closure k x) (add-one (r t)) ∙ unfold closure in refl)
 
   -- the same rows are empty after some rounds
   pub rounds-occupied : (k : ℕ) → Occupied (flat (closure k x)) n r m

@@ -114,7 +114,8 @@ module _ (f : ℕ → ℕ) (i m : ℕ) (l : List ℕ) (O : Occupied f i (rowAt i
   pub entries-add : (v : ℕ) → m < length l → v % 1024 ≡ i → Occupied f (i + 1) (rowAt (i + 1) (m + 1) (set l m v)) (m + 1)
   entries-add v h e =
       occupied-add f i m (rowAt i m l) (rowAt (i + 1) (m + 1) (set l m v)) O
-      (λ t g. row-at (i + 1) (m + 1) (set l m v) t (omega arith) ∙ ap (λ (w : ℕ). w % 1024) (getD-set-other l m t v 0 (λ s. omega arith)) ∙ sym (row-at i m l t g))
+      (λ t g. row-at (i + 1) (m + 1) (set l m v) t (omega arith)
+      ∙ ap (λ (w : ℕ). w % 1024) (getD-set-other l m t v 0 (λ s. omega arith)) ∙ sym (row-at i m l t g))
       (row-at (i + 1) (m + 1) (set l m v) m (omega arith) ∙ ap (λ (w : ℕ). w % 1024) (getD-set-same l m v 0 h) ∙ e)
       (row-end (i + 1) (m + 1) (set l m v))
 

@@ -43,8 +43,10 @@ places-more : (f : ℕ → ℕ) (p d : ℕ) → (rest : List ℕ) × (places f (
 unfolding places
 places-more f p zero = ([], ap (places f) (add-zero p) ∙ sym (append-nil (places f p)))
 places-more f p (suc d) =
-    let r = places-more f p d in
-    (r .0 ++ ifSet (f (p + d)) (p + d), ap (places f) (add-suc p d) ∙ ap (λ (l : List ℕ). l ++ ifSet (f (p + d)) (p + d)) (r .1) ∙ append-assoc (places f p) (r .0) (ifSet (f (p + d)) (p + d)))
+    let r = places-more f p d in (
+      r .0 ++ ifSet (f (p + d)) (p + d),
+      ap (places f) (add-suc p d) ∙ ap (λ (l : List ℕ). l ++ ifSet (f (p + d)) (p + d)) (r .1) ∙ append-assoc (places f p) (r .0) (ifSet (f (p + d)) (p + d)),
+    )
 
 pub places-first : (f : ℕ → ℕ) (p q : ℕ) → p ≤ q → (rest : List ℕ) × (places f q ≡ places f p ++ rest)
 places-first f p q l =
@@ -96,7 +98,8 @@ wrote-full l m e now rest h s w =
 -- ---- the bits of a word, lowest first: rest is what is left of word q from place p on
 module _ (ws : List ℕ) (q p : ℕ) (low : q * 64 ≤ p) (fits : getD ws q 0 < 2 ^ 64) where
   pub bit-found : (r k : ℕ) → r ≡ getD ws q 0 / 2 ^ (p - q * 64) → 0 < r → k ≡ trailingZeros 64 r
-      → (p + k < q * 64 + 64) × (places (bitAt ws) (p + k + 1) ≡ places (bitAt ws) p ++ ((p + k) ∷ [])) × (r / 2 ^ k / 2 ≡ getD ws q 0 / 2 ^ (p + k + 1 - q * 64))
+      → (p + k < q * 64 + 64) × (places (bitAt ws) (p + k + 1) ≡ places (bitAt ws) p ++ ((p + k) ∷ []))
+      × (r / 2 ^ k / 2 ≡ getD ws q 0 / 2 ^ (p + k + 1 - q * 64))
   bit-found r k e h t =
       let s : ℕ = p - q * 64 in
       let z : 0 < getD ws q 0 / 2 ^ s = rw e at h in
@@ -106,7 +109,8 @@ module _ (ws : List ℕ) (q p : ℕ) (low : q * 64 ≤ p) (fits : getD ws q 0 < 
       let g : s + k + 1 ≡ p + k + 1 - q * 64 = omega arith in (
         i,
         places-hit (bitAt ws) (p + k) (N .hit i) ∙ ap (λ (l : List ℕ). l ++ ((p + k) ∷ [])) (places-gap (bitAt ws) p (p + k) (omega arith) (N .gap)),
-        ap (λ (x : ℕ). x / 2 ^ k / 2) e ∙ ap (λ (x : ℕ). x / 2) (shr-shr (getD ws q 0) s k) ∙ shr-shr (getD ws q 0) (s + k) 1 ∙ ap (λ (x : ℕ). getD ws q 0 / 2 ^ x) g,
+        ap (λ (x : ℕ). x / 2 ^ k / 2) e ∙ ap (λ (x : ℕ). x / 2) (shr-shr (getD ws q 0) s k)
+            ∙ shr-shr (getD ws q 0) (s + k) 1 ∙ ap (λ (x : ℕ). getD ws q 0 / 2 ^ x) g,
       )
 
   pub bits-gone : p ≤ q * 64 + 64 → getD ws q 0 / 2 ^ (p - q * 64) ≡ 0 → places (bitAt ws) ((q + 1) * 64) ≡ places (bitAt ws) p

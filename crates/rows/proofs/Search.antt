@@ -299,7 +299,8 @@ module _ (n : ℕ) (x y : Cells) (X : IsSet n x) (Y : IsSet n y) (nl : n ≤ 102
 
   -- an empty row leads nowhere
   pub product-skip : (i : ℕ) → EmptyRow (flat (rowsTo i (product n x y) x)) i → rowsTo i (product n x y) x ≡ rowsTo (i + 1) (product n x y) x
-  product-skip i z = to-more i (product n x y) x (λ c. unfold product serves in (most-none n (serves x y i c) (λ k h. rw (cell k) (omega arith))) ∙ sym (cell c))
+  product-skip i z =
+      to-more i (product n x y) x (λ c. unfold product serves in (most-none n (serves x y i c) (λ k h. rw (cell k) (omega arith))) ∙ sym (cell c))
     where
       cell : (k : ℕ) → x i k ≡ 0
       cell k = by (decLt k 1024)

@@ -61,7 +61,8 @@ module _ (row ws : List ℕ) (i : ℕ) where
       inside : (j : ℕ) → j / 16 ≡ i → j % 16 < s + 1 → Dec (j % 16 ≡ s) → getD (set now (i * 16 + s) (getD row s 0)) j 0 ≡ getD row (j % 16) 0
       inside j e k (yes p) =
           let q : j ≡ i * 16 + s = omega arith in
-          ap (λ (t : ℕ). getD (set now (i * 16 + s) (getD row s 0)) t 0) q ∙ getD-set-same now (i * 16 + s) (getD row s 0) 0 h ∙ ap (λ (t : ℕ). getD row t 0) (sym p)
+          ap (λ (t : ℕ). getD (set now (i * 16 + s) (getD row s 0)) t 0) q
+          ∙ getD-set-same now (i * 16 + s) (getD row s 0) 0 h ∙ ap (λ (t : ℕ). getD row t 0) (sym p)
       inside j e k (no p) =
           let z : (j % 16 ≡ s → ⊥) = p in
           getD-set-other now (i * 16 + s) j (getD row s 0) 0 (λ q. p (omega arith)) ∙ g .inside j e (omega (arith, z))

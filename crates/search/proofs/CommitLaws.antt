@@ -131,7 +131,13 @@ module _ {w seen nx : List ℕ} {mark : ℕ} {list : List ℕ} {c : ℕ} {w′ s
   not-listed r e h l f = let z : 0 < getD nx r 0 = rw f at (listed-some L h l) in omega arith
 
   pub level-committed : Committed w seen nx mark n w′ seen′
-  level-committed = record { hit = λ r q h g o. ht r q g o (L .all r (some-on (getD nx r 0) q o)); miss = I .miss; seen-more = λ r q h. sm r q (digit-of (getD nx r 0)); seen-same = λ r q g. I .seen-off r q (λ h l e. (let z = L .small h l in omega arith)) }
+  level-committed =
+      record {
+        hit = λ r q h g o. ht r q g o (L .all r (some-on (getD nx r 0) q o));
+        miss = I .miss;
+        seen-more = λ r q h. sm r q (digit-of (getD nx r 0));
+        seen-same = λ r q g. I .seen-off r q (λ h l e. (let z = L .small h l in omega arith));
+      }
     where
       ht : (r q : ℕ) → q < 64 → On (digit (getD nx r 0) q) → (h : ℕ) × (h < c) × (getD list h 0 ≡ r) → numberAt w′ r q ≡ mark
       ht r q g o z = rw (z .2) at (I .hit (z .0) q (z .1) g (rw (z .2) o))

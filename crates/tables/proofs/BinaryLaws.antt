@@ -73,7 +73,8 @@ module _ {b : Build} {m : ℕ} {x y : Part} {st : List Part} (H : Holds b m (y �
   T₁ = t₁ .this
 
   T₂ : Item b i₂ mid (mid + y .letters) B
-  T₂ = subst (λ (j : ℕ). Item b j mid (mid + y .letters) B) (t₁ .at) (subst (λ (o : ℕ). Item b (t₂ .j) o (o + y .letters) (y .fragment o)) (t₁ .ends) (t₂ .this))
+  T₂ =
+      subst (λ (j : ℕ). Item b j mid (mid + y .letters) B) (t₁ .at) (subst (λ (o : ℕ). Item b (t₂ .j) o (o + y .letters) (y .fragment o)) (t₁ .ends) (t₂ .this))
 
   U : Within o₁ mid A
   U = t₁ .fit .within o₁
@@ -100,10 +101,20 @@ module _ {b : Build} {m : ℕ} {x y : Part} {st : List Part} (H : Holds b m (y �
       go (no g) = left (omega arith, omega arith)
 
   no-A : (p q : ℕ) → Between mid (mid + y .letters) p → (A .follow p q ≡ 0) × (A .last p ≡ 0) × (A .follow q p ≡ 0) × (A .first p ≡ 0)
-  no-A p q h = (zero-of _ (λ o. (let z = U .from p q o in omega arith)), zero-of _ (λ o. (let z = U .last p o in omega arith)), zero-of _ (λ o. (let z = U .to q p o in omega arith)), zero-of _ (λ o. (let z = U .first p o in omega arith)))
+  no-A p q h = (
+    zero-of _ (λ o. (let z = U .from p q o in omega arith)),
+    zero-of _ (λ o. (let z = U .last p o in omega arith)),
+    zero-of _ (λ o. (let z = U .to q p o in omega arith)),
+    zero-of _ (λ o. (let z = U .first p o in omega arith)),
+  )
 
   no-B : (p q : ℕ) → Between o₁ mid p → (B .follow p q ≡ 0) × (B .last p ≡ 0) × (B .follow q p ≡ 0) × (B .first p ≡ 0)
-  no-B p q h = (zero-of _ (λ o. (let z = W .from p q o in omega arith)), zero-of _ (λ o. (let z = W .last p o in omega arith)), zero-of _ (λ o. (let z = W .to q p o in omega arith)), zero-of _ (λ o. (let z = W .first p o in omega arith)))
+  no-B p q h = (
+    zero-of _ (λ o. (let z = W .from p q o in omega arith)),
+    zero-of _ (λ o. (let z = W .last p o in omega arith)),
+    zero-of _ (λ o. (let z = W .to q p o in omega arith)),
+    zero-of _ (λ o. (let z = W .first p o in omega arith)),
+  )
 
   enters₂ : (q : ℕ) (a : Letter) → Between o₁ hi q → digit (getD (b .enter) (letterNumber a) 0) q ≡ max (A .enters q a) (B .enters q a)
   enters₂ q a h = go (side q h)
@@ -128,7 +139,8 @@ module _ {b : Build} {m : ℕ} {x y : Part} {st : List Part} (H : Holds b m (y �
 
   module _ (r : Build) (et : suc (r .top) ≡ b .top) (em : r .used ≡ b .used) (i j : ℕ) (ej : suc j ≡ b .top) (ei : suc i ≡ j) (f l n : ℕ)
       (lf : b .top ≤ length (b .first)) (ll : b .top ≤ length (b .last)) (lo : b .top ≤ length (b .own)) (ln : b .top ≤ length (b .nullable))
-      (ef : r .first ≡ set (b .first) i f) (el : r .last ≡ set (b .last) i l) (eo : r .own ≡ set (b .own) i (bitOr (getD (b .own) i 0) (getD (b .own) j 0))) (en : r .nullable ≡ set (b .nullable) i n)
+      (ef : r .first ≡ set (b .first) i f) (el : r .last ≡ set (b .last) i l)
+      (eo : r .own ≡ set (b .own) i (bitOr (getD (b .own) i 0) (getD (b .own) j 0))) (en : r .nullable ≡ set (b .nullable) i n)
       (ee : r .enter ≡ b .enter) where
     i-is : i ≡ i₁
     i-is = let z = top₂ in omega arith
@@ -136,10 +148,13 @@ module _ {b : Build} {m : ℕ} {x y : Part} {st : List Part} (H : Holds b m (y �
     j-is : j ≡ i₂
     j-is = let z = top₂ in omega arith
 
-    joint : (e : Part) (C : Fragment) → Fit e → e .letters ≡ x .letters + y .letters → e .fragment o₁ ≡ C → C .enters ≡ (λ q a. max (A .enters q a) (B .enters q a)) → n ≡ C .nullable
+    joint : (e : Part) (C : Fragment) → Fit e → e .letters ≡ x .letters + y .letters
+        → e .fragment o₁ ≡ C → C .enters ≡ (λ q a. max (A .enters q a) (B .enters q a)) → n ≡ C .nullable
         → ((q : ℕ) → digit f q ≡ C .first q) → ((q : ℕ) → digit l q ≡ C .last q)
-        → ((p q : ℕ) → Between o₁ hi p → digit (getD (r .follow) p 0) q ≡ C .follow p q) → ((p q : ℕ) → Between o₁ hi q → digit (getD (r .pred) q 0) p ≡ C .follow p q)
-        → ((p q : ℕ) → (Between o₁ hi p → ⊥) → digit (getD (r .follow) p 0) q ≡ digit (getD (b .follow) p 0) q) → ((p q : ℕ) → (Between o₁ hi q → ⊥) → digit (getD (r .pred) q 0) p ≡ digit (getD (b .pred) q 0) p)
+        → ((p q : ℕ) → Between o₁ hi p → digit (getD (r .follow) p 0) q ≡ C .follow p q)
+        → ((p q : ℕ) → Between o₁ hi q → digit (getD (r .pred) q 0) p ≡ C .follow p q)
+        → ((p q : ℕ) → (Between o₁ hi p → ⊥) → digit (getD (r .follow) p 0) q ≡ digit (getD (b .follow) p 0) q)
+        → ((p q : ℕ) → (Between o₁ hi q → ⊥) → digit (getD (r .pred) q 0) p ≡ digit (getD (b .pred) q 0) p)
         → Holds r m (e ∷ st)
     joint e C F le fe ce nn ff fl rf rp of op =
         record {
@@ -182,7 +197,8 @@ module _ {b : Build} {m : ℕ} {x y : Part} {st : List Part} (H : Holds b m (y �
           enters = λ q a h. rw ee (enters₂ q a h ∙ ap (λ (g : ℕ → Letter → ℕ). g q a) (sym ce));
         }
 
-    pub holds-alternative : r .follow ≡ b .follow → r .pred ≡ b .pred → f ≡ bitOr (getD (b .first) i 0) (getD (b .first) j 0) → l ≡ bitOr (getD (b .last) i 0) (getD (b .last) j 0) → n ≡ bitOr (getD (b .nullable) i 0) (getD (b .nullable) j 0) → Holds r m (parts .either x y ∷ st)
+    pub holds-alternative : r .follow ≡ b .follow → r .pred ≡ b .pred → f ≡ bitOr (getD (b .first) i 0) (getD (b .first) j 0)
+        → l ≡ bitOr (getD (b .last) i 0) (getD (b .last) j 0) → n ≡ bitOr (getD (b .nullable) i 0) (getD (b .nullable) j 0) → Holds r m (parts .either x y ∷ st)
     unfolding parts either
     holds-alternative eh ep f-is l-is n-is =
         joint (parts .either x y) (either A B) (fit-either (t₁ .fit) (t₂ .fit)) refl refl refl
@@ -199,9 +215,12 @@ module _ {b : Build} {m : ℕ} {x y : Part} {st : List Part} (H : Holds b m (y �
         prd p q (left g) = T₁ .pred p q g ∙ (let z = no-B q p g in omega arith)
         prd p q (right g) = T₂ .pred p q g ∙ (let z = no-A q p g in omega arith)
 
-    pub holds-sequence : (u v : ℕ) → Joined (b .follow) (digit (getD (b .last) i 0)) (getD (b .first) j 0) 64 (r .follow) → Joined (b .pred) (digit (getD (b .first) j 0)) (getD (b .last) i 0) 64 (r .pred)
-        → (getD (b .nullable) i 0 ≡ 0 → u ≡ 0) × (0 < getD (b .nullable) i 0 → u ≡ getD (b .first) j 0) → (getD (b .nullable) j 0 ≡ 0 → v ≡ 0) × (0 < getD (b .nullable) j 0 → v ≡ getD (b .last) i 0)
-        → f ≡ bitOr (getD (b .first) i 0) u → l ≡ bitOr (getD (b .last) j 0) v → n ≡ bitAnd (getD (b .nullable) i 0) (getD (b .nullable) j 0) → Holds r m (parts .followed x y ∷ st)
+    pub holds-sequence : (u v : ℕ) → Joined (b .follow) (digit (getD (b .last) i 0)) (getD (b .first) j 0) 64 (r .follow)
+        → Joined (b .pred) (digit (getD (b .first) j 0)) (getD (b .last) i 0) 64 (r .pred)
+        → (getD (b .nullable) i 0 ≡ 0 → u ≡ 0) × (0 < getD (b .nullable) i 0 → u ≡ getD (b .first) j 0)
+        → (getD (b .nullable) j 0 ≡ 0 → v ≡ 0) × (0 < getD (b .nullable) j 0 → v ≡ getD (b .last) i 0)
+        → f ≡ bitOr (getD (b .first) i 0) u → l ≡ bitOr (getD (b .last) j 0) v
+        → n ≡ bitAnd (getD (b .nullable) i 0) (getD (b .nullable) j 0) → Holds r m (parts .followed x y ∷ st)
     unfolding parts followed
     holds-sequence u v J K ou ov f-is l-is n-is =
         joint (parts .followed x y) (followed A B) (fit-followed (t₁ .fit) (t₂ .fit)) refl refl refl
@@ -227,7 +246,9 @@ module _ {b : Build} {m : ℕ} {x y : Part} {st : List Part} (H : Holds b m (y �
 
             go : (k : ℕ) → getD (b .nullable) i 0 ≡ k → digit u q ≡ min (A .nullable) (B .first q)
             go zero e = rw (ou .0 e) (digit-none q ∙ (let z : A .nullable ≡ 0 = sym nl ∙ e in omega arith))
-            go (suc k) e = rw (ou .1 (omega arith)) (fi q ∙ (let z : A .nullable ≡ suc k = sym nl ∙ e in let a = t₁ .fit .nullable-lt o₁ in let c = digit-lt (getD (b .first) j 0) q in let d = fi q in omega arith))
+            go (suc k) e =
+                rw (ou .1 (omega arith)) (fi q ∙ (let z : A .nullable ≡ suc k = sym nl ∙ e in let a =
+                t₁ .fit .nullable-lt o₁ in let c = digit-lt (getD (b .first) j 0) q in let d = fi q in omega arith))
 
         v-is : (q : ℕ) → digit v q ≡ min (B .nullable) (A .last q)
         v-is q = go (getD (b .nullable) j 0) refl
@@ -237,12 +258,16 @@ module _ {b : Build} {m : ℕ} {x y : Part} {st : List Part} (H : Holds b m (y �
 
             go : (k : ℕ) → getD (b .nullable) j 0 ≡ k → digit v q ≡ min (B .nullable) (A .last q)
             go zero e = rw (ov .0 e) (digit-none q ∙ (let z : B .nullable ≡ 0 = sym nl ∙ e in omega arith))
-            go (suc k) e = rw (ov .1 (omega arith)) (la q ∙ (let z : B .nullable ≡ suc k = sym nl ∙ e in let a = t₂ .fit .nullable-lt mid in let c = digit-lt (getD (b .last) i 0) q in let d = la q in omega arith))
+            go (suc k) e =
+                rw (ov .1 (omega arith)) (la q ∙ (let z : B .nullable ≡ suc k = sym nl ∙ e in let a =
+                t₂ .fit .nullable-lt mid in let c = digit-lt (getD (b .last) i 0) q in let d = la q in omega arith))
 
-        fol : (p q : ℕ) → Side p → max (digit (getD (b .follow) p 0) q) (min (digit (getD (b .last) i 0) p) (digit (getD (b .first) j 0) q)) ≡ max (max (A .follow p q) (B .follow p q)) (min (A .last p) (B .first q))
+        fol : (p q : ℕ) → Side p → max (digit (getD (b .follow) p 0) q) (min (digit (getD (b .last) i 0) p) (digit (getD (b .first) j 0) q))
+            ≡ max (max (A .follow p q) (B .follow p q)) (min (A .last p) (B .first q))
         fol p q (left g) = let a = T₁ .follow p q g in let z = no-B p q g in let c = la p in let d = fi q in omega arith
         fol p q (right g) = let a = T₂ .follow p q g in let z = no-A p q g in let c = la p in let d = fi q in omega arith
 
-        prd : (p q : ℕ) → Side q → max (digit (getD (b .pred) q 0) p) (min (digit (getD (b .first) j 0) q) (digit (getD (b .last) i 0) p)) ≡ max (max (A .follow p q) (B .follow p q)) (min (A .last p) (B .first q))
+        prd : (p q : ℕ) → Side q → max (digit (getD (b .pred) q 0) p) (min (digit (getD (b .first) j 0) q) (digit (getD (b .last) i 0) p))
+            ≡ max (max (A .follow p q) (B .follow p q)) (min (A .last p) (B .first q))
         prd p q (left g) = let a = T₁ .pred p q g in let z = no-B q p g in let c = la p in let d = fi q in omega arith
         prd p q (right g) = let a = T₂ .pred p q g in let z = no-A q p g in let c = la p in let d = fi q in omega arith

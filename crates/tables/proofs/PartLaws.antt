@@ -109,7 +109,8 @@ pub top-of : {b : Build} {m k : ℕ} {x : Part} {st : List Part} → Items b m k
 top-of (item {o} {k} I F T) = record { o = o; j = k; at = refl; ends = refl; rest = I; fit = F; this = T }
 
 -- and reversed
-pub put-top : {b : Build} {o j : ℕ} {st : List Part} (x : Part) (m k : ℕ) → k ≡ suc j → m ≡ o + x .letters → Items b o j st → Fit x → Item b j o (o + x .letters) (x .fragment o) → Items b m k (x ∷ st)
+pub put-top : {b : Build} {o j : ℕ} {st : List Part} (x : Part) (m k : ℕ) → k ≡ suc j → m ≡ o + x .letters
+    → Items b o j st → Fit x → Item b j o (o + x .letters) (x .fragment o) → Items b m k (x ∷ st)
 put-top {b} {o} {j} {st} x m k e f I F T = subst (λ (i : ℕ). Items b m i (x ∷ st)) (sym e) (subst (λ (i : ℕ). Items b i (suc j) (x ∷ st)) (sym f) (item I F T))
 
 -- ---- tables with edges added

@@ -41,7 +41,8 @@ letter-digit forward against a = go (a .inverted) refl
     half : (a .label * 2 + bit (a .inverted)) / 2 ≡ a .label
     half = let z = bit-small (a .inverted) in omega arith
 
-    go : (s : Bool) → a .inverted ≡ s → digit (pick (eqb ((a .label * 2 + bit (a .inverted)) % 2) 1) against forward) ((a .label * 2 + bit (a .inverted)) / 2) ≡ bit (eqb (digit (pick (a .inverted) against forward) (a .label)) 1)
+    go : (s : Bool) → a .inverted ≡ s → digit (pick (eqb ((a .label * 2 + bit (a .inverted)) % 2) 1) against forward) ((a .label * 2 + bit (a .inverted)) / 2)
+        ≡ bit (eqb (digit (pick (a .inverted) against forward) (a .label)) 1)
     go true e = let odd : (a .label * 2 + 1) % 2 ≡ 1 = omega arith in rw (half, e, odd) (digit-bit _ (digit-lt against (a .label)))
     go false e = let even : (a .label * 2 + 0) % 2 ≡ 0 = omega arith in rw (half, e, even) (digit-bit _ (digit-lt forward (a .label)))
 
@@ -54,12 +55,16 @@ no-letter forward against hf ha c h = go (eqb (c % 2) 1)
 
 pub holds-symbol : {b r : Build} {m : ℕ} {st : List Part} → Holds b m st → (forward against mark : ℕ) → forward < 2 ^ 32 → against < 2 ^ 32 → b .used < 63
     → b .top < length (b .first) → b .top < length (b .last) → b .top < length (b .own) → b .top < length (b .nullable)
-    → mark ≡ 2 ^ (b .used + 1) → r .top ≡ b .top + 1 → r .used ≡ b .used + 1 → r .first ≡ set (b .first) (b .top) mark → r .last ≡ set (b .last) (b .top) mark → r .own ≡ set (b .own) (b .top) mark → r .nullable ≡ set (b .nullable) (b .top) 0
-    → Joined (b .enter) (letterDigit forward against) mark 64 (r .enter) → r .follow ≡ b .follow → r .pred ≡ b .pred → Holds r (m + 1) (parts .of forward against ∷ st)
+    → mark ≡ 2 ^ (b .used + 1) → r .top ≡ b .top + 1 → r .used ≡ b .used + 1 → r .first ≡ set (b .first) (b .top) mark
+    → r .last ≡ set (b .last) (b .top) mark → r .own ≡ set (b .own) (b .top) mark → r .nullable ≡ set (b .nullable) (b .top) 0
+    → Joined (b .enter) (letterDigit forward against) mark 64 (r .enter) → r .follow ≡ b .follow
+    → r .pred ≡ b .pred → Holds r (m + 1) (parts .of forward against ∷ st)
 unfolding parts single
 holds-symbol {b} {r} {m} {st} H forward against mark hf ha hm lf ll lo ln eb et em ef el eo en J eh ep =
     record {
-      items = put-top (parts .of forward against) (m + 1) (r .top) (et ∙ (let z : b .top + 1 ≡ suc (b .top) = omega arith in z)) refl (items-keep sm (H .items)) (fit-symbol forward against) it;
+      items =
+          put-top (parts .of forward against) (m + 1) (r .top) (et ∙ (let z : b .top + 1 ≡ suc (b .top) = omega arith in z))
+          refl (items-keep sm (H .items)) (fit-symbol forward against) it;
       count = em ∙ ap (λ (x : ℕ). x + 1) (H .count);
       few = omega (arith, H .count);
       blank = record {
@@ -125,5 +130,7 @@ holds-symbol {b} {r} {m} {st} H forward against mark hf ha hm lf ll lo ln eb et 
       own-all = λ q h. rw (eo, getD-set-same (b .own) (b .top) mark 0 lo, only-one q h) (let v = bit-yes in omega arith);
       follow = λ p q h. rw eh (H .blank .follow p q (λ g. omega arith));
       pred = λ p q h. rw ep (H .blank .pred p q (λ g. omega arith));
-      enters = λ q a h. rw (only-one q h) (new (letterNumber a) ∙ letter-digit forward against a ∙ rw (eq-eqb (suc m) (suc m) refl) (small (lettersIn forward against a)));
+      enters =
+          λ q a h. rw (only-one q h) (new (letterNumber a) ∙ letter-digit forward against a
+          ∙ rw (eq-eqb (suc m) (suc m) refl) (small (lettersIn forward against a)));
     }

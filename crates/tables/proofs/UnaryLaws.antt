@@ -25,12 +25,18 @@ use Rattle.tables.proofs.PartLaws.{zero-of, fit-repeated, fit-optional,
 
 -- ---- one or more
 module _ {b r : Build} {m : ℕ} {x : Part} {st : List Part} (H : Holds b m (x ∷ st)) where
-  pub holds-plus : r .top ≡ b .top → r .used ≡ b .used → r .first ≡ b .first → r .last ≡ b .last → r .own ≡ b .own → r .nullable ≡ b .nullable → r .enter ≡ b .enter
+  pub holds-plus : r .top ≡ b .top → r .used ≡ b .used → r .first ≡ b .first
+      → r .last ≡ b .last → r .own ≡ b .own → r .nullable ≡ b .nullable → r .enter ≡ b .enter
       → Joined (b .follow) (digit (getD (b .last) (b .top - 1) 0)) (getD (b .first) (b .top - 1) 0) 64 (r .follow)
       → Joined (b .pred) (digit (getD (b .first) (b .top - 1) 0)) (getD (b .last) (b .top - 1) 0) 64 (r .pred) → Holds r m (parts .repeated x ∷ st)
   unfolding parts repeated
   holds-plus et em ef el eo en ee J K =
-      record { items = put-top (parts .repeated x) m (r .top) (et ∙ t .at) (t .ends) (items-keep sm (t .rest)) (fit-repeated (t .fit)) it; count = em ∙ H .count; few = H .few; blank = record { follow = bf; pred = bp; enter = λ c q n. rw ee (H .blank .enter c q n) } }
+      record {
+        items = put-top (parts .repeated x) m (r .top) (et ∙ t .at) (t .ends) (items-keep sm (t .rest)) (fit-repeated (t .fit)) it;
+        count = em ∙ H .count;
+        few = H .few;
+        blank = record { follow = bf; pred = bp; enter = λ c q n. rw ee (H .blank .enter c q n) };
+      }
     where
       t : Top b m (b .top) x st
       t = top-of (H .items)
@@ -78,7 +84,11 @@ module _ {b r : Build} {m : ℕ} {x : Part} {st : List Part} (H : Holds b m (x �
         own-on = λ q h. t .this .own-on q (rw eo at h);
         own-all = λ q h. rw eo (t .this .own-all q h);
         follow = λ p q h. joins J p q (omega (arith, t .ends, H .few)) ∙ ap₂ max (t .this .follow p q h) (ap₂ min (la p) (fi q));
-        pred = λ p q h. joins K q p (omega (arith, t .ends, H .few)) ∙ ap₂ max (t .this .pred p q h) (ap₂ min (fi q) (la p) ∙ (let z : min (x .fragment (t .o) .first q) (x .fragment (t .o) .last p) ≡ min (x .fragment (t .o) .last p) (x .fragment (t .o) .first q) = omega arith in z));
+        pred =
+            λ p q h. joins K q p (omega (arith, t .ends, H .few))
+            ∙ ap₂ max (t .this .pred p q h) (ap₂ min (fi q) (la p)
+            ∙ (let z : min (x .fragment (t .o) .first q) (x .fragment (t .o) .last p) ≡ min (x .fragment (t .o) .last p) (x .fragment (t .o) .first q) =
+            omega arith in z));
         enters = λ q a h. rw ee (t .this .enters q a h);
       }
 
@@ -92,11 +102,22 @@ inverse-number a = go (a .inverted) refl
 -- ---- once or not at all; and the star of what is repeated
 module _ {b r : Build} {m : ℕ} {x : Part} {st : List Part} (H : Holds b m (x ∷ st)) where
   pub holds-optional : b .top ≤ length (b .nullable)
-      → r .top ≡ b .top → r .used ≡ b .used → r .first ≡ b .first → r .last ≡ b .last → r .own ≡ b .own → r .nullable ≡ set (b .nullable) (b .top - 1) 1 → r .enter ≡ b .enter → r .follow ≡ b .follow → r .pred ≡ b .pred
+      → r .top ≡ b .top → r .used ≡ b .used → r .first ≡ b .first → r .last ≡ b .last → r .own ≡ b .own
+      → r .nullable ≡ set (b .nullable) (b .top - 1) 1 → r .enter ≡ b .enter → r .follow ≡ b .follow → r .pred ≡ b .pred
       → Holds r m (parts .maybe x ∷ st)
   unfolding parts optional
   holds-optional ln et em ef el eo en ee eh ep =
-      record { items = put-top (parts .maybe x) m (r .top) (et ∙ t .at) (t .ends) (items-keep sm (t .rest)) (fit-optional (t .fit)) it; count = em ∙ H .count; few = H .few; blank = record { follow = λ p q n. rw eh (H .blank .follow p q n); pred = λ p q n. rw ep (H .blank .pred p q n); enter = λ c q n. rw ee (H .blank .enter c q n) } }
+      record {
+        items = put-top (parts .maybe x) m (r .top) (et ∙ t .at) (t .ends) (items-keep sm (t .rest)) (fit-optional (t .fit)) it;
+        count = em ∙ H .count;
+        few = H .few;
+        blank =
+            record {
+              follow = λ p q n. rw eh (H .blank .follow p q n);
+              pred = λ p q n. rw ep (H .blank .pred p q n);
+              enter = λ c q n. rw ee (H .blank .enter c q n);
+            };
+      }
     where
       t : Top b m (b .top) x st
       t = top-of (H .items)
@@ -129,12 +150,24 @@ module _ {b r : Build} {m : ℕ} {x : Part} {st : List Part} (H : Holds b m (x �
 
   -- ---- inverted
   pub holds-inverse : b .top ≤ length (b .first) → b .top ≤ length (b .last) → length (b .enter) ≡ 64 → length (r .enter) ≡ 64
-      → r .top ≡ b .top → r .used ≡ b .used → r .first ≡ set (b .first) (b .top - 1) (getD (b .last) (b .top - 1) 0) → r .last ≡ set (b .last) (b .top - 1) (getD (b .first) (b .top - 1) 0) → r .own ≡ b .own → r .nullable ≡ b .nullable
-      → Mixed (b .follow) (b .pred) (getD (b .own) (b .top - 1) 0) 64 (r .follow) → Mixed (b .pred) (b .follow) (getD (b .own) (b .top - 1) 0) 64 (r .pred) → Turned (b .enter) (getD (b .own) (b .top - 1) 0) 64 (r .enter)
+      → r .top ≡ b .top → r .used ≡ b .used → r .first ≡ set (b .first) (b .top - 1) (getD (b .last) (b .top - 1) 0)
+      → r .last ≡ set (b .last) (b .top - 1) (getD (b .first) (b .top - 1) 0) → r .own ≡ b .own → r .nullable ≡ b .nullable
+      → Mixed (b .follow) (b .pred) (getD (b .own) (b .top - 1) 0) 64 (r .follow)
+      → Mixed (b .pred) (b .follow) (getD (b .own) (b .top - 1) 0) 64 (r .pred) → Turned (b .enter) (getD (b .own) (b .top - 1) 0) 64 (r .enter)
       → Holds r m (parts .inverted x ∷ st)
   unfolding parts reversed
   holds-inverse lf ll le lr et em ef el eo en F P E =
-      record { items = put-top (parts .inverted x) m (r .top) (et ∙ t .at) (t .ends) (items-keep sm (t .rest)) (fit-reversed (t .fit)) it; count = em ∙ H .count; few = H .few; blank = record { follow = λ p q n. off-row F p q (λ h. n (omega arith, omega (arith, t .ends))) ∙ H .blank .follow p q n; pred = λ p q n. off-row P q p (λ h. n (omega arith, omega (arith, t .ends))) ∙ H .blank .pred p q n; enter = be } }
+      record {
+        items = put-top (parts .inverted x) m (r .top) (et ∙ t .at) (t .ends) (items-keep sm (t .rest)) (fit-reversed (t .fit)) it;
+        count = em ∙ H .count;
+        few = H .few;
+        blank =
+            record {
+              follow = λ p q n. off-row F p q (λ h. n (omega arith, omega (arith, t .ends))) ∙ H .blank .follow p q n;
+              pred = λ p q n. off-row P q p (λ h. n (omega arith, omega (arith, t .ends))) ∙ H .blank .pred p q n;
+              enter = be;
+            };
+      }
     where
       t : Top b m (b .top) x st
       t = top-of (H .items)
@@ -151,14 +184,16 @@ module _ {b r : Build} {m : ℕ} {x : Part} {st : List Part} (H : Holds b m (x �
       not-mine : (q : ℕ) → (Between (t .o) (t .o + x .letters) q → ⊥) → digit (getD (b .own) (b .top - 1) 0) q ≡ 0
       not-mine q n = rw j (zero-of _ (λ o. n (t .this .own-on q o)))
 
-      off-row : {u v w : List ℕ} → Mixed u v (getD (b .own) (b .top - 1) 0) 64 w → (p q : ℕ) → (Between (t .o) (t .o + x .letters) p → ⊥) → digit (getD w p 0) q ≡ digit (getD u p 0) q
+      off-row : {u v w : List ℕ} → Mixed u v (getD (b .own) (b .top - 1) 0) 64 w → (p q : ℕ)
+          → (Between (t .o) (t .o + x .letters) p → ⊥) → digit (getD w p 0) q ≡ digit (getD u p 0) q
       off-row {u} {v} {w} M p q n = ap (λ (y : ℕ). digit y q) (go (decLt p 64))
         where
           go : Dec (p < 64) → getD w p 0 ≡ getD u p 0
           go (yes h) = M .outside p h (not-mine p n)
           go (no h) = M .above p (omega arith)
 
-      on-row : {u v w : List ℕ} → Mixed u v (getD (b .own) (b .top - 1) 0) 64 w → (p q : ℕ) → Between (t .o) (t .o + x .letters) p → digit (getD w p 0) q ≡ digit (getD v p 0) q
+      on-row : {u v w : List ℕ} → Mixed u v (getD (b .own) (b .top - 1) 0) 64 w → (p q : ℕ)
+          → Between (t .o) (t .o + x .letters) p → digit (getD w p 0) q ≡ digit (getD v p 0) q
       on-row M p q h = ap (λ (y : ℕ). digit y q) (M .inside p (omega (arith, t .ends, H .few)) (mine p h))
 
       off-enter : (c q : ℕ) → q < 64 → (Between (t .o) (t .o + x .letters) q → ⊥) → digit (getD (r .enter) c 0) q ≡ digit (getD (b .enter) c 0) q
@@ -203,11 +238,17 @@ module _ {b r : Build} {m : ℕ} {x : Part} {st : List Part} (H : Holds b m (x �
       it : Item r (t .j) (t .o) (t .o + x .letters) (reversed (x .fragment (t .o)))
       it = record {
         nullable = rw en (t .this .nullable);
-        first = λ q. rw (ef, ← j) (ap (λ (y : ℕ). digit y q) (getD-set-same (b .first) (b .top - 1) (getD (b .last) (b .top - 1) 0) 0 (let z = t .at in omega arith)) ∙ rw j (t .this .last q));
-        last = λ q. rw (el, ← j) (ap (λ (y : ℕ). digit y q) (getD-set-same (b .last) (b .top - 1) (getD (b .first) (b .top - 1) 0) 0 (let z = t .at in omega arith)) ∙ rw j (t .this .first q));
+        first =
+            λ q. rw (ef, ← j) (ap (λ (y : ℕ). digit y q) (getD-set-same (b .first) (b .top - 1) (getD (b .last) (b .top - 1) 0) 0 (let z =
+            t .at in omega arith)) ∙ rw j (t .this .last q));
+        last =
+            λ q. rw (el, ← j) (ap (λ (y : ℕ). digit y q) (getD-set-same (b .last) (b .top - 1) (getD (b .first) (b .top - 1) 0) 0 (let z =
+            t .at in omega arith)) ∙ rw j (t .this .first q));
         own-on = λ q h. t .this .own-on q (rw eo at h);
         own-all = λ q h. rw eo (t .this .own-all q h);
         follow = λ p q h. on-row F p q h ∙ t .this .pred q p h;
         pred = λ p q h. on-row P q p h ∙ t .this .follow q p h;
-        enters = λ q a h. on-enter (letterNumber a) q (omega (arith, t .ends, H .few)) h ∙ ap (λ (c : ℕ). digit (getD (b .enter) c 0) q) (sym (inverse-number a)) ∙ t .this .enters q (inverseLetter a) h;
+        enters =
+            λ q a h. on-enter (letterNumber a) q (omega (arith, t .ends, H .few)) h
+            ∙ ap (λ (c : ℕ). digit (getD (b .enter) c 0) q) (sym (inverse-number a)) ∙ t .this .enters q (inverseLetter a) h;
       }

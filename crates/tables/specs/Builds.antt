@@ -65,7 +65,8 @@ pub record Item (b : Build) (i o hi : ℕ) (A : Fragment) : Type 0 where
 
 pub data Items (b : Build) : ℕ → ℕ → List Part → Type 0 where
   none : Items b 0 0 []
-  item : {o k : ℕ} {x : Part} {st : List Part} → Items b o k st → Fit x → Item b k o (o + x .letters) (x .fragment o) → Items b (o + x .letters) (suc k) (x ∷ st)
+  item : {o k : ℕ} {x : Part} {st : List Part} → Items b o k st → Fit x
+      → Item b k o (o + x .letters) (x .fragment o) → Items b (o + x .letters) (suc k) (x ∷ st)
 
 pub record Blank (b : Build) (m : ℕ) : Type 0 where
   pub follow : (p q : ℕ) → (Between 0 m p → ⊥) → digit (getD (b .follow) p 0) q ≡ 0

@@ -1,4 +1,16 @@
--- Laws of the public calls: from the first cause found, or from the answer, to what a call promises. Assumes nothing.
+-- Laws of the public calls: from the first cause found, or from the answer, to what a call promises.
+--   below-test, formed-test
+--                   a test of the pairs, or of a tree, is the one that is computed
+--   first-bad, second-bad, both-good
+--                   of two trees: the first, or the second, is not well formed; both are
+--   as-good         causes are the same for trees that are formed alike
+--   refuse, accept  a tree call: its first cause, and its answer where there is none
+--   refuse-list, accept-list
+--                   the same of a list of pairs
+--   answer-as       an answer is that of an equal tree
+--   met             where there is no cause, what the causes say is met
+--   formed-most     a tree that is well formed has at most D words
+-- Assumes nothing.
 use mathlib.Core.Path.{_≡_, refl, sym, ap, subst, _∙_}
 use mathlib.Core.Bool.{Bool, true, false}
 use mathlib.Core.List.{List, [], _∷_}
@@ -45,7 +57,8 @@ module _ (n : ℕ) (t u : List ℕ) where
 
 -- ---- answers
 -- what is lent with as good trees has the same first cause
-pub as-good : (n : ℕ) (ps : List ℕ) (ts us : List (List ℕ)) (k : ℕ) → allFormed n ts ≡ allFormed n us → firstNumber (lentCauses n ps ts k) ≡ firstNumber (lentCauses n ps us k)
+pub as-good : (n : ℕ) (ps : List ℕ) (ts us : List (List ℕ)) (k : ℕ) → allFormed n ts ≡ allFormed n us
+    → firstNumber (lentCauses n ps ts k) ≡ firstNumber (lentCauses n ps us k)
 unfolding lentCauses
 as-good n ps ts us k e = rw e refl
 
@@ -66,7 +79,8 @@ module _ (n : ℕ) (ps : List ℕ) (ts : List (List ℕ)) (k : ℕ) (xs before a
   settle e (given h q) = by-cause 0 (tree-accepted n ps ts k xs (length before) e ∙ rw (le-ltb (length before) (length xs) h) refl) refl q
 
   -- none: the answer decides
-  pub accept : {r : ℕ} {v : Answer} → r ≡ firstNumber (lentCauses n ps ts k) → r ≡ 0 → (ys : List ℕ) → ys ≡ xs → Settled ys before after v → Answered n ps ts k xs before after v
+  pub accept : {r : ℕ} {v : Answer} → r ≡ firstNumber (lentCauses n ps ts k) → r ≡ 0
+      → (ys : List ℕ) → ys ≡ xs → Settled ys before after v → Answered n ps ts k xs before after v
   accept {v = v} e z ys q s = settle (sym e ∙ z) (subst (λ (l : List ℕ). Settled l before after v) q s)
 
 -- a list of pairs: a cause before the answer, or none
@@ -80,7 +94,8 @@ module _ (n : ℕ) (ts : List (List ℕ)) (k : ℕ) (xs before after : List ℕ)
   unfolding treeAnswer treeList
   show e (shown p) = record { answer = rw e refl; list = rw e (p ∙ first-over xs before) }
 
-  pub accept-list : {r : ℕ} {v : Answer} → r ≡ firstNumber (lentCauses n [] ts k) → r ≡ 0 → (ys : List ℕ) → ys ≡ xs → Shown ys before after v → Listed n ts k xs before after v
+  pub accept-list : {r : ℕ} {v : Answer} → r ≡ firstNumber (lentCauses n [] ts k) → r ≡ 0
+      → (ys : List ℕ) → ys ≡ xs → Shown ys before after v → Listed n ts k xs before after v
   accept-list {v = v} e z ys q s = show (sym e ∙ z) (subst (λ (l : List ℕ). Shown l before after v) q s)
 
 -- an equal answer

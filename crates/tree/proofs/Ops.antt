@@ -39,7 +39,8 @@ use Rattle.tree.specs.declared.operations.Operand.{Operand}
 use Rattle.tree.specs.declared.operations.Term.{Term}
 use Rattle.tree.specs.declared.operations.Operation.{Operation}
 use Rattle.tree.specs.declared.operations.Operation.the-variants.{Union, Intersection, Difference, Product, Closure, Optional, Star}
-use Rattle.tree.specs.Inner.{nothing, treeAlone, valued, LinksBelow, outcome, Apart, intersects, differs, multiplies, Roomy, Room, Lent, termSet, TreeAt, InRows}
+use Rattle.tree.specs.Inner.{nothing, treeAlone, valued, LinksBelow, outcome, Apart, intersects, differs, multiplies, Roomy, Room, Lent, termSet, TreeAt}
+use Rattle.tree.specs.Inner.{InRows}
 use Rattle.tree.specs.InnerLaws.{valued-alone, valued-nothing}
 use Rattle.tree.specs.Calls.{treeOfTwo}
 use Rattle.tree.specs.Settling.{Shown}
@@ -112,7 +113,8 @@ module _ (t : Term) (n : ℕ) (ws work : List ℕ) where
   pub none-lent : (a b : Cells) → Lent t n ws none work a b → Lent t n ws (bitAt (replicate 16 0)) work a b
   none-lent a b l = subst (λ (u : ℕ → ℕ). Lent t n ws u work a b) (sym (bits-none 16)) l
 
-  pub none-tree-at : (a b : Cells) (after : List ℕ) (r : ℕ) → TreeAt n (termSet t n ws (bitAt (replicate 16 0)) a b) after r → TreeAt n (termSet t n ws none a b) after r
+  pub none-tree-at : (a b : Cells) (after : List ℕ) (r : ℕ) → TreeAt n (termSet t n ws (bitAt (replicate 16 0)) a b) after r
+      → TreeAt n (termSet t n ws none a b) after r
   none-tree-at a b after r at = subst (λ (u : ℕ → ℕ). TreeAt n (termSet t n ws u a b) after r) (bits-none 16) at
 
   -- two trees
@@ -157,9 +159,11 @@ pack-room n t k r = omega (arith, r .work, treeUnit-some n)
 
 pub room-or : (n : ℕ) (t : Term) (k u r : ℕ) → Dec (Room n t k u r)
 room-or n t k u r =
-    by (decLt maxRecords n) (decLt (treeUnit n) (t .first .size)) (decLt (treeUnit n) (t .second .size)) (decLt k (2 * treeUnit n)) (ℕ-discrete u 16) (ℕ-discrete r 16384)
+    by (decLt maxRecords n) (decLt (treeUnit n) (t .first .size)) (decLt (treeUnit n) (t .second .size))
+    (decLt k (2 * treeUnit n)) (ℕ-discrete u 16) (ℕ-discrete r 16384)
   where
-    by : Dec (maxRecords < n) → Dec (treeUnit n < t .first .size) → Dec (treeUnit n < t .second .size) → Dec (k < 2 * treeUnit n) → Dec (u ≡ 16) → Dec (r ≡ 16384)
+    by : Dec (maxRecords < n) → Dec (treeUnit n < t .first .size)
+        → Dec (treeUnit n < t .second .size) → Dec (k < 2 * treeUnit n) → Dec (u ≡ 16) → Dec (r ≡ 16384)
         → Dec (Room n t k u r)
     by (yes l) b c d e f = no (λ o. omega (arith, o .trees .size))
     by (no l) (yes b) c d e f = no (λ o. omega (arith, o .trees .first))

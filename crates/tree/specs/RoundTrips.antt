@@ -60,12 +60,14 @@ pub record ListedMade (n : ℕ) (t : List ℕ) (a : Cells) (list′ out′ : Lis
 no-pair : {n : ℕ} → PairsBelow n []
 no-pair w i = absurd (in-none i refl)
 
-enough : {n : ℕ} {ps : List ℕ} {ts : List (List ℕ)} {k : ℕ} {xs before after : List ℕ} {v : Answer} → 1 ≤ n → n ≤ maxRecords → PairsBelow n ps → allFormed n ts ≡ true
+enough : {n : ℕ} {ps : List ℕ} {ts : List (List ℕ)} {k : ℕ} {xs before after : List ℕ} {v : Answer}
+    → 1 ≤ n → n ≤ maxRecords → PairsBelow n ps → allFormed n ts ≡ true
     → 32 * treeUnit n ≤ k → length xs ≤ length before → Answered n ps ts k xs before after v → (v ≡ Done (length xs)) × (answerWords v after ≡ xs)
 unfolding treeAnswer treeList answerWords
 enough {n} {ps} {ts} {k} {xs} {before} {after} some few below trees wide fits A =
     let z : firstNumber (treeCauses n ps ts k xs (length before)) ≡ 0 =
-    tree-accepted n ps ts k xs (length before) (lent-none n ps ts k some few (below-all n ps below) trees wide) ∙ rw (le-ltb (length before) (length xs) fits) refl in
+    tree-accepted n ps ts k xs (length before) (lent-none n ps ts k some few (below-all n ps below) trees wide)
+    ∙ rw (le-ltb (length before) (length xs) fits) refl in
     let r = A .answer ∙ ap (λ (c : ℕ). treeAnswer c (length xs)) z in
     let l : after ≡ xs ++ drop (length xs) before = A .list ∙ ap (λ (c : ℕ). treeList c xs before) z in
     (r, rw (r, l) (take-at xs (drop (length xs) before) (length xs) refl))
@@ -93,8 +95,10 @@ make-list {n} {ps = ps} {out′ = out′} {list = list} {list′ = list′} {v =
     let x = enough (E .some) (E .few) b (no-tree n) (E .first) (E .words) A in
     let F : WellFormed n (answerWords v out′) = record { set = setOf ps; is-set = is; tree = x .1 } in
     let s : listOf n (answerWords v out′) ≡ listed n (setOf ps) = ap (listed n) (formed-set F) in
-    let z = enough-list (E .some) (E .few) (one-formed n (answerWords v out′) F) (E .second) (subst (λ (l : List ℕ). length l ≤ length list) (sym s) (E .pairs)) B in
-    let y : (u ≡ Done (length (listed n (setOf ps)))) × (answerWords u list′ ≡ listed n (setOf ps)) = (z .0 ∙ ap (λ (l : List ℕ). Done (length l)) s, z .1 ∙ s) in
+    let z =
+    enough-list (E .some) (E .few) (one-formed n (answerWords v out′) F) (E .second) (subst (λ (l : List ℕ). length l ≤ length list) (sym s) (E .pairs)) B in
+    let y : (u ≡ Done (length (listed n (setOf ps)))) × (answerWords u list′ ≡ listed n (setOf ps)) =
+    (z .0 ∙ ap (λ (l : List ℕ). Done (length l)) s, z .1 ∙ s) in
     record {
       made = x .0;
       told = y .0;
@@ -107,7 +111,10 @@ make-list {n} {ps = ps} {out′ = out′} {list = list} {list′ = list′} {v =
             let l = b w i in
             let q : pairWord (w / 1024) (w % 1024) ≡ w = omega arith in
             subst (λ (v : ℕ). In v (listed n (setOf ps))) q
-            (listed-in n (setOf ps) (w / 1024) (w % 1024) (l .0) (l .1) (omega (arith, in-set ps (w / 1024) (w % 1024) (omega arith) (subst (λ (v : ℕ). In v ps) (sym q) i)))),
+            (listed-in n (setOf ps) (w / 1024) (w % 1024) (l .0) (l .1) (omega (
+              arith,
+              in-set ps (w / 1024) (w % 1024) (omega arith) (subst (λ (v : ℕ). In v ps) (sym q) i),
+            ))),
       );
     }
 

@@ -115,7 +115,8 @@ replied c =
     let k : length (links .result .words) ≡ 4096 = search needs in
     let m : links .result .count ≤ length (links .result .words) = omega (arith, links .ensures .few) in
     let enough = c .before .before .before .before .before .before .before .before .before .if3 .left in
-    replies (z .size) (here .before .before .before .before .before .if1 .left) (here .before .before .before .before .if2 .left) (a .0) (a .1 .is) enough (c .sought .ensures .0)
+    replies (z .size) (here .before .before .before .before .before .if1 .left)
+    (here .before .before .before .before .if2 .left) (a .0) (a .1 .is) enough (c .sought .ensures .0)
     (c .sought .kept .1 .1 .1 .1 .1 .1 .0)
     (λ b R. c .sought .ensures .1 (asking c .args .text .now) (a .0) (a .1 .limits) (rw part (a .1 .front)) b R (z .size b R)
     (spans R (z .size b R) (z .small) _ _ (links .ensures .linked b R) m))

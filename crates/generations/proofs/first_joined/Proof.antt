@@ -1,4 +1,5 @@
--- `first_joined` looks at the records in turn. The loop's invariant: none of those passed is joined to itself. The measure is how many are left. Assumes nothing.
+-- `first_joined` looks at the records in turn. The loop's invariant: none of those passed is joined to itself. The measure is how
+-- many are left. Assumes nothing.
 use mathlib.Core.Path.{sym, _∙_}
 use Prim.Native.Nat.{ℕ, _<_, _≤_, _-_}
 use native.Mathlib.Omega.{arith}

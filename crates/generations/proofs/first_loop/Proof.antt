@@ -52,9 +52,10 @@ same-length-2 c = search needs
 
 returns : tie.Need-returns
 returns c =
-    let p = c .before .before .before .before .before .before .before .before .before .before .before .before .before .put-text in
+    let after-chain = c .before .before .before .before .before .before .before in
+    let p = after-chain .before .before .before .before .before .before .put-text in
     let part : p .result - 0 ≡ p .result = omega arith in
-    let all = looped (c .before .before .before .before .before .before .before .chain .ensures) (ap (λ (k : ℕ). take k (p .last .1 .0)) part ∙ p .ensures .1) in
+    let all = looped (after-chain .chain .ensures) (ap (λ (k : ℕ). take k (p .last .1 .0)) part ∙ p .ensures .1) in
     rw (c .before .answer .given .1) at all
 
 same-length-3 : tie.Need-same-length-3
@@ -78,9 +79,10 @@ same-length-6 c = search needs
 
 returns-3 : tie.Need-returns-3
 returns-3 c =
-    let p = c .before .before .before .before .before .before .before .before .before .before .before .before .before .put-text in
+    let after-chain = c .before .before .before .before .before .before .before in
+    let p = after-chain .before .before .before .before .before .before .put-text in
     let part : p .result - 0 ≡ p .result = omega arith in
-    let all = looped (c .before .before .before .before .before .before .before .chain .ensures) (ap (λ (k : ℕ). take k (p .last .1 .0)) part ∙ p .ensures .1) in
+    let all = looped (after-chain .chain .ensures) (ap (λ (k : ℕ). take k (p .last .1 .0)) part ∙ p .ensures .1) in
     rw (c .before .answer2 .given .1) at all
 
 pub first-loop-spec : {M : Type 1} → statement M

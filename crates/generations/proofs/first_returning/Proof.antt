@@ -29,11 +29,14 @@ first-joined-requires c κs = search needs
 
 returns : tie.Need-returns
 returns c =
-    let a = c .before .before .before .before .before .before .before .before .before .args in
+    let after-close = c .before .before .before in
+    let after-put-letters = after-close .before .before .before in
+    let start = after-put-letters .before .before .before in
+    let a = start .args in
     let x : Cells = crossedWords (a .words .now) (a .set) 0 in (
       c .first-joined .ensures .most,
-      λ S. smallest-closed _ x (c .before .before .before .before .before .before .before .before .before .pre)
-          (c .before .before .before .close .ensures x S (c .before .before .before .before .before .before .put-letters .ensures noPairs (bits-none 16384 ∙ sym flat-none) ∙ ap flat (union-none x)))
+      λ S. smallest-closed _ x (start .pre)
+          (after-close .close .ensures x S (after-put-letters .put-letters .ensures noPairs (bits-none 16384 ∙ sym flat-none) ∙ ap flat (union-none x)))
           (c .first-joined .ensures),
     )
 

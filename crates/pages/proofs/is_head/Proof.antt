@@ -19,13 +19,18 @@ slice-aggregate-same-line : tie.Need-slice-aggregate-same-line
 slice-aggregate-same-line c = let q = c .before .before .put-head-line in let k : length (q .last .1 .1 .0) ≡ 73 = q .kept .1 .1 .0 in sym k
 
 same-line-requires : tie.Need-same-line-requires
-same-line-requires c κs = let s = c .before .before .before .before .before .before in let q = c .before .before .put-head-line in let k : length (q .last .1 .1 .0) ≡ 73 = q .kept .1 .1 .0 in (k, s .pre .1)
+same-line-requires c κs =
+    let s = c .before .before .before .before .before .before in
+    let q = c .before .before .put-head-line in
+    let k : length (q .last .1 .1 .0) ≡ 73 = q .kept .1 .1 .0 in
+    (k, s .pre .1)
 
 returns : tie.Need-returns
 returns c = let s = c .before .before .before .before .before .before .before in
     let q = c .before .before .before .put-head-line in
     let k : length (q .last .1 .1 .0) ≡ 73 = q .kept .1 .1 .0 in
-    let e : q .last .1 .1 .0 ≡ headLine (now (s .args .text)) (s .args .page) = wrote-whole k (length-head-line (now (s .args .text)) (s .args .page) (s .pre .0)) (q .ensures) in
+    let e : q .last .1 .1 .0 ≡ headLine (now (s .args .text)) (s .args .page) =
+    wrote-whole k (length-head-line (now (s .args .text)) (s .args .page) (s .pre .0)) (q .ensures) in
     let r = c .same-line .ensures in
     (λ t. r .0 t ∙ e, λ t. r .1 (t ∙ sym e))
 

@@ -18,9 +18,11 @@ count-pairs-requires : tie.Need-count-pairs-requires
 count-pairs-requires c κs = search needs
 
 -- so many lines, and as many bytes as the pages have
-long : (c : tie.After-lines-of) → (c .lines-of .result ≡ linesOf (length (pairsIn 1024 (now (c .before .before .before .before .before .args .rows)))))
-    × (linesOf (length (pairsIn 1024 (now (c .before .before .before .before .before .args .rows)))) ≤ 177726)
-    × (length (pages (now (c .before .before .before .before .before .args .text)) (pairsIn 1024 (now (c .before .before .before .before .before .args .rows)))) ≡ 73 * c .lines-of .result)
+long : (c : tie.After-lines-of)
+    → let start = c .before .before .before .before .before in
+    (c .lines-of .result ≡ linesOf (length (pairsIn 1024 (now (start .args .rows)))))
+    × (linesOf (length (pairsIn 1024 (now (start .args .rows)))) ≤ 177726)
+    × (length (pages (now (start .args .text)) (pairsIn 1024 (now (start .args .rows)))) ≡ 73 * c .lines-of .result)
 long c =
     let s = c .before .before .before .before .before in
     let rows = now (s .args .rows) in

@@ -1,5 +1,5 @@
--- `put_pages`: the loop's invariant is that the lines before line i are laid, and the pairs of the others are ahead of `place`; the measure is how many lines are
--- left. In the end the lines are the pages (`pages-lines`). Assumes nothing.
+-- `put_pages`: the loop's invariant is that the lines before line i are laid, and the pairs of the others are ahead of `place`; the measure is how many lines
+-- are left. In the end the lines are the pages (`pages-lines`). Assumes nothing.
 use mathlib.Core.Path.{_≡_, refl, ap, sym, subst, _∙_}
 use Prim.Native.Nat.{ℕ, _+_, _-_, _*_, _≤_}
 use native.Mathlib.Omega.{arith}

@@ -34,8 +34,10 @@ same-length c = search needs
 returns : tie.Need-returns
 unfolding rightAligned
 returns c =
-    let width = c .before .before .before .before .before .before .before .before .before .before .args .width in
-    let before = wrote-as (ap (λ (n : ℕ). blanks (width - n)) (c .before .before .before .before .before .before .before .before .figures .ensures)) (c .before .before .before .before .before .before .put-blanks .ensures) in
+    let after-put-blanks = c .before .before .before .before .before .before in
+    let start = after-put-blanks .before .before .before .before in
+    let width = start .args .width in
+    let before = wrote-as (ap (λ (n : ℕ). blanks (width - n)) (after-put-blanks .before .before .figures .ensures)) (after-put-blanks .put-blanks .ensures) in
     wrote-then before (c .before .before .put-decimal .ensures)
 
 pub put-right-spec : {M : Type 1} → statement M

@@ -77,9 +77,10 @@ same-length-2 t c = search needs
 
 returns-2 : (t : ℕ) → put-decimal-lts.Need-returns-2 (calls t) (at-measure t) put-decimal.Post
 returns-2 t c =
-    let s = c .before .before .before .before .before .before .before .before .before .before in
-    let l = c .before .before .before .before .before .before .before .before .if1 .left in
-    let p = c .before .before .before .before .before .before .put-decimal in
+    let after-put-decimal = c .before .before .before .before .before .before in
+    let s = after-put-decimal .before .before .before .before in
+    let l = after-put-decimal .before .before .if1 .left in
+    let p = after-put-decimal .put-decimal in
     rw (decimal-more (s .args .n) l) (wrote-then (p .ensures) (c .before .before .put-byte2 .ensures))
 
 pub +put-decimal-spec : {M : Type 1} → statement M

@@ -27,9 +27,10 @@ put-counted-requires c κs = omega (arith, length-counted-most (bytes "chain ") 
 loop-holds : tie.Need-loop-holds Inv-loop μ-loop
 unfolding bytes
 loop-holds c =
+    let start = c .before .before .before .before .before .before .before in
     let p = c .before .before .put-counted in
-    let k : length (p .last .1 .1 .0) ≡ length (now (c .before .before .before .before .before .before .before .args .out)) = p .kept .1 .1 .0 in
-    let most = length-counted-most (bytes "chain ") (length (now (c .before .before .before .before .before .before .before .args .words))) (omega arith) in
+    let k : length (p .last .1 .1 .0) ≡ length (now (start .args .out)) = p .kept .1 .1 .0 in
+    let most = length-counted-most (bytes "chain ") (length (now (start .args .words))) (omega arith) in
     lined-none (omega (arith, p .ensures .place))
 
 mul-put-step : tie.Need-mul-put-step Inv-loop μ-loop

@@ -31,7 +31,9 @@ same-length c = search needs
 
 returns : tie.Need-returns
 unfolding counted stepLine
-returns c = rw (← c .before .before .before .before .before .before .label-letter .ensures, ← c .before .before .before .before .before .sense-sign .ensures) (c .before .before .put-counted .ensures)
+returns c =
+    let after-sense-sign = c .before .before .before .before .before in
+    rw (← after-sense-sign .before .label-letter .ensures, ← after-sense-sign .sense-sign .ensures) (c .before .before .put-counted .ensures)
 
 pub put-step-spec : {M : Type 1} → statement M
 put-step-spec =

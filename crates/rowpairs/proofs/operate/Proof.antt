@@ -64,10 +64,14 @@ same-length-2 c = search needs
 
 returns : tie.Need-returns
 returns c =
-    let a = c .before .before .before .before .before .before .before .before .before .before .before .before .before .before .before .before .before .before .args in
-    let p = c .before .before .before .before .put-letters in
-    let q = c .before .before .before .before .before .before .before .before .before .before .before .before .item .given in
-    does _ _ (q .1) (letters-left _ _ _ (q .0 .0) (q .0 .1 .0) (c .before .before .before .before .before .before .before .before .before .start .ensures (a .w) (a .cells .now)) (p .ensures))
+    let after-put-letters = c .before .before .before .before in
+    let after-start = after-put-letters .before .before .before .before .before in
+    let after-item = after-start .before .before .before in
+    let start′ = after-item .before .before .before .before .before .before in
+    let a = start′ .args in
+    let p = after-put-letters .put-letters in
+    let q = after-item .item .given in
+    does _ _ (q .1) (letters-left _ _ _ (q .0 .0) (q .0 .1 .0) (after-start .start .ensures (a .w) (a .cells .now)) (p .ensures))
 
 same-length-3 : tie.Need-same-length-3
 same-length-3 c = search needs
@@ -88,8 +92,11 @@ same-length-6 c = search needs
 
 returns-3 : tie.Need-returns-3
 returns-3 c =
-    let p = c .before .before .before .before .put-diagonal in
-    does _ _ (c .before .before .before .before .before .before .before .before .before .before .before .before .before .before .enum-told2 .given .1) (star-left _ _ _ (c .before .before .before .before .before .before .before .before .before .before .before .close .ensures) (p .ensures))
+    let after-put-diagonal = c .before .before .before .before in
+    let after-close = after-put-diagonal .before .before .before .before .before .before .before in
+    let after-enum-told2 = after-close .before .before .before in
+    let p = after-put-diagonal .put-diagonal in
+    does _ _ (after-enum-told2 .enum-told2 .given .1) (star-left _ _ _ (after-close .close .ensures) (p .ensures))
 
 same-length-7 : tie.Need-same-length-7
 same-length-7 c = search needs
@@ -110,8 +117,10 @@ same-length-10 c = search needs
 
 returns-5 : tie.Need-returns-5
 returns-5 c =
-    let p = c .before .before .before .before .put-diagonal2 in
-    does _ _ (c .before .before .before .before .before .before .before .enum-told4 .given .1) (λ k L. unfold outcomeOf in (p .ensures ∙ ap (union _) (diagonal-within k _ _ _ L)))
+    let after-put-diagonal2 = c .before .before .before .before in
+    let after-enum-told4 = after-put-diagonal2 .before .before .before in
+    let p = after-put-diagonal2 .put-diagonal2 in
+    does _ _ (after-enum-told4 .enum-told4 .given .1) (λ k L. unfold outcomeOf in (p .ensures ∙ ap (union _) (diagonal-within k _ _ _ L)))
 
 same-length-11 : tie.Need-same-length-11
 same-length-11 c = search needs

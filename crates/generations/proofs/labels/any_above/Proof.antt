@@ -25,7 +25,9 @@ cast-if1 : tie.Need-cast-if1 Inv-loop μ-loop
 cast-if1 c = omega (arith, c .shared-slice-known .given (c .before .before .loop .i) .fits)
 
 returns : tie.Need-returns Inv-loop μ-loop
-returns c = sym (c .before .before .before .loop .inv .1 ∙ above-here (c .before .before .before .before .args .labels .now) (c .before .before .before .loop .i) (c .before .before .loop-test .taken) (c .if1 .taken))
+returns c =
+    let at-loop = c .before .before .before in
+    sym (at-loop .loop .inv .1 ∙ above-here (at-loop .before .args .labels .now) (at-loop .loop .i) (c .before .before .loop-test .taken) (c .if1 .taken))
 
 add-i : tie.Need-add-i Inv-loop μ-loop
 add-i c = omega arith
@@ -34,7 +36,12 @@ loop-less : tie.Need-loop-less Inv-loop μ-loop
 loop-less c = omega arith
 
 loop-again : tie.Need-loop-again Inv-loop μ-loop
-loop-again c = (omega arith, c .before .before .before .loop .inv .1 ∙ above-next (c .before .before .before .before .args .labels .now) (c .before .before .before .loop .i) (c .before .before .loop-test .taken) (omega (arith, c .if1 .left)))
+loop-again c =
+    let at-loop = c .before .before .before in (
+      omega arith,
+      at-loop .loop .inv .1 ∙ above-next (at-loop .before .args .labels .now)
+          (at-loop .loop .i) (c .before .before .loop-test .taken) (omega (arith, c .if1 .left)),
+    )
 
 returns-2 : tie.Need-returns-2 Inv-loop μ-loop
 returns-2 c = sym (c .before .loop .inv .1 ∙ above-end (c .before .before .args .labels .now) (c .before .loop .i) (omega (arith, c .loop-test .left)))

@@ -43,13 +43,17 @@ same-length : tie.Need-same-length
 same-length c = search needs
 
 same-length-2 : tie.Need-same-length-2
-same-length-2 c = let a = c .before .before .before .before .before .before .before .before .before .before .args in c .before .before .before .before .merge .kept .1 .0 ∙ length-set (a .masks .now) (a .x) 0
+same-length-2 c =
+    let after-merge = c .before .before .before .before in
+    let start = after-merge .before .before .before .before .before .before in
+    let a = start .args in after-merge .merge .kept .1 .0 ∙ length-set (a .masks .now) (a .x) 0
 
 returns : tie.Need-returns
 returns c =
     let a = c .before .before .before .before .before .before .before .before .before .before .args in
     let z = row-inside (a .x) (a .n) (a .w) (a .b) (omega arith) (omega arith) in
-    taken-row (a .n) (a .w) (a .x) (a .b) (a .cells .now) (a .masks .now) _ _ (omega arith) (omega arith) (omega arith) (c .before .before .before .before .merge .ensures (inl (omega (arith, z))))
+    taken-row (a .n) (a .w) (a .x) (a .b) (a .cells .now) (a .masks .now) _ _ (omega arith) (omega arith)
+    (omega arith) (c .before .before .before .before .merge .ensures (inl (omega (arith, z))))
 
 pub take-row-spec : {M : Type 1} → statement M
 take-row-spec =

@@ -39,9 +39,12 @@ loop-less c = omega arith
 
 loop-again : tie.Need-loop-again Inv-loop μ-loop
 loop-again c =
-    let a = c .before .before .before .before .before .before .before .before .before .before .before .args in
-    let l = c .before .before .before .before .before .before .before .before .loop in
-    let m = c .before .before .before .before .take-row in (
+    let after-take-row = c .before .before .before .before in
+    let at-loop = after-take-row .before .before .before .before in
+    let start = at-loop .before .before .before in
+    let a = start .args in
+    let l = at-loop .loop in
+    let m = after-take-row .take-row in (
       omega arith,
       omega (arith, l .inv .1),
       m .kept .0 ∙ l .inv .2,

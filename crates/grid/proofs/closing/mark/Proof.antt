@@ -38,7 +38,8 @@ merge-requires c κs =
 -- all that row z leads to is seen, if it is whole
 whole : (c : tie.Joined1) → let a = c .before .before .before .args in
     (length (c .if1 .cells) ≡ length (a .cells .now)) × (length (c .if1 .masks) ≡ length (a .masks .now))
-    × Merged (a .w) (a .n) (a .n * a .w) (λ y. pick (eqb (a .whole) 1) (firstRows (a .w) (a .cells .now) (a .masks .now) (a .z) y) 0) (a .cells .now) (a .masks .now) (c .if1 .cells) (c .if1 .masks)
+    × Merged (a .w) (a .n) (a .n * a .w) (λ y. pick (eqb (a .whole) 1) (firstRows (a .w) (a .cells .now) (a .masks .now) (a .z) y) 0)
+    (a .cells .now) (a .masks .now) (c .if1 .cells) (c .if1 .masks)
 whole c =
     let a = c .before .before .before .args in
     ⊎-elim
@@ -72,8 +73,11 @@ same-length-2 c = c .before .before .before .before .put .kept .1 .0 ∙ whole (
 
 returns : tie.Need-returns
 returns c =
-    let a = c .before .before .before .before .before .before .before .before .before .before .args in
-    merged-more (whole (c .before .before .before .before .before .before .before) .2) (rw (one-shl (a .z % 64) (omega arith)) at (c .before .before .before .before .put .ensures (a .w) (omega arith))) _ (λ y h. refl)
+    let after-put = c .before .before .before .before in
+    let joined1 = after-put .before .before .before in
+    let start = joined1 .before .before .before in
+    let a = start .args in
+    merged-more (whole joined1 .2) (rw (one-shl (a .z % 64) (omega arith)) at (after-put .put .ensures (a .w) (omega arith))) _ (λ y h. refl)
 
 pub mark-spec : {M : Type 1} → statement M
 mark-spec =

@@ -59,7 +59,8 @@ loop-again c =
       omega arith,
       rw (v .1) (l .inv .1),
       rw (v .2) (l .inv .2),
-      rw (v .1, v .2) (l .inv .3 ∙ ap (λ (s : Cells). union A (within (a .n) s)) (diagonal-skip f (l .x) (omega (arith, r .ensures, v .0 .left, bit-lt (a .used .now) (l .x))))),
+      rw (v .1, v .2) (l .inv .3 ∙ ap (λ (s : Cells). union A (within (a .n) s))
+          (diagonal-skip f (l .x) (omega (arith, r .ensures, v .0 .left, bit-lt (a .used .now) (l .x))))),
     ))
     (c .if1 .came)
 

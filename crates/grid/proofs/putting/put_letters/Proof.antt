@@ -43,9 +43,12 @@ loop-less c = omega arith
 
 loop-again : tie.Need-loop-again Inv-loop μ-loop
 loop-again c =
-    let a = c .before .before .before .before .before .before .before .before .before .before .before .before .before .args in
-    let l = c .before .before .before .before .before .before .before .before .before .loop in
-    let p = c .before .before .before .before .put-word in
+    let after-put-word = c .before .before .before .before in
+    let at-loop = after-put-word .before .before .before .before .before in
+    let start = at-loop .before .before .before .before in
+    let a = start .args in
+    let l = at-loop .loop in
+    let p = after-put-word .put-word in
     let ws = a .words .now in
     let il : l .i < length ws = omega arith in
     let A : Cells = first (a .n) (a .w) (a .cells .now) (a .masks .now) in (

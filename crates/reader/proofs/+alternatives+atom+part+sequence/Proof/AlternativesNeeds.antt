@@ -38,8 +38,10 @@ module _ (t : ℕ) where
   abbrev start : Ahead → alternatives-lts.Start (calls t) (alternatives-at t) alternatives.Post Inv-loop μ-loop
   start c = first c .before .before .before .before
 
-  turn : (c : Ahead) → Turn of-alternatives (start c .args .s .now) (start c .args .at) (start c .args .n) (first c .sequence .result)
-      (first c .sequence .last .1 .1 .0) (c .before .before .before .loop .first) (c .before .before .before .loop .code) (c .ends-at .result)
+  turn : (c : Ahead)
+      → let at-loop = c .before .before .before in
+      Turn of-alternatives (start c .args .s .now) (start c .args .at) (start c .args .n) (first c .sequence .result)
+      (first c .sequence .last .1 .1 .0) (at-loop .loop .first) (at-loop .loop .code) (c .ends-at .result)
   turn c = record {
     inv = c .before .before .before .loop .inv;
     comes = sym (c .before .before .comes-next .ensures) ∙ c .before .if1 .taken;

@@ -51,8 +51,10 @@ loop-less c = omega arith
 loop-again : tie.Need-loop-again Inv-loop μ-loop
 loop-again c =
     let a = c .before .before .before .before .before .args in
-    let l = c .before .before .before .before .loop in
-    (omega arith, below-more (λ (k : ℕ). (getD (a .pairs .now) k 0 / 1024 < a .n) × (getD (a .pairs .now) k 0 % 1024 < a .n)) (l .i) (l .inv .1) (omega arith, omega arith))
+    let l = c .before .before .before .before .loop in (
+      omega arith,
+      below-more (λ (k : ℕ). (getD (a .pairs .now) k 0 / 1024 < a .n) × (getD (a .pairs .now) k 0 % 1024 < a .n)) (l .i) (l .inv .1) (omega arith, omega arith),
+    )
 
 returns-3 : tie.Need-returns-3 Inv-loop μ-loop
 returns-3 c =

@@ -32,8 +32,9 @@ part-load-end c = search needs
 
 load-requires : tie.Need-load-requires
 load-requires c κs =
-    let a = c .before .before .before .before .before .before .before .args in
-    let p = c .before .before .before .before .before .before .before .pre in
+    let start = c .before .before .before .before .before .before .before in
+    let a = start .args in
+    let p = start .pre in
     (p .0, rw length-take (omega (arith, treeUnit-most (a .n) (p .0))), p .3)
 
 same-length : tie.Need-same-length
