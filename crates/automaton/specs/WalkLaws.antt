@@ -17,7 +17,7 @@ use Rattle.paths.specs.Chains.{Graph, Step, stepWord, spell, stepWords, Answers
 use Rattle.paths.specs.Words.{Words}
 use Rattle.automaton.specs.Automata.{On, is, Automaton, automaton, Run}
 use Rattle.automaton.specs.SetLaws.{on-is, is-on}
-use Rattle.automaton.specs.Accepts.{words-run}
+use Rattle.automaton.specs.AutomatonLaws.{words-run}
 use Rattle.automaton.specs.Searches.{Walk, Reach, Known, Best, Picks}
 use Rattle.automaton.specs.LevelLaws.{walk-more, walk-less, Which, less, same, more, which}
 

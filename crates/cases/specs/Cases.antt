@@ -27,9 +27,9 @@ use Rattle.paths.specs.Verdicts.{verdict, verdict-right}
 use Rattle.paths.specs.ChainLaws.{Inside}
 use Rattle.paths.specs.RelationLaws.{cells-set, cells-has, cells-is}
 use Rattle.paths.specs.PairLaws.{pairs-are, history-inside, history-small}
-use Rattle.paths.specs.ChainOrder.{before}
-use Rattle.paths.specs.Acceptance.{parted, many, accepts}
-use Rattle.paths.specs.FirstChain.{reach, stepsBelow, before-each, after-each, walks, walksTo, end, best, just, firstTo, chainTo, chain-first}
+use Rattle.paths.specs.ChainOrderLaws.{before}
+use Rattle.paths.specs.AcceptanceLaws.{parted, many, accepts}
+use Rattle.paths.specs.FirstChainLaws.{reach, stepsBelow, before-each, after-each, walks, walksTo, end, best, just, firstTo, chainTo, chain-first}
 use Rattle.cases.specs.Tables.{bytes, Case, pairs-of, chain-of, none-of, tree-of, wordOf, Met, made, links, table, struck, struck-table, returned}
 use Rattle.cases.specs.Tables.{returned-table, ring, ring-table, swapped-table, ties, ties-table, sets-table, set-ties-table}
 

@@ -29,7 +29,7 @@ use Rattle.paths.specs.Verdicts.{verdict}
 use Rattle.paths.specs.Chains.{Graph, asked, Step, Answers, Reply, none as no-reply, chain as chain-reply, ChainIs, no-chain, first-chain}
 use Rattle.paths.specs.ChainLaws.{Inside}
 use Rattle.paths.specs.PairLaws.{in-use, fit-inside, withdrawn-none, none-withdrawn, verdict-caused}
-use Rattle.paths.specs.FirstChain.{reply-only}
+use Rattle.paths.specs.FirstChainLaws.{reply-only}
 use Rattle.paths.specs.Questions.{refused, replied, ReplyTo, chainWork, steps, chainCauses, chainAnswer, listAfter}
 use Rattle.register.specs.declared.Register.{Register}
 use Rattle.register.specs.Links.{linkWord, linkOf, Linked}

@@ -22,7 +22,7 @@ use Rattle.paths.specs.Grammar.{Verdict, accepted, Judged, verdictCause}
 use Rattle.paths.specs.Chains.{asked, Step, stepWords, Answers, First, Reply, none, chain, ChainIs, no-chain, first-chain}
 use Rattle.paths.specs.Relations.{pairs}
 use Rattle.paths.specs.PairLaws.{fit-inside, pairs-are, first-part}
-use Rattle.paths.specs.FirstChain.{has-first}
+use Rattle.paths.specs.FirstChainLaws.{has-first}
 use Rattle.paths.specs.Verdicts.{verdict, verdict-only}
 use Rattle.paths.specs.Questions.{Outcome, paired, replied, unless, chainWork, ReplyTo, steps, chainCauses, chainAnswer, pairsAnswer, over, listAfter}
 use Rattle.register.specs.Links.{Linked}

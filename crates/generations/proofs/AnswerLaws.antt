@@ -30,7 +30,7 @@ use Rattle.paths.specs.Verdicts.{verdict}
 use Rattle.paths.specs.Chains.{asked, Step, stepWords, chain, ChainIs, first-chain}
 use Rattle.paths.specs.ChainLaws.{Inside}
 use Rattle.paths.specs.PairLaws.{fit-inside, withdrawn-out, in-use as record-in-use}
-use Rattle.paths.specs.FirstChain.{has-first}
+use Rattle.paths.specs.FirstChainLaws.{has-first}
 use Rattle.paths.specs.Questions.{chainWork, steps, chainCauses, chainAnswer, over}
 use Rattle.paths.specs.Questions as questions
 use Rattle.k2.specs.Bits.{digit}

@@ -26,9 +26,9 @@ use Rattle.paths.specs.Relations.{crossedBy, cells}
 use Rattle.paths.specs.RelationLaws.{cells-has}
 use Rattle.paths.specs.ChainLaws.{Inside}
 use Rattle.paths.specs.PairLaws.{history-inside}
-use Rattle.paths.specs.ChainOrder.{before}
-use Rattle.paths.specs.Acceptance.{parted, many, accepts}
-use Rattle.paths.specs.FirstChain.{reach, stepsBelow, before-each, after-each, walks, walksTo, end, best, just, firstTo, chainTo, chain-first}
+use Rattle.paths.specs.ChainOrderLaws.{before}
+use Rattle.paths.specs.AcceptanceLaws.{parted, many, accepts}
+use Rattle.paths.specs.FirstChainLaws.{reach, stepsBelow, before-each, after-each, walks, walksTo, end, best, just, firstTo, chainTo, chain-first}
 use Rattle.rows.specs.Rows.{places}
 use Rattle.generations.specs.Generations.{Run, stop, on, Longest, Over, Returns, no-record, not-in-use, in-use, numbers, loop, GenerationsAre, no-loop}
 use Rattle.generations.specs.Generations.{first-loop}

@@ -21,7 +21,7 @@ use Rattle.book.specs.Basics.{pick, All, all-none, all-more}
 use Rattle.book.specs.Causes.{firstNumber, InOrder, none-left, same-cause}
 use Rattle.book.specs.Book.{Book}
 use Rattle.paths.specs.Chains.{Graph, Step, crossing, Chain, stay, cross, stepWords}
-use Rattle.paths.specs.ChainOrder.{not-after-both}
+use Rattle.paths.specs.ChainOrderLaws.{not-after-both}
 use Rattle.automaton.specs.LevelLaws.{Which, less, same, more, which}
 use Rattle.generations.specs.Generations.{Run, on, Longest, Over, Returns, FirstLoop, Numbered, no-record, not-in-use, in-use, Outcome, refused, numbers}
 use Rattle.generations.specs.Generations.{loop, GenerationsAre, no-loop, first-loop, generationsOrder, argumentCauses, generationsCauses, unless}

@@ -11,4 +11,4 @@ pub mod SupportLaws
 pub mod OffsetsLaws
 pub mod PageHost
 pub mod PageHostLaws
-pub mod ByRows
+pub mod RowQuestionLaws

@@ -13,7 +13,7 @@ use Rattle.book.specs.Book.{Book}
 use Rattle.paths.specs.Questions.{pairsOf, over}
 use Rattle.paths.specs.Verdicts.{verdict}
 use Rattle.pages.specs.PageCalls.{BookPrints, Prints, ReadsPages}
-use Rattle.pages.specs.RoundTrips.{print-read}
+use Rattle.pages.specs.RoundTripLaws.{print-read}
 use Rattle.pages.specs.declared.PagesAnswer.{PagesAnswer}
 use Rattle.pages.specs.declared.PagesAnswer.the-variants.{Bytes, Refused}
 use Rattle.pages.specs.declared.ReadAnswer.{ReadAnswer}

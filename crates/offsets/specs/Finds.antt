@@ -25,17 +25,17 @@ use lib.ListN.{length, getD, take}
 use lib.Seq.{getD-take, length-take-le}
 use lib.Signed.{mag, _≤ℤ_}
 use Rattle.offsets.specs.declared.Tie.{Tie}
-use Rattle.offsets.specs.Linear.{of-le, to-le, to-eq, of-sub, of-pos, of-neg-up, of-neg-down}
+use Rattle.offsets.specs.LinearLaws.{of-le, to-le, to-eq, of-sub, of-pos, of-neg-up, of-neg-down}
 use Rattle.offsets.specs.Relax.{State, known, dist, settled}
 use Rattle.offsets.specs.Offsets.{Placing, Places, Joined, self, Limit, itself, joined, free, Answer, cannot, limits, OffsetsAre, none, some}
-use Rattle.offsets.specs.Arcs.{arcs3, turned}
-use Rattle.offsets.specs.Passes.{settled-is}
-use Rattle.offsets.specs.Settles.{passes}
-use Rattle.offsets.specs.Only.{limit-only}
-use Rattle.offsets.specs.Third.{Ready, joined-known, most-attained}
+use Rattle.offsets.specs.ArcLaws.{arcs3, turned}
+use Rattle.offsets.specs.PassLaws.{settled-is}
+use Rattle.offsets.specs.SettleLaws.{passes}
+use Rattle.offsets.specs.AnswerLaws.{limit-only}
+use Rattle.offsets.specs.ThirdLaws.{Ready, joined-known, most-attained}
 use Rattle.offsets.specs.Thirds.{choose, Starts, thirds-settle, near-at, base-at, known-joined, second-holds, third-holds, first-places, under-second}
 use Rattle.offsets.specs.Thirds.{under-third}
-use Rattle.offsets.specs.Turned.{neg, turned-places, places-turned, turned-joined, turned-ready}
+use Rattle.offsets.specs.TurnedTieLaws.{neg, turned-places, places-turned, turned-joined, turned-ready}
 
 -- ---- what a program does
 unfoldable pub ran : ℕ → List Tie → List ℤ → State

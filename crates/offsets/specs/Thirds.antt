@@ -30,17 +30,18 @@ use lib.Signed.{_≤ℤ_, ≤ℤ-refl}
 use borrow.Author.Tests.{ltb-true, ltb-false, lt-ltb, le-ltb, eqb-true, eqb-false}
 use Rattle.book.specs.Basics.{In}
 use Rattle.offsets.specs.declared.Tie.{Tie}
-use Rattle.offsets.specs.Linear.{up, down, of-le, to-le, of-add, of-sub, of-pos, ≤ℤ-trans}
+use Rattle.offsets.specs.LinearLaws.{up, down, of-le, to-le, of-add, of-sub, of-pos, ≤ℤ-trans}
 use Rattle.offsets.specs.Relax.{known, dist}
-use Rattle.offsets.specs.Sound.{Under, under-lower}
+use Rattle.offsets.specs.PlacingLaws.{Under, under-lower}
 use Rattle.offsets.specs.Offsets.{Placing, Places, Joined, self}
-use Rattle.offsets.specs.Arcs.{Arc, up-arc, down-arc, arcs, arcs3, at, turned, of-thirds, arc-in-first, arc-in-second, arc-in-third, length-arcs3, in-up}
-use Rattle.offsets.specs.Arcs.{in-down, Keeps, keeps-places, sums-meet}
-use Rattle.offsets.specs.Settles.{passes, passes-settle, span, span-length, span-in, span-all}
-use Rattle.offsets.specs.Passes.{passes-keep, passes-length, passes-hold, passes-down, Near, near-known, far, known-not-far, Small, passes-ranged}
-use Rattle.offsets.specs.Passes.{passes-reached}
-use Rattle.offsets.specs.Third.{Ready, far-over, ready-small, ready-inside, joined-arc}
-use Rattle.offsets.specs.Turned.{neg, turned-places, places-turned, turned-ready}
+use Rattle.offsets.specs.ArcLaws.{Arc, up-arc, down-arc, arcs, arcs3, at, turned, of-thirds, arc-in-first, arc-in-second, arc-in-third, length-arcs3}
+use Rattle.offsets.specs.ArcLaws.{in-up}
+use Rattle.offsets.specs.ArcLaws.{in-down, Keeps, keeps-places, sums-meet}
+use Rattle.offsets.specs.SettleLaws.{passes, passes-settle, span, span-length, span-in, span-all}
+use Rattle.offsets.specs.PassLaws.{passes-keep, passes-length, passes-hold, passes-down, Near, near-known, far, known-not-far, Small, passes-ranged}
+use Rattle.offsets.specs.PassLaws.{passes-reached}
+use Rattle.offsets.specs.ThirdLaws.{Ready, far-over, ready-small, ready-inside, joined-arc}
+use Rattle.offsets.specs.TurnedTieLaws.{neg, turned-places, places-turned, turned-ready}
 
 abbrev pub choose : Bool → ℤ → ℤ → ℤ
 choose true y z = y

@@ -17,7 +17,7 @@ use Rattle.paths.specs.Chains.{Graph, asked, Reply, none}
 use Rattle.paths.specs.Relations.{pairs}
 use Rattle.paths.specs.Questions.{paired, unless, pairsOf, pairsCauses, pairsAnswer, ReplyTo, chainCauses, chainAnswer}
 use Rattle.paths.specs.ChainLaws.{Inside}
-use Rattle.paths.specs.FirstChain.{reply}
+use Rattle.paths.specs.FirstChainLaws.{reply}
 
 pub same-graph : (b c : Book) → b .n ≡ c .n → ((k : Link) → present (b .sheet) k ≡ present (c .sheet) k)
     → ((r : ℕ) → isWithdrawn (b .sheet) r ≡ isWithdrawn (c .sheet) r) → asked b ≡ asked c

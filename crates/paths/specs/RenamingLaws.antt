@@ -22,7 +22,7 @@ use Rattle.paths.specs.Chains.{Graph, Step, crossing, stepWord, Chain, s
 use Rattle.paths.specs.Chains.{NotAfter, shorter, as-long, First, Reply, none, chain, ChainIs, no-chain, first-chain}
 use Rattle.paths.specs.Relations.{PairsAre}
 use Rattle.paths.specs.ChainLaws.{Inside, crossing-in}
-use Rattle.paths.specs.ChainOrder.{before-back}
+use Rattle.paths.specs.ChainOrderLaws.{before-back}
 use Rattle.paths.specs.Renaming.{renamedPair, renamedStep, renamedReply}
 
 pub record Maps (f : ℕ → ℕ) (g h : Graph) : Type 0 where

@@ -21,9 +21,9 @@ use Rattle.book.specs.Causes.{maxBytes, maxLetters, maxDepth}
 use Rattle.paths.specs.Expressions.{Expr, letters, depth}
 use Rattle.paths.specs.Grammar.{alternatives, Is, Verdict, accepted, long, outside, large, Judged, over-bytes, no-syntax, over-limits, good}
 use Rattle.paths.specs.Descent.{Parse, got, fault, readAlternatives}
-use Rattle.paths.specs.DescentSound.{All, nothing, gives, By}
-use Rattle.paths.specs.DescentWhole.{alternatives-sound}
-use Rattle.paths.specs.DescentComplete.{text-read}
+use Rattle.paths.specs.DescentSoundnessLaws.{All, nothing, gives, By}
+use Rattle.paths.specs.DescentEquationLaws.{alternatives-sound}
+use Rattle.paths.specs.DescentCompletenessLaws.{text-read}
 
 -- of an expression, by its size
 abbrev pub sized : Expr → Verdict

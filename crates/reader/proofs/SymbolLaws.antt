@@ -31,7 +31,7 @@ use Rattle.k2.specs.DigitLaws.{digit-lt, digit-none, digit-or, digit-not, digit
 use Rattle.paths.specs.Expressions.{Letter, letter, noneOf, sameSense, sameLetter, hasSense, standsFor, symbol}
 use Rattle.paths.specs.Grammar.{bar, hat, bang, open-group, close-group, letter-a}
 use Rattle.paths.specs.Descent.{Parse, got, fault, firstByte, rest, isLetter, letterOf, readMember, membersIn, gotNegated, readNegated, readAtom}
-use Rattle.paths.specs.DescentWhole.{if-true, if-false, atom-letter, atom-negated, atom-fault}
+use Rattle.paths.specs.DescentEquationLaws.{if-true, if-false, atom-letter, atom-negated, atom-fault}
 use Rattle.reader.specs.declared.symbols.Letters.{Letters}
 use Rattle.reader.specs.declared.symbols.Symbol.{Symbol as Symbol-read}
 use Rattle.reader.specs.declared.symbols.Symbol.the-variants.{Read, Missing}
@@ -39,7 +39,7 @@ use Rattle.reader.specs.Letters.{labelSet}
 use Rattle.reader.specs.LetterLaws.{label-set-tell, letter-forward, letter-against}
 use Rattle.reader.specs.Code.{label-sets}
 use Rattle.reader.specs.Progress.{Stands, missing, stands, labelAt, Marks, Marked, MemberIs, MemberAt, no-member, a-member, othersOf}
-use Rattle.reader.proofs.Steps.{rest-drop, there}
+use Rattle.reader.proofs.StepLaws.{rest-drop, there}
 
 -- ---- the label of a byte as a set
 -- `1 << r` at a width of 32

@@ -33,9 +33,9 @@ use Rattle.paths.specs.Questions.{ReplyTo, pairsOf, pairsCauses, pairsAnswer, s
 use Rattle.paths.specs.Descent.{alternativesIn, readAlternatives}
 use Rattle.paths.specs.Verdicts.{verdict, verdict-right}
 use Rattle.paths.specs.PairLaws.{history-inside, withdrawn-none}
-use Rattle.paths.specs.ChainOrder.{before}
-use Rattle.paths.specs.Acceptance.{parted, many, accepts}
-use Rattle.paths.specs.FirstChain.{reach, stepsBelow, before-each, after-each, walks, walksTo, end, best, firstTo, chainTo, chain-first}
+use Rattle.paths.specs.ChainOrderLaws.{before}
+use Rattle.paths.specs.AcceptanceLaws.{parted, many, accepts}
+use Rattle.paths.specs.FirstChainLaws.{reach, stepsBelow, before-each, after-each, walks, walksTo, end, best, firstTo, chainTo, chain-first}
 use Rattle.report.specs.Report.{bytes, figures, decimal, pairLine, labelLetter, senseSign, stepLine, lines, counted, okText, refusedText, noneText, pairsText}
 use Rattle.report.specs.Report.{chainText, answerText, totalText, outcomeText}
 use Rattle.rowpairs.specs.Asking.{rowsCauses, rowsAnswer}

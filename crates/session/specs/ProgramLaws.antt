@@ -37,11 +37,11 @@ use Rattle.paths.specs.Questions.{Outcome, paired, replied, unless, chainWork, 
 use Rattle.paths.specs.Questions.{over, listAfter}
 use Rattle.paths.specs.Verdicts.{verdict, verdict-right}
 use Rattle.paths.specs.PairLaws.{fit-inside, long-enough}
-use Rattle.paths.specs.FirstChain.{reply}
+use Rattle.paths.specs.FirstChainLaws.{reply}
 use Rattle.rowpairs.specs.Asking.{rowsCauses, rowsAnswer}
 use Rattle.rowpairs.specs.AskingLaws.{rows-paired}
 use Rattle.automaton.specs.WalkLaws.{length-stepWords}
-use Rattle.automaton.specs.ShortChains.{chains-63}
+use Rattle.automaton.specs.ShortChainLaws.{chains-63}
 use Rattle.session.specs.Program.{programRecords, programWords, Frame, asks, faulty, opening, call, pairs as pairs-asked, chain as chain-asked, totalling}
 use Rattle.session.specs.Program.{Session, unopened, opened, openAnswer, rowRecords, programPairs, nextSession, Right, listLeft}
 use Rattle.session.specs.TurnLaws.{open-none, open-many, open-fine, next-size}

@@ -19,7 +19,7 @@ use Rattle.paths.specs.Grammar.{Verdict, accepted, long, outside, large, Judged
 use Rattle.paths.specs.Chains.{asked, Reply}
 use Rattle.paths.specs.Questions.{Outcome, unless, replied, ReplyTo, chainCauses, chainAnswer, listAfter}
 use Rattle.paths.specs.Verdicts.{verdict-only}
-use Rattle.paths.specs.FirstChain.{reply-only}
+use Rattle.paths.specs.FirstChainLaws.{reply-only}
 use Rattle.report.specs.Report.{outcomeText}
 use Rattle.session.specs.Program.{minFrame, maxFrame, Frame, asks, faulty, opening, call, pairs, chain, totalling, Session, unopened, opened, nextSession}
 use Rattle.session.specs.Program.{programPairs, Right, printed, listLeft, frameIn, Run, ended, lone-byte, bad-length, cut, framed}

@@ -1,7 +1,7 @@
 -- `base_number` looks for the three causes in their order. Assumes nothing.
 use mathlib.Core.Path.{sym, _∙_}
 use borrow.Author.Needs.{needs}
-use Rattle.offsets.proofs.Numbers.{base-record, base-withdrawn, base-many, base-none}
+use Rattle.offsets.proofs.NumberLaws.{base-record, base-withdrawn, base-many, base-none}
 use Rattle.offsets.proofs.base_number.Statement.{statement}
 use Rattle.offsets.proofs.base_number.Tie as tie
 

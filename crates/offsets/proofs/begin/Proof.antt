@@ -6,7 +6,7 @@ use lib.Seq.{length-take-le}
 use native.Mathlib.Omega.{arith}
 use borrow.Author.Needs.{needs}
 use Rattle.offsets.specs.Inner.{sooner, baseNumber}
-use Rattle.offsets.proofs.Planning.{plan-refused, plan-judged, base-in, plan-short, plan-made}
+use Rattle.offsets.proofs.PlanLaws.{plan-refused, plan-judged, base-in, plan-short, plan-made}
 use Rattle.offsets.proofs.begin.Statement.{statement}
 use Rattle.offsets.proofs.begin.Tie as tie
 

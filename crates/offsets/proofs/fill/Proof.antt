@@ -5,7 +5,7 @@ use Prim.Native.Nat.{_≤_, _-_}
 use native.Mathlib.Omega.{arith}
 use borrow.Author.Needs.{needs}
 use lib.ListN.{length, length-set}
-use Rattle.offsets.proofs.Begins.{Begun, begun-none, begun-more, begun-all}
+use Rattle.offsets.proofs.StartLaws.{Begun, begun-none, begun-more, begun-all}
 use Rattle.offsets.proofs.fill.Statement.{statement}
 use Rattle.offsets.proofs.fill.Tie as tie
 

@@ -1,7 +1,7 @@
--- `first_number` meets its contract: each way out by a law of `Begins`.
+-- `first_number` meets its contract: each way out by a law of `StartLaws`.
 -- Assumes nothing.
 use borrow.Author.Needs.{needs}
-use Rattle.offsets.proofs.Begins.{at-zero, at-most, at-least, at-far}
+use Rattle.offsets.proofs.StartLaws.{at-zero, at-most, at-least, at-far}
 use Rattle.offsets.proofs.first_number.Statement.{statement}
 use Rattle.offsets.proofs.first_number.Tie as tie
 

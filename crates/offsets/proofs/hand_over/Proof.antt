@@ -5,7 +5,7 @@ use borrow.Author.Needs.{needs}
 use Rattle.book.specs.Causes.{short-work, short-list, number}
 use Rattle.offsets.specs.Answers.{Limits, CannotHold, Refused}
 use Rattle.offsets.specs.Inner.{cannot-hold, scant, short, told}
-use Rattle.offsets.proofs.Planning.{hand-refused}
+use Rattle.offsets.proofs.PlanLaws.{hand-refused}
 use Rattle.offsets.proofs.hand_over.Statement.{statement}
 use Rattle.offsets.proofs.hand_over.Tie as tie
 

@@ -1,6 +1,6 @@
 -- `is_withdrawn` reads the record's mark among the words, and finds none past them. Assumes nothing.
 use borrow.Author.Needs.{needs}
-use Rattle.offsets.proofs.Numbers.{mark-none, mark-past, mark-here}
+use Rattle.offsets.proofs.NumberLaws.{mark-none, mark-past, mark-here}
 use Rattle.offsets.proofs.is_withdrawn.Statement.{statement}
 use Rattle.offsets.proofs.is_withdrawn.Tie as tie
 

@@ -60,7 +60,7 @@ use denote.Exit.{yes}
 use borrow.Author.Tests.{lt-ltb, le-ltb}
 use Rattle.offsets.specs.Inner.{judgeTie, judgeAll}
 use Rattle.offsets.specs.declared.Tie.{Tie}
-use Rattle.offsets.proofs.Turns.{none, judge-turn, judge-over}
+use Rattle.offsets.proofs.TurnLaws.{none, judge-turn, judge-over}
 use Rattle.offsets.proofs.Tie as T
 use Rattle.offsets.proofs.Tie.Laws as T′
 use Rattle.offsets.proofs.judged as judged

@@ -2,7 +2,7 @@
 use mathlib.Core.Path.{ap, _∙_}
 use borrow.Author.Needs.{needs}
 use Rattle.offsets.specs.Inner.{sooner}
-use Rattle.offsets.proofs.Numbers.{tie-back}
+use Rattle.offsets.proofs.NumberLaws.{tie-back}
 use Rattle.offsets.proofs.judged.Statement.{statement}
 use Rattle.offsets.proofs.judged.Tie as tie
 

@@ -1,6 +1,6 @@
--- `least_word` meets its contract: each way out by a law of `Told`. Assumes nothing.
+-- `least_word` meets its contract: each way out by a law of `TellLaws`. Assumes nothing.
 use borrow.Author.Needs.{needs}
-use Rattle.offsets.proofs.Told.{least-low, least-high, least-below, least-above, sub-fits, least-narrowed}
+use Rattle.offsets.proofs.TellLaws.{least-low, least-high, least-below, least-above, sub-fits, least-narrowed}
 use Rattle.offsets.proofs.least_word.Statement.{statement}
 use Rattle.offsets.proofs.least_word.Tie as tie
 

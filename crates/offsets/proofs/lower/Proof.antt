@@ -1,7 +1,7 @@
--- `offsets::lower` meets its contract: at each way out, the law of `proofs/Laws.antt` for it.
+-- `offsets::lower` meets its contract: at each way out, the law of `proofs/LowerLaws.antt` for it.
 -- Assumes nothing.
 use borrow.Author.Needs.{needs}
-use Rattle.offsets.proofs.Laws.{no-from, no-to, too-low, too-high, sum-fits, stored, stayed}
+use Rattle.offsets.proofs.LowerLaws.{no-from, no-to, too-low, too-high, sum-fits, stored, stayed}
 use Rattle.offsets.proofs.lower.Statement.{statement}
 use Rattle.offsets.proofs.lower.Tie as tie
 

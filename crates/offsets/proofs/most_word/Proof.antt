@@ -1,6 +1,6 @@
--- `most_word` meets its contract: each way out by a law of `Told`. Assumes nothing.
+-- `most_word` meets its contract: each way out by a law of `TellLaws`. Assumes nothing.
 use borrow.Author.Needs.{needs}
-use Rattle.offsets.proofs.Told.{most-low, most-high, most-narrowed}
+use Rattle.offsets.proofs.TellLaws.{most-low, most-high, most-narrowed}
 use Rattle.offsets.proofs.most_word.Statement.{statement}
 use Rattle.offsets.proofs.most_word.Tie as tie
 

@@ -1,5 +1,5 @@
 -- `narrow` tests that the number fits before it casts. Assumes nothing.
-use Rattle.offsets.proofs.Told.{narrow-low, narrow-high, narrow-fits, narrow-is}
+use Rattle.offsets.proofs.TellLaws.{narrow-low, narrow-high, narrow-fits, narrow-is}
 use Rattle.offsets.proofs.narrow.Statement.{statement}
 use Rattle.offsets.proofs.narrow.Tie as tie
 

@@ -1,6 +1,6 @@
 -- `offsets::offsets` meets its contract: a straight walk of its MIR, by hand, with six calls. The words and the ties are handed on as they are, a copy each
 -- time; the work is lent again for `begin` and for `settle`, and comes back at the last list that each says; with the list it is then given up to `hand_over`
--- for good. All that the proof knows of the six is that each meets its contract, and `Whole` has what follows. Assumes nothing.
+-- for good. All that the proof knows of the six is that each meets its contract, and `AmongLaws` has what follows. Assumes nothing.
 use mathlib.Core.Path.{_≡_, refl, sym, _∙_, ap, subst}
 use Prim.Native.Nat.{ℕ, _<_, _^_}
 use mathlib.Core.Bool.{Bool, false}
@@ -47,8 +47,8 @@ use Rattle.offsets.specs.Relax.{State, settled}
 use Rattle.offsets.specs.Answers.{OffsetsTold}
 use Rattle.offsets.specs.Inner.{SizeIn, judgeAll, Begins, roundsOf, TellsOver}
 use Rattle.offsets.specs.declared.Tie.{Tie}
-use Rattle.offsets.proofs.Again.{LentAgain, lends-again, comes-back}
-use Rattle.offsets.proofs.Whole.{calls-told}
+use Rattle.offsets.proofs.ReborrowLaws.{LentAgain, lends-again, comes-back}
+use Rattle.offsets.proofs.AmongLaws.{calls-told}
 use Rattle.offsets.proofs.Tie as T
 use Rattle.offsets.proofs.size_in as size-in
 use Rattle.offsets.proofs.size_in.Symbol as size-in-def

@@ -1,6 +1,6 @@
 -- `open_number`: the number of the answer to loading. Assumes nothing.
 use borrow.Author.Needs.{needs}
-use Rattle.offsets.proofs.Keeping.{open-number}
+use Rattle.offsets.proofs.KeepLaws.{open-number}
 use Rattle.offsets.proofs.open_number.Statement.{statement}
 use Rattle.offsets.proofs.open_number.Tie as tie
 

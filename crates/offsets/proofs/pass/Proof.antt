@@ -62,8 +62,8 @@ use denote.Exit.{yes}
 use borrow.Author.Tests.{lt-ltb, le-ltb}
 use Rattle.offsets.specs.Relax.{State, relaxed, relaxTie, relaxAll}
 use Rattle.offsets.specs.declared.Tie.{Tie}
-use Rattle.offsets.proofs.Again.{LentAgain, lends-again, comes-back}
-use Rattle.offsets.proofs.Turns.{none, relax-turn, relax-over}
+use Rattle.offsets.proofs.ReborrowLaws.{LentAgain, lends-again, comes-back}
+use Rattle.offsets.proofs.TurnLaws.{none, relax-turn, relax-over}
 use Rattle.offsets.proofs.Tie as T
 use Rattle.offsets.proofs.Tie.Laws as T′
 use Rattle.offsets.proofs.relax as relax

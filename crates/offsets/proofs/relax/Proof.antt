@@ -2,8 +2,8 @@
 -- Assumes nothing.
 use native.Mathlib.Omega.{arith}
 use borrow.Author.Needs.{needs}
-use Rattle.offsets.proofs.Integers.{wide-fits, wide-low, minus-fits, minus-low}
-use Rattle.offsets.proofs.Laws.{all-three}
+use Rattle.offsets.proofs.IntegerLaws.{wide-fits, wide-low, minus-fits, minus-low}
+use Rattle.offsets.proofs.LowerLaws.{all-three}
 use Rattle.offsets.proofs.relax.Statement.{statement}
 use Rattle.offsets.proofs.relax.Tie as tie
 

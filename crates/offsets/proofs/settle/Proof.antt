@@ -55,8 +55,8 @@ use denote.Exit.{yes}
 use borrow.Author.Tests.{lt-ltb, le-ltb}
 use Rattle.offsets.specs.Relax.{State, relaxAll, leftAfter, settled}
 use Rattle.offsets.specs.declared.Tie.{Tie}
-use Rattle.offsets.proofs.Again.{LentAgain, lends-again, comes-back}
-use Rattle.offsets.proofs.Turns.{passes-again, passes-fewer}
+use Rattle.offsets.proofs.ReborrowLaws.{LentAgain, lends-again, comes-back}
+use Rattle.offsets.proofs.TurnLaws.{passes-again, passes-fewer}
 use Rattle.offsets.proofs.Tie as T
 use Rattle.offsets.proofs.pass as pass
 use Rattle.offsets.proofs.pass.Symbol as pass-def

@@ -1,6 +1,6 @@
 -- `size_in`: the size of what was loaded. Assumes nothing.
 use borrow.Author.Needs.{needs}
-use Rattle.offsets.proofs.Keeping.{size-in}
+use Rattle.offsets.proofs.KeepLaws.{size-in}
 use Rattle.offsets.proofs.size_in.Statement.{statement}
 use Rattle.offsets.proofs.size_in.Tie as tie
 

@@ -1,5 +1,5 @@
 -- `sooner` by the laws of its definition: a number that is none gives the other, else the lesser. Assumes nothing.
-use Rattle.offsets.proofs.Numbers.{sooner-none, sooner-alone, sooner-second, sooner-first}
+use Rattle.offsets.proofs.NumberLaws.{sooner-none, sooner-alone, sooner-second, sooner-first}
 use Rattle.offsets.proofs.sooner.Statement.{statement}
 use Rattle.offsets.proofs.sooner.Tie as tie
 

@@ -6,7 +6,7 @@ use native.Mathlib.Omega.{arith}
 use borrow.Author.Needs.{needs}
 use lib.ListN.{length, set, drop, length-set}
 use Rattle.offsets.specs.Finds.{Told, Fits}
-use Rattle.offsets.proofs.Told.{told-none, told-more, past-same}
+use Rattle.offsets.proofs.TellLaws.{told-none, told-more, past-same}
 use Rattle.offsets.proofs.tell.Statement.{statement}
 use Rattle.offsets.proofs.tell.Tie as tie
 

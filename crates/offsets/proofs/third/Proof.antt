@@ -1,7 +1,7 @@
 -- `offsets::third` meets its contract: two calls of `lower`.
 -- Assumes nothing.
 use borrow.Author.Needs.{needs}
-use Rattle.offsets.proofs.Laws.{both}
+use Rattle.offsets.proofs.LowerLaws.{both}
 use Rattle.offsets.proofs.third.Statement.{statement}
 use Rattle.offsets.proofs.third.Tie as tie
 

@@ -1,7 +1,7 @@
 -- `tie_number` looks for the three causes in their order, each in both records. Assumes nothing.
 use mathlib.Core.Path.{sym, _∙_}
 use borrow.Author.Needs.{needs}
-use Rattle.offsets.proofs.Numbers.{no-first, no-second, first-withdrawn, second-withdrawn, too-low, too-high, crossed, no-cause}
+use Rattle.offsets.proofs.NumberLaws.{no-first, no-second, first-withdrawn, second-withdrawn, too-low, too-high, crossed, no-cause}
 use Rattle.offsets.proofs.tie_number.Statement.{statement}
 use Rattle.offsets.proofs.tie_number.Tie as tie
 

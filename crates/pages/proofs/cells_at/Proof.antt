@@ -9,7 +9,7 @@ use denote.Ref.{now}
 use lib.ListN.{length, take, drop, set, length-set}
 use lib.Seq.{take-suc-set}
 use Rattle.pages.specs.Lines.{cellWords}
-use Rattle.pages.proofs.Reading.{cells-end, cells-next}
+use Rattle.pages.proofs.ReadingLaws.{cells-end, cells-next}
 use Rattle.pages.proofs.cells_at.Statement.{statement}
 use Rattle.pages.proofs.cells_at.Tie as tie
 

@@ -1,4 +1,4 @@
--- `check_line`: a head, or a pair line; it stands or falls by what was found of it (`proofs/Checking`). Assumes nothing.
+-- `check_line`: a head, or a pair line; it stands or falls by what was found of it (`proofs/CheckLaws`). Assumes nothing.
 use mathlib.Core.Path.{_≡_, subst}
 use mathlib.Core.Bool.{Bool, true, false}
 use Prim.Native.Nat.{ℕ, _*_, _≤_}
@@ -7,7 +7,7 @@ use denote.Ref.{now}
 use lib.ListN.{length, take, drop}
 use lib.Seq.{length-take-le}
 use Rattle.pages.specs.Lines.{cellWords, Line}
-use Rattle.pages.proofs.Checking.{rising-small, head-stands, head-falls, short-falls, rising-falls, line-falls, line-stands}
+use Rattle.pages.proofs.CheckLaws.{rising-small, head-stands, head-falls, short-falls, rising-falls, line-falls, line-stands}
 use borrow.Author.Needs.{needs}
 use Rattle.pages.proofs.check_line.Statement.{statement}
 use Rattle.pages.proofs.check_line.Tie as tie

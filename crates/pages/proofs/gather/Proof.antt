@@ -8,7 +8,7 @@ use denote.Ref.{now}
 use lib.ListN.{length, take, getD, length-set}
 use Rattle.k2.specs.Bits.{bitAt}
 use Rattle.pages.specs.Lines.{pairWords, ahead}
-use Rattle.pages.proofs.Gathering.{ahead-gap, ahead-end, gathered-more, small-more}
+use Rattle.pages.proofs.GatherLaws.{ahead-gap, ahead-end, gathered-more, small-more}
 use Rattle.pages.proofs.gather.Statement.{statement}
 use Rattle.pages.proofs.gather.Tie as tie
 

@@ -5,7 +5,7 @@ use denote.Ref.{now}
 use lib.ListN.{length}
 use Rattle.pages.specs.Pages.{headLine}
 use Rattle.pages.specs.LineLaws.{length-head-line}
-use Rattle.pages.proofs.Writing.{wrote-whole}
+use Rattle.pages.proofs.WritingLaws.{wrote-whole}
 use Rattle.pages.proofs.is_head.Statement.{statement}
 use Rattle.pages.proofs.is_head.Tie as tie
 

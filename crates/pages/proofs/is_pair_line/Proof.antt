@@ -6,7 +6,7 @@ use lib.ListN.{length, take}
 use lib.Seq.{length-take-le}
 use Rattle.pages.specs.Pages.{pairLine}
 use Rattle.pages.specs.LineLaws.{length-pair-line}
-use Rattle.pages.proofs.Writing.{small-take, wrote-whole}
+use Rattle.pages.proofs.WritingLaws.{small-take, wrote-whole}
 use Rattle.pages.proofs.is_pair_line.Statement.{statement}
 use Rattle.pages.proofs.is_pair_line.Tie as tie
 

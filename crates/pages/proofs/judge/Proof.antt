@@ -10,7 +10,7 @@ use Rattle.pages.specs.Pages.{joined}
 use Rattle.pages.specs.Lines.{pairWords, linesOf, wordsAt, wordsBefore, after, Stands, Judged}
 use Rattle.pages.specs.declared.Judgement.the-variants.{Listing}
 use Rattle.pages.specs.ReadLaws.{words-few}
-use Rattle.pages.proofs.Checking.{line-not, line-yes, bad-size, bad-most, bad-line, bad-lines, few-pairs, good-lines, before-next, stand-next}
+use Rattle.pages.proofs.CheckLaws.{line-not, line-yes, bad-size, bad-most, bad-line, bad-lines, few-pairs, good-lines, before-next, stand-next}
 use Rattle.pages.proofs.judge.Statement.{statement}
 use Rattle.pages.proofs.judge.Tie as tie
 

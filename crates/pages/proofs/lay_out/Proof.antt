@@ -9,7 +9,7 @@ use Rattle.pages.specs.Pages.{pages}
 use Rattle.pages.specs.Lines.{linesOf, LaidOut, no-room, laid-out}
 use Rattle.pages.specs.LineLaws.{lines-most}
 use Rattle.pages.specs.declared.PagesAnswer.the-variants.{Bytes}
-use Rattle.pages.proofs.Laying.{rows-few, rows-length}
+use Rattle.pages.proofs.LayoutLaws.{rows-few, rows-length}
 use borrow.Author.Needs.{needs}
 use Rattle.pages.proofs.lay_out.Statement.{statement}
 use Rattle.pages.proofs.lay_out.Tie as tie

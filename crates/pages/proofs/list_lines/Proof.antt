@@ -9,7 +9,7 @@ use Rattle.report.specs.WrittenLaws.{wrote-none, wrote-as, wrote-then}
 use Rattle.pages.specs.Pages.{joined}
 use Rattle.pages.specs.Lines.{wordsAt, wordsBefore}
 use Rattle.pages.specs.LineLaws.{joined-next}
-use Rattle.pages.proofs.Reading.{wrote-front, joined-fits}
+use Rattle.pages.proofs.ReadingLaws.{wrote-front, joined-fits}
 use Rattle.pages.proofs.list_lines.Statement.{statement}
 use Rattle.pages.proofs.list_lines.Tie as tie
 

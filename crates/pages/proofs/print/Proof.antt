@@ -4,7 +4,7 @@ use native.Mathlib.Omega.{arith}
 use denote.Ref.{now}
 use lib.ListN.{length}
 use lib.Seq.{take-all}
-use Rattle.pages.proofs.Answering.{prints-refused, prints-laid}
+use Rattle.pages.proofs.AnswerLaws.{prints-refused, prints-laid}
 use borrow.Author.Needs.{needs}
 use Rattle.pages.proofs.print.Statement.{statement}
 use Rattle.pages.proofs.print.Tie as tie

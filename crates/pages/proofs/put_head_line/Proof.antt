@@ -8,7 +8,7 @@ use lib.ListN.{length, take, length-replicate}
 use lib.Seq.{length-take-le}
 use Rattle.report.specs.Report.{space}
 use Rattle.pages.specs.LineLaws.{page-figures, length-right}
-use Rattle.pages.proofs.Writing.{wrote-head}
+use Rattle.pages.proofs.WritingLaws.{wrote-head}
 use Rattle.pages.proofs.put_head_line.Statement.{statement}
 use Rattle.pages.proofs.put_head_line.Tie as tie
 

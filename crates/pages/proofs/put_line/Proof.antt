@@ -4,7 +4,7 @@ use native.Mathlib.Omega.{arith}
 use denote.Ref.{now}
 use lib.ListN.{length}
 use Rattle.k2.specs.Bits.{bitAt}
-use Rattle.pages.proofs.Laying.{laid-head, laid-pairs}
+use Rattle.pages.proofs.LayoutLaws.{laid-head, laid-pairs}
 use borrow.Author.Needs.{needs}
 use Rattle.pages.proofs.put_line.Statement.{statement}
 use Rattle.pages.proofs.put_line.Tie as tie

@@ -12,8 +12,8 @@ use Rattle.report.specs.WrittenLaws.{wrote-none, wrote-as, wrote-then}
 use Rattle.pages.specs.Pages.{joined, pages}
 use Rattle.pages.specs.Lines.{pairWords, pairsBefore, linesOf, lineOf, ahead}
 use Rattle.pages.specs.LineLaws.{joined-next, pages-lines, lines-most}
-use Rattle.pages.proofs.Laying.{rows-ahead, rows-few}
-use Rattle.pages.proofs.Reading.{wrote-front}
+use Rattle.pages.proofs.LayoutLaws.{rows-ahead, rows-few}
+use Rattle.pages.proofs.ReadingLaws.{wrote-front}
 use Rattle.pages.proofs.put_pages.Statement.{statement}
 use Rattle.pages.proofs.put_pages.Tie as tie
 

@@ -11,7 +11,7 @@ use Rattle.report.specs.Written.{Wrote}
 use Rattle.report.specs.WrittenLaws.{wrote-none}
 use Rattle.pages.specs.Pages.{pairCell}
 use Rattle.pages.specs.LineLaws.{length-cell}
-use Rattle.pages.proofs.Writing.{wrote-pairs}
+use Rattle.pages.proofs.WritingLaws.{wrote-pairs}
 use Rattle.pages.proofs.put_pair_line.Statement.{statement}
 use Rattle.pages.proofs.put_pair_line.Tie as tie
 

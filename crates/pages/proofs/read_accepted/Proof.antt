@@ -1,8 +1,8 @@
 -- `read_accepted`: the pages are judged, and then their pairs listed. Assumes nothing.
 use native.Mathlib.Omega.{arith}
 use denote.Ref.{now}
-use Rattle.pages.proofs.Answering.{reads-broken, reads-short, reads-pairs}
-use Rattle.pages.proofs.Checking.{judged-length}
+use Rattle.pages.proofs.AnswerLaws.{reads-broken, reads-short, reads-pairs}
+use Rattle.pages.proofs.CheckLaws.{judged-length}
 use borrow.Author.Needs.{needs}
 use Rattle.pages.proofs.read_accepted.Statement.{statement}
 use Rattle.pages.proofs.read_accepted.Tie as tie

@@ -1,7 +1,7 @@
 -- `read_pages`: the text's number, or the pages read. Assumes nothing.
 use mathlib.Core.Path.{sym, _∙_}
 use denote.Ref.{now}
-use Rattle.pages.proofs.Answering.{reads-refused, reads-accepted}
+use Rattle.pages.proofs.AnswerLaws.{reads-refused, reads-accepted}
 use borrow.Author.Needs.{needs}
 use Rattle.pages.proofs.read_pages.Statement.{statement}
 use Rattle.pages.proofs.read_pages.Tie as tie

@@ -7,7 +7,7 @@ use denote.Ref.{now}
 use lib.ListN.{take, drop, length-drop}
 use lib.Seq.{getD-drop}
 use Rattle.pages.specs.Lines.{valueFrom, value}
-use Rattle.pages.proofs.Reading.{value-more, record-small}
+use Rattle.pages.proofs.ReadingLaws.{value-more, record-small}
 use Rattle.pages.proofs.record_at.Statement.{statement}
 use Rattle.pages.proofs.record_at.Tie as tie
 

@@ -7,7 +7,7 @@ use denote.Ref.{now}
 use lib.ListN.{take}
 use Rattle.k2.specs.PairSetLaws.{Within, ends}
 use Rattle.pages.specs.Lines.{pairWords, after, Rising, up, down}
-use Rattle.pages.proofs.Reading.{rising-more, rising-not}
+use Rattle.pages.proofs.ReadingLaws.{rising-more, rising-not}
 use Rattle.pages.proofs.rising.Statement.{statement}
 use Rattle.pages.proofs.rising.Tie as tie
 

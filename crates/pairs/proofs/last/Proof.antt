@@ -4,8 +4,8 @@ use native.Mathlib.Omega.{arith}
 use borrow.Author.Needs.{needs}
 use Rattle.k2.specs.Trees.{treeUnit}
 use Rattle.pairs.specs.Steps.{Takes}
-use Rattle.pairs.proofs.Stepping.{starts-early, takes-early}
-use Rattle.pairs.proofs.Running.{ends-term}
+use Rattle.pairs.proofs.StepLaws.{starts-early, takes-early}
+use Rattle.pairs.proofs.RunLaws.{ends-term}
 use Rattle.pairs.proofs.last.Statement.{statement}
 use Rattle.pairs.proofs.last.Tie as tie
 

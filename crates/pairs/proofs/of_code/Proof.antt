@@ -4,7 +4,7 @@ use mathlib.Core.Path.{_≡_, sym, _∙_}
 use Prim.Native.Nat.{_≤_}
 use lib.ListN.{length, take}
 use lib.Seq.{length-take-le}
-use Rattle.pairs.proofs.Answering.{little-work, few-rows, made-rows}
+use Rattle.pairs.proofs.AnswerLaws.{little-work, few-rows, made-rows}
 use borrow.Author.Needs.{needs}
 use Rattle.pairs.proofs.of_code.Statement.{statement}
 use Rattle.pairs.proofs.of_code.Tie as tie

@@ -6,7 +6,7 @@ use Rattle.paths.specs.Expressions.{Expr}
 use Rattle.reader.specs.Reads.{ReadAs}
 use Rattle.reader.specs.ReadsLaws.{reads-accepted}
 use Rattle.pairs.specs.Steps.{Coded}
-use Rattle.pairs.proofs.Answering.{faulty-text, same-verdict}
+use Rattle.pairs.proofs.AnswerLaws.{faulty-text, same-verdict}
 use borrow.Author.Needs.{needs}
 use Rattle.pairs.proofs.of_text.Statement.{statement}
 use Rattle.pairs.proofs.of_text.Tie as tie

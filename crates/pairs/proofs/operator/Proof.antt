@@ -5,7 +5,7 @@ use Prim.Native.Nat.{_-_, _*_, _≤_}
 use lib.ListN.{length, take, drop}
 use Rattle.k2.specs.Trees.{treeUnit}
 use Rattle.pairs.specs.Steps.{Takes}
-use Rattle.pairs.proofs.Stepping.{starts-early, takes-early, goes-operator}
+use Rattle.pairs.proofs.StepLaws.{starts-early, takes-early, goes-operator}
 use borrow.Author.Needs.{needs}
 use Rattle.pairs.proofs.operator.Statement.{statement}
 use Rattle.pairs.proofs.operator.Tie as tie

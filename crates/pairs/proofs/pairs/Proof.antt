@@ -4,7 +4,7 @@ use mathlib.Core.Path.{_≡_, refl}
 use mathlib.Core.List.{[]}
 use lib.ListN.{length}
 use lib.Seq.{take-all}
-use Rattle.pairs.proofs.Answering.{asks-refused, asks-rows}
+use Rattle.pairs.proofs.AnswerLaws.{asks-refused, asks-rows}
 use borrow.Author.Needs.{needs}
 use Rattle.pairs.proofs.pairs.Statement.{statement}
 use Rattle.pairs.proofs.pairs.Tie as tie

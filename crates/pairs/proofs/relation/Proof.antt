@@ -3,7 +3,7 @@ use native.Mathlib.Omega.{arith}
 use mathlib.Core.Path.{_≡_, sym}
 use lib.ListN.{length}
 use lib.Seq.{length-take-le}
-use Rattle.pairs.proofs.Answering.{relates-refused, relates-rows}
+use Rattle.pairs.proofs.AnswerLaws.{relates-refused, relates-rows}
 use borrow.Author.Needs.{needs}
 use Rattle.pairs.proofs.relation.Statement.{statement}
 use Rattle.pairs.proofs.relation.Tie as tie

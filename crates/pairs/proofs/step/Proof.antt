@@ -11,7 +11,7 @@ use Rattle.tree.specs.declared.operations.Operand.{Operand}
 use Rattle.pairs.specs.declared.Stack.{Stack}
 use Rattle.pairs.specs.Evaluation.{pushed}
 use Rattle.pairs.specs.Steps.{Goes}
-use Rattle.pairs.proofs.Stepping.{goes-letters, goes-inverse}
+use Rattle.pairs.proofs.StepLaws.{goes-letters, goes-inverse}
 use Rattle.pairs.proofs.step.Statement.{statement}
 use Rattle.pairs.proofs.step.Tie as tie
 

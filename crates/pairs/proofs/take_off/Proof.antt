@@ -8,7 +8,7 @@ use Rattle.reader.specs.declared.items.Item.{Item}
 use Rattle.reader.specs.Running.{operands}
 use Rattle.tree.specs.declared.operations.Operation.the-variants.{Union, Product, Closure, Optional, Star}
 use Rattle.pairs.specs.EvaluationLaws.{Unary, of-star, of-plus, of-optional, Binary, of-alternative, of-sequence, unary-one}
-use Rattle.pairs.proofs.Stepping.{has-one, has-turned, has-two, takes-letters, takes-inverse, takes-one, takes-two}
+use Rattle.pairs.proofs.StepLaws.{has-one, has-turned, has-two, takes-letters, takes-inverse, takes-one, takes-two}
 use Rattle.pairs.proofs.take_off.Statement.{statement}
 use Rattle.pairs.proofs.take_off.Tie as tie
 

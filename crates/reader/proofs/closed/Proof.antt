@@ -5,7 +5,7 @@ use native.Mathlib.Omega.{arith}
 use lib.ListN.{length}
 use borrow.Author.Needs.{needs}
 use Rattle.paths.specs.Grammar.{close-group}
-use Rattle.reader.proofs.Steps.{there, fit, none-closed, closes, not-closed}
+use Rattle.reader.proofs.StepLaws.{there, fit, none-closed, closes, not-closed}
 use Rattle.reader.proofs.closed.Statement.{statement}
 use Rattle.reader.proofs.closed.Tie as tie
 

@@ -3,7 +3,7 @@ use Prim.Native.Nat.{_+_, _<_, _≤_}
 use native.Mathlib.Omega.{arith}
 use lib.ListN.{length}
 use borrow.Author.Needs.{needs}
-use Rattle.reader.proofs.Joining.{joins, joins-no-first, joins-no-next, has-room}
+use Rattle.reader.proofs.JoinLaws.{joins, joins-no-first, joins-no-next, has-room}
 use Rattle.reader.proofs.joined.Statement.{statement}
 use Rattle.reader.proofs.joined.Tie as tie
 

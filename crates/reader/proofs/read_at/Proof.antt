@@ -7,7 +7,7 @@ use lib.ListN.{length, take, drop, length-drop, drop-of-length-le}
 use lib.Seq.{take-all}
 use borrow.Author.Needs.{needs}
 use Rattle.reader.specs.Reads.{Reads}
-use Rattle.reader.proofs.Answers.{refuses-outside, empty-text}
+use Rattle.reader.proofs.AnswerLaws.{refuses-outside, empty-text}
 use Rattle.reader.proofs.read_at.Statement.{statement}
 use Rattle.reader.proofs.read_at.Tie as tie
 

@@ -1,8 +1,8 @@
 -- `reader::whole` meets its contract: each return by the verdict's law for it. Assumes nothing.
 use borrow.Author.Needs.{needs}
 use Rattle.paths.specs.Verdicts.{verdict-long, verdict-none}
-use Rattle.reader.proofs.Steps.{gave, missed}
-use Rattle.reader.proofs.Answers.{refuses-long, refuses-outside, refuses-large, more-bytes, many-letters, too-deep, accepts}
+use Rattle.reader.proofs.StepLaws.{gave, missed}
+use Rattle.reader.proofs.AnswerLaws.{refuses-long, refuses-outside, refuses-large, more-bytes, many-letters, too-deep, accepts}
 use Rattle.reader.proofs.whole.Statement.{statement}
 use Rattle.reader.proofs.whole.Tie as tie
 

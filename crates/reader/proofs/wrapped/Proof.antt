@@ -5,7 +5,7 @@ use native.Mathlib.Omega.{arith}
 use lib.ListN.{length}
 use borrow.Author.Needs.{needs}
 use borrow.Author.Tests.{eq-eqb, ne-eqb}
-use Rattle.reader.proofs.Steps.{has-room}
+use Rattle.reader.proofs.StepLaws.{has-room}
 use Rattle.reader.proofs.wrapped.Statement.{statement}
 use Rattle.reader.proofs.wrapped.Tie as tie
 

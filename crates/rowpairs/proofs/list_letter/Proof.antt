@@ -1,6 +1,6 @@
 -- `list_letter` writes the pairs of the part of a label. Assumes nothing.
 use mathlib.Core.Path.{sym}
-use Rattle.rowpairs.proofs.Alone.{length-pairs}
+use Rattle.rowpairs.proofs.LoneLetterLaws.{length-pairs}
 use borrow.Author.Needs.{needs}
 use Rattle.rowpairs.proofs.list_letter.Statement.{statement}
 use Rattle.rowpairs.proofs.list_letter.Tie as tie

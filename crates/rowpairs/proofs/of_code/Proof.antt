@@ -6,8 +6,8 @@ use Prim.Native.Nat.{ℕ, _*_, _≤_}
 use lib.ListN.{length, take}
 use lib.Seq.{length-take-le}
 use Rattle.rowpairs.specs.Asking.{rowWidth}
-use Rattle.rowpairs.proofs.Stepping.{unit-le, list-space}
-use Rattle.rowpairs.proofs.Answering.{little-work, listed-value, alone-asks}
+use Rattle.rowpairs.proofs.StepLaws.{unit-le, list-space}
+use Rattle.rowpairs.proofs.AnswerLaws.{little-work, listed-value, alone-asks}
 use borrow.Author.Needs.{needs}
 use Rattle.rowpairs.proofs.of_code.Statement.{statement}
 use Rattle.rowpairs.proofs.of_code.Tie as tie

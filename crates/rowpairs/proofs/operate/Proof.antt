@@ -3,7 +3,7 @@ use mathlib.Core.Path.{ap, _∙_}
 use Rattle.k2.specs.PairSets.{union}
 use Rattle.paths.specs.Chains.{asked}
 use Rattle.rowpairs.specs.Evaluation.{outcomeOf}
-use Rattle.rowpairs.proofs.Operating.{diagonal-within, does, letters-left, star-left}
+use Rattle.rowpairs.proofs.OperationLaws.{diagonal-within, does, letters-left, star-left}
 use borrow.Author.Needs.{needs}
 use Rattle.rowpairs.proofs.operate.Statement.{statement}
 use Rattle.rowpairs.proofs.operate.Tie as tie

@@ -6,7 +6,7 @@ use Rattle.paths.specs.Expressions.{Expr}
 use Rattle.reader.specs.Reads.{ReadAs}
 use Rattle.reader.specs.ReadsLaws.{reads-accepted}
 use Rattle.pairs.specs.Steps.{Coded}
-use Rattle.rowpairs.proofs.Answering.{faulty-text, same-verdict}
+use Rattle.rowpairs.proofs.AnswerLaws.{faulty-text, same-verdict}
 use borrow.Author.Needs.{needs}
 use Rattle.rowpairs.proofs.pairs_by_rows.Statement.{statement}
 use Rattle.rowpairs.proofs.pairs_by_rows.Tie as tie

@@ -8,7 +8,7 @@ use borrow.Author.Needs.{needs}
 use Prim.Native.Nat.{ℕ, _+_, _-_, _≤_}
 use lib.ListN.{length}
 use Rattle.rowpairs.specs.Labels.{PutBelow}
-use Rattle.rowpairs.proofs.Lettering.{every-le, put-begins, put-more, put-same, put-ends}
+use Rattle.rowpairs.proofs.LetterLaws.{every-le, put-begins, put-more, put-same, put-ends}
 use Rattle.rowpairs.proofs.put_letters.Statement.{statement}
 use Rattle.rowpairs.proofs.put_letters.Tie as tie
 

@@ -5,7 +5,7 @@ use mathlib.Core.Path.{_≡_, refl, _∙_}
 use Prim.Native.Nat.{_+_, _-_, _≤_}
 use lib.ListN.{length}
 use Rattle.rowpairs.specs.Evaluation.{Going}
-use Rattle.rowpairs.proofs.Running.{going-begins, reading-used, reading-ready, reading-more, going-ends}
+use Rattle.rowpairs.proofs.RunLaws.{going-begins, reading-used, reading-ready, reading-more, going-ends}
 use Rattle.rowpairs.proofs.run.Statement.{statement}
 use Rattle.rowpairs.proofs.run.Tie as tie
 

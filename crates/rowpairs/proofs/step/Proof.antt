@@ -4,7 +4,7 @@ use mathlib.Core.Path.{_≡_}
 use Prim.Native.Nat.{_-_, _*_, _≤_}
 use lib.ListN.{length}
 use Rattle.rowpairs.specs.Asking.{rowWidth}
-use Rattle.rowpairs.proofs.Stepping.{unit-le, start-le, mark-le, lent-space, goes-part}
+use Rattle.rowpairs.proofs.StepLaws.{unit-le, start-le, mark-le, lent-space, goes-part}
 use borrow.Author.Needs.{needs}
 use Rattle.rowpairs.proofs.step.Statement.{statement}
 use Rattle.rowpairs.proofs.step.Tie as tie

@@ -7,7 +7,7 @@ use borrow.Author.Needs.{needs}
 use Rattle.k2.specs.DigitLaws.{digit-none}
 use Rattle.bits.specs.BitSets.{none}
 use Rattle.rows.specs.RowLaws.{flat-none}
-use Rattle.rows.proofs.Wordwise.{Written, written-none, written-more, written-all}
+use Rattle.rows.proofs.WordwiseLaws.{Written, written-none, written-more, written-all}
 use Rattle.rows.proofs.clear.Statement.{statement}
 use Rattle.rows.proofs.clear.Tie as tie
 

@@ -10,8 +10,8 @@ use Rattle.k2.specs.PairSets.{Cells, IsSet, via, closure}
 use Rattle.k2.specs.PairSetLaws.{closure-set}
 use Rattle.rows.specs.Rows.{flat}
 use Rattle.rows.specs.Steps.{rowAt, Occupied}
-use Rattle.rows.proofs.Entries.{row-at, row-end}
-use Rattle.rows.proofs.Closing.{rounds-start, rounds-more, rounds-occupied}
+use Rattle.rows.proofs.EntryLaws.{row-at, row-end}
+use Rattle.rows.proofs.ClosureLaws.{rounds-start, rounds-more, rounds-occupied}
 use Rattle.rows.proofs.close.Statement.{statement}
 use Rattle.rows.proofs.close.Tie as tie
 

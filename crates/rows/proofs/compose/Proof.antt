@@ -12,7 +12,7 @@ use Rattle.k2.specs.PairSetLaws.{product-set}
 use Rattle.bits.specs.BitSetLaws.{bits-none}
 use Rattle.rows.specs.Rows.{flat}
 use Rattle.rows.specs.Steps.{EmptyRow, rowsTo}
-use Rattle.rows.proofs.Search.{mask-empty, to-none, to-all, product-store, product-skip}
+use Rattle.rows.proofs.SearchLaws.{mask-empty, to-none, to-all, product-store, product-skip}
 use Rattle.rows.proofs.compose.Statement.{statement}
 use Rattle.rows.proofs.compose.Tie as tie
 

@@ -10,7 +10,7 @@ use Rattle.k2.specs.Bits.{bitAt}
 use Rattle.bits.specs.BitSets.{both}
 use Rattle.bits.specs.BitSetLaws.{both-word}
 use Rattle.rows.specs.RowLaws.{flat-intersection}
-use Rattle.rows.proofs.Wordwise.{Written, written-none, written-more, written-all, both-out}
+use Rattle.rows.proofs.WordwiseLaws.{Written, written-none, written-more, written-all, both-out}
 use Rattle.rows.proofs.intersect.Statement.{statement}
 use Rattle.rows.proofs.intersect.Tie as tie
 

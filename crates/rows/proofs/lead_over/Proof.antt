@@ -11,9 +11,9 @@ use Rattle.k2.specs.Bits.{bitAt}
 use Rattle.k2.specs.PairSets.{Cells, IsSet, via}
 use Rattle.rows.specs.Rows.{flat}
 use Rattle.rows.specs.Steps.{rowAt, Occupied, rowsTo, plusRow}
-use Rattle.rows.proofs.Search.{to-row}
-use Rattle.rows.proofs.Entries.{row-at}
-use Rattle.rows.proofs.Closing.{round-start, round-yes, round-no, round-end}
+use Rattle.rows.proofs.SearchLaws.{to-row}
+use Rattle.rows.proofs.EntryLaws.{row-at}
+use Rattle.rows.proofs.ClosureLaws.{round-start, round-yes, round-no, round-end}
 use Rattle.rows.proofs.lead_over.Statement.{statement}
 use Rattle.rows.proofs.lead_over.Tie as tie
 

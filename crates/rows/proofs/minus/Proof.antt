@@ -10,7 +10,7 @@ use Rattle.k2.specs.Bits.{bitAt}
 use Rattle.bits.specs.BitSets.{minus}
 use Rattle.bits.specs.BitSetLaws.{minus-word}
 use Rattle.rows.specs.RowLaws.{flat-difference}
-use Rattle.rows.proofs.Wordwise.{Written, written-none, written-more, written-all, minus-out}
+use Rattle.rows.proofs.WordwiseLaws.{Written, written-none, written-more, written-all, minus-out}
 use Rattle.rows.proofs.minus.Statement.{statement}
 use Rattle.rows.proofs.minus.Tie as tie
 

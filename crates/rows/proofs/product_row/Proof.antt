@@ -10,8 +10,8 @@ use lib.ListN.{length, getD}
 use Rattle.k2.specs.Bits.{bitAt}
 use Rattle.bits.specs.BitSets.{none, put}
 use Rattle.rows.specs.Steps.{Masked, rowAt, Occupied, Masks, Common, served, below}
-use Rattle.rows.proofs.Search.{served-bit, masks-common, masks-apart, row-start, row-skip, row-put}
-use Rattle.rows.proofs.Entries.{row-at, row-end}
+use Rattle.rows.proofs.SearchLaws.{served-bit, masks-common, masks-apart, row-start, row-skip, row-put}
+use Rattle.rows.proofs.EntryLaws.{row-at, row-end}
 use Rattle.rows.proofs.product_row.Statement.{statement}
 use Rattle.rows.proofs.product_row.Tie as tie
 

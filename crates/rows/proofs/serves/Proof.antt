@@ -10,8 +10,9 @@ use lib.ListN.{getD}
 use Rattle.k2.specs.Bits.{digit, bitAt}
 use Rattle.k2.specs.PairSets.{most}
 use Rattle.rows.specs.Steps.{meets, Common, served}
-use Rattle.rows.proofs.Search.{most-more, most-hit, most-far, meets-bits, meets-in, meets-word, meets-passed, first-square, square-inside, common-first}
-use Rattle.rows.proofs.Search.{common-last}
+use Rattle.rows.proofs.SearchLaws.{most-more, most-hit, most-far, meets-bits, meets-in, meets-word, meets-passed, first-square, square-inside}
+use Rattle.rows.proofs.SearchLaws.{common-first}
+use Rattle.rows.proofs.SearchLaws.{common-last}
 use Rattle.rows.proofs.serves.Statement.{statement}
 use Rattle.rows.proofs.serves.Tie as tie
 

@@ -11,7 +11,7 @@ use lib.Count.{trailingZeros, trailing-le}
 use lib.ListN.{length, getD, length-set, length-append}
 use Rattle.k2.specs.Bits.{bitAt}
 use Rattle.rows.specs.Rows.{places}
-use Rattle.rows.proofs.Listing.{places-first, places-longer, Wrote, wrote-one, wrote-again, wrote-on, wrote-all, wrote-full, bit-found, bits-gone}
+use Rattle.rows.proofs.ListingLaws.{places-first, places-longer, Wrote, wrote-one, wrote-again, wrote-on, wrote-all, wrote-full, bit-found, bits-gone}
 use Rattle.rows.proofs.write_pairs.Statement.{statement}
 use Rattle.rows.proofs.write_pairs.Tie as tie
 

@@ -5,7 +5,7 @@ use mathlib.Core.Path.{_≡_, refl, sym, _∙_}
 use Prim.Native.Nat.{_-_, _≤_}
 use lib.ListN.{length, drop}
 use Rattle.support.specs.Support.{orderly}
-use Rattle.support.proofs.Walking.{order-broken, order-next, order-past}
+use Rattle.support.proofs.LoopLaws.{order-broken, order-next, order-past}
 use Rattle.support.proofs.ascending.Statement.{statement}
 use Rattle.support.proofs.ascending.Tie as tie
 

@@ -2,7 +2,7 @@
 -- (Answering). Assumes nothing.
 use mathlib.Core.Path.{_≡_}
 use lib.ListN.{length}
-use Rattle.support.proofs.Answering.{first-refused, second-refused, handed-over}
+use Rattle.support.proofs.AnswerLaws.{first-refused, second-refused, handed-over}
 use borrow.Author.Needs.{needs}
 use Rattle.support.proofs.compared.Statement.{statement}
 use Rattle.support.proofs.compared.Tie as tie

@@ -10,7 +10,7 @@ use borrow.Author.Needs.{needs}
 use Rattle.book.specs.Causes.{maxRecords}
 use Rattle.support.specs.Support.{chosen}
 use Rattle.support.specs.Inner.{lost}
-use Rattle.support.proofs.Walking.{chosen-more, chosen-passed}
+use Rattle.support.proofs.LoopLaws.{chosen-more, chosen-passed}
 use Rattle.support.proofs.fallen.Statement.{statement}
 use Rattle.support.proofs.fallen.Tie as tie
 

@@ -2,7 +2,7 @@
 use native.Mathlib.Omega.{arith}
 use mathlib.Core.Path.{sym}
 use lib.Seq.{length-take-le}
-use Rattle.support.proofs.Answering.{handed-short, handed-whole}
+use Rattle.support.proofs.AnswerLaws.{handed-short, handed-whole}
 use borrow.Author.Needs.{needs}
 use Rattle.support.proofs.hand_over.Statement.{statement}
 use Rattle.support.proofs.hand_over.Tie as tie

@@ -8,7 +8,7 @@ use lib.ListN.{length, length-set, getD}
 use Rattle.book.specs.Causes.{maxRecords}
 use Rattle.support.specs.Support.{reaches}
 use Rattle.support.specs.Inner.{joinedBy}
-use Rattle.support.proofs.Walking.{marked-more}
+use Rattle.support.proofs.LoopLaws.{marked-more}
 use Rattle.support.proofs.joined_records.Statement.{statement}
 use Rattle.support.proofs.joined_records.Tie as tie
 

@@ -7,7 +7,7 @@ use lib.Dec.{eqb}
 use lib.ListN.{length, drop}
 use Rattle.support.specs.Support.{some, reaches}
 use Rattle.support.specs.Inner.{joinedBy}
-use Rattle.support.proofs.Walking.{some-found, some-next, some-past}
+use Rattle.support.proofs.LoopLaws.{some-found, some-next, some-past}
 use Rattle.support.proofs.joined_to_some.Statement.{statement}
 use Rattle.support.proofs.joined_to_some.Tie as tie
 

@@ -2,7 +2,7 @@
 -- exactly if the whole is. Assumes nothing.
 use mathlib.Core.Path.{sym, _∙_}
 use borrow.Author.Tests.{not-true, not-false}
-use Rattle.support.proofs.Answering.{refuses-core, refuses-beyond, refuses-unordered, part-length, supports}
+use Rattle.support.proofs.AnswerLaws.{refuses-core, refuses-beyond, refuses-unordered, part-length, supports}
 use borrow.Author.Needs.{needs}
 use Rattle.support.proofs.sole_support.Statement.{statement}
 use Rattle.support.proofs.sole_support.Tie as tie

@@ -9,7 +9,7 @@ use Rattle.book.specs.Book.{Book}
 use Rattle.engine.specs.BookLaws.{represented-fit}
 use Rattle.register.specs.Representation.{Represents}
 use Rattle.support.specs.Inner.{cutAll}
-use Rattle.support.proofs.Cutting.{cut-next, cut-graph}
+use Rattle.support.proofs.CutLaws.{cut-next, cut-graph}
 use Rattle.support.proofs.without_core.Statement.{statement}
 use Rattle.support.proofs.without_core.Tie as tie
 

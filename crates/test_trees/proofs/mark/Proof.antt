@@ -8,7 +8,7 @@ use lib.ListN.{length}
 use Rattle.k2.specs.Bits.{bitAt}
 use Rattle.bits.specs.BitSets.{none, put}
 use Rattle.test_trees.specs.Terms.{below}
-use Rattle.test_trees.proofs.Marks.{below-none, below-more}
+use Rattle.test_trees.proofs.MarkLaws.{below-none, below-more}
 use Rattle.test_trees.proofs.mark.Statement.{statement}
 use Rattle.test_trees.proofs.mark.Tie as tie
 

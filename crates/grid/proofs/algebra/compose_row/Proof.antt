@@ -1,7 +1,7 @@
 -- `compose_row` makes the row and stores it (`row-replaced`). Assumes nothing.
 use Prim.Native.Nat.{_+_}
-use Rattle.grid.proofs.Grids.{unit-fits, row-inside}
-use Rattle.grid.proofs.Products.{row-replaced}
+use Rattle.grid.proofs.RelationLaws.{unit-fits, row-inside}
+use Rattle.grid.proofs.ProductLaws.{row-replaced}
 use borrow.Author.Needs.{needs}
 use lib.ListN.{length, set, length-set}
 use mathlib.Core.Logic.{inl}

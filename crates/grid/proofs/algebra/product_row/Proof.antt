@@ -1,8 +1,8 @@
 -- `product_row` goes over the columns of row x. The loop's invariant: the rows of the middle records below z are gathered (`Gathered`), and z is a
 -- column of row x or past them all. The measure is the columns left. Assumes nothing.
 use Prim.Native.Nat.{_<_, _≤_, _+_, _*_, _-_}
-use Rattle.grid.proofs.Grids.{rows-apart, unit-fits}
-use Rattle.grid.proofs.Products.{Gathered, gathered-none, lowest-kept, gathered-more, gathered-all}
+use Rattle.grid.proofs.RelationLaws.{rows-apart, unit-fits}
+use Rattle.grid.proofs.ProductLaws.{Gathered, gathered-none, lowest-kept, gathered-more, gathered-all}
 use Rattle.grid.specs.Grid.{firstRows}
 use borrow.Author.Needs.{needs}
 use lib.ListN.{length}

@@ -5,7 +5,7 @@ use native.Mathlib.Omega.{arith}
 use borrow.Author.Needs.{needs}
 use lib.ListN.{length, getD, length-set}
 use lib.Seq.{getD-set-other}
-use Rattle.grid.proofs.Turns.{second-zero}
+use Rattle.grid.proofs.TransposeLaws.{second-zero}
 use Rattle.grid.proofs.algebra.start_second.Statement.{statement}
 use Rattle.grid.proofs.algebra.start_second.Tie as tie
 

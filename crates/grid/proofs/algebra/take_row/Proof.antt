@@ -4,8 +4,8 @@ use mathlib.Core.Logic.{inl}
 use native.Mathlib.Omega.{arith}
 use borrow.Author.Needs.{needs}
 use lib.ListN.{length, set, length-set}
-use Rattle.grid.proofs.Grids.{unit-fits, row-inside}
-use Rattle.grid.proofs.Turns.{taken-row}
+use Rattle.grid.proofs.RelationLaws.{unit-fits, row-inside}
+use Rattle.grid.proofs.TransposeLaws.{taken-row}
 use Rattle.grid.proofs.algebra.take_row.Statement.{statement}
 use Rattle.grid.proofs.algebra.take_row.Tie as tie
 

@@ -6,8 +6,8 @@ use native.Mathlib.Omega.{arith}
 use borrow.Author.Needs.{needs}
 use lib.ListN.{length}
 use Rattle.grid.specs.Grid.{secondRows}
-use Rattle.grid.proofs.Grids.{unit-fits, row-inside, Through, through-none, through-all}
-use Rattle.grid.proofs.Turns.{taken-more}
+use Rattle.grid.proofs.RelationLaws.{unit-fits, row-inside, Through, through-none, through-all}
+use Rattle.grid.proofs.TransposeLaws.{taken-more}
 use Rattle.grid.proofs.algebra.take_second.Statement.{statement}
 use Rattle.grid.proofs.algebra.take_second.Tie as tie
 

@@ -5,7 +5,7 @@ use Prim.Native.Nat.{_-_, _≤_}
 use native.Mathlib.Omega.{arith}
 use lib.ListN.{length}
 use Rattle.k2.specs.PairSets.{transpose}
-use Rattle.grid.proofs.Turns.{Turning, turning-none, turning-more, turning-all, first-same}
+use Rattle.grid.proofs.TransposeLaws.{Turning, turning-none, turning-more, turning-all, first-same}
 use Rattle.grid.proofs.algebra.transpose.Statement.{statement}
 use Rattle.grid.proofs.algebra.transpose.Tie as tie
 

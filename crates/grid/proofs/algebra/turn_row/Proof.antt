@@ -8,9 +8,9 @@ use lib.ListN.{length}
 use Rattle.k2.specs.DigitLaws.{one-shl}
 use Rattle.grid.specs.Grid.{firstRows}
 use Rattle.grid.specs.Steps.{onlyRow, Turned}
-use Rattle.grid.proofs.Grids.{rows-apart, unit-fits}
-use Rattle.grid.proofs.Products.{lowest-kept}
-use Rattle.grid.proofs.Turns.{turned-none, turned-more, turned-all}
+use Rattle.grid.proofs.RelationLaws.{rows-apart, unit-fits}
+use Rattle.grid.proofs.ProductLaws.{lowest-kept}
+use Rattle.grid.proofs.TransposeLaws.{turned-none, turned-more, turned-all}
 use Rattle.grid.proofs.algebra.turn_row.Statement.{statement}
 use Rattle.grid.proofs.algebra.turn_row.Tie as tie
 

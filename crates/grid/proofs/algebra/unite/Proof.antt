@@ -1,7 +1,7 @@
 -- `unite` merges row by row. The loop's invariant: the rows below x are united, and nothing else has changed (`Through`). The measure is the rows
 -- left. Assumes nothing.
 use Prim.Native.Nat.{_≤_, _*_, _-_, max}
-use Rattle.grid.proofs.Grids.{unit-fits, row-inside, Through, through-none, through-merge, unite-row, through-all, within-union}
+use Rattle.grid.proofs.RelationLaws.{unit-fits, row-inside, Through, through-none, through-merge, unite-row, through-all, within-union}
 use Rattle.grid.specs.Grid.{firstRows, secondRows}
 use Rattle.k2.specs.PairSets.{union}
 use borrow.Author.Needs.{needs}

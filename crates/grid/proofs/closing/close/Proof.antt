@@ -12,7 +12,7 @@ use Rattle.grid.specs.Steps.{Half}
 use Rattle.bits.specs.BitSets.{none}
 use Rattle.bits.specs.BitSetLaws.{bits-none}
 use Rattle.grid.specs.GridLaws.{first-set}
-use Rattle.grid.proofs.Closures.{half-none, half-all, all-next}
+use Rattle.grid.proofs.ClosureLaws.{half-none, half-all, all-next}
 use Rattle.grid.proofs.closing.close.Statement.{statement}
 use Rattle.grid.proofs.closing.close.Tie as tie
 

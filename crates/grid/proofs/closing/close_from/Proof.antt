@@ -5,7 +5,7 @@ use native.Mathlib.Omega.{arith}
 use borrow.Author.Needs.{needs}
 use lib.ListN.{length, set, length-set}
 use Rattle.k2.specs.Bits.{bitAt}
-use Rattle.grid.proofs.Closures.{half-beyond, put-keeps}
+use Rattle.grid.proofs.ClosureLaws.{half-beyond, put-keeps}
 use Rattle.grid.proofs.closing.close_from.Statement.{statement}
 use Rattle.grid.proofs.closing.close_from.Tie as tie
 

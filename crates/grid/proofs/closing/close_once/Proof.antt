@@ -6,7 +6,7 @@ use borrow.Author.Needs.{needs}
 use Rattle.k2.specs.Bits.{bitAt}
 use Rattle.k2.specs.BitLaws.{bit-lt}
 use Rattle.bits.specs.BitSetLaws.{put-at}
-use Rattle.grid.proofs.Closures.{half-next, put-keeps}
+use Rattle.grid.proofs.ClosureLaws.{half-next, put-keeps}
 use Rattle.grid.proofs.closing.close_once.Statement.{statement}
 use Rattle.grid.proofs.closing.close_once.Tie as tie
 

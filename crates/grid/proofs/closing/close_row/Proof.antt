@@ -13,8 +13,8 @@ use Rattle.k2.specs.Bits.{bitAt, onesBelow}
 use Rattle.k2.specs.BitLaws.{bit-lt}
 use Rattle.grid.specs.Grid.{rowOf, firstRows}
 use Rattle.grid.specs.Steps.{wordAt, Fresh, Merged}
-use Rattle.grid.proofs.Grids.{rows-apart, unit-fits}
-use Rattle.grid.proofs.Closures.{first-bit, Searching, searching-none, searching-more, search-done, left-less, half-same}
+use Rattle.grid.proofs.RelationLaws.{rows-apart, unit-fits}
+use Rattle.grid.proofs.ClosureLaws.{first-bit, Searching, searching-none, searching-more, search-done, left-less, half-same}
 use Rattle.grid.proofs.closing.close_row.Statement.{statement}
 use Rattle.grid.proofs.closing.close_row.Tie as tie
 

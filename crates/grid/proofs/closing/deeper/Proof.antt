@@ -4,8 +4,8 @@ use Prim.Native.Nat.{ℕ, _+_}
 use native.Mathlib.Omega.{arith}
 use borrow.Author.Needs.{needs}
 use Rattle.k2.specs.Bits.{bitAt}
-use Rattle.grid.proofs.Grids.{rows-apart, unit-fits}
-use Rattle.grid.proofs.Closures.{half-beyond, put-keeps}
+use Rattle.grid.proofs.RelationLaws.{rows-apart, unit-fits}
+use Rattle.grid.proofs.ClosureLaws.{half-beyond, put-keeps}
 use Rattle.grid.proofs.closing.deeper.Statement.{statement}
 use Rattle.grid.proofs.closing.deeper.Tie as tie
 

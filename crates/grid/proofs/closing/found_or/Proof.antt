@@ -3,7 +3,7 @@ use mathlib.Core.Path.{refl}
 use mathlib.Core.Logic.{inl, inr}
 use Prim.Native.Nat.{_<_}
 use native.Mathlib.Omega.{arith}
-use Rattle.grid.proofs.Columns.{lowest-some}
+use Rattle.grid.proofs.ColumnLaws.{lowest-some}
 use Rattle.grid.proofs.closing.found_or.Statement.{statement}
 use Rattle.grid.proofs.closing.found_or.Tie as tie
 

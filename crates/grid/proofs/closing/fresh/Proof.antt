@@ -8,9 +8,9 @@ use lib.ListN.{getD}
 use Rattle.k2.specs.Bits.{digit}
 use Rattle.k2.specs.DigitLaws.{digit-lt, digit-and}
 use Rattle.grid.specs.Grid.{rowOf}
-use Rattle.grid.proofs.Grids.{unit-fits}
-use Rattle.grid.proofs.Columns.{lowest-some}
-use Rattle.grid.proofs.Closures.{LookedTo, looked-gap, looked-word, fresh-found}
+use Rattle.grid.proofs.RelationLaws.{unit-fits}
+use Rattle.grid.proofs.ColumnLaws.{lowest-some}
+use Rattle.grid.proofs.ClosureLaws.{LookedTo, looked-gap, looked-word, fresh-found}
 use Rattle.grid.proofs.closing.fresh.Statement.{statement}
 use Rattle.grid.proofs.closing.fresh.Tie as tie
 

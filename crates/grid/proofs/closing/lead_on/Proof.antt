@@ -5,8 +5,8 @@ use native.Mathlib.Omega.{arith}
 use borrow.Author.Needs.{needs}
 use Rattle.grid.specs.Grid.{firstRows}
 use Rattle.grid.specs.Steps.{Merged}
-use Rattle.grid.proofs.Grids.{rows-apart, unit-fits}
-use Rattle.grid.proofs.Closures.{merged-self, rows-other}
+use Rattle.grid.proofs.RelationLaws.{rows-apart, unit-fits}
+use Rattle.grid.proofs.ClosureLaws.{merged-self, rows-other}
 use Rattle.grid.proofs.closing.lead_on.Statement.{statement}
 use Rattle.grid.proofs.closing.lead_on.Tie as tie
 

@@ -11,8 +11,8 @@ use Rattle.book.specs.Basics.{pick}
 use Rattle.k2.specs.DigitLaws.{one-shl}
 use Rattle.grid.specs.Grid.{firstRows}
 use Rattle.grid.specs.Steps.{Merged}
-use Rattle.grid.proofs.Rows.{merged-none, merged-more, merged-to}
-use Rattle.grid.proofs.Grids.{rows-apart, unit-fits}
+use Rattle.grid.proofs.RowLaws.{merged-none, merged-more, merged-to}
+use Rattle.grid.proofs.RelationLaws.{rows-apart, unit-fits}
 use Rattle.grid.proofs.closing.mark.Statement.{statement}
 use Rattle.grid.proofs.closing.mark.Tie as tie
 

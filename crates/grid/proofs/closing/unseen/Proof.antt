@@ -2,7 +2,7 @@
 -- left. Assumes nothing.
 use Prim.Native.Nat.{_-_, _≤_, _<_}
 use native.Mathlib.Omega.{arith}
-use Rattle.grid.proofs.Columns.{lowest-some}
+use Rattle.grid.proofs.ColumnLaws.{lowest-some}
 use Rattle.grid.proofs.closing.unseen.Statement.{statement}
 use Rattle.grid.proofs.closing.unseen.Tie as tie
 

@@ -10,7 +10,7 @@ use lib.ListN.{length}
 use lib.Pow.{shr-le}
 use Rattle.k2.specs.Bits.{digit}
 use Rattle.grid.specs.Steps.{columns, Grown}
-use Rattle.grid.proofs.Lists.{columns-none, grown-none, grown-more, grown-to, word-inside, word-found, word-rest, word-done}
+use Rattle.grid.proofs.ListingLaws.{columns-none, grown-none, grown-more, grown-to, word-inside, word-found, word-rest, word-done}
 use Rattle.grid.proofs.listing.list_word.Statement.{statement}
 use Rattle.grid.proofs.listing.list_word.Tie as tie
 

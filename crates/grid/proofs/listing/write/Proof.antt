@@ -7,7 +7,7 @@ use native.Mathlib.Omega.{arith}
 use borrow.Author.Needs.{needs}
 use lib.ListN.{set, length-append}
 use Rattle.grid.specs.Steps.{Shown}
-use Rattle.grid.proofs.Lists.{shown-in, shown-out}
+use Rattle.grid.proofs.ListingLaws.{shown-in, shown-out}
 use Rattle.grid.proofs.listing.write.Statement.{statement}
 use Rattle.grid.proofs.listing.write.Tie as tie
 

@@ -1,7 +1,7 @@
 -- `put_diagonal` goes record by record. The loop's invariant: the records below x are joined to themselves. The measure is the records left.
 -- Assumes nothing.
 use Prim.Native.Nat.{ℕ, _≤_, _-_}
-use Rattle.grid.proofs.Pairs.{put-more, union-empty, diagonal-none, diagonal-more, diagonal-skip, within-twice}
+use Rattle.grid.proofs.PairLaws.{put-more, union-empty, diagonal-none, diagonal-more, diagonal-skip, within-twice}
 use Rattle.grid.specs.Grid.{first, within}
 use Rattle.grid.specs.Steps.{onePair}
 use Rattle.k2.specs.BitLaws.{bit-lt}

@@ -10,7 +10,7 @@ use Rattle.rows.specs.Rows.{linkPair}
 use Rattle.rows.specs.RowLaws.{transpose-none, union-right}
 use Rattle.grid.specs.Grid.{first, within}
 use Rattle.grid.specs.Steps.{onePair}
-use Rattle.grid.proofs.Pairs.{letter, letter-in, letter-out, one-turned, put-more, put-none, crossed-one}
+use Rattle.grid.proofs.PairLaws.{letter, letter-in, letter-out, one-turned, put-more, put-none, crossed-one}
 use Rattle.grid.proofs.putting.put_word.Statement.{statement}
 use Rattle.grid.proofs.putting.put_word.Tie as tie
 

@@ -2,7 +2,7 @@
 -- words left. Assumes nothing.
 use Prim.Native.Nat.{_<_, _+_, _-_, _*_}
 use Rattle.bits.specs.BitSets.{Gap}
-use Rattle.grid.proofs.Columns.{lowest-some, gap-words, gap-on, gap-zero, found-whole, lowest-end}
+use Rattle.grid.proofs.ColumnLaws.{lowest-some, gap-words, gap-on, gap-zero, found-whole, lowest-end}
 use Rattle.grid.specs.Grid.{rowOf}
 use Rattle.k2.specs.Bits.{digit}
 use mathlib.Core.Path.{_≡_}

@@ -1,7 +1,7 @@
 -- `merge` joins the words in the mask of the source. The loop's invariant: those below c are joined (`Joined`), and c is one of them or past them
 -- all. The measure is the words left. Assumes nothing.
 use Prim.Native.Nat.{_<_, _-_}
-use Rattle.grid.proofs.Rows.{Apart, Joined, joined-none, joined-more, joined-all}
+use Rattle.grid.proofs.RowLaws.{Apart, Joined, joined-none, joined-more, joined-all}
 use Rattle.k2.specs.Bits.{digit}
 use borrow.Author.Needs.{needs}
 use lib.ListN.{length, length-set}

@@ -1,6 +1,6 @@
 -- `next` looks in what is left of the word of column y, and then in the words after it. Assumes nothing.
 use Prim.Native.Nat.{_+_, _*_, _/_, _%_}
-use Rattle.grid.proofs.Columns.{lowest-some, gap-left, found, lowest-end, lowest-after}
+use Rattle.grid.proofs.ColumnLaws.{lowest-some, gap-left, found, lowest-end, lowest-after}
 use Rattle.k2.specs.Bits.{digit}
 use borrow.Author.Needs.{needs}
 use lib.Pow.{shr-le}

@@ -1,5 +1,5 @@
 -- `put` stores the word joined, and puts it into the mask (`put-is`). Assumes nothing.
-use Rattle.grid.proofs.Rows.{one-mask, put-is}
+use Rattle.grid.proofs.RowLaws.{one-mask, put-is}
 use borrow.Author.Needs.{needs}
 use mathlib.Core.Path.{refl}
 use native.Mathlib.Omega.{arith}

@@ -1,5 +1,5 @@
 -- `join` takes the old word only if the mask has it. Assumes nothing.
-use Rattle.grid.proofs.Rows.{join-in, join-new}
+use Rattle.grid.proofs.RowLaws.{join-in, join-new}
 use Rattle.k2.specs.Bits.{digit}
 use borrow.Author.Needs.{needs}
 use native.Mathlib.Omega.{arith}

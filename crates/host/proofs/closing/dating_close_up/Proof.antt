@@ -1,6 +1,6 @@
 -- `host::closing::dating_close_up` carries the promise of `engine::close_up` over to words. Assumes nothing.
 use Rattle.book.specs.Causes.{number}
-use Rattle.host.proofs.Carrying.{load-none, load-some, close-foreign, close-kept}
+use Rattle.host.proofs.CarryLaws.{load-none, load-some, close-foreign, close-kept}
 use borrow.Author.Needs.{needs}
 use Rattle.host.proofs.closing.dating_close_up.Statement.{statement}
 use Rattle.host.proofs.closing.dating_close_up.Tie as tie

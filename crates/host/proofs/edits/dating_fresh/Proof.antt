@@ -2,7 +2,7 @@
 use mathlib.Core.Path.{sym, _∙_}
 use borrow.Author.Tests.{not-true, not-false}
 use Rattle.book.specs.Causes.{number}
-use Rattle.host.proofs.Carrying.{fresh-refused, fresh-short, fresh-made}
+use Rattle.host.proofs.CarryLaws.{fresh-refused, fresh-short, fresh-made}
 use borrow.Author.Needs.{needs}
 use Rattle.host.proofs.edits.dating_fresh.Statement.{statement}
 use Rattle.host.proofs.edits.dating_fresh.Tie as tie

@@ -1,6 +1,6 @@
 -- `host::edits::edit` carries the promise of `engine::apply` over to words. Assumes nothing.
 use Rattle.book.specs.Causes.{number}
-use Rattle.host.proofs.Carrying.{load-none, load-some, edit-foreign, edit-kept}
+use Rattle.host.proofs.CarryLaws.{load-none, load-some, edit-foreign, edit-kept}
 use borrow.Author.Needs.{needs}
 use Rattle.host.proofs.edits.edit.Statement.{statement}
 use Rattle.host.proofs.edits.edit.Tie as tie

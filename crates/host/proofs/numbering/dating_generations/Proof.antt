@@ -2,7 +2,7 @@
 use mathlib.Core.Path.{refl}
 use native.Mathlib.Omega.{arith}
 use Rattle.book.specs.Causes.{number}
-use Rattle.host.proofs.Carrying.{load-none, load-some, asked-foreign, asked}
+use Rattle.host.proofs.CarryLaws.{load-none, load-some, asked-foreign, asked}
 use borrow.Author.Needs.{needs}
 use Rattle.host.proofs.numbering.dating_generations.Statement.{statement}
 use Rattle.host.proofs.numbering.dating_generations.Tie as tie

@@ -1,7 +1,7 @@
 -- `host::printing::dating_pages` carries the promise of printing over to words. Assumes nothing.
 use mathlib.Core.Path.{refl}
 use Rattle.book.specs.Causes.{number}
-use Rattle.host.proofs.Carrying.{load-none, load-some, asked-foreign, asked}
+use Rattle.host.proofs.CarryLaws.{load-none, load-some, asked-foreign, asked}
 use borrow.Author.Needs.{needs}
 use Rattle.host.proofs.printing.dating_pages.Statement.{statement}
 use Rattle.host.proofs.printing.dating_pages.Tie as tie

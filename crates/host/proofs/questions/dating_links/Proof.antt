@@ -6,7 +6,7 @@ use native.Mathlib.Omega.{arith}
 use lib.ListN.{length, take}
 use lib.Seq.{length-take-le, take-take}
 use Rattle.book.specs.Causes.{number}
-use Rattle.host.proofs.Carrying.{load-none, load-some, asked-foreign, links-handed}
+use Rattle.host.proofs.CarryLaws.{load-none, load-some, asked-foreign, links-handed}
 use borrow.Author.Needs.{needs}
 use Rattle.host.proofs.questions.dating_links.Statement.{statement}
 use Rattle.host.proofs.questions.dating_links.Tie as tie

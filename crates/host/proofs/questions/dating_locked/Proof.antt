@@ -1,5 +1,5 @@
 -- `host::questions::dating_locked` carries the promise of `engine::is_locked` over to words. Assumes nothing.
-use Rattle.host.proofs.Carrying.{load-none, load-some, lock-foreign, locked-word}
+use Rattle.host.proofs.CarryLaws.{load-none, load-some, lock-foreign, locked-word}
 use borrow.Author.Needs.{needs}
 use Rattle.host.proofs.questions.dating_locked.Statement.{statement}
 use Rattle.host.proofs.questions.dating_locked.Tie as tie

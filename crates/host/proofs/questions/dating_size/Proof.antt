@@ -1,5 +1,5 @@
 -- `host::questions::dating_size` carries the promise of `engine::size` over to words. Assumes nothing.
-use Rattle.host.proofs.Carrying.{load-none, load-some, size-foreign, sized}
+use Rattle.host.proofs.CarryLaws.{load-none, load-some, size-foreign, sized}
 use borrow.Author.Needs.{needs}
 use Rattle.host.proofs.questions.dating_size.Statement.{statement}
 use Rattle.host.proofs.questions.dating_size.Tie as tie

@@ -1,6 +1,6 @@
 -- `host::questions::dating_total` carries the promise of `engine::total` over to words. Assumes nothing.
 use Rattle.book.specs.Causes.{number}
-use Rattle.host.proofs.Carrying.{load-none, load-some, total-foreign, totalled}
+use Rattle.host.proofs.CarryLaws.{load-none, load-some, total-foreign, totalled}
 use borrow.Author.Needs.{needs}
 use Rattle.host.proofs.questions.dating_total.Statement.{statement}
 use Rattle.host.proofs.questions.dating_total.Tie as tie

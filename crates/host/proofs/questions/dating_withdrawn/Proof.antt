@@ -1,5 +1,5 @@
 -- `host::questions::dating_withdrawn` carries the promise of `engine::is_withdrawn` over to words. Assumes nothing.
-use Rattle.host.proofs.Carrying.{load-none, load-some, withdrawn-foreign, withdrawn-word}
+use Rattle.host.proofs.CarryLaws.{load-none, load-some, withdrawn-foreign, withdrawn-word}
 use borrow.Author.Needs.{needs}
 use Rattle.host.proofs.questions.dating_withdrawn.Statement.{statement}
 use Rattle.host.proofs.questions.dating_withdrawn.Tie as tie

@@ -1,7 +1,7 @@
 -- `host::sole_support::dating_sole_support` carries the promise of the question over to words. Assumes nothing.
 use mathlib.Core.Path.{refl}
 use Rattle.book.specs.Causes.{number}
-use Rattle.host.proofs.Carrying.{load-none, load-some, asked-foreign, asked}
+use Rattle.host.proofs.CarryLaws.{load-none, load-some, asked-foreign, asked}
 use borrow.Author.Needs.{needs}
 use Rattle.host.proofs.sole_support.dating_sole_support.Statement.{statement}
 use Rattle.host.proofs.sole_support.dating_sole_support.Tie as tie

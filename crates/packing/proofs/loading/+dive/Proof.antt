@@ -12,7 +12,7 @@ use Rattle.k2.specs.Bits.{bitAt}
 use Rattle.k2.specs.PairSets.{Cells, union}
 use Rattle.rows.specs.Rows.{flat}
 use Rattle.packing.specs.Reading.{Reads, squareBit, squareRow, squareColumn, squaresTo, Fits, ReadAll}
-use Rattle.packing.proofs.Lists.{squares-none, squares-more, all-from}
+use Rattle.packing.proofs.SquareLaws.{squares-none, squares-more, all-from}
 use Rattle.packing.proofs.loading.dive.Reads as dive
 use Rattle.packing.proofs.loading.dive.Kinds as dive-kinds
 use Rattle.packing.proofs.loading.+dive.Lts-dive as dive-lts

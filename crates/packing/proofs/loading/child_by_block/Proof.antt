@@ -9,7 +9,7 @@ use Rattle.k2.specs.Bits.{bitAt, onesBelow}
 use Rattle.k2.specs.BitLaws.{bit-lt, ones-word}
 use Rattle.k2.specs.BitLaws as laws
 use Rattle.k2.specs.Trees.{childPlace}
-use Rattle.packing.proofs.Loads.{child-count}
+use Rattle.packing.proofs.LoadLaws.{child-count}
 use Rattle.packing.proofs.loading.child_by_block.Statement.{statement}
 use Rattle.packing.proofs.loading.child_by_block.Tie as tie
 

@@ -12,8 +12,8 @@ use Rattle.k2.specs.BitLaws.{bit-within}
 use Rattle.k2.specs.PairSets.{Cells, union}
 use Rattle.k2.specs.Trees.{childPlace}
 use Rattle.packing.specs.Reading.{turned, quartersTo, Reads, squareBit, squareRow, squareColumn, squaresTo, Fits, FitAll, ReadAll}
-use Rattle.packing.proofs.Loads.{one-le, quarters-none, quarters-more, quarter-in, quarter-even, dive-child, dive-gap, dive-all}
-use Rattle.packing.proofs.Lists.{all-set, squares-set}
+use Rattle.packing.proofs.LoadLaws.{one-le, quarters-none, quarters-more, quarter-in, quarter-even, dive-child, dive-gap, dive-all}
+use Rattle.packing.proofs.SquareLaws.{all-set, squares-set}
 use Rattle.packing.proofs.loading.children.Statement.{statement}
 use Rattle.packing.proofs.loading.children.Tie as tie
 

@@ -10,7 +10,7 @@ use lib.ListN.{length, getD, length-set}
 use Rattle.k2.specs.Bits.{bitAt, onesBelow}
 use Rattle.k2.specs.BitLaws.{bit-lt, ones-word}
 use Rattle.k2.specs.BitLaws as laws
-use Rattle.packing.proofs.Loads.{count-begun, count-in}
+use Rattle.packing.proofs.LoadLaws.{count-begun, count-in}
 use Rattle.packing.proofs.loading.count_blocks.Statement.{statement}
 use Rattle.packing.proofs.loading.count_blocks.Tie as tie
 

@@ -9,7 +9,7 @@ use lib.ListN.{length, getD, length-set}
 use Rattle.k2.specs.Bits.{bitAt, onesBelow}
 use Rattle.k2.specs.BitLaws.{bit-lt, ones-word}
 use Rattle.k2.specs.BitLaws as laws
-use Rattle.packing.proofs.Loads.{count-set}
+use Rattle.packing.proofs.LoadLaws.{count-set}
 use Rattle.packing.proofs.loading.count_words.Statement.{statement}
 use Rattle.packing.proofs.loading.count_words.Tie as tie
 

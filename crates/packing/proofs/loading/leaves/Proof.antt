@@ -8,8 +8,8 @@ use Rattle.k2.specs.Bits.{bitAt}
 use Rattle.k2.specs.PairSets.{Cells, union}
 use Rattle.rows.specs.Rows.{flat}
 use Rattle.packing.specs.Reading.{inside, squareBit, squareRow, squareColumn, squaresTo, ReadAll}
-use Rattle.packing.proofs.Loads.{reads-cell}
-use Rattle.packing.proofs.Lists.{squares-none, squares-next, union-next}
+use Rattle.packing.proofs.LoadLaws.{reads-cell}
+use Rattle.packing.proofs.SquareLaws.{squares-none, squares-next, union-next}
 use Rattle.packing.proofs.loading.leaves.Statement.{statement}
 use Rattle.packing.proofs.loading.leaves.Tie as tie
 

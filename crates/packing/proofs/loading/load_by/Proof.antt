@@ -7,8 +7,8 @@ use Rattle.k2.specs.PairSets.{Cells, union}
 use Rattle.rows.specs.Rows.{flat}
 use Rattle.packing.specs.Reading.{turnedBy}
 use Rattle.packing.specs.ReadingLaws.{turnedBy-set}
-use Rattle.packing.proofs.Loads.{reads-tree, inside-all}
-use Rattle.packing.proofs.Lists.{root-fits, root-reads, root-squares}
+use Rattle.packing.proofs.LoadLaws.{reads-tree, inside-all}
+use Rattle.packing.proofs.SquareLaws.{root-fits, root-reads, root-squares}
 use Rattle.packing.proofs.loading.load_by.Statement.{statement}
 use Rattle.packing.proofs.loading.load_by.Tie as tie
 

@@ -6,7 +6,7 @@ use borrow.Author.Needs.{needs}
 use lib.ListN.{length}
 use Rattle.k2.specs.DigitLaws.{shifted}
 use Rattle.bits.specs.BitSets.{either}
-use Rattle.packing.proofs.Loads.{four-cells}
+use Rattle.packing.proofs.LoadLaws.{four-cells}
 use Rattle.packing.proofs.loading.put_cells.Statement.{statement}
 use Rattle.packing.proofs.loading.put_cells.Tie as tie
 

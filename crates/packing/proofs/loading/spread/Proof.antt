@@ -6,7 +6,7 @@ use native.Mathlib.Omega.{arith}
 use lib.ListN.{length, getD}
 use Rattle.k2.specs.PairSets.{Cells, union}
 use Rattle.packing.specs.Reading.{inside, squareRow, squareColumn, squaresTo, FitAll, ReadAll}
-use Rattle.packing.proofs.Lists.{squares-next}
+use Rattle.packing.proofs.SquareLaws.{squares-next}
 use Rattle.packing.proofs.loading.spread.Statement.{statement}
 use Rattle.packing.proofs.loading.spread.Tie as tie
 

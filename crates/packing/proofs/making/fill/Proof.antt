@@ -13,7 +13,7 @@ use Rattle.k2.specs.PairSets.{Cells, IsSet}
 use Rattle.k2.specs.Heap.{cells}
 use Rattle.rows.specs.Rows.{flat}
 use Rattle.packing.specs.Image.{raised, blocksTo}
-use Rattle.packing.proofs.Blocks.{to-none, to-row, to-all}
+use Rattle.packing.proofs.BlockLaws.{to-none, to-row, to-all}
 use Rattle.packing.proofs.making.fill.Statement.{statement}
 use Rattle.packing.proofs.making.fill.Tie as tie
 

@@ -7,7 +7,7 @@ use borrow.Author.Needs.{needs}
 use lib.Pow.{pow-mono}
 use Rattle.k2.specs.Bits.{bitAt}
 use Rattle.k2.specs.SizeLaws.{four-most}
-use Rattle.packing.proofs.Blocks.{byte-none, turn-none, turn-some}
+use Rattle.packing.proofs.BlockLaws.{byte-none, turn-none, turn-some}
 use Rattle.packing.proofs.making.fill_block.Statement.{statement}
 use Rattle.packing.proofs.making.fill_block.Tie as tie
 

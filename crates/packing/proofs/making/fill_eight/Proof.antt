@@ -11,7 +11,7 @@ use Rattle.k2.specs.PairSets.{Cells, IsSet}
 use Rattle.k2.specs.Heap.{cells}
 use Rattle.rows.specs.Rows.{flat}
 use Rattle.packing.specs.Image.{raised, blocksTo}
-use Rattle.packing.proofs.Blocks.{eight-none}
+use Rattle.packing.proofs.BlockLaws.{eight-none}
 use Rattle.packing.proofs.making.fill_eight.Statement.{statement}
 use Rattle.packing.proofs.making.fill_eight.Tie as tie
 

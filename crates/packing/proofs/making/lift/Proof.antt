@@ -8,7 +8,7 @@ use lib.ListN.{length}
 use Rattle.k2.specs.Bits.{bitAt}
 use Rattle.k2.specs.BitLaws.{bit-zero}
 use Rattle.packing.specs.Image.{above, Heaped}
-use Rattle.packing.proofs.Lifts.{lift-gap}
+use Rattle.packing.proofs.LiftLaws.{lift-gap}
 use Rattle.packing.proofs.making.lift.Statement.{statement}
 use Rattle.packing.proofs.making.lift.Tie as tie
 

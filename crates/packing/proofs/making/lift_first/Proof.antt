@@ -8,7 +8,7 @@ use borrow.Author.Needs.{needs}
 use lib.ListN.{length}
 use Rattle.k2.specs.Bits.{bitAt}
 use Rattle.packing.specs.Image.{above, Heaped}
-use Rattle.packing.proofs.Lifts.{lift-some, lift-none, above-all}
+use Rattle.packing.proofs.LiftLaws.{lift-some, lift-none, above-all}
 use Rattle.packing.proofs.making.lift_first.Statement.{statement}
 use Rattle.packing.proofs.making.lift_first.Tie as tie
 

@@ -5,7 +5,7 @@ use native.Mathlib.Omega.{arith}
 use borrow.Author.Needs.{needs}
 use Rattle.k2.specs.Bits.{bitAt}
 use Rattle.k2.specs.BitLaws.{bit-zero}
-use Rattle.packing.proofs.Lifts.{lift-word, lift-gap}
+use Rattle.packing.proofs.LiftLaws.{lift-word, lift-gap}
 use Rattle.packing.proofs.making.lift_word.Statement.{statement}
 use Rattle.packing.proofs.making.lift_word.Tie as tie
 

@@ -6,7 +6,7 @@ use borrow.Author.Needs.{needs}
 use lib.ListN.{length, take, length-take}
 use Rattle.k2.specs.Heap.{fullSize}
 use Rattle.k2.specs.SizeLaws.{treeUnit-size}
-use Rattle.packing.proofs.Packs.{packed-tree}
+use Rattle.packing.proofs.PackLaws.{packed-tree}
 use Rattle.packing.proofs.making.pack.Statement.{statement}
 use Rattle.packing.proofs.making.pack.Tie as tie
 

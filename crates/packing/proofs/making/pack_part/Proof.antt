@@ -10,7 +10,7 @@ use Rattle.k2.specs.Heap.{fullSize, full, squeezed}
 use Rattle.k2.specs.SizeLaws.{fullSize-most}
 use Rattle.bits.specs.BitSetLaws.{bits-none}
 use Rattle.packing.specs.Image.{above}
-use Rattle.packing.proofs.Packs.{full-groups, block-set, part-cells, part-heaped, part-next, part-room}
+use Rattle.packing.proofs.PackLaws.{full-groups, block-set, part-cells, part-heaped, part-next, part-room}
 use Rattle.packing.proofs.making.pack_part.Statement.{statement}
 use Rattle.packing.proofs.making.pack_part.Tie as tie
 

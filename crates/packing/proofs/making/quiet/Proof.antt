@@ -4,7 +4,7 @@ use Prim.Native.Nat.{_+_, _-_, _*_}
 use native.Mathlib.Omega.{arith}
 use borrow.Author.Needs.{needs}
 use borrow.Author.Tests.{eqb-true}
-use Rattle.packing.proofs.Stores.{false-absurd}
+use Rattle.packing.proofs.StoreLaws.{false-absurd}
 use Rattle.packing.proofs.making.quiet.Statement.{statement}
 use Rattle.packing.proofs.making.quiet.Tie as tie
 

@@ -1,6 +1,6 @@
 -- `shuffle` exchanges three times; that this is the order of the cells of a tree is `shuffle-law`, over a table of the 64 places. Assumes nothing.
 use native.Mathlib.Omega.{arith}
-use Rattle.packing.proofs.Words.{apart-first, apart-second, apart-third, shuffle-law}
+use Rattle.packing.proofs.WordLaws.{apart-first, apart-second, apart-third, shuffle-law}
 use Rattle.packing.proofs.making.shuffle.Statement.{statement}
 use Rattle.packing.proofs.making.shuffle.Tie as tie
 

@@ -7,7 +7,7 @@ use borrow.Author.Needs.{needs}
 use lib.ListN.{length}
 use Rattle.k2.specs.Bits.{bitAt}
 use Rattle.packing.specs.Image.{Squeezing}
-use Rattle.packing.proofs.Squeezes.{squeeze-start, squeeze-quiet, squeeze-end}
+use Rattle.packing.proofs.SqueezeLaws.{squeeze-start, squeeze-quiet, squeeze-end}
 use Rattle.packing.proofs.making.squeeze.Statement.{statement}
 use Rattle.packing.proofs.making.squeeze.Tie as tie
 

@@ -10,7 +10,7 @@ use lib.Pow.{pow-mono, shr-le}
 use native.Mathlib.Nat.{lt-of-lt-of-le}
 use Rattle.k2.specs.WordLaws.{trailing-lt}
 use Rattle.packing.specs.Image.{Squeezing}
-use Rattle.packing.proofs.Squeezes.{Left, left-start, left-more, left-end, turns-less, turns-left}
+use Rattle.packing.proofs.SqueezeLaws.{Left, left-start, left-more, left-end, turns-less, turns-left}
 use Rattle.packing.proofs.making.squeeze_word.Statement.{statement}
 use Rattle.packing.proofs.making.squeeze_word.Tie as tie
 

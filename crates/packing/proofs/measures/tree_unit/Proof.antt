@@ -5,7 +5,7 @@ use native.Mathlib.Omega.{arith}
 use borrow.Author.Needs.{needs}
 use Rattle.k2.specs.Heap.{fullSize}
 use Rattle.k2.specs.SizeLaws.{treeUnit-size}
-use Rattle.packing.proofs.Sizes.{size-some}
+use Rattle.packing.proofs.SizeLaws.{size-some}
 use Rattle.packing.proofs.measures.tree_unit.Statement.{statement}
 use Rattle.packing.proofs.measures.tree_unit.Tie as tie
 

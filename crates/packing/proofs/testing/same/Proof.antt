@@ -6,7 +6,7 @@ use borrow.Author.Count.{below-more}
 use lib.ListN.{length, getD, take, length-take}
 use mathlib.Core.List.{List}
 use lib.Seq.{ext-getD, getD-take}
-use Rattle.packing.proofs.Stores.{false-absurd}
+use Rattle.packing.proofs.StoreLaws.{false-absurd}
 use Rattle.packing.proofs.testing.same.Statement.{statement}
 use Rattle.packing.proofs.testing.same.Tie as tie
 

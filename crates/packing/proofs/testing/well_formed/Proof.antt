@@ -11,7 +11,7 @@ use Rattle.k2.specs.SizeLaws.{treeWords-most}
 use Rattle.bits.specs.BitSetLaws.{bits-none}
 use Rattle.rows.specs.Rows.{flat, noPairs}
 use Rattle.rows.specs.RowLaws.{flat-none, union-none}
-use Rattle.packing.proofs.Stores.{false-absurd, nil-of}
+use Rattle.packing.proofs.StoreLaws.{false-absurd, nil-of}
 use Rattle.packing.proofs.testing.well_formed.Statement.{statement}
 use Rattle.packing.proofs.testing.well_formed.Tie as tie
 

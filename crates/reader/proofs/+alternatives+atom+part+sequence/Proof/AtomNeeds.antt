@@ -7,7 +7,7 @@ use borrow.Author.Needs.{needs}
 use Rattle.paths.specs.Grammar.{open-group}
 use Rattle.paths.specs.Descent.{firstByte, readAtom}
 use Rattle.reader.specs.Progress.{Stands}
-use Rattle.reader.proofs.Steps.{there, group-is, read-as, asks-next-byte, fits-after, room-for-symbol}
+use Rattle.reader.proofs.StepLaws.{there, group-is, read-as, asks-next-byte, fits-after, room-for-symbol}
 use Rattle.reader.proofs.+alternatives+atom+part+sequence.Proof.Ranks.{atom-at, alternatives-below}
 use Rattle.reader.proofs.alternatives.Reads as alternatives
 use Rattle.reader.proofs.atom.Reads as atom

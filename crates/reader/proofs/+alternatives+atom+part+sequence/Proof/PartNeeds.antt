@@ -7,7 +7,7 @@ use borrow.Author.Needs.{needs}
 use Rattle.paths.specs.Grammar.{hat}
 use Rattle.paths.specs.Descent.{got, firstByte, then, readMark, readAtom}
 use Rattle.reader.specs.Progress.{Done}
-use Rattle.reader.proofs.Steps.{there, hat-is, plain-is, read-as, marks, inverts, asks-next-byte, room-for-mark, room-for-hat}
+use Rattle.reader.proofs.StepLaws.{there, hat-is, plain-is, read-as, marks, inverts, asks-next-byte, room-for-mark, room-for-hat}
 use Rattle.reader.proofs.+alternatives+atom+part+sequence.Proof.Ranks.{part-at, atom-below}
 use Rattle.reader.proofs.part.Reads as part
 use Rattle.reader.proofs.atom.Reads as atom

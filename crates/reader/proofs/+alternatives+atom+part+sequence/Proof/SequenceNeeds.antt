@@ -1,12 +1,12 @@
--- The needs of `sequence`, a list of parts with / between them: each by a law of `Joining`. The loop's invariant is `Looped`; the measure is the
+-- The needs of `sequence`, a list of parts with / between them: each by a law of `JoinLaws`. The loop's invariant is `Looped`; the measure is the
 -- bytes left. Each turn reads the / and the part after it, and joins the two. Assumes nothing.
 use mathlib.Core.Path.{refl, sym, _∙_}
 use Prim.Native.Nat.{ℕ}
 use native.Mathlib.Omega.{arith}
 use borrow.Author.Needs.{needs}
 use Rattle.reader.specs.Progress.{of-parts, bytesLeft}
-use Rattle.reader.proofs.Steps.{asks-kept}
-use Rattle.reader.proofs.Joining.{Looped, looped, looped-all, Turn, ahead, asks-next, room, falls, again}
+use Rattle.reader.proofs.StepLaws.{asks-kept}
+use Rattle.reader.proofs.JoinLaws.{Looped, looped, looped-all, Turn, ahead, asks-next, room, falls, again}
 use Rattle.reader.proofs.+alternatives+atom+part+sequence.Proof.Ranks.{sequence-at, part-below}
 use Rattle.reader.proofs.sequence.Reads as sequence
 use Rattle.reader.proofs.part.Reads as part

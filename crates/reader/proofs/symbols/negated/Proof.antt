@@ -9,7 +9,7 @@ use Rattle.paths.specs.Grammar.{open-group}
 use Rattle.paths.specs.Descent.{firstByte}
 use Rattle.reader.specs.Code.{label-sets}
 use Rattle.reader.specs.Progress.{MemberAt}
-use Rattle.reader.proofs.Steps.{there}
+use Rattle.reader.proofs.StepLaws.{there}
 use Rattle.reader.proofs.SymbolLaws.{marks-none, member-of, negated-set, negated-member, negated-none}
 use Rattle.reader.proofs.symbols.negated.Statement.{statement}
 use Rattle.reader.proofs.symbols.negated.Tie as tie

@@ -9,7 +9,7 @@ use Rattle.paths.specs.Grammar.{bar, close-group}
 use Rattle.paths.specs.Descent.{firstByte}
 use Rattle.reader.specs.Code.{label-sets}
 use Rattle.reader.specs.Progress.{MemberAt, missing}
-use Rattle.reader.proofs.Steps.{there}
+use Rattle.reader.proofs.StepLaws.{there}
 use Rattle.reader.proofs.SymbolLaws.{Setting, set-starts, set-fails, set-reaches, set-again, set-ends, set-other}
 use Rattle.reader.proofs.symbols.set.Statement.{statement}
 use Rattle.reader.proofs.symbols.set.Tie as tie

@@ -6,7 +6,7 @@ use lib.ListN.{length, drop}
 use borrow.Author.Needs.{needs}
 use Rattle.paths.specs.Grammar.{bang}
 use Rattle.paths.specs.Descent.{firstByte}
-use Rattle.reader.proofs.Steps.{there}
+use Rattle.reader.proofs.StepLaws.{there}
 use Rattle.reader.proofs.SymbolLaws.{symbol-letter, symbol-none, symbol-negated}
 use Rattle.reader.proofs.symbols.symbol_at.Statement.{statement}
 use Rattle.reader.proofs.symbols.symbol_at.Tie as tie

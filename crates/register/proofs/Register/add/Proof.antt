@@ -16,8 +16,8 @@ use Rattle.register.specs.Packed.{heldWord}
 use Rattle.register.specs.Representation.{packedOf}
 use Rattle.register.specs.Inner.{Checks}
 use Rattle.register.specs.declared.LinkCheck.the-variants.{Word, Fault}
-use Rattle.register.proofs.Showing.{packedCauses, packedEdit}
-use Rattle.register.proofs.Stepping.{refuse, refuse-ranged, kept-room, accept, add-cause, add-stop}
+use Rattle.register.proofs.SheetLaws.{packedCauses, packedEdit}
+use Rattle.register.proofs.StepLaws.{refuse, refuse-ranged, kept-room, accept, add-cause, add-stop}
 use Rattle.register.proofs.Register.add.Statement.{statement}
 use Rattle.register.proofs.Register.add.Tie as tie
 

@@ -10,8 +10,8 @@ use Rattle.book.specs.Book.{rank}
 use Rattle.book.specs.RankLaws.{rank-le}
 use Rattle.register.specs.Counters.{InRange}
 use Rattle.register.specs.Closing.{inUse, Small}
-use Rattle.register.proofs.Stepping.{outside, inside}
-use Rattle.register.proofs.Renumbering.{ranked-small, links-closed, close-none, close-short, closes-refused, closes-foreign, closes-accepted}
+use Rattle.register.proofs.StepLaws.{outside, inside}
+use Rattle.register.proofs.ClosingLaws.{ranked-small, links-closed, close-none, close-short, closes-refused, closes-foreign, closes-accepted}
 use Rattle.register.proofs.Register.close_up.Statement.{statement}
 use Rattle.register.proofs.Register.close_up.Tie as tie
 

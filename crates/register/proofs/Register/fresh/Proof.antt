@@ -3,7 +3,7 @@ use borrow.Author.Needs.{needs}
 use borrow.Author.Tests.{lt-ltb, le-ltb}
 use Rattle.book.specs.Causes.{number, firstNumber}
 use Rattle.book.specs.Book.{freshAnswer}
-use Rattle.register.proofs.Stepping.{opens, not-opens}
+use Rattle.register.proofs.StepLaws.{opens, not-opens}
 use Rattle.register.proofs.Register.fresh.Statement.{statement}
 use Rattle.register.proofs.Register.fresh.Tie as tie
 

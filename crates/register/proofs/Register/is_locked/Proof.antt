@@ -8,7 +8,7 @@ use borrow.Author.Needs.{needs}
 use Rattle.register.specs.Marks.{freeMark, lockMark}
 use Rattle.register.specs.MarkLaws.{shows-locked}
 use Rattle.register.specs.Counters.{InRange}
-use Rattle.register.proofs.Stepping.{outside, inside}
+use Rattle.register.proofs.StepLaws.{outside, inside}
 use Rattle.register.proofs.Register.is_locked.Statement.{statement}
 use Rattle.register.proofs.Register.is_locked.Tie as tie
 

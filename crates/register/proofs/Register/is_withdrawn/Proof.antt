@@ -8,7 +8,7 @@ use borrow.Author.Needs.{needs}
 use Rattle.register.specs.Marks.{freeMark, withdrawnMark}
 use Rattle.register.specs.MarkLaws.{shows-withdrawn}
 use Rattle.register.specs.Counters.{InRange}
-use Rattle.register.proofs.Stepping.{outside, inside}
+use Rattle.register.proofs.StepLaws.{outside, inside}
 use Rattle.register.proofs.Register.is_withdrawn.Statement.{statement}
 use Rattle.register.proofs.Register.is_withdrawn.Tie as tie
 

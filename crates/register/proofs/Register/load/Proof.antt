@@ -5,7 +5,7 @@ use native.Mathlib.Omega.{arith}
 use lib.ListN.{take, drop, replicate, length-replicate}
 use borrow.Author.Tests.{not-true, not-false}
 use Rattle.register.specs.Inner.{Formed}
-use Rattle.register.proofs.Keeping.{copied-over, load-refused, load-made}
+use Rattle.register.proofs.KeepLaws.{copied-over, load-refused, load-made}
 use Rattle.register.specs.WordLaws.{part-long, loaded}
 use borrow.Author.Needs.{needs}
 use Rattle.register.proofs.Register.load.Statement.{statement}

@@ -5,7 +5,7 @@ use lib.ListN.{length-replicate}
 use Rattle.book.specs.Causes.{maxRecords}
 use Rattle.register.specs.Marks.{freeMark}
 use Rattle.register.specs.MarkLaws.{shows-locked, shows-withdrawn}
-use Rattle.register.proofs.Stepping.{outside, inside}
+use Rattle.register.proofs.StepLaws.{outside, inside}
 use Rattle.register.proofs.Register.marks.Statement.{statement}
 use Rattle.register.proofs.Register.marks.Tie as tie
 

@@ -13,8 +13,8 @@ use Rattle.register.specs.Packed.{heldWord}
 use Rattle.register.specs.Representation.{packedOf}
 use Rattle.register.specs.Inner.{Checks}
 use Rattle.register.specs.declared.LinkCheck.the-variants.{Word, Fault}
-use Rattle.register.proofs.Showing.{packedCauses, packedEdit}
-use Rattle.register.proofs.Stepping.{refuse, refuse-ranged, kept-room, accept, remove-cause, remove-stop, link-proper}
+use Rattle.register.proofs.SheetLaws.{packedCauses, packedEdit}
+use Rattle.register.proofs.StepLaws.{refuse, refuse-ranged, kept-room, accept, remove-cause, remove-stop, link-proper}
 use Rattle.register.proofs.Register.remove.Statement.{statement}
 use Rattle.register.proofs.Register.remove.Tie as tie
 

@@ -8,7 +8,7 @@ use borrow.Author.Tests.{eq-eqb, ne-eqb}
 use Rattle.book.specs.Causes.{number}
 use Rattle.register.specs.History.{wordCall}
 use Rattle.register.specs.EntryLaws.{entry-call, entry-none}
-use Rattle.register.proofs.Replaying.{entry-closes, called, uncalled}
+use Rattle.register.proofs.ReplayLaws.{entry-closes, called, uncalled}
 use Rattle.register.proofs.Register.step.Statement.{statement}
 use Rattle.register.proofs.Register.step.Tie as tie
 

@@ -6,8 +6,8 @@ use native.Mathlib.Omega.{arith}
 use borrow.Author.Tests.{not-true, not-false}
 use Rattle.register.specs.Marks.{Marked}
 use Rattle.register.specs.Counters.{InRange}
-use Rattle.register.proofs.Stepping.{outside, inside}
-use Rattle.register.proofs.Keeping.{stored, store-refused}
+use Rattle.register.proofs.StepLaws.{outside, inside}
+use Rattle.register.proofs.KeepLaws.{stored, store-refused}
 use borrow.Author.Needs.{needs}
 use Rattle.register.proofs.Register.store.Statement.{statement}
 use Rattle.register.proofs.Register.store.Tie as tie

@@ -9,8 +9,8 @@ use Rattle.book.specs.Causes.{no-record, withdrawn-record, missing, number, fir
 use Rattle.book.specs.Book.{unlock}
 use Rattle.register.specs.Packed.{heldWord}
 use Rattle.register.specs.Counters.{InRange}
-use Rattle.register.proofs.Showing.{packedCauses, packedEdit}
-use Rattle.register.proofs.Stepping.{outside, inside, refuse-foreign, refuse-ranged, kept-room, accept}
+use Rattle.register.proofs.SheetLaws.{packedCauses, packedEdit}
+use Rattle.register.proofs.StepLaws.{outside, inside, refuse-foreign, refuse-ranged, kept-room, accept}
 use Rattle.register.proofs.Register.unlock.Statement.{statement}
 use Rattle.register.proofs.Register.unlock.Tie as tie
 

@@ -9,8 +9,8 @@ use Rattle.book.specs.Causes.{no-record, locked-end, already, touched-record, n
 use Rattle.book.specs.Book.{withdraw}
 use Rattle.register.specs.Packed.{heldWord}
 use Rattle.register.specs.Counters.{InRange}
-use Rattle.register.proofs.Showing.{packedCauses, packedEdit}
-use Rattle.register.proofs.Stepping.{outside, inside, refuse-foreign, refuse-ranged, kept-room, accept}
+use Rattle.register.proofs.SheetLaws.{packedCauses, packedEdit}
+use Rattle.register.proofs.StepLaws.{outside, inside, refuse-foreign, refuse-ranged, kept-room, accept}
 use Rattle.register.proofs.Register.withdraw.Statement.{statement}
 use Rattle.register.proofs.Register.withdraw.Tie as tie
 

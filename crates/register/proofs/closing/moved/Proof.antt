@@ -8,7 +8,7 @@ use lib.ListN.{length, getD, replicate, length-set, getD-replicate, List·getD-e
 use native.Mathlib.Decide.{decLt}
 use Rattle.register.specs.Marks.{freeMark}
 use Rattle.register.specs.Closing.{Moved}
-use Rattle.register.proofs.Renumbering.{moved-none, moved-other, moved-lock}
+use Rattle.register.proofs.ClosingLaws.{moved-none, moved-other, moved-lock}
 use Rattle.register.proofs.closing.moved.Statement.{statement}
 use Rattle.register.proofs.closing.moved.Tie as tie
 

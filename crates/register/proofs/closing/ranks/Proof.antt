@@ -7,7 +7,7 @@ use lib.ListN.{length, length-set, replicate}
 use Rattle.book.specs.Book.{rank}
 use Rattle.book.specs.RankLaws.{rank-le}
 use Rattle.register.specs.Closing.{inUse, newOf}
-use Rattle.register.proofs.Renumbering.{ranked-more, rank-in-use, rank-withdrawn}
+use Rattle.register.proofs.ClosingLaws.{ranked-more, rank-in-use, rank-withdrawn}
 use Rattle.register.proofs.closing.ranks.Statement.{statement}
 use Rattle.register.proofs.closing.ranks.Tie as tie
 

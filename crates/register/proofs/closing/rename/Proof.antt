@@ -6,7 +6,7 @@ use Prim.Native.Nat.{ℕ, _-_, _≤_}
 use native.Mathlib.Omega.{arith}
 use lib.ListN.{length, take, drop, set, length-set}
 use Rattle.register.specs.Closing.{newOf, renamedWord}
-use Rattle.register.proofs.Renumbering.{renamed-more}
+use Rattle.register.proofs.ClosingLaws.{renamed-more}
 use Rattle.register.proofs.closing.rename.Statement.{statement}
 use Rattle.register.proofs.closing.rename.Tie as tie
 

@@ -13,7 +13,7 @@ use Rattle.book.specs.Book.{rank, noNumber, newNumbers}
 use Rattle.book.specs.RankLaws.{rank-le}
 use Rattle.register.specs.Marks.{withdrawnMark}
 use Rattle.register.specs.Closing.{inUse}
-use Rattle.register.proofs.Renumbering.{told-more, told-all}
+use Rattle.register.proofs.ClosingLaws.{told-more, told-all}
 use Rattle.register.proofs.closing.tell.Statement.{statement}
 use Rattle.register.proofs.closing.tell.Tie as tie
 

@@ -9,7 +9,7 @@ use Rattle.book.specs.BookLaws.{first-caused}
 use Rattle.book.specs.Book.{Link}
 use Rattle.register.specs.Counters.{Ranged}
 use Rattle.register.specs.Inner.{linkCauses}
-use Rattle.register.proofs.Stepping.{link-proper}
+use Rattle.register.proofs.StepLaws.{link-proper}
 use Rattle.register.proofs.edits.check_link.Statement.{statement}
 use Rattle.register.proofs.edits.check_link.Tie as tie
 

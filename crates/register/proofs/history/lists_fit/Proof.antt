@@ -10,7 +10,7 @@ use lib.ListN.{length as size, take}
 use lib.Seq.{take-all}
 use Rattle.book.specs.Basics.{tally}
 use Rattle.register.specs.History.{callsOf, closings}
-use Rattle.register.proofs.Replaying.{closings-turn, closings-part}
+use Rattle.register.proofs.ReplayLaws.{closings-turn, closings-part}
 use Rattle.register.proofs.history.lists_fit.Statement.{statement}
 use Rattle.register.proofs.history.lists_fit.Tie as tie
 

@@ -19,8 +19,8 @@ use Rattle.register.specs.Calls.{answerOf, answerNumber}
 use Rattle.register.specs.History.{Lent, wordCall, entryNumber, wordAnswers, entryCalls, callsOf, closings, laid}
 use Rattle.register.specs.HistoryLaws.{number-answer, represents-sound}
 use Rattle.register.specs.LaidLaws.{entry-answers, entry-follows, entry-given}
-use Rattle.register.proofs.Replaying.{replay-size, replay-short, replay-few, replay-free, replay-refused, after-turn, told-turn, closings-turn}
-use Rattle.register.proofs.Replaying.{closings-part, rest-whole, numbers-turn}
+use Rattle.register.proofs.ReplayLaws.{replay-size, replay-short, replay-few, replay-free, replay-refused, after-turn, told-turn, closings-turn}
+use Rattle.register.proofs.ReplayLaws.{closings-part, rest-whole, numbers-turn}
 use Rattle.register.proofs.history.replay.Statement.{statement}
 use Rattle.register.proofs.history.replay.Tie as tie
 

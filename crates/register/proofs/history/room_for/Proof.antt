@@ -3,7 +3,7 @@ use mathlib.Core.Path.{refl}
 use mathlib.Core.Bool.{true, false}
 use native.Mathlib.Omega.{arith}
 use borrow.Author.Tests.{lt-ltb, le-ltb}
-use Rattle.register.proofs.Replaying.{roomed}
+use Rattle.register.proofs.ReplayLaws.{roomed}
 use Rattle.register.proofs.history.room_for.Statement.{statement}
 use Rattle.register.proofs.history.room_for.Tie as tie
 

@@ -5,7 +5,7 @@ use mathlib.Core.Path.{_≡_, ap, sym}
 use native.Mathlib.Omega.{arith}
 use lib.ListN.{length, take, drop, length-drop}
 use lib.Seq.{take-all, length-take-le}
-use Rattle.register.proofs.Asking.{label-part}
+use Rattle.register.proofs.LookupLaws.{label-part}
 use borrow.Author.Needs.{needs}
 use Rattle.register.proofs.questions.label_part.Statement.{statement}
 use Rattle.register.proofs.questions.label_part.Tie as tie

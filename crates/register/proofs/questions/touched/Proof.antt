@@ -3,7 +3,7 @@ use mathlib.Core.Path.{sym}
 use borrow.Author.Needs.{needs}
 use lib.ListN.{take}
 use lib.Seq.{length-take-le}
-use Rattle.register.proofs.Asking.{touched-from, touched-second}
+use Rattle.register.proofs.LookupLaws.{touched-from, touched-second}
 use Rattle.register.proofs.questions.touched.Statement.{statement}
 use Rattle.register.proofs.questions.touched.Tie as tie
 

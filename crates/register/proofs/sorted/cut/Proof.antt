@@ -5,7 +5,7 @@ use mathlib.Core.Path.{_≡_, refl, _∙_}
 use native.Mathlib.Omega.{arith}
 use lib.ListN.{length, take, length-set}
 use Rattle.register.specs.Inner.{cutAt}
-use Rattle.register.proofs.Shift.{cut-turn, cut-last}
+use Rattle.register.proofs.ShiftLaws.{cut-turn, cut-last}
 use Rattle.register.proofs.sorted.cut.Statement.{statement}
 use Rattle.register.proofs.sorted.cut.Tie as tie
 

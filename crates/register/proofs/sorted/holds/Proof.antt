@@ -2,7 +2,7 @@
 -- at that place. Assumes nothing.
 use mathlib.Core.Path.{_∙_}
 use borrow.Author.Needs.{needs}
-use Rattle.register.proofs.Ascending.{seam-has}
+use Rattle.register.proofs.AscendingLaws.{seam-has}
 use Rattle.register.proofs.sorted.holds.Statement.{statement}
 use Rattle.register.proofs.sorted.holds.Tie as tie
 

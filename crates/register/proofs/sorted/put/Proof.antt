@@ -5,7 +5,7 @@ use mathlib.Core.Path.{_≡_, refl, _∙_}
 use native.Mathlib.Omega.{arith}
 use lib.ListN.{length, take, length-set}
 use Rattle.register.specs.Inner.{putAt}
-use Rattle.register.proofs.Shift.{put-turn, put-last}
+use Rattle.register.proofs.ShiftLaws.{put-turn, put-last}
 use Rattle.register.proofs.sorted.put.Statement.{statement}
 use Rattle.register.proofs.sorted.put.Tie as tie
 

@@ -2,7 +2,7 @@
 use mathlib.Core.Path.{refl}
 use native.Mathlib.Omega.{arith}
 use borrow.Author.Needs.{needs}
-use Rattle.register.proofs.Counting.{lowered, lowered-set}
+use Rattle.register.proofs.TotalLaws.{lowered, lowered-set}
 use Rattle.register.proofs.totals.lower.Statement.{statement}
 use Rattle.register.proofs.totals.lower.Tie as tie
 

@@ -2,7 +2,7 @@
 use mathlib.Core.Path.{refl}
 use native.Mathlib.Omega.{arith}
 use borrow.Author.Needs.{needs}
-use Rattle.register.proofs.Counting.{raised, raised-set}
+use Rattle.register.proofs.TotalLaws.{raised, raised-set}
 use Rattle.register.proofs.totals.raise.Statement.{statement}
 use Rattle.register.proofs.totals.raise.Tie as tie
 

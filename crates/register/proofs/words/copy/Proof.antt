@@ -1,7 +1,7 @@
 -- `register::words::copy` writes word by word. The loop's invariant: the first i words are pasted into what was lent. The measure
 -- is the words left. Assumes nothing.
 use lib.Seq.{paste, paste-zero}
-use Rattle.register.proofs.Keeping.{copied-none, copied-more, copied-all}
+use Rattle.register.proofs.KeepLaws.{copied-none, copied-more, copied-all}
 use mathlib.Core.Path.{_≡_, refl}
 use Prim.Native.Nat.{_+_, _-_, _≤_}
 use native.Mathlib.Omega.{arith}

@@ -1,7 +1,7 @@
 -- `register::words::is_register` looks at the length, the counters and the marks in turn. Assumes nothing.
 use native.Mathlib.Omega.{arith}
 use borrow.Author.Tests.{not-true, not-false}
-use Rattle.register.proofs.Keeping.{tested-not, formed-by}
+use Rattle.register.proofs.KeepLaws.{tested-not, formed-by}
 use borrow.Author.Needs.{needs}
 use Rattle.register.proofs.words.is_register.Statement.{statement}
 use Rattle.register.proofs.words.is_register.Tie as tie

@@ -14,9 +14,9 @@ use Rattle.tree.specs.declared.operations.Operand.{Operand}
 use Rattle.tree.specs.declared.operations.Term.{Term}
 use Rattle.tree.specs.Inner.{outcome}
 use Rattle.tree.specs.Calls.{treeOfTwo}
-use Rattle.tree.proofs.Answers.{refuse, accept, met, formed-most}
-use Rattle.tree.proofs.Copies.{copied-two}
-use Rattle.tree.proofs.Ops.{two-lent, two-set}
+use Rattle.tree.proofs.AnswerLaws.{refuse, accept, met, formed-most}
+use Rattle.tree.proofs.CopyLaws.{copied-two}
+use Rattle.tree.proofs.OperationLaws.{two-lent, two-set}
 use Rattle.tree.proofs.calls.binary.Statement.{statement}
 use Rattle.tree.proofs.calls.binary.Tie as tie
 

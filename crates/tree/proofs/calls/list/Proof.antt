@@ -11,7 +11,7 @@ use Rattle.k2.specs.TreeSetLaws.{formed-set}
 use Rattle.k2.specs.SizeLaws.{treeUnit-most}
 use Rattle.tree.specs.Calls.{listOf}
 use Rattle.tree.specs.CallLaws.{one-more}
-use Rattle.tree.proofs.Answers.{as-good, refuse-list, accept-list, met, formed-most}
+use Rattle.tree.proofs.AnswerLaws.{as-good, refuse-list, accept-list, met, formed-most}
 use Rattle.tree.proofs.calls.list.Statement.{statement}
 use Rattle.tree.proofs.calls.list.Tie as tie
 

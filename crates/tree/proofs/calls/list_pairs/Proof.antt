@@ -2,7 +2,7 @@
 use native.Mathlib.Omega.{arith}
 use borrow.Author.Needs.{needs}
 use Rattle.rows.specs.Rows.{noPairs}
-use Rattle.tree.proofs.Ops.{rows-none, from-none, set-shown}
+use Rattle.tree.proofs.OperationLaws.{rows-none, from-none, set-shown}
 use Rattle.tree.proofs.calls.list_pairs.Statement.{statement}
 use Rattle.tree.proofs.calls.list_pairs.Tie as tie
 

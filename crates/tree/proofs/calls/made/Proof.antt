@@ -3,7 +3,7 @@ use mathlib.Core.Path.{refl}
 use borrow.Author.Needs.{needs}
 use lib.ListN.{length}
 use Rattle.tree.specs.Inner.{Room}
-use Rattle.tree.proofs.Ops.{none-lent, none-tree-at}
+use Rattle.tree.proofs.OperationLaws.{none-lent, none-tree-at}
 use Rattle.tree.proofs.calls.made.Statement.{statement}
 use Rattle.tree.proofs.calls.made.Tie as tie
 

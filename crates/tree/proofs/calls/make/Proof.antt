@@ -16,8 +16,8 @@ use Rattle.tree.specs.declared.operations.Term.{Term}
 use Rattle.tree.specs.Inner.{LinksBelow}
 use Rattle.tree.specs.Calls.{treeOf}
 use Rattle.tree.specs.CallLaws.{none-more}
-use Rattle.tree.proofs.Answers.{as-good, refuse, accept, met}
-use Rattle.tree.proofs.Ops.{one-lent, one-set}
+use Rattle.tree.proofs.AnswerLaws.{as-good, refuse, accept, met}
+use Rattle.tree.proofs.OperationLaws.{one-lent, one-set}
 use Rattle.tree.proofs.calls.make.Statement.{statement}
 use Rattle.tree.proofs.calls.make.Tie as tie
 

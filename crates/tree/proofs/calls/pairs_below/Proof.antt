@@ -5,7 +5,7 @@ use Prim.Native.Nat.{ℕ, _-_, _/_, _%_, _≤_, _<_}
 use native.Mathlib.Omega.{arith}
 use borrow.Author.Count.{below-more}
 use lib.ListN.{length, getD}
-use Rattle.tree.proofs.Copies.{below-all, below-at, false-absurd}
+use Rattle.tree.proofs.CopyLaws.{below-all, below-at, false-absurd}
 use Rattle.tree.proofs.calls.pairs_below.Statement.{statement}
 use Rattle.tree.proofs.calls.pairs_below.Tie as tie
 

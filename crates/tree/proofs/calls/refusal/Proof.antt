@@ -8,7 +8,7 @@ use Rattle.book.specs.Causes.{maxRecords}
 use Rattle.k2.specs.TreeSets.{formed}
 use Rattle.tree.specs.Calls.{allBelow}
 use Rattle.tree.specs.CallLaws.{lent-size, lent-pairs, lent-trees, lent-work, lent-none}
-use Rattle.tree.proofs.Answers.{below-test, formed-test, first-bad, second-bad, both-good}
+use Rattle.tree.proofs.AnswerLaws.{below-test, formed-test, first-bad, second-bad, both-good}
 use Rattle.tree.proofs.calls.refusal.Statement.{statement}
 use Rattle.tree.proofs.calls.refusal.Tie as tie
 

@@ -5,7 +5,7 @@ use borrow.Author.Needs.{needs}
 use lib.ListN.{length-take}
 use Rattle.book.specs.Causes.{number}
 use Rattle.tree.specs.Settling.{too-long}
-use Rattle.tree.proofs.Copies.{settled}
+use Rattle.tree.proofs.CopyLaws.{settled}
 use Rattle.tree.proofs.calls.settle.Statement.{statement}
 use Rattle.tree.proofs.calls.settle.Tie as tie
 

@@ -18,9 +18,9 @@ use Rattle.tree.specs.Inner.{valued, outcome}
 use Rattle.tree.specs.InnerLaws.{valued-alone}
 use Rattle.tree.specs.Calls.{treeOfOne}
 use Rattle.tree.specs.CallLaws.{one-more}
-use Rattle.tree.proofs.Answers.{as-good, refuse, accept, met, formed-most}
-use Rattle.tree.proofs.Copies.{copied-one}
-use Rattle.tree.proofs.Ops.{one-lent, one-set}
+use Rattle.tree.proofs.AnswerLaws.{as-good, refuse, accept, met, formed-most}
+use Rattle.tree.proofs.CopyLaws.{copied-one}
+use Rattle.tree.proofs.OperationLaws.{one-lent, one-set}
 use Rattle.tree.proofs.calls.unary.Statement.{statement}
 use Rattle.tree.proofs.calls.unary.Tie as tie
 

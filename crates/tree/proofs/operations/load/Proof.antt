@@ -4,7 +4,7 @@ use borrow.Author.Needs.{needs}
 use Rattle.k2.specs.PairSets.{union}
 use Rattle.rows.specs.Rows.{flat}
 use Rattle.packing.specs.Senses.{sensed}
-use Rattle.tree.proofs.Ops.{both-loaded}
+use Rattle.tree.proofs.OperationLaws.{both-loaded}
 use Rattle.tree.proofs.operations.load.Statement.{statement}
 use Rattle.tree.proofs.operations.load.Tie as tie
 

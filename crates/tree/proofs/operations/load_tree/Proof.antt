@@ -6,7 +6,7 @@ use borrow.Author.Needs.{needs}
 use lib.ListN.{length-take}
 use Rattle.k2.specs.SizeLaws.{treeUnit-most}
 use Rattle.rows.specs.Rows.{flat}
-use Rattle.tree.proofs.Ops.{no-tree}
+use Rattle.tree.proofs.OperationLaws.{no-tree}
 use Rattle.tree.proofs.operations.load_tree.Statement.{statement}
 use Rattle.tree.proofs.operations.load_tree.Tie as tie
 

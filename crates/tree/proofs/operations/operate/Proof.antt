@@ -8,8 +8,8 @@ use Rattle.k2.specs.BitLaws.{bit-lt}
 use Rattle.k2.specs.PairSets.{Cells}
 use Rattle.tree.specs.Inner.{Room, termSet}
 use Rattle.tree.specs.InnerLaws.{term-set}
-use Rattle.tree.proofs.Copies.{both-absurd}
-use Rattle.tree.proofs.Ops.{told-room, tree-at, pack-room}
+use Rattle.tree.proofs.CopyLaws.{both-absurd}
+use Rattle.tree.proofs.OperationLaws.{told-room, tree-at, pack-room}
 use Rattle.tree.proofs.operations.operate.Statement.{statement}
 use Rattle.tree.proofs.operations.operate.Tie as tie
 

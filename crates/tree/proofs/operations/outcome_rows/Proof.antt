@@ -8,8 +8,8 @@ use Rattle.k2.specs.PairSets.{Cells}
 use Rattle.rows.specs.Rows.{noPairs}
 use Rattle.tree.specs.Inner.{valued, Room}
 use Rattle.tree.specs.InnerLaws.{valued-set}
-use Rattle.tree.proofs.Copies.{both-absurd}
-use Rattle.tree.proofs.Ops.{from-none}
+use Rattle.tree.proofs.CopyLaws.{both-absurd}
+use Rattle.tree.proofs.OperationLaws.{from-none}
 use Rattle.tree.proofs.operations.outcome_rows.Statement.{statement}
 use Rattle.tree.proofs.operations.outcome_rows.Tie as tie
 

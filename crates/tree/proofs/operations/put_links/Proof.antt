@@ -4,7 +4,7 @@ use borrow.Author.Needs.{needs}
 use Rattle.k2.specs.PairSets.{Cells, union}
 use Rattle.rows.specs.Rows.{flat}
 use Rattle.rows.specs.RowLaws.{crossed-turned}
-use Rattle.tree.proofs.Ops.{no-letters}
+use Rattle.tree.proofs.OperationLaws.{no-letters}
 use Rattle.tree.proofs.operations.put_links.Statement.{statement}
 use Rattle.tree.proofs.operations.put_links.Tie as tie
 

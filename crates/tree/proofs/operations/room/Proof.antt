@@ -3,7 +3,7 @@ use Prim.Native.Nat.{_*_}
 use native.Mathlib.Omega.{arith}
 use borrow.Author.Needs.{needs}
 use borrow.Author.Tests.{leb-true, le-leb}
-use Rattle.tree.proofs.Copies.{false-absurd}
+use Rattle.tree.proofs.CopyLaws.{false-absurd}
 use Rattle.tree.proofs.operations.room.Statement.{statement}
 use Rattle.tree.proofs.operations.room.Tie as tie
 

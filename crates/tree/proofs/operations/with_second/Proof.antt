@@ -8,7 +8,7 @@ use Rattle.tree.specs.declared.operations.Operand.{Operand}
 use Rattle.tree.specs.declared.operations.Operation.the-variants.{Union, Closure, Optional, Star}
 use Rattle.tree.specs.Inner.{valued}
 use Rattle.tree.specs.InnerLaws.{valued-flipped, valued-set}
-use Rattle.tree.proofs.Ops.{rows-none, from-none, not-apart}
+use Rattle.tree.proofs.OperationLaws.{rows-none, from-none, not-apart}
 use Rattle.tree.proofs.operations.with_second.Statement.{statement}
 use Rattle.tree.proofs.operations.with_second.Tie as tie
 
