@@ -1,0 +1,58 @@
+#!/usr/bin/env python3
+"""on_terminal.py SHELL TYPED: runs the shell on a pseudo-terminal of 24 lines and 80 columns, types each line of the file TYPED once the prompt is
+there, then Ctrl-D, and prints what the terminal shows, echo and prompt included. The exit status is the shell's.
+on_terminal.py SHELL TYPED answers: only the answers go to the terminal; the file is the shell's standard input."""
+import fcntl
+import os
+import pty
+import select
+import struct
+import sys
+import termios
+
+PROMPT = b"dating> "
+WAIT = 20  # seconds for an answer
+END_OF_INPUT = b"\x04"
+
+
+def read_to(terminal, ending):
+    """What comes up to the ending, or up to the end if there is none."""
+    text = b""
+    while ending is None or not text.endswith(ending):
+        if not select.select([terminal], [], [], WAIT)[0]:
+            sys.exit(f"on_terminal.py: no answer in {WAIT} seconds after {text!r}")
+        try:
+            part = os.read(terminal, 65536)
+        except OSError:  # the other side is closed
+            part = b""
+        if not part:
+            if ending is None:
+                return text
+            sys.exit(f"on_terminal.py: the shell ended after {text!r}")
+        text += part
+    return text
+
+
+def main():
+    shell, typed, *answers_alone = sys.argv[1:]
+    with open(typed, "rb") as file:
+        lines = file.read().splitlines()
+    child, terminal = pty.fork()
+    if child == 0:
+        fcntl.ioctl(1, termios.TIOCSWINSZ, struct.pack("HHHH", 24, 80, 0, 0))
+        if answers_alone:
+            os.dup2(os.open(typed, os.O_RDONLY), 0)
+        os.execv(shell, [shell])
+    shown = b""
+    if not answers_alone:
+        shown += read_to(terminal, PROMPT)
+        for line in lines:
+            os.write(terminal, line + b"\n")
+            shown += read_to(terminal, b"\n" + PROMPT)
+        os.write(terminal, END_OF_INPUT)
+    shown += read_to(terminal, None)
+    sys.stdout.buffer.write(shown.replace(b"\r\n", b"\n"))
+    sys.exit(os.waitstatus_to_exitcode(os.waitpid(child, 0)[1]))
+
+
+main()

@@ -1,0 +1,93 @@
+#!/usr/bin/env python3
+"""sheets.py SHELL SHEET ..: types each sheet of bench/sheets into the shell, links, questions and edits, and holds the answers to those stored beside it:
+how many pairs or steps, and the checksum over them (bench/sheets/README.md), read back from what the shell prints."""
+import pathlib
+import subprocess
+import sys
+import time
+
+import answers
+
+MASK = 0xFFFFFFFF
+TIMEOUT = 120  # seconds
+
+
+def requests(sheet):
+    """The typed requests of a sheet, each with its index among the questions, or none."""
+    index = 0
+    for line in sheet.splitlines():
+        word, *rest = line.split(" ")
+        if word == "n":
+            yield None, f"open {rest[0]}"
+        elif word == "link":
+            yield None, "add " + " ".join(rest)
+        elif word == "edit":
+            yield None, "add " + " ".join(rest)
+            yield None, "remove " + " ".join(rest)
+            index += 1
+        elif word in ("pairs", "chain"):
+            yield index, " ".join([word] + rest[1:])
+            index += 1
+        else:
+            sys.exit(f"sheets.py: {line} is no line of a sheet")
+
+
+def mix(word):
+    word = word * 0x9E3779B1 & MASK
+    word ^= word >> 15
+    word = word * 0x85EBCA77 & MASK
+    return word ^ word >> 13
+
+
+def result(question, lines):
+    """The count and the checksum of an answer."""
+    word, *rest = question.split(" ")
+    if word == "pairs":
+        pairs = answers.pairs(next(lines), lines)
+        return f"{len(pairs)} {sum(mix(first * 1024 + second) for first, second in pairs) & MASK:08x}"
+    steps = answers.chain(next(lines), lines, (int(rest[0]), int(rest[1])))
+    if steps is None:
+        return "none -"
+    checksum = 0
+    for letter, sense, reached in steps:
+        step = ((ord(letter) - ord("a")) * 2 + (sense == "-")) * 1024 + reached
+        checksum = (checksum * 31 + step + 1) & MASK
+    return f"{len(steps)} {checksum:08x}"
+
+
+def check(shell, path):
+    typed = list(requests(path.read_text()))
+    stored = path.with_suffix(".answers").read_text().splitlines()
+    text = "".join(line + "\n" for _, line in typed)
+    begun = time.monotonic()
+    run = subprocess.run([shell], input=text, capture_output=True, text=True, timeout=TIMEOUT)
+    seconds = time.monotonic() - begun
+    if run.returncode != 0 or run.stderr:
+        sys.exit(f"sheets.py: {path.name}: the shell ended with status {run.returncode}: {run.stderr}")
+    lines = iter(run.stdout.splitlines())
+    found, edits = [], {}
+    for index, line in typed:
+        if index is None:
+            edit = next(lines)
+            edits[edit] = edits.get(edit, 0) + 1
+        else:
+            found.append(f"{line.split(' ')[0]} {index} {result(line, lines)}")
+    left = next(lines, None)
+    if left is not None:
+        sys.exit(f"sheets.py: {path.name}: {left} answers nothing")
+    for one, other in zip(found, stored, strict=True):
+        if one != other:
+            sys.exit(f"sheets.py: {path.name}: {one}, stored is {other}")
+    print(f"sheet {path.stem}: {len(typed)} typed requests, {len(found)} answers as stored, in {seconds:.1f} seconds")
+    for edit, times in sorted(edits.items()):
+        if edit != "ok":
+            print(f"  {times} times {edit}")
+
+
+def main():
+    shell, *sheets = sys.argv[1:]
+    for sheet in sheets:
+        check(shell, pathlib.Path(sheet))
+
+
+main()
