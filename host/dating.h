@@ -4,25 +4,26 @@
  * contents, and ends. What is written (state, list, out, tree, work) must not overlap what else is lent.
  *
  * A uint32_t answer is 0, or the number of a refusal, unless it says otherwise. A uint64_t answer is a total, or the number of words of the answer;
- * DATING_NO_CHAIN, or DATING_CANNOT_HOLD; DATING_LOOP plus the number of steps of a loop; or DATING_REFUSED plus the number of a refusal. Of links and pairs (dating_links,
- * dating_pairs, dating_pairs_by_rows, dating_tree_list, dating_preview) it is the total, of which the first min(total, list_len) are written; any other answer that is longer than
- * its list is refused. A refused call leaves state and list as they were; words of a list past the answer, and of a state past DATING_STATE_WORDS, are never
- * touched; work may hold anything after a call. The numbers:
+ * DATING_NO_CHAIN, or DATING_CANNOT_HOLD; DATING_LOOP plus the number of steps of a loop; or DATING_REFUSED plus the number of a refusal. Of links and
+ * pairs (dating_links, dating_pairs, dating_tree_list, dating_preview, dating_pairs_by_rows) it is the total, of which the first min(total, list_len) are
+ * written; any other answer that is longer than its list is refused. A refused call leaves state and list as they were; words of a list past the answer,
+ * and of a state past DATING_STATE_WORDS, are never touched; work may hold anything after a call. The numbers:
  *
- *    1  n outside 1 to 1,024                       10  expression over 256 bytes, 63 letters or 8 deep
- *    2  record not below n                         11  lent tree not well formed
- *    3  label above 25                             12  work (or state) shorter than stated
- *    4  an end of the link, or the record to       13  chain, loop, tree, numbers or pages longer than the space for them
- *       withdraw, is locked                        14  not the pages of the expression (in programs: frame broken)
- *    5  link present, or record locked or          15  kind unknown
- *       withdrawn, already                         16  the words are not those of a register
- *    6  link absent, record not locked, or         17  a link touches the record to withdraw
- *       record to reinstate in use                 18  a withdrawn record named in add, remove, lock or
- *    7  4,096 links present                            unlock, as base or in a tie
- *    8  no edit held that could be undone          19  a tie outside -20,000 to 20,000, with least
- *                                                      above most, or beyond the 1,024th
- *                                                  20  anchors out of order or repeated
- *    9  expression outside the grammar             21  no record in use
+ *    1  n outside 1 to 1,024                            12  work (or state) shorter than stated
+ *    2  record not below n                              13  chain, loop, tree, numbers, records, offsets or pages
+ *    3  label above 25                                      longer than the space for them
+ *    4  an end of the link, or the record to            14  not the pages of the expression (in programs: frame
+ *       withdraw, is locked                                 broken)
+ *    5  link present, or record locked or               15  kind unknown
+ *       withdrawn, already                              16  the words are not those of a register
+ *    6  link absent, record not locked, or record       17  a link touches the record to withdraw
+ *       to reinstate in use                             18  a withdrawn record named in add, remove, lock or
+ *    7  4,096 links present                                 unlock, as base or in a tie
+ *    8  no edit held that could be undone               19  a tie outside -20,000 to 20,000, with least above
+ *    9  expression outside the grammar                      most, or beyond the 1,024th
+ *   10  expression over 256 bytes, 63 letters or        20  anchors out of order or repeated
+ *       8 deep                                          21  no record in use
+ *   11  lent tree not well formed
  *
  * tests/declarations.rs holds this file to the Rattle source.
  */

@@ -26,6 +26,13 @@ impl Register {
     }
 
     /// The same by the engine on k2-trees.
+    ///
+    /// ```
+    /// # let mut register = dating::Register::fresh(2)?;
+    /// register.add(0, 'a', 1)?;
+    /// assert_eq!(register.pairs_by_trees("^a")?.collect::<Vec<_>>(), [(1, 0)]);
+    /// # Ok::<(), dating::Refusal>(())
+    /// ```
     pub fn pairs_by_trees(&mut self, expression: impl AsRef<[u8]>) -> Result<Pairs<'_>, Refusal> {
         let n = self.size();
         grow(&mut self.work, tree_work(n));
@@ -35,6 +42,14 @@ impl Register {
     }
 
     /// The pairs by rows in lent space: work of [`rows_work`] words, and a list as [`pairs_in`](Register::pairs_in) takes it.
+    ///
+    /// ```
+    /// # let mut register = dating::Register::fresh(2)?;
+    /// register.add(0, 'a', 1)?;
+    /// let (mut work, mut list) = (vec![0; dating::rows_work(2)], [0; 4]);
+    /// assert_eq!(register.pairs_by_rows_in("a|^a", &mut work, &mut list)?.collect::<Vec<_>>(), [(0, 1), (1, 0)]);
+    /// # Ok::<(), dating::Refusal>(())
+    /// ```
     pub fn pairs_by_rows_in<'a>(
         &self,
         expression: impl AsRef<[u8]>,

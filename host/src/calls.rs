@@ -1,11 +1,75 @@
 //! The engine's functions as they are exported from `crates/host`: numbers and slices.
 //!
 //! A `u32` answer is 0 or the number of a refusal. A `u64` answer is a total, or the number of words of the answer; [`NO_CHAIN`] if there is no
-//! chain, [`CANNOT_HOLD`] if ties cannot all hold; [`LOOP`] + the number of steps of a loop; [`REFUSED`] + the number of a refusal. Links and pairs may be more than the list takes: the number is the total, of which the
-//! first min(total, list.len()) are written. A refused call leaves the state and the list as they were, and words of a list past
-//! the answer are never touched; work may hold anything after a call. A state may be longer than a register's words: its front is the
-//! register, and no call touches the words past it. Words that are no register's (too few, a counter out of range, a mark above 2) are
-//! refused with 16.
+//! chain, [`CANNOT_HOLD`] if ties cannot all hold; [`LOOP`] + the number of steps of a loop; [`REFUSED`] + the number of a refusal. Links and
+//! pairs may be more than the list takes: the number is the total, of which the first min(total, list.len()) are written. A refused call leaves
+//! the state and the list as they were, and words of a list past the answer are never touched; work may hold anything after a call. A state may
+//! be longer than a register's words: its front is the register, and no call touches the words past it. Words that are no register's (too few, a
+//! counter out of range, a mark above 2) are refused with 16.
+//!
+//! Edits, and what is read of a register:
+//!
+//! ```
+//! use dating::calls::*;
+//!
+//! let mut state = vec![0; STATE_WORDS];
+//! assert_eq!((fresh(1025, &mut state), fresh(4, &mut state)), (1, 0));
+//! assert_eq!((add(&mut state, 0, 2, 1), add(&mut state, 1, 0, 2), add(&mut state, 0, 2, 1)), (0, 0, 5));
+//! assert_eq!((remove(&mut state, 1, 0, 2), remove(&mut state, 1, 0, 2)), (0, 6));
+//! assert_eq!((lock(&mut state, 2), withdraw(&mut state, 2), unlock(&mut state, 2)), (0, 4, 0));
+//! assert_eq!((withdraw(&mut state, 2), reinstate(&mut state, 2), withdraw(&mut state, 3)), (0, 0, 0));
+//! assert_eq!((size(&state), locked(&state, 2), withdrawn(&state, 3), total(&state, 2)), (4, 0, 1, 1));
+//! let mut list = [9; 3];
+//! assert_eq!((links(&state, &mut list), list), (1, [2 * 1024 * 1024 + 1, 9, 9]));
+//! let mut numbers = [9; 4];
+//! assert_eq!((close_up(&mut state, &mut numbers), numbers), (0, [0, 1, 2, NO_NUMBER]));
+//! assert_eq!((undo(&mut state), done(undo(&mut state))), (8, Err(dating::Refusal::NoneHeld)));
+//! ```
+//!
+//! Questions. The state has links a from 0 to 1 and from 1 to 2:
+//!
+//! ```
+//! use dating::{calls::*, chain_work, rows_work, support_work, tree_work, Tie};
+//!
+//! let mut state = vec![0; STATE_WORDS];
+//! fresh(3, &mut state);
+//! add(&mut state, 0, 0, 1);
+//! add(&mut state, 1, 0, 2);
+//! let (mut work, mut list) = (vec![0; support_work(3)], [9; 4]);
+//! assert_eq!((pairs(&state, b"a+", &mut work[..tree_work(3)], &mut list), list), (3, [1, 2, 1024 + 2, 9]));
+//! assert_eq!(pairs_by_rows(&state, b"a+", &mut work[..rows_work(3)], &mut []), 3);
+//! assert_eq!(preview(&state, 3, 0, 0, 1, b"a+", &mut work, &mut []), 1); // with the first link removed, which it is not
+//! assert_eq!((chain(&state, 0, 2, b"a+", &mut work[..chain_work(3)], &mut list), &list[..2]), (2, &[1, 2][..]));
+//! assert_eq!(told(chain(&state, 2, 0, b"a+", &mut work, &mut list)), Ok(None));
+//! assert_eq!((generations(&state, &[0], &mut work, &mut list), &list[..3]), (3, &[0, 1, 2][..]));
+//! assert_eq!(numbered(generations(&state, &[26], &mut work, &mut list)), Err(dating::Refusal::Label));
+//! assert_eq!((sole_support(&state, 1, b"a+", &[2], &mut work, &mut list), list[0]), (1, 0)); // 0 falls with 1
+//!
+//! let mut page = [0; 2 * 73];
+//! assert_eq!(pages(&state, b"a+", &mut work, &mut page), 2 * 73);
+//! assert_eq!((read_pages(b"a+", &page, &mut list), list), (3, [1, 2, 1024 + 2, 9]));
+//!
+//! let ties = [Tie { first: 0, second: 1, least: 5, most: 7 }];
+//! let (mut work, mut limits) = ([0; 192], [9; 6]);
+//! assert_eq!((offsets(&state, 0, &ties, &mut work, &mut limits), limits), (6, [0, 0, 5, 7, 1, 0])); // 2 is free
+//! ```
+//!
+//! Trees, of pairs below 2, each one square of four bits:
+//!
+//! ```
+//! use dating::{calls::*, tree_work};
+//!
+//! let (mut work, mut out, mut list) = (vec![0; tree_work(2)], [0], [0; 4]);
+//! assert_eq!((tree_make(2, &[1024, 1], &mut out, &mut work), out), (1, [0b0110]));
+//! assert_eq!((tree_list(2, &[0b0110], &mut list, &mut work), &list[..2]), (2, &[1, 1024][..]));
+//! assert_eq!((tree_union(2, &[0b0010], &[0b0100], &mut out, &mut work), out), (1, [0b0110]));
+//! assert_eq!((tree_intersection(2, &[0b0011], &[0b0010], &mut out, &mut work), out), (1, [0b0010]));
+//! assert_eq!((tree_difference(2, &[0b0011], &[0b0010], &mut out, &mut work), out), (1, [0b0001]));
+//! assert_eq!((tree_product(2, &[0b0010], 0, &[0b0010], 1, &mut out, &mut work), out), (1, [0b0001]));
+//! assert_eq!((tree_transpose(2, &[0b0010], &mut out, &mut work), out), (1, [0b0100]));
+//! assert_eq!((tree_closure(2, &[0b0110], &mut out, &mut work), out), (1, [0b1111]));
+//! assert_eq!(counted(tree_list(2, &[0], &mut list, &mut work)), Err(dating::Refusal::Tree));
+//! ```
 
 use crate::{Refusal, Tie};
 
@@ -65,7 +129,8 @@ pub fn numbered(answer: u64) -> Result<(bool, usize), Refusal> {
     }
 }
 
-/// Every refusal has the number of a cause: so it is proved of every call (`caused` of `register/Calls`, `pairs/Asking`, `chains/Replies`, `generations/Generating`, `support/Support`; `Totals` of `register/Questions`).
+/// Every refusal has the number of a cause: so it is proved of every call (`caused` of `register/Calls`, `pairs/Asking`, `chains/Replies`,
+/// `generations/Generating`, `support/Support`; `Totals` of `register/Questions`).
 fn refusal(number: u32) -> Refusal {
     Refusal::of(number).expect("a refusal has the number of a cause")
 }
@@ -276,31 +341,37 @@ pub fn fresh(n: u16, state: &mut [u32]) -> u32 {
     unsafe { dating_fresh(n, state.as_mut_ptr(), state.len()) }
 }
 
-/// 0, or the number of the refusal; so are all edits answered.
+/// Puts a link in: 0, or the number of the refusal; so are all edits answered.
 pub fn add(state: &mut [u32], from: u16, label: u8, to: u16) -> u32 {
     unsafe { dating_add(state.as_mut_ptr(), state.len(), from, label, to) }
 }
 
+/// Takes a link out.
 pub fn remove(state: &mut [u32], from: u16, label: u8, to: u16) -> u32 {
     unsafe { dating_remove(state.as_mut_ptr(), state.len(), from, label, to) }
 }
 
+/// Locks a record.
 pub fn lock(state: &mut [u32], record: u16) -> u32 {
     unsafe { dating_lock(state.as_mut_ptr(), state.len(), record) }
 }
 
+/// Takes the lock off.
 pub fn unlock(state: &mut [u32], record: u16) -> u32 {
     unsafe { dating_unlock(state.as_mut_ptr(), state.len(), record) }
 }
 
+/// Withdraws a record that no link touches and that is not locked.
 pub fn withdraw(state: &mut [u32], record: u16) -> u32 {
     unsafe { dating_withdraw(state.as_mut_ptr(), state.len(), record) }
 }
 
+/// Takes a withdrawn record into use again.
 pub fn reinstate(state: &mut [u32], record: u16) -> u32 {
     unsafe { dating_reinstate(state.as_mut_ptr(), state.len(), record) }
 }
 
+/// Takes back the latest held edit.
 pub fn undo(state: &mut [u32]) -> u32 {
     unsafe { dating_undo(state.as_mut_ptr(), state.len()) }
 }
@@ -374,12 +445,14 @@ pub fn tree_list(n: usize, tree: &[u64], list: &mut [u32], work: &mut [u64]) -> 
     unsafe { dating_tree_list(n, tree.as_ptr(), tree.len(), list.as_mut_ptr(), list.len(), work.as_mut_ptr(), work.len()) }
 }
 
+/// The pairs in either.
 pub fn tree_union(n: usize, a: &[u64], b: &[u64], out: &mut [u64], work: &mut [u64]) -> u64 {
     unsafe {
         dating_tree_union(n, a.as_ptr(), a.len(), b.as_ptr(), b.len(), out.as_mut_ptr(), out.len(), work.as_mut_ptr(), work.len())
     }
 }
 
+/// The pairs in both.
 pub fn tree_intersection(n: usize, a: &[u64], b: &[u64], out: &mut [u64], work: &mut [u64]) -> u64 {
     unsafe {
         dating_tree_intersection(
@@ -396,6 +469,7 @@ pub fn tree_intersection(n: usize, a: &[u64], b: &[u64], out: &mut [u64], work: 
     }
 }
 
+/// The pairs in the first and not in the second.
 pub fn tree_difference(n: usize, a: &[u64], b: &[u64], out: &mut [u64], work: &mut [u64]) -> u64 {
     unsafe {
         dating_tree_difference(
@@ -412,7 +486,7 @@ pub fn tree_difference(n: usize, a: &[u64], b: &[u64], out: &mut [u64], work: &m
     }
 }
 
-/// Each operand is read with its sense: 0 plain, any other inverted.
+/// The pairs joined through a record in the middle. Each operand is read with its sense: 0 plain, any other inverted.
 pub fn tree_product(n: usize, a: &[u64], a_sense: u8, b: &[u64], b_sense: u8, out: &mut [u64], work: &mut [u64]) -> u64 {
     unsafe {
         dating_tree_product(
@@ -431,10 +505,12 @@ pub fn tree_product(n: usize, a: &[u64], a_sense: u8, b: &[u64], b_sense: u8, ou
     }
 }
 
+/// Each pair exchanged.
 pub fn tree_transpose(n: usize, a: &[u64], out: &mut [u64], work: &mut [u64]) -> u64 {
     unsafe { dating_tree_transpose(n, a.as_ptr(), a.len(), out.as_mut_ptr(), out.len(), work.as_mut_ptr(), work.len()) }
 }
 
+/// The pairs joined by one or more, one after the other.
 pub fn tree_closure(n: usize, a: &[u64], out: &mut [u64], work: &mut [u64]) -> u64 {
     unsafe { dating_tree_closure(n, a.as_ptr(), a.len(), out.as_mut_ptr(), out.len(), work.as_mut_ptr(), work.len()) }
 }
@@ -467,7 +543,7 @@ pub fn close_up(state: &mut [u32], numbers: &mut [u16]) -> u32 {
     unsafe { dating_close_up(state.as_mut_ptr(), state.len(), numbers.as_mut_ptr(), numbers.len()) }
 }
 
-/// How many numbers; [`LOOP`] + the number of steps of the loop; [`REFUSED`] + the number of a refusal.
+/// The length of the longest run to each record in use, or the first loop: [`LOOP`] + its number of steps. Work: [`chain_work`](crate::chain_work).
 pub fn generations(state: &[u32], labels: &[u8], work: &mut [u64], list: &mut [u32]) -> u64 {
     unsafe {
         dating_generations(
@@ -483,6 +559,7 @@ pub fn generations(state: &[u32], labels: &[u8], work: &mut [u64], list: &mut [u
     }
 }
 
+/// The records that fall with the core, ascending. Work: [`support_work`](crate::support_work).
 pub fn sole_support(state: &[u32], core: u16, text: &[u8], anchors: &[u16], work: &mut [u64], list: &mut [u32]) -> u64 {
     unsafe {
         dating_sole_support(
@@ -539,7 +616,7 @@ pub fn pairs_by_rows(state: &[u32], text: &[u8], work: &mut [u64], list: &mut [u
     }
 }
 
-/// Two words to a record: the least and the most that it begins after the base, or 1 and 0 if it is free. Work of 64 × n words.
+/// Two words to a record: the least and the most that it begins after the base, or 1 and 0 if it is free. Work: [`offsets_work`](crate::offsets_work).
 pub fn offsets(state: &[u32], base: u16, ties: &[Tie], work: &mut [i64], list: &mut [i32]) -> u64 {
     unsafe {
         dating_offsets(

@@ -24,6 +24,14 @@ pub struct Numbers<'a> {
 
 impl<'a> Numbers<'a> {
     /// The numbers of those that are still to come, as the engine wrote them.
+    ///
+    /// ```
+    /// # let mut register = dating::Register::fresh(2)?;
+    /// register.add(0, 'a', 1)?;
+    /// let dating::Generations::Numbers(numbers) = register.generations("a")? else { panic!("a loop") };
+    /// assert_eq!(numbers.words(), [0, 1]);
+    /// # Ok::<(), dating::Refusal>(())
+    /// ```
     pub fn words(&self) -> &'a [u32] {
         self.words
     }
@@ -78,6 +86,15 @@ impl Register {
     }
 
     /// The same in lent space: work of [`chain_work`] words, and a list, which is left as it was with a refusal.
+    ///
+    /// ```
+    /// # let mut register = dating::Register::fresh(2)?;
+    /// register.add(1, 'a', 1)?;
+    /// let (mut work, mut list) = (vec![0; dating::chain_work(2)], [0; 2]);
+    /// let dating::Generations::Loop(steps) = register.generations_in("a", &mut work, &mut list)? else { panic!("numbers") };
+    /// assert_eq!(steps.map(|step| step.to_string()).collect::<Vec<_>>(), ["a + 1"]);
+    /// # Ok::<(), dating::Refusal>(())
+    /// ```
     pub fn generations_in<'a>(&'a self, letters: &str, work: &mut [u64], list: &'a mut [u32]) -> Result<Generations<'a>, Refusal> {
         generations(&self.words, letters, work, list)
     }

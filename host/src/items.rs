@@ -65,11 +65,28 @@ macro_rules! items {
             }
 
             /// How many there are in all, written or not.
+            ///
+            /// ```
+            /// # let mut register = dating::Register::fresh(3)?;
+            /// register.add(0, 'a', 1)?;
+            /// register.add(0, 'a', 2)?;
+            /// let (mut work, mut list) = (vec![0; dating::tree_work(3)], [0; 1]);
+            /// let pairs = register.pairs_in("a", &mut work, &mut list)?;
+            /// assert_eq!((pairs.total(), pairs.len()), (2, 1));
+            /// # Ok::<(), dating::Refusal>(())
+            /// ```
             pub fn total(&self) -> usize {
                 self.total
             }
 
             /// The words of those that are still to come, as the engine wrote them.
+            ///
+            /// ```
+            /// # let mut register = dating::Register::fresh(3)?;
+            /// register.add(1, 'a', 2)?;
+            /// assert_eq!(register.pairs("a")?.words(), [1024 + 2]);
+            /// # Ok::<(), dating::Refusal>(())
+            /// ```
             pub fn words(&self) -> &'a [u32] {
                 self.words
             }

@@ -19,11 +19,12 @@
 //! ```
 //!
 //! Expressions, from loosest to closest: `|` between alternatives; `/` between the parts of a sequence; a part is an optional `^`
-//! (inverse), a letter or a group in parentheses, and at most one of `*`, `+`, `?`. At most 256 bytes, 63 letters, groups 8 deep.
+//! (inverse), a letter, a negated set (`!a`, `!(a|^b)`: any letter but those) or a group in parentheses, and at most one of `*`, `+`, `?`.
+//! At most 256 bytes, 63 letters, groups 8 deep.
 //!
 //! A call that cannot be done is refused with the first of its causes, a [`Refusal`], and then nothing is changed.
 //!
-//! * [`Register`]: edits, undo, both questions, sole support, and offsets known within limits
+//! * [`Register`]: edits, undo, both questions, closing up, sole support, and offsets known within limits
 //! * [`Register::pages`] and [`read_pages`]: the answer of a pair question as printed pages, and the pairs read back
 //! * [`Edit`]: an edit by name, for a preview of what it would do to an answer
 //! * [`Generations`]: the longest run of links to each record, or the first loop

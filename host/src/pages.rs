@@ -10,6 +10,11 @@ const LINE_PAIRS: usize = 6;
 const PAGE_PAIRS: usize = 354;
 
 /// The bytes of the pages of so many pairs.
+///
+/// ```
+/// // an answer of no pairs is a head alone; six pairs are a line under it, and the seventh begins another
+/// assert_eq!((dating::page_bytes(0), dating::page_bytes(6), dating::page_bytes(7)), (73, 2 * 73, 3 * 73));
+/// ```
 pub fn page_bytes(pairs: usize) -> usize {
     LINE * (pairs.div_ceil(LINE_PAIRS) + pairs.div_ceil(PAGE_PAIRS).max(1))
 }
@@ -39,6 +44,15 @@ impl Register {
     }
 
     /// The same in lent space: work of [`tree_work`] words, and a space, which is left as it was with a refusal. How many bytes the pages are is told.
+    ///
+    /// ```
+    /// # let mut register = dating::Register::fresh(2)?;
+    /// register.add(0, 'a', 1)?;
+    /// let (mut work, mut pages) = (vec![0; dating::tree_work(2)], vec![0; dating::page_bytes(1)]);
+    /// assert_eq!(register.pages_in("a", &mut work, &mut pages)?, pages.len());
+    /// assert_eq!(register.pages_in("a", &mut work, &mut pages[1..]), Err(dating::Refusal::List));
+    /// # Ok::<(), dating::Refusal>(())
+    /// ```
     pub fn pages_in(&self, expression: impl AsRef<[u8]>, work: &mut [u64], pages: &mut [u8]) -> Result<usize, Refusal> {
         counted(calls::pages(self.words(), expression.as_ref(), work, pages))
     }
@@ -46,6 +60,18 @@ impl Register {
 
 /// The pairs that the pages of an expression show. Bytes that are not the pages of that expression and some ascending list of different pairs of records
 /// below 1,024 are refused with [`Refusal::Frame`].
+///
+/// ```
+/// # let mut register = dating::Register::fresh(2)?;
+/// register.add(0, 'a', 1)?;
+/// let mut pages = register.pages("a")?;
+/// assert_eq!(dating::read_pages("a", &pages)?, [(0, 1)]);
+/// pages[73 + 4] = b'1'; // the first figure of the line under the head: the pair would be (1, 1)
+/// assert_eq!(dating::read_pages("a", &pages)?, [(1, 1)]);
+/// pages[73 + 5] = b'x';
+/// assert_eq!(dating::read_pages("a", &pages), Err(dating::Refusal::Frame));
+/// # Ok::<(), dating::Refusal>(())
+/// ```
 pub fn read_pages(expression: impl AsRef<[u8]>, pages: impl AsRef<[u8]>) -> Result<Vec<(u16, u16)>, Refusal> {
     let pages = pages.as_ref();
     let mut list = vec![0; pages.len() / LINE * LINE_PAIRS];

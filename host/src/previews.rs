@@ -59,6 +59,15 @@ impl Register {
     }
 
     /// The same in lent space, as [`pairs_in`](Register::pairs_in) takes it.
+    ///
+    /// ```
+    /// # let register = dating::Register::fresh(2)?;
+    /// let link = dating::Link { from: 0, letter: 'a', to: 1 };
+    /// let (mut work, mut list) = (vec![0; dating::tree_work(2)], [0; 4]);
+    /// let pairs = register.preview_in(dating::Edit::Add(link), "a", &mut work, &mut list)?;
+    /// assert_eq!(pairs.collect::<Vec<_>>(), [(0, 1)]);
+    /// # Ok::<(), dating::Refusal>(())
+    /// ```
     pub fn preview_in<'a>(
         &self,
         edit: Edit,

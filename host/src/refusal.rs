@@ -57,15 +57,30 @@ const CAUSES: &[(Refusal, &str)] = &[
 
 impl Refusal {
     /// The cause with this number.
+    ///
+    /// ```
+    /// assert_eq!(dating::Refusal::of(4), Some(dating::Refusal::Locked));
+    /// assert_eq!(dating::Refusal::of(0), None);
+    /// ```
     pub fn of(number: u32) -> Option<Refusal> {
         CAUSES.iter().map(|&(cause, _)| cause).find(|cause| cause.number() == number)
     }
 
+    /// The number by which the engine, its programs and the other languages know it.
+    ///
+    /// ```
+    /// assert_eq!(dating::Refusal::Locked.number(), 4);
+    /// ```
     pub fn number(self) -> u32 {
         self as u32
     }
 
     /// What the number means.
+    ///
+    /// ```
+    /// assert_eq!(dating::Refusal::Full.meaning(), "4,096 links are present");
+    /// assert_eq!(dating::Refusal::Full.to_string(), "refused 7: 4,096 links are present");
+    /// ```
     pub fn meaning(self) -> &'static str {
         let found = CAUSES.iter().find(|(cause, _)| *cause == self);
         found.expect("every cause is in the table").1

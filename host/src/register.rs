@@ -18,6 +18,13 @@ pub struct Register {
 
 impl Register {
     /// A register of n records, n from 1 to 1,024, with no links and no locks, and every record in use.
+    ///
+    /// ```
+    /// let register = dating::Register::fresh(1024)?;
+    /// assert_eq!(register.size(), 1024);
+    /// assert_eq!(dating::Register::fresh(1025).err(), Some(dating::Refusal::Size));
+    /// # Ok::<(), dating::Refusal>(())
+    /// ```
     pub fn fresh(n: u16) -> Result<Register, Refusal> {
         let mut words = vec![0; STATE_WORDS].into_boxed_slice();
         done(calls::fresh(n, &mut words))?;
@@ -26,6 +33,15 @@ impl Register {
 
     /// A register from the words of one, at the front of a state. What is promised is promised of words that a register had; any others do no
     /// harm.
+    ///
+    /// ```
+    /// let mut register = dating::Register::fresh(2)?;
+    /// register.add(0, 'a', 1)?;
+    /// let mut kept = dating::Register::of_words(register.words())?;
+    /// assert_eq!(kept.pairs("a")?.collect::<Vec<_>>(), [(0, 1)]);
+    /// assert_eq!(dating::Register::of_words(&[2, 1]).err(), Some(dating::Refusal::NotOpened));
+    /// # Ok::<(), dating::Refusal>(())
+    /// ```
     pub fn of_words(words: &[u32]) -> Result<Register, Refusal> {
         if calls::size(words) == 0 {
             return Err(Refusal::NotOpened);
@@ -34,6 +50,11 @@ impl Register {
     }
 
     /// The words, to be kept; [`of_words`](Register::of_words) takes them.
+    ///
+    /// ```
+    /// assert_eq!(dating::Register::fresh(2)?.words().len(), dating::calls::STATE_WORDS);
+    /// # Ok::<(), dating::Refusal>(())
+    /// ```
     pub fn words(&self) -> &[u32] {
         &self.words
     }
@@ -43,25 +64,63 @@ impl Register {
     }
 
     /// The number of records.
+    ///
+    /// ```
+    /// assert_eq!(dating::Register::fresh(9)?.size(), 9);
+    /// # Ok::<(), dating::Refusal>(())
+    /// ```
     pub fn size(&self) -> u16 {
         calls::size(&self.words) as u16
     }
 
     /// Puts a link in.
+    ///
+    /// ```
+    /// # let mut register = dating::Register::fresh(2)?;
+    /// register.add(0, 'a', 1)?;
+    /// assert_eq!(register.add(0, 'a', 1), Err(dating::Refusal::Already));
+    /// assert_eq!(register.add(0, 'a', 2), Err(dating::Refusal::Record));
+    /// # Ok::<(), dating::Refusal>(())
+    /// ```
     pub fn add(&mut self, from: u16, letter: char, to: u16) -> Result<(), Refusal> {
         done(calls::add(&mut self.words, from, label(letter), to))
     }
 
     /// Takes a link out.
+    ///
+    /// ```
+    /// # let mut register = dating::Register::fresh(2)?;
+    /// register.add(0, 'a', 1)?;
+    /// register.remove(0, 'a', 1)?;
+    /// assert_eq!(register.remove(0, 'a', 1), Err(dating::Refusal::Absent));
+    /// # Ok::<(), dating::Refusal>(())
+    /// ```
     pub fn remove(&mut self, from: u16, letter: char, to: u16) -> Result<(), Refusal> {
         done(calls::remove(&mut self.words, from, label(letter), to))
     }
 
     /// Locks a record: links at it are neither added nor removed.
+    ///
+    /// ```
+    /// # let mut register = dating::Register::fresh(2)?;
+    /// register.lock(1)?;
+    /// assert_eq!(register.add(0, 'a', 1), Err(dating::Refusal::Locked));
+    /// # Ok::<(), dating::Refusal>(())
+    /// ```
     pub fn lock(&mut self, record: u16) -> Result<(), Refusal> {
         done(calls::lock(&mut self.words, record))
     }
 
+    /// Takes a lock off a record.
+    ///
+    /// ```
+    /// # let mut register = dating::Register::fresh(2)?;
+    /// register.lock(1)?;
+    /// register.unlock(1)?;
+    /// register.add(0, 'a', 1)?;
+    /// assert_eq!(register.unlock(1), Err(dating::Refusal::Absent));
+    /// # Ok::<(), dating::Refusal>(())
+    /// ```
     pub fn unlock(&mut self, record: u16) -> Result<(), Refusal> {
         done(calls::unlock(&mut self.words, record))
     }
@@ -83,19 +142,52 @@ impl Register {
     }
 
     /// Takes a withdrawn record into use again.
+    ///
+    /// ```
+    /// # let mut register = dating::Register::fresh(2)?;
+    /// register.withdraw(1)?;
+    /// register.reinstate(1)?;
+    /// assert_eq!(register.reinstate(1), Err(dating::Refusal::Absent));
+    /// # Ok::<(), dating::Refusal>(())
+    /// ```
     pub fn reinstate(&mut self, record: u16) -> Result<(), Refusal> {
         done(calls::reinstate(&mut self.words, record))
     }
 
     /// Takes back the latest edit that is still held: of a link, a lock or a withdrawn record. At most 256 are held.
+    ///
+    /// ```
+    /// # let mut register = dating::Register::fresh(2)?;
+    /// register.add(0, 'a', 1)?;
+    /// register.undo()?;
+    /// assert_eq!(register.links()?.total(), 0);
+    /// assert_eq!(register.undo(), Err(dating::Refusal::NoneHeld));
+    /// # Ok::<(), dating::Refusal>(())
+    /// ```
     pub fn undo(&mut self) -> Result<(), Refusal> {
         done(calls::undo(&mut self.words))
     }
 
+    /// Whether the record is locked; false of a record that does not exist.
+    ///
+    /// ```
+    /// # let mut register = dating::Register::fresh(2)?;
+    /// register.lock(1)?;
+    /// assert_eq!((register.is_locked(0), register.is_locked(1), register.is_locked(2)), (false, true, false));
+    /// # Ok::<(), dating::Refusal>(())
+    /// ```
     pub fn is_locked(&self, record: u16) -> bool {
         calls::locked(&self.words, record) == 1
     }
 
+    /// Whether the record is withdrawn; false of a record that does not exist.
+    ///
+    /// ```
+    /// # let mut register = dating::Register::fresh(2)?;
+    /// register.withdraw(1)?;
+    /// assert_eq!((register.is_withdrawn(0), register.is_withdrawn(1), register.is_withdrawn(2)), (false, true, false));
+    /// # Ok::<(), dating::Refusal>(())
+    /// ```
     pub fn is_withdrawn(&self, record: u16) -> bool {
         calls::withdrawn(&self.words, record) == 1
     }
@@ -117,6 +209,16 @@ impl Register {
     }
 
     /// The links present.
+    ///
+    /// ```
+    /// # let mut register = dating::Register::fresh(3)?;
+    /// register.add(1, 'b', 2)?;
+    /// register.add(0, 'b', 1)?;
+    /// register.add(2, 'a', 0)?;
+    /// let links: Vec<(u16, char, u16)> = register.links()?.map(|link| (link.from, link.letter, link.to)).collect();
+    /// assert_eq!(links, [(2, 'a', 0), (0, 'b', 1), (1, 'b', 2)]);
+    /// # Ok::<(), dating::Refusal>(())
+    /// ```
     pub fn links(&mut self) -> Result<Links<'_>, Refusal> {
         grow(&mut self.list, 4096);
         let total = counted(calls::links(&self.words, &mut self.list))?;
@@ -156,8 +258,8 @@ impl Register {
         Ok(length.map(|length| Steps::new(&self.list, length)))
     }
 
-    /// The pairs of an expression in lent space: work of [`tree_work`](crate::tree_work) words, and a list, which is left as it was with a refusal. A list that is
-    /// too short for all pairs gets the smallest of them; [`Pairs::total`] tells how many there are.
+    /// The pairs of an expression in lent space: work of [`tree_work`](crate::tree_work) words, and a list, which is left as it was with a
+    /// refusal. A list that is too short for all pairs gets the smallest of them; [`Pairs::total`] tells how many there are.
     ///
     /// ```
     /// # let mut register = dating::Register::fresh(3)?;
@@ -174,6 +276,16 @@ impl Register {
     }
 
     /// The first chain in lent space: work of [`chain_work`] words, and a list, which is left as it was if there is no chain.
+    ///
+    /// ```
+    /// # let mut register = dating::Register::fresh(3)?;
+    /// register.add(0, 'a', 1)?;
+    /// let (mut work, mut list) = (vec![0; dating::chain_work(3)], [0; 1]);
+    /// let steps = register.chain_in(0, 1, "a", &mut work, &mut list)?.expect("a chain");
+    /// assert_eq!(steps.map(|step| step.reached).collect::<Vec<_>>(), [1]);
+    /// assert_eq!(register.chain_in(0, 1, "a", &mut work, &mut []).err(), Some(dating::Refusal::List));
+    /// # Ok::<(), dating::Refusal>(())
+    /// ```
     pub fn chain_in<'a>(
         &self,
         from: u16,

@@ -29,6 +29,16 @@ impl Register {
     }
 
     /// The same in lent space: work of [`support_work`] words, and a list, which is left as it was with a refusal.
+    ///
+    /// ```
+    /// # let mut register = dating::Register::fresh(3)?;
+    /// register.add(1, 'o', 0)?;
+    /// register.add(2, 'o', 1)?;
+    /// let (mut work, mut list) = (vec![0; dating::support_work(3)], [0; 1]);
+    /// assert_eq!(register.sole_support_in(1, "o+", &[0], &mut work, &mut list)?.collect::<Vec<_>>(), [2]);
+    /// assert_eq!(register.sole_support_in(1, "o+", &[0], &mut work, &mut []).err(), Some(dating::Refusal::List));
+    /// # Ok::<(), dating::Refusal>(())
+    /// ```
     pub fn sole_support_in<'a>(
         &self,
         core: u16,

@@ -10,11 +10,25 @@ pub struct Tree(Vec<u64>);
 
 impl Tree {
     /// A tree of these words. Whether they are well formed is looked at by each call that is lent the tree.
+    ///
+    /// ```
+    /// // one pair of records below 2, (1, 0), is the third bit of the only square
+    /// let mut trees = dating::Trees::below(2)?;
+    /// assert_eq!(trees.list(&dating::Tree::of_words(vec![4]))?.collect::<Vec<_>>(), [(1, 0)]);
+    /// assert_eq!(trees.list(&dating::Tree::of_words(vec![0])).err(), Some(dating::Refusal::Tree));
+    /// # Ok::<(), dating::Refusal>(())
+    /// ```
     pub fn of_words(words: Vec<u64>) -> Tree {
         Tree(words)
     }
 
     /// Bit 0 is the lowest of the first word; the empty set has no words.
+    ///
+    /// ```
+    /// let mut trees = dating::Trees::below(2)?;
+    /// assert_eq!((trees.make([(1, 0)])?.words(), trees.make([])?.words()), (&[4][..], &[][..]));
+    /// # Ok::<(), dating::Refusal>(())
+    /// ```
     pub fn words(&self) -> &[u64] {
         &self.0
     }
@@ -48,6 +62,12 @@ type Unary = fn(usize, &[u64], &mut [u64], &mut [u64]) -> u64;
 
 impl Trees {
     /// For pairs of records below n, n from 1 to 1,024.
+    ///
+    /// ```
+    /// assert!(dating::Trees::below(1024).is_ok());
+    /// assert_eq!(dating::Trees::below(0).err(), Some(dating::Refusal::Size));
+    /// # Ok::<(), dating::Refusal>(())
+    /// ```
     pub fn below(n: u16) -> Result<Trees, Refusal> {
         let mut trees = Trees { n, work: vec![0; tree_work(n)], tree: vec![0; tree_words(n)], list: Vec::new() };
         trees.make([])?;
@@ -55,6 +75,13 @@ impl Trees {
     }
 
     /// The tree of some pairs, in any order and with repeats.
+    ///
+    /// ```
+    /// let mut trees = dating::Trees::below(4)?;
+    /// assert_eq!(trees.make([(2, 3), (0, 1), (2, 3)])?, trees.make([(0, 1), (2, 3)])?);
+    /// assert_eq!(trees.make([(0, 4)]).err(), Some(dating::Refusal::Record));
+    /// # Ok::<(), dating::Refusal>(())
+    /// ```
     pub fn make(&mut self, pairs: impl IntoIterator<Item = (u16, u16)>) -> Result<Tree, Refusal> {
         // An end above 1,023 has no place in a pair word; a word above all pairs is refused with 2 as it would be.
         let word = |(from, to): (u16, u16)| if from.max(to) < 1024 { u32::from(from) * 1024 + u32::from(to) } else { u32::MAX };
@@ -64,6 +91,13 @@ impl Trees {
     }
 
     /// The pairs of a tree.
+    ///
+    /// ```
+    /// let mut trees = dating::Trees::below(4)?;
+    /// let tree = trees.make([(2, 3), (0, 1)])?;
+    /// assert_eq!(trees.list(&tree)?.collect::<Vec<_>>(), [(0, 1), (2, 3)]);
+    /// # Ok::<(), dating::Refusal>(())
+    /// ```
     pub fn list(&mut self, tree: &Tree) -> Result<Pairs<'_>, Refusal> {
         self.list.resize(most_pairs(self.n), 0);
         let total = counted(calls::tree_list(self.n.into(), &tree.0, &mut self.list, &mut self.work))?;
@@ -71,21 +105,53 @@ impl Trees {
     }
 
     /// The pairs in either.
+    ///
+    /// ```
+    /// let mut trees = dating::Trees::below(4)?;
+    /// let (a, b) = (trees.make([(0, 1), (1, 2)])?, trees.make([(1, 2), (2, 3)])?);
+    /// let made = trees.union(&a, &b)?;
+    /// assert_eq!(trees.list(&made)?.collect::<Vec<_>>(), [(0, 1), (1, 2), (2, 3)]);
+    /// # Ok::<(), dating::Refusal>(())
+    /// ```
     pub fn union(&mut self, a: &Tree, b: &Tree) -> Result<Tree, Refusal> {
         self.of_two(calls::tree_union, a, b)
     }
 
     /// The pairs in both.
+    ///
+    /// ```
+    /// let mut trees = dating::Trees::below(4)?;
+    /// let (a, b) = (trees.make([(0, 1), (1, 2)])?, trees.make([(1, 2), (2, 3)])?);
+    /// let made = trees.intersection(&a, &b)?;
+    /// assert_eq!(trees.list(&made)?.collect::<Vec<_>>(), [(1, 2)]);
+    /// # Ok::<(), dating::Refusal>(())
+    /// ```
     pub fn intersection(&mut self, a: &Tree, b: &Tree) -> Result<Tree, Refusal> {
         self.of_two(calls::tree_intersection, a, b)
     }
 
     /// The pairs in the first and not in the second.
+    ///
+    /// ```
+    /// let mut trees = dating::Trees::below(4)?;
+    /// let (a, b) = (trees.make([(0, 1), (1, 2)])?, trees.make([(1, 2), (2, 3)])?);
+    /// let made = trees.difference(&a, &b)?;
+    /// assert_eq!(trees.list(&made)?.collect::<Vec<_>>(), [(0, 1)]);
+    /// # Ok::<(), dating::Refusal>(())
+    /// ```
     pub fn difference(&mut self, a: &Tree, b: &Tree) -> Result<Tree, Refusal> {
         self.of_two(calls::tree_difference, a, b)
     }
 
     /// The pairs (x, z) with (x, y) in the first and (y, z) in the second for some y.
+    ///
+    /// ```
+    /// let mut trees = dating::Trees::below(4)?;
+    /// let (a, b) = (trees.make([(0, 1), (1, 2)])?, trees.make([(1, 2), (2, 3)])?);
+    /// let made = trees.product(&a, &b)?;
+    /// assert_eq!(trees.list(&made)?.collect::<Vec<_>>(), [(0, 2), (1, 3)]);
+    /// # Ok::<(), dating::Refusal>(())
+    /// ```
     pub fn product(&mut self, a: &Tree, b: &Tree) -> Result<Tree, Refusal> {
         self.product_sensed(a, Sense::Plain, b, Sense::Plain)
     }
@@ -107,11 +173,27 @@ impl Trees {
     }
 
     /// Each pair exchanged.
+    ///
+    /// ```
+    /// let mut trees = dating::Trees::below(4)?;
+    /// let a = trees.make([(0, 1), (1, 2)])?;
+    /// let made = trees.transpose(&a)?;
+    /// assert_eq!(trees.list(&made)?.collect::<Vec<_>>(), [(1, 0), (2, 1)]);
+    /// # Ok::<(), dating::Refusal>(())
+    /// ```
     pub fn transpose(&mut self, a: &Tree) -> Result<Tree, Refusal> {
         self.of_one(calls::tree_transpose, a)
     }
 
     /// The pairs joined by one or more pairs, one after the other.
+    ///
+    /// ```
+    /// let mut trees = dating::Trees::below(4)?;
+    /// let a = trees.make([(0, 1), (1, 2)])?;
+    /// let made = trees.closure(&a)?;
+    /// assert_eq!(trees.list(&made)?.collect::<Vec<_>>(), [(0, 1), (0, 2), (1, 2)]);
+    /// # Ok::<(), dating::Refusal>(())
+    /// ```
     pub fn closure(&mut self, a: &Tree) -> Result<Tree, Refusal> {
         self.of_one(calls::tree_closure, a)
     }

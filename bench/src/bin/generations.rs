@@ -102,7 +102,9 @@ fn plain(n: usize, links: &[Link]) -> Answer {
         before[link.to as usize].push(link.from as usize);
     }
     let left = (0..n).filter(|&record| waiting[record] > 0);
-    left.map(|record| (record, distances(&before, record))).find_map(|(record, far)| first(&after, record, &far)).map_or((true, Vec::new()), |steps| (true, steps))
+    left.map(|record| (record, distances(&before, record)))
+        .find_map(|(record, far)| first(&after, record, &far))
+        .map_or((true, Vec::new()), |steps| (true, steps))
 }
 
 /// How many steps it is from each record to the end.

@@ -31,7 +31,8 @@ module _ {ws es : List ℕ} {m : ℕ} {cs : List ℕ} {k : ℕ} (I : Crossings w
       fm i h (same f) = (m, omega arith, rw f (getD-set-same cs k (crossingAt ws m) 0 l))
       fm i h (more f) = absurd (omega arith)
 
-      al : (j : ℕ) → j < m + 1 → 0 < getD es (crossingAt ws j / 1048576) 0 → Which j m → (i : ℕ) × (i < k + 1) × (getD (set cs k (crossingAt ws m)) i 0 ≡ crossingAt ws j)
+      al : (j : ℕ) → j < m + 1 → 0 < getD es (crossingAt ws j / 1048576) 0 → Which j m
+          → (i : ℕ) × (i < k + 1) × (getD (set cs k (crossingAt ws m)) i 0 ≡ crossingAt ws j)
       al j h o (less f) = let g = I .all j f o in (g .0, omega arith, old (g .0) (g .1) ∙ g .2)
       al j h o (same f) = (k, omega arith, getD-set-same cs k (crossingAt ws m) 0 l ∙ ap (crossingAt ws) (sym f))
       al j h o (more f) = absurd (omega arith)

@@ -51,14 +51,23 @@ module _ {key : ℕ → ℕ} {k : ℕ} {ix : List ℕ} (I : Indexed key k ix) (s
 
   next-here : nextArc ix₂ k ≡ firstArc ix (key k)
   unfolding firstArc nextArc
-  next-here = getD-set-other ix₁ (key k) (1024 + k) (k + 1) 0 (λ e. (let z = small k in omega arith)) ∙ getD-set-same ix (1024 + k) (getD ix (key k) 0) 0 (omega arith)
+  next-here =
+      getD-set-other ix₁ (key k) (1024 + k) (k + 1) 0 (λ e. (let z = small k in omega arith)) ∙ getD-set-same ix (1024 + k) (getD ix (key k) 0) 0 (omega arith)
 
   next-off : (j : ℕ) → (j ≡ k → ⊥) → nextArc ix₂ j ≡ nextArc ix j
   unfolding nextArc
-  next-off j n = getD-set-other ix₁ (key k) (1024 + j) (k + 1) 0 (λ e. (let z = small k in omega arith)) ∙ getD-set-other ix (1024 + k) (1024 + j) (getD ix (key k) 0) 0 (λ e. n (omega arith))
+  next-off j n =
+      getD-set-other ix₁ (key k) (1024 + j) (k + 1) 0 (λ e. (let z = small k in omega arith))
+      ∙ getD-set-other ix (1024 + k) (1024 + j) (getD ix (key k) 0) 0 (λ e. n (omega arith))
 
   pub indexed-more : Indexed key (k + 1) ix₂
-  indexed-more = record { first-at = λ r h. fa r h (ℕ-discrete r (key k)); first-all = λ j h. fl j h (which j k) (ℕ-discrete (key j) (key k)); next-at = λ j h. na j h (which j k); next-all = λ i j l h e. nl i j l h e (which j k) }
+  indexed-more =
+      record {
+        first-at = λ r h. fa r h (ℕ-discrete r (key k));
+        first-all = λ j h. fl j h (which j k) (ℕ-discrete (key j) (key k));
+        next-at = λ j h. na j h (which j k);
+        next-all = λ i j l h e. nl i j l h e (which j k);
+      }
     where
       back : k + 1 - 1 ≡ k
       back = omega arith

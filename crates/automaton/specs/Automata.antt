@@ -40,7 +40,8 @@ unfoldable pub reversed : Fragment → Fragment
 reversed A = record { nullable = A .nullable; first = A .last; last = A .first; follow = λ p q. A .follow q p; enters = λ q a. A .enters q (inverseLetter a) }
 
 unfoldable pub repeated : Fragment → Fragment
-repeated A = record { nullable = A .nullable; first = A .first; last = A .last; follow = λ p q. max (A .follow p q) (min (A .last p) (A .first q)); enters = A .enters }
+repeated A =
+    record { nullable = A .nullable; first = A .first; last = A .last; follow = λ p q. max (A .follow p q) (min (A .last p) (A .first q)); enters = A .enters }
 
 unfoldable pub optional : Fragment → Fragment
 optional A = record { nullable = 1; first = A .first; last = A .last; follow = A .follow; enters = A .enters }

@@ -1,11 +1,11 @@
 -- The levels backward: one level more keeps what the numbers mean, and an empty level ends the search.
 --   walk-stop, walk-more, walk-ends, walk-less
---                   walks made and taken apart at their first step
---   Which a b, which
---                   which of two numbers is the less
---   known-grown     one level more
---   known-none      with no number of the last level there is no walk, of any length, from where the number is 0
---   exact           a step from a number m + 2 to where there is a walk of m steps leads to the number m + 1
+--                     walks made and taken apart at their first step
+--   reach-less        what reaches the end in one step more has a first step
+--   Which a b, which  which of two numbers is the less
+--   known-grown       one level more
+--   known-none        with no number of the last level there is no walk, of any length, from where the number is 0
+--   exact             a step from a number m + 2 to where there is a walk of m steps leads to the number m + 1
 -- Assumes nothing.
 use mathlib.Core.Path.{_≡_, refl, ap, subst}
 use mathlib.Core.List.{List, [], _∷_}
@@ -132,7 +132,8 @@ module _ {g : Graph} {M : Automaton} {y n l : ℕ} (shut : Shut g M n) {d : ℕ 
       let j : d (v .0 .reached) (v .1) ≡ suc (d (v .0 .reached) (v .1) - 1) = omega arith in
       pick (v .0) (v .1) (v .2) j (which (d (v .0 .reached) (v .1)) (suc l)) (z .0) (z .1) b
     where
-      pick : (s : Step) (q′ : ℕ) → Moves g M r q s q′ → d (s .reached) q′ ≡ suc (d (s .reached) q′ - 1) → Which (d (s .reached) q′) (suc l) → s .reached < n → q′ < 64 → d (s .reached) q′ ≤ suc l → 0 < d r q
+      pick : (s : Step) (q′ : ℕ) → Moves g M r q s q′ → d (s .reached) q′ ≡ suc (d (s .reached) q′ - 1)
+          → Which (d (s .reached) q′) (suc l) → s .reached < n → q′ < 64 → d (s .reached) q′ ≤ suc l → 0 < d r q
       pick s q′ m j (same f) a b h = absurd (none (s .reached) q′ a b f)
       pick s q′ m j (more f) a b h = absurd (omega arith)
       pick s q′ m j (less f) a b h = near r q q′ (d (s .reached) q′ - 1) s hr hq m j (omega arith) .0
@@ -146,7 +147,8 @@ module _ {g : Graph} {M : Automaton} {y n l : ℕ} (shut : Shut g M n) {d : ℕ 
       let j : d (s .reached) q′ ≡ suc (d (s .reached) q′ - 1) = omega arith in
       pick (which (d (s .reached) q′) (suc m)) p j b
     where
-      pick : Which (d (s .reached) q′) (suc m) → (0 < d (s .reached) q′) × (d (s .reached) q′ ≤ suc m) → d (s .reached) q′ ≡ suc (d (s .reached) q′ - 1) → d r q ≤ suc l → d (s .reached) q′ ≡ suc m
+      pick : Which (d (s .reached) q′) (suc m) → (0 < d (s .reached) q′) × (d (s .reached) q′ ≤ suc m)
+          → d (s .reached) q′ ≡ suc (d (s .reached) q′ - 1) → d r q ≤ suc l → d (s .reached) q′ ≡ suc m
       pick (same f) p j b = f
       pick (more f) p j b = absurd (omega arith)
       pick (less f) p j b = absurd (let o = near r q q′ (d (s .reached) q′ - 1) s hr hq v j (omega arith) in omega arith)

@@ -3,9 +3,9 @@ pub mod SetLaws
 pub mod Traces
 pub mod TraceLaws
 pub mod ReadLaws
-pub mod Accepts
+pub mod AutomatonLaws
 pub mod Masks
 pub mod Searches
 pub mod LevelLaws
 pub mod WalkLaws
-pub mod ShortChains
+pub mod ShortChainLaws

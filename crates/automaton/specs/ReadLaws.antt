@@ -1,12 +1,26 @@
--- The fragment of an expression reads exactly its words. Assumes nothing.
+-- The fragment of an expression reads exactly its words.
+--   Cut q w r            a trace of two fragments one after the other from a position of the first: it stays there, or it parts where it goes over
+--   cut, reads-either, reads-followed
+--                        a word of the two together is one of either, or one of the first and then one of the second
+--   Lap q w              a first word, and then nothing or more words
+--   lap, reads-repeated  a word of a repeated fragment is one or more of its words
+--   reads-single, reads-reversed, reads-optional
+--                        the words of one position, of a fragment reversed, and of one that may be left out
+--   reads-words          what the fragment of an expression reads is a word of it
+--   to-repeated, add-repeated, to-optional, to-nothing, to-reversed, to-left, to-right, to-followed
+--                        from the words of the parts to those of the larger fragment
+--   words-reads          it reads every word of the expression
+-- Assumes nothing.
 use mathlib.Core.Path.{_≡_, refl, sym, ap, subst}
 use mathlib.Core.Logic.{_⊎_, inl, inr}
 use mathlib.Core.List.{List, [], _∷_, _++_, append-nil}
 use Prim.Native.Nat.{ℕ, suc, _+_, _<_, _≤_, max, min}
 use native.Mathlib.Omega.{arith}
 use Rattle.book.specs.Basics.{bit}
-use Rattle.paths.specs.Expressions.{Letter, Symbol, standsFor, Expr, symbol, group, inverse, star, plus, optional as optional-part, alternative, sequence, letters}
-use Rattle.paths.specs.Words.{backwards, Words, itself, inside, reversed as word-reversed, left, right, joined, once, again, star-none, star-some, optional-none, optional-once}
+use Rattle.paths.specs.Expressions.{Letter, Symbol, standsFor, Expr, symbol, group, inverse, star, plus, optional as optional-part, alternative, sequence}
+use Rattle.paths.specs.Expressions.{letters}
+use Rattle.paths.specs.Words.{backwards, Words, itself, inside, reversed as word-reversed, left, right, joined, once, again, star-none, star-some}
+use Rattle.paths.specs.Words.{optional-none, optional-once}
 use Rattle.paths.specs.ChainLaws.{backwards-backwards}
 use Rattle.automaton.specs.Automata.{On, is, Fragment, single, reversed, repeated, optional, either, followed, fragment}
 use Rattle.automaton.specs.SetLaws.{on-max, on-left, on-right, on-both, on-min, is-on, on-bit, bit-on}
@@ -76,7 +90,8 @@ module _ {A B : Fragment} {lo mid hi : ℕ} (U : Within lo mid A) (W : Within mi
       e : On (A .enters q a)
       e = low q _ _ l (W .enters q a) h
 
-      go : On (max (A .follow q q′) (B .follow q q′)) ⊎ On (min (A .last q) (B .first q′)) → (q′ ≤ mid → Cut q′ w r) → Trace (followed A B) q′ w r → Cut q (a ∷ w) r
+      go : On (max (A .follow q q′) (B .follow q q′)) ⊎ On (min (A .last q) (B .first q′))
+          → (q′ ≤ mid → Cut q′ w r) → Trace (followed A B) q′ w r → Cut q (a ∷ w) r
       go (inl o) ih t′ = let g = low q _ _ l (W .from q q′) o in longer e g (ih (U .to q q′ g .1))
       go (inr o) ih t′ = let g = on-min (A .last q) (B .first q′) o in goes (at e) (g .0) (g .1) (followed-high (W .first q′ (g .1) .0) t′) refl
 
@@ -119,7 +134,10 @@ module _ {A B : Fragment} {lo mid hi : ℕ} (U : Within lo mid A) (W : Within mi
 
       go : On (A .first q) ⊎ On (min (A .nullable) (B .first q)) → (v u : List Letter) × Reads A v × Reads B u × (w ≡ v ++ u)
       go (inl p) = parted p (cut (U .first q p .1) t)
-      go (inr p) = let k = on-min (A .nullable) (B .first q) p in let s = followed-high (W .first q (k .1) .0) t in ([], w, nothing (k .0), along (k .1) s (last-high (ends W s .0)), refl)
+      go (inr p) =
+          let k = on-min (A .nullable) (B .first q) p in
+          let s = followed-high (W .first q (k .1) .0) t in
+          ([], w, nothing (k .0), along (k .1) s (last-high (ends W s .0)), refl)
 
 -- ---- one or more
 module _ (e : Expr) (A : Fragment) (s : (w : List Letter) → Reads A w → Words e w) where
@@ -167,30 +185,32 @@ reads-optional (nothing o) = inl refl
 reads-optional (along f t l) = inr (along f (trace-map (λ q a h. h) (λ p q h. h) t) l)
 
 -- what the automaton reads is a word of the expression
-pub sound : (e : Expr) (o : ℕ) (w : List Letter) → Reads (fragment e o) w → Words e w
+pub reads-words : (e : Expr) (o : ℕ) (w : List Letter) → Reads (fragment e o) w → Words e w
 unfolding fragment
-sound (symbol s) o w r = reads-single (suc o) s r
-sound (group e) o w r = inside (sound e o w r)
-sound (inverse e) o w r = subst (λ (m : List Letter). Words (inverse e) m) (backwards-backwards w) (word-reversed (sound e o (backwards w) (reads-reversed r)))
-sound (star e) o w r = go (reads-optional r) (sound e o)
+reads-words (symbol s) o w r = reads-single (suc o) s r
+reads-words (group e) o w r = inside (reads-words e o w r)
+reads-words (inverse e) o w r =
+    subst (λ (m : List Letter). Words (inverse e) m) (backwards-backwards w) (word-reversed (reads-words e o (backwards w) (reads-reversed r)))
+reads-words (star e) o w r = go (reads-optional r) (reads-words e o)
   where
     go : (w ≡ []) ⊎ Reads (repeated (fragment e o)) w → ((v : List Letter) → Reads (fragment e o) v → Words e v) → Words (star e) w
     go (inl h) s = subst (λ (m : List Letter). Words (star e) m) (sym h) star-none
     go (inr h) s = star-some (reads-repeated e (fragment e o) s h)
-sound (plus e) o w r = reads-repeated e (fragment e o) (sound e o) r
-sound (optional-part e) o w r = go (reads-optional r) (sound e o w)
+reads-words (plus e) o w r = reads-repeated e (fragment e o) (reads-words e o) r
+reads-words (optional-part e) o w r = go (reads-optional r) (reads-words e o w)
   where
     go : (w ≡ []) ⊎ Reads (fragment e o) w → (Reads (fragment e o) w → Words e w) → Words (optional-part e) w
     go (inl h) s = subst (λ (m : List Letter). Words (optional-part e) m) (sym h) optional-none
     go (inr h) s = optional-once (s h)
-sound (alternative e f) o w r = go (reads-either (within e o) (within f (o + letters e)) r) (sound e o w) (sound f (o + letters e) w)
+reads-words (alternative e f) o w r = go (reads-either (within e o) (within f (o + letters e)) r) (reads-words e o w) (reads-words f (o + letters e) w)
   where
-    go : Reads (fragment e o) w ⊎ Reads (fragment f (o + letters e)) w → (Reads (fragment e o) w → Words e w) → (Reads (fragment f (o + letters e)) w → Words f w) → Words (alternative e f) w
+    go : Reads (fragment e o) w ⊎ Reads (fragment f (o + letters e)) w → (Reads (fragment e o) w → Words e w)
+        → (Reads (fragment f (o + letters e)) w → Words f w) → Words (alternative e f) w
     go (inl h) s t = left (s h)
     go (inr h) s t = right (t h)
-sound (sequence e f) o w r =
+reads-words (sequence e f) o w r =
     let p = reads-followed (within e o) (within f (o + letters e)) r in
-    subst (λ (m : List Letter). Words (sequence e f) m) (sym (p .4)) (joined (sound e o (p .0) (p .2)) (sound f (o + letters e) (p .1) (p .3)))
+    subst (λ (m : List Letter). Words (sequence e f) m) (sym (p .4)) (joined (reads-words e o (p .0) (p .2)) (reads-words f (o + letters e) (p .1) (p .3)))
 
 -- ---- from the parts' words to those of a larger automaton
 to-repeated : {A : Fragment} {w : List Letter} → Reads A w → Reads (repeated A) w
@@ -203,7 +223,8 @@ add-repeated : {A : Fragment} {v w : List Letter} → Reads A v → Reads (repea
 unfolding repeated
 add-repeated (nothing o) r = r
 add-repeated {A} {v} (along f t l) (nothing o) = subst (λ (m : List Letter). Reads (repeated A) m) (sym (append-nil v)) (to-repeated (along f t l))
-add-repeated {A} (along f t l) (along {q = q} g s k) = along f (trace-join (trace-map (λ q a h. h) (λ p q h. on-left _ _ h) t) (on-right _ _ (on-both _ _ l g)) s) k
+add-repeated {A} (along f t l) (along {q = q} g s k) =
+    along f (trace-join (trace-map (λ q a h. h) (λ p q h. on-left _ _ h) t) (on-right _ _ (on-both _ _ l g)) s) k
 
 to-optional : {A : Fragment} {w : List Letter} → Reads A w → Reads (optional A) w
 unfolding optional
@@ -242,21 +263,22 @@ module _ (A B : Fragment) where
   unfolding followed
   to-followed (nothing o) (nothing p) = nothing (on-both _ _ o p)
   to-followed (nothing o) (along f t l) = along (on-right _ _ (on-both _ _ o f)) (in-second t) (on-left _ _ l)
-  to-followed {v} (along f t l) (nothing o) = subst (λ (m : List Letter). Reads (followed A B) m) (sym (append-nil v)) (along (on-left _ _ f) (in-first t) (on-right _ _ (on-both _ _ o l)))
+  to-followed {v} (along f t l) (nothing o) =
+      subst (λ (m : List Letter). Reads (followed A B) m) (sym (append-nil v)) (along (on-left _ _ f) (in-first t) (on-right _ _ (on-both _ _ o l)))
   to-followed (along f t l) (along g s k) = along (on-left _ _ f) (trace-join (in-first t) (on-right _ _ (on-both _ _ l g)) (in-second s)) (on-left _ _ k)
 
 -- the automaton reads every word of the expression
-pub complete : {e : Expr} {w : List Letter} → Words e w → (o : ℕ) → Reads (fragment e o) w
+pub words-reads : {e : Expr} {w : List Letter} → Words e w → (o : ℕ) → Reads (fragment e o) w
 unfolding fragment
-complete (itself h) o = unfold single in (along (is-on (suc o)) (at (on-both _ _ (is-on (suc o)) (bit-on h))) (is-on (suc o)))
-complete (inside d) o = complete d o
-complete (word-reversed d) o = to-reversed (complete d o)
-complete (left {e = e} {f = f} d) o = to-left (fragment f (o + letters e)) (complete d o)
-complete (right {e = e} d) o = to-right (fragment e o) (complete d (o + letters e))
-complete (joined {e = e} {f = f} d d′) o = to-followed (fragment e o) (fragment f (o + letters e)) (complete d o) (complete d′ (o + letters e))
-complete (once d) o = to-repeated (complete d o)
-complete (again d d′) o = add-repeated (complete d o) (complete d′ o)
-complete (star-none {e}) o = to-nothing (repeated (fragment e o))
-complete (star-some d) o = to-optional (complete d o)
-complete (optional-none {e}) o = to-nothing (fragment e o)
-complete (optional-once d) o = to-optional (complete d o)
+words-reads (itself h) o = unfold single in (along (is-on (suc o)) (at (on-both _ _ (is-on (suc o)) (bit-on h))) (is-on (suc o)))
+words-reads (inside d) o = words-reads d o
+words-reads (word-reversed d) o = to-reversed (words-reads d o)
+words-reads (left {e = e} {f = f} d) o = to-left (fragment f (o + letters e)) (words-reads d o)
+words-reads (right {e = e} d) o = to-right (fragment e o) (words-reads d (o + letters e))
+words-reads (joined {e = e} {f = f} d d′) o = to-followed (fragment e o) (fragment f (o + letters e)) (words-reads d o) (words-reads d′ (o + letters e))
+words-reads (once d) o = to-repeated (words-reads d o)
+words-reads (again d d′) o = add-repeated (words-reads d o) (words-reads d′ o)
+words-reads (star-none {e}) o = to-nothing (repeated (fragment e o))
+words-reads (star-some d) o = to-optional (words-reads d o)
+words-reads (optional-none {e}) o = to-nothing (fragment e o)
+words-reads (optional-once d) o = to-optional (words-reads d o)

@@ -48,7 +48,8 @@ pub record Known (g : Graph) (M : Automaton) (y n l : ℕ) (d : ℕ → ℕ → 
 
 pub record Grown (g : Graph) (M : Automaton) (n l : ℕ) (d d′ : ℕ → ℕ → ℕ) : Type 0 where
   pub kept : (r q : ℕ) → r < n → q < 64 → 0 < d r q → d′ r q ≡ d r q
-  pub made : (r q : ℕ) → r < n → q < 64 → d r q ≡ 0 → 0 < d′ r q → (d′ r q ≡ suc (suc l)) × (s : Step) × (q′ : ℕ) × Moves g M r q s q′ × (d (s .reached) q′ ≡ suc l)
+  pub made : (r q : ℕ) → r < n → q < 64 → d r q ≡ 0 → 0 < d′ r q
+      → (d′ r q ≡ suc (suc l)) × (s : Step) × (q′ : ℕ) × Moves g M r q s q′ × (d (s .reached) q′ ≡ suc l)
   pub all : (r q q′ : ℕ) (s : Step) → r < n → q < 64 → Moves g M r q s q′ → d (s .reached) q′ ≡ suc l → 0 < d′ r q
 
 pub record Best (g : Graph) (M : Automaton) (y : ℕ) (G : ℕ → ℕ) (r m : ℕ) (ss : List Step) : Type 0 where

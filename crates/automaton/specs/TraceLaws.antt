@@ -1,4 +1,12 @@
--- Laws of traces: mapped, joined and reversed; and where the positions of an expression's fragment lie. Assumes nothing.
+-- Laws of traces: mapped, joined and reversed; and where the positions of an expression's fragment lie.
+--   trace-map      a trace of a fragment is one of any whose letters and follows have all of its own
+--   trace-join     two traces as one, where a position of the second follows the end of the first
+--   trace-reversed, trace-forth
+--                  gone backwards, a trace is one of the reversed fragment; and from there back
+--   within-either, within-followed, within-repeated, within-optional, within-reversed, within-single
+--                  the positions of what is made of fragments lie where theirs do
+--   within         the fragment of an expression has its positions from o on, as many as there are letters
+-- Assumes nothing.
 use mathlib.Core.Path.{_≡_, sym, subst}
 use mathlib.Core.Logic.{_⊎_, inl, inr}
 use mathlib.Core.List.{List, _++_}
@@ -98,7 +106,8 @@ within-optional W = record { first = W .first; last = W .last; from = W .from; t
 
 pub within-reversed : {A : Fragment} {lo hi : ℕ} → Within lo hi A → Within lo hi (reversed A)
 unfolding reversed
-within-reversed W = record { first = W .last; last = W .first; from = λ p q o. W .to q p o; to = λ p q o. W .from q p o; enters = λ q a o. W .enters q (inverseLetter a) o }
+within-reversed W =
+    record { first = W .last; last = W .first; from = λ p q o. W .to q p o; to = λ p q o. W .from q p o; enters = λ q a o. W .enters q (inverseLetter a) o }
 
 pub within-single : (o : ℕ) (f : Letter → Bool) → Within o (o + 1) (single (suc o) f)
 unfolding single
@@ -118,5 +127,9 @@ within (inverse e) o = within-reversed (within e o)
 within (star e) o = within-optional (within-repeated (within e o))
 within (plus e) o = within-repeated (within e o)
 within (optional-part e) o = within-optional (within e o)
-within (alternative e f) o = within-either o (o + letters e) (o + (letters e + letters f)) (omega arith) (omega arith) (within e o) (rw (let z : o + (letters e + letters f) ≡ o + letters e + letters f = omega arith in z) (within f (o + letters e)))
-within (sequence e f) o = within-followed o (o + letters e) (o + (letters e + letters f)) (omega arith) (omega arith) (within e o) (rw (let z : o + (letters e + letters f) ≡ o + letters e + letters f = omega arith in z) (within f (o + letters e)))
+within (alternative e f) o =
+    within-either o (o + letters e) (o + (letters e + letters f)) (omega arith) (omega arith) (within e o)
+    (rw (let z : o + (letters e + letters f) ≡ o + letters e + letters f = omega arith in z) (within f (o + letters e)))
+within (sequence e f) o =
+    within-followed o (o + letters e) (o + (letters e + letters f)) (omega arith) (omega arith) (within e o)
+    (rw (let z : o + (letters e + letters f) ≡ o + letters e + letters f = omega arith in z) (within f (o + letters e)))

@@ -3,7 +3,6 @@
 --                   best walks made from their end
 --   answers-walk    a chain that answers is a walk from the start
 --   best-first      the best of the shortest walks from the start is the first chain
---   none-answers    where an empty level came first there is no chain of any length
 -- Assumes nothing.
 use mathlib.Core.Path.{_≡_, refl, sym, ap, subst}
 use mathlib.Core.Logic.{_⊎_, inl, inr}
@@ -18,9 +17,9 @@ use Rattle.paths.specs.Chains.{Graph, Step, stepWord, spell, stepWords, Answers
 use Rattle.paths.specs.Words.{Words}
 use Rattle.automaton.specs.Automata.{On, is, Automaton, automaton, Run}
 use Rattle.automaton.specs.SetLaws.{on-is, is-on}
-use Rattle.automaton.specs.Accepts.{words-run}
-use Rattle.automaton.specs.Searches.{Walk, Reach, Shut, Known, Best, Picks}
-use Rattle.automaton.specs.LevelLaws.{walk-more, walk-less, Which, less, same, more, which, known-none}
+use Rattle.automaton.specs.AutomatonLaws.{words-run}
+use Rattle.automaton.specs.Searches.{Walk, Reach, Known, Best, Picks}
+use Rattle.automaton.specs.LevelLaws.{walk-more, walk-less, Which, less, same, more, which}
 
 pub length-stepWords : (ss : List Step) → length (stepWords ss) ≡ length ss
 unfolding stepWords
@@ -34,7 +33,8 @@ module _ {g : Graph} {M : Automaton} {y : ℕ} where
       let c = P .came (B .from) (B .among) in
       record { from = c .0; among = c .1; walk = walk-more (c .2) (B .walk); long = ap suc (B .long); least = all }
     where
-      side : (q′ : ℕ) (t : Step) (ts : List Step) → (stepWord s < stepWord t) ⊎ ((s ≡ t) × On (K q′)) → Walk g M y (t .reached) q′ ts → length ts ≡ m → Before (stepWord s ∷ stepWords ss) (stepWord t ∷ stepWords ts)
+      side : (q′ : ℕ) (t : Step) (ts : List Step) → (stepWord s < stepWord t) ⊎ ((s ≡ t) × On (K q′))
+          → Walk g M y (t .reached) q′ ts → length ts ≡ m → Before (stepWord s ∷ stepWords ss) (stepWord t ∷ stepWords ts)
       side q′ t ts (inl h) w e = smaller h
       side q′ t ts (inr p) w e =
           subst (λ (u : Step). Before (stepWord s ∷ stepWords ss) (stepWord u ∷ stepWords ts)) (p .0)
@@ -72,10 +72,10 @@ module _ {g : Graph} {y n l x : ℕ} {d : ℕ → ℕ → ℕ} (e : Expr) (K : K
       least : (ts : List Step) → Answers g e x y ts → NotAfter (stepWords ss) (stepWords ts)
       least ts a = go (which (length ts) m) (length-stepWords ss) (length-stepWords ts) (B .long)
         where
-          go : Which (length ts) m → length (stepWords ss) ≡ length ss → length (stepWords ts) ≡ length ts → length ss ≡ m → NotAfter (stepWords ss) (stepWords ts)
-          go (less f) i j b = absurd (let u = K .bound x 0 h (omega arith) in let z = K .complete x 0 (length ts) h (omega arith) (omega arith) (ts, refl, answers-walk a) in omega arith)
+          go : Which (length ts) m → length (stepWords ss) ≡ length ss
+              → length (stepWords ts) ≡ length ts → length ss ≡ m → NotAfter (stepWords ss) (stepWords ts)
+          go (less f) i j b =
+              absurd (let u = K .bound x 0 h (omega arith) in let z =
+              K .complete x 0 (length ts) h (omega arith) (omega arith) (ts, refl, answers-walk a) in omega arith)
           go (same f) i j b = as-long (omega arith) (B .least 0 ts (is-on 0) (answers-walk a) f)
           go (more f) i j b = shorter (omega arith)
-
-  pub none-answers : Shut g (automaton e) n → d x 0 ≡ 0 → ((r q : ℕ) → r < n → q < 64 → d r q ≡ suc l → ⊥) → (ss : List Step) → Answers g e x y ss → ⊥
-  none-answers shut k none ss a = let z = known-none shut K none (length ss) x 0 h (omega arith) (ss, refl, answers-walk a) in omega arith

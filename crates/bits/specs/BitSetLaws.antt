@@ -1,4 +1,14 @@
--- Laws of sets of bits, and of `bitAt` after the stores that make them. Assumes nothing.
+-- Laws of sets of bits, and of `bitAt` after the stores that make them.
+--   put-at, put-off    the bit put in is there, and every other is as it was
+--   bits-set           a store that changes one digit of one word changes one bit alone
+--   digit-or-pow       or with a power of two sets a digit
+--   bits-none          words of 0 have no bit
+--   both-word, minus-word
+--                      the digits of `&` and `& !` of two words are the intersection and the difference of their bits
+--   four-in, four-out  four bits from a multiple of 4 on, as the code reads them from one word; past the end they are 0
+--   gap-join           two gaps, one after the other, are one
+--   gap-word           a word of 0 is a gap
+-- Assumes nothing.
 use mathlib.Core.Path.{_≡_, refl, sym, ap, _∙_, fun-ext}
 use mathlib.Core.Bool.{Bool, true, false}
 use mathlib.Core.List.{List}
@@ -13,7 +23,7 @@ use Rattle.book.specs.Basics.{pick}
 use Rattle.k2.specs.Bits.{digit, bitAt}
 use Rattle.k2.specs.DigitLaws.{digit-lt, digit-or, digit-and, digit-not, digit-pow, digit-four}
 use Rattle.k2.specs.BitLaws.{bit-in, bit-out, bit-zero, bit-set, bit-set-off, bit-replicate}
-use Rattle.bits.specs.BitSets.{none, put, either, both, minus, fourAt, Gap}
+use Rattle.bits.specs.BitSets.{none, put, both, minus, fourAt, Gap}
 
 -- ---- a bit put in
 pub put-at : (p v : ℕ) (f : ℕ → ℕ) → put p v f p ≡ v
@@ -56,10 +66,6 @@ bits-none n = fun-ext (λ p. bit-replicate n p)
 
 -- ---- the words of `|`, `&` and `& !`
 module _ (a b : List ℕ) (i k : ℕ) (h : k < 64) where
-  pub either-word : digit (bitOr (getD a i 0) (getD b i 0)) k ≡ either (bitAt a) (bitAt b) (i * 64 + k)
-  unfolding either
-  either-word = rw (digit-or, bit-in a i k h, bit-in b i k h)
-
   pub both-word : digit (bitAnd (getD a i 0) (getD b i 0)) k ≡ both (bitAt a) (bitAt b) (i * 64 + k)
   unfolding both
   both-word = rw (digit-and, bit-in a i k h, bit-in b i k h)

@@ -1,11 +1,11 @@
 -- What the functions on bits make of a set of bits, a function from places to 0 and 1.
---   none            no bit
---   put p v f       f with v at place p
+--   none             no bit
+--   put p v f        f with v at place p
 --   either f g, both f g, minus f g
---                   the bits of one or the other, of both, of the first and not the second
---   fourAt f p      the four bits from place p on as a number, the lowest first
---   Gap f lo p      no bit from place lo to p - 1
---   Next f lo end r r is the first place of a bit from lo on, or end if there is none before it
+--                    the bits of one or the other, of both, of the first and not the second
+--   fourAt f p       the four bits from place p on as a number, the lowest first
+--   Gap f lo p       no bit from place lo to p - 1
+--   Next f lo end r  r is the first place of a bit from lo on, or end if there is none before it
 -- Assumes nothing: these are definitions.
 use mathlib.Core.Path.{_≡_}
 use Prim.Native.Nat.{ℕ, _+_, _-_, _*_, _≤_, _<_, max, min}

@@ -33,7 +33,8 @@ use Prim.Native.Nat.{ℕ, zero, suc}
 use lib.ListN.{length, take}
 use lib.Dec.{leb, ltb, eqb}
 use Rattle.book.specs.Basics.{pick, has, without, tally}
-use Rattle.book.specs.Causes.{Cause, bad-size, no-record, bad-label, locked-end, already, missing, full, none-held, short-list, touched-record, withdrawn-record, none-in-use, number, firstNumber, maxRecords, labels, maxLinks, maxHeld}
+use Rattle.book.specs.Causes.{Cause, bad-size, no-record, bad-label, locked-end, already, missing, full, none-held, short-list, touched-record}
+use Rattle.book.specs.Causes.{withdrawn-record, none-in-use, number, firstNumber, maxRecords, labels, maxLinks, maxHeld}
 
 pub record Link : Type 0 where
   pub from : ℕ

@@ -1,5 +1,24 @@
--- Cases of the plain book: the edits of the sample (S7.8), each number from 2 to 8, 17 and 18 with the first cause in order winning, what is not held,
--- closing up with its 21 and 13, 257 edits and 257 undos, and a full register. Assumes nothing.
+-- Cases of the plain book: the edits of the sample (S7.8), each number from 2 to 8, 17 and 18 with the first cause in order winning, what is not held, closing
+-- up with its 21 and 13, 257 edits and 257 undos, and a full register.
+--   adds, removes, locks, unlocks, withdraws, reinstates
+--                   the calls, in short
+--   fresh-1         a register has 1 to 1,024 records
+--   sample          the edits of the sample, S7.8
+--   refused-2, refused-3, refused-4, refused-5-6, refused-8
+--                   each of these numbers, also where a later cause is there too
+--   undo-each, undo-taken
+--                   an undo takes back an add, a remove, a lock and an unlock
+--   order-2-18, order-18-3, order-18-4, order-4-17, order-4-5, order-5-17
+--                   withdrawn records: each pair of causes that could be exchanged
+--   reinstated      6 for a record in use; a record that is reinstated takes links and locks again
+--   undo-withdrawn  an undo takes back a withdraw and a reinstate, and a refused one is not held
+--   total-each, total-undo, total-3
+--                   totals after adds, a remove and an undo; 3 for a label above 25
+--   close-21, close-13, close-given, close-renamed, close-drops
+--                   closing up: its refusals, the list it gives, what is renamed, and the held edits that are gone
+--   held-256        after 257 edits 256 undos pass, and the next gives 8
+--   fills, full-7   4,096 adds are accepted, and one more gives 7
+-- Assumes nothing.
 use mathlib.Core.Path.{_≡_, refl, ap}
 use mathlib.Core.List.{List, [], _∷_, _++_, map}
 use mathlib.Core.Bool.{Bool, true, false}
@@ -9,7 +28,9 @@ use lib.ListN.{length, replicate}
 use borrow.Author.Tests.{lt-leb, le-leb}
 use Rattle.book.specs.Basics.{has, without, tally}
 use Rattle.book.specs.Causes.{number, firstNumber, maxLinks}
-use Rattle.book.specs.Book.{Link, sameLink, Sheet, add, remove, lock, unlock, withdraw, reinstate, Call, edit, undo, close, touched, causes, editAnswer, edited, turned, undoAnswer, undone, rank, closedSheet, closeCauses, closeAnswer, closed, newNumbers, closeGiven, freshAnswer, total, totalNumber, answer, next, given, fresh, answers, after, givens}
+use Rattle.book.specs.Book.{Link, sameLink, Sheet, add, remove, lock, unlock, withdraw, reinstate, Call, edit, undo, close, touched, causes, editAnswer}
+use Rattle.book.specs.Book.{edited, turned, undoAnswer, undone, rank, closedSheet, closeCauses, closeAnswer, closed, newNumbers, closeGiven, freshAnswer}
+use Rattle.book.specs.Book.{total, totalNumber, answer, next, given, fresh, answers, after, givens}
 use Rattle.book.specs.SetLaws.{sameLink-test}
 
 abbrev link : ℕ → ℕ → ℕ → Link
@@ -44,7 +65,8 @@ unfolding answers answer next editAnswer firstNumber number causes edited turned
 sample = refl
 
 -- 2, also with a label above 25 and with a locked end
-refused-2 : answers (fresh 4) (adds 4 0 0 ∷ adds 0 0 4 ∷ removes 4 0 0 ∷ removes 0 0 4 ∷ locks 4 ∷ unlocks 4 ∷ adds 4 26 0 ∷ locks 0 ∷ adds 0 26 4 ∷ removes 4 0 0 ∷ [])
+refused-2 : answers (fresh 4)
+    (adds 4 0 0 ∷ adds 0 0 4 ∷ removes 4 0 0 ∷ removes 0 0 4 ∷ locks 4 ∷ unlocks 4 ∷ adds 4 26 0 ∷ locks 0 ∷ adds 0 26 4 ∷ removes 4 0 0 ∷ [])
     ≡ 2 ∷ 2 ∷ 2 ∷ 2 ∷ 2 ∷ 2 ∷ 2 ∷ 0 ∷ 2 ∷ 2 ∷ []
 unfolding answers answer next editAnswer firstNumber number causes edited turned undoAnswer undone fresh has without touched
 refused-2 = refl
@@ -55,13 +77,15 @@ unfolding answers answer next editAnswer firstNumber number causes edited turned
 refused-3 = refl
 
 -- 4 with either end or both locked, also where the link is present or absent
-refused-4 : answers (fresh 4) (adds 0 0 1 ∷ locks 1 ∷ adds 0 0 1 ∷ adds 1 0 2 ∷ adds 2 0 1 ∷ adds 1 0 1 ∷ removes 0 0 1 ∷ removes 1 0 2 ∷ removes 2 0 1 ∷ removes 1 0 1 ∷ [])
+refused-4 : answers (fresh 4)
+    (adds 0 0 1 ∷ locks 1 ∷ adds 0 0 1 ∷ adds 1 0 2 ∷ adds 2 0 1 ∷ adds 1 0 1 ∷ removes 0 0 1 ∷ removes 1 0 2 ∷ removes 2 0 1 ∷ removes 1 0 1 ∷ [])
     ≡ 0 ∷ 0 ∷ 4 ∷ 4 ∷ 4 ∷ 4 ∷ 4 ∷ 4 ∷ 4 ∷ 4 ∷ []
 unfolding answers answer next editAnswer firstNumber number causes edited turned undoAnswer undone fresh has without touched
 refused-4 = refl
 
 -- 5 and 6
-refused-5-6 : answers (fresh 4) (adds 0 0 1 ∷ adds 0 0 1 ∷ removes 1 0 0 ∷ removes 0 0 1 ∷ removes 0 0 1 ∷ locks 2 ∷ locks 2 ∷ unlocks 3 ∷ unlocks 2 ∷ unlocks 2 ∷ [])
+refused-5-6 : answers (fresh 4)
+    (adds 0 0 1 ∷ adds 0 0 1 ∷ removes 1 0 0 ∷ removes 0 0 1 ∷ removes 0 0 1 ∷ locks 2 ∷ locks 2 ∷ unlocks 3 ∷ unlocks 2 ∷ unlocks 2 ∷ [])
     ≡ 0 ∷ 5 ∷ 6 ∷ 0 ∷ 6 ∷ 0 ∷ 5 ∷ 6 ∷ 0 ∷ 6 ∷ []
 unfolding answers answer next editAnswer firstNumber number causes edited turned undoAnswer undone fresh has without touched
 refused-5-6 = refl
@@ -94,7 +118,8 @@ unfolding answers answer next editAnswer firstNumber number causes edited turned
 order-18-3 = refl
 
 -- 18 before 4, where one end is withdrawn and the other locked; before 6, where the link is absent; and before the 5 and 6 of a lock and an unlock
-order-18-4 : answers (fresh 4) (withdraws 3 ∷ locks 0 ∷ adds 3 0 0 ∷ adds 0 0 3 ∷ removes 3 0 0 ∷ removes 0 0 3 ∷ adds 3 0 1 ∷ removes 1 0 3 ∷ locks 3 ∷ unlocks 3 ∷ [])
+order-18-4 : answers (fresh 4)
+    (withdraws 3 ∷ locks 0 ∷ adds 3 0 0 ∷ adds 0 0 3 ∷ removes 3 0 0 ∷ removes 0 0 3 ∷ adds 3 0 1 ∷ removes 1 0 3 ∷ locks 3 ∷ unlocks 3 ∷ [])
     ≡ 0 ∷ 0 ∷ 18 ∷ 18 ∷ 18 ∷ 18 ∷ 18 ∷ 18 ∷ 18 ∷ 18 ∷ []
 unfolding answers answer next editAnswer firstNumber number causes edited turned undoAnswer undone fresh has without touched
 order-18-4 = refl
@@ -107,7 +132,8 @@ order-4-17 : answers (fresh 4) (
 unfolding answers answer next editAnswer firstNumber number causes edited turned undoAnswer undone fresh has without touched
 order-4-17 = refl
 
--- no history makes a record withdrawn and locked, or withdrawn and touched (BookLaws `withdrawn-bare`), so 4 with 5 and 5 with 17 are told on sheets that none makes
+-- no history makes a record withdrawn and locked, or withdrawn and touched (BookLaws `withdrawn-bare`), so 4 with 5 and 5 with 17
+-- are told on sheets that none makes
 abbrev odd-sheet : List Link → List ℕ → Sheet
 odd-sheet ks rs = record { links = ks; locks = rs; withdrawn = 0 ∷ [] }
 
@@ -120,7 +146,8 @@ unfolding editAnswer firstNumber number causes has touched
 order-5-17 = refl
 
 -- reinstating a record in use gives 6, also if it is locked or a link touches it; reinstated, it takes links and locks again
-reinstated : answers (fresh 4) (reinstates 0 ∷ locks 0 ∷ reinstates 0 ∷ adds 1 0 2 ∷ reinstates 2 ∷ withdraws 3 ∷ reinstates 3 ∷ reinstates 3 ∷ adds 3 0 3 ∷ locks 3 ∷ [])
+reinstated : answers (fresh 4)
+    (reinstates 0 ∷ locks 0 ∷ reinstates 0 ∷ adds 1 0 2 ∷ reinstates 2 ∷ withdraws 3 ∷ reinstates 3 ∷ reinstates 3 ∷ adds 3 0 3 ∷ locks 3 ∷ [])
     ≡ 6 ∷ 0 ∷ 6 ∷ 0 ∷ 6 ∷ 0 ∷ 0 ∷ 6 ∷ 0 ∷ 0 ∷ []
 unfolding answers answer next editAnswer firstNumber number causes edited turned undoAnswer undone fresh has without touched
 reinstated = refl
@@ -147,28 +174,34 @@ total-3 = refl
 -- ---- closing up, S14
 -- 21 with no record in use, before 13; and nothing changes: an undo takes the latest withdraw back
 close-21 : answers (fresh 2) (withdraws 0 ∷ withdraws 1 ∷ close 2 ∷ close 0 ∷ undo ∷ close 2 ∷ []) ≡ 0 ∷ 0 ∷ 21 ∷ 21 ∷ 0 ∷ 0 ∷ []
-unfolding answers answer next editAnswer firstNumber number causes edited turned undoAnswer undone rank closedSheet closeCauses closeAnswer closed fresh has without touched
+unfolding answers answer next editAnswer firstNumber number causes edited turned undoAnswer undone rank closedSheet closeCauses closeAnswer closed fresh has
+    without touched
 close-21 = refl
 
 -- 13 with a list shorter than the old n, however few records are in use; then the new n is the least
-close-13 : answers (fresh 4) (withdraws 1 ∷ withdraws 2 ∷ close 2 ∷ close 3 ∷ close 4 ∷ close 1 ∷ close 2 ∷ close 9 ∷ []) ≡ 0 ∷ 0 ∷ 13 ∷ 13 ∷ 0 ∷ 13 ∷ 0 ∷ 0 ∷ []
-unfolding answers answer next editAnswer firstNumber number causes edited turned undoAnswer undone rank closedSheet closeCauses closeAnswer closed fresh has without touched
+close-13 : answers (fresh 4) (withdraws 1 ∷ withdraws 2 ∷ close 2 ∷ close 3 ∷ close 4 ∷ close 1 ∷ close 2 ∷ close 9 ∷ [])
+    ≡ 0 ∷ 0 ∷ 13 ∷ 13 ∷ 0 ∷ 13 ∷ 0 ∷ 0 ∷ []
+unfolding answers answer next editAnswer firstNumber number causes edited turned undoAnswer undone rank closedSheet closeCauses closeAnswer closed fresh has
+    without touched
 close-13 = refl
 
 -- the list of each closing up, refused ones too: by ascending old number, 65,535 for a withdrawn record
 close-given : givens (fresh 4) (withdraws 1 ∷ close 3 ∷ close 4 ∷ locks 0 ∷ undo ∷ close 3 ∷ []) ≡ [] ∷ (0 ∷ 65535 ∷ 1 ∷ 2 ∷ []) ∷ (0 ∷ 1 ∷ 2 ∷ []) ∷ []
-unfolding givens given answer next editAnswer firstNumber number causes edited turned undoAnswer undone rank closedSheet closeCauses closeAnswer closed newNumbers closeGiven fresh has without touched
+unfolding givens given answer next editAnswer firstNumber number causes edited turned undoAnswer undone rank closedSheet closeCauses closeAnswer closed
+    newNumbers closeGiven fresh has without touched
 close-given = refl
 
 -- the count of records in use is the new n; a link and a lock follow their records, none is withdrawn, and nothing is held
 close-renamed : after (fresh 4) (withdraws 0 ∷ withdraws 2 ∷ adds 1 5 3 ∷ locks 3 ∷ close 4 ∷ [])
     ≡ record { n = 2; sheet = record { links = link 0 5 1 ∷ []; locks = 1 ∷ []; withdrawn = [] }; pile = [] }
-unfolding after answer next editAnswer firstNumber number causes edited turned undoAnswer undone rank closedSheet closeCauses closeAnswer closed fresh has without touched
+unfolding after answer next editAnswer firstNumber number causes edited turned undoAnswer undone rank closedSheet closeCauses closeAnswer closed fresh has
+    without touched
 close-renamed = refl
 
 -- with nothing withdrawn it renames nothing, and still drops the held edits: an undo straight after gives 8
 close-drops : answers (fresh 2) (locks 1 ∷ close 2 ∷ undo ∷ unlocks 1 ∷ undo ∷ undo ∷ []) ≡ 0 ∷ 0 ∷ 8 ∷ 0 ∷ 0 ∷ 8 ∷ []
-unfolding answers answer next editAnswer firstNumber number causes edited turned undoAnswer undone rank closedSheet closeCauses closeAnswer closed fresh has without touched
+unfolding answers answer next editAnswer firstNumber number causes edited turned undoAnswer undone rank closedSheet closeCauses closeAnswer closed fresh has
+    without touched
 close-drops = refl
 
 -- after 257 edits, 256 undos pass and the next gives 8

@@ -1,7 +1,25 @@
--- Laws of the plain book: what holds of the sheets of every history, what a refused edit and an undo leave, and the order of the causes. Assumes nothing.
+-- Laws of the plain book: what holds of the sheets of every history, what a refused edit and an undo leave, and the order of the causes.
+--   causes-in-order, close-in-order
+--                  the causes against an edit stand in the order of S6.6, and those against closing up in that of S14.4
+--   number-positive, caused-positive
+--                  no cause has the number of acceptance
+--   first-caused   a number that is not 0, found as the first of some causes, is a cause's
+--   first-none     accepted: the first cause is not there, nor any after it
+--   refused-same   a refused call changes nothing
+--   undo-back      an undo after an accepted edit gives the sheet before it
+--   first-proper   what the causes 2, 18 and 3 let pass is a proper link, whose ends are in use
+--   touched-end, end-touched
+--                  a record is touched exactly if it is an end of a link
+--   edited-fit     an accepted edit leaves a sheet that fits
+--   all-take       what holds of all sheets of a pile holds of the first k
+--   next-sound, fresh-sound, after-sound
+--                  the book is sound after any call, at the start, and after every history
+--   fit-bare, withdrawn-bare
+--                  a withdrawn record has no links and no lock: of a sheet that fits, and after every history
+-- Assumes nothing.
 use mathlib.Core.Path.{_≡_, refl, sym, ap, _∙_, subst}
 use mathlib.Core.Logic.{_⊎_, inl, inr, ⊎-elim}
-use mathlib.Core.List.{List, [], _∷_, _++_}
+use mathlib.Core.List.{List, [], _∷_}
 use mathlib.Core.Bool.{Bool, true, false, not, _||_, false≢true, true≢false}
 use Prim.Native.Nat.{ℕ, zero, suc, _≤_, _<_}
 use native.Mathlib.Omega.{arith}
@@ -9,12 +27,18 @@ use lib.ListN.{length, take}
 use lib.Dec.{leb, eqb}
 use borrow.Author.Tests.{leb-false, not-false, eq-eqb, eqb-true, ne-eqb}
 use Rattle.book.specs.Basics.{pick, In, here, there, has, without, All, all-none, all-more}
-use Rattle.book.specs.Causes.{Cause, bad-size, no-record, bad-label, locked-end, already, missing, full, none-held, no-expression, too-many-bytes, too-large, bad-tree, short-work, short-list, broken-frame, unknown-kind, not-open, touched-record, withdrawn-record, bad-tie, unordered-anchors, none-in-use, number, Caused, editOrder, closeOrder, firstNumber, InOrder, none-left, same-cause, passed-over, maxRecords, labels, maxLinks, maxHeld}
-use Rattle.book.specs.Book.{Link, sameLink, Sheet, Book, Edit, add, remove, lock, unlock, withdraw, reinstate, Call, edit, undo, close, present, isLocked, isWithdrawn, touched, used, causes, editAnswer, edited, turned, undoAnswer, undone, closeCauses, closeAnswer, closed, answer, next, fresh, answers, after}
+use Rattle.book.specs.Causes.{Cause, bad-size, no-record, bad-label, locked-end, already, missing, full, none-held, no-expression, too-many-bytes}
+use Rattle.book.specs.Causes.{too-large, bad-tree, short-work, short-list, broken-frame, unknown-kind, not-open, touched-record, withdrawn-record}
+use Rattle.book.specs.Causes.{bad-tie, unordered-anchors, none-in-use, number, Caused, editOrder, closeOrder, firstNumber, InOrder, none-left, same-cause}
+use Rattle.book.specs.Causes.{passed-over, maxRecords, labels, maxLinks, maxHeld}
+use Rattle.book.specs.Book.{Link, sameLink, Sheet, Book, Edit, add, remove, lock, unlock, withdraw, reinstate, Call, edit, undo, close, present, isLocked}
+use Rattle.book.specs.Book.{isWithdrawn, touched, used, causes, editAnswer, edited, turned, undoAnswer, undone, closeCauses, closeAnswer, closed, answer}
+use Rattle.book.specs.Book.{next, fresh, after}
 use Rattle.book.specs.Sheets.{Distinct, Proper, Fit, Sound}
 use Rattle.book.specs.RankLaws.{rank-le}
 use Rattle.book.specs.CloseLaws.{closed-fit}
-use Rattle.book.specs.SetLaws.{sameLink-test, eqb-test, and-both, or-neither, or-true, has-in, in-has, has-without, absent-without, distinct-without, length-without}
+use Rattle.book.specs.SetLaws.{sameLink-test, eqb-test, and-both, or-neither, or-true, has-in, in-has, has-without, absent-without, distinct-without}
+use Rattle.book.specs.SetLaws.{length-without}
 
 -- ---- causes
 -- every edit's causes are looked for in the order of S6.6
@@ -100,22 +124,6 @@ refused-same b (close room) z = go (closeAnswer (b .n) (b .sheet) room) z
 pub undo-back : (b : Book) (e : Edit) → answer b (edit e) ≡ 0 → next (next b (edit e)) undo .sheet ≡ b .sheet
 unfolding answer next turned undone
 undo-back b e h = ap (λ (z : ℕ). undone (turned z b (edited e (b .sheet))) (turned z b (edited e (b .sheet)) .pile) .sheet) h
-
--- ---- a history with one call more
-pub after-more : (b : Book) (cs : List Call) (c : Call) → after b (cs ++ (c ∷ [])) ≡ next (after b cs) c
-unfolding after
-after-more b [] c = refl
-after-more b (d ∷ cs) c = after-more (next b d) cs c
-
-pub answers-more : (b : Book) (cs : List Call) (c : Call) → answers b (cs ++ (c ∷ [])) ≡ answers b cs ++ (answer (after b cs) c ∷ [])
-unfolding after answers
-answers-more b [] c = refl
-answers-more b (d ∷ cs) c = ap (λ (l : List ℕ). answer b d ∷ l) (answers-more (next b d) cs c)
-
-pub answers-length : (b : Book) (cs : List Call) → length (answers b cs) ≡ length cs
-unfolding answers
-answers-length b [] = refl
-answers-length b (c ∷ cs) = ap suc (answers-length (next b c) cs)
 
 -- ---- what holds of every sheet
 -- the link of an edit that the causes 2, 18 and 3 let pass
@@ -239,8 +247,10 @@ edited-fit n s (withdraw r) f e =
           let h : (eqb r (k .from) ≡ false) × (eqb r (k .to) ≡ false) = (
             ne-eqb r (k .from) (λ c. true≢false (sym (end-touched r (s .links) at (inl (sym c))) ∙ t .0)),
             ne-eqb r (k .to) (λ c. true≢false (sym (end-touched r (s .links) at (inr (sym c))) ∙ t .0)),
-          ) in
-          (or-none (eqb r (k .from)) (isWithdrawn s (k .from)) (h .0) (f .ends k i .0), or-none (eqb r (k .to)) (isWithdrawn s (k .to)) (h .1) (f .ends k i .1));
+          ) in (
+            or-none (eqb r (k .from)) (isWithdrawn s (k .from)) (h .0) (f .ends k i .0),
+            or-none (eqb r (k .to)) (isWithdrawn s (k .to)) (h .1) (f .ends k i .1),
+          );
       free = λ j i. or-none (eqb r j) (isWithdrawn s j) (unlike j i) (f .free j i);
       withdrawn = λ j i. or-else (eqb r j) (isWithdrawn s j) i (j < n) (below j) (f .withdrawn j);
       once = f .once;
@@ -283,7 +293,8 @@ undone-sound b (s ∷ ss) o (all-more p a) = record { small = o .small; sheet = 
 
 closed-sound : (b : Book) (z : ℕ) → Sound b → Sound (closed z b)
 unfolding closed
-closed-sound b zero o = record { small = omega (arith, o .small, rank-le (used (b .n) (b .sheet)) (b .n)); sheet = closed-fit (b .n) (b .sheet) (o .sheet); pile = all-none }
+closed-sound b zero o =
+    record { small = omega (arith, o .small, rank-le (used (b .n) (b .sheet)) (b .n)); sheet = closed-fit (b .n) (b .sheet) (o .sheet); pile = all-none }
 closed-sound b (suc z) o = o
 
 pub next-sound : (b : Book) (c : Call) → Sound b → Sound (next b c)

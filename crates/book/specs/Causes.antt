@@ -43,9 +43,9 @@ pub data Cause : Type 0 where
   bad-tree : Cause
   -- work shorter than stated
   short-work : Cause
-  -- answer longer than its list
+  -- answer that is no use in part, longer than its list
   short-list : Cause
-  -- frame broken
+  -- frame broken; bytes that are not the pages of the expression
   broken-frame : Cause
   -- kind unknown
   unknown-kind : Cause

@@ -1,14 +1,15 @@
 -- Laws of closing up: the ends of links and the locked records are in use, the closed sheet fits, the totals stay, and an undo straight after finds none held.
 -- Assumes nothing.
 use mathlib.Core.Path.{_≡_, refl, ap, subst}
-use mathlib.Core.Bool.{Bool, true, false, not, false≢true}
+use mathlib.Core.Bool.{Bool, true, not, false≢true}
 use Prim.Native.Nat.{ℕ, zero, suc, _<_}
 use native.Mathlib.Omega.{arith}
 use lib.Dec.{ltb, eqb}
 use borrow.Author.Tests.{ltb-true, lt-ltb}
 use Rattle.book.specs.Basics.{has}
 use Rattle.book.specs.Causes.{none-held, number}
-use Rattle.book.specs.Book.{Link, Sheet, Book, undo, close, present, isLocked, isWithdrawn, used, rank, renamedLink, closedSheet, closeAnswer, closed, undoAnswer, total, answer, next}
+use Rattle.book.specs.Book.{Link, Sheet, Book, undo, close, present, isLocked, isWithdrawn, used, rank, renamedLink, closedSheet, closeAnswer, closed}
+use Rattle.book.specs.Book.{undoAnswer, total, answer, next}
 use Rattle.book.specs.Sheets.{Distinct, Proper, Fit}
 use Rattle.book.specs.SetLaws.{eqb-test, sameLink-test, link-is, and-both, has-map, map-has, distinct-map}
 use Rattle.book.specs.ListLaws.{length-map}
@@ -42,7 +43,11 @@ closed-fit n s f = record {
       let r = map-has sameLink-test (renamedLink (rank u)) j (s .links) i in
       let w = link-used n s f (r .0) (r .1) in
       let p = f .links (r .0) (r .1) in
-      subst (Proper (rank u n)) (r .2) (record { from = rank-less u (r .0 .from) n (w .0) (p .from); label = p .label; to = rank-less u (r .0 .to) n (w .1) (p .to) });
+      subst (Proper (rank u n)) (r .2) (record {
+        from = rank-less u (r .0 .from) n (w .0) (p .from);
+        label = p .label;
+        to = rank-less u (r .0 .to) n (w .1) (p .to);
+      });
   locks = λ j i.
       let r = map-has eqb-test (rank u) j (s .locks) i in
       subst (λ (v : ℕ). v < rank u n) (r .2) (rank-less u (r .0) n (lock-used n s f (r .0) (r .1)) (f .locks (r .0) (r .1)));

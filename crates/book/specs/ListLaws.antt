@@ -67,7 +67,8 @@ rises-from h ended = ended
 rises-from {m} {k} h (rises {w = w} g r) = rises {m = k} {w = w} (omega arith) r
 
 -- renamed so that the order stays
-pub rises-map : (f : ℕ → ℕ) {m k : ℕ} (l : List ℕ) → Rises m l → ((w v : ℕ) → In w l → In v l → w < v → f w < f v) → ((w : ℕ) → In w l → k ≤ f w) → Rises k (map f l)
+pub rises-map : (f : ℕ → ℕ) {m k : ℕ} (l : List ℕ) → Rises m l
+    → ((w v : ℕ) → In w l → In v l → w < v → f w < f v) → ((w : ℕ) → In w l → k ≤ f w) → Rises k (map f l)
 rises-map f [] ended g low = ended
 rises-map f {m} {k} (w ∷ l) (rises h r) g low =
     rises {m = k} {w = f w} (low w here) (rises-map f l r (λ x y i j. g x y (there i) (there j)) (λ x i. g w x here (there i) (rises-least r i)))

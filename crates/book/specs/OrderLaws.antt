@@ -7,15 +7,16 @@
 use mathlib.Core.Path.{_≡_, refl, sym, ap, ap₂, subst, _∙_}
 use mathlib.Core.List.{List, [], _∷_}
 use mathlib.Core.Bool.{Bool, true, false, _||_, true≢false}
-use Prim.Native.Nat.{ℕ, zero, suc, _+_, _≤_, _<_}
+use Prim.Native.Nat.{ℕ, suc, _≤_, _<_}
 use native.Mathlib.Omega.{arith}
 use lib.ListN.{length}
 use lib.Dec.{leb, eqb}
 use borrow.Author.Tests.{leb-false, lt-leb, le-leb, not-false}
-use Rattle.book.specs.Basics.{pick, bit, has, without, tally}
+use Rattle.book.specs.Basics.{pick, has, without, tally}
 use Rattle.book.specs.Causes.{no-record, bad-label, locked-end, already, missing, full, withdrawn-record, number, firstNumber, labels, maxLinks}
-use Rattle.book.specs.Book.{Link, sameLink, Sheet, Book, Edit, add, remove, edit, present, isLocked, isWithdrawn, total, causes, editAnswer, edited, turned, answer, next}
-use Rattle.book.specs.SetLaws.{EqualityTest, sameLink-test, without-other}
+use Rattle.book.specs.Book.{Link, sameLink, Sheet, Book, Edit, add, remove, edit, present, isLocked, isWithdrawn, total, causes, editAnswer, edited}
+use Rattle.book.specs.Book.{turned, answer, next}
+use Rattle.book.specs.SetLaws.{sameLink-test, without-other}
 use Rattle.book.specs.BookLaws.{first-none}
 use Rattle.book.specs.Orders.{Single, adds, removes, linkIn, Alike}
 
@@ -46,14 +47,22 @@ module _ (n : ℕ) (s : Sheet) where
       let q = first-none locked-end _ _ (l .1) in
       let h = first-none already _ _ (q .1) in
       let f = first-none full _ _ (h .1) in
-      record { unbarred = record { records = p .0; in-use = w .0; label = l .0; unlocked = q .0 }; stands = h .0; room = λ _. leb-false maxLinks (length (s .links)) (f .0) }
+      record {
+        unbarred = record { records = p .0; in-use = w .0; label = l .0; unlocked = q .0 };
+        stands = h .0;
+        room = λ _. leb-false maxLinks (length (s .links)) (f .0);
+      }
   free-accepted (removes {k}) e =
       let p = first-none no-record _ _ e in
       let w = first-none withdrawn-record _ _ (p .1) in
       let l = first-none bad-label _ _ (w .1) in
       let q = first-none locked-end _ _ (l .1) in
       let h = first-none missing _ _ (q .1) in
-      record { unbarred = record { records = p .0; in-use = w .0; label = l .0; unlocked = q .0 }; stands = not-false _ (h .0); room = λ z. absurd (true≢false z) }
+      record {
+        unbarred = record { records = p .0; in-use = w .0; label = l .0; unlocked = q .0 };
+        stands = not-false _ (h .0);
+        room = λ z. absurd (true≢false z);
+      }
 
   accepted-free : {e : Edit} (x : Single e) → Accepted n s x → editAnswer n s e ≡ 0
   unfolding linkIn editAnswer causes firstNumber

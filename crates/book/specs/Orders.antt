@@ -1,8 +1,8 @@
 -- Two edits of a book, in one order and in the other.
 --   Single e        the edit e is of a single link: an add or a remove
 --   linkIn x        its link
---   Alike b c       two books that cannot be told apart but by undo: the same n, and of their sheets the same links, locked records, withdrawn records and totals.
---                   Their piles may differ
+--   Alike b c       two books that cannot be told apart but by undo: the same n, and of their sheets the same links, locked records, withdrawn records and
+--                   totals. Their piles may differ
 -- Assumes nothing: these are definitions.
 use mathlib.Core.Path.{_≡_}
 use Prim.Native.Nat.{ℕ}

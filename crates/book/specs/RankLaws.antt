@@ -71,7 +71,8 @@ module _ (u : ℕ → Bool) where
     where
       go : (b : Bool) → u n ≡ b → i < pick b (suc (rank u n)) (rank u n) → (t : Bool) → eqb (rank u n) i ≡ t
           → (i < rank u n → (u (nth n i) ≡ true) × (nth n i < n) × (rank u (nth n i) ≡ i))
-          → (u (pick b (pick t n (nth n i)) (nth n i)) ≡ true) × (pick b (pick t n (nth n i)) (nth n i) < suc n) × (rank u (pick b (pick t n (nth n i)) (nth n i)) ≡ i)
+          → (u (pick b (pick t n (nth n i)) (nth n i)) ≡ true) × (pick b (pick t n (nth n i)) (nth n i) < suc n)
+          × (rank u (pick b (pick t n (nth n i)) (nth n i)) ≡ i)
       go true q h true r ih = (q, omega arith, eqb-true (rank u n) i r)
       go true q h false r ih = let d = ih (omega (arith, eqb-false (rank u n) i r)) in (d .0, omega (arith, d .1), d .2)
       go false q h t r ih = let d = ih h in (d .0, omega (arith, d .1), d .2)

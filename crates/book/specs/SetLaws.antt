@@ -1,4 +1,17 @@
--- Laws of lists taken as sets: what is in a list without a member, lists in which every member stands once, and lists renamed. Assumes nothing.
+-- Laws of lists taken as sets: what is in a list without a member, lists in which every member stands once, and lists renamed.
+--   and-both, or-neither, or-true
+--                      two tests that both pass, or neither
+--   EqualityTest same  `same` is a test of equality
+--   eqb-test, link-is, sameLink-test
+--                      so are those of numbers and of links; links with the same parts are the same
+--   has-in, in-has     the computed test is membership
+--   has-without, without-absent, without-self, without-other, absent-without
+--                      a list without x: x and only x is taken out, and what is absent stays so
+--   distinct-without, length-without
+--                      members that stand once still do, and there is one fewer
+--   has-map, map-has   the members of a list renamed are its members, renamed
+--   distinct-map       a renaming that keeps the members apart keeps them apart in the list
+-- Assumes nothing.
 use mathlib.Core.Path.{_≡_, refl, sym, ap, subst, _∙_}
 use mathlib.Core.List.{List, [], _∷_, map}
 use mathlib.Core.Bool.{Bool, true, false, not, _||_, _&&_, false≢true, true≢false}
@@ -73,7 +86,8 @@ module _ {A : Type 0} {same : A → A → Bool} (T : EqualityTest same) where
         where
           go2 : (t : Bool) → same x y ≡ t → t ≡ false
           go2 false q = refl
-          go2 true q = absurd (false≢true (sym e ∙ ap (λ (v : A). same v x) (T .sound z y f) ∙ ap (λ (v : A). same v x) (sym (T .sound x y q)) ∙ T .reflexive x))
+          go2 true q =
+              absurd (false≢true (sym e ∙ ap (λ (v : A). same v x) (T .sound z y f) ∙ ap (λ (v : A). same v x) (sym (T .sound x y q)) ∙ T .reflexive x))
       go false e false f ih = rw f ih
 
 module _ {A : Type 0} {same : A → A → Bool} (T : EqualityTest same) where

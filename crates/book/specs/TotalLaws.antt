@@ -46,15 +46,13 @@ module _ {A : Type 0} (t : A → Bool) where
       go false q e ih = omega (arith, ih e)
 
 -- ---- totals
-pub total-most : (s : Sheet) (l : ℕ) → total s l ≤ length (s .links)
-unfolding total
-total-most s l = tally-le (λ k. eqb (k .label) l) (s .links)
 
 pub total-add : (k : Link) (s : Sheet) (l : ℕ) → total (edited (add k) s) l ≡ bit (eqb (k .label) l) + total s l
 unfolding total edited tally
 total-add k s l = refl
 
-pub total-remove : (k : Link) (s : Sheet) (l : ℕ) → Distinct sameLink (s .links) → present s k ≡ true → total s l ≡ bit (eqb (k .label) l) + total (edited (remove k) s) l
+pub total-remove : (k : Link) (s : Sheet) (l : ℕ) → Distinct sameLink (s .links)
+    → present s k ≡ true → total s l ≡ bit (eqb (k .label) l) + total (edited (remove k) s) l
 unfolding total edited
 total-remove k s l d e = tally-without (λ j. eqb (j .label) l) sameLink-test k (s .links) d e
 

@@ -1,8 +1,13 @@
 -- Every case of the tables holds: one theorem for each table, from what the definitions compute.
+--   Computed       what is computed of a case whose text has a given verdict
+--   holds, by      a case is met if what is computed of it is so
+--   k1-to-k12      the worked cases K1 to K12
+--   withdrawn-3    the same links with the record 3 withdrawn, and reinstated
+--   others         what looks right and is wrong, and chains as short as one another
+--   sets           negated sets
 -- Assumes nothing.
 use mathlib.Core.Path.{_≡_, refl, subst}
-use mathlib.Core.List.{List, [], _∷_, map}
-use mathlib.Core.Bool.{Bool, true, false}
+use mathlib.Core.List.{List, _∷_, map}
 use Prim.Native.Nat.{ℕ, _≤_}
 use Prim.Native.String.{String}
 use native.Mathlib.Omega.{arith}
@@ -22,10 +27,11 @@ use Rattle.paths.specs.Verdicts.{verdict, verdict-right}
 use Rattle.paths.specs.ChainLaws.{Inside}
 use Rattle.paths.specs.RelationLaws.{cells-set, cells-has, cells-is}
 use Rattle.paths.specs.PairLaws.{pairs-are, history-inside, history-small}
-use Rattle.paths.specs.ChainOrder.{before}
-use Rattle.paths.specs.Acceptance.{parted, many, accepts}
-use Rattle.paths.specs.FirstChain.{reach, stepsBelow, before-each, after-each, walks, walksTo, end, best, just, firstTo, chainTo, chain-first}
-use Rattle.cases.specs.Tables.{bytes, Case, pairs-of, chain-of, none-of, tree-of, wordOf, Met, made, links, table, struck, struck-table, returned, returned-table, ring, ring-table, swapped-table, ties, ties-table, sets-table, set-ties-table}
+use Rattle.paths.specs.ChainOrderLaws.{before}
+use Rattle.paths.specs.AcceptanceLaws.{parted, many, accepts}
+use Rattle.paths.specs.FirstChainLaws.{reach, stepsBelow, before-each, after-each, walks, walksTo, end, best, just, firstTo, chainTo, chain-first}
+use Rattle.cases.specs.Tables.{bytes, Case, pairs-of, chain-of, none-of, tree-of, wordOf, Met, made, links, table, struck, struck-table, returned}
+use Rattle.cases.specs.Tables.{returned-table, ring, ring-table, swapped-table, ties, ties-table, sets-table, set-ties-table}
 
 -- ---- a case from what is computed
 read : (t : String) (e : Expr) → verdict (bytes t) ≡ accepted e → Judged (bytes t) (accepted e)
@@ -57,12 +63,16 @@ module _ (g : Graph) (I : Inside g) (s : g .n ≤ 1024) where
   holds k outside h q = absurd q
   holds k large h q = absurd q
 
-by : (n : ℕ) (cs : List Call) → n ≤ 1024 → (k : Case) {ks : List Case} → Computed (made n cs) (verdict (bytes (text k))) k → All (Met (made n cs)) ks → All (Met (made n cs)) (k ∷ ks)
+by : (n : ℕ) (cs : List Call) → n ≤ 1024 → (k : Case) {ks : List Case}
+    → Computed (made n cs) (verdict (bytes (text k))) k → All (Met (made n cs)) ks → All (Met (made n cs)) (k ∷ ks)
 by n cs h k q r = all-more (holds (made n cs) (history-inside n h cs) (history-small n h cs) k _ refl q) r
 
 -- K1 to K12
 pub k1-to-k12 : All (Met (made 4 links)) table
-unfolding table links bytes verdict readAlternatives alternativesIn letters depth standsFor after next turned editAnswer firstNumber number causes edited fresh has without asked most crossedBy zeroSteps diagonal transpose union serves product via closure cells rowPairs rowsPairs listed pairs parted many accepts before reach stepsBelow before-each after-each walks walksTo end best firstTo chainTo spell stepWords quadrant filled quarters keep levels treeBits rise height backwards
+unfolding table links bytes verdict readAlternatives alternativesIn letters depth standsFor after next turned editAnswer firstNumber number causes edited fresh
+    has without asked most crossedBy zeroSteps diagonal transpose union serves product via closure cells rowPairs rowsPairs listed pairs parted many accepts
+    before reach stepsBelow before-each after-each walks walksTo end best firstTo chainTo
+    spell stepWords quadrant filled quarters keep levels treeBits rise height backwards
 k1-to-k12 =
     let h : 4 ≤ 1024 = omega arith in
     by 4 links h _ refl
@@ -81,7 +91,9 @@ k1-to-k12 =
 
 -- with 3 withdrawn, and reinstated
 pub withdrawn-3 : All (Met (made 4 struck)) struck-table × All (Met (made 4 returned)) returned-table
-unfolding struck-table struck returned-table returned links bytes verdict readAlternatives alternativesIn letters depth standsFor after next turned editAnswer firstNumber number causes edited fresh has without touched asked most crossedBy zeroSteps diagonal transpose union serves product via closure cells rowPairs rowsPairs listed pairs parted many accepts before reach stepsBelow before-each after-each walks walksTo end best firstTo chainTo spell stepWords
+unfolding struck-table struck returned-table returned links bytes verdict readAlternatives alternativesIn letters depth standsFor after next turned editAnswer
+    firstNumber number causes edited fresh has without touched asked most crossedBy zeroSteps diagonal transpose union serves product via closure cells
+    rowPairs rowsPairs listed pairs parted many accepts before reach stepsBelow before-each after-each walks walksTo end best firstTo chainTo spell stepWords
 withdrawn-3 =
     let h : 4 ≤ 1024 = omega arith in (
       by 4 struck h _ refl
@@ -97,7 +109,10 @@ withdrawn-3 =
 
 -- what looks right and is wrong, and chains as short as one another
 pub others : All (Met (made 3 ring)) ring-table × All (Met (made 4 links)) swapped-table × All (Met (made 4 ties)) ties-table
-unfolding ring-table ring swapped-table links ties-table ties bytes verdict readAlternatives alternativesIn letters depth standsFor after next turned editAnswer firstNumber number causes edited fresh has without asked most crossedBy zeroSteps diagonal transpose union serves product via closure cells rowPairs rowsPairs listed pairs parted many accepts before reach stepsBelow before-each after-each walks walksTo end best firstTo chainTo spell stepWords quadrant filled quarters keep levels treeBits rise height backwards
+unfolding ring-table ring swapped-table links ties-table ties bytes verdict readAlternatives alternativesIn letters depth standsFor after next turned editAnswer
+    firstNumber number causes edited fresh has without asked most crossedBy zeroSteps diagonal transpose union serves product via closure cells rowPairs
+    rowsPairs listed pairs parted many accepts before reach stepsBelow before-each after-each walks walksTo end
+    best firstTo chainTo spell stepWords quadrant filled quarters keep levels treeBits rise height backwards
 others =
     let h : 3 ≤ 1024 = omega arith in
     let i : 4 ≤ 1024 = omega arith in (
@@ -116,7 +131,10 @@ others =
 
 -- negated sets
 pub sets : All (Met (made 4 links)) sets-table × All (Met (made 4 ties)) set-ties-table
-unfolding sets-table set-ties-table links ties bytes verdict readAlternatives alternativesIn membersIn letters depth hasSense standsFor after next turned editAnswer firstNumber number causes edited fresh has without asked most crossedBy zeroSteps diagonal transpose union serves product via closure cells rowPairs rowsPairs listed pairs parted many accepts before reach stepsBelow before-each after-each walks walksTo end best firstTo chainTo spell stepWords quadrant filled quarters keep levels treeBits rise height backwards
+unfolding sets-table set-ties-table links ties bytes verdict readAlternatives alternativesIn membersIn letters depth hasSense standsFor after next turned
+    editAnswer firstNumber number causes edited fresh has without asked most crossedBy zeroSteps diagonal transpose union serves product via closure cells
+    rowPairs rowsPairs listed pairs parted many accepts before reach stepsBelow before-each after-each walks walksTo
+    end best firstTo chainTo spell stepWords quadrant filled quarters keep levels treeBits rise height backwards
 sets =
     let h : 4 ≤ 1024 = omega arith in (
       by 4 links h _ refl

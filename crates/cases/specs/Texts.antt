@@ -1,13 +1,11 @@
 -- Texts and the number that their verdict gives, 0 for an expression: the faults of S3.4 and the limits of S8.2, negated sets among them, each by computation.
---   rated           the number of the verdict on a text
---   texts           a table of texts with their numbers; texts-rated says that they are those
---   repeated k u    the bytes u, k times
+--   rated          the number of the verdict on a text
+--   repeated k u   the bytes u, k times
+--   texts          a table of texts with their numbers; texts-rated says that they are those
 -- Assumes nothing.
 use mathlib.Core.Path.{_≡_, refl}
 use mathlib.Core.List.{List, [], _∷_, _++_, map}
 use Prim.Native.Nat.{ℕ, zero, suc}
-use Prim.Native.String.{String}
-use lib.ListN.{length}
 use Rattle.book.specs.Causes.{number, firstNumber}
 use Rattle.paths.specs.Expressions.{letters, depth}
 use Rattle.paths.specs.Grammar.{verdictCause}
@@ -41,7 +39,8 @@ texts =
     (bytes "!(a|b|c|d|e|f|g|h|i|j|k|l|m|n|o|p|q|r|s|t|u|v|w|x|y|z)", 0) ∷
     -- their faults
     (bytes "!", 9) ∷ (bytes "!()", 9) ∷ (bytes "!(a", 9) ∷ (bytes "!(a|", 9) ∷ (bytes "!(a|)", 9) ∷ (bytes "!(|a)", 9) ∷ (bytes "!((a))", 9) ∷
-    (bytes "!(a*)", 9) ∷ (bytes "!a**", 9) ∷ (bytes "!(a/b)", 9) ∷ (bytes "!(!a)", 9) ∷ (bytes "!!a", 9) ∷ (bytes "!^^a", 9) ∷ (bytes "^^!a", 9) ∷ (bytes "!*", 9) ∷ (bytes "!A", 9) ∷
+    (bytes "!(a*)", 9) ∷ (bytes "!a**", 9) ∷ (bytes "!(a/b)", 9) ∷ (bytes "!(!a)", 9)
+    ∷ (bytes "!!a", 9) ∷ (bytes "!^^a", 9) ∷ (bytes "^^!a", 9) ∷ (bytes "!*", 9) ∷ (bytes "!A", 9) ∷
     (bytes "a!", 9) ∷ (bytes "!(a b)", 9) ∷ (bytes "!(^)", 9) ∷
     -- a set's parentheses are no group: eight groups around one pass, nine give 10
     (repeated 8 (bytes "(") ++ (bytes "!(a|b)" ++ repeated 8 (bytes ")")), 0) ∷

@@ -1,4 +1,15 @@
--- From the register, the reader and the search to the book's answer. Assumes nothing.
+-- From the register, the reader and the search to the book's answer.
+--   inside, spans  the book's graph is proper, and the register's words span it
+--   used, withdrawn-from, withdrawn-to
+--                  a record below n is in use unless it is said to be withdrawn; from or to a withdrawn one there is no chain
+--   asked-size     the graph has the book's n
+--   answer-record, answer-text, answer-work, answer-list, answer-reply
+--                  the book's answer, by the first cause: 2, the text's number, 12, 13, or the reply
+--   foundAnswer    the answer, by what the search found
+--   refuses, refuses-record, refuses-text, refuses-work
+--                  a refusal keeps the promise: any, and by each of the causes before the search
+--   replies        so does the answer by what the search found
+-- Assumes nothing.
 use mathlib.Core.Path.{_≡_, refl, sym, ap, _∙_, subst}
 use mathlib.Core.Logic.{_⊎_, inl, inr}
 use mathlib.Core.List.{List, _++_}
@@ -18,7 +29,7 @@ use Rattle.paths.specs.Verdicts.{verdict}
 use Rattle.paths.specs.Chains.{Graph, asked, Step, Answers, Reply, none as no-reply, chain as chain-reply, ChainIs, no-chain, first-chain}
 use Rattle.paths.specs.ChainLaws.{Inside}
 use Rattle.paths.specs.PairLaws.{in-use, fit-inside, withdrawn-none, none-withdrawn, verdict-caused}
-use Rattle.paths.specs.FirstChain.{reply-only}
+use Rattle.paths.specs.FirstChainLaws.{reply-only}
 use Rattle.paths.specs.Questions.{refused, replied, ReplyTo, chainWork, steps, chainCauses, chainAnswer, listAfter}
 use Rattle.register.specs.declared.Register.{Register}
 use Rattle.register.specs.Links.{linkWord, linkOf, Linked}
@@ -122,7 +133,8 @@ foundAnswer Nowhere = NoChain
 foundAnswer Short = Refused 13
 
 -- no reply is shorter than a shortest chain
-reply-long : {g : Graph} {e : Expr} {x y : ℕ} {t : Reply} → ChainIs g e x y t → (ss : List Step) → Answers g e x y ss → ((ts : List Step) → Answers g e x y ts → length ss ≤ length ts) → length ss ≤ length (steps t)
+reply-long : {g : Graph} {e : Expr} {x y : ℕ} {t : Reply} → ChainIs g e x y t → (ss : List Step)
+    → Answers g e x y ss → ((ts : List Step) → Answers g e x y ts → length ss ≤ length ts) → length ss ≤ length (steps t)
 unfolding steps
 reply-long (no-chain h) ss s l = absurd (h ss s)
 reply-long (first-chain ts F) ss s l = let z = l ts (F .answers) in let y = length-stepWords ts in omega arith
@@ -133,29 +145,43 @@ refused-as : {k : ℕ} → Caused k → (j : ℕ) → Refused k ≡ Refused j �
 refused-as {k} c j e = let z : k ≡ j = cc in subst Caused z c
 
 module _ {self : Register} {x y : ℕ} {text : List ℕ} {work : ℕ} {list : List ℕ} where
+  -- what was found, by another equation
+  pub replies-as : {list′ : List ℕ} {r r′ : Found} → r ≡ r′ → Replies self x y text work list list′ (foundAnswer r)
+      → Replies self x y text work list list′ (foundAnswer r′)
+  replies-as {list′} e a = subst (λ (q : Found). Replies self x y text work list list′ (foundAnswer q)) e a
+
   -- a refusal
-  pub refuses : (k : ℕ) → Caused k → ((b : Book) → Represents self b → (t : Reply) → ReplyTo (asked b) (verdict text) x y t → chainAnswer b x y (verdict text) t work (length list) ≡ refused k) → Replies self x y text work list list (Refused k)
+  pub refuses : (k : ℕ) → Caused k
+      → ((b : Book) → Represents self b → (t : Reply) → ReplyTo (asked b) (verdict text) x y t
+      → chainAnswer b x y (verdict text) t work (length list) ≡ refused k) → Replies self x y text work list list (Refused k)
   unfolding outcomeOf stepsLength listAfter
   refuses k c h = record { fits = omega arith; past = refl; caused = refused-as c; answers = λ b R t q. (let e = h b R t q in (sym e, rw e refl)) }
 
   module _ {n : ℕ} (size : (b : Book) → Represents self b → n ≡ b .n) where
     pub refuses-record : (n ≤ x) ⊎ (n ≤ y) → Replies self x y text work list list (Refused 2)
     unfolding number
-    refuses-record h = refuses 2 (no-record, refl) (λ b R t q. answer-record b x y t work (length list) (verdict text) (subst (λ (m : ℕ). (m ≤ x) ⊎ (m ≤ y)) (size b R) h))
+    refuses-record h =
+        refuses 2 (no-record, refl) (λ b R t q. answer-record b x y t work (length list) (verdict text) (subst (λ (m : ℕ). (m ≤ x) ⊎ (m ≤ y)) (size b R) h))
 
     module _ (hx : x < n) (hy : y < n) where
       pub refuses-text : (k : ℕ) → firstNumber (verdictCause (verdict text)) ≡ k → 0 < k → Replies self x y text work list list (Refused k)
-      refuses-text k e h = refuses k (verdict-caused (verdict text) k e h) (λ b R t q. (let s = size b R in answer-text b x y t work (length list) (omega arith) (omega arith) (verdict text) k e h))
+      refuses-text k e h =
+          refuses k (verdict-caused (verdict text) k e h) (λ b R t q. (let s = size b R in
+          answer-text b x y t work (length list) (omega arith) (omega arith) (verdict text) k e h))
 
       module _ (e : Expr) (a : verdict text ≡ accepted e) where
         pub refuses-work : work < n * 64 → Replies self x y text work list list (Refused 12)
         unfolding number
-        refuses-work h = refuses 12 (short-work, refl) (λ b R t q. (let s = size b R in answer-work b x y t work (length list) (omega arith) (omega arith) (verdict text) e a (omega arith)))
+        refuses-work h =
+            refuses 12 (short-work, refl) (λ b R t q. (let s = size b R in
+            answer-work b x y t work (length list) (omega arith) (omega arith) (verdict text) e a (omega arith)))
 
         module _ (enough : n * 64 ≤ work) where
           replies-short : ((b : Book) → Represents self b → Answered (asked b) e x y list list Short) → Replies self x y text work list list (Refused 13)
           unfolding number
-          replies-short h = refuses 13 (short-list, refl) (λ b R t q. (let s = size b R in answer-list b x y t work (length list) (omega arith) (omega arith) (verdict text) e a (omega arith) (go (h b R) refl (q e a))))
+          replies-short h =
+              refuses 13 (short-list, refl) (λ b R t q. (let s = size b R in
+              answer-list b x y t work (length list) (omega arith) (omega arith) (verdict text) e a (omega arith) (go (h b R) refl (q e a))))
             where
               go : {g : Graph} {t : Reply} {r : Found} → Answered g e x y list list r → r ≡ Short → ChainIs g e x y t → length list < length (steps t)
               go (first ss F z) i c = absurd (let z : _≡_ {A = ℕ} 0 1 = cc in omega arith)
@@ -171,23 +197,31 @@ module _ {self : Register} {x y : ℕ} {text : List ℕ} {work : ℕ} {list : Li
               is-none (short ss s l m) i c = absurd (let z : _≡_ {A = ℕ} 0 1 = cc in omega arith)
               is-none (none z) i c = reply-only c (no-chain z)
 
-              ans : (b : Book) → Represents self b → (t : Reply) → ReplyTo (asked b) (verdict text) x y t → (replied no-reply ≡ chainAnswer b x y (verdict text) t work (length list)) × (list ≡ listAfter (chainAnswer b x y (verdict text) t work (length list)) list)
+              ans : (b : Book) → Represents self b → (t : Reply) → ReplyTo (asked b) (verdict text) x y t
+                  → (replied no-reply ≡ chainAnswer b x y (verdict text) t work (length list))
+                  × (list ≡ listAfter (chainAnswer b x y (verdict text) t work (length list)) list)
               ans b R t q =
                   let s = size b R in
                   let i = is-none (h b R) refl (q e a) in
                   let r = answer-reply b x y t work (length list) (omega arith) (omega arith) (verdict text) e a (omega arith) (rw i (omega arith)) in
                   (ap replied (sym i) ∙ sym r, rw (r, i) refl)
 
-          replies-chain : {list′ : List ℕ} {k : ℕ} → k ≤ length list → length list′ ≡ length list → drop k list′ ≡ drop k list → ((b : Book) → Represents self b → Answered (asked b) e x y list list′ (Steps k)) → Replies self x y text work list list′ (Chain k)
+          replies-chain : {list′ : List ℕ} {k : ℕ} → k ≤ length list → length list′ ≡ length list → drop k list′ ≡ drop k list
+              → ((b : Book) → Represents self b → Answered (asked b) e x y list list′ (Steps k)) → Replies self x y text work list list′ (Chain k)
           unfolding outcomeOf stepsLength listAfter steps
-          replies-chain {list′} {k} hk same rest h = record { fits = hk; past = rest; caused = λ k q. absurd (let z : _≡_ {A = ℕ} 0 1 = cc in omega arith); answers = ans }
+          replies-chain {list′} {k} hk same rest h =
+              record { fits = hk; past = rest; caused = λ k q. absurd (let z : _≡_ {A = ℕ} 0 1 = cc in omega arith); answers = ans }
             where
               is-chain : {g : Graph} {t : Reply} {r : Found} → Answered g e x y list list′ r → r ≡ Steps k → ChainIs g e x y t → t ≡ chain-reply (take k list′)
               is-chain (none z) i c = absurd (let z : _≡_ {A = ℕ} 0 1 = cc in omega arith)
               is-chain (short ss s l m) i c = absurd (let z : _≡_ {A = ℕ} 0 1 = cc in omega arith)
-              is-chain (first {k = j} ss F z) i c = let u : j ≡ k = cc in reply-only c (first-chain ss F) ∙ ap chain-reply (sym z ∙ ap (λ (m : ℕ). take m list′) u)
+              is-chain (first {k = j} ss F z) i c =
+                  let u : j ≡ k = cc in
+                  reply-only c (first-chain ss F) ∙ ap chain-reply (sym z ∙ ap (λ (m : ℕ). take m list′) u)
 
-              ans : (b : Book) → Represents self b → (t : Reply) → ReplyTo (asked b) (verdict text) x y t → (replied (chain-reply (take k list′)) ≡ chainAnswer b x y (verdict text) t work (length list)) × (list′ ≡ listAfter (chainAnswer b x y (verdict text) t work (length list)) list)
+              ans : (b : Book) → Represents self b → (t : Reply) → ReplyTo (asked b) (verdict text) x y t
+                  → (replied (chain-reply (take k list′)) ≡ chainAnswer b x y (verdict text) t work (length list))
+                  × (list′ ≡ listAfter (chainAnswer b x y (verdict text) t work (length list)) list)
               ans b R t q =
                   let s = size b R in
                   let i = is-chain (h b R) refl (q e a) in
@@ -195,7 +229,12 @@ module _ {self : Register} {x y : ℕ} {text : List ℕ} {work : ℕ} {list : Li
                   let r = answer-reply b x y t work (length list) (omega arith) (omega arith) (verdict text) e a (omega arith) (rw i (omega arith)) in
                   (ap replied (sym i) ∙ sym r, rw (r, i, l) (sym (take-append-drop k list′) ∙ ap (λ (m : List ℕ). take k list′ ++ m) rest))
 
-          pub replies : {list′ : List ℕ} {r : Found} → Untouched list list′ r → length list′ ≡ length list → ((b : Book) → Represents self b → Answered (asked b) e x y list list′ r) → Replies self x y text work list list′ (foundAnswer r)
+          pub replies : {list′ : List ℕ} {r : Found} → Untouched list list′ r → length list′ ≡ length list
+              → ((b : Book) → Represents self b → Answered (asked b) e x y list list′ r) → Replies self x y text work list list′ (foundAnswer r)
           replies (written hk rest) same h = replies-chain hk same rest h
-          replies (none-found q) same h = subst (λ (l : List ℕ). Replies self x y text work list l NoChain) (sym q) (replies-none (λ b R. subst (λ (l : List ℕ). Answered (asked b) e x y list l Nowhere) q (h b R)))
-          replies (too-long q) same h = subst (λ (l : List ℕ). Replies self x y text work list l (Refused 13)) (sym q) (replies-short (λ b R. subst (λ (l : List ℕ). Answered (asked b) e x y list l Short) q (h b R)))
+          replies (none-found q) same h =
+              subst (λ (l : List ℕ). Replies self x y text work list l NoChain) (sym q)
+              (replies-none (λ b R. subst (λ (l : List ℕ). Answered (asked b) e x y list l Nowhere) q (h b R)))
+          replies (too-long q) same h =
+              subst (λ (l : List ℕ). Replies self x y text work list l (Refused 13)) (sym q)
+              (replies-short (λ b R. subst (λ (l : List ℕ). Answered (asked b) e x y list l Short) q (h b R)))

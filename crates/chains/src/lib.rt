@@ -35,8 +35,11 @@ fn sought(
     work: &mut [u64],
     list: &mut [u32],
 ) -> Found
-    requires { ⌜ (count ≤ length (now links)) × (count ≤ maxLinks) × (ends .n ≤ maxRecords) × (ends .from < ends .n) × (ends .to < ends .n) × (ends .n * 64 ≤ length (now work)) × ((text : List ℕ) × (e : Expr) × InLimits text e × (now numbers ≡ code e)) ⌝ }
-    ensures { λ r. ⌜ Untouched (now (list .entry)) (now (list .exit)) r × ((text : List ℕ) (e : Expr) → InLimits text e → now (numbers .entry) ≡ code e → (b : Book) → Represents register b → ends .n ≡ b .n → Spans (now (links .entry)) count (asked b) → Answered (asked b) e (ends .from) (ends .to) (now (list .entry)) (now (list .exit)) r) ⌝ }
+    requires { ⌜ (count ≤ length (now links)) × (count ≤ maxLinks) × (ends .n ≤ maxRecords) × (ends .from < ends .n) × (ends .to < ends .n)
+        × (ends .n * 64 ≤ length (now work)) × ((text : List ℕ) × (e : Expr) × InLimits text e × (now numbers ≡ code e)) ⌝ }
+    ensures { λ r. ⌜ Untouched (now (list .entry)) (now (list .exit)) r
+        × ((text : List ℕ) (e : Expr) → InLimits text e → now (numbers .entry) ≡ code e → (b : Book) → Represents register b → ends .n ≡ b .n
+        → Spans (now (links .entry)) count (asked b) → Answered (asked b) e (ends .from) (ends .to) (now (list .entry)) (now (list .exit)) r) ⌝ }
 {
     if register.is_withdrawn(ends.from as u16) {
         return Found::Nowhere;

@@ -1,5 +1,6 @@
 // The program of the dating register: frames on standard input, lines on standard output.
-// What a frame does and prints, and where a run ends, is proved of session::step, against crates/session/specs/Program.antt; here bytes are only read and written.
+// What a frame does and prints, and where a run ends, is proved of session::step, against crates/session/specs/Program.antt; here
+// bytes are only read and written.
 use libc::STDIN_FILENO;
 use libc::STDOUT_FILENO;
 use session::State;

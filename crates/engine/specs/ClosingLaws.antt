@@ -15,7 +15,7 @@ use Rattle.paths.specs.Questions.{Outcome as Question·Outcome, refused, paired
 use Rattle.paths.specs.Renaming.{renamedReply, renamedOutcome, newNumber}
 use Rattle.paths.specs.ClosingLaws.{closing-pairs, closing-chain}
 use Rattle.register.specs.Representation.{Represents}
-use Rattle.register.specs.Calls.{answerNumber, answerOf, Closes}
+use Rattle.register.specs.Calls.{answerNumber, Closes}
 use Rattle.register.specs.HistoryLaws.{represents-sound, number-answer}
 use Rattle.register.specs.declared.Register.{Register}
 use Rattle.register.specs.declared.Outcome.{Outcome}
@@ -46,7 +46,8 @@ module _ {r : Register} {before after : List ℕ} {out : Outcome} (c : Closes r 
         n .list ∙ ap (λ (u : Question·Outcome). listAfter u l) e,
       )
 
-  pub chain-after : (x y : ℕ) → used (b .n) (b .sheet) x ≡ true → used (b .n) (b .sheet) y ≡ true → (text : List ℕ) (work : ℕ) (l l₂ : List ℕ) (a₂ : ChainAnswer) → chainWork (b .n) ≤ work
+  pub chain-after : (x y : ℕ) → used (b .n) (b .sheet) x ≡ true → used (b .n) (b .sheet) y ≡ true
+      → (text : List ℕ) (work : ℕ) (l l₂ : List ℕ) (a₂ : ChainAnswer) → chainWork (b .n) ≤ work
       → Replies (out .register) (newNumber b x) (newNumber b y) text work l l₂ a₂ → (t : Reply) → ReplyTo (asked b) (verdict text) x y t
       → (outcomeOf a₂ l₂ ≡ renamedOutcome (newNumber b) (chainAnswer b x y (verdict text) t work (length l)))
       × (l₂ ≡ listAfter (renamedOutcome (newNumber b) (chainAnswer b x y (verdict text) t work (length l))) l)

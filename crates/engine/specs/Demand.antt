@@ -1,19 +1,17 @@
 -- Demand 3, undivided: what is claimed of every history, and of the questions asked after it. It speaks of the plain book, of chains and of words.
---   PairsAsked      a pair question: its text, how many words of work were lent, the list as it was and as it is then, and the answer
---   ChainAsked      a chain question: from, to, and the same
---   Transcript      a history and the questions after it: n, the calls, the number told to each, the list that each closing up was lent, at the end the words
---                   of the links, the mark of each record (register `Marks`) and the total of each label, and the two questions asked then
---   bookAfter i     the plain book after the calls of i, from a fresh one
---   PairsAccepted b q e
---                   the pair question q about the book b is accepted: its text is the expression e, and work is enough
---   PairsClaim b q  an accepted pair question is answered by the number of all pairs with a chain, and the list has the smallest of them, ascending, each
---                   once, as many as it takes: every pair in it is smaller than every other (paths/PairLaws `first-part`)
---   ChainAccepted b q e
---                   the chain question q about the book b is accepted: its text is the expression e, its records exist, and work is enough
---   ChainSays g e q of an accepted chain question: where there is a chain there is a first of all chains, none shorter and none as short before it, and it
---                   is handed out with the number of its steps, if the list takes it; none is said exactly if there is no chain of any length
---   ChainClaim b q  so for every accepted chain question
---   Demand i        answers, the lists that closings up gave, links, locks, withdrawn records, totals and both questions are those of the plain book
+--   PairsAsked           a pair question: its text, how many words of work were lent, the list as it was and as it is then, and the answer
+--   ChainAsked           a chain question: from, to, and the same
+--   Transcript           a history and the questions after it: n, the calls, the number told to each, the list that each closing up was lent, at the end the
+--                        words of the links, the mark of each record (register `Marks`) and the total of each label, and the two questions asked then
+--   bookAfter i          the plain book after the calls of i, from a fresh one
+--   PairsAccepted b q e  the pair question q about the book b is accepted: its text is the expression e, and work is enough
+--   PairsClaim b q       an accepted pair question is answered by the number of all pairs with a chain, and the list has the smallest of them, ascending, each
+--                        once, as many as it takes: every pair in it is smaller than every other (paths/PairLaws `first-part`)
+--   ChainAccepted b q e  the chain question q about the book b is accepted: its text is the expression e, its records exist, and work is enough
+--   ChainSays g e q      of an accepted chain question: where there is a chain there is a first of all chains, none shorter and none as short before it, and it
+--                        is handed out with the number of its steps, if the list takes it; none is said exactly if there is no chain of any length
+--   ChainClaim b q       so for every accepted chain question
+--   Demand i             answers, the lists that closings up gave, links, locks, withdrawn records, totals and both questions are those of the plain book
 -- Assumes nothing: these are definitions.
 use mathlib.Core.Path.{_≡_}
 use mathlib.Core.List.{List}

@@ -1,7 +1,6 @@
 -- Demand 3: the theorem. It rests on what the calls promise and on nothing else of the engine.
 --   pairs-claim, chain-claim
 --                   what the questions promise gives what is claimed of them
---   faulty-kept     of a faulty expression: its number, and the list as it was
 --   claims          answers, lists given and register of the book are all that is needed
 --   demand-3        for every n from 1 to 1,024, every list of calls, and every question asked of the register at the end
 --   replayed-calls  what `replay` tells the calls among its words is what the book answers
@@ -9,45 +8,40 @@
 -- Assumes nothing.
 use mathlib.Core.Path.{_≡_, refl, sym, ap, _∙_, subst}
 use mathlib.Core.List.{List, [], _∷_, _++_}
-use mathlib.Core.Bool.{Bool, true, false}
+use mathlib.Core.Bool.{true, false}
 use Prim.Native.Nat.{ℕ, zero, suc, _+_, _*_, _≤_, _<_}
 use native.Mathlib.Omega.{arith}
-use lib.Dec.{leb, ltb}
 use lib.ListN.{length, take, drop, length-append, length-drop}
 use lib.Seq.{length-take-le}
 use borrow.Author.Tests.{lt-leb, le-ltb}
 use Rattle.book.specs.Basics.{pick, bit, here, has}
 use Rattle.book.specs.Causes.{number, firstNumber, maxRecords}
-use Rattle.book.specs.Book.{Book, Call, fresh, answers, after, givens, freshAnswer}
+use Rattle.book.specs.Book.{Book, fresh, answers, givens, freshAnswer}
 use Rattle.paths.specs.Expressions.{Expr}
 use Rattle.paths.specs.Grammar.{Verdict, accepted, Judged, verdictCause}
 use Rattle.paths.specs.Chains.{asked, Step, stepWords, Answers, First, Reply, none, chain, ChainIs, no-chain, first-chain}
-use Rattle.paths.specs.Relations.{PairsAre, pairs}
+use Rattle.paths.specs.Relations.{pairs}
 use Rattle.paths.specs.PairLaws.{fit-inside, pairs-are, first-part}
-use Rattle.paths.specs.FirstChain.{has-first}
+use Rattle.paths.specs.FirstChainLaws.{has-first}
 use Rattle.paths.specs.Verdicts.{verdict, verdict-only}
-use Rattle.paths.specs.Questions.{Outcome, refused, paired, replied, unless, pairsWork, chainWork, ReplyTo, steps, chainCauses, chainAnswer, pairsAnswer, over, listAfter}
+use Rattle.paths.specs.Questions.{Outcome, paired, replied, unless, chainWork, ReplyTo, steps, chainCauses, chainAnswer, pairsAnswer, over, listAfter}
 use Rattle.register.specs.Links.{Linked}
 use Rattle.register.specs.Representation.{Represents}
 use Rattle.register.specs.Calls.{Opens}
 use Rattle.register.specs.History.{Gives, CallsMade, wordCall, wordAnswers, isCall, callsOf, toldCalls}
 use Rattle.register.specs.HistoryLaws.{history, word-answers-length, told-calls}
-use Rattle.register.specs.Questions.{Listing, MarkList}
 use Rattle.register.specs.declared.Register.{Register}
-use Rattle.register.specs.declared.Links.{Links}
 use Rattle.register.specs.declared.Outcome.{Outcome as Told}
-use Rattle.reader.specs.Reads.{readAnswer}
-use Rattle.reader.specs.declared.Answer.the-variants.{Refused as Faulty}
-use Rattle.pairs.specs.Asking.{Tells, told-number, told-pairs, BookPairs, AsksPairs}
-use Rattle.pairs.specs.AskingLaws.{asks-refused, asks-paired}
+use Rattle.pairs.specs.Asking.{Tells, told-number, told-pairs, AsksPairs}
+use Rattle.pairs.specs.AskingLaws.{asks-paired}
 use Rattle.pairs.specs.declared.PairsAnswer.{PairsAnswer}
-use Rattle.pairs.specs.declared.PairsAnswer.the-variants.{Pairs, Refused}
+use Rattle.pairs.specs.declared.PairsAnswer.the-variants.{Pairs}
 use Rattle.automaton.specs.WalkLaws.{length-stepWords}
 use Rattle.chains.specs.Replies.{outcomeOf, stepsLength, Replies}
 use Rattle.chains.specs.declared.ChainAnswer.{ChainAnswer}
 use Rattle.chains.specs.declared.ChainAnswer.the-variants.{Chain, NoChain, Refused as NotAnswered}
 use Rattle.engine.specs.Inquiries.{Gave}
-use Rattle.engine.specs.Demand.{PairsAsked, ChainAsked, Transcript, bookAfter, PairsAccepted, PairsClaim, ChainAccepted, ChainClaim, Demand}
+use Rattle.engine.specs.Demand.{PairsAsked, ChainAsked, Transcript, bookAfter, PairsClaim, ChainClaim, Demand}
 
 -- what a register shows lies within its records
 small : {e : Register} {b : Book} → Represents e b → b .n ≤ 1024
@@ -58,7 +52,8 @@ told-as : {o : Outcome} {a : PairsAnswer} (total : ℕ) (ws : List ℕ) → Tell
 told-as total ws (told-number {k}) e = absurd (let z : _≡_ {A = ℕ} 0 1 = cc in omega arith)
 told-as total ws (told-pairs {total = k}) e = let z : k ≡ total = cc in ap Pairs z
 
-pub pairs-claim : {r : Register} {b : Book} → Represents r b → (q : PairsAsked) → AsksPairs r (q .text) (q .work) (q .before) (q .after) (q .answer) → PairsClaim b q
+pub pairs-claim : {r : Register} {b : Book} → Represents r b → (q : PairsAsked)
+    → AsksPairs r (q .text) (q .work) (q .before) (q .after) (q .answer) → PairsClaim b q
 unfolding listAfter asked
 pairs-claim {r} {b} R q Q e A =
     let v : accepted e ≡ verdict (q .text) = verdict-only (A .expression) in
@@ -66,23 +61,17 @@ pairs-claim {r} {b} R q Q e A =
     let are = pairs-are (asked b) (fit-inside b (R .sheet .fit)) (small R) e in
     let room = length (q .before) in
     let o : pairsAnswer b (verdict (q .text)) (q .work) room ≡ paired (length l) (take room l) =
-    ap (λ (u : Verdict). pairsAnswer b u (q .work) room) (sym v) ∙ asks-paired b (q .work) room e (A .work) in
-    (l, are, told-as (length l) (take room l) (Q .book b R .tells) o, Q .book b R .list ∙ ap (λ (u : Outcome). listAfter u (q .before)) o, λ w v. first-part room w v l (are .ascending))
-
--- a faulty expression is refused with its number, and the list is as it was
-told-refused : {o : Outcome} {a : PairsAnswer} (k : ℕ) → Tells o a → o ≡ refused k → a ≡ Refused k
-told-refused k (told-number {k = j}) e = let z : j ≡ k = cc in ap Refused z
-told-refused k (told-pairs {total}) e = absurd (let z : _≡_ {A = ℕ} 0 1 = cc in omega arith)
-
-pub faulty-kept : {b : Book} {v : Verdict} {work : ℕ} {before after′ : List ℕ} {a : PairsAnswer} (k : ℕ) → readAnswer v ≡ Faulty k → BookPairs b v work before after′ a
-    → (a ≡ Refused k) × (after′ ≡ before)
-unfolding listAfter
-faulty-kept {b} {v} {work} {before} k e B =
-    let o = asks-refused b work (length before) v k e in
-    (told-refused k (B .tells) o, B .list ∙ ap (λ (u : Outcome). listAfter u before) o)
+    ap (λ (u : Verdict). pairsAnswer b u (q .work) room) (sym v) ∙ asks-paired b (q .work) room e (A .work) in (
+      l,
+      are,
+      told-as (length l) (take room l) (Q .book b R .tells) o,
+      Q .book b R .list ∙ ap (λ (u : Outcome). listAfter u (q .before)) o,
+      λ w v. first-part room w v l (are .ascending),
+    )
 
 -- ---- chain questions
-module _ {e : Register} {b : Book} (R : Represents e b) (x y : ℕ) (text : List ℕ) (work : ℕ) (before after′ : List ℕ) (a : ChainAnswer) (Q : Replies e x y text work before after′ a)
+module _ {e : Register} {b : Book} (R : Represents e b) (x y : ℕ) (text : List ℕ) (work : ℕ)
+    (before after′ : List ℕ) (a : ChainAnswer) (Q : Replies e x y text work before after′ a)
     (f : Expr) (J : Judged text (accepted f)) (hx : x < b .n) (hy : y < b .n) (w : chainWork (b .n) ≤ work) where
   read-as : accepted f ≡ verdict text
   read-as = verdict-only J
@@ -108,7 +97,9 @@ module _ {e : Register} {b : Book} (R : Represents e b) (x y : ℕ) (text : List
   says-chain ws o l h = go a o (Q .fits)
     where
       long : length after′ ≡ length before
-      long = ap length l ∙ length-append ws (drop (length ws) before) ∙ (let d = length-drop (length ws) before in let z : length ws + length (drop (length ws) before) ≡ length before = omega arith in z)
+      long =
+          ap length l ∙ length-append ws (drop (length ws) before)
+          ∙ (let d = length-drop (length ws) before in let z : length ws + length (drop (length ws) before) ≡ length before = omega arith in z)
 
       go : (r : ChainAnswer) → outcomeOf r after′ ≡ replied (chain ws) → stepsLength r ≤ length before → r ≡ Chain (length ws)
       go (Chain k) o q =
@@ -146,7 +137,8 @@ module _ {e : Register} {b : Book} (R : Represents e b) (x y : ℕ) (text : List
       let F = has-first (asked b) (fit-inside b (R .sheet .fit)) f x y (ss, A) in
       let t : Reply = chain (stepWords (F .0)) in
       let o = Q .answers b R t (reply-to t (first-chain (F .0) (F .1))) .0 in
-      not-none (firstNumber (chainCauses b x y (verdict text) t work (length before))) (stepWords (F .0)) (sym (ap (λ (r : ChainAnswer). outcomeOf r after′) q) ∙ o)
+      not-none (firstNumber (chainCauses b x y (verdict text) t work (length before)))
+      (stepWords (F .0)) (sym (ap (λ (r : ChainAnswer). outcomeOf r after′) q) ∙ o)
 
   -- where there is a chain there is a first one
   first-of : (ts : List Step) → Answers (asked b) f x y ts
@@ -194,9 +186,11 @@ told-front (w ∷ ws) [] ys h = absurd (omega arith)
 told-front (w ∷ ws) (k ∷ xs) ys h = ap (λ (l : List ℕ). pick (isCall (wordCall w)) (k ∷ l) l) (told-front ws xs ys (omega arith))
 
 -- the calls among the words are told the book's answers
-pub replayed-calls : (n : ℕ) (words old new : List ℕ) → new ≡ wordAnswers (fresh n) words ++ drop (length words) old → toldCalls words new ≡ answers (fresh n) (callsOf words)
+pub replayed-calls : (n : ℕ) (words old new : List ℕ) → new ≡ wordAnswers (fresh n) words ++ drop (length words) old
+    → toldCalls words new ≡ answers (fresh n) (callsOf words)
 replayed-calls n words old new e =
-    ap (toldCalls words) e ∙ told-front words (wordAnswers (fresh n) words) (drop (length words) old) (word-answers-length (fresh n) words) ∙ told-calls (fresh n) words
+    ap (toldCalls words) e ∙ told-front words (wordAnswers (fresh n) words) (drop (length words) old) (word-answers-length (fresh n) words)
+    ∙ told-calls (fresh n) words
 
 -- a fresh register shows no link
 pub none-linked : (n : ℕ) (ws : List ℕ) → Linked ws (fresh n .sheet) → ws ≡ []

@@ -18,7 +18,7 @@ use mathlib.Core.Bool.{false}
 use Prim.Native.Nat.{ℕ, _<_}
 use lib.ListN.{length, take, drop, getD}
 use Rattle.book.specs.Causes.{labels}
-use Rattle.book.specs.Book.{Book, fresh, after, givens}
+use Rattle.book.specs.Book.{fresh, after, givens}
 use Rattle.paths.specs.Verdicts.{verdict}
 use Rattle.register.specs.Calls.{answerOf}
 use Rattle.register.specs.History.{Lent, wordAnswers, callsOf, toldCalls, closings, laid, parts, replayNumber}
@@ -74,5 +74,6 @@ pub record Inquired (n : ℕ) (words : List ℕ) (heard lists : Lent) (p : Pairs
 
 pub record Inquires (n : ℕ) (words : List ℕ) (heard lists : Lent) (p : PairsAsked) (c : ChainAsked) (r : Inquiry) : Type 0 where
   pub answer : r .answer ≡ answerOf (replayNumber n words (heard .before) (lists .before))
-  pub refused : (replayNumber n words (heard .before) (lists .before) ≡ 0 → ⊥) → Unasked (replayNumber n words (heard .before) (lists .before)) heard lists p c r
+  pub refused : (replayNumber n words (heard .before) (lists .before) ≡ 0 → ⊥)
+      → Unasked (replayNumber n words (heard .before) (lists .before)) heard lists p c r
   pub made : replayNumber n words (heard .before) (lists .before) ≡ 0 → Inquired n words heard lists p c r

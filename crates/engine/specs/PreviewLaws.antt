@@ -1,10 +1,10 @@
 -- Laws of previews.
---   tells-only      an outcome is told by one answer
---   accepted-as     an accepted call is accepted by every book that the register represents
---   preview-refused a refused call's number, with the list as it was, is what a preview promises
---   preview-asked   what the question gives on the register that an accepted call hands back is what a preview promises
---   preview-same    a preview gives what the question gives on the register that the call hands back: of an accepted call the same answer and the same list;
---                   of a refused one its number, and the list as it was
+--   tells-only       an outcome is told by one answer
+--   accepted-as      an accepted call is accepted by every book that the register represents
+--   preview-refused  a refused call's number, with the list as it was, is what a preview promises
+--   preview-asked    what the question gives on the register that an accepted call hands back is what a preview promises
+--   preview-same     a preview gives what the question gives on the register that the call hands back: of an accepted call the same answer and the same list;
+--                    of a refused one its number, and the list as it was
 -- Assumes nothing.
 use mathlib.Core.Path.{_≡_, refl, sym, ap, _∙_}
 use mathlib.Core.List.{List}
@@ -15,15 +15,15 @@ use Rattle.book.specs.Causes.{Caused}
 use Rattle.book.specs.Book.{Book, Call, answer, next}
 use Rattle.book.specs.BookLaws.{caused-positive}
 use Rattle.paths.specs.Verdicts.{verdict}
-use Rattle.paths.specs.Questions.{refused, paired, Outcome as Question·Outcome, unless, pairsAnswer, listAfter}
+use Rattle.paths.specs.Questions.{refused, Outcome as Question·Outcome, unless, pairsAnswer, listAfter}
 use Rattle.register.specs.Representation.{Represents}
-use Rattle.register.specs.Calls.{answerOf, answerNumber, Steps}
+use Rattle.register.specs.Calls.{answerNumber, Steps}
 use Rattle.register.specs.HistoryLaws.{number-answer}
 use Rattle.register.specs.declared.Register.{Register}
 use Rattle.register.specs.declared.Outcome.{Outcome}
 use Rattle.register.specs.declared.Answer.{Answer}
 use Rattle.register.specs.declared.Answer.the-variants.{Done, Refused as Turned-down}
-use Rattle.pairs.specs.Asking.{pairsLength, Tells, told-number, told-pairs, AsksPairs}
+use Rattle.pairs.specs.Asking.{Tells, told-number, told-pairs, AsksPairs}
 use Rattle.pairs.specs.declared.PairsAnswer.{PairsAnswer}
 use Rattle.pairs.specs.declared.PairsAnswer.the-variants.{Pairs, Refused}
 use Rattle.engine.specs.Previews.{previewAnswer, Previews}

@@ -1,13 +1,12 @@
--- Two people at one sheet: two adds or removes of different links, made in one order and in the other. What is claimed of them is one record; that it
--- holds is TwoPeopleLaws `two-people`. Nothing is claimed of the held edits: an undo takes back the later of the two.
+-- Two people at one sheet: two adds or removes of different links, made in one order and in the other. What is claimed of them is one record; that it holds is
+-- TwoPeopleLaws `two-people`. Nothing is claimed of the held edits: an undo takes back the later of the two.
 --   Entered r d e o o′ p p′
---                   two edits of the register r in both orders, each call made on the register that the one before handed back, by results that meet
---                   their promise: d and then e gave o and o′, e and then d gave p and p′
---   SameAnswers p q whatever is read of the registers p and q, and whatever is asked of them, by calls that meet their promises, is the same: the number
---                   of records, the words of the links, the locked and the withdrawn records, the totals; and for every text, records, work and list, the
---                   answer and the list of both questions, refusals too
---   NoAccount o o′ p p′
---                   the order is of no account: if both edits are accepted in the one order they are in the other, and both ends give the same answers
+--                        two edits of the register r in both orders, each call made on the register that the one before handed back, by results that meet their
+--                        promise: d and then e gave o and o′, e and then d gave p and p′
+--   SameAnswers p q      whatever is read of the registers p and q, and whatever is asked of them, by calls that meet their promises, is the same: the number
+--                        of records, the words of the links, the locked and the withdrawn records, the totals; and for every text, records, work and list, the
+--                        answer and the list of both questions, refusals too
+--   NoAccount o o′ p p′  the order is of no account: if both edits are accepted in the one order they are in the other, and both ends give the same answers
 -- Assumes nothing: these are definitions.
 use mathlib.Core.Path.{_≡_}
 use mathlib.Core.List.{List}

@@ -1,36 +1,36 @@
--- Two people at one sheet: the order of two adds or removes of different links is of no account. Assumes nothing.
---   alike-answers   registers that represent books which are alike give the same answers
---   two-people      the theorem, of every register that represents a book at least two links short of full
---   two-people-made the same of every register that calls made from a fresh one
+-- Two people at one sheet: the order of two adds or removes of different links is of no account.
+--   alike-answers    registers that represent books which are alike give the same answers
+--   two-people       the theorem, of every register that represents a book at least two links short of full
+--   two-people-made  the same of every register that calls made from a fresh one
+-- Assumes nothing.
 use mathlib.Core.Path.{_≡_, refl, sym, ap, _∙_, subst}
 use mathlib.Core.List.{List}
 use Prim.Native.Nat.{ℕ, _+_, _≤_, _<_}
 use native.Mathlib.Omega.{arith}
 use borrow.Author.Tests.{le-ltb}
-use lib.ListN.{length, take, drop, getD, length-append, length-drop}
+use lib.ListN.{length, take, drop, length-append, length-drop}
 use lib.Seq.{length-take-le, ext-getD}
 use Rattle.book.specs.Basics.{In}
 use Rattle.book.specs.Causes.{number, firstNumber, labels, maxLinks, maxRecords}
-use Rattle.book.specs.Book.{Link, Sheet, Book, Edit, Call, edit, present, isLocked, isWithdrawn, total, totalNumber, answer, next, freshAnswer, fresh, after}
+use Rattle.book.specs.Book.{Link, Sheet, Book, Edit, Call, edit, present, total, totalNumber, answer, next, freshAnswer, fresh, after}
 use Rattle.book.specs.ListLaws.{rises-same}
 use Rattle.book.specs.Orders.{Single, linkIn, Alike}
 use Rattle.book.specs.OrderLaws.{exchange-free, exchange-same}
 use Rattle.paths.specs.Grammar.{Verdict}
 use Rattle.paths.specs.Verdicts.{verdict}
-use Rattle.paths.specs.Chains.{Graph, asked, Reply, none, chain}
-use Rattle.paths.specs.Questions.{Outcome as Question·Outcome, refused, paired, replied, steps, pairsAnswer, ReplyTo, chainAnswer, over, listAfter}
+use Rattle.paths.specs.Chains.{Graph, asked, chain}
+use Rattle.paths.specs.Questions.{Outcome as Question·Outcome, refused, paired, replied, steps, ReplyTo, chainAnswer, over, listAfter}
 use Rattle.paths.specs.PairLaws.{fit-inside}
 use Rattle.paths.specs.GraphLaws.{same-graph, same-pairs, same-chain, some-reply}
-use Rattle.register.specs.Links.{linkWord, Linked}
+use Rattle.register.specs.Links.{Linked}
 use Rattle.register.specs.Representation.{Represents}
 use Rattle.register.specs.Calls.{answerOf, Opens, Steps}
 use Rattle.register.specs.History.{Lent, CallsMade}
 use Rattle.register.specs.HistoryLaws.{history}
-use Rattle.register.specs.Questions.{totalOf, totalAnswer}
+use Rattle.register.specs.Questions.{totalOf}
 use Rattle.register.specs.declared.Register.{Register}
 use Rattle.register.specs.declared.Outcome.{Outcome}
 use Rattle.register.specs.declared.Answer.the-variants.{Done}
-use Rattle.register.specs.declared.TotalAnswer.{TotalAnswer}
 use Rattle.pairs.specs.Asking.{BookPairs}
 use Rattle.pairs.specs.declared.PairsAnswer.{PairsAnswer}
 use Rattle.chains.specs.Replies.{outcomeOf, stepsLength, Replies}

@@ -1,28 +1,37 @@
--- From what the inner functions give to the answer, and to the promise: each refusal by the order of causes, the numbers, and the loop.
+-- From what the inner functions give to the answer, and to the promise.
+--   numbers-are, loop-is  the answer: the numbers of the depths, or the first loop of the smallest record that returns
+--   label-first, work-next, list-last, told
+--                         the outcome, by the first cause: 3, 12, 13, or what was found
+--   refuses, tells-numbers
+--                         a refusal keeps the promise, and so do numbers written to the list
+--   loop-told, tells-loop
+--                         the outcome of a loop, by the room for it; and its promise
+--   loopAnswer, looped    the answer by that of the chain question that finds the loop, and that it is the loop
+--   book-numbers, book-loop
+--                         both answers, from the depths and rows that are made of a register
 -- Assumes nothing.
 use mathlib.Core.Path.{_≡_, refl, sym, ap, _∙_, subst}
-use mathlib.Core.Logic.{⊎-elim}
 use mathlib.Core.List.{List, [], _∷_, _++_, append-nil}
-use mathlib.Core.Bool.{Bool, true, false, true≢false, false≢true}
+use mathlib.Core.Bool.{Bool, true, false}
 use Prim.Native.Nat.{ℕ, zero, suc, _+_, _-_, _*_, _<_, _≤_}
 use native.Mathlib.Omega.{arith}
 use native.Mathlib.Decide.{decLt}
-use lib.Dec.{eqb, ltb, leb}
-use lib.ListN.{length, getD, take, drop, length-append}
+use lib.Dec.{ltb}
+use lib.ListN.{length, getD, take, drop}
 use lib.Seq.{take-at, drop-at}
 use borrow.Author.Tests.{le-ltb, lt-ltb, lt-leb, ltb-true, ltb-false}
 use Rattle.book.specs.Basics.{pick}
-use Rattle.book.specs.Causes.{bad-label, short-work, short-list, not-open, number, Caused, firstNumber}
+use Rattle.book.specs.Causes.{not-open, number, Caused, firstNumber}
 use Rattle.book.specs.Book.{Book, isWithdrawn}
 use Rattle.book.specs.Sheets.{Fit}
 use Rattle.paths.specs.Expressions.{Expr}
 use Rattle.paths.specs.Grammar.{Verdict, accepted, verdictCause}
 use Rattle.paths.specs.Verdicts.{verdict}
-use Rattle.paths.specs.Chains.{Graph, asked, Step, stepWords, Reply, none, chain, ChainIs, first-chain}
+use Rattle.paths.specs.Chains.{asked, Step, stepWords, chain, ChainIs, first-chain}
 use Rattle.paths.specs.ChainLaws.{Inside}
 use Rattle.paths.specs.PairLaws.{fit-inside, withdrawn-out, in-use as record-in-use}
-use Rattle.paths.specs.FirstChain.{has-first}
-use Rattle.paths.specs.Questions.{chainWork, ReplyTo, steps, chainCauses, chainAnswer, over}
+use Rattle.paths.specs.FirstChainLaws.{has-first}
+use Rattle.paths.specs.Questions.{chainWork, steps, chainCauses, chainAnswer, over}
 use Rattle.paths.specs.Questions as questions
 use Rattle.k2.specs.Bits.{digit}
 use Rattle.k2.specs.PairSets.{IsSet}
@@ -36,7 +45,9 @@ use Rattle.report.specs.Written.{written as text-written, Wrote}
 use Rattle.chains.specs.declared.ChainAnswer.{ChainAnswer}
 use Rattle.chains.specs.declared.ChainAnswer.the-variants.{Chain, NoChain, Refused as ChainRefused}
 use Rattle.chains.specs.Replies.{outcomeOf as replyOf, stepsLength, Replies}
-use Rattle.generations.specs.Generations.{Longest, Returns, FirstLoop, Numbered, no-record, not-in-use, in-use, Outcome, refused, numbers, loop, GenerationsAre, no-loop, first-loop, above, generationsWork, argumentCauses, generationsCauses, unless, OutcomeIs, not-asked, answered, written, listAfter}
+use Rattle.generations.specs.Generations.{Longest, Returns, FirstLoop, Numbered, no-record, not-in-use, in-use, Outcome, refused, numbers, loop}
+use Rattle.generations.specs.Generations.{GenerationsAre, no-loop, first-loop, above, generationsWork, argumentCauses, generationsCauses, unless}
+use Rattle.generations.specs.Generations.{OutcomeIs, not-asked, answered, written, listAfter}
 use Rattle.generations.specs.GenerationsLaws.{returns-longer}
 use Rattle.generations.specs.LoopLaws.{loopExpr, loop-in-use, loop-answers, loop-is-first, first-is-loop, loop-labels, set-verdict}
 use Rattle.generations.specs.Inner.{Contains, Right, Leads, chosen, Smallest, Closed, loopText}
@@ -64,11 +75,14 @@ module _ (b : Book) (F : Fit (b .n) (b .sheet)) (small : b .n ≤ 1024) (ws : Li
     numbered ms M zero h = no-record
     numbered ms M (suc y) h = go (hasMark withdrawnMark ms y) refl (numbered ms M y (omega arith))
       where
-        go : (t : Bool) → hasMark withdrawnMark ms y ≡ t → Numbered (asked b) ls y (chosen ms ds y) → Numbered (asked b) ls (suc y) (chosen ms ds y ++ pick t [] ((getD ds y 0 - 2) ∷ []))
-        go true e i = subst (λ (l : List ℕ). Numbered (asked b) ls (suc y) l) (sym (append-nil (chosen ms ds y))) (not-in-use (withdrawn-out b y (sym (M y) ∙ e)) i)
+        go : (t : Bool) → hasMark withdrawnMark ms y ≡ t → Numbered (asked b) ls y (chosen ms ds y)
+            → Numbered (asked b) ls (suc y) (chosen ms ds y ++ pick t [] ((getD ds y 0 - 2) ∷ []))
+        go true e i =
+            subst (λ (l : List ℕ). Numbered (asked b) ls (suc y) l) (sym (append-nil (chosen ms ds y))) (not-in-use (withdrawn-out b y (sym (M y) ∙ e)) i)
         go false e i = in-use (record-in-use b y (omega arith) (sym (M y) ∙ e)) (longest y (omega arith)) i
 
-    pub numbers-are : (ms : List ℕ) → ((y : ℕ) → hasMark withdrawnMark ms y ≡ isWithdrawn (b .sheet) y) → GenerationsAre (asked b) ls (numbers (chosen ms ds (b .n)))
+    pub numbers-are : (ms : List ℕ) → ((y : ℕ) → hasMark withdrawnMark ms y ≡ isWithdrawn (b .sheet) y)
+        → GenerationsAre (asked b) ls (numbers (chosen ms ds (b .n)))
     unfolding asked
     numbers-are ms M = no-loop (λ x r. returns-longer r (getD ds x 0 - 2) (longest x (returns-below x r))) (numbered ms M (b .n) (omega arith))
 
@@ -149,7 +163,8 @@ tells-numbers {self} {ls} {work} {list} {list′} {k} l w h =
     }
 
 -- the loop's outcome
-pub loop-told : (b : Book) (ls : List ℕ) (work room : ℕ) → above ls ≡ false → generationsWork (b .n) ≤ work → (ws : List ℕ) → GenerationsAre (asked b) ls (loop ws) → OutcomeIs b ls work room (loopOutcome room ws)
+pub loop-told : (b : Book) (ls : List ℕ) (work room : ℕ) → above ls ≡ false → generationsWork (b .n) ≤ work
+    → (ws : List ℕ) → GenerationsAre (asked b) ls (loop ws) → OutcomeIs b ls work room (loopOutcome room ws)
 unfolding firstNumber number written
 loop-told b ls work room low enough ws G = go (ltb room (length ws)) refl
   where
@@ -157,14 +172,19 @@ loop-told b ls work room low enough ws G = go (ltb room (length ws)) refl
     go true e = list-last b ls work room low enough G (ltb-true room (length ws) e)
     go false e = told b ls work room low enough G (ltb-false room (length ws) e)
 
-pub tells-loop : {self : Register} {ls : List ℕ} {m x work : ℕ} {list list′ : List ℕ} {r : GenerationsAnswer} → Looped self m x work list list′ r → above ls ≡ false → Contains m ls
-    → ((b : Book) → Represents self b → (generationsWork (b .n) ≤ work) × ((ss : List Step) × FirstLoop (asked b) ls x ss × GenerationsAre (asked b) ls (loop (stepWords ss))))
+pub tells-loop : {self : Register} {ls : List ℕ} {m x work : ℕ} {list list′ : List ℕ} {r : GenerationsAnswer}
+    → Looped self m x work list list′ r → above ls ≡ false → Contains m ls
+    → ((b : Book) → Represents self b → (generationsWork (b .n) ≤ work)
+    × ((ss : List Step) × FirstLoop (asked b) ls x ss × GenerationsAre (asked b) ls (loop (stepWords ss))))
     → Generates self ls work list list′ r
 tells-loop {self} {ls} {m} {x} {work} {list} {list′} {r} P low C h = record {
   fits = P .fits;
   past = P .past;
   caused = P .caused;
-  outcome = λ b R. (let z = h b R in subst (OutcomeIs b ls work (length list)) (sym (P .first b R (z .0) ls C (z .1 .0) (z .1 .1) .0)) (loop-told b ls work (length list) low (z .0) (stepWords (z .1 .0)) (z .1 .2)));
+  outcome =
+      λ b R. (let z = h b R in
+      subst (OutcomeIs b ls work (length list)) (sym (P .first b R (z .0) ls C (z .1 .0) (z .1 .1) .0))
+      (loop-told b ls work (length list) low (z .0) (stepWords (z .1 .0)) (z .1 .2)));
   after = λ b R. (let z = h b R in P .first b R (z .0) ls C (z .1 .0) (z .1 .1) .1);
 }
 
@@ -217,7 +237,8 @@ room-outcome : (room : ℕ) (ws : List ℕ) → unless (pick (ltb room (length w
 unfolding firstNumber number
 room-outcome room ws = refl
 
-pub looped : {self : Register} {m x work : ℕ} {text list list′ : List ℕ} {r : ChainAnswer} → Replies self x x text work list list′ r → text ≡ loopText (places (digit m) 26)
+pub looped : {self : Register} {m x work : ℕ} {text list list′ : List ℕ} {r : ChainAnswer}
+    → Replies self x x text work list list′ r → text ≡ loopText (places (digit m) 26)
     → Looped self m x work list list′ (loopAnswer r)
 looped {self} {m} {x} {work} {text} {list} {list′} {r} P e = record {
   fits = rw (fits-loop r) (P .fits);
@@ -236,17 +257,21 @@ looped {self} {m} {x} {work} {text} {list} {list′} {r} P e = record {
         let d : Expr = loopExpr (t .0) (t .1) in
         let f = loop-is-first (asked b) I m ls C (t .0) (t .1) (t .2) F in
         let a : verdict text ≡ accepted d = ap verdict e ∙ set-verdict (asked b) I m ls C (t .0) (t .1) (t .2) in
-        let z = P .answers b R (chain (stepWords ss)) (λ h q. subst (λ (i : Expr). ChainIs (asked b) i x x (chain (stepWords ss))) (accepts-one a q) (first-chain ss f)) in
+        let z = P .answers b R (chain (stepWords ss))
+        (λ h q. subst (λ (i : Expr). ChainIs (asked b) i x x (chain (stepWords ss))) (accepts-one a q) (first-chain ss f)) in
         let k = chain-told b x hx work (length list) enough (verdict text) d a (stepWords ss) (ltb (length list) (length (stepWords ss))) refl in
-        let w = told-loop b x hx work (length list) enough (verdict text) d a (stepWords ss) (ltb (length list) (length (stepWords ss))) list list′ r (z .0 ∙ k) (z .1 ∙ ap (λ (o : questions.Outcome). questions.listAfter o list) k) in
+        let w = told-loop b x hx work (length list) enough (verdict text) d a (stepWords ss) (ltb (length list) (length (stepWords ss)))
+        list list′ r (z .0 ∙ k) (z .1 ∙ ap (λ (o : questions.Outcome). questions.listAfter o list) k) in
         (w .0 ∙ room-outcome (length list) (stepWords ss), w .1)
 
 -- ---- of a register
-module _ {self : Register} {n : ℕ} (S : Sized self n) (b : Book) (R : Represents self b) (ws : List ℕ) (L : Linked ws (b .sheet)) (m : ℕ) (ls : List ℕ) (C : Contains m ls) where
+module _ {self : Register} {n : ℕ} (S : Sized self n) (b : Book) (R : Represents self b)
+    (ws : List ℕ) (L : Linked ws (b .sheet)) (m : ℕ) (ls : List ℕ) (C : Contains m ls) where
   few : b .n ≤ 1024
   few = let e = S .size b R in omega (arith, S .small)
 
-  pub book-numbers : (ds : List ℕ) → Right (labelled m ws) ds → ((y : ℕ) → y < n → 1 < getD ds y 0) → (ms : List ℕ) → MarkList self ms → GenerationsAre (asked b) ls (numbers (chosen ms ds n))
+  pub book-numbers : (ds : List ℕ) → Right (labelled m ws) ds → ((y : ℕ) → y < n → 1 < getD ds y 0)
+      → (ms : List ℕ) → MarkList self ms → GenerationsAre (asked b) ls (numbers (chosen ms ds n))
   book-numbers ds A D ms M =
       let e = S .size b R in
       subst (λ (k : ℕ). GenerationsAre (asked b) ls (numbers (chosen ms ds k))) (sym e)

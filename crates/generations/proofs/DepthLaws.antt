@@ -1,9 +1,19 @@
 -- Laws of depths: how many records are new or done, a record that is looked at, from its first link to its last, and all of them.
+--   done-most        no more records are done than there are
+--   Looking cs y ds ds′ depth p
+--                    y is entered, and the links into it before the place p of the index are still to be looked at; `depth` is one more than the deepest seen
+--   visited-known    a depth that is known
+--   looking-begins, visited-loop, looking-more, visited-done
+--                    y is entered; a link from a record that is being looked at is a loop; a link more; no link left
+--   Settled cs ds y  the records below y are done, and none is entered
+--   settled-none, settled-more, settled-loop
+--                    before the first record, one more, or a loop
+--   looking-back, back-looking
+--                    a record that is entered was new, so its entry may be taken back and made again
 -- Assumes nothing.
 use mathlib.Core.Path.{_≡_, refl, sym, ap, _∙_, subst}
 use mathlib.Core.Logic.{_⊎_, inl, inr, ⊎-elim}
-use mathlib.Core.List.{List, [], _∷_}
-use mathlib.Core.Bool.{Bool, true, false}
+use mathlib.Core.List.{List}
 use Prim.Native.Nat.{ℕ, zero, suc, _+_, _-_, _<_, _≤_, max}
 use native.Mathlib.Omega.{arith}
 use native.Mathlib.Decide.{ℕ-discrete, decLt}
@@ -19,8 +29,9 @@ use Rattle.automaton.specs.LevelLaws.{Which, less, same, more, which}
 use Rattle.register.specs.MarkLaws.{mark-back}
 use Rattle.arcs.specs.Arcs.{arcFrom, arcTo}
 use Rattle.arcs.specs.Index.{firstArc, nextArc, Cursor, Indexed}
-use Rattle.arcs.specs.IndexLaws.{before-first, next-falls, cursor-next, only-arc}
-use Rattle.generations.specs.Inner.{Arc, Ran, stop, on, Top, Leads, once, more as leads-more, Kept, Right, doneBit, newBit, newCount, doneCount, Bounded, Visited}
+use Rattle.arcs.specs.IndexLaws.{before-first, cursor-next, only-arc}
+use Rattle.generations.specs.Inner.{Arc, Ran, stop, on, Top, Leads, once, more as leads-more, Kept, Right, doneBit, newBit, newCount, doneCount, Bounded}
+use Rattle.generations.specs.Inner.{Visited}
 
 -- ---- counts
 ones-mono : (f g : ℕ → ℕ) (n : ℕ) → ((k : ℕ) → f k ≤ g k) → onesBelow f n ≤ onesBelow g n
@@ -178,7 +189,9 @@ module _ (cs ix : List ℕ) (I : Indexed (arcTo cs) (length cs) ix) (y : ℕ) (d
       bounded = W .bounded;
       none-left = λ l. absurd (omega arith);
       right = λ R. W .right (L .right R);
-      leads = λ q P. W .leads e (λ x f. ⊎-elim (λ (i : x ≡ y). subst (λ (z : ℕ). Leads cs (arcFrom cs (p - 1)) z) (sym i) (once arc)) (λ i. leads-more arc (P x i)) (L .left x f));
+      leads =
+          λ q P. W .leads e
+          (λ x f. ⊎-elim (λ (i : x ≡ y). subst (λ (z : ℕ). Leads cs (arcFrom cs (p - 1)) z) (sym i) (once arc)) (λ i. leads-more arc (P x i)) (L .left x f));
     }
 
     -- one link more
@@ -209,7 +222,8 @@ module _ (cs ix : List ℕ) (I : Indexed (arcTo cs) (length cs) ix) (y : ℕ) (d
             let e : suc (r - 2) ≡ max depth (r + 1) - 2 = omega (arith, big, L .shallow) in
             subst (λ (k : ℕ). Ran cs k y) e (on arc (t .run))
 
-        all : (j : ℕ) → j < length cs → arcTo cs j ≡ y → (j ≡ p - 1) ⊎ (p ≤ j) → (1 < getD ds″ (arcFrom cs j) 0) × (getD ds″ (arcFrom cs j) 0 < max depth (r + 1))
+        all : (j : ℕ) → j < length cs → arcTo cs j ≡ y → (j ≡ p - 1) ⊎ (p ≤ j)
+            → (1 < getD ds″ (arcFrom cs j) 0) × (getD ds″ (arcFrom cs j) 0 < max depth (r + 1))
         all j h e (inl q) =
             let z : getD ds″ (arcFrom cs j) 0 ≡ r = ap (λ (i : ℕ). getD ds″ (arcFrom cs i) 0) q ∙ sym (W .depth) in
             (omega (arith, big), omega arith)
@@ -324,8 +338,10 @@ module _ {cs ds ds′ : List ℕ} {y r : ℕ} (S : Settled cs ds y) (W : Visited
   settled-loop e = W .leads e (λ x q. absurd (S .none x q))
 
 -- a record that is entered was new: what was known before, from what is known after
-pub looking-back : {cs : List ℕ} {y : ℕ} {ds ds′ : List ℕ} {depth p : ℕ} → getD ds y 0 ≡ 0 → Looking cs y (set (set ds y 1) y 0) ds′ depth p → Looking cs y ds ds′ depth p
+pub looking-back : {cs : List ℕ} {y : ℕ} {ds ds′ : List ℕ} {depth p : ℕ} → getD ds y 0 ≡ 0
+    → Looking cs y (set (set ds y 1) y 0) ds′ depth p → Looking cs y ds ds′ depth p
 looking-back {cs} {y} {ds} {ds′} {depth} {p} e l = subst (λ (d : List ℕ). Looking cs y d ds′ depth p) (mark-back ds y 1 0 e) l
 
-pub back-looking : {cs : List ℕ} {y : ℕ} {ds ds′ : List ℕ} {depth p : ℕ} → getD ds y 0 ≡ 0 → Looking cs y ds ds′ depth p → Looking cs y (set (set ds y 1) y 0) ds′ depth p
+pub back-looking : {cs : List ℕ} {y : ℕ} {ds ds′ : List ℕ} {depth p : ℕ} → getD ds y 0 ≡ 0
+    → Looking cs y ds ds′ depth p → Looking cs y (set (set ds y 1) y 0) ds′ depth p
 back-looking {cs} {y} {ds} {ds′} {depth} {p} e l = subst (λ (d : List ℕ). Looking cs y d ds′ depth p) (sym (mark-back ds y 1 0 e)) l

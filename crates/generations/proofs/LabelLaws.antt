@@ -1,5 +1,17 @@
--- Laws of labels: one out of range, their set as the bits of a number, the links that are kept, and the letters of a text. Assumes nothing.
-use mathlib.Core.Path.{_≡_, refl, sym, ap, ap₂, _∙_, subst}
+-- Laws of labels: one out of range, their set as the bits of a number, the links that are kept, and the letters of a text.
+--   above-here, above-next, above-end, above-none
+--                      looking for a label above 25: here, further on, none left; with none, all are below 26
+--   contains-none, contains-more
+--                      the set of labels as the bits of a number: empty, and one label more
+--   keep-yes, keep-no  the links that are kept: a link of the labels, and one that is not
+--   separator-bar      the byte before any letter but the first is a bar
+--   two-more           two bytes more
+--   Laid set k text count
+--                      the letters below k of a set are in the text
+--   laid-none, laid-yes, laid-no
+--                      no letter yet; a letter of the set, and one that is not
+-- Assumes nothing.
+use mathlib.Core.Path.{_≡_, refl, sym, ap, ap₂, _∙_}
 use mathlib.Core.List.{List, [], _∷_, _++_, append-assoc, append-nil}
 use mathlib.Core.Bool.{Bool, true, false, _||_}
 use Prim.Native.Nat.{ℕ, zero, suc, _+_, _*_, _/_, _%_, _^_, _<_, _≤_}
@@ -9,7 +21,7 @@ use native.Mathlib.Omega.{arith}
 use native.Mathlib.Decide.{ℕ-discrete}
 use lib.Bits.{bitOr}
 use lib.Dec.{leb, eqb, lit<}
-use lib.ListN.{length, getD, set, take, drop, length-set, length-append, drop-of-length-le}
+use lib.ListN.{length, getD, set, take, drop, length-set, drop-of-length-le}
 use lib.Pow.{shl-exact}
 use lib.Seq.{drop-cons, take-suc, take-suc-set, length-take-le}
 use borrow.Author.Tests.{le-leb, lt-leb, leb-false, eq-eqb, ne-eqb, eqb-true, eqb-false}
@@ -73,7 +85,8 @@ pub contains-none : (ls : List ℕ) → Contains 0 (take 0 ls)
 unfolding has
 contains-none ls l = digit-none l
 
-pub contains-more : (m : ℕ) (ls : List ℕ) (i : ℕ) → i < length ls → getD ls i 0 < 26 → Contains m (take i ls) → Contains (bitOr m ((1 * 2 ^ getD ls i 0) % 2 ^ 32)) (take (i + 1) ls)
+pub contains-more : (m : ℕ) (ls : List ℕ) (i : ℕ) → i < length ls → getD ls i 0 < 26
+    → Contains m (take i ls) → Contains (bitOr m ((1 * 2 ^ getD ls i 0) % 2 ^ 32)) (take (i + 1) ls)
 contains-more m ls i h g C l =
     let k : ℕ = getD ls i 0 in
     let e : has eqb l (take (i + 1) ls) ≡ (has eqb l (take i ls) || eqb k l) =
@@ -91,7 +104,8 @@ labelled-last m [] w = refl
 labelled-last m (v ∷ ws) w = go (eqb (digit m (v / 1048576)) 1) (labelled-last m ws w)
   where
     go : (t : Bool) → labelled m (ws ++ (w ∷ [])) ≡ labelled m ws ++ pick (eqb (digit m (w / 1048576)) 1) (w ∷ []) []
-        → pick t (v ∷ labelled m (ws ++ (w ∷ []))) (labelled m (ws ++ (w ∷ []))) ≡ pick t (v ∷ labelled m ws) (labelled m ws) ++ pick (eqb (digit m (w / 1048576)) 1) (w ∷ []) []
+        → pick t (v ∷ labelled m (ws ++ (w ∷ []))) (labelled m (ws ++ (w ∷ [])))
+        ≡ pick t (v ∷ labelled m ws) (labelled m ws) ++ pick (eqb (digit m (w / 1048576)) 1) (w ∷ []) []
     go true e = ap (λ (l : List ℕ). v ∷ l) e
     go false e = e
 
@@ -101,7 +115,8 @@ module _ (m : ℕ) (ws : List ℕ) (i : ℕ) (h : i < length ws) where
       ap (λ (j : ℕ). labelled m (take j ws)) (add-one i) ∙ ap (labelled m) (take-suc ws i 0 h) ∙ labelled-last m (take i ws) (getD ws i 0)
       ∙ ap (λ (b : Bool). labelled m (take i ws) ++ pick b (getD ws i 0 ∷ []) []) e
 
-  pub keep-yes : {t : Bool} (kept : List ℕ) (count : ℕ) → count < length kept → t ≡ eqb (digit m (getD ws i 0 / 1048576)) 1 → t ≡ true → take count kept ≡ labelled m (take i ws)
+  pub keep-yes : {t : Bool} (kept : List ℕ) (count : ℕ) → count < length kept
+      → t ≡ eqb (digit m (getD ws i 0 / 1048576)) 1 → t ≡ true → take count kept ≡ labelled m (take i ws)
       → take (count + 1) (set kept count (getD ws i 0)) ≡ labelled m (take (i + 1) ws)
   keep-yes kept count l e q k =
       ap (λ (j : ℕ). take j (set kept count (getD ws i 0))) (add-one count) ∙ take-suc-set kept count (getD ws i 0) l
@@ -121,7 +136,8 @@ unfolding lettersAfter
 bar-last [] l = refl
 bar-last (k ∷ ls) l = ap (λ (t : List ℕ). bar ∷ (letter-a + k) ∷ t) (bar-last ls l)
 
-letters-last : (ls : List ℕ) (l : ℕ) → lettersAfter open-group (ls ++ (l ∷ [])) ≡ lettersAfter open-group ls ++ (separatorAt (length (lettersAfter open-group ls)) ∷ (letter-a + l) ∷ [])
+letters-last : (ls : List ℕ) (l : ℕ) → lettersAfter open-group (ls ++ (l ∷ []))
+    ≡ lettersAfter open-group ls ++ (separatorAt (length (lettersAfter open-group ls)) ∷ (letter-a + l) ∷ [])
 unfolding lettersAfter
 letters-last [] l = refl
 letters-last (k ∷ ls) l = ap (λ (t : List ℕ). open-group ∷ (letter-a + k) ∷ t) (bar-last ls l)
@@ -145,13 +161,15 @@ unfolding places lettersAfter
 laid-none set text = record { few = omega arith; letters = refl }
 
 module _ {m k : ℕ} {text : List ℕ} {count : ℕ} (L : Laid m k text count) (room : 2 * k + 2 ≤ length text) where
-  pub laid-yes : {t : Bool} {s : ℕ} → t ≡ eqb (digit m k) 1 → t ≡ true → s ≡ separatorAt count → Laid m (k + 1) (set (set text count s) (count + 1) (letter-a + k)) (count + 2)
+  pub laid-yes : {t : Bool} {s : ℕ} → t ≡ eqb (digit m k) 1 → t ≡ true → s ≡ separatorAt count
+      → Laid m (k + 1) (set (set text count s) (count + 1) (letter-a + k)) (count + 2)
   unfolding places
   laid-yes {t} {s} e q f =
       let few = L .few in
       let d : digit m k ≡ 1 = eqb-true (digit m k) 1 (sym e ∙ q) in
       let len : count ≡ length (lettersAfter open-group (places (digit m) k)) = sym (length-take-le count text (omega arith)) ∙ ap length (L .letters) in
-      let next : places (digit m) (k + 1) ≡ places (digit m) k ++ (k ∷ []) = ap (places (digit m)) (add-one k) ∙ ap (λ (v : ℕ). places (digit m) k ++ ifSet v k) d in
+      let next : places (digit m) (k + 1) ≡ places (digit m) k ++ (k ∷ []) =
+      ap (places (digit m)) (add-one k) ∙ ap (λ (v : ℕ). places (digit m) k ++ ifSet v k) d in
       record {
         few = omega arith;
         letters =
@@ -165,7 +183,8 @@ module _ {m k : ℕ} {text : List ℕ} {count : ℕ} (L : Laid m k text count) (
   laid-no {t} e q =
       let few = L .few in
       let d : digit m k ≡ 0 = none (digit m k) (digit-lt m k) (sym e ∙ q) in
-      let next : places (digit m) (k + 1) ≡ places (digit m) k = ap (places (digit m)) (add-one k) ∙ ap (λ (v : ℕ). places (digit m) k ++ ifSet v k) d ∙ append-nil (places (digit m) k) in
+      let next : places (digit m) (k + 1) ≡ places (digit m) k =
+      ap (places (digit m)) (add-one k) ∙ ap (λ (v : ℕ). places (digit m) k ++ ifSet v k) d ∙ append-nil (places (digit m) k) in
       record { few = omega arith; letters = L .letters ∙ ap (lettersAfter open-group) (sym next) }
     where
       none : (v : ℕ) → v < 2 → eqb v 1 ≡ false → v ≡ 0

@@ -1,13 +1,19 @@
--- From the words of the links that are kept to the book's graph: their runs are its runs, and what leads to itself by them, or by the closure of their pairs, is
--- a loop. Assumes nothing.
+-- From the words of the links that are kept to the book's graph.
+--   top-longest    the longest run of the words is the longest of the graph
+--   Stepped x y    steps over these links from x to y, one or more
+--   leads-returns  a record that leads to itself by the words returns to itself in the graph
+--   links-set      the pairs of the words are a set of pairs below n
+--   closed-returns, returns-closed
+--                  the closure of these pairs joins a record to itself exactly if it returns
+-- Assumes nothing.
 use mathlib.Core.Path.{_≡_, refl, sym, ap, _∙_, subst, fun-ext}
 use mathlib.Core.Logic.{_⊎_, inl, inr, ⊎-elim}
 use mathlib.Core.List.{List, [], _∷_}
 use mathlib.Core.Bool.{Bool, true, false}
-use Prim.Native.Nat.{ℕ, zero, suc, _+_, _*_, _/_, _%_, _<_, _≤_}
+use Prim.Native.Nat.{ℕ, _/_, _%_, _<_, _≤_}
 use native.Mathlib.Omega.{arith}
 use native.Mathlib.Decide.{decLt}
-use lib.Dec.{eqb, ltb}
+use lib.Dec.{eqb}
 use lib.ListN.{length, getD}
 use borrow.Author.Tests.{eq-eqb, eqb-true, le-ltb}
 use Rattle.book.specs.Basics.{pick, bit, has, In, here, there, All, all-none, all-more}
@@ -17,10 +23,10 @@ use Rattle.book.specs.ListLaws.{in-none, in-front, at-in, in-at}
 use Rattle.k2.specs.Bits.{digit, bitAt, packed}
 use Rattle.k2.specs.BitLaws.{bit-out, packed-length, packed-bits}
 use Rattle.k2.specs.DigitLaws.{digit-none}
-use Rattle.k2.specs.PairSets.{Cells, IsSet, OneOrMore, once as once-pair, more as more-pairs, closure}
+use Rattle.k2.specs.PairSets.{Cells, IsSet, OneOrMore, once as once-pair, more as more-pairs}
 use Rattle.k2.specs.PairSetLaws.{bit-small, on-bit, bit-on, closure-leads, leads-closure}
 use Rattle.paths.specs.Expressions.{Letter}
-use Rattle.paths.specs.Chains.{Graph, asked, Step, crossing, Chain, stay, cross}
+use Rattle.paths.specs.Chains.{asked, Step, Chain, stay, cross}
 use Rattle.paths.specs.ChainLaws.{Inside}
 use Rattle.paths.specs.PairLaws.{fit-inside}
 use Rattle.paths.specs.Relations.{crossedBy}
@@ -32,7 +38,7 @@ use Rattle.rows.specs.Rows.{labelled, crossedWords}
 use Rattle.pairs.specs.Steps.{Lettered}
 use Rattle.pairs.specs.LetterLaws.{letters-crossed}
 use Rattle.arcs.specs.Arcs.{arcFrom, arcTo}
-use Rattle.generations.specs.Generations.{Run, stop as stop-run, on as on-run, Longest, Over, Loop, Returns}
+use Rattle.generations.specs.Generations.{Run, stop as stop-run, on as on-run, Longest, Over, Returns}
 use Rattle.generations.specs.GenerationsLaws.{forward-link}
 use Rattle.generations.specs.Inner.{Contains, Arc, Ran, stop, on, Top, Leads, once, more, Closed}
 
@@ -180,14 +186,19 @@ module _ (b : Book) (F : Fit (b .n) (b .sheet)) (small : b .n ≤ 1024) (ws : Li
       let f : crossedBy (asked b) (lettersIn m 0) x y ≡ 1 = sym (ap (λ (a : Cells). a x y) crossed-links) ∙ e in
       let r = crossed-is (asked b) (lettersIn m 0) x y (omega arith) in
       let p = letter-plain (r .0) (r .1) in
-      let h : has eqb (r .0 .label) ls ≡ true = bit-on (has eqb (r .0 .label) ls) (let z = C (r .0 .label) in omega (arith, p .1)) in
-      (r .0 .label, h, subst (λ (t : Bool). asked b .present (pick t (record { from = y; label = r .0 .label; to = x }) (record { from = x; label = r .0 .label; to = y })) ≡ true) (p .0) (r .2))
+      let h : has eqb (r .0 .label) ls ≡ true = bit-on (has eqb (r .0 .label) ls) (let z = C (r .0 .label) in omega (arith, p .1)) in (
+        r .0 .label,
+        h,
+        subst (λ (t : Bool). asked b .present (pick t (record { from = y; label = r .0 .label; to = x }) (record { from = x; label = r .0 .label; to = y }))
+            ≡ true) (p .0) (r .2),
+      )
 
   joins-pair : (x y : ℕ) → Joins x y → crossedWords ws m 0 x y ≡ 1
   unfolding lettersIn
   joins-pair x y j =
       ap (λ (a : Cells). a x y) crossed-links
-      ∙ is-crossed (asked b) (lettersIn m 0) I (record { label = j .0; inverted = false }) x y (eq-eqb (digit m (j .0)) 1 (C (j .0) ∙ on-bit (has eqb (j .0) ls) (j .1))) (j .2)
+      ∙ is-crossed (asked b) (lettersIn m 0) I (record { label = j .0; inverted = false })
+      x y (eq-eqb (digit m (j .0)) 1 (C (j .0) ∙ on-bit (has eqb (j .0) ls) (j .1))) (j .2)
 
   pairs-stepped : {x y : ℕ} → OneOrMore (crossedWords ws m 0) x y → Stepped x y
   pairs-stepped {x} {y} (once-pair e) = one-step (pair-joins x y e)

@@ -1,26 +1,22 @@
 -- Generations: how long the longest run of links of some labels is that ends at each record, or the first loop of such links.
---   Run g ls k y    a run of k links whose labels are of ls, each crossed forward and beginning where the one before ends, ends at the record y
---   Longest g ls y m
---                   the longest run that ends at y has m links
---   Over ls s       the step s crosses a link forward, and its label is one of ls
---   Loop g ls x ss  the steps ss are a chain from x back to x, of one or more steps, each over one of these links and forward
---   Returns g ls x  the record x can return to itself by such steps
---   FirstLoop g ls x ss
---                   of the loops of x, ss is the first of the shortest
---   Numbered g ls y l
---                   l has the length of the longest run to each record below y that is in use, ascending by record
---   Outcome         refused with a number; the numbers of the records in use; or the step words of a loop
+--   Run g ls k y         a run of k links whose labels are of ls, each crossed forward and beginning where the one before ends, ends at the record y
+--   Longest g ls y m     the longest run that ends at y has m links
+--   Over ls s            the step s crosses a link forward, and its label is one of ls
+--   Loop g ls x ss       the steps ss are a chain from x back to x, of one or more steps, each over one of these links and forward
+--   Returns g ls x       the record x can return to itself by such steps
+--   FirstLoop g ls x ss  of the loops of x, ss is the first of the shortest
+--   Numbered g ls y l    l has the length of the longest run to each record below y that is in use, ascending by record
+--   Outcome              refused with a number; the numbers of the records in use; or the step words of a loop
 --   GenerationsAre g ls o
---                   o is the answer: the numbers exactly if no record can return to itself, else the first loop of the smallest record that can
---   above ls        whether a label of ls is above 25
---   generationsWork n
---                   the words of work that are needed
---   generationsOrder, argumentCauses, generationsCauses
---                   the causes of a refusal in their order; those that do not hang on the answer, and all of them
---   OutcomeIs b ls work room o
---                   o is the outcome with so many words of work and room for so many in the list
+--                        o is the answer: the numbers exactly if no record can return to itself, else the first loop of the smallest record that can
+--   above ls             whether a label of ls is above 25
+--   generationsWork n    the words of work that are needed
 --   written o, listAfter o l
---                   the words of an outcome, and what a result list that held l holds then
+--                        the words of an outcome, and what a result list that held l holds then
+--   generationsOrder, argumentCauses, generationsCauses
+--                        the causes of a refusal in their order; those that do not hang on the answer, and all of them
+--   OutcomeIs b ls work room o
+--                        o is the outcome with so many words of work and room for so many in the list
 -- Assumes nothing: these are definitions.
 use mathlib.Core.Path.{_≡_}
 use mathlib.Core.List.{List, [], _∷_, _++_}

@@ -5,9 +5,9 @@
 --   smallest-returns
 --                   of the records that can return to themselves the smallest begins the loop: 0, after it, and 3, before it, cannot
 -- Assumes nothing.
-use mathlib.Core.Path.{_≡_, refl, sym, _∙_, subst}
+use mathlib.Core.Path.{_≡_, refl, _∙_}
 use mathlib.Core.List.{List, [], _∷_}
-use mathlib.Core.Bool.{Bool, true, false}
+use mathlib.Core.Bool.{true, false}
 use Prim.Native.Nat.{ℕ, zero, suc, _+_, _<_, _≤_}
 use native.Mathlib.Omega.{arith}
 use lib.Dec.{eqb}
@@ -16,7 +16,7 @@ use borrow.Author.Tests.{ne-eqb}
 use Rattle.book.specs.Basics.{has, without, In, here, there, All, all-none, all-more}
 use Rattle.book.specs.Causes.{number, firstNumber}
 use Rattle.book.specs.SetLaws.{sameLink-test, has-in}
-use Rattle.book.specs.Book.{Link, Book, Call, sameLink, add, edit, causes, editAnswer, edited, turned, next, fresh, after}
+use Rattle.book.specs.Book.{Link, Book, Call, add, edit, causes, editAnswer, edited, turned, next, fresh, after}
 use Rattle.k2.specs.Bits.{digit}
 use Rattle.k2.specs.DigitLaws.{digit-none, digit-suc}
 use Rattle.k2.specs.PairSets.{union, most, via, closure}
@@ -26,17 +26,19 @@ use Rattle.paths.specs.Relations.{crossedBy, cells}
 use Rattle.paths.specs.RelationLaws.{cells-has}
 use Rattle.paths.specs.ChainLaws.{Inside}
 use Rattle.paths.specs.PairLaws.{history-inside}
-use Rattle.paths.specs.ChainOrder.{before}
-use Rattle.paths.specs.Acceptance.{parted, many, accepts}
-use Rattle.paths.specs.FirstChain.{reach, stepsBelow, before-each, after-each, walks, walksTo, end, best, just, firstTo, chainTo, chain-first}
+use Rattle.paths.specs.ChainOrderLaws.{before}
+use Rattle.paths.specs.AcceptanceLaws.{parted, many, accepts}
+use Rattle.paths.specs.FirstChainLaws.{reach, stepsBelow, before-each, after-each, walks, walksTo, end, best, just, firstTo, chainTo, chain-first}
 use Rattle.rows.specs.Rows.{places}
-use Rattle.generations.specs.Generations.{Run, stop, on, Longest, Over, Returns, FirstLoop, Numbered, no-record, not-in-use, in-use, Outcome, numbers, loop, GenerationsAre, no-loop, first-loop}
+use Rattle.generations.specs.Generations.{Run, stop, on, Longest, Over, Returns, no-record, not-in-use, in-use, numbers, loop, GenerationsAre, no-loop}
+use Rattle.generations.specs.Generations.{first-loop}
 use Rattle.generations.specs.GenerationsLaws.{forward-link}
 use Rattle.generations.specs.Inner.{Contains}
 use Rattle.generations.specs.LoopLaws.{either, loopExpr, loop-answers, first-is-loop}
 
 -- ---- a rank that rises
-module _ (g : Graph) (ls : List ℕ) (f : ℕ → ℕ) (H : (x l y : ℕ) → has eqb l ls ≡ true → g .present (record { from = x; label = l; to = y }) ≡ true → f x < f y) where
+module _ (g : Graph) (ls : List ℕ) (f : ℕ → ℕ)
+    (H : (x l y : ℕ) → has eqb l ls ≡ true → g .present (record { from = x; label = l; to = y }) ≡ true → f x < f y) where
   ranked-run : {k y : ℕ} → Run g ls k y → k ≤ f y
   ranked-run stop = omega arith
   ranked-run (on {x = x} {l = l} {y = y} h p r) = let z = ranked-run r in let w = H x l y h p in omega arith
@@ -81,7 +83,8 @@ forest-rises x l y h p =
 pub longest-counts : GenerationsAre (asked forest) (1 ∷ 0 ∷ 1 ∷ []) (numbers (0 ∷ 1 ∷ 2 ∷ []))
 unfolding forest asked has
 longest-counts =
-    let top : (y : ℕ) → Run (asked forest) (1 ∷ 0 ∷ 1 ∷ []) y y → Longest (asked forest) (1 ∷ 0 ∷ 1 ∷ []) y y = ranked-longest (asked forest) (1 ∷ 0 ∷ 1 ∷ []) (λ x. x) forest-rises in
+    let top : (y : ℕ) → Run (asked forest) (1 ∷ 0 ∷ 1 ∷ []) y y → Longest (asked forest) (1 ∷ 0 ∷ 1 ∷ []) y y =
+    ranked-longest (asked forest) (1 ∷ 0 ∷ 1 ∷ []) (λ x. x) forest-rises in
     let one : Run (asked forest) (1 ∷ 0 ∷ 1 ∷ []) 1 1 = on {k = 0} {x = 0} {l = 0} {y = 1} refl refl stop in
     let two : Run (asked forest) (1 ∷ 0 ∷ 1 ∷ []) 2 2 = on {k = 1} {x = 1} {l = 0} {y = 2} refl refl one in
     no-loop (ranked-none (asked forest) (1 ∷ 0 ∷ 1 ∷ []) (λ x. x) forest-rises)
@@ -119,7 +122,8 @@ unfolding circle either standsFor after next turned editAnswer firstNumber numbe
 not-0 = refl
 
 found : chainTo 2 round (loopExpr 0 []) 1 1 ≡ just (forward 0 2 ∷ forward 0 1 ∷ [])
-unfolding circle either standsFor after next turned editAnswer firstNumber number causes edited fresh has without asked most crossedBy union via closure cells parted many accepts before reach stepsBelow before-each after-each walks walksTo end best firstTo chainTo spell stepWords
+unfolding circle either standsFor after next turned editAnswer firstNumber number causes edited fresh has without asked most crossedBy union via closure cells
+    parted many accepts before reach stepsBelow before-each after-each walks walksTo end best firstTo chainTo spell stepWords
 found = refl
 
 pub smallest-returns : GenerationsAre round (0 ∷ []) (loop (stepWords (forward 0 2 ∷ forward 0 1 ∷ [])))
@@ -128,5 +132,7 @@ smallest-returns =
     (first-is-loop round inside 1 (0 ∷ []) one-label 0 [] only-a (chain-first round inside 2 (loopExpr 0 []) 1 1 (forward 0 2 ∷ forward 0 1 ∷ []) found))
   where
     none : (y : ℕ) → y < 1 → Returns round (0 ∷ []) y → ⊥
-    none zero h r = let z = cells-has round inside (loopExpr 0 []) 0 0 .1 (r .0, loop-answers round inside 1 (0 ∷ []) one-label 0 [] only-a (r .1)) in omega (arith, not-0)
+    none zero h r =
+        let z = cells-has round inside (loopExpr 0 []) 0 0 .1 (r .0, loop-answers round inside 1 (0 ∷ []) one-label 0 [] only-a (r .1)) in
+        omega (arith, not-0)
     none (suc y) h r = omega arith

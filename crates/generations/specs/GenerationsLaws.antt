@@ -1,38 +1,43 @@
 -- Laws of generations.
---   longest-only    a record has one longest length
---   run-on          a run goes on over any steps of these links
---   returns-longer  a record that can return to itself has a run longer than any
---   numbered-only   there is one list of numbers
---   loop-only       a record has one first loop, as step words
---   generations-only
---                   there is one answer
+--   forward-link          a link crossed forward
+--   longest-only          a record has one longest length
+--   run-on                a run goes on over any steps of these links
+--   returns-longer        a record that can return to itself has a run longer than any
+--   numbered-only         there is one list of numbers
+--   loop-only             a record has one first loop, as step words
+--   generations-only      there is one answer
 --   numbers-none, loop-some
---                   if the answer is numbers, no record can return to itself; if it is a loop, the one where it begins is the smallest that can
---   outcome-only    there is one outcome
---   generations-in-order
---                   the causes stand in the order 3, 12, 13
+--                         if the answer is numbers, no record can return to itself; if it is a loop, the one where it begins is the smallest that can
+--   outcome-only          there is one outcome
+--   generations-in-order  the causes stand in the order 3, 12, 13
 -- Assumes nothing.
 use mathlib.Core.Path.{_≡_, refl, sym, ap, ap₂, _∙_, subst}
 use mathlib.Core.List.{List, [], _∷_, _++_}
-use mathlib.Core.Bool.{Bool, true, false, false≢true}
-use Prim.Native.Nat.{ℕ, zero, suc, _+_, _≤_, _<_}
+use mathlib.Core.Bool.{Bool, true, false≢true}
+use Prim.Native.Nat.{ℕ, suc, _+_, _<_}
 use native.Mathlib.Omega.{arith}
 use lib.ListN.{length}
-use lib.Dec.{eqb}
-use Rattle.book.specs.Basics.{pick, has, All, all-none, all-more}
+use Rattle.book.specs.Basics.{pick, All, all-none, all-more}
 use Rattle.book.specs.Causes.{firstNumber, InOrder, none-left, same-cause}
-use Rattle.book.specs.Book.{Link, Book}
-use Rattle.paths.specs.Chains.{Graph, asked, Step, crossing, Chain, stay, cross, stepWords}
-use Rattle.paths.specs.ChainOrder.{not-after-both}
+use Rattle.book.specs.Book.{Book}
+use Rattle.paths.specs.Chains.{Graph, Step, crossing, Chain, stay, cross, stepWords}
+use Rattle.paths.specs.ChainOrderLaws.{not-after-both}
 use Rattle.automaton.specs.LevelLaws.{Which, less, same, more, which}
-use Rattle.generations.specs.Generations.{Run, stop, on, Longest, Over, Loop, Returns, FirstLoop, Numbered, no-record, not-in-use, in-use, Outcome, refused, numbers, loop, GenerationsAre, no-loop, first-loop, generationsOrder, argumentCauses, generationsCauses, unless, OutcomeIs, not-asked, answered}
+use Rattle.generations.specs.Generations.{Run, on, Longest, Over, Returns, FirstLoop, Numbered, no-record, not-in-use, in-use, Outcome, refused, numbers}
+use Rattle.generations.specs.Generations.{loop, GenerationsAre, no-loop, first-loop, generationsOrder, argumentCauses, generationsCauses, unless}
+use Rattle.generations.specs.Generations.{OutcomeIs, not-asked, answered}
 
 -- ---- runs
 -- a link crossed forward
 pub forward-link : (g : Graph) {ls : List ℕ} (s : Step) (x : ℕ) → Over ls s → g .present (crossing (s .spelt) x (s .reached)) ≡ true
     → g .present (record { from = x; label = s .spelt .label; to = s .reached }) ≡ true
 forward-link g s x o p =
-    subst (λ (b : Bool). g .present (pick b (record { from = s .reached; label = s .spelt .label; to = x }) (record { from = x; label = s .spelt .label; to = s .reached })) ≡ true) (o .forward) p
+    subst
+    (λ (b : Bool). g .present (pick b (record { from = s .reached; label = s .spelt .label; to = x }) (record {
+      from = x;
+      label = s .spelt .label;
+      to = s .reached;
+    })) ≡ true) (o .forward) p
 
 module _ {g : Graph} {ls : List ℕ} where
   pub longest-only : {y m k : ℕ} → Longest g ls y m → Longest g ls y k → m ≡ k

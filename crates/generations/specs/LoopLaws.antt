@@ -1,32 +1,40 @@
 -- Loops as words: the first loop of a record is the first chain from it to itself that spells a word of (a|c)+, here of the labels 0 and 2.
---   loopExpr l ls   that expression, of the labels l and ls
---   loop-verdict    its text is accepted
+--   loopExpr l ls  that expression, of the labels l and ls
+--   loop-verdict   its text is accepted
+--   plain-words, loop-words
+--                  the words of that expression are those of one or more of these letters, plain
+--   length-places  a set of n labels has at most n
+--   loop-in-use, loop-labels
+--                  a loop has a first step, so its record is in use and the set of labels is not empty
 --   loop-answers, answers-loop
---                   a loop is a chain that spells a word of it, and such a chain is a loop
+--                  a loop is a chain that spells a word of it, and such a chain is a loop
 --   loop-is-first, first-is-loop
---                   so the first loop is the first chain, both ways
+--                  so the first loop is the first chain, both ways
+--   set-verdict    the text of a set's labels is accepted
 -- Assumes nothing.
 use mathlib.Core.Path.{_≡_, refl, sym, ap, _∙_, subst}
-use mathlib.Core.Logic.{_⊎_, inl, inr, ⊎-elim}
+use mathlib.Core.Logic.{⊎-elim}
 use mathlib.Core.List.{List, [], _∷_, _++_, append-assoc, append-nil}
-use mathlib.Core.Bool.{Bool, true, false, not, _&&_}
-use Prim.Native.Nat.{ℕ, zero, suc, _+_, _*_, _<_, _≤_, max}
+use mathlib.Core.Bool.{Bool, true, false, not}
+use Prim.Native.Nat.{ℕ, zero, suc, _+_, _*_, _<_, _≤_}
 use native.Mathlib.Omega.{arith}
 use lib.Dec.{eqb}
 use lib.ListN.{length, length-append}
 use borrow.Author.Tests.{eqb-true, eq-eqb}
-use Rattle.book.specs.Basics.{pick, bit, has, In, here, there, All, all-none, all-more}
+use Rattle.book.specs.Basics.{has, In, here, there, All, all-none, all-more}
 use Rattle.book.specs.Causes.{labels}
-use Rattle.book.specs.SetLaws.{eqb-test, has-in, in-has, and-both}
+use Rattle.book.specs.SetLaws.{and-both}
 use Rattle.book.specs.ListLaws.{in-left, in-right, in-either, in-none, in-front}
 use Rattle.k2.specs.Bits.{digit}
 use Rattle.k2.specs.PairSets.{ifSet}
 use Rattle.k2.specs.PairSetLaws.{on-bit, bit-on}
-use Rattle.paths.specs.Expressions.{Letter, Symbol, letter, noneOf, standsFor, Expr, symbol, group, inverse, star, plus, optional, alternative, sequence, letters, depth}
-use Rattle.paths.specs.Grammar.{bar, open-group, close-group, plus-sign, letter-a, alternatives, parts, Is, one-alternative, more-alternatives, one-part, plain, bare, with-plus, is-letter, is-group, Verdict, accepted, Judged, good}
+use Rattle.paths.specs.Expressions.{Letter, Symbol, letter, noneOf, standsFor, Expr, symbol, group, inverse, star, plus, optional, alternative, sequence}
+use Rattle.paths.specs.Expressions.{letters, depth}
+use Rattle.paths.specs.Grammar.{bar, open-group, close-group, plus-sign, letter-a, alternatives, Is, one-alternative, more-alternatives, one-part, plain, bare}
+use Rattle.paths.specs.Grammar.{with-plus, is-letter, is-group, accepted, good}
 use Rattle.paths.specs.Verdicts.{verdict, verdict-only}
 use Rattle.paths.specs.Words.{Words, itself, inside, reversed, left, right, joined, once, again, star-none, star-some, optional-none, optional-once}
-use Rattle.paths.specs.Chains.{Graph, Step, crossing, Chain, stay, cross, spell, stepWords, Answers, First}
+use Rattle.paths.specs.Chains.{Graph, Step, Chain, stay, cross, spell, Answers, First}
 use Rattle.paths.specs.ChainLaws.{Inside, crossing-in, crossing-label}
 use Rattle.automaton.specs.LevelLaws.{Which, less, same, more, which}
 use Rattle.rows.specs.Rows.{places}
@@ -47,7 +55,8 @@ unfolding lettersAfter
 length-letters c [] = refl
 length-letters c (l ∷ ls) = let z = length-letters bar ls in omega arith
 
-is-letters : (s : List ℕ) (e : Expr) (ls : List ℕ) → Is alternatives s e → ((l : ℕ) → In l ls → l < labels) → Is alternatives (s ++ lettersAfter bar ls) (either e ls)
+is-letters : (s : List ℕ) (e : Expr) (ls : List ℕ) → Is alternatives s e
+    → ((l : ℕ) → In l ls → l < labels) → Is alternatives (s ++ lettersAfter bar ls) (either e ls)
 unfolding lettersAfter either
 is-letters s e [] d h = subst (λ (t : List ℕ). Is alternatives t e) (sym (append-nil s)) d
 is-letters s e (l ∷ ls) d h =
@@ -70,7 +79,8 @@ module _ (l : ℕ) (ls : List ℕ) (few : length ls ≤ 62) (small : (k : ℕ) �
   unfolding loopText lettersAfter
   loop-text =
       let s : List ℕ = (letter-a + l) ∷ lettersAfter bar ls in
-      let d = is-letters ((letter-a + l) ∷ []) (symbol (letter l)) ls (one-alternative (one-part (plain (bare (is-letter (small l here)))))) (λ k i. small k (there i)) in
+      let d = is-letters ((letter-a + l) ∷ []) (symbol (letter l)) ls
+      (one-alternative (one-part (plain (bare (is-letter (small l here)))))) (λ k i. small k (there i)) in
       subst (λ (t : List ℕ). Is alternatives (open-group ∷ t) (loopExpr l ls)) (append-assoc s (close-group ∷ []) (plus-sign ∷ []))
       (one-alternative (one-part (plain (with-plus (is-group d)))))
 
@@ -152,7 +162,8 @@ letter-word a p = let e : standsFor (letter (a .label)) a ≡ true = rw (eq-eqb 
 
 in-either-word : (e : Expr) (ls : List ℕ) (a : Letter) → a .inverted ≡ false → (k : ℕ) → k ≡ a .label → In k ls → Words (either e ls) (a ∷ [])
 unfolding either
-in-either-word e (l ∷ ls) a p k q here = words-either (alternative e (symbol (letter l))) ls (right (subst (λ (i : ℕ). Words (symbol (letter i)) (a ∷ [])) (sym q) (letter-word a p)))
+in-either-word e (l ∷ ls) a p k q here =
+    words-either (alternative e (symbol (letter l))) ls (right (subst (λ (i : ℕ). Words (symbol (letter i)) (a ∷ [])) (sym q) (letter-word a p)))
 in-either-word e (l ∷ ls) a p k q (there i) = in-either-word (alternative e (symbol (letter l))) ls a p k q i
 
 module _ (l : ℕ) (ls : List ℕ) where
@@ -177,7 +188,8 @@ module _ (l : ℕ) (ls : List ℕ) where
 in-places : (f : ℕ → ℕ) (n k : ℕ) → In k (places f n) → (k < n) × (0 < f k)
 unfolding places
 in-places f zero k i = absurd (in-none i refl)
-in-places f (suc n) k i = ⊎-elim (λ j. let z = in-places f n k j in (omega (arith, z .0), z .1)) (λ j. last (f n) refl j) (in-either (places f n) (ifSet (f n) n) i)
+in-places f (suc n) k i =
+    ⊎-elim (λ j. let z = in-places f n k j in (omega (arith, z .0), z .1)) (λ j. last (f n) refl j) (in-either (places f n) (ifSet (f n) n) i)
   where
     last : (v : ℕ) → f n ≡ v → In k (ifSet v n) → (k < suc n) × (0 < f k)
     last zero e j = absurd (in-none j refl)
@@ -208,9 +220,6 @@ length-places f (suc n) = let z = length-append (places f n) (ifSet (f n) n) in 
 
 -- ---- loops and chains
 module _ (g : Graph) (I : Inside g) (m : ℕ) (ls : List ℕ) (C : Contains m ls) where
-  abbrev ps : List ℕ
-  ps = places (digit m) 26
-
   over-plain : {x y : ℕ} {ss : List Step} → Chain g x ss y → All (Over ls) ss → All (PlainOf (places (digit m) 26)) (spell ss)
   unfolding spell
   over-plain stay all-none = all-none
@@ -227,7 +236,9 @@ module _ (g : Graph) (I : Inside g) (m : ℕ) (ls : List ℕ) (C : Contains m ls
   plain-over (s ∷ ss) (all-more p a) =
       all-more (record {
         forward = p .plain;
-        listed = bit-on (has eqb (s .spelt .label) ls) (let z = in-places (digit m) 26 (s .spelt .label) (p .listed) .1 in let e = C (s .spelt .label) in omega arith);
+        listed =
+            bit-on (has eqb (s .spelt .label) ls) (let z =
+            in-places (digit m) 26 (s .spelt .label) (p .listed) .1 in let e = C (s .spelt .label) in omega arith);
       }) (plain-over ss a)
 
   length-spell : (ss : List Step) → length (spell ss) ≡ length ss
@@ -249,7 +260,8 @@ module _ (g : Graph) (I : Inside g) (m : ℕ) (ls : List ℕ) (C : Contains m ls
           begins = u;
           ends = u;
           chain = L .chain;
-          spells = plain-words l ks (spell ss) (omega (arith, L .some)) (subst (λ (t : List ℕ). All (PlainOf t) (spell ss)) e (over-plain (L .chain) (L .steps)));
+          spells =
+              plain-words l ks (spell ss) (omega (arith, L .some)) (subst (λ (t : List ℕ). All (PlainOf t) (spell ss)) e (over-plain (L .chain) (L .steps)));
         }
 
     pub answers-loop : {x : ℕ} {ss : List Step} → Answers g (loopExpr l ks) x x ss → Loop g ls x ss

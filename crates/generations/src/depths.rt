@@ -28,7 +28,8 @@ fn deeper(depth: u32, other: u32) -> u32
 
 // The depth of the record y, found if it was 0; that of a record being looked at says that some record leads to itself.
 fn visit(links: &[u32], index: &[u16], y: usize, depths: &mut [u32]) -> u32
-    requires { ⌜ (length (now links) ≤ maxLinks) × (length (now index) ≡ indexWords) × (y < maxRecords) × (length (now depths) ≡ maxRecords) × Indexed (arcTo (now links)) (length (now links)) (now index) × Bounded (now depths) ⌝ }
+    requires { ⌜ (length (now links) ≤ maxLinks) × (length (now index) ≡ indexWords) × (y < maxRecords)
+        × (length (now depths) ≡ maxRecords) × Indexed (arcTo (now links)) (length (now links)) (now index) × Bounded (now depths) ⌝ }
     ensures { λ r. ⌜ Visited (now (links .entry)) y (now (depths .entry)) (now (depths .exit)) r ⌝ }
 {
     let known = depths[y];
@@ -55,7 +56,8 @@ fn visit(links: &[u32], index: &[u16], y: usize, depths: &mut [u32]) -> u32
 // The depths of all records below n, unless some record leads to itself.
 pub fn visit_all(links: &[u32], n: usize, depths: &mut [u32]) -> bool
     requires { ⌜ (length (now links) ≤ maxLinks) × (n ≤ maxRecords) × (now depths ≡ replicate maxRecords 0) ⌝ }
-    ensures { λ r. ⌜ (r ≡ true → Right (now (links .entry)) (now (depths .exit)) × ((y : ℕ) → y < n → entered < getD (now (depths .exit)) y 0)) × (r ≡ false → (z : ℕ) × Leads (now (links .entry)) z z) ⌝ }
+    ensures { λ r. ⌜ (r ≡ true → Right (now (links .entry)) (now (depths .exit)) × ((y : ℕ) → y < n → entered < getD (now (depths .exit)) y 0))
+        × (r ≡ false → (z : ℕ) × Leads (now (links .entry)) z z) ⌝ }
 {
     let index = arcs::index_by_reached(links);
     let mut y = 0;

@@ -1,7 +1,7 @@
 // Labels: whether one is out of range, their set as the bits of a number, the links that have one of them, and the text of the loops over these.
 ghost use mathlib.Core.Path.{_≡_};
 ghost use mathlib.Core.Bool.{false};
-ghost use Prim.Native.Nat.{_≤_, _<_};
+ghost use Prim.Native.Nat.{_≤_};
 ghost use lib.Dec.{eqb};
 ghost use lib.ListN.{length, take};
 ghost use Rattle.book.specs.Causes.{maxLinks};

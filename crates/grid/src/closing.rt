@@ -33,15 +33,7 @@ fn found_or(found: usize, n: usize, left: u64, c: usize) -> usize
 
 // A column below n of the row at place b with the mask that is not seen, that is, not in the row after the relation; n or more if there is none. That
 // of a closed record, where there is one: all that it leads to is then seen at once. Nothing but speed rests on that choice.
-fn fresh(
-    cells: &[u64],
-    mask: u16,
-    seen: u16,
-    n: usize,
-    w: usize,
-    b: usize,
-    closed: &[u64],
-) -> usize
+fn fresh(cells: &[u64], mask: u16, seen: u16, n: usize, w: usize, b: usize, closed: &[u64]) -> usize
     requires { ⌜ (n ≤ 1024) × (w ≤ 16) × (n ≤ w * 64) × (n * w + w ≤ length (now cells)) × (b + w ≤ n * w) × (16 ≤ length (now closed)) ⌝ }
     ensures { λ r. ⌜ Fresh n (rowOf (now (cells .entry)) b mask) (rowOf (now (cells .entry)) (n * w) seen) r ⌝ }
 {

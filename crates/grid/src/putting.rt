@@ -2,10 +2,9 @@
 use crate::row::put;
 ghost use mathlib.Core.Path.{_≡_};
 ghost use mathlib.Core.List.{List, [], _∷_};
-ghost use Prim.Native.Nat.{ℕ, _*_, _≤_, _<_};
-ghost use lib.Dec.{eqb};
+ghost use Prim.Native.Nat.{ℕ, _*_, _≤_};
 ghost use lib.ListN.{length};
-ghost use Rattle.k2.specs.Bits.{digit, bitAt};
+ghost use Rattle.k2.specs.Bits.{bitAt};
 ghost use Rattle.k2.specs.PairSets.{union, diagonal};
 ghost use Rattle.rows.specs.Rows.{noPairs, crossedWords};
 ghost use Rattle.grid.specs.Grid.{within, first};
@@ -26,7 +25,8 @@ pub fn start(masks: &mut [u16], n: usize)
 // The pair (x, y) put into the first relation, if both records are below n.
 fn put_pair(cells: &mut [u64], masks: &mut [u16], n: usize, w: usize, x: usize, y: usize)
     requires { ⌜ (n ≤ 1024) × (w ≤ 16) × (n ≤ w * 64) × (n * w ≤ length (now cells)) × (n ≤ length (now masks)) ⌝ }
-    ensures { λ _. ⌜ first n w (now (cells .exit)) (now (masks .exit)) ≡ union (first n w (now (cells .entry)) (now (masks .entry))) (within n (onePair x y)) ⌝ }
+    ensures { λ _. ⌜ first n w (now (cells .exit)) (now (masks .exit))
+        ≡ union (first n w (now (cells .entry)) (now (masks .entry))) (within n (onePair x y)) ⌝ }
 {
     if n <= x {
         return;
@@ -52,16 +52,6 @@ pub fn put_diagonal(used: &[u64], cells: &mut [u64], masks: &mut [u16], n: usize
     }
 }
 
-// Is a label in a set of labels?
-fn has_label(labels: u32, label: u32) -> bool
-    ensures { λ r. ⌜ r ≡ eqb (digit labels label) 1 ⌝ }
-{
-    if 32 <= label {
-        return false;
-    }
-    (labels >> label) % 2 == 1
-}
-
 // The pair of one link's word put in, as `put_letters` does.
 fn put_word(
     word: u32,
@@ -78,10 +68,10 @@ fn put_word(
 {
     let label = word / 1048576;
     let p = (word % 1048576) as usize;
-    if has_label(forward, label) {
+    if rows::has_label(forward, label) {
         put_pair(cells, masks, n, w, p / 1024, p % 1024);
     }
-    if has_label(against, label) {
+    if rows::has_label(against, label) {
         put_pair(cells, masks, n, w, p % 1024, p / 1024);
     }
 }

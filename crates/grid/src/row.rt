@@ -1,10 +1,9 @@
-// One row: a word or another row put in, a column read, the next column found. Word c of a row stands at its place + c.
+// One row: a word or another row put in, the next column found. Word c of a row stands at its place + c.
 use crate::words::above;
 use crate::words::join;
 use crate::words::lowest;
-ghost use mathlib.Core.Path.{_≡_};
 ghost use mathlib.Core.Logic.{_⊎_};
-ghost use Prim.Native.Nat.{ℕ, _+_, _*_, _/_, _≤_, _<_};
+ghost use Prim.Native.Nat.{ℕ, _+_, _*_, _≤_, _<_};
 ghost use lib.ListN.{length};
 ghost use Rattle.grid.specs.Grid.{rowOf};
 ghost use Rattle.grid.specs.Steps.{Lowest, wordAt, Merged};
@@ -45,18 +44,6 @@ pub fn merge(
         c = above(words, c);
     }
     masks[t] = mask | source;
-}
-
-// Column y of the row at place b with the mask.
-pub fn column(cells: &[u64], mask: u16, b: usize, y: usize) -> u64
-    requires { ⌜ (y < 1024) × (b + y / 64 < length (now cells)) ⌝ }
-    ensures { λ r. ⌜ r ≡ rowOf (now (cells .entry)) b mask y ⌝ }
-{
-    let c = y / 64;
-    if (mask >> c) % 2 == 1 {
-        return (cells[b + c] >> (y % 64)) % 2;
-    }
-    0
 }
 
 // The first column of a row in its words above c; w * 64 if there is none.

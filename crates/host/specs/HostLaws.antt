@@ -7,10 +7,9 @@
 --   pairs-told, chain-told, none-told, total-told, tree-told
 --                   which answer a number tells
 use mathlib.Core.Path.{_≡_, refl, ap, _∙_}
-use mathlib.Core.List.{List, [], _∷_}
+use mathlib.Core.List.{List, _∷_}
 use Prim.Native.Nat.{ℕ, _*_, _<_}
 use native.Mathlib.Omega.{arith}
-use lib.ListN.{length}
 use Rattle.book.specs.Book.{Book, Call, answer, next, answers, after, givens}
 use Rattle.paths.specs.Verdicts.{verdict}
 use Rattle.register.specs.Calls.{answerNumber}
@@ -53,7 +52,8 @@ calls-book (then-close l e r) b h =
     ((λ i. f .0 i ∷ g .0 i), more-given (e .given b h) (g .1), g .2)
 
 module _ {ws before after′ : List ℕ} {k : ℕ} (text : List ℕ) (work : ℕ) (b : Book) (h : KeepsBook ws b) where
-  pub pairs-book : Asked ws (λ r. AsksPairs r text work before after′) toldPairs before after′ k → Told (BookPairs b (verdict text) work before after′) toldPairs k
+  pub pairs-book : Asked ws (λ r. AsksPairs r text work before after′) toldPairs before after′ k
+      → Told (BookPairs b (verdict text) work before after′) toldPairs k
   pairs-book q = let t = q .answers (h .0) (h .1) in (t .0, t .1 .book b (h .2), t .2)
 
   pub chain-book : (x y : ℕ) → Asked ws (λ r. Replies r x y text work before after′) toldChain before after′ k

@@ -19,4 +19,5 @@ use Rattle.register.specs.declared.Outcome.{Outcome}
 pub data Finishes (o : Outcome) (before after : List ℕ) (k : ℕ) : Type 0 where
   refused : (o .answer ≡ Done → ⊥) → k ≡ answerNumber (o .answer) → after ≡ before → Finishes o before after k
   kept : o .answer ≡ Done → k ≡ 0 → Keeps after (o .register) → drop stateWords after ≡ drop stateWords before → Finishes o before after k
-  lost : k ≡ number not-open → after ≡ before → (stateWords ≤ length before → InRange (o .register) → Marked (o .register .marks) → ⊥) → Finishes o before after k
+  lost : k ≡ number not-open → after ≡ before → (stateWords ≤ length before → InRange (o .register) → Marked (o .register .marks) → ⊥)
+      → Finishes o before after k

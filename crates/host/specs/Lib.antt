@@ -8,6 +8,7 @@ pub mod Generations
 pub mod GenerationsLaws
 pub mod Support
 pub mod SupportLaws
+pub mod OffsetsLaws
 pub mod PageHost
 pub mod PageHostLaws
-pub mod ByRows
+pub mod RowQuestionLaws

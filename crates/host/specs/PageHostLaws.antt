@@ -1,8 +1,9 @@
--- What the calls of the printed page say of the plain book, and of one another. Assumes nothing.
---   pages-book      pages asked of words that keep a book: the number tells the book's answer, and the space is as that answer leaves it
+-- What the calls of the printed page say of the plain book, and of one another.
 --   bytes-told, read-told
 --                   which answer a number tells
+--   pages-book      pages asked of words that keep a book: the number tells the book's answer, and the space is as that answer leaves it
 --   exported-round  what the exported printer wrote, the exported reader gives back as the book's pairs
+-- Assumes nothing.
 use mathlib.Core.Path.{_≡_, sym, ap, subst, _∙_}
 use mathlib.Core.List.{List}
 use Prim.Native.Nat.{ℕ, _≤_, _<_}
@@ -12,7 +13,7 @@ use Rattle.book.specs.Book.{Book}
 use Rattle.paths.specs.Questions.{pairsOf, over}
 use Rattle.paths.specs.Verdicts.{verdict}
 use Rattle.pages.specs.PageCalls.{BookPrints, Prints, ReadsPages}
-use Rattle.pages.specs.RoundTrips.{print-read}
+use Rattle.pages.specs.RoundTripLaws.{print-read}
 use Rattle.pages.specs.declared.PagesAnswer.{PagesAnswer}
 use Rattle.pages.specs.declared.PagesAnswer.the-variants.{Bytes, Refused}
 use Rattle.pages.specs.declared.ReadAnswer.{ReadAnswer}

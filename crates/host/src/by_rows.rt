@@ -1,5 +1,4 @@
 // The pair question by the engine on rows of bits, of a register that the caller keeps as words.
-ghost use mathlib.Core.Path.{_≡_};
 ghost use lib.ListN.{length};
 ghost use Rattle.rowpairs.specs.Asking.{AsksRows};
 ghost use Rattle.host.specs.Host.{toldPairs, Asked};
@@ -15,7 +14,8 @@ pub extern "C" fn dating_pairs_by_rows(
     work: &mut [u64],
     list: &mut [u32],
 ) -> u64
-    ensures { λ k. ⌜ Asked (now (state .entry)) (λ r. AsksRows r (now (text .entry)) (length (now (work .entry))) (now (list .entry)) (now (list .exit))) toldPairs (now (list .entry)) (now (list .exit)) k ⌝ }
+    ensures { λ k. ⌜ Asked (now (state .entry)) (λ r. AsksRows r (now (text .entry)) (length (now (work .entry))) (now (list .entry)) (now (list .exit)))
+        toldPairs (now (list .entry)) (now (list .exit)) k ⌝ }
 {
     let loaded = Register::load(state);
     let answer = loaded.answer;

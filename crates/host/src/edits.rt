@@ -1,5 +1,4 @@
 // A fresh register, edits and undo, of a register that the caller keeps as words.
-ghost use mathlib.Core.Path.{_≡_};
 ghost use Rattle.book.specs.Book.{add, remove, lock, unlock, withdraw, reinstate, edit as Book·edit, undo};
 ghost use Rattle.register.specs.Calls.{callOf};
 ghost use Rattle.host.specs.Host.{Freshens, Edits};

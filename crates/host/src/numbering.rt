@@ -30,7 +30,8 @@ pub extern "C" fn dating_generations(
     work: &mut [u64],
     list: &mut [u32],
 ) -> u64
-    ensures { λ k. ⌜ Asked (now (state .entry)) (λ r. Generates r (now (labels .entry)) (length (now (work .entry))) (now (list .entry)) (now (list .exit))) toldGenerations (now (list .entry)) (now (list .exit)) k ⌝ }
+    ensures { λ k. ⌜ Asked (now (state .entry)) (λ r. Generates r (now (labels .entry)) (length (now (work .entry))) (now (list .entry)) (now (list .exit)))
+        toldGenerations (now (list .entry)) (now (list .exit)) k ⌝ }
 {
     let loaded = Register::load(state);
     let answer = loaded.answer;

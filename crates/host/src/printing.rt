@@ -37,7 +37,8 @@ pub extern "C" fn dating_pages(
     work: &mut [u64],
     pages: &mut [u8],
 ) -> u64
-    ensures { λ k. ⌜ Asked (now (state .entry)) (λ r. Prints r (now (text .entry)) (length (now (work .entry))) (now (pages .entry)) (now (pages .exit))) toldBytes (now (pages .entry)) (now (pages .exit)) k ⌝ }
+    ensures { λ k. ⌜ Asked (now (state .entry)) (λ r. Prints r (now (text .entry)) (length (now (work .entry))) (now (pages .entry)) (now (pages .exit)))
+        toldBytes (now (pages .entry)) (now (pages .exit)) k ⌝ }
 {
     let loaded = Register::load(state);
     let answer = loaded.answer;

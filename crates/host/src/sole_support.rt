@@ -28,7 +28,9 @@ pub extern "C" fn dating_sole_support(
     work: &mut [u64],
     list: &mut [u32],
 ) -> u64
-    ensures { λ k. ⌜ Asked (now (state .entry)) (λ r. Supports r core (now (text .entry)) (now (anchors .entry)) (length (now (work .entry))) (now (list .entry)) (now (list .exit))) toldSupport (now (list .entry)) (now (list .exit)) k ⌝ }
+    ensures { λ k. ⌜ Asked (now (state .entry))
+        (λ r. Supports r core (now (text .entry)) (now (anchors .entry)) (length (now (work .entry))) (now (list .entry)) (now (list .exit)))
+        toldSupport (now (list .entry)) (now (list .exit)) k ⌝ }
 {
     let loaded = Register::load(state);
     let answer = loaded.answer;

@@ -1,5 +1,4 @@
 // The calls on trees.
-ghost use mathlib.Core.Path.{_≡_};
 ghost use mathlib.Core.List.{[], _∷_};
 ghost use lib.ListN.{length};
 ghost use Rattle.k2.specs.PairSets.{union, intersection, difference, transpose, closure};
@@ -15,7 +14,8 @@ pub extern "C" fn dating_tree_make(
     tree: &mut [u64],
     work: &mut [u64],
 ) -> u64
-    ensures { λ k. ⌜ Told (Answered n (now (pairs .entry)) [] (length (now (work .entry))) (treeOf n (now (pairs .entry))) (now (tree .entry)) (now (tree .exit))) toldTree k ⌝ }
+    ensures { λ k. ⌜ Told
+        (Answered n (now (pairs .entry)) [] (length (now (work .entry))) (treeOf n (now (pairs .entry))) (now (tree .entry)) (now (tree .exit))) toldTree k ⌝ }
 {
     told_tree(engine::tree_make(n, pairs, tree, work))
 }
@@ -28,7 +28,8 @@ pub extern "C" fn dating_tree_list(
     list: &mut [u32],
     work: &mut [u64],
 ) -> u64
-    ensures { λ k. ⌜ Told (Listed n (now (tree .entry) ∷ []) (length (now (work .entry))) (listOf n (now (tree .entry))) (now (list .entry)) (now (list .exit))) toldTree k ⌝ }
+    ensures { λ k. ⌜ Told (Listed n (now (tree .entry) ∷ []) (length (now (work .entry))) (listOf n (now (tree .entry))) (now (list .entry)) (now (list .exit)))
+        toldTree k ⌝ }
 {
     told_tree(engine::tree_list(n, tree, list, work))
 }
@@ -42,7 +43,9 @@ pub extern "C" fn dating_tree_union(
     out: &mut [u64],
     work: &mut [u64],
 ) -> u64
-    ensures { λ k. ⌜ Told (Answered n [] (now (a .entry) ∷ now (b .entry) ∷ []) (length (now (work .entry))) (treeOfTwo union n (now (a .entry)) (now (b .entry))) (now (out .entry)) (now (out .exit))) toldTree k ⌝ }
+    ensures { λ k. ⌜ Told
+        (Answered n [] (now (a .entry) ∷ now (b .entry) ∷ []) (length (now (work .entry)))
+        (treeOfTwo union n (now (a .entry)) (now (b .entry))) (now (out .entry)) (now (out .exit))) toldTree k ⌝ }
 {
     told_tree(engine::tree_union(n, a, b, out, work))
 }
@@ -56,7 +59,9 @@ pub extern "C" fn dating_tree_intersection(
     out: &mut [u64],
     work: &mut [u64],
 ) -> u64
-    ensures { λ k. ⌜ Told (Answered n [] (now (a .entry) ∷ now (b .entry) ∷ []) (length (now (work .entry))) (treeOfTwo intersection n (now (a .entry)) (now (b .entry))) (now (out .entry)) (now (out .exit))) toldTree k ⌝ }
+    ensures { λ k. ⌜ Told
+        (Answered n [] (now (a .entry) ∷ now (b .entry) ∷ []) (length (now (work .entry)))
+        (treeOfTwo intersection n (now (a .entry)) (now (b .entry))) (now (out .entry)) (now (out .exit))) toldTree k ⌝ }
 {
     told_tree(engine::tree_intersection(n, a, b, out, work))
 }
@@ -70,7 +75,9 @@ pub extern "C" fn dating_tree_difference(
     out: &mut [u64],
     work: &mut [u64],
 ) -> u64
-    ensures { λ k. ⌜ Told (Answered n [] (now (a .entry) ∷ now (b .entry) ∷ []) (length (now (work .entry))) (treeOfTwo difference n (now (a .entry)) (now (b .entry))) (now (out .entry)) (now (out .exit))) toldTree k ⌝ }
+    ensures { λ k. ⌜ Told
+        (Answered n [] (now (a .entry) ∷ now (b .entry) ∷ []) (length (now (work .entry)))
+        (treeOfTwo difference n (now (a .entry)) (now (b .entry))) (now (out .entry)) (now (out .exit))) toldTree k ⌝ }
 {
     told_tree(engine::tree_difference(n, a, b, out, work))
 }
@@ -86,7 +93,10 @@ pub extern "C" fn dating_tree_product(
     out: &mut [u64],
     work: &mut [u64],
 ) -> u64
-    ensures { λ k. ⌜ Told (Answered n [] (now (a .entry) ∷ now (b .entry) ∷ []) (length (now (work .entry))) (treeOfTwo (productSensed n (senseOf «a_sense») (senseOf «b_sense»)) n (now (a .entry)) (now (b .entry))) (now (out .entry)) (now (out .exit))) toldTree k ⌝ }
+    ensures { λ k. ⌜ Told
+        (Answered n [] (now (a .entry) ∷ now (b .entry) ∷ []) (length (now (work .entry)))
+        (treeOfTwo (productSensed n (senseOf «a_sense») (senseOf «b_sense»)) n (now (a .entry)) (now (b .entry)))
+        (now (out .entry)) (now (out .exit))) toldTree k ⌝ }
 {
     let s = tree::sense_of(a_sense);
     let t = tree::sense_of(b_sense);
@@ -101,7 +111,9 @@ pub extern "C" fn dating_tree_transpose(
     out: &mut [u64],
     work: &mut [u64],
 ) -> u64
-    ensures { λ k. ⌜ Told (Answered n [] (now (a .entry) ∷ []) (length (now (work .entry))) (treeOfOne transpose n (now (a .entry))) (now (out .entry)) (now (out .exit))) toldTree k ⌝ }
+    ensures { λ k. ⌜ Told
+        (Answered n [] (now (a .entry) ∷ []) (length (now (work .entry))) (treeOfOne transpose n (now (a .entry))) (now (out .entry)) (now (out .exit)))
+        toldTree k ⌝ }
 {
     told_tree(engine::tree_transpose(n, a, out, work))
 }
@@ -109,7 +121,9 @@ pub extern "C" fn dating_tree_transpose(
 // The tree of the closure: one or more pairs that lead from one to the other.
 #[no_mangle]
 pub extern "C" fn dating_tree_closure(n: usize, a: &[u64], out: &mut [u64], work: &mut [u64]) -> u64
-    ensures { λ k. ⌜ Told (Answered n [] (now (a .entry) ∷ []) (length (now (work .entry))) (treeOfOne (closure n) n (now (a .entry))) (now (out .entry)) (now (out .exit))) toldTree k ⌝ }
+    ensures { λ k. ⌜ Told
+        (Answered n [] (now (a .entry) ∷ []) (length (now (work .entry))) (treeOfOne (closure n) n (now (a .entry))) (now (out .entry)) (now (out .exit)))
+        toldTree k ⌝ }
 {
     told_tree(engine::tree_closure(n, a, out, work))
 }

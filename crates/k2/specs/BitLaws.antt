@@ -1,19 +1,36 @@
--- Laws of `bitAt`, `onesBelow` and `wordsOf`: the bits of a list of words, after a store and of a part; the count of ones, word by word;
--- the words of a list of bits.
---   Bits f          f has no value but 0 and 1
---   Upto n f g      f and g agree in the first n words
+-- Laws of `bitAt`, `onesBelow` and `wordsOf`.
+--   Bits f                f has no value but 0 and 1
+--   bit-lt, bit-in, bit-out, bit-within, bit-zero, bit-replicate
+--                         a bit of words: below 2, a digit of its word, 0 past the end and in a word of 0
+--   bit-set, bit-set-off  after a word is stored: its own bits, and every other as it was
+--   bit-take              the bits of a part of the words
+--   bits-tell             words of the same length with the same bits are the same
+--   Upto n f g            f and g agree in the first n words
+--   upto-none, upto-more, upto-all
+--                         words written in turn: before the first, one more, all of them
+--   ones-le, ones-gap, ones-more, ones-part, ones-word, ones-shl
+--                         the count of ones: below its bound, over a gap, one digit more, of a part of a word, of a whole one, of a word shifted
+--   ones-cons, ones-append, ones-first
+--                         the count of ones of lists of bits, joined
+--   value-lt, value-digit
+--                         the number of n bits: how large, and its digits
+--   packed-length, packed-fits, packed-bits
+--                         bits packed into n words: so many, of 64 bits, with these bits
+--   words-bits, words-length, words-fit, words-tell
+--                         the words of a list of bits: their bits, how many they are, that they fit, and that no other words of this length have these bits
 -- Assumes nothing.
 use mathlib.Core.Path.{_≡_, refl, sym, ap, _∙_, fun-ext}
 use mathlib.Core.List.{List, [], _∷_, _++_}
 use Prim.Native.Nat.{ℕ, zero, suc, _+_, _-_, _*_, _/_, _%_, _^_, _≤_, _<_, zero-le}
-use native.Mathlib.Nat.{add-zero, zero-add, add-suc, suc-add, add-comm, mod-lt, mod-one, mod-eq-of-lt, mul-div-cancel, mul-mod-left, pow-suc, not-suc-le-zero, le-of-suc-le-suc}
+use native.Mathlib.Nat.{add-zero, zero-add, add-suc, suc-add, add-comm, mod-lt, mod-one, mod-eq-of-lt, mul-div-cancel, mul-mod-left, pow-suc, not-suc-le-zero}
+use native.Mathlib.Nat.{le-of-suc-le-suc}
 use native.Mathlib.Numerals.{one-add}
 use native.Mathlib.Omega.{arith}
 use native.Mathlib.Decide.{decLt, ℕ-discrete}
 use lib.Count.{ones, ones-cat}
 use lib.Pow.{pow-pos, mod-pow-add}
-use lib.ListN.{length, getD, set, take, drop, replicate, List·getD-eq-default}
-use lib.Seq.{getD-set-same, getD-set-other, getD-take, getD-drop, ext-getD}
+use lib.ListN.{length, getD, set, take, replicate, List·getD-eq-default}
+use lib.Seq.{getD-set-same, getD-set-other, getD-take, ext-getD}
 use Rattle.k2.specs.Bits.{digit, bitAt, bitsOf, onesBelow, from, value, packed, wordsOf}
 use Rattle.k2.specs.DigitLaws.{digit-lt, digit-zero, digit-suc, digit-none, digits-tell}
 
@@ -68,12 +85,6 @@ unfolding bitAt
 bit-set-off ws q v k h = rw (getD-set-other ws q (k / 64) v 0 h)
 
 -- ---- a part
-pub bit-drop : (n : ℕ) (ws : List ℕ) (p : ℕ) → bitAt (drop n ws) p ≡ bitAt ws (n * 64 + p)
-unfolding bitAt
-bit-drop n ws p =
-    let a : (n * 64 + p) / 64 ≡ n + p / 64 = omega arith in
-    let b : (n * 64 + p) % 64 ≡ p % 64 = omega arith in
-    rw (a, b, getD-drop n ws (p / 64) 0)
 
 pub bit-take : (n : ℕ) (ws : List ℕ) (p : ℕ) → p / 64 < n → bitAt (take n ws) p ≡ bitAt ws p
 unfolding bitAt
@@ -242,6 +253,7 @@ unfolding wordsOf
 words-fit bs b = packed-fits ((length bs + 63) / 64) (bitsOf bs) b
 
 -- no other words of this length have these bits
-pub words-tell : (ws bs : List ℕ) → Bits (bitsOf bs) → ((i : ℕ) → getD ws i 0 < 2 ^ 64) → length ws ≡ (length bs + 63) / 64 → bitAt ws ≡ bitsOf bs → ws ≡ wordsOf bs
+pub words-tell : (ws bs : List ℕ) → Bits (bitsOf bs) → ((i : ℕ) → getD ws i 0 < 2 ^ 64)
+    → length ws ≡ (length bs + 63) / 64 → bitAt ws ≡ bitsOf bs → ws ≡ wordsOf bs
 words-tell ws bs b f l e =
     bits-tell ws (wordsOf bs) (l ∙ sym (words-length bs)) f (words-fit bs b) (e ∙ sym (words-bits bs b))

@@ -1,10 +1,21 @@
--- Laws of `digit`: a word's bits after the language's operators. Assumes nothing.
-use mathlib.Core.Path.{_≡_, refl, sym, ap, ap₂, _∙_}
-use mathlib.Core.Bool.{Bool, true, false}
+-- Laws of `digit`: a word's bits after the language's operators.
+--   shifted p v           the digits of v from place p on
+--   digit-lt, digit-zero, digit-suc, digit-none
+--                         a digit is 0 or 1; the lowest, the others, and those of 0
+--   one-shl               `1 << r` at a width of 64 is a power of two
+--   digit-or, digit-and, digit-not
+--                         the digits of `|`, `&` and `!`
+--   digit-pow, digit-big  a power of two has one digit set; above the highest digit all are 0
+--   digit-add, digit-shl  a digit further up, and the digits of `v << r`
+--   digit-four            four digits as a number
+--   digits-tell           the digits of a number tell it
+-- Assumes nothing.
+use mathlib.Core.Path.{_≡_, sym, _∙_}
 use Prim.Native.Nat.{ℕ, zero, suc, _+_, _-_, _*_, _/_, _%_, _^_, _≤_, _<_, min, max}
-use native.Mathlib.Nat.{mod-lt, mod-eq-of-lt, mul-add-mod-self-right, div-div-eq-div-mul, pow-suc, pow-succ', zero-div, zero-mod, div-one, mul-div-cancel, mul-mod-left, zero-lt-suc, one-mul, mul-one, div-eq-of-lt, lt-of-lt-of-le, mul-assoc, sub-zero, suc-sub-suc}
+use native.Mathlib.Nat.{div-div-eq-div-mul, pow-suc, pow-succ', zero-div, div-one, mul-div-cancel, mul-mod-left, zero-lt-suc, one-mul, mul-one, div-eq-of-lt}
+use native.Mathlib.Nat.{lt-of-lt-of-le, sub-zero, suc-sub-suc}
 use native.Mathlib.Omega.{arith}
-use lib.Bits.{bitAnd, bitOr, and-step, or-step, and-shr, or-shr, and-mask, or-disjoint, shifted-half, shifted-even}
+use lib.Bits.{bitAnd, bitOr, and-step, or-step, and-shr, or-shr, shifted-half, shifted-even}
 use lib.Dec.{lit<, eqb, leb, leb·zero, leb·suc-zero, leb·suc-suc, eqb·zero-suc, eqb·suc-zero, eqb·suc-suc}
 use lib.Pow.{shl-exact, shr-shr, pow-mono}
 use Rattle.book.specs.Basics.{pick}
@@ -89,7 +100,8 @@ digit-four w r =
     let x : ℕ = w / 2 ^ r in
     let d₁ : digit w (r + 1) ≡ x / 2 % 2 = digit-add w r 1 ∙ digit-suc x 0 ∙ digit-zero (x / 2) in
     let d₂ : digit w (r + 2) ≡ x / 2 / 2 % 2 = digit-add w r 2 ∙ digit-suc x 1 ∙ digit-suc (x / 2) 0 ∙ digit-zero (x / 2 / 2) in
-    let d₃ : digit w (r + 3) ≡ x / 2 / 2 / 2 % 2 = digit-add w r 3 ∙ digit-suc x 2 ∙ digit-suc (x / 2) 1 ∙ digit-suc (x / 2 / 2) 0 ∙ digit-zero (x / 2 / 2 / 2) in
+    let d₃ : digit w (r + 3) ≡ x / 2 / 2 / 2 % 2 =
+    digit-add w r 3 ∙ digit-suc x 2 ∙ digit-suc (x / 2) 1 ∙ digit-suc (x / 2 / 2) 0 ∙ digit-zero (x / 2 / 2 / 2) in
     rw (d₁, d₂, d₃) (unfold digit in (four-of x))
 
 -- the digits of a number tell it
@@ -101,14 +113,3 @@ digits-tell (suc n) a b ha hb d =
     digits-tell n (a / 2) (b / 2) (omega (arith, pow-suc 2 n)) (omega (arith, pow-suc 2 n))
     (λ k h. sym (digit-suc a k) ∙ d (suc k) (omega arith) ∙ digit-suc b k) in
     omega arith
-
--- and with a power of two
-pub and-pow : (w r : ℕ) → bitAnd w (2 ^ r) ≡ digit w r * 2 ^ r
-and-pow w zero = rw (digit-zero, mul-one) (and-mask w 1)
-and-pow w (suc r) =
-    rw (and-step, pow-suc, mul-div-cancel (2 ^ r) (zero-lt-suc 1), mul-mod-left, and-pow (w / 2) r, digit-suc)
-    (omega (arith, mul-assoc (digit (w / 2) r) (2 ^ r) 2))
-
--- where the digit is 0, the power of two is added
-pub or-pow : (w r : ℕ) → digit w r ≡ 0 → bitOr w (2 ^ r) ≡ w + 2 ^ r
-or-pow w r h = or-disjoint w (2 ^ r) (rw (and-pow, h) (omega arith))

@@ -1,15 +1,15 @@
 -- The full tree of a set of pairs: four bits for every square, empty or not, the levels following one another as in the tree.
---   fullLevels h qs the levels below the squares qs, each of side 2 ^ h
---   full h a        the bits of the full tree of the pairs below 2 ^ h
---   fullSize h k    the number of bits of h levels below k squares
---   place h x y     the place of the cell at row x and column y in the last level of a square of side 2 ^ h
+--   fullLevels h qs  the levels below the squares qs, each of side 2 ^ h
+--   full h a         the bits of the full tree of the pairs below 2 ^ h
+--   fullSize h k     the number of bits of h levels below k squares
+--   place h x y      the place of the cell at row x and column y in the last level of a square of side 2 ^ h
 --   rowAt h z, columnAt h z
---                   the row and the column of the cell at place z
---   cells h a       the last level: the cell at each place
---   anyFour f p     1 if one of the four bits from p on is 1, else 0
---   fourOf f p      the four bits from p on
---   squeezed f n    of the first n groups of four bits, those that are not all 0, in order
---   groups f n      how many those are
+--                    the row and the column of the cell at place z
+--   cells h a        the last level: the cell at each place
+--   anyFour f p      1 if one of the four bits from p on is 1, else 0
+--   fourOf f p       the four bits from p on
+--   squeezed f n     of the first n groups of four bits, those that are not all 0, in order
+--   groups f n       how many those are
 -- Assumes nothing: these are definitions.
 use mathlib.Core.List.{List, [], _∷_, _++_, map}
 use Prim.Native.Nat.{ℕ, zero, suc, _+_, _*_, _/_, _%_, _^_, min, max}

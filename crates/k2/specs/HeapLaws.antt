@@ -1,5 +1,13 @@
--- Laws of the full tree: a bit above the cells is the largest of the four of its square, the last level is the cells, and a set's tree
--- is the groups that are not all 0. Assumes nothing.
+-- Laws of the full tree of squares, and of the groups that are not all 0.
+--   full-length    how many bits the full tree of some squares has
+--   above-law      a bit above the cells is the largest of the four below it
+--   leaf-law       the last level is the cells
+--   squeezed-past  groups of 0 add nothing
+--   full-above, full-cell, full-past
+--                  the same of the full tree of one square, and that it has nothing past its end
+--   full-tree      the groups of it that are not all 0 are the set's tree
+--   full-bits      its bits are 0 and 1
+-- Assumes nothing.
 use mathlib.Core.Path.{_≡_, refl, sym, ap, _∙_, fun-ext}
 use mathlib.Core.List.{List, [], _∷_, _++_, map, append-assoc, append-nil}
 use Prim.Native.Nat.{ℕ, zero, suc, _+_, _-_, _*_, _%_, _^_, _≤_, _<_, min, max}
@@ -98,11 +106,13 @@ leaf-law (suc h) qs j x y l hx hy =
     let kl : length K ≡ 4 * length qs = quarters-length (suc h) qs in
     let P : ℕ = place (suc h) (x % 2 ^ suc h) (y % 2 ^ suc h) in
     let f : j * 4 ^ suc (suc h) + q * 4 ^ suc h ≡ (4 * j + q) * 4 ^ suc h = rw (pow-suc 4 (suc h)) (shift j q (4 ^ suc h)) in
-    let e : fullSize (suc h) (length qs) + (j * 4 ^ suc (suc h) + place (suc (suc h)) x y) ≡ 4 * length qs + (fullSize h (length K) + ((4 * j + q) * 4 ^ suc h + P)) =
+    let e : fullSize (suc h) (length qs) + (j * 4 ^ suc (suc h) + place (suc (suc h)) x y)
+    ≡ 4 * length qs + (fullSize h (length K) + ((4 * j + q) * 4 ^ suc h + P)) =
     rw kl (omega (arith, f)) in
     ap (bitsOf (fullLevels (suc (suc h)) qs)) e ∙ later (suc h) qs _
     ∙ leaf-law h K (4 * j + q) (x % 2 ^ suc h) (y % 2 ^ suc h) (omega arith) (mod-lt x (pow-pos (suc h))) (mod-lt y (pow-pos (suc h)))
-    ∙ ap (min 1) (ap (λ (s : Cells). s (x % 2 ^ suc h) (y % 2 ^ suc h)) (quarters-at (suc h) qs j q blank l ql) ∙ quadrant-cell (suc h) (getD qs j blank) x y hy)
+    ∙ ap (min 1) (ap (λ (s : Cells). s (x % 2 ^ suc h) (y % 2 ^ suc h)) (quarters-at (suc h) qs j q blank l ql)
+    ∙ quadrant-cell (suc h) (getD qs j blank) x y hy)
   where
     shift : (j q x : ℕ) → j * (x * 4) + q * x ≡ (4 * j + q) * x
     shift j q x = rw (add-mul, ← mul-assoc) (omega (arith, mul-assoc 4 j x, mul-comm 4 (j * x)))
@@ -157,7 +167,8 @@ unfolding fullLevels levels
 squeeze-law zero qs = unfold squeeze in refl
 squeeze-law (suc h) qs =
     squeeze-level h qs (fullLevels h (quarters h qs))
-    ∙ ap (λ (l : List ℕ). map (filled h) (quarters h (keep (filled (suc h)) qs)) ++ l) (squeeze-law h (quarters h qs) ∙ ap (levels h) (sym (keep-quarters h qs)))
+    ∙ ap (λ (l : List ℕ). map (filled h) (quarters h (keep (filled (suc h)) qs)) ++ l)
+    (squeeze-law h (quarters h qs) ∙ ap (levels h) (sym (keep-quarters h qs)))
 
 -- as a loop finds them
 from4 : (f : ℕ → ℕ) → ℕ → ℕ
@@ -188,14 +199,16 @@ squeezed-list (suc n) (a ∷ b ∷ c ∷ []) e = absurd (omega arith)
 squeezed-list (suc n) (a ∷ b ∷ c ∷ d ∷ l) e =
     squeezed-front (bitsOf (a ∷ b ∷ c ∷ d ∷ l)) n
     ∙ ap (λ (x : List ℕ). ifAny (max (max a b) (max c d)) (a ∷ b ∷ c ∷ d ∷ []) ++ x)
-    (ap (λ (f : ℕ → ℕ). squeezed f n) (fun-ext {f = from4 (bitsOf (a ∷ b ∷ c ∷ d ∷ l))} {g = bitsOf l} (λ p. drop4 a b c d l p)) ∙ squeezed-list n l (omega arith))
+    (ap (λ (f : ℕ → ℕ). squeezed f n) (fun-ext {f = from4 (bitsOf (a ∷ b ∷ c ∷ d ∷ l))} {g = bitsOf l} (λ p. drop4 a b c d l p))
+    ∙ squeezed-list n l (omega arith))
 
 -- groups of 0 add nothing
 pub squeezed-past : (f : ℕ → ℕ) (n d : ℕ) → ((p : ℕ) → 4 * n ≤ p → f p ≡ 0) → squeezed f (n + d) ≡ squeezed f n
 unfolding squeezed
 squeezed-past f n zero z = ap (squeezed f) (add-zero n)
 squeezed-past f n (suc d) z = ap (squeezed f) (add-suc n d) ∙ (
-    rw (z (4 * (n + d)) (omega arith), z (4 * (n + d) + 1) (omega arith), z (4 * (n + d) + 2) (omega arith), z (4 * (n + d) + 3) (omega arith), append-nil) (squeezed-past f n d z))
+    rw (z (4 * (n + d)) (omega arith), z (4 * (n + d) + 1) (omega arith), z (4 * (n + d) + 2) (omega arith), z (4 * (n + d) + 3) (omega arith), append-nil)
+    (squeezed-past f n d z))
 
 -- ---- of one square
 module _ (h : ℕ) (a : Cells) where

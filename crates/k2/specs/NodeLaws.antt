@@ -1,4 +1,18 @@
--- Laws of the squares of a tree, and of child places. Assumes nothing.
+-- Laws of the squares of a tree, and of child places.
+--   map-at, keep-count, keep-lt, keep-at
+--                      squares that a test keeps: how many, and that one that passes stands where the ones before it tell
+--   filled-lt, quarters-length, quarters-at, half-lt, quarter-lt
+--                      squares and their quarters: how many there are and where each stands
+--   quadrant-cell, quadrant-empty, empty-cell
+--                      a quarter has the square's cell; a quarter or a cell of an empty square is empty
+--   blank              the square with no cell
+--   Stands bits h s b  the square s stands among the squares of a level, and its four bits begin at b
+--   stands-bit, stands-child
+--                      its bits, and where the four bits of a quarter begin, by the count of ones
+--   levels-none, node-stands
+--                      no squares have no levels; a node of a tree stands in it
+--   node-bit           the law of child places: the four bits at a node are 1 for each quarter of its square that is not empty
+-- Assumes nothing.
 use mathlib.Core.Path.{_≡_, refl, sym, ap, ap₂, _∙_, subst}
 use mathlib.Core.List.{List, [], _∷_, _++_, map, append-assoc}
 use Prim.Native.Nat.{ℕ, zero, suc, _+_, _*_, _/_, _%_, _^_, _<_}

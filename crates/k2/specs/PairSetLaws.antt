@@ -1,6 +1,23 @@
--- Laws of sets of pairs: a product holds exactly where a middle record serves, the closure exactly where one or more pairs lead;
--- each operation makes a set of sets; the listed words ascend and are exactly the set's pairs.
---   Within m l t    the numbers of l ascend, from m on, and are below t
+-- Laws of sets of pairs, of the operations on them, and of their pairs as listed words.
+--   one-of, bit-small, bit-on, on-bit
+--                         numbers that are not 0; a test as a number
+--   most-some, some-most, most-bit, most-none
+--                         the largest of the first n values: 1 or more exactly if one of them is
+--   union-set, intersection-set, difference-set, product-set, transpose-set, via-set, closure-set, diagonal-set
+--                         each operation makes a set of sets
+--   product-middle, middle-product
+--                         the product holds exactly where a middle record serves
+--   leads-on, closure-leads, leads-closure
+--                         the closure holds exactly where one or more pairs lead
+--   set-in, in-set, set-bit, set-past, setOf-set
+--                         the set of a list of pair words has exactly these pairs, and is a set
+--   in-listed, listed-in  the listed words are the set's pairs and no others
+--   Within m l t          the numbers of l ascend, from m on, and are below t
+--   within-rises, within-append, within-length
+--                         such numbers ascend; two lists as one; no more members than numbers
+--   listed-within, listed-rises, listed-below
+--                         the listed words ascend, each once, and are of records below n
+--   setOf-listed          the set of the listed words is the set
 -- Assumes nothing.
 use mathlib.Core.Path.{_≡_, refl, sym, ap, _∙_, fun-ext, subst}
 use mathlib.Core.Logic.{_⊎_, inl, inr, ⊎-elim}
@@ -15,7 +32,8 @@ use borrow.Author.Tests.{eqb-true, lt-ltb, le-ltb}
 use Rattle.book.specs.Basics.{bit, has, In, here, Rises, ended, rises}
 use Rattle.book.specs.ListLaws.{in-left, in-right, in-either, in-none, in-one}
 use Rattle.book.specs.SetLaws.{eqb-test, has-in, in-has}
-use Rattle.k2.specs.PairSets.{Cells, IsSet, pairWord, ifSet, rowPairs, rowsPairs, listed, setOf, PairsBelow, union, intersection, difference, transpose, most, serves, product, OneOrMore, once, more, via, closure, diagonal}
+use Rattle.k2.specs.PairSets.{Cells, IsSet, pairWord, ifSet, rowPairs, rowsPairs, listed, setOf, PairsBelow, union, intersection, difference, transpose}
+use Rattle.k2.specs.PairSets.{most, serves, product, OneOrMore, once, more, via, closure, diagonal}
 
 -- ---- numbers that are not 0
 pub one-of : (a b : ℕ) → 1 ≤ max a b → (1 ≤ a) ⊎ (1 ≤ b)
@@ -181,7 +199,8 @@ module _ (n : ℕ) (a : Cells) (A : IsSet n a) where
   closure-joins zero z x y l p q = absurd (omega arith)
   closure-joins (suc k) z x y l p q =
       go (decLt z k) (λ x y. closure-joins k z x y)
-      (via-by k Q x z (closure-bit k x z) (closure-bit k x k) (closure-bit k k z) p) (via-by k Q z y (closure-bit k z y) (closure-bit k z k) (closure-bit k k y) q)
+      (via-by k Q x z (closure-bit k x z) (closure-bit k x k) (closure-bit k k z) p)
+      (via-by k Q z y (closure-bit k z y) (closure-bit k z k) (closure-bit k k y) q)
     where
       Q : Cells
       Q = closure k a

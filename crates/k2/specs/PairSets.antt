@@ -1,16 +1,16 @@
 -- Sets of pairs of records, and what the algebra makes of them.
---   Cells           a set of pairs as the cells of a square table: 1 at row x and column y if (x, y) is in the set, else 0
---   IsSet n a       a is a set of pairs of records below n
---   pairWord x y    a pair's word, from × 1,024 + to
---   listed n a      the words of a set's pairs, ascending
---   setOf ps        the set of a list of pair words
---   PairsBelow n ps both ends of each pair word of the list ps are below n
+--   Cells            a set of pairs as the cells of a square table: 1 at row x and column y if (x, y) is in the set, else 0
+--   IsSet n a        a is a set of pairs of records below n
+--   pairWord x y     a pair's word, from × 1,024 + to
+--   listed n a       the words of a set's pairs, ascending
+--   setOf ps         the set of a list of pair words
+--   PairsBelow n ps  both ends of each pair word of the list ps are below n
 --   union, intersection, difference, transpose
---                   pairs in either, in both, in the first and not in the second; each pair exchanged
---   product n a b   (x, y) where some middle record z below n serves: (x, z) is in a and (z, y) in b
---   OneOrMore a x y one or more pairs of a lead from x to y, each beginning where the one before ends
---   closure n a     the same computed, as a set: the pairs that lead from one to the other through records below n
---   diagonal f      each record at which f is 1, joined to itself
+--                    pairs in either, in both, in the first and not in the second; each pair exchanged
+--   product n a b    (x, y) where some middle record z below n serves: (x, z) is in a and (z, y) in b
+--   OneOrMore a x y  one or more pairs of a lead from x to y, each beginning where the one before ends
+--   closure n a      the same computed, as a set: the pairs that lead from one to the other through records below n
+--   diagonal f       each record at which f is 1, joined to itself
 -- Assumes nothing: these are definitions.
 use mathlib.Core.Path.{_≡_}
 use mathlib.Core.List.{List, [], _∷_, _++_}

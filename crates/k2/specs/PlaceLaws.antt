@@ -1,7 +1,19 @@
--- Laws of `place`: each place below 4 ^ h is that of one row and one column. Assumes nothing.
+-- Laws of `place`: each place below 4 ^ h is that of one row and one column.
+--   four-pos, place-lt  a place of a square of side 2 ^ h is below 4 ^ h
+--   row-place, column-place
+--                       the row and the column of a place are those that it was made of
+--   row-lt, column-lt, place-at
+--                       a place below 4 ^ h has a row and a column below 2 ^ h, and is theirs
+--   place-step          one digit more, as a loop from the top finds it
+--   row-step, column-step
+--                       by the highest digit of a place
+--   row-block, column-block
+--                       by blocks of 8 × 8, whose 64 places follow one another
+-- Assumes nothing.
 use mathlib.Core.Path.{_≡_, refl, sym, ap, _∙_}
 use Prim.Native.Nat.{ℕ, zero, suc, _+_, _*_, _/_, _%_, _^_, _<_}
-use native.Mathlib.Nat.{div-div-eq-div-mul, add-zero, mul-comm, mul-assoc, add-mul, mod-lt, div-add-mod', pow-suc, div-lt-iff-lt-mul, mul-add-div-right, mul-add-mod-self-right, div-eq-of-lt, mod-eq-of-lt}
+use native.Mathlib.Nat.{div-div-eq-div-mul, add-zero, mul-comm, mul-assoc, add-mul, mod-lt, div-add-mod', pow-suc, div-lt-iff-lt-mul, mul-add-div-right}
+use native.Mathlib.Nat.{mul-add-mod-self-right, div-eq-of-lt, mod-eq-of-lt}
 use native.Mathlib.Omega.{arith}
 use lib.Arith.{mod-mul}
 use lib.Pow.{pow-pos, field, mod-mod-pow}
@@ -145,8 +157,10 @@ module _ (at : ℕ → ℕ → ℕ) (t : ℕ → ℕ) (none : (z : ℕ) → at 0
       let r = run g z in
       let w : ℕ = z % 4 ^ suc (suc (suc g)) in
       let q : ℕ = t (z / 64 / 4 ^ g) in
-      let two : q * 2 ^ suc (suc (suc g)) ≡ q * 2 ^ g * 8 = rw (pow-suc 2 (suc (suc g)), pow-suc 2 (suc g), pow-suc 2 g, mul-assoc (2 ^ g) 2 2, mul-assoc (2 ^ g) 4 2) (sym (mul-assoc q (2 ^ g) 8)) in
-      let ih : at (suc (suc (suc g))) w ≡ 8 * at g (z / 64 % 4 ^ g) + at 3 (z % 64) = block-of g w (mod-lt z (four-pos (suc (suc (suc g))))) ∙ rw (r .1, r .2) refl in
+      let two : q * 2 ^ suc (suc (suc g)) ≡ q * 2 ^ g * 8 =
+      rw (pow-suc 2 (suc (suc g)), pow-suc 2 (suc g), pow-suc 2 g, mul-assoc (2 ^ g) 2 2, mul-assoc (2 ^ g) 4 2) (sym (mul-assoc q (2 ^ g) 8)) in
+      let ih : at (suc (suc (suc g))) w ≡ 8 * at g (z / 64 % 4 ^ g) + at 3 (z % 64) =
+      block-of g w (mod-lt z (four-pos (suc (suc (suc g))))) ∙ rw (r .1, r .2) refl in
       step (suc (suc (suc g))) z ∙ rw (r .0, ih, two, step g (z / 64)) (omega arith)
 
 pub row-block : (g z : ℕ) → z < 4 ^ (g + 3) → rowAt (g + 3) z ≡ 8 * rowAt g (z / 64) + rowAt 3 (z % 64)

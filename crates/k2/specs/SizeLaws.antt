@@ -1,4 +1,15 @@
--- Laws of sizes: of `fullSize`, of `squeezed`, and D as the words of a full tree. Assumes nothing.
+-- Laws of sizes: of `fullSize`, of `squeezed`, and D as the words of a full tree.
+--   fullSize-last, fullSize-four, fullSize-power, fullSize-next
+--                  the bits of a full tree: level by level, in fours, as a power, with one level more
+--   square-power, four-most, fullSize-most
+--                  for sides of at most 1,024: how many cells and bits at most
+--   treeUnit-size, treeUnit-some, treeUnit-most, treeUnit-mono
+--                  D is the words of a full tree, at least 1, at most 21,846, and not more for fewer records
+--   squeezed-length, groups-most
+--                  the groups that are not all 0: their bits, and that they are no more than all
+--   treeBits-most, treeWords-most
+--                  a tree is no longer than a full one, nor its words than D
+-- Assumes nothing.
 use mathlib.Core.Path.{_≡_, refl, sym, ap, _∙_}
 use Prim.Native.Nat.{ℕ, zero, suc, _+_, _-_, _*_, _/_, _%_, _^_, _≤_, min}
 use native.Mathlib.Nat.{mul-comm, mul-assoc, mul-le-mul, pow-suc}

@@ -1,4 +1,13 @@
--- Laws of trees: the tree of a set tells the set, and the tree of a transpose. Assumes nothing.
+-- Laws of trees: the tree of a set tells the set, and the tree of a transpose.
+--   tree-bits, treeWords-bits
+--                  the bits of a tree are 0 and 1, and its words have them
+--   treeWords-tell, treeBits-tell
+--                  a tree is the tree of one set of pairs below n
+--   treeWords-none, tree-none
+--                  the empty set has no words, and no words are a well-formed tree
+--   quadrant-transpose, filled-transpose
+--                  the quarters of a transposed square, with 1 and 2 exchanged; it is empty where the square is
+-- Assumes nothing.
 use mathlib.Core.Path.{_≡_, refl, sym, ap, _∙_, fun-ext}
 use mathlib.Core.List.{List, [], _∷_, _++_, map}
 use Prim.Native.Nat.{ℕ, zero, suc, _+_, _-_, _/_, _%_, _^_, _≤_, _<_, min}
@@ -10,7 +19,7 @@ use lib.Seq.{getD-append-add}
 use lib.Pow.{pow-pos}
 use Rattle.k2.specs.Bits.{bitAt, bitsOf, packed, wordsOf}
 use Rattle.k2.specs.PairSets.{Cells, IsSet, transpose}
-use Rattle.k2.specs.Trees.{quadrant, filled, quarters, keep, levels, treeBits, treeWords, WellFormed, childPlace, height}
+use Rattle.k2.specs.Trees.{quadrant, filled, quarters, keep, levels, treeBits, treeWords, WellFormed, height}
 use Rattle.k2.specs.Nodes.{Node, root, child, quarterOf, exchanged}
 use Rattle.k2.specs.BitLaws.{Bits, words-bits}
 use Rattle.k2.specs.NodeLaws.{map-at, filled-lt, quarter-lt, quadrant-cell, empty-cell, blank, levels-none, node-bit}
@@ -27,7 +36,8 @@ module _ (side : ℕ) (a b : Cells) (f : ℕ → ℕ) (ea : f ≡ bitsOf (treeBi
       let ey : y ≡ 0 = omega arith in
       rw (ex, ey) (omega arith)
   same-cell (suc h) {s} {t} {p} n m fs ft x y hx hy =
-      ap (min 1) (sym (quadrant-cell h s x y hy)) ∙ go (λ e. same-cell h (child q n ql e) (child q m ql e) (sym bs ∙ e) (sym bt ∙ e) i j li lj) (f (p + q)) refl (rw bs (filled-lt h (quadrant h q s))) ∙ ap (min 1) (quadrant-cell h t x y hy)
+      ap (min 1) (sym (quadrant-cell h s x y hy)) ∙ go (λ e. same-cell h (child q n ql e) (child q m ql e) (sym bs ∙ e) (sym bt ∙ e) i j li lj)
+      (f (p + q)) refl (rw bs (filled-lt h (quadrant h q s))) ∙ ap (min 1) (quadrant-cell h t x y hy)
     where
       q : ℕ
       q = quarterOf (2 ^ h) x y
@@ -87,7 +97,8 @@ same-bits : (n : ℕ) (a b : Cells) → IsSet n a → IsSet n b → bitsOf (tree
 same-bits n a b ia ib e = tree-tells (height n) a b (height-is n .0) (wider ia) (wider ib) e
   where
     wider : {c : Cells} → IsSet n c → IsSet (2 ^ height n) c
-    wider i = record { bit = i .bit; row = λ x y l. i .row x y (omega (arith, height-is n .1)); column = λ x y l. i .column x y (omega (arith, height-is n .1)) }
+    wider i =
+        record { bit = i .bit; row = λ x y l. i .row x y (omega (arith, height-is n .1)); column = λ x y l. i .column x y (omega (arith, height-is n .1)) }
 
 -- the bits of a tree are 0 and 1
 levels-bits : (h : ℕ) (qs : List Cells) → Bits (bitsOf (levels h qs))
@@ -155,16 +166,3 @@ filled-transpose (suc h) a =
     let by : (q : ℕ) → q < 4 → filled h (quadrant h (exchanged q) (transpose a)) ≡ filled h (quadrant h q a) =
     λ q l. ap (filled h) (quadrant-transpose h q a l) ∙ filled-transpose h (quadrant h q a) in
     omega (arith, by 0 (omega arith), by 1 (omega arith), by 2 (omega arith), by 3 (omega arith))
-
--- each square of a tree stands in the tree of the transpose, transposed; its four bits are the same, the second and the third exchanged
-module _ (side : ℕ) (a : Cells) (f g : ℕ → ℕ) (ea : f ≡ bitsOf (treeBits side a)) (et : g ≡ bitsOf (treeBits side (transpose a))) where
-  pub bit-transpose : {h : ℕ} {s : Cells} {b c : ℕ} → Node side a f (suc h) s b → Node side (transpose a) g (suc h) (transpose s) c
-      → (q : ℕ) → q < 4 → g (c + exchanged q) ≡ f (b + q)
-  bit-transpose {h} {s} n m q l =
-      node-bit et m (exchanged q) (omega arith) ∙ ap (filled h) (quadrant-transpose h q s l) ∙ filled-transpose h (quadrant h q s) ∙ sym (node-bit ea n q l)
-
-  pub node-transpose : {h : ℕ} {s : Cells} {b : ℕ} → Node side a f h s b → (c : ℕ) × Node side (transpose a) g h (transpose s) c
-  node-transpose root = (0, root)
-  node-transpose (child {h} {s} {b} q n l o) =
-      let m = node-transpose n in
-      (childPlace g (m .0 + exchanged q), rw (← quadrant-transpose h q s l) (child (exchanged q) (m .1) (omega arith) (bit-transpose n (m .1) q l ∙ o)))

@@ -1,4 +1,9 @@
--- Laws of reading a tree's set: the words of a set's tree tell the set, and words are well formed exactly if they are the tree of what they tell.
+-- Laws of reading a tree's set: what the words of a tree tell, and which words are a tree.
+--   tree-tells-set  the words of a set's tree tell the set
+--   told-set        what words tell is a set of pairs below n, whatever they are
+--   formed-tree, tree-formed
+--                   words pass the test exactly if they are well formed
+--   formed-set      and the set is the one that they tell
 -- Assumes nothing.
 use mathlib.Core.Path.{_≡_, refl, sym, ap, _∙_, fun-ext}
 use mathlib.Core.List.{List, [], _∷_}
@@ -39,7 +44,8 @@ module _ (side : ℕ) (a : Cells) (f : ℕ → ℕ) (e : f ≡ bitsOf (treeBits 
             → pick (eqb (f (b + q)) 0) 0 (cellAt f h (childPlace f (b + q)) (x % 2 ^ h) (y % 2 ^ h)) ≡ min 1 (quadrant h q s (x % 2 ^ h) (y % 2 ^ h))
         go zero z g =
             rw (eq-eqb (f (b + q)) 0 z)
-            (sym (ap (min 1) (empty-cell h (quadrant h q s) (x % 2 ^ h) (y % 2 ^ h) (mod-lt x (pow-pos h)) (mod-lt y (pow-pos h)) (sym (node-bit e n q ql) ∙ z))))
+            (sym
+            (ap (min 1) (empty-cell h (quadrant h q s) (x % 2 ^ h) (y % 2 ^ h) (mod-lt x (pow-pos h)) (mod-lt y (pow-pos h)) (sym (node-bit e n q ql) ∙ z))))
         go (suc zero) z g = rw (ne-eqb (f (b + q)) 0 (λ k. omega arith)) (below z)
         go (suc (suc v)) z g = absurd (omega arith)
 
@@ -59,7 +65,8 @@ cell-whole : (h : ℕ) (a : Cells) (f : ℕ → ℕ) → 1 ≤ h → f ≡ bitsO
 cell-whole zero a f l e x y lx ly = absurd (omega arith)
 cell-whole (suc h) a f l e x y lx ly =
     cell-step (suc h) a f e h root x y lx ly
-    (λ z. cell-at (suc h) a f e h (child (quarterOf (2 ^ h) x y) root (quarter-lt h x y lx ly) z) (sym (node-bit e root (quarterOf (2 ^ h) x y) (quarter-lt h x y lx ly)) ∙ z)
+    (λ z. cell-at (suc h) a f e h (child (quarterOf (2 ^ h) x y) root (quarter-lt h x y lx ly) z)
+    (sym (node-bit e root (quarterOf (2 ^ h) x y) (quarter-lt h x y lx ly)) ∙ z)
     (x % 2 ^ h) (y % 2 ^ h) (mod-lt x (pow-pos h)) (mod-lt y (pow-pos h)))
 
 -- ---- the words of a set's tree tell the set
@@ -73,7 +80,8 @@ tree-tells-set n a A = fun-ext (λ x. fun-ext (λ y. go x y (decLt x n) (decLt y
     go x y (yes l) (yes d) =
         let w = height-is n in
         rw (lt-ltb x n l, lt-ltb y n d)
-        (cell-whole (height n) a (bitAt (treeWords n a)) (w .0) (treeWords-bits n a) x y (omega (arith, w .1)) (omega (arith, w .1)) ∙ omega (arith, A .bit x y))
+        (cell-whole (height n) a (bitAt (treeWords n a)) (w .0) (treeWords-bits n a) x y (omega (arith, w .1)) (omega (arith, w .1))
+        ∙ omega (arith, A .bit x y))
 
 -- what words tell is a set of pairs below n, whatever they are
 cell-bit : (f : ℕ → ℕ) (h b x y : ℕ) → cellAt f h b x y < 2
@@ -125,7 +133,8 @@ formed-tree {n} {ws} e = record { set = setIn n ws; is-set = told-set n ws; tree
 pub tree-formed : {n : ℕ} {ws : List ℕ} → WellFormed n ws → formed n ws ≡ true
 unfolding formed
 tree-formed {n} {ws} w =
-    let s : treeWords n (setIn n ws) ≡ ws = ap (λ (vs : List ℕ). treeWords n (setIn n vs)) (w .tree) ∙ ap (treeWords n) (tree-tells-set n (w .set) (w .is-set)) ∙ sym (w .tree) in
+    let s : treeWords n (setIn n ws) ≡ ws =
+    ap (λ (vs : List ℕ). treeWords n (setIn n vs)) (w .tree) ∙ ap (treeWords n) (tree-tells-set n (w .set) (w .is-set)) ∙ sym (w .tree) in
     rw s (words-same ws)
 
 -- and the set is the one that they tell

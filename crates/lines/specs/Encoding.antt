@@ -1,19 +1,18 @@
 -- The frame of what a line says, and a typed session.
---   linkBytes k     a link in a frame's body: from in two bytes, label in one, to in two
+--   linkBytes k         a link in a frame's body: from in two bytes, label in one, to in two
 --   kindOf f, bodyOf f, frameFor f
---                   the kind, the body and the bytes of the frame that says f
---   sent t          the bytes that become of a line that says t
+--                       the kind, the body and the bytes of the frame that says f
+--   sent t              the bytes that become of a line that says t
 --   OfNumber k f, OfLink k f
---                   every frame of a request f of a number, or of an edit f of a link, has the kind k, and that as its body
---   maxBody, frameRoom
---                   the most bytes of a frame's body, and of a whole frame
+--                       every frame of a request f of a number, or of an edit f of a link, has the kind k, and that as its body
+--   maxBody, frameRoom  the most bytes of a frame's body, and of a whole frame
 --   afterTyped s t, RightTyped s t v u, printedTyped w r s t v u, leftTyped w k s t v u
---                   of a line that says t: the session after it, the right verdict and reply, what is printed, and the list that is left; as of its
---                   frame, if it has one
---   sentAll ls      the bytes that become of the lines ls
+--                       of a line that says t: the session after it, the right verdict and reply, what is printed, and the list that is left; as of its frame,
+--                       if it has one
+--   sentAll ls          the bytes that become of the lines ls
 --   TypedRun w s k ls o s′ k′
---                   a typed session: from the session s and the list k on, the lines ls are answered by the bytes o, line by line, and leave the session
---                   s′ and the list k′
+--                       a typed session: from the session s and the list k on, the lines ls are answered by the bytes o, line by line, and leave the session s′
+--                       and the list k′
 -- Assumes nothing: these are definitions.
 use mathlib.Core.Path.{_≡_}
 use mathlib.Core.List.{List, [], _∷_, _++_}
@@ -26,7 +25,8 @@ use Rattle.book.specs.Book.{Link, Edit, edit, undo, close, add, remove, lock, u
 use Rattle.paths.specs.Grammar.{Verdict}
 use Rattle.paths.specs.Chains.{Reply}
 use Rattle.register.specs.History.{addKind, removeKind, lockKind, unlockKind, undoKind, withdrawKind, reinstateKind}
-use Rattle.session.specs.Program.{twoBytes, frameOf, openKind, pairsKind, chainKind, totalKind, Request, Frame, asks, faulty, opening, call, pairs, chain, totalling, Session, nextSession, Right, printed, listLeft, minFrame, maxFrame}
+use Rattle.session.specs.Program.{twoBytes, frameOf, openKind, pairsKind, chainKind, totalKind, Request, Frame, asks, faulty, opening, call, pairs, chain}
+use Rattle.session.specs.Program.{totalling, Session, nextSession, Right, printed, listLeft, minFrame, maxFrame}
 use Rattle.lines.specs.Typed.{Typed, nothing, saying, typed}
 
 unfoldable pub linkBytes : Link → List ℕ

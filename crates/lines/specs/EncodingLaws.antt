@@ -2,8 +2,8 @@
 --   decode-request  the program takes the frame of a request for that request
 --   typed-sends     a line says nothing, a request whose text is within its limit, or one of two faults
 --   decode-line     for every line: the program takes the frame that is sent for what the line says
---   run-lines       for all lines of a session: on the frames that are sent the program prints what the lines ask for, line by line
 --   frame-parts     a frame from its parts
+--   run-lines       for all lines of a session: on the frames that are sent the program prints what the lines ask for, line by line
 -- Assumes nothing.
 use mathlib.Core.Path.{_≡_, refl, subst, _∙_}
 use mathlib.Core.List.{List, [], _∷_, _++_, append-assoc}
@@ -20,11 +20,14 @@ use Rattle.book.specs.Book.{Link, Edit, edit, undo, close, add, remove, lock, u
 use Rattle.paths.specs.Grammar.{Verdict}
 use Rattle.paths.specs.Chains.{Reply}
 use Rattle.report.specs.Report.{bytes}
-use Rattle.session.specs.Program.{number16, twoBytes, frameOf, linkIn, Request, Frame, asks, faulty, opening, call, pairs, chain, totalling, decode, Session, nextSession, Right, printed, listLeft, frameIn, Run, ended}
+use Rattle.session.specs.Program.{number16, twoBytes, frameOf, linkIn, Request, Frame, asks, faulty, opening, call, pairs, chain, totalling, decode, Session}
+use Rattle.session.specs.Program.{nextSession, Right, printed, listLeft, frameIn, Run, ended}
 use Rattle.session.specs.RunLaws.{framed-as}
-use Rattle.lines.specs.Typed.{Typed, nothing, saying, fitting, word, rest, skip, sameBytes, empty, isNumber, numberOf, isLabel, labelOf, text, maxText, maxLine, hash, numbered, linked, alone, chained, lettered, requested, begun, typed}
+use Rattle.lines.specs.Typed.{Typed, nothing, saying, fitting, word, rest, skip, sameBytes, empty, isNumber, numberOf, isLabel, labelOf, text, maxText}
+use Rattle.lines.specs.Typed.{maxLine, hash, numbered, linked, alone, chained, lettered, requested, begun, typed}
 use Rattle.lines.specs.TypedLaws.{length-text}
-use Rattle.lines.specs.Encoding.{linkBytes, kindOf, bodyOf, frameFor, sent, maxBody, afterTyped, printedTyped, leftTyped, RightTyped, sentAll, TypedRun, no-lines, next-line}
+use Rattle.lines.specs.Encoding.{linkBytes, kindOf, bodyOf, frameFor, sent, maxBody, afterTyped, printedTyped, leftTyped, RightTyped, sentAll, TypedRun}
+use Rattle.lines.specs.Encoding.{no-lines, next-line}
 
 -- a number from its two bytes
 both : (n : ℕ) → n % 256 + 256 * (n / 256) ≡ n
@@ -97,7 +100,8 @@ chained-sends : (r : List ℕ) → Sends (chained r)
 unfolding chained bodyOf twoBytes
 chained-sends r =
     let t = text (rest (rest r)) in
-    fits (isNumber (word r) && isNumber (word (rest r))) (chain (numberOf (word r)) (numberOf (word (rest r))) t) tt (omega (arith, length-text (rest (rest r))))
+    fits (isNumber (word r) && isNumber (word (rest r))) (chain (numberOf (word r)) (numberOf (word (rest r))) t)
+    tt (omega (arith, length-text (rest (rest r))))
 
 lettered-sends : (r : List ℕ) → Sends (lettered r)
 unfolding lettered bodyOf

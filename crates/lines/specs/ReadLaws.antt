@@ -1,8 +1,12 @@
 -- Laws of words as the code reads them.
---   read-fits, read-not     from what was read: whether the word fits, and what it is
---   number-begun, number-next, number-not, number-over, number-none
---                           a number read figure by figure
---   label-size, label-one   a label's only byte
+--   read-fits, read-not  from what was read: whether the word fits, and what it is
+--   number-small, label-small
+--                        a number and a label are below what stands for none
+--   readAfter v w        the rest w of a number, of which v is read
+--   number-begun, number-empty, number-next, number-below, number-above, number-over, number-none
+--                        a number read figure by figure: begun, no byte, one figure more, a byte below or above the figures, too large, none left
+--   label-size, label-below, label-above, label-is
+--                        a label's only byte, and which bytes are one
 -- Assumes nothing.
 use mathlib.Core.Path.{_≡_, refl}
 use mathlib.Core.List.{List, [], _∷_}
@@ -94,11 +98,6 @@ unfolding isLabel
 label-size [] h = refl
 label-size (c ∷ []) h = absurd (h refl)
 label-size (c ∷ d ∷ w) h = refl
-
-pub label-one : (w : List ℕ) → length w ≡ 1 → w ≡ getD w 0 0 ∷ []
-label-one [] h = absurd (omega arith)
-label-one (c ∷ []) h = refl
-label-one (c ∷ d ∷ w) h = absurd (omega arith)
 
 -- a word of one byte, by that byte
 pub label-below : (w : List ℕ) → length w ≡ 1 → getD w 0 0 < letter-a → isLabel w ≡ false

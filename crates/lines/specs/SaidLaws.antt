@@ -1,18 +1,18 @@
 -- Laws of what is said, by what the code has read.
 --   typed-long, typed-short, begun-none, begun-comment, begun-request
---                   a line, by its length and its first byte that is no blank
---   requested-as    a word that is the same as another says what that one says
---   requested-none  a word that is none of the requests
+--                         a line, by its length and its first byte that is no blank
+--   requested-as          a word that is the same as another says what that one says
+--   requested-none        a word that is none of the requests
+--   label-under           a label that was read is one
 --   numbered-not, numbered-more, numbered-is
---                   one number and no more: it is none; more follows; it is
---   linked-not-from, linked-not-label, linked-not-to, linked-more, linked-is
---                   FROM LETTER TO and no more, in this order
---   alone-more, alone-is
---                   no argument
---   chained-not-from, chained-not-to, chained-is
---                   FROM TO EXPRESSION, in this order
+--                         one number and no more: it is none; more follows; it is
 --   lettered-not, lettered-more, lettered-is
---                   one letter and no more
+--                         one letter and no more
+--   alone-more, alone-is  no argument
+--   linked-not-from, linked-not-label, linked-not-to, linked-more, linked-is
+--                         FROM LETTER TO and no more, in this order
+--   chained-not-from, chained-not-to, chained-is
+--                         FROM TO EXPRESSION, in this order
 -- Assumes nothing.
 use mathlib.Core.Path.{_≡_, refl, ap, _∙_}
 use mathlib.Core.List.{List, [], _∷_}
@@ -25,7 +25,8 @@ use Rattle.book.specs.Causes.{labels}
 use Rattle.book.specs.Book.{Link, Edit, edit}
 use Rattle.report.specs.Report.{bytes}
 use Rattle.session.specs.Program.{Request, asks, call, chain, totalling}
-use Rattle.lines.specs.Typed.{word, rest, skip, sameBytes, empty, isNumber, numberOf, isLabel, labelOf, text, hash, maxLine, nothing, saying, unknown, misfit, numbered, linked, alone, chained, lettered, requested, begun, typed}
+use Rattle.lines.specs.Typed.{word, rest, skip, sameBytes, empty, isNumber, numberOf, isLabel, labelOf, text, hash, maxLine, nothing, saying, unknown}
+use Rattle.lines.specs.Typed.{misfit, numbered, linked, alone, chained, lettered, requested, begun, typed}
 use Rattle.lines.specs.TypedLaws.{and-false, same-equal}
 use Rattle.lines.specs.Read.{unfit, read}
 use Rattle.lines.specs.ReadLaws.{read-fits, read-not, number-small, label-small}

@@ -1,28 +1,27 @@
 -- The typed requests: what a line says, as a function of its bytes.
---   blank c         the byte parts words: space, tab or carriage return
---   skip s, trim s  the bytes s without the blanks in front, and without those at their end
---   word s, rest s  the first word of s, up to a blank or the end; and what follows it, from the next word on
---   sameBytes s t, empty s
---                   whether s and t are the same bytes, and whether s is none
---   figure c, allFigures w
---                   whether c is a decimal figure, and every byte of w
---   numberAfter v w, numberOf w
---                   the number of the figures w after those of v, and of w alone
---   isNumber w      whether the word w is figures, one or more, of a number up to 65,535
---   isLabel w, labelOf w
---                   whether the word w is one letter, a to z; its label, 0 to 25
---   text s          what is sent of a question's text: s without the blanks at its end, at most 1,018 bytes
---   Typed           what a line says: nothing, or what a frame says, a request or the cause why it is none
---   unknown, misfit what a first word says that is none of the requests, and arguments that do not fit
---   fitting b q     the request q, if its arguments fit
---   numbered f r, linked f r, alone q r, chained r, lettered r
---                   a request, if the bytes r after its word are: a number and no more; FROM LETTER TO and no more; none; FROM TO EXPRESSION; LETTER
---                   and no more
---   requested w r   what the word w says with the bytes r after it
---   begun s         what the bytes s say from the first word on: nothing, a comment, or a request
---   typed s         what the line s says
 --   maxLine, maxNumber, maxText
---                   the limits
+--                         the limits
+--   blank c               the byte parts words: space, tab or carriage return
+--   skip s, trim s        the bytes s without the blanks in front, and without those at their end
+--   word s, rest s        the first word of s, up to a blank or the end; and what follows it, from the next word on
+--   sameBytes s t, empty s
+--                         whether s and t are the same bytes, and whether s is none
+--   figure c, allFigures w
+--                         whether c is a decimal figure, and every byte of w
+--   numberAfter v w, numberOf w
+--                         the number of the figures w after those of v, and of w alone
+--   isNumber w            whether the word w is figures, one or more, of a number up to 65,535
+--   isLabel w, labelOf w  whether the word w is one letter, a to z; its label, 0 to 25
+--   text s                what is sent of a question's text: s without the blanks at its end, at most 1,018 bytes
+--   Typed                 what a line says: nothing, or what a frame says, a request or the cause why it is none
+--   unknown, misfit       what a first word says that is none of the requests, and arguments that do not fit
+--   fitting b q           the request q, if its arguments fit
+--   numbered f r, linked f r, alone q r, chained r, lettered r
+--                         a request, if the bytes r after its word are: a number and no more; FROM LETTER TO and no more; none; FROM TO EXPRESSION; LETTER and
+--                         no more
+--   requested w r         what the word w says with the bytes r after it
+--   begun s               what the bytes s say from the first word on: nothing, a comment, or a request
+--   typed s               what the line s says
 -- Assumes nothing: these are definitions.
 use mathlib.Core.List.{List, [], _∷_, reverse}
 use mathlib.Core.Bool.{Bool, true, false, _&&_, _||_}

@@ -9,7 +9,8 @@ use Prim.Native.String.{String}
 use Rattle.book.specs.Book.{edit, undo, add, remove, lock, unlock, withdraw, reinstate}
 use Rattle.report.specs.Report.{bytes}
 use Rattle.session.specs.Program.{Request, asks, opening, call, pairs, chain, totalling}
-use Rattle.lines.specs.Typed.{blank, skip, trim, word, rest, sameBytes, empty, figure, allFigures, numberAfter, numberOf, isNumber, isLabel, labelOf, text, Typed, nothing, saying, unknown, misfit, numbered, linked, alone, chained, lettered, requested, begun, typed}
+use Rattle.lines.specs.Typed.{blank, skip, trim, word, rest, sameBytes, empty, figure, allFigures, numberAfter, numberOf, isNumber, isLabel, labelOf}
+use Rattle.lines.specs.Typed.{text, Typed, nothing, saying, unknown, misfit, numbered, linked, alone, chained, lettered, requested, begun, typed}
 
 pub record Case : Type 0 where
   pub line : String
@@ -70,7 +71,8 @@ pub data Hold : List Case → Type 0 where
   also : {c : Case} {cs : List Case} → typed (bytes (c .line)) ≡ c .what → Hold cs → Hold (c ∷ cs)
 
 pub typed-cases : Hold table
-unfolding table bytes blank skip trim word rest sameBytes empty figure allFigures numberAfter numberOf isNumber isLabel labelOf text numbered linked alone chained lettered requested begun typed
+unfolding table bytes blank skip trim word rest sameBytes empty figure allFigures numberAfter numberOf isNumber isLabel labelOf text numbered linked alone
+    chained lettered requested begun typed
 typed-cases =
     also refl (also refl (also refl (also refl (also refl (also refl (also refl (also refl (also refl (also refl (also refl (also refl (also refl
     (also refl (also refl (also refl (also refl (also refl (also refl (also refl (also refl (also refl (also refl (also refl (also refl (also refl

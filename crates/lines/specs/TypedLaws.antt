@@ -1,14 +1,21 @@
 -- Laws of the words of a line.
---   and-left, and-right, and-false   of two tests
---   skip-on, skip-at, skip-none      blanks in front, one after the other, up to a byte that is none or the end
---   word-more, word-end, word-none   the bytes of a word, one after the other, up to a blank or the end
---   take-word                        a word stands at the front of its line
---   trim-blank, trim-at, trim-none   blanks at the end, one after the other, down to a byte that is none or the front
---   length-text                      what is sent of a text is within its limit
+--   and-left, and-right, and-false
+--                  of two tests
+--   skip-on, skip-at, skip-none
+--                  blanks in front, one after the other, up to a byte that is none or the end
+--   part-from, word-short
+--                  what follows n bytes, as the code cuts it; a word is no longer than its line
+--   word-more, word-end, word-none
+--                  the bytes of a word, one after the other, up to a blank or the end
+--   take-word      a word stands at the front of its line
+--   trim-blank, trim-at, trim-none
+--                  blanks at the end, one after the other, down to a byte that is none or the front
+--   length-text    what is sent of a text is within its limit
 --   same-next, same-not, same-none, same-length
---                                    two texts byte by byte
---   same-equal, equal-same           they are the same exactly if they are equal
---   decimal-typed                    a number as the program prints it is that number when it is typed
+--                  two texts byte by byte
+--   same-equal, equal-same
+--                  they are the same exactly if they are equal
+--   decimal-typed  a number as the program prints it is that number when it is typed
 -- Assumes nothing.
 use mathlib.Core.Path.{_≡_, refl, sym, ap, subst, _∙_}
 use mathlib.Core.List.{List, [], _∷_, _++_, reverse, reverse-cons, reverse-append, reverse-reverse}
@@ -90,7 +97,8 @@ last-blank s i h b = rw (take-suc s i 0 h, reverse-append (take i s) (getD s i 0
 
 last-at : (s : List ℕ) (i : ℕ) → i < length s → blank (getD s i 0) ≡ false → trim (take (suc i) s) ≡ take (suc i) s
 unfolding trim skip
-last-at s i h b = rw (take-suc s i 0 h, reverse-append (take i s) (getD s i 0 ∷ []), b, reverse-cons (getD s i 0) (reverse (take i s)), reverse-reverse (take i s))
+last-at s i h b =
+    rw (take-suc s i 0 h, reverse-append (take i s) (getD s i 0 ∷ []), b, reverse-cons (getD s i 0) (reverse (take i s)), reverse-reverse (take i s))
 
 pub trim-blank : (s : List ℕ) (n : ℕ) → 0 < n → n ≤ length s → blank (getD s (n - 1) 0) ≡ true → trim (take n s) ≡ trim (take (n - 1) s)
 trim-blank s n z h b =

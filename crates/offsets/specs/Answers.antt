@@ -12,8 +12,8 @@
 --                   asked of those records, with so many words of work and a list that held `before`: the answer a, and the list, which holds `after`
 --   toldWords a     how many words of the list are the answer's
 --   AsksOffsets r base ts work before after a
---                   asked of the register r. Over any contents: the words past the answer are as they were, all of them with a refusal or "cannot all hold", and
---                   a refusal has the number of a cause. For every book that the register represents: answer and list are those of its records
+--                   asked of the register r. Over any contents: the words past the answer are as they were, all of them with a refusal or "cannot all hold",
+--                   and a refusal has the number of a cause. For every book that the register represents: answer and list are those of its records
 --   refusal k, toldOffsets a
 --                   a refusal, and an answer, told as a number of 64 bits: the words written, 2^32 for "cannot all hold", 2^33 and the number for a refusal
 --   OffsetsTold ws base ts work before after k
@@ -66,7 +66,8 @@ pub data OffsetsAnswer : Type 0 where
 
 pub data OffsetsFor (n : ℕ) (w : ℕ → Bool) (base : ℕ) (ts : List Tie) (work : ℕ) (before after : List ℤ) : OffsetsAnswer → Type 0 where
   refused : {k : ℕ} → firstNumber (offsetsCauses n w base ts work) ≡ suc k → after ≡ before → OffsetsFor n w base ts work before after (Refused (suc k))
-  cannot-hold : firstNumber (offsetsCauses n w base ts work) ≡ 0 → OffsetsAre n base ts cannot → after ≡ before → OffsetsFor n w base ts work before after CannotHold
+  cannot-hold : firstNumber (offsetsCauses n w base ts work) ≡ 0 → OffsetsAre n base ts cannot
+      → after ≡ before → OffsetsFor n w base ts work before after CannotHold
   short : firstNumber (offsetsCauses n w base ts work) ≡ 0 → (p : Placing) → Places p ts → length before < n * 2 → after ≡ before
       → OffsetsFor n w base ts work before after (Refused (number short-list))
   told : firstNumber (offsetsCauses n w base ts work) ≡ 0 → n * 2 ≤ length before → OffsetsAre n base ts (limits (take (n * 2) after))

@@ -5,9 +5,8 @@ use mathlib.Core.List.{List, [], _∷_}
 use Prim.Native.Nat.{ℕ, zero, suc, _*_}
 use lib.IntN.{ℤ, pos, negsuc}
 use Rattle.offsets.specs.declared.Tie.{Tie}
-use Rattle.offsets.specs.Linear.{up, down}
 use Rattle.offsets.specs.Relax.{lower, third, relaxed, settled}
-use Rattle.offsets.specs.Offsets.{Answer, cannot, limits}
+use Rattle.offsets.specs.Offsets.{cannot, limits}
 use Rattle.offsets.specs.Thirds.{firstly}
 use Rattle.offsets.specs.Finds.{offsets, ran, least-word, most-word}
 
@@ -31,12 +30,14 @@ backward : offsets 2 (tie 0 1 (pos 31) (pos 38) ∷ []) (begin 2 1) ≡ limits (
 unfolding offsets ran least-word most-word firstly settled lower relaxed third
 backward = refl
 
-chain : offsets 4 (tie 0 1 (pos 31) (pos 38) ∷ tie 3 1 (pos 5) (pos 7) ∷ []) (begin 4 0) ≡ limits (pos 0 ∷ pos 0 ∷ pos 31 ∷ pos 38 ∷ pos 1 ∷ pos 0 ∷ pos 24 ∷ pos 33 ∷ [])
+chain : offsets 4 (tie 0 1 (pos 31) (pos 38) ∷ tie 3 1 (pos 5) (pos 7) ∷ []) (begin 4 0)
+    ≡ limits (pos 0 ∷ pos 0 ∷ pos 31 ∷ pos 38 ∷ pos 1 ∷ pos 0 ∷ pos 24 ∷ pos 33 ∷ [])
 unfolding offsets ran least-word most-word firstly settled lower relaxed third
 chain = refl
 
 -- a third tie narrows both
-triangle : offsets 3 (tie 0 1 (pos 10) (pos 20) ∷ tie 1 2 (pos 10) (pos 20) ∷ tie 0 2 (pos 36) (pos 60) ∷ []) (begin 3 0) ≡ limits (pos 0 ∷ pos 0 ∷ pos 16 ∷ pos 20 ∷ pos 36 ∷ pos 40 ∷ [])
+triangle : offsets 3 (tie 0 1 (pos 10) (pos 20) ∷ tie 1 2 (pos 10) (pos 20) ∷ tie 0 2 (pos 36) (pos 60) ∷ []) (begin 3 0)
+    ≡ limits (pos 0 ∷ pos 0 ∷ pos 16 ∷ pos 20 ∷ pos 36 ∷ pos 40 ∷ [])
 unfolding offsets ran least-word most-word firstly settled lower relaxed third
 triangle = refl
 

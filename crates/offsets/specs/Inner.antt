@@ -1,22 +1,19 @@
 -- What the functions within the crate promise each other.
---   Records, Plan   what of a register the ties are judged by; how the passes go
---   SizeIn ws n     what `size_in` promises: n is the size of the register whose words are ws
---   OpenNumber ws k what `open_number` promises: 0 for the words of a register, else 16
---   isWithdrawnIn ws k
---                   whether a record is withdrawn, by its mark among the words
---   sooner a b      of two numbers of causes the one that is looked for first: 2 before 18 before 19; 0 is none
---   three a b c     the number of the first of the causes 2, 18 and 19 that is there
+--   Records, Plan         what of a register the ties are judged by; how the passes go
+--   SizeIn ws n           what `size_in` promises: n is the size of the register whose words are ws
+--   OpenNumber ws k       what `open_number` promises: 0 for the words of a register, else 16
+--   isWithdrawnIn ws k    whether a record is withdrawn, by its mark among the words
+--   sooner a b            of two numbers of causes the one that is looked for first: 2 before 18 before 19; 0 is none
+--   three a b c           the number of the first of the causes 2, 18 and 19 that is there
 --   tieNumber, baseNumber
---                   the number against one tie, and against the base and how many ties there are
---   judgeTie, judgeAll
---                   the number so far, and then that of every tie of a list in turn
---   orElse a b      a if it is a number, else b
---   roundsOf c n    how many passes there may be, by the number of the cause against them
---   Filled n base l the front of l is as the first pass finds it
---   Plans, Begins   what `begin` promises: the number that comes before "cannot all hold", and if there is none, the work filled and n + 1 passes
---   HandsOver, TellsOver
---                   what `hand_over` promises: the answer, and that it is told
---   Among           what `offsets_among` promises
+--                         the number against one tie, and against the base and how many ties there are
+--   judgeTie, judgeAll    the number so far, and then that of every tie of a list in turn
+--   roundsOf c n          how many passes there may be, by the number of the cause against them
+--   orElse a b            a if it is a number, else b
+--   Filled n base l       the front of l is as the first pass finds it
+--   Plans, Begins         what `begin` promises: the number that comes before "cannot all hold", and if there is none, the work filled and n + 1 passes
+--   HandsOver, TellsOver  what `hand_over` promises: the answer, and that it is told
+--   Among                 what `offsets_among` promises
 -- Assumes nothing: these are definitions.
 use mathlib.Core.Path.{_≡_}
 use mathlib.Core.List.{List, [], _∷_, _++_}
@@ -92,13 +89,15 @@ abbrev pub Filled : ℕ → ℕ → List ℤ → Type 0
 Filled n base l = (x : List ℤ) × ((y : List ℤ) × ((l ≡ x ++ y) × Starts n base x))
 
 pub record Plans (g : Records) (base found count : ℕ) (before after : List ℤ) (p : Plan) : Type 0 where
-  pub cause : p .cause ≡ orElse (g .refused) (orElse (sooner (baseNumber (g .n) (g .marks) base count) found) (firstNumber ((short-work, ltb (length before) (offsetsWork (g .n))) ∷ [])))
+  pub cause : p .cause ≡ orElse (g .refused)
+      (orElse (sooner (baseNumber (g .n) (g .marks) base count) found) (firstNumber ((short-work, ltb (length before) (offsetsWork (g .n))) ∷ [])))
   pub filled : p .cause ≡ 0 → Filled (g .n) base after × (p .rounds ≡ suc (g .n))
 
 -- what `begin` promises of words
 abbrev pub Begins : List ℕ → ℕ → ℕ → ℕ → ℕ → List ℤ → List ℤ → ℕ → Type 0
 Begins ws n base found count before after cause =
-    (k : ℕ) × (OpenNumber ws k × Plans (record { refused = k; n = n; marks = ws }) base found count before after (record { cause = cause; rounds = roundsOf cause n }))
+    (k : ℕ)
+    × (OpenNumber ws k × Plans (record { refused = k; n = n; marks = ws }) base found count before after (record { cause = cause; rounds = roundsOf cause n }))
 
 pub data HandsOver (cause n : ℕ) (on : Bool) (work before after : List ℤ) : OffsetsAnswer → Type 0 where
   refused : {k : ℕ} → cause ≡ suc k → after ≡ before → HandsOver cause n on work before after (Refused (suc k))

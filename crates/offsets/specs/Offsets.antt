@@ -1,26 +1,23 @@
 -- Offsets known within limits: what the answer of request #109 is.
---     Placing          the year in which each record begins
---     Meets, Places    a placing meets a tie, and all ties of a list
---     Joins, Joined    a tie joins two records, in either direction; zero or more ties do
---     Narrowest ts base x lo hi
---                      in every placing record x begins lo to hi rings after the base, and each of both is attained by some placing
---     Limit ts base x lo hi
---                      the two words of record x: the base has 0 and 0, a record that ties join to it its narrowest limits, any other one 1 and 0
---     OffsetsAre n base ts answer
---                      the answer: "cannot all hold" if there is no placing, else the words of the records below n in ascending order
+--   Placing        the year in which each record begins
+--   Meets, Places  a placing meets a tie, and all ties of a list
+--   Joins, Joined  a tie joins two records, in either direction; zero or more ties do
+--   Narrowest ts base x lo hi
+--                  in every placing record x begins lo to hi rings after the base, and each of both is attained by some placing
+--   Limit ts base x lo hi
+--                  the two words of record x: the base has 0 and 0, a record that ties join to it its narrowest limits, any other one 1 and 0
+--   OffsetsAre n base ts answer
+--                  the answer: "cannot all hold" if there is no placing, else the words of the records below n in ascending order
 -- Assumes nothing: these are definitions.
 use mathlib.Core.Path.{_≡_}
 use mathlib.Core.Logic.{_⊎_}
-use mathlib.Core.List.{List, [], _∷_}
+use mathlib.Core.List.{List}
 use Prim.Native.Nat.{ℕ, _+_, _*_, _<_}
-use lib.IntN.{ℤ, pos, negℤ, _-ℤ_}
+use lib.IntN.{ℤ, pos, _-ℤ_}
 use lib.ListN.{length, getD}
 use lib.Signed.{_≤ℤ_}
+use Rattle.book.specs.Basics.{In}
 use Rattle.offsets.specs.declared.Tie.{Tie}
-
-abbrev pub In : {A : Type 0} → A → List A → Type 0
-In a [] = ⊥
-In a (x ∷ xs) = (a ≡ x) ⊎ In a xs
 
 abbrev pub Placing : Type 0
 Placing = ℕ → ℤ
@@ -54,5 +51,6 @@ pub data Answer : Type 0 where
 
 pub data OffsetsAre (n base : ℕ) (ts : List Tie) : Answer → Type 0 where
   none : ((p : Placing) → Places p ts → ⊥) → OffsetsAre n base ts cannot
-  some : {ws : List ℤ} (p : Placing) → Places p ts → length ws ≡ n * 2 → ((x : ℕ) → x < n → Limit ts base x (getD ws (x * 2) (pos 0)) (getD ws (x * 2 + 1) (pos 0)))
+  some : {ws : List ℤ} (p : Placing) → Places p ts → length ws ≡ n * 2
+      → ((x : ℕ) → x < n → Limit ts base x (getD ws (x * 2) (pos 0)) (getD ws (x * 2 + 1) (pos 0)))
       → OffsetsAre n base ts (limits ws)

@@ -1,12 +1,12 @@
 -- What relaxing ties does to a list of distances.
---     State        the distances, and whether any was lowered
---     known z      z is a distance: at least -2 ^ 62 and below 2 ^ 62. Any other number stands for "not known"
---     lower        one limit: record `to` lies at most w above record `from`
---     third        both limits of a tie: the second at most `most` above the first, and the first at most -`least` above the second
---     relaxTie n   three parts of n distances stand in the list, one after the other, and each is relaxed: the last one by the tie turned round,
---                  first and second exchanged
---     relaxAll n   every tie of a list, in its order
---     settled n k  passes over all ties until one lowers nothing, at most k
+--   State          the distances, and whether any was lowered
+--   known z        z is a distance: at least -2 ^ 62 and below 2 ^ 62. Any other number stands for "not known"
+--   lower          one limit: record `to` lies at most w above record `from`
+--   third          both limits of a tie: the second at most `most` above the first, and the first at most -`least` above the second
+--   relaxTie n     three parts of n distances stand in the list, one after the other, and each is relaxed: the last one by the tie turned round, first and
+--                  second exchanged
+--   relaxAll n     every tie of a list, in its order
+--   settled n k    passes over all ties until one lowers nothing, at most k
 -- Assumes nothing.
 use Prim.Native.Nat.{ℕ, zero, suc, _+_, _-_, _*_, _^_}
 use mathlib.Core.Bool.{Bool, true, false}
@@ -36,7 +36,8 @@ abbrev pub putLess : ℕ → ℤ → State → State
 putLess to v s = pick (ltZ v (dist (s .0) to)) (set (s .0) to v, true) s
 
 unfoldable pub lower : ℕ → ℕ → ℤ → State → State
-lower from to w s = pick (ltb from (length (s .0))) (pick (ltb to (length (s .0))) (pick (known (dist (s .0) from)) (putLess to (dist (s .0) from +ℤ w) s) s) s) s
+lower from to w s =
+    pick (ltb from (length (s .0))) (pick (ltb to (length (s .0))) (pick (known (dist (s .0) from)) (putLess to (dist (s .0) from +ℤ w) s) s) s) s
 
 -- both limits of a tie, for records that stand from place o on
 unfoldable pub third : ℕ → ℕ → ℕ → ℤ → ℤ → State → State

@@ -8,6 +8,5 @@ mod testing;
 pub use loading::Sense;
 pub use loading::load;
 pub use making::pack;
-pub use measures::height;
 pub use measures::tree_unit;
 pub use testing::well_formed;

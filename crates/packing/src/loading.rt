@@ -12,7 +12,8 @@ ghost use Rattle.k2.specs.Trees.{treeWords, childPlace};
 ghost use Rattle.bits.specs.BitSets.{either};
 ghost use Rattle.rows.specs.Rows.{flat};
 ghost use Rattle.packing.specs.Senses.{sensed};
-ghost use Rattle.packing.specs.Reading.{turnedBy, turned, inside, WordsCounted, BlocksCounted, Counted, Reads, squareBit, squareRow, squareColumn, squaresTo, FitAll, ReadAll};
+ghost use Rattle.packing.specs.Reading.{turnedBy, turned, inside, WordsCounted, BlocksCounted, Counted, Reads, squareBit, squareRow, squareColumn};
+ghost use Rattle.packing.specs.Reading.{squaresTo, FitAll, ReadAll};
 
 // The ones before each word of a tree.
 fn count_words(tree: &[u64], before: &mut [u32])
@@ -186,7 +187,8 @@ fn children(
         × (length (now tree) ≤ 21846) × (length (now before) ≡ 5462) × Counted (now tree) (now before)
         × (m + 4 ≤ length (now next)) × FitAll (h - 1) (now next) 0 m ⌝ }
     ensures { λ r. ⌜ (r ≤ m + 4) × FitAll (h - 1) (now (next .exit)) 0 r
-        × ((t : Cells) → Reads sense (now (tree .entry)) h (at .bit) (at .row) (at .column) t → ReadAll sense (now (tree .entry)) (h - 1) (now (next .entry)) 0 m t
+        × ((t : Cells) → Reads sense (now (tree .entry)) h (at .bit) (at .row) (at .column) t
+        → ReadAll sense (now (tree .entry)) (h - 1) (now (next .entry)) 0 m t
         → ReadAll sense (now (tree .entry)) (h - 1) (now (next .exit)) 0 r t
         × (squaresTo r (h - 1) (now (next .exit)) 0 t ≡ union (squaresTo m (h - 1) (now (next .entry)) 0 t) (inside h (at .row) (at .column) t))) ⌝ }
 {
@@ -242,7 +244,8 @@ fn spread(
 
 // The cells of some squares of side 2 of the list put into rows.
 fn leaves(tree: &[u64], list: &[usize], part: Part, sense: usize, rows: &mut [u64])
-    requires { ⌜ (part .from + part .count ≤ length (now list)) × (part .count ≤ 16) × (sense ≤ 1) × (length (now rows) ≡ 16384) × FitAll 1 (now list) (part .from) (part .count) ⌝ }
+    requires { ⌜ (part .from + part .count ≤ length (now list)) × (part .count ≤ 16) × (sense ≤ 1)
+        × (length (now rows) ≡ 16384) × FitAll 1 (now list) (part .from) (part .count) ⌝ }
     ensures { λ _. ⌜ ((a t : Cells) → bitAt (now (rows .entry)) ≡ flat a → ReadAll sense (now (tree .entry)) 1 (now (list .entry)) (part .from) (part .count) t
         → bitAt (now (rows .exit)) ≡ flat (union a (squaresTo (part .count) 1 (now (list .entry)) (part .from) t))) ⌝ }
 {

@@ -1,6 +1,6 @@
-pub mod Writing
-pub mod Gathering
-pub mod Reading
-pub mod Checking
-pub mod Laying
-pub mod Answering
+pub mod WritingLaws
+pub mod GatherLaws
+pub mod ReadingLaws
+pub mod CheckLaws
+pub mod LayoutLaws
+pub mod AnswerLaws

@@ -4,5 +4,5 @@ pub mod Lines
 pub mod LineLaws
 pub mod ReadLaws
 pub mod PageCallLaws
-pub mod RoundTrips
+pub mod RoundTripLaws
 pub mod PageCases

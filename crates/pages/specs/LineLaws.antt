@@ -1,13 +1,18 @@
 -- Laws of lines: how long each is, the pages as one line after the other, and what is laid of them.
 --   right-small, right-more
---                   a number's last figure, and what is before it
+--                  a number's last figure, and what is before it
 --   length-right, length-record, length-cell, length-cells, length-pair-line, length-head-line, length-line
---                   how long the parts of a line are
+--                  how long the parts of a line are
+--   length-padded, page-figures
+--                  a text that is padded; the figures of a page's number
 --   joined-same, joined-add, joined-next, joined-parts, length-joined, drop-joined
---                   texts joined one after the other
---   pages-lines     the pages are their lines
---   lines-most      so many lines at most
---   length-pages    the pages' bytes
+--                  texts joined one after the other
+--   joined-first   the first of joined texts
+--   line-head, line-pairs, small-part
+--                  a line is a head or shows its pairs, six at most
+--   pages-lines    the pages are their lines
+--   lines-most     so many lines at most
+--   length-pages   the pages' bytes
 -- Assumes nothing.
 use mathlib.Core.Path.{_≡_, refl, sym, ap, ap₂, _∙_}
 use mathlib.Core.List.{List, [], _∷_, _++_, append-assoc, append-nil}
@@ -80,7 +85,8 @@ unfolding headLine
 length-head-line text p h =
     let t : length (padded 60 (take 60 text)) ≡ 60 = length-padded 60 (take 60 text) (omega (arith, length-take 60 text)) in
     let n : length (rightAligned 12 (p + 1)) ≡ 12 = length-right 12 (p + 1) (page-figures p h) in
-    let a : length (padded 60 (take 60 text) ++ rightAligned 12 (p + 1)) ≡ 72 = length-append (padded 60 (take 60 text)) (rightAligned 12 (p + 1)) ∙ ap₂ (λ (i j : ℕ). i + j) t n in
+    let a : length (padded 60 (take 60 text) ++ rightAligned 12 (p + 1)) ≡ 72 =
+    length-append (padded 60 (take 60 text)) (rightAligned 12 (p + 1)) ∙ ap₂ (λ (i j : ℕ). i + j) t n in
     length-append (padded 60 (take 60 text) ++ rightAligned 12 (p + 1)) (newline ∷ []) ∙ ap (λ (j : ℕ). j + 1) a
 
 -- ---- texts joined
@@ -110,7 +116,8 @@ length-joined f w (suc k) e =
     let r : length (joined f k) ≡ w * k = length-joined f w k (λ i h. e i (omega arith)) in
     length-append (joined f k) (f k) ∙ ap₂ (λ (i j : ℕ). i + j) r (e k (omega arith)) ∙ omega arith
 
-pub drop-joined : (f : ℕ → List ℕ) (w n k : ℕ) → ((i : ℕ) → i < n → length (f i) ≡ w) → k < n → drop (w * k) (joined f n) ≡ f k ++ joined (λ i. f (k + (1 + i))) (n - (1 + k))
+pub drop-joined : (f : ℕ → List ℕ) (w n k : ℕ) → ((i : ℕ) → i < n → length (f i) ≡ w)
+    → k < n → drop (w * k) (joined f n) ≡ f k ++ joined (λ i. f (k + (1 + i))) (n - (1 + k))
 drop-joined f w n k e h =
     let s : n ≡ k + (1 + (n - (1 + k))) = omega arith in
     let z : k + 0 ≡ k = add-zero k in
@@ -174,7 +181,8 @@ module _ (text ws : List ℕ) where
   page-lines p m e =
       let l : length (part 354 p ws) ≤ 354 = omega (arith, length-take 354 (drop (354 * p) ws)) in
       sym (joined-first (λ i. lineOf text ws (60 * p + i)) m
-      ∙ ap₂ (λ (s t : List ℕ). s ++ t) (head-of p) (joined-same (λ i. lineOf text ws (60 * p + (1 + i))) (λ i. pairLine (part 6 i (part 354 p ws))) m (λ i h. pairs-of p i (omega arith))
+      ∙ ap₂ (λ (s t : List ℕ). s ++ t) (head-of p)
+      (joined-same (λ i. lineOf text ws (60 * p + (1 + i))) (λ i. pairLine (part 6 i (part 354 p ws))) m (λ i h. pairs-of p i (omega arith))
       ∙ ap (joined (λ i. pairLine (part 6 i (part 354 p ws)))) e))
 
   -- full pages
@@ -185,7 +193,8 @@ module _ (text ws : List ℕ) where
       let l : length (part 354 q ws) ≡ 354 = length-take-le 354 (drop (354 * q) ws) (omega (arith, length-drop (354 * q) ws)) in
       let m : 59 ≡ parts 6 (length (part 354 q ws)) = rw l refl in
       let s : 60 * q + 60 ≡ 60 * suc q = omega arith in
-      ap₂ (λ (s t : List ℕ). s ++ t) (full-pages q (omega arith)) (page-lines q 59 m) ∙ sym (joined-add (lineOf text ws) (60 * q) 60) ∙ ap (joined (lineOf text ws)) s
+      ap₂ (λ (s t : List ℕ). s ++ t) (full-pages q (omega arith)) (page-lines q 59 m)
+      ∙ sym (joined-add (lineOf text ws) (60 * q) 60) ∙ ap (joined (lineOf text ws)) s
 
   pub pages-lines : pages text ws ≡ joined (lineOf text ws) (linesOf (length ws))
   unfolding pages linesOf
@@ -223,4 +232,5 @@ length-line text ws i s h = go (ℕ-discrete (i % 60) 0)
 
 pub length-pages : (text ws : List ℕ) → Small ws → length ws ≤ pairWords → length (pages text ws) ≡ 73 * linesOf (length ws)
 length-pages text ws s h =
-    ap length (pages-lines text ws) ∙ length-joined (lineOf text ws) 73 (linesOf (length ws)) (λ i l. length-line text ws i s (omega (arith, lines-most (length ws) h)))
+    ap length (pages-lines text ws)
+    ∙ length-joined (lineOf text ws) 73 (linesOf (length ws)) (λ i l. length-line text ws i s (omega (arith, lines-most (length ws) h)))

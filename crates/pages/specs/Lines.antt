@@ -1,36 +1,34 @@
 -- Pages line by line, for the functions that lay and read one line after the other. Nobody has to believe these: LineLaws and ReadLaws say what they are.
 --   lineBytes, pairWords, mostLines
---                   the bytes of a line with its line feed; the number after every pair word; the lines that all of them fill
---   Small ws        every word of ws is below that number
---   pairsBefore i   how many pairs stand on the lines before line i, if they are full
---   linesOf k       the lines of k pairs
---   lineWith text i ws
---                   line i, the first being 0, if it shows the pair words ws: every sixtieth is a head
---   lineOf text ws i
---                   line i of the pages of ws
---   ahead f p d     the places from p to p + d - 1 at which f is not 0, ascending
---   value bs        the number whose figures are bs: a figure's lowest four bits are the figure, and a blank's are 0
---   cellWord t      the pair word in the figures of the cell at the front of t
---   cellWords f t   the pair words of the cells at the front of t, up to a blank one, at most f
+--                        the bytes of a line with its line feed; the number after every pair word; the lines that all of them fill
+--   Small ws             every word of ws is below that number
+--   pairsBefore i        how many pairs stand on the lines before line i, if they are full
+--   linesOf k            the lines of k pairs
+--   lineWith text i ws   line i, the first being 0, if it shows the pair words ws: every sixtieth is a head
+--   lineOf text ws i     line i of the pages of ws
+--   ahead f p d          the places from p to p + d - 1 at which f is not 0, ascending
+--   value bs             the number whose figures are bs: a figure's lowest four bits are the figure, and a blank's are 0
+--   cellWord t           the pair word in the figures of the cell at the front of t
+--   cellWords f t        the pair words of the cells at the front of t, up to a blank one, at most f
 --   byteLine bytes i, wordsAt bytes i
---                   the bytes of line i, and the pair words on it, none on a head
---   wordsBefore bytes i
---                   the pair words on the lines before line i
---   after m l       the number after the last of l, or m if there is none
+--                        the bytes of line i, and the pair words on it, none on a head
+--   wordsBefore bytes i  the pair words on the lines before line i
+--   after m l            the number after the last of l, or m if there is none
 --   Stands text bytes i last low
---                   line i is as the pages of the text and some list would have it, where the pairs so far are below `low`: its pairs ascend from `low` on, it
---                   is the line of its own pairs, and six stand on a pair line that is not the last
+--                        line i is as the pages of the text and some list would have it, where the pairs so far are below `low`: its pairs ascend from `low`
+--                        on, it is the line of its own pairs, and six stand on a pair line that is not the last
 --   Gathered f p words q count
---                   from place p on the next six places, or as many as there are below the last pair word, are the first `count` of `words`; q is after them
+--                        from place p on the next six places, or as many as there are below the last pair word, are the first `count` of `words`; q is after
+--                        them
 --   Laid f text i p before after q
---                   line i was laid where it belongs, for every list whose pairs from this line on are the places of f from p on; those of the next lines are from q on
+--                        line i was laid where it belongs, for every list whose pairs from this line on are the places of f from p on; those of the next lines
+--                        are from q on
 --   LaidOut text ws before after a
---                   the pages of the text and the words were laid over the front of the space, or it cannot hold them and is as it was
---   Rising low ws r the words ws ascend from `low` on below `pairWords` and r is the number after them; or they do not, and r is above every number
+--                        the pages of the text and the words were laid over the front of the space, or it cannot hold them and is as it was
+--   Rising low ws r      the words ws ascend from `low` on below `pairWords` and r is the number after them; or they do not, and r is above every number
 --   Line text bytes i last low count next
---                   the line stands, `count` pairs are on it and `next` is the number after them; or it does not, and `next` is above every number
---   Judged text bytes
---                   the bytes are the pages of the text and some list, so many pairs; or of no list
+--                        the line stands, `count` pairs are on it and `next` is the number after them; or it does not, and `next` is above every number
+--   Judged text bytes    the bytes are the pages of the text and some list, so many pairs; or of no list
 -- Assumes nothing: these are definitions.
 use mathlib.Core.Path.{_≡_}
 use mathlib.Core.List.{List, [], _∷_, _++_}

@@ -1,13 +1,13 @@
 -- Laws of the two calls: which outcome it is, by the verdict, the lent lengths and what the bytes hold.
---   print-refused   refused as the pair question is
+--   tells-number         the number of a refused question
+--   Asked, asked-enough  what is so where a relation's pairs are told
 --   print-short, print-filled
---                   13, or the pages
+--                        13, or the pages
+--   print-refused        refused as the pair question is
 --   print-in-order, read-in-order
---                   the causes stand in their order
+--                        the causes stand in their order
 --   read-refused, read-broken, read-short, read-filled
---                   the verdict's number, 14, 13, or the pairs
---   Asked, asked-enough
---                   what is so where a relation's pairs are told
+--                        the verdict's number, 14, 13, or the pairs
 -- Assumes nothing.
 use mathlib.Core.Path.{_≡_, refl, sym, ap, _∙_}
 use mathlib.Core.Bool.{Bool}
@@ -34,7 +34,8 @@ use Rattle.pairs.specs.declared.PairsAnswer.the-variants.{Pairs, Refused}
 use Rattle.pairs.specs.Asking.{Tells, told-number, told-pairs, rowWords, relationAnswer, relationCauses}
 use Rattle.pairs.specs.AskingLaws.{relation-short, relation-paired}
 use Rattle.pages.specs.Pages.{pages}
-use Rattle.pages.specs.PageCalls.{refused, filled, printCauses, printOutcome, Content, listing, nothing, wordsIn, isNothing, readOrder, readCauses, readOutcome}
+use Rattle.pages.specs.PageCalls.{refused, filled, printCauses, printOutcome, Content, listing, nothing, wordsIn, isNothing, readOrder, readCauses}
+use Rattle.pages.specs.PageCalls.{readOutcome}
 
 -- ---- printing
 pub tells-number : {o : Outcome} {a : PairsAnswer} {k : ℕ} → a ≡ Refused k → Tells o a → o ≡ turned k

@@ -1,27 +1,27 @@
 -- What printing and reading promise.
---   Filled          the outcome of a call that fills a lent space: refused with a number, or the words that it puts at the front
---   spaceAfter o l  what a space that held l holds then: those words, and the ones past them as they were
+--   Filled              the outcome of a call that fills a lent space: refused with a number, or the words that it puts at the front
+--   spaceAfter o l      what a space that held l holds then: those words, and the ones past them as they were
 --   printCauses b text work room, printOutcome b text work room
---                   the causes against printing, in their order, and its outcome, with so many words of work and room for so many bytes: the pair question's
---                   own causes, then a space that cannot hold every page; the pages of the text and its pairs
+--                       the causes against printing, in their order, and its outcome, with so many words of work and room for so many bytes: the pair
+--                       question's own causes, then a space that cannot hold every page; the pages of the text and its pairs
 --   TellsBytes o a, TellsPairs o a
---                   the answer a is how the outcome o is told: the number of a refusal, or how many bytes or pairs there are
+--                       the answer a is how the outcome o is told: the number of a refusal, or how many bytes or pairs there are
 --   BookPrints b text work before after a
---                   asked of the book b, with a space that held `before`: the answer a tells the outcome that the book gives, and the space, which holds
---                   `after`, is that outcome's
---   bytesWritten a  how many bytes of the space are the answer's
+--                       asked of the book b, with a space that held `before`: the answer a tells the outcome that the book gives, and the space, which holds
+--                       `after`, is that outcome's
+--   bytesWritten a      how many bytes of the space are the answer's
 --   Prints r text work before after a
---                   asked of the register r. Over any contents: the bytes past the pages are as they were, all of them with a refusal, whose number is a cause's.
---                   For every book that the register represents: answer and space are the book's
---   Content         what bytes hold: a list of pairs, or nothing that is one
---   Holds text bytes c
---                   c is what the bytes hold as pages of the text
---   readOrder       the causes of reading, in the order in which they are looked for: 10 for bytes, 9, 10 for letters and depth, 14, 13
+--                       asked of the register r. Over any contents: the bytes past the pages are as they were, all of them with a refusal, whose number is a
+--                       cause's. For every book that the register represents: answer and space are the book's
+--   Content             what bytes hold: a list of pairs, or nothing that is one
+--   Holds text bytes c  c is what the bytes hold as pages of the text
+--   readOrder           the causes of reading, in the order in which they are looked for: 10 for bytes, 9, 10 for letters and depth, 14, 13
 --   readCauses v c room, readOutcome v c room
---                   the causes against reading, in their order, and its outcome, with a text of the verdict v, bytes that hold c and a list of so many words
+--                       the causes against reading, in their order, and its outcome, with a text of the verdict v, bytes that hold c and a list of so many
+--                       words
 --   ReadsPages text bytes before after a
---                   of lent bytes and a list that held `before`: if the text is an expression, `content` is what the bytes hold; the answer a tells the outcome,
---                   and the list, which holds `after`, is that outcome's
+--                       of lent bytes and a list that held `before`: if the text is an expression, `content` is what the bytes hold; the answer a tells the
+--                       outcome, and the list, which holds `after`, is that outcome's
 -- Assumes nothing: these are definitions.
 use mathlib.Core.Path.{_≡_}
 use mathlib.Core.List.{List, [], _∷_, _++_}

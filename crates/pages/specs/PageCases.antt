@@ -25,6 +25,7 @@ pub pages-printed : map (λ t. t .0) table ≡ map (λ t. bytes (t .1)) table
 unfolding table bytes figures decimal lines joined padded rightAligned recordCell pairCell pairLine headLine page pages
 pages-printed = refl
 
-pub page-turned : (linesOf 0 ∷ linesOf 1 ∷ linesOf 6 ∷ linesOf 7 ∷ linesOf 354 ∷ linesOf 355 ∷ linesOf 708 ∷ linesOf 709 ∷ []) ≡ 1 ∷ 2 ∷ 2 ∷ 3 ∷ 60 ∷ 62 ∷ 120 ∷ 122 ∷ []
+pub page-turned : (linesOf 0 ∷ linesOf 1 ∷ linesOf 6 ∷ linesOf 7 ∷ linesOf 354 ∷ linesOf 355 ∷ linesOf 708 ∷ linesOf 709 ∷ [])
+    ≡ 1 ∷ 2 ∷ 2 ∷ 3 ∷ 60 ∷ 62 ∷ 120 ∷ 122 ∷ []
 unfolding linesOf
 page-turned = refl

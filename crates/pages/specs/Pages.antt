@@ -1,18 +1,16 @@
 -- The printed pages of an expression and its pairs: lines of 72 bytes and a line feed, as bytes in ASCII.
---   joined f k      f 0, f 1, .. f (k - 1), one after the other
---   part w i l      part i of the list l in parts of w, the last of which may be short
---   parts w k       how many parts of w a list of k has
---   padded w t      the text t with blanks after it, to w bytes
---   rightAligned w k
---                   the decimal figures of k with blanks before them, to w bytes
---   recordCell x    a record's number in 5, right-aligned, and a blank
---   pairCell w      a pair word in 12: from and to
---   pairLine ws     the line of at most six pair words
---   headLine text p the head of page p, the first being 0: the first 60 bytes of the expression's text, padded, then the page's number from 1, in 12
---   page text p ws  page p with at most 354 pair words: its head, and a line for each six
---   pages text ws   all pages, at least one
---   IsPages text bytes l
---                   the bytes are the pages of the text and of l, an ascending list of different pairs of records below 1,024
+--   joined f k            f 0, f 1, .. f (k - 1), one after the other
+--   part w i l            part i of the list l in parts of w, the last of which may be short
+--   parts w k             how many parts of w a list of k has
+--   padded w t            the text t with blanks after it, to w bytes
+--   rightAligned w k      the decimal figures of k with blanks before them, to w bytes
+--   recordCell x          a record's number in 5, right-aligned, and a blank
+--   pairCell w            a pair word in 12: from and to
+--   pairLine ws           the line of at most six pair words
+--   headLine text p       the head of page p, the first being 0: the first 60 bytes of the expression's text, padded, then the page's number from 1, in 12
+--   page text p ws        page p with at most 354 pair words: its head, and a line for each six
+--   pages text ws         all pages, at least one
+--   IsPages text bytes l  the bytes are the pages of the text and of l, an ascending list of different pairs of records below 1,024
 -- Assumes nothing: these are definitions.
 use mathlib.Core.Path.{_≡_}
 use mathlib.Core.List.{List, [], _++_}

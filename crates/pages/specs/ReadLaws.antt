@@ -1,15 +1,24 @@
 -- Laws of reading: the pairs of a laid line are read back from its figures, those of the pages from their lines, and lines that stand are the pages of what is
 -- read from them.
---   value-right     the number of a number's figures, right-aligned
+--   value-append   the number of joined figures
+--   value-right    the number of a number's figures, right-aligned
 --   cell-read, cells-read, line-read
---                   what is read of a cell, of cells, of a line
+--                  what is read of a cell, of cells, of a line
+--   words-head, words-pairs, words-few
+--                  none is read of a head, at most six of a pair line
+--   before-head, before-pairs, before-all, before-most
+--                  how many pairs stand before a line
+--   line-bytes     the bytes of a line of pages are that line
 --   words-at, words-before, words-all
---                   what is read of the pages' lines: at one, before one, of all
+--                  what is read of the pages' lines: at one, before one, of all
 --   within-then, within-rest, after-append
---                   ascending lists, one after the other
---   listed-within   an ascending list of different pairs lies below the number after every pair word
---   pages-stand     every line of pages stands, and they have as many lines as their pairs take
---   stand-pages     lines that stand, as many as their pairs take, are pages
+--                  ascending lists, one after the other
+--   after-le, within-small, within-below
+--                  an ascending list of pair words: the number after it, and that its members are pair words
+--   listed-within  an ascending list of different pairs lies below the number after every pair word
+--   pages-stand    every line of pages stands, and they have as many lines as their pairs take
+--   stand-within   the pairs on lines that stand ascend
+--   stand-pages    lines that stand, as many as their pairs take, are pages
 -- Assumes nothing.
 use mathlib.Core.Path.{_≡_, refl, sym, ap, ap₂, subst, _∙_}
 use mathlib.Core.Bool.{Bool, true, false}
@@ -28,8 +37,11 @@ use Rattle.k2.specs.PairSets.{PairsBelow}
 use Rattle.k2.specs.PairSetLaws.{Within, ends, goes, within-rises, within-length}
 use Rattle.report.specs.Report.{space, newline, figure-0, figures, decimal, lines}
 use Rattle.pages.specs.Pages.{joined, blanks, padded, rightAligned, recordCell, pairCell, pairLine, pages, IsPages}
-use Rattle.pages.specs.Lines.{pairWords, mostLines, pairsBefore, linesOf, lineWith, lineOf, Small, valueFrom, value, cellWord, cellWords, byteLine, wordsAt, wordsBefore, after, Stands}
-use Rattle.pages.specs.LineLaws.{right-small, right-more, length-right, record-figures, length-record, length-cell, length-cells, joined-same, joined-add, joined-first, joined-next, joined-parts, drop-joined, pages-lines, line-head, line-pairs, lines-most, small-part, length-line, length-pages}
+use Rattle.pages.specs.Lines.{pairWords, mostLines, pairsBefore, linesOf, lineWith, lineOf, Small, valueFrom, value, cellWord, cellWords, byteLine}
+use Rattle.pages.specs.Lines.{wordsAt, wordsBefore, after, Stands}
+use Rattle.pages.specs.LineLaws.{right-small, right-more, length-right, record-figures, length-record, length-cell, length-cells, joined-same, joined-add}
+use Rattle.pages.specs.LineLaws.{joined-first, joined-next, joined-parts, drop-joined, pages-lines, line-head, line-pairs, lines-most, small-part}
+use Rattle.pages.specs.LineLaws.{length-line, length-pages}
 
 -- ---- figures
 pub value-append : (v : ℕ) (s t : List ℕ) → valueFrom v (s ++ t) ≡ valueFrom (valueFrom v s) t
@@ -78,7 +90,8 @@ module _ (w : ℕ) (h : w < pairWords) (t : List ℕ) where
   unfolding cellWord
   cell-read =
       let a : take 5 (pairCell w ++ t) ≡ rightAligned 5 (w / 1024) =
-      ap (take 5) cell-split ∙ take-at (rightAligned 5 (w / 1024)) (space ∷ (rightAligned 5 (w % 1024) ++ (space ∷ t))) 5 (length-right 5 (w / 1024) (record-figures (w / 1024) (omega arith))) in
+      ap (take 5) cell-split ∙ take-at (rightAligned 5 (w / 1024)) (space ∷ (rightAligned 5 (w % 1024) ++ (space ∷ t)))
+      5 (length-right 5 (w / 1024) (record-figures (w / 1024) (omega arith))) in
       let b : take 5 (drop 6 (pairCell w ++ t)) ≡ rightAligned 5 (w % 1024) =
       ap (take 5) cell-second ∙ take-at (rightAligned 5 (w % 1024)) (space ∷ t) 5 (length-right 5 (w % 1024) (record-figures (w % 1024) (omega arith))) in
       let x : value (take 5 (pairCell w ++ t)) ≡ w / 1024 = ap value a ∙ value-right 5 (w / 1024) in
@@ -110,10 +123,12 @@ blank-cell : (f m : ℕ) (t : List ℕ) → 5 ≤ m → cellWords f (blanks m ++
 unfolding cellWords
 blank-cell zero m t h = refl
 blank-cell (suc f) m t h =
-    let b : getD (blanks m ++ t) 4 0 ≡ space = List·getD-append (blanks m) t 0 4 (omega (arith, length-replicate m space)) ∙ getD-replicate m 4 space 0 (omega arith) in
+    let b : getD (blanks m ++ t) 4 0 ≡ space =
+    List·getD-append (blanks m) t 0 4 (omega (arith, length-replicate m space)) ∙ getD-replicate m 4 space 0 (omega arith) in
     rw (eq-eqb (getD (blanks m ++ t) 4 0) space b)
 
-pub cells-read : (f : ℕ) (ws : List ℕ) (m : ℕ) (t : List ℕ) → Small ws → length ws ≤ f → (length ws < f → 5 ≤ m) → cellWords f (lines pairCell ws ++ (blanks m ++ t)) ≡ ws
+pub cells-read : (f : ℕ) (ws : List ℕ) (m : ℕ) (t : List ℕ) → Small ws → length ws ≤ f
+    → (length ws < f → 5 ≤ m) → cellWords f (lines pairCell ws ++ (blanks m ++ t)) ≡ ws
 unfolding lines cellWords
 cells-read zero [] m t s h b = refl
 cells-read (suc f) [] m t s h b = blank-cell (suc f) m t (b (omega arith))
@@ -131,7 +146,8 @@ line-read ws t s h =
     let n = length-cells ws s in
     let c = lines pairCell ws in
     let b = blanks (72 - length c) in
-    ap (cellWords 6) (append-assoc (c ++ b) (newline ∷ []) t ∙ append-assoc c b (newline ∷ t)) ∙ cells-read 6 ws (72 - length c) (newline ∷ t) s h (λ q. omega arith)
+    ap (cellWords 6) (append-assoc (c ++ b) (newline ∷ []) t ∙ append-assoc c b (newline ∷ t))
+    ∙ cells-read 6 ws (72 - length c) (newline ∷ t) s h (λ q. omega arith)
 
 words-few-from : (f : ℕ) (t : List ℕ) → length (cellWords f t) ≤ f
 unfolding cellWords
@@ -175,7 +191,8 @@ module _ (text ws : List ℕ) (s : Small ws) (few : length ws ≤ pairWords) whe
   line-ahead i h =
       let n = linesOf (length ws) in (
         joined (λ j. lineOf text ws (i + (1 + j))) (n - (1 + i)),
-        ap (drop (73 * i)) (pages-lines text ws) ∙ drop-joined (lineOf text ws) 73 n i (λ j l. length-line text ws j s (omega (arith, lines-most (length ws) few))) h,
+        ap (drop (73 * i)) (pages-lines text ws)
+            ∙ drop-joined (lineOf text ws) 73 n i (λ j l. length-line text ws j s (omega (arith, lines-most (length ws) few))) h,
       )
 
   pub line-bytes : (i : ℕ) → i < linesOf (length ws) → byteLine (pages text ws) i ≡ lineOf text ws i
@@ -257,7 +274,8 @@ module _ (text ws : List ℕ) (W : Within 0 ws pairWords) where
   line-shows : (i : ℕ) → i < linesOf (length ws) → Dec (i % 60 ≡ 0) → byteLine (pages text ws) i ≡ lineWith text i (wordsAt (pages text ws) i)
   unfolding lineOf
   line-shows i h (yes e) =
-      line-bytes text ws (within-small ws W) few-words i h ∙ line-head text (take 6 (drop (pairsBefore i) ws)) i e ∙ sym (line-head text (wordsAt (pages text ws) i) i e)
+      line-bytes text ws (within-small ws W) few-words i h ∙ line-head text (take 6 (drop (pairsBefore i) ws)) i e
+      ∙ sym (line-head text (wordsAt (pages text ws) i) i e)
   line-shows i h (no e) =
       line-bytes text ws (within-small ws W) few-words i h ∙ ap (lineWith text i) (sym (words-at text ws (within-small ws W) few-words i h (omega arith)))
 
@@ -266,7 +284,8 @@ module _ (text ws : List ℕ) (W : Within 0 ws pairWords) where
       let n = pairsBefore (i + 1) in
       let e : wordsBefore (pages text ws) i ++ wordsAt (pages text ws) i ≡ take n ws =
       sym (joined-next (wordsAt (pages text ws)) i) ∙ words-before text ws (within-small ws W) few-words (i + 1) (omega arith) in
-      let p : Within 0 (take n ws) pairWords = within-rest (take n ws) (drop n ws) (subst (λ (l : List ℕ). Within 0 l pairWords) (sym (take-append-drop n ws)) W) .0 in
+      let p : Within 0 (take n ws) pairWords =
+      within-rest (take n ws) (drop n ws) (subst (λ (l : List ℕ). Within 0 l pairWords) (sym (take-append-drop n ws)) W) .0 in
       within-rest (wordsBefore (pages text ws) i) (wordsAt (pages text ws) i) (subst (λ (l : List ℕ). Within 0 l pairWords) (sym e) p) .1
 
   line-stands : (i : ℕ) → i < linesOf (length ws) → Stands text (pages text ws) i (linesOf (length ws)) (after 0 (wordsBefore (pages text ws) i))
@@ -310,8 +329,16 @@ module _ (text bytes : List ℕ) (n : ℕ) (stand : (i : ℕ) → i < n → Stan
   stand-length (suc i) h = go (stand-length i (omega arith)) (ℕ-discrete (i % 60) 0)
     where
       go : length (wordsBefore bytes i) ≡ pairsBefore i → Dec (i % 60 ≡ 0) → length (wordsBefore bytes i ++ wordsAt bytes i) ≡ pairsBefore (suc i)
-      go r (yes e) = omega (arith, length-append (wordsBefore bytes i) (wordsAt bytes i), ap length (words-head bytes i e), before-head i e, ap pairsBefore (add-one i))
-      go r (no e) = omega (arith, length-append (wordsBefore bytes i) (wordsAt bytes i), stand i (omega arith) .full (omega arith) (omega arith), before-pairs i (omega arith), ap pairsBefore (add-one i))
+      go r (yes e) =
+          omega (arith, length-append (wordsBefore bytes i) (wordsAt bytes i), ap length (words-head bytes i e), before-head i e, ap pairsBefore (add-one i))
+      go r (no e) =
+          omega (
+            arith,
+            length-append (wordsBefore bytes i) (wordsAt bytes i),
+            stand i (omega arith) .full (omega arith) (omega arith),
+            before-pairs i (omega arith),
+            ap pairsBefore (add-one i),
+          )
 
   -- the words of a line are the list's
   stand-words : (i : ℕ) → i < n → 0 < i % 60 → take 6 (drop (pairsBefore i) (wordsBefore bytes n)) ≡ wordsAt bytes i
@@ -332,7 +359,8 @@ module _ (text bytes : List ℕ) (n : ℕ) (stand : (i : ℕ) → i < n → Stan
       go (no l) =
           let z : n - (1 + i) ≡ 0 = omega arith in
           let none : rest ≡ [] = ap (joined (λ j. wordsAt bytes (i + (1 + j)))) z ∙ unfold joined in refl in
-          ap (λ (t : List ℕ). take 6 (wordsAt bytes i ++ t)) none ∙ ap (take 6) (append-nil (wordsAt bytes i)) ∙ take-all 6 (wordsAt bytes i) (words-few bytes i)
+          ap (λ (t : List ℕ). take 6 (wordsAt bytes i ++ t)) none ∙ ap (take 6) (append-nil (wordsAt bytes i))
+          ∙ take-all 6 (wordsAt bytes i) (words-few bytes i)
 
   pub stand-pages : length bytes ≡ 73 * n → linesOf (length (wordsBefore bytes n)) ≡ n → IsPages text bytes (wordsBefore bytes n)
   stand-pages size e =
@@ -348,5 +376,6 @@ module _ (text bytes : List ℕ) (n : ℕ) (stand : (i : ℕ) → i < n → Stan
       }
     where
       same : (i : ℕ) → i < n → Dec (i % 60 ≡ 0) → lineWith text i (wordsAt bytes i) ≡ lineOf text (wordsBefore bytes n) i
-      same i h (yes e) = line-head text (wordsAt bytes i) i e ∙ sym (unfold lineOf in (line-head text (take 6 (drop (pairsBefore i) (wordsBefore bytes n))) i e))
+      same i h (yes e) =
+          line-head text (wordsAt bytes i) i e ∙ sym (unfold lineOf in (line-head text (take 6 (drop (pairsBefore i) (wordsBefore bytes n))) i e))
       same i h (no e) = ap (lineWith text i) (sym (stand-words i h (omega arith))) ∙ unfold lineOf in refl

@@ -2,7 +2,7 @@
 // in specs/PageCalls.antt. Both go line by line, by the same functions that lay a line: the printer into the lent space, the reader beside the lent pages.
 ghost use mathlib.Core.Path.{_≡_};
 ghost use mathlib.Core.Bool.{true};
-ghost use Prim.Native.Nat.{ℕ, _+_, _-_, _*_, _/_, _≤_, _<_, min};
+ghost use Prim.Native.Nat.{ℕ, _+_, _*_, _≤_, _<_, min};
 ghost use lib.ListN.{length, take, drop, getD};
 ghost use Rattle.k2.specs.Bits.{bitAt};
 ghost use Rattle.paths.specs.Expressions.{Expr};
@@ -69,17 +69,26 @@ fn put_blanks(count: usize, out: &mut [u8], at: usize) -> usize
     at + i
 }
 
+// How many figures a number has.
+fn figures(k: u64) -> usize
+    ensures { λ r. ⌜ r ≡ length (decimal k) ⌝ }
+{
+    let mut rest = k;
+    let mut count = 1;
+    while 10 <= rest {
+        rest = rest / 10;
+        count += 1;
+    }
+    count
+}
+
 // A number's figures, right-aligned.
 fn put_right(width: usize, k: u64, out: &mut [u8], at: usize) -> usize
     requires { ⌜ (length (decimal k) ≤ width) × (at + width ≤ length (now out)) ⌝ }
     ensures { λ r. ⌜ Wrote at (rightAligned width k) (now (out .entry)) (now (out .exit)) r ⌝ }
 {
-    if k < 10 {
-        let next = put_blanks(width - 1, out, at);
-        return report::put_byte(48 + k as u8, out, next);
-    }
-    let next = put_right(width - 1, k / 10, out, at);
-    report::put_byte(48 + (k % 10) as u8, out, next)
+    let next = put_blanks(width - figures(k), out, at);
+    report::put_decimal(k, out, next)
 }
 
 // A record's number and a blank.
@@ -451,7 +460,8 @@ fn list_lines(pages: &[u8], lines: usize, list: &mut [u32])
 
 // The pairs of pages, the expression being accepted.
 fn read_accepted(text: &[u8], pages: &[u8], list: &mut [u32]) -> ReadAnswer
-    ensures { λ a. ⌜ ((e : Expr) → verdict (now (text .entry)) ≡ accepted e → ReadsPages (now (text .entry)) (now (pages .entry)) (now (list .entry)) (now (list .exit)) a) ⌝ }
+    ensures { λ a. ⌜ ((e : Expr) → verdict (now (text .entry)) ≡ accepted e
+        → ReadsPages (now (text .entry)) (now (pages .entry)) (now (list .entry)) (now (list .exit)) a) ⌝ }
 {
     let judgement = judge(text, pages);
     match judgement {

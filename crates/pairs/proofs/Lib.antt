@@ -1,3 +1,3 @@
-mod Stepping
-mod Running
-mod Answering
+mod StepLaws
+mod RunLaws
+mod AnswerLaws

@@ -15,11 +15,11 @@
 --   relationCauses b v work rows, relationAnswer b v work rows
 --                   the causes against a relation that is asked for as rows, in their order, and its outcome, with so many words of work and of rows
 --   RelationOf b v work before after a
---                   asked of the book b with a text of the verdict v, so many words of work and rows that held `before`: the answer a tells the outcome that the
---                   book gives, and the rows, which hold `after`, are the relation's
+--                   asked of the book b with a text of the verdict v, so many words of work and rows that held `before`: the answer a tells the outcome that
+--                   the book gives, and the rows, which hold `after`, are the relation's
 --   RelatesFor r v work before after a
---                   asked of the register r. Over any contents: the words past the rows are as they were, all of them with a refusal, whose number is a cause's.
---                   For every book that the register represents: answer and rows are the book's
+--                   asked of the register r. Over any contents: the words past the rows are as they were, all of them with a refusal, whose number is a
+--                   cause's. For every book that the register represents: answer and rows are the book's
 --   Relates r text work before after a
 --                   the same of a text
 -- Assumes nothing: these are definitions.

@@ -1,17 +1,16 @@
 -- Laws of the pair question: what the book's answer is, by the verdict, the work and the list.
---   asks-refused    the verdict's number
---   asks-short      12
---   asks-paired     how many pairs there are, and the first of them
---   asks-handed     the pairs handed over are that answer
+--   asks-short     12
+--   asks-paired    how many pairs there are, and the first of them
+--   faulty-caused  a verdict's number is a cause's
+--   asks-handed    the pairs handed over are that answer
 --   relation-refused, relation-short, relation-few, relation-paired
---                   the same of the relation as rows
---   refused-alike   with rows enough, a pair question is refused as its relation is
---   faulty-caused   a verdict's number is a cause's
---   handed-past     what is handed over leaves the words past it
---   handed-some     it is no refusal
+--                  the same of the relation as rows
+--   refused-alike  with rows enough, a pair question is refused as its relation is
+--   handed-past    what is handed over leaves the words past it
+--   handed-some    it is no refusal
 -- Assumes nothing.
 use mathlib.Core.Path.{_≡_, refl, sym, ap, _∙_}
-use mathlib.Core.List.{List, _++_}
+use mathlib.Core.List.{List}
 use Prim.Native.Nat.{ℕ, _*_, _≤_, _<_}
 use native.Mathlib.Decide.{decLt}
 use native.Mathlib.Omega.{arith}
@@ -34,13 +33,6 @@ use Rattle.pairs.specs.declared.PairsAnswer.the-variants.{Refused}
 use Rattle.pairs.specs.Asking.{pairsLength, told-pairs, Handed, handed, BookPairs, rowWords, relationCauses, relationAnswer}
 
 module _ (b : Book) (work room : ℕ) where
-  pub asks-refused : (v : Verdict) (k : ℕ) → readAnswer v ≡ Faulty k → pairsAnswer b v work room ≡ refused k
-  unfolding pairsAnswer pairsCauses verdictCause firstNumber number readAnswer
-  asks-refused (accepted e) k q = absurd (let z : _≡_ {A = ℕ} 0 1 = cc in omega arith)
-  asks-refused long k q = let z : 10 ≡ k = cc in ap refused z
-  asks-refused outside k q = let z : 9 ≡ k = cc in ap refused z
-  asks-refused large k q = let z : 10 ≡ k = cc in ap refused z
-
   pub asks-short : (e : Expr) → work < 32 * treeUnit (b .n) → pairsAnswer b (accepted e) work room ≡ refused 12
   unfolding pairsAnswer pairsCauses verdictCause firstNumber number
   asks-short e h = rw (lt-ltb work (32 * treeUnit (b .n)) h)
@@ -58,7 +50,8 @@ faulty-caused outside k q = let z : 9 ≡ k = cc in verdict-caused outside k z (
 faulty-caused large k q = let z : 10 ≡ k = cc in verdict-caused large k z (omega arith)
 
 -- what is handed over is the outcome, told and listed
-pub asks-handed : (b : Book) (e : Expr) (work : ℕ) {before after : List ℕ} {a : PairsAnswer} → 32 * treeUnit (b .n) ≤ work → Handed (pairs (asked b) e) before after a
+pub asks-handed : (b : Book) (e : Expr) (work : ℕ) {before after : List ℕ} {a : PairsAnswer}
+    → 32 * treeUnit (b .n) ≤ work → Handed (pairs (asked b) e) before after a
     → BookPairs b (accepted e) work before after a
 unfolding listAfter
 asks-handed b e work {before} h (handed q) = let o = asks-paired b work (length before) e h in record { tells = rw o told-pairs; list = rw o q }
@@ -95,7 +88,9 @@ refused-alike b work room k (accepted x) e = go (decLt work (32 * treeUnit (b .n
   where
     go : Dec (work < 32 * treeUnit (b .n)) → pairsAnswer b (accepted x) work room ≡ refused k
     go (yes h) = asks-short b work room x h ∙ sym (relation-short b work rowWords x h) ∙ e
-    go (no h) = absurd (let z : paired (length (pairs (asked b) x)) (pairs (asked b) x) ≡ refused k = sym (relation-paired b work rowWords x (omega arith) (omega arith)) ∙ e in let y : _≡_ {A = ℕ} 0 1 = cc in omega arith)
+    go (no h) =
+        absurd (let z : paired (length (pairs (asked b) x)) (pairs (asked b) x) ≡ refused k =
+        sym (relation-paired b work rowWords x (omega arith) (omega arith)) ∙ e in let y : _≡_ {A = ℕ} 0 1 = cc in omega arith)
 
 -- ---- some pairs handed over
 -- behind the first words of l, a list that takes them all is as it was, and there is nothing of one that does not
@@ -105,7 +100,12 @@ past-over l before = go (decLt (length before) (length l))
     go : Dec (length before < length l) → drop (length l) (over (take (length before) l) before) ≡ drop (length l) before
     go (yes h) =
         let n : length (over (take (length before) l) before) ≤ length l =
-        omega (arith, length-append (take (length before) l) (drop (length (take (length before) l)) before), length-drop (length (take (length before) l)) before, length-take-le (length before) l (omega arith)) in
+        omega (
+          arith,
+          length-append (take (length before) l) (drop (length (take (length before) l)) before),
+          length-drop (length (take (length before) l)) before,
+          length-take-le (length before) l (omega arith),
+        ) in
         drop-of-length-le (over (take (length before) l) before) {i = length l} n ∙ sym (drop-of-length-le before {i = length l} (omega arith))
     go (no h) = rw (take-all (length before) l (omega arith)) (drop-at l (drop (length l) before) (length l) refl)
 

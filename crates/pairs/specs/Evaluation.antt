@@ -1,24 +1,23 @@
 -- How a pair question is evaluated: the operands still waiting, whose trees lie one after another at the front of the lent work.
---   relations g     the algebra of sets of pairs in a graph: running an expression's code in it gives the expression's set
+--   relations g       the algebra of sets of pairs in a graph: running an expression's code in it gives the expression's set
 --   lettersOperand forward against
---                   the operand of a symbol: the links of its letters, and no tree
---   operandAt os k  the operand at place k of the list os, nothing past its end
---   pushed o k at S the stack S with the operand o as its last of k and one, whose trees end at `at`
---   turned S        S with the operand on top read with the other sense
+--                     the operand of a symbol: the links of its letters, and no tree
+--   operandAt os k    the operand at place k of the list os, nothing past its end
+--   pushed o k at S   the stack S with the operand o as its last of k and one, whose trees end at `at`
+--   turned S          S with the operand on top read with the other sense
 --   takenNone o S, takenOne k S, takenTwo k S
---                   what is taken off the stack S: nothing, the operand o being the term; the operand on top, or the two on top, with the operation k
---   Ready y k       k operands are as many as the item y asks, and there is room for its value
---   usedBelow n ms  the bits of the records below n whose mark, of the marks ms, is not that of a withdrawn one
+--                     what is taken off the stack S: nothing, the operand o being the term; the operand on top, or the two on top, with the operation k
+--   usedBelow n ms    the bits of the records below n whose mark, of the marks ms, is not that of a withdrawn one
 --   Standing n ws work os k at st
---                   the first k operands of os, whose trees lie one after another at the front of work and end at `at`, stand for the sets st of pairs below n,
---                   the last one first; ws are the words of the links
+--                     the first k operands of os, whose trees lie one after another at the front of work and end at `at`, stand for the sets st of pairs below
+--                     n, the last one first; ws are the words of the links
+--   Ready y k         k operands are as many as the item y asks, and there is room for its value
 --   Waiting g e c ws work S st
---                   the code c is left to run on the operands of S, which stand for the sets st
---   heights         the algebra in which every value is 0: running a code in it tells how high the stack is
---   Totals d os k at
---                   the trees of the first k operands of os have at most d words each, and together `at`
---   Placed d S      so it is of the operands of S, whatever they are
---   Room d c S      and the code c is left to run on as many
+--                     the code c is left to run on the operands of S, which stand for the sets st
+--   heights           the algebra in which every value is 0: running a code in it tells how high the stack is
+--   Totals d os k at  the trees of the first k operands of os have at most d words each, and together `at`
+--   Placed d S        so it is of the operands of S, whatever they are
+--   Room d c S        and the code c is left to run on as many
 -- Assumes nothing: these are definitions.
 use mathlib.Core.Path.{_≡_}
 use mathlib.Core.List.{List, [], _∷_}
@@ -82,7 +81,12 @@ abbrev pub takenOne : Operation → Stack → Taken
 takenOne k S = record { term = record { operation = k; first = nothing; second = onTop S }; start = S .end - onTop S .size; below = S .count - 1 }
 
 abbrev pub takenTwo : Operation → Stack → Taken
-takenTwo k S = record { term = record { operation = k; first = belowTop S; second = onTop S }; start = S .end - onTop S .size - belowTop S .size; below = S .count - 1 - 1 }
+takenTwo k S =
+    record {
+      term = record { operation = k; first = belowTop S; second = onTop S };
+      start = S .end - onTop S .size - belowTop S .size;
+      below = S .count - 1 - 1;
+    }
 
 unfoldable pub usedBelow : ℕ → List ℕ → ℕ → ℕ
 usedBelow n ms x = bit (ltb x n && not (hasMark withdrawnMark ms x))

@@ -1,25 +1,26 @@
 -- Laws of the evaluation.
---   value-cells     an expression's value in the algebra of relations is its set
+--   value-cells        an expression's value in the algebra of relations is its set
 --   Unary y k, Binary y k
---                   the item y is an operator on one operand, or on two, by the operation k
+--                      the item y is an operator on one operand, or on two, by the operation k
+--   unary-one, binary-two
+--                      such an item takes one, or two
 --   does-inverse, does-one, does-two, does-letters
---                   what an item does to the stack
---   begins          with nothing waiting the whole code is left
+--                      what an item does to the stack
+--   begins             with nothing waiting the whole code is left
 --   runs-rest, runs-height
---                   what a code that runs asks of its next number
---   standing-count  the count of operands is the stack's height
---   Top, standing-top
---                   the operand on top: where its tree lies, and what stands below it
+--                      what a code that runs asks of its next number
+--   Top, standing-top  the operand on top: where its tree lies, and what stands below it
 --   standing-kept, standing-store
---                   what stands below a word stands if only words behind it change, and if only operands above are stored
---   standing-put    an operand put on top
+--                      what stands below a word stands if only words behind it change, and if only operands above are stored
+--   standing-put       an operand put on top
+--   waits-next         one number more of the code
 -- Assumes nothing.
 use mathlib.Core.Path.{_≡_, refl, sym, ap, ap₂, _∙_, subst}
 use mathlib.Core.List.{List, [], _∷_}
 use Prim.Native.Nat.{ℕ, zero, suc, _+_, _-_, _<_, _≤_}
 use native.Mathlib.Numerals.{add-one}
 use native.Mathlib.Omega.{arith}
-use lib.ListN.{length, take, drop, getD, set}
+use lib.ListN.{length, take, drop, set}
 use lib.Seq.{getD-set-same, getD-set-other, take-take}
 use Rattle.k2.specs.PairSets.{Cells, IsSet, union, transpose, product, closure, diagonal}
 use Rattle.k2.specs.Trees.{treeWords}
@@ -74,7 +75,8 @@ pub binary-two : {y : Item} {k : Operation} → Binary y k → operands y ≡ 2
 binary-two of-alternative = refl
 binary-two of-sequence = refl
 
-pub does-letters : (g : Graph) (forward against : ℕ) (st : List Cells) → does (relations g) (Letters forward against) st ≡ crossedBy g (lettersIn forward against) ∷ st
+pub does-letters : (g : Graph) (forward against : ℕ) (st : List Cells)
+    → does (relations g) (Letters forward against) st ≡ crossedBy g (lettersIn forward against) ∷ st
 unfolding does relations
 does-letters g forward against st = refl
 
@@ -104,7 +106,8 @@ begins g e d h ws work os = record {
 }
 
 -- ---- what is left to run
-pub runs-rest : (g : Graph) {i : ℕ} {c : List ℕ} {st : List Cells} → Runs (relations g) most-waiting (i ∷ c) st → Runs (relations g) most-waiting c (does (relations g) (itemOf i) st)
+pub runs-rest : (g : Graph) {i : ℕ} {c : List ℕ} {st : List Cells} → Runs (relations g) most-waiting (i ∷ c) st
+    → Runs (relations g) most-waiting c (does (relations g) (itemOf i) st)
 runs-rest g (next b h r) = r
 
 pub runs-height : {D : Type 0} (A : Algebra D) {k : ℕ} {c : List ℕ} {st : List D} → Runs A k c st → length st ≤ k
@@ -112,10 +115,6 @@ runs-height A (ended h) = h
 runs-height A (next b h r) = h
 
 -- ---- the operands
-pub standing-count : {n k at : ℕ} {ws work : List ℕ} {os : List Operand} {st : List Cells} → Standing n ws work os k at st → k ≡ length st
-standing-count none-waits = refl
-standing-count (one-waits a s p e l) = ap suc (standing-count s)
-
 -- the operand on top: its tree begins where those below it end
 pub record Top (n : ℕ) (ws work : List ℕ) (os : List Operand) (j at : ℕ) (st : List Cells) : Type 0 where
   pub a : Cells
@@ -127,7 +126,8 @@ pub record Top (n : ℕ) (ws work : List ℕ) (os : List Operand) (j at : ℕ) (
   pub long : operandAt os j .size ≡ length (treeWords n a)
   pub below : Standing n ws work os j (at - operandAt os j .size) others
 
-pub standing-top : {n k at : ℕ} {ws work : List ℕ} {os : List Operand} {st : List Cells} → Standing n ws work os k at st → (j : ℕ) → k ≡ suc j → Top n ws work os j at st
+pub standing-top : {n k at : ℕ} {ws work : List ℕ} {os : List Operand} {st : List Cells}
+    → Standing n ws work os k at st → (j : ℕ) → k ≡ suc j → Top n ws work os j at st
 standing-top none-waits j e = absurd (omega arith)
 standing-top {n} {ws = ws} {work} {os} (one-waits {k} {at} {st} a s p t l) j e =
     let z : k ≡ j = omega arith in
@@ -153,13 +153,15 @@ inside k (suc b) (suc at) (x ∷ l) h = inside k b at l (omega arith)
 front-tree : (k b at : ℕ) (work work′ : List ℕ) → b + k ≤ at → take at work′ ≡ take at work → take k (drop b work′) ≡ take k (drop b work)
 front-tree k b at work work′ h e = sym (inside k b at work′ h) ∙ ap (λ (l : List ℕ). take k (drop b l)) e ∙ inside k b at work h
 
-pub standing-kept : {n k at : ℕ} {ws work work′ : List ℕ} {os : List Operand} {st : List Cells} → Standing n ws work os k at st → (top : ℕ) → at ≤ top → take top work′ ≡ take top work
+pub standing-kept : {n k at : ℕ} {ws work work′ : List ℕ} {os : List Operand} {st : List Cells}
+    → Standing n ws work os k at st → (top : ℕ) → at ≤ top → take top work′ ≡ take top work
     → Standing n ws work′ os k at st
 standing-kept none-waits top h e = none-waits
 standing-kept {work = work} {work′} {os} (one-waits {k} {at} a s p t l) top h e =
     one-waits a (standing-kept s top (omega arith) e) p (front-tree (operandAt os k .size) at top work work′ h e ∙ t) l
 
-pub standing-store : {n k at : ℕ} {ws work : List ℕ} {os : List Operand} {st : List Cells} (j : ℕ) (o : Operand) → k ≤ j → Standing n ws work os k at st → Standing n ws work (set os j o) k at st
+pub standing-store : {n k at : ℕ} {ws work : List ℕ} {os : List Operand} {st : List Cells} (j : ℕ) (o : Operand)
+    → k ≤ j → Standing n ws work os k at st → Standing n ws work (set os j o) k at st
 standing-store j o h none-waits = none-waits
 standing-store {n} {ws = ws} {work} {os} j o h (one-waits {k} {at} {st} a s p t l) =
     let e : operandAt (set os j o) k ≡ operandAt os k = getD-set-other os j k o nothing (λ z. omega arith) in
@@ -167,15 +169,18 @@ standing-store {n} {ws = ws} {work} {os} j o h (one-waits {k} {at} {st} a s p t 
     (one-waits a (standing-store j o (omega arith) s) p (rw e t) (rw e l))
 
 -- an operand put on top of st
-pub standing-put : (n : ℕ) (ws work : List ℕ) (os : List Operand) (j at : ℕ) (o : Operand) (a : Cells) (st : List Cells) → Standing n ws work os j at st → j < length os
-    → IsSet n a → take (o .size) (drop at work) ≡ treeWords n a → o .size ≡ length (treeWords n a) → Standing n ws work (set os j o) (j + 1) (at + o .size) (valued ws o a ∷ st)
+pub standing-put : (n : ℕ) (ws work : List ℕ) (os : List Operand) (j at : ℕ) (o : Operand) (a : Cells) (st : List Cells)
+    → Standing n ws work os j at st → j < length os
+    → IsSet n a → take (o .size) (drop at work) ≡ treeWords n a → o .size ≡ length (treeWords n a)
+    → Standing n ws work (set os j o) (j + 1) (at + o .size) (valued ws o a ∷ st)
 standing-put n ws work os j at o a st s h p t l =
     let e : operandAt (set os j o) j ≡ o = getD-set-same os j o nothing h in
     rw add-one (subst (λ (x : Operand). Standing n ws work (set os j o) (suc j) (at + x .size) (valued ws x a ∷ st)) e
     (one-waits a (standing-store j o (omega arith) s) p (rw e t) (rw e l)))
 
 -- ---- one number more
-pub waits-next : {g : Graph} {e : Expr} {i : ℕ} {c ws work work′ : List ℕ} {S S′ : Stack} {st : List Cells} (st′ : List Cells) → Waiting g e (i ∷ c) ws work S st
+pub waits-next : {g : Graph} {e : Expr} {i : ℕ} {c ws work work′ : List ℕ} {S S′ : Stack} {st : List Cells} (st′ : List Cells)
+    → Waiting g e (i ∷ c) ws work S st
     → does (relations g) (itemOf i) st ≡ st′ → Standing (g .n) ws work′ (S′ .operands) (S′ .count) (S′ .end) st′ → Waiting g e c ws work′ S′ st′
 unfolding run
 waits-next {g} {c = c} st′ w d l = record {

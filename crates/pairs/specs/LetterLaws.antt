@@ -1,8 +1,8 @@
 -- Laws of letters: the pairs of their links, and the records in use.
---   links-below     the links of a book are of records below n
---   letters-crossed the pairs of the links of letters are those that a step joins whose letter is one of them
---   zero-used       each record in use joined to itself is zero steps
---   used-below      the records in use are below n
+--   links-below      the links of a book are of records below n
+--   letters-crossed  the pairs of the links of letters are those that a step joins whose letter is one of them
+--   zero-used        each record in use joined to itself is zero steps
+--   used-below       the records in use are below n
 -- Assumes nothing.
 use mathlib.Core.Path.{_≡_, refl, sym, ap, _∙_, subst, fun-ext}
 use mathlib.Core.Logic.{⊎-elim}
@@ -116,10 +116,14 @@ module _ (b : Book) (n : ℕ) (ws used : List ℕ) (L : Lettered b n ws used) wh
       I = fit-inside b (L .fit)
 
       forth : (x y : ℕ) → 1 ≤ setOf (ps forward) x y → crossedBy g (lettersIn forward against) x y ≡ 1
-      forth x y h = let r = sound forward x y h in is-crossed g (lettersIn forward against) I (record { label = r .0; inverted = false }) x y (eq-eqb _ 1 (r .1)) (r .2)
+      forth x y h =
+          let r = sound forward x y h in
+          is-crossed g (lettersIn forward against) I (record { label = r .0; inverted = false }) x y (eq-eqb _ 1 (r .1)) (r .2)
 
       back : (x y : ℕ) → 1 ≤ setOf (ps against) y x → crossedBy g (lettersIn forward against) x y ≡ 1
-      back x y h = let r = sound against y x h in is-crossed g (lettersIn forward against) I (record { label = r .0; inverted = true }) x y (eq-eqb _ 1 (r .1)) (r .2)
+      back x y h =
+          let r = sound against y x h in
+          is-crossed g (lettersIn forward against) I (record { label = r .0; inverted = true }) x y (eq-eqb _ 1 (r .1)) (r .2)
 
       one : (x y : ℕ) (a : Letter) (s : Bool) → a .inverted ≡ s → eqb (digit (pick s against forward) (a .label)) 1 ≡ true
           → present (b .sheet) (pick s (record { from = y; label = a .label; to = x }) (record { from = x; label = a .label; to = y })) ≡ true
@@ -127,13 +131,15 @@ module _ (b : Book) (n : ℕ) (ws used : List ℕ) (L : Lettered b n ws used) wh
       one x y a true e q p = omega (arith, whole against (a .label) y x (eqb-true _ 1 q) p, set-bit (ps forward) x y)
       one x y a false e q p = omega (arith, whole forward (a .label) x y (eqb-true _ 1 q) p, set-bit (ps against) y x)
 
-      by : (x y : ℕ) → Dec (0 < crossedBy g (lettersIn forward against) x y) → max (setOf (ps forward) x y) (setOf (ps against) y x) ≡ crossedBy g (lettersIn forward against) x y
+      by : (x y : ℕ) → Dec (0 < crossedBy g (lettersIn forward against) x y)
+          → max (setOf (ps forward) x y) (setOf (ps against) y x) ≡ crossedBy g (lettersIn forward against) x y
       by x y (yes h) =
           let r = crossed-is g (lettersIn forward against) x y h in
           one x y (r .0) (r .0 .inverted) refl (r .1) (r .2) ∙ sym (is-crossed g (lettersIn forward against) I (r .0) x y (r .1) (r .2))
       by x y (no h) = go (decLt 0 (setOf (ps forward) x y)) (decLt 0 (setOf (ps against) y x))
         where
-          go : Dec (0 < setOf (ps forward) x y) → Dec (0 < setOf (ps against) y x) → max (setOf (ps forward) x y) (setOf (ps against) y x) ≡ crossedBy g (lettersIn forward against) x y
+          go : Dec (0 < setOf (ps forward) x y) → Dec (0 < setOf (ps against) y x)
+              → max (setOf (ps forward) x y) (setOf (ps against) y x) ≡ crossedBy g (lettersIn forward against) x y
           go (yes k) j = absurd (omega (arith, forth x y k))
           go (no k) (yes j) = absurd (omega (arith, back x y j))
           go (no k) (no j) = omega arith

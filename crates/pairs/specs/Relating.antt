@@ -2,7 +2,8 @@
 --   Relating b v work room after q
 --                   for the book b, a text of the verdict v, so many words of work and of rows: refused as the relation is, or the rows are the relation's
 --   RelatingFor r v work before after q
---                   the same for every book that the register r represents; over any contents the words past the rows are as they were, all of them with a refusal
+--                   the same for every book that the register r represents; over any contents the words past the rows are as they
+--                   were, all of them with a refusal
 -- Assumes nothing: these are definitions.
 use mathlib.Core.Path.{_≡_}
 use mathlib.Core.List.{List}

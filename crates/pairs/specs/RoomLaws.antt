@@ -1,13 +1,13 @@
 -- Laws of the room that the operands take.
 --   totals-below, totals-most
---                   the numbers below the top one; their total
---   placed-put      an operand put on top
+--                  the numbers below the top one; their total
+--   placed-put     an operand put on top
 --   value-heights, height-after
---                   every value is 0; an item takes its operands off the stack and puts one value on it
---   room-begins     with nothing waiting
---   room-operands   the next number of the code finds its operands, and there is room for its value
---   room-next       one number more: its operands give way to its value
---   room-ends       with no code left one operand waits
+--                  every value is 0; an item takes its operands off the stack and puts one value on it
+--   room-begins    with nothing waiting
+--   room-operands  the next number of the code finds its operands, and there is room for its value
+--   room-next      one number more: its operands give way to its value
+--   room-ends      with no code left one operand waits
 -- Assumes nothing.
 use mathlib.Core.Path.{_≡_, refl, sym, ap, _∙_, subst}
 use mathlib.Core.List.{List, [], _∷_}
@@ -35,7 +35,8 @@ pub totals-below : {d k at : ℕ} {os : List Operand} → Totals d os k at → (
 totals-below no-words j e = absurd (omega arith)
 totals-below {d} {os = os} (more-words {k} {at} t h) j e =
     let z : k ≡ j = omega arith in
-    subst (λ (i : ℕ). (operandAt os i .size ≤ at + operandAt os k .size) × (operandAt os i .size ≤ d) × Totals d os i (at + operandAt os k .size - operandAt os i .size)) z
+    subst (λ (i : ℕ). (operandAt os i .size ≤ at + operandAt os k .size) × (operandAt os i .size ≤ d)
+    × Totals d os i (at + operandAt os k .size - operandAt os i .size)) z
     (omega arith, h, subst (Totals d os k) (let q : at ≡ at + operandAt os k .size - operandAt os k .size = omega arith in q) t)
 
 pub totals-most : {d k at : ℕ} {os : List Operand} → Totals d os k at → at ≤ k * d
@@ -55,7 +56,9 @@ placed-put {d} {S} start j o P t h l =
     let q : operandAt (set (S .operands) j o) j ≡ o = getD-set-same (S .operands) j o nothing (omega (arith, P .slots)) in
     record {
       slots = length-set (S .operands) j o ∙ P .slots;
-      totals = rw add-one (subst (λ (x : Operand). Totals d (set (S .operands) j o) (suc j) (start + x .size)) q (more-words (totals-store j o (omega arith) t) (rw q h)));
+      totals =
+          rw add-one (subst (λ (x : Operand). Totals d (set (S .operands) j o) (suc j) (start + x .size))
+          q (more-words (totals-store j o (omega arith) t) (rw q h)));
     }
 
 -- ---- the code
@@ -109,7 +112,14 @@ unfolding run
 room-next {d} {i} {c} {S} {S′} R P e = go (R .runs) (R .rest) (R .count)
   where
     go : {st : List ℕ} → Runs heights most-waiting (i ∷ c) st → run heights (i ∷ c) st ≡ 0 ∷ [] → S .count ≡ length st → Room d c S′
-    go {st} (next b g q) f k = record { stack = does heights (itemOf i) st; rest = f; runs = q; count = e ∙ ap (λ (x : ℕ). suc (x - operands (itemOf i))) k ∙ sym (height-after (itemOf i) st b); placed = P }
+    go {st} (next b g q) f k =
+        record {
+          stack = does heights (itemOf i) st;
+          rest = f;
+          runs = q;
+          count = e ∙ ap (λ (x : ℕ). suc (x - operands (itemOf i))) k ∙ sym (height-after (itemOf i) st b);
+          placed = P;
+        }
 
 pub room-ends : {d : ℕ} {S : Stack} → Room d [] S → S .count ≡ 1
 unfolding run

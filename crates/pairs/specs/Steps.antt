@@ -2,11 +2,12 @@
 --   Lettered b n ws used
 --                   the words ws are those of the links of the book b, of n records, and the bits of `used` are its records in use
 --   Taking g ws work u y S q st
---                   of a graph whose records in use have the bits u: the item y takes q off the stack S, whose operands stand for st; its value is the term's, and
---                   the operands that stay stand for the rest
+--                   of a graph whose records in use have the bits u: the item y takes q off the stack S, whose operands stand for st; its value is the term's,
+--                   and the operands that stay stand for the rest
 --   Takes d y S q   the item y takes the term q off the stack S, its trees having at most d words each, and for every graph whose links ws are so it is
 --   Goes n ws used y work work′ S S′
---                   one number of the code, which is the item y: the operands that wait before it and after it, as Room for any contents and as Waiting for a book
+--                   one number of the code, which is the item y: the operands that wait before it and after it, as Room for any
+--                   contents and as Waiting for a book
 --   Coded s e c     s is a text of the expression e, not too deep, and c is its code
 --   Going n ws used c work S i
 --                   the first i numbers of the code c have been run
@@ -81,4 +82,5 @@ pub record Going (n : ℕ) (ws used c work : List ℕ) (S : Stack) (i : ℕ) : T
   pub waits : (b : Book) → Lettered b n ws used → (s : List ℕ) (e : Expr) → Coded s e c → (st : List Cells) × Waiting (asked b) e (drop i c) ws work S st
 
 pub record Ends (n : ℕ) (ws used : List ℕ) (y : Item) (work : List ℕ) (S : Stack) (rows : List ℕ) : Type 0 where
-  pub value : (b : Book) → Lettered b n ws used → (e : Expr) (i : ℕ) (st : List Cells) → itemOf i ≡ y → Waiting (asked b) e (i ∷ []) ws work S st → bitAt rows ≡ flat (cells (asked b) e)
+  pub value : (b : Book) → Lettered b n ws used → (e : Expr) (i : ℕ) (st : List Cells)
+      → itemOf i ≡ y → Waiting (asked b) e (i ∷ []) ws work S st → bitAt rows ≡ flat (cells (asked b) e)

@@ -1,7 +1,7 @@
 // Pair questions: an expression's code is run on a stack of operands, whose k2-trees lie one after another in the lent work. Its relation is to be had as
 // rows, or as a list of pairs.
 ghost use mathlib.Core.Path.{_≡_};
-ghost use mathlib.Core.List.{List, [], _∷_};
+ghost use mathlib.Core.List.{List};
 ghost use Prim.Native.Nat.{ℕ, _*_, _-_, _<_, _≤_};
 ghost use lib.ListN.{length, take};
 ghost use Rattle.book.specs.Basics.{bit};
@@ -118,7 +118,8 @@ fn on_one(stack: Stack, operation: tree::Operation) -> Taken
 
 // The two operands on top, with an operation on them.
 fn on_two(stack: Stack, operation: tree::Operation) -> Taken
-    requires { ⌜ (2 ≤ stack .count) × (stack .count ≤ 19) × (length (stack .operands) ≡ 19) × (onTop stack .size ≤ stack .end) × (belowTop stack .size ≤ stack .end - onTop stack .size) ⌝ }
+    requires { ⌜ (2 ≤ stack .count) × (stack .count ≤ 19) × (length (stack .operands) ≡ 19)
+        × (onTop stack .size ≤ stack .end) × (belowTop stack .size ≤ stack .end - onTop stack .size) ⌝ }
     ensures { λ r. ⌜ r ≡ takenTwo operation stack ⌝ }
 {
     let top = stack.count - 1;
@@ -305,7 +306,8 @@ fn of_code(
     rows: &mut [u64],
 ) -> Related
     requires { ⌜ (len ≤ length code) × ((s : List ℕ) × (e : Expr) × Coded s e (take len code)) ⌝ }
-    ensures { λ a. ⌜ ((s : List ℕ) (e : Expr) → Coded s e (take len code) → RelatingFor register (accepted e) (length (now (work .entry))) (now (rows .entry)) (now (rows .exit)) a) ⌝ }
+    ensures { λ a. ⌜ ((s : List ℕ) (e : Expr) → Coded s e (take len code)
+        → RelatingFor register (accepted e) (length (now (work .entry))) (now (rows .entry)) (now (rows .exit)) a) ⌝ }
 {
     let n = register.size();
     if work.len() < 32 * tree::tree_unit(n) {

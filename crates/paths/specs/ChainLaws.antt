@@ -1,8 +1,14 @@
 -- Laws of chains and words, and the theorem that a pair is in the relation of an expression exactly if it has a chain.
---   Inside g        the graph's links lie between records in use, which are below n, and their labels are letters
+--   Inside g       the graph's links lie between records in use, which are below n, and their labels are letters
+--   inverse-inverse, backwards-append
+--                  a letter inverted twice; joined words backwards
 --   spell-append, chain-append, chain-split, chain-back, backwards-backwards, split-spelling
---                   chains joined, parted and gone backwards, and what they then spell
---   rel-has         Rel g e x y exactly if Has g e x y
+--                  chains joined, parted and gone backwards, and what they then spell
+--   crossing-back, crossing-in, crossing-label, in-use-on
+--                  a link crossed the other way is the same link, between records in use, with a letter; a chain leads from use to use
+--   rel-in-use, rel-chain, chain-rel
+--                  the relation's pairs are of records in use; it has exactly the pairs with a chain that spells a word
+--   rel-has        Rel g e x y exactly if Has g e x y
 -- Assumes nothing.
 use mathlib.Core.Path.{_≡_, refl, sym, ap, ap₂, _∙_, subst}
 use mathlib.Core.Logic.{_↔_}
@@ -10,12 +16,14 @@ use mathlib.Core.List.{List, [], _∷_, _++_, append-assoc, append-nil}
 use mathlib.Core.Bool.{Bool, true, false, not}
 use Prim.Native.Nat.{ℕ, _<_}
 use native.Mathlib.Omega.{arith}
-use Rattle.book.specs.Basics.{pick}
 use Rattle.book.specs.Book.{Link}
-use Rattle.paths.specs.Expressions.{Letter, Symbol, standsFor, Expr, symbol, group, inverse, star, plus, optional, alternative, sequence}
-use Rattle.paths.specs.Words.{inverseLetter, backwards, Words, itself, inside, reversed, left, right, joined, once, again, star-none, star-some, optional-none, optional-once}
-use Rattle.paths.specs.Chains.{Graph, Step, crossing, Chain, stay, cross, spell, Answers, Has}
-use Rattle.paths.specs.Relations.{Rel, link, inside as inside′, swapped, left as left′, right as right′, joined as joined′, once as once′, again as again′, star-none as star-none′, star-some as star-some′, optional-none as optional-none′, optional-once as optional-once′}
+use Rattle.paths.specs.Expressions.{Letter, Symbol, standsFor, Expr, symbol, star, optional}
+use Rattle.paths.specs.Words.{inverseLetter, backwards, Words, itself, inside, reversed, left, right, joined, once, again, star-none, star-some}
+use Rattle.paths.specs.Words.{optional-none, optional-once}
+use Rattle.paths.specs.Chains.{Graph, Step, crossing, Chain, stay, cross, spell, Has}
+use Rattle.paths.specs.Relations.{Rel, link, inside as inside′, swapped, left as left′, right as right′, joined as joined′, once as once′}
+use Rattle.paths.specs.Relations.{again as again′, star-none as star-none′, star-some as star-some′, optional-none as optional-none′}
+use Rattle.paths.specs.Relations.{optional-once as optional-once′}
 
 pub record Inside (g : Graph) : Type 0 where
   pub below : (x : ℕ) → g .inUse x ≡ true → x < g .n
@@ -34,12 +42,14 @@ inverse-inverse a = ap (λ (b : Bool). record { label = a .label; inverted = b }
 pub backwards-append : (v w : List Letter) → backwards (v ++ w) ≡ backwards w ++ backwards v
 unfolding backwards
 backwards-append [] w = sym (append-nil (backwards w))
-backwards-append (a ∷ v) w = ap (λ (u : List Letter). u ++ (inverseLetter a ∷ [])) (backwards-append v w) ∙ append-assoc (backwards w) (backwards v) (inverseLetter a ∷ [])
+backwards-append (a ∷ v) w =
+    ap (λ (u : List Letter). u ++ (inverseLetter a ∷ [])) (backwards-append v w) ∙ append-assoc (backwards w) (backwards v) (inverseLetter a ∷ [])
 
 pub backwards-backwards : (w : List Letter) → backwards (backwards w) ≡ w
 unfolding backwards
 backwards-backwards [] = refl
-backwards-backwards (a ∷ w) = backwards-append (backwards w) (inverseLetter a ∷ []) ∙ ap₂ (λ (b : Letter) (v : List Letter). b ∷ v) (inverse-inverse a) (backwards-backwards w)
+backwards-backwards (a ∷ w) =
+    backwards-append (backwards w) (inverseLetter a ∷ []) ∙ ap₂ (λ (b : Letter) (v : List Letter). b ∷ v) (inverse-inverse a) (backwards-backwards w)
 
 -- ---- what steps spell
 pub spell-append : (ss ts : List Step) → spell (ss ++ ts) ≡ spell ss ++ spell ts
@@ -85,8 +95,11 @@ module _ (g : Graph) where
   unfolding spell backwards
   chain-back stay = ([], stay, refl)
   chain-back {x} (cross {s = s} p c) =
-      let r = chain-back c in
-      (r .0 ++ (stepBack x s ∷ []), chain-append (r .1) (cross (rw (crossing-back (s .spelt) x (s .reached)) p) stay), spell-append (r .0) (stepBack x s ∷ []) ∙ ap (λ (w : List Letter). w ++ (inverseLetter (s .spelt) ∷ [])) (r .2))
+      let r = chain-back c in (
+        r .0 ++ (stepBack x s ∷ []),
+        chain-append (r .1) (cross (rw (crossing-back (s .spelt) x (s .reached)) p) stay),
+        spell-append (r .0) (stepBack x s ∷ []) ∙ ap (λ (w : List Letter). w ++ (inverseLetter (s .spelt) ∷ [])) (r .2),
+      )
 
 module _ (g : Graph) (I : Inside g) where
   pub crossing-in : (a : Letter) (x y : ℕ) → g .present (crossing a x y) ≡ true → (g .inUse x ≡ true) × (g .inUse y ≡ true)
@@ -140,9 +153,15 @@ module _ (g : Graph) (I : Inside g) where
   rel-chain (swapped r) = let c = rel-chain r in let d = chain-back g (c .1) in (d .0, d .1, rw (d .2) (reversed (c .2)))
   rel-chain (left′ r) = let c = rel-chain r in (c .0, c .1, left (c .2))
   rel-chain (right′ r) = let c = rel-chain r in (c .0, c .1, right (c .2))
-  rel-chain (joined′ r q) = let c = rel-chain r in let d = rel-chain q in (c .0 ++ d .0, chain-append g (c .1) (d .1), rw (spell-append (c .0) (d .0)) (joined (c .2) (d .2)))
+  rel-chain (joined′ r q) =
+      let c = rel-chain r in
+      let d = rel-chain q in
+      (c .0 ++ d .0, chain-append g (c .1) (d .1), rw (spell-append (c .0) (d .0)) (joined (c .2) (d .2)))
   rel-chain (once′ r) = let c = rel-chain r in (c .0, c .1, once (c .2))
-  rel-chain (again′ r q) = let c = rel-chain r in let d = rel-chain q in (c .0 ++ d .0, chain-append g (c .1) (d .1), rw (spell-append (c .0) (d .0)) (again (c .2) (d .2)))
+  rel-chain (again′ r q) =
+      let c = rel-chain r in
+      let d = rel-chain q in
+      (c .0 ++ d .0, chain-append g (c .1) (d .1), rw (spell-append (c .0) (d .0)) (again (c .2) (d .2)))
   rel-chain (star-none′ {x = x} u) = no-step x star-none
   rel-chain (star-some′ r) = let c = rel-chain r in (c .0, c .1, star-some (c .2))
   rel-chain (optional-none′ {x = x} u) = no-step x optional-none

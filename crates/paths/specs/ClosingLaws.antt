@@ -7,7 +7,7 @@ use mathlib.Core.Path.{_≡_, refl, sym, ap, ap₂, _∙_, subst}
 use mathlib.Core.Logic.{_↔_}
 use mathlib.Core.List.{List, [], _∷_, _++_, map}
 use mathlib.Core.Bool.{Bool, true, false, _||_}
-use Prim.Native.Nat.{ℕ, zero, suc, _+_, _≤_, _<_}
+use Prim.Native.Nat.{ℕ, zero, suc, _≤_, _<_}
 use native.Mathlib.Omega.{arith}
 use lib.ListN.{length, take}
 use lib.Dec.{leb, ltb}
@@ -25,7 +25,8 @@ use Rattle.paths.specs.Expressions.{Expr}
 use Rattle.paths.specs.Grammar.{Verdict, accepted, long, outside, large, verdictCause}
 use Rattle.paths.specs.Chains.{asked, Reply, none, chain, ChainIs}
 use Rattle.paths.specs.Relations.{pairs}
-use Rattle.paths.specs.Questions.{Outcome, paired, replied, unless, pairsWork, chainWork, pairsOf, pairsCauses, pairsAnswer, ReplyTo, steps, chainCauses, chainAnswer}
+use Rattle.paths.specs.Questions.{Outcome, paired, replied, unless, pairsWork, chainWork, pairsOf, pairsCauses, pairsAnswer, ReplyTo, steps, chainCauses}
+use Rattle.paths.specs.Questions.{chainAnswer}
 use Rattle.paths.specs.ChainLaws.{Inside}
 use Rattle.paths.specs.PairLaws.{pairs-are, pairs-only, fit-inside}
 use Rattle.paths.specs.Renaming.{renamedPair, renamedStep, renamedReply, renamedOutcome, newNumber}
@@ -107,7 +108,8 @@ module _ (b : Book) (o : Sound b) where
   shut-pairs : (e : Expr) → pairs (asked shut) e ≡ map (renamedPair (rank u)) (pairs (asked b) e)
   shut-pairs e =
       sym (pairs-only (asked shut) shut-inside shut-small e (map (renamedPair (rank u)) (pairs (asked b) e))
-      (pairs-renamed (rank u) (nth u (b .n)) (asked b) (asked shut) shut-renames before-inside shut-inside before-small shut-small e (pairs (asked b) e) (pairs-are (asked b) before-inside before-small e)))
+      (pairs-renamed (rank u) (nth u (b .n)) (asked b) (asked shut) shut-renames before-inside shut-inside
+      before-small shut-small e (pairs (asked b) e) (pairs-are (asked b) before-inside before-small e)))
 
   shut-pairs-of : (v : Verdict) → pairsOf shut v ≡ map (renamedPair (rank u)) (pairsOf b v)
   unfolding pairsOf
@@ -118,13 +120,17 @@ module _ (b : Book) (o : Sound b) where
 
   -- work that is enough for the old n is enough for the new one
   shut-work : (work : ℕ) → pairsWork (b .n) ≤ work → ltb work (pairsWork (rank u (b .n))) ≡ ltb work (pairsWork (b .n))
-  shut-work work h = le-ltb work (pairsWork (rank u (b .n))) (omega (arith, treeUnit-mono (rank u (b .n)) (b .n) (rank-le u (b .n)))) ∙ sym (le-ltb work (pairsWork (b .n)) h)
+  shut-work work h =
+      le-ltb work (pairsWork (rank u (b .n))) (omega (arith, treeUnit-mono (rank u (b .n)) (b .n) (rank-le u (b .n)))) ∙ sym (le-ltb work (pairsWork (b .n)) h)
 
-  shut-pairs-answer : (v : Verdict) (work room : ℕ) → pairsWork (b .n) ≤ work → pairsAnswer shut v work room ≡ renamedOutcome (rank u) (pairsAnswer b v work room)
+  shut-pairs-answer : (v : Verdict) (work room : ℕ) → pairsWork (b .n) ≤ work
+      → pairsAnswer shut v work room ≡ renamedOutcome (rank u) (pairsAnswer b v work room)
   unfolding pairsAnswer pairsCauses renamedOutcome
   shut-pairs-answer v work room h =
-      ap₂ (λ (t : Bool) (l : List ℕ). unless (firstNumber (verdictCause v ++ ((short-work, t) ∷ []))) (paired (length l) (take room l))) (shut-work work h) (shut-pairs-of v)
-      ∙ ap₂ (λ (k : ℕ) (l : List ℕ). unless (firstNumber (pairsCauses b v work)) (paired k l)) (length-map (renamedPair (rank u)) (pairsOf b v)) (take-map (renamedPair (rank u)) room (pairsOf b v))
+      ap₂ (λ (t : Bool) (l : List ℕ). unless (firstNumber (verdictCause v ++ ((short-work, t) ∷ []))) (paired (length l) (take room l)))
+      (shut-work work h) (shut-pairs-of v)
+      ∙ ap₂ (λ (k : ℕ) (l : List ℕ). unless (firstNumber (pairsCauses b v work)) (paired k l))
+      (length-map (renamedPair (rank u)) (pairsOf b v)) (take-map (renamedPair (rank u)) room (pairsOf b v))
       ∙ renamed-unless (rank u) (firstNumber (pairsCauses b v work)) (paired (length (pairsOf b v)) (take room (pairsOf b v)))
 
   -- ---- chains
@@ -135,10 +141,13 @@ module _ (b : Book) (o : Sound b) where
 
     shut-reply : (v : Verdict) (t : Reply) → ReplyTo (asked b) v x y t → ReplyTo (asked shut) v (rank u x) (rank u y) (renamedReply (rank u) t)
     shut-reply v t r e d =
-        reply-renamed (rank u) (nth u (b .n)) (asked b) (asked shut) shut-renames before-inside shut-inside before-small shut-small e x y (old-used x p) (old-used y q) t (r e d)
+        reply-renamed (rank u) (nth u (b .n)) (asked b) (asked shut) shut-renames before-inside
+        shut-inside before-small shut-small e x y (old-used x p) (old-used y q) t (r e d)
 
     shut-none : (e : Expr) → ChainIs (asked shut) e (rank u x) (rank u y) none → ChainIs (asked b) e x y none
-    shut-none e n = none-back (rank u) (nth u (b .n)) (asked b) (asked shut) shut-renames before-inside shut-inside before-small shut-small e x y (old-used x p) (old-used y q) n
+    shut-none e n =
+        none-back (rank u) (nth u (b .n)) (asked b) (asked shut) shut-renames before-inside
+        shut-inside before-small shut-small e x y (old-used x p) (old-used y q) n
 
     no-record-none : (n i j : ℕ) → i < n → j < n → (leb n i || leb n j) ≡ false
     no-record-none n i j k l = rw (lt-leb n i k, lt-leb n j l)
@@ -153,7 +162,8 @@ module _ (b : Book) (o : Sound b) where
         → chainAnswer shut (rank u x) (rank u y) v (renamedReply (rank u) t) work room ≡ renamedOutcome (rank u) (chainAnswer b x y v t work room)
     unfolding chainAnswer renamedOutcome
     shut-chain-answer v t work room h =
-        ap (λ (k : ℕ). unless k (replied (renamedReply (rank u) t))) causes-same ∙ renamed-unless (rank u) (firstNumber (chainCauses b x y v t work room)) (replied t)
+        ap (λ (k : ℕ). unless k (replied (renamedReply (rank u) t))) causes-same
+        ∙ renamed-unless (rank u) (firstNumber (chainCauses b x y v t work room)) (replied t)
       where
         enough : (n : ℕ) → n ≤ b .n → ltb work (chainWork n) ≡ false
         enough n l = le-ltb work (chainWork n) (omega (arith, h))
@@ -174,16 +184,19 @@ module _ (b : Book) (o : Sound b) (room : ℕ) (a : answer b (close room) ≡ 0)
   unfolding answer next closed
   closed-is = ap (λ (k : ℕ). closed k b) a
 
-  pub closing-pairs : (v : Verdict) (work list : ℕ) → pairsWork (b .n) ≤ work → pairsAnswer (next b (close room)) v work list ≡ renamedOutcome (newNumber b) (pairsAnswer b v work list)
+  pub closing-pairs : (v : Verdict) (work list : ℕ) → pairsWork (b .n) ≤ work
+      → pairsAnswer (next b (close room)) v work list ≡ renamedOutcome (newNumber b) (pairsAnswer b v work list)
   closing-pairs v work list h = ap (λ (c : Book). pairsAnswer c v work list) closed-is ∙ shut-pairs-answer b o v work list h
 
   module _ (x y : ℕ) (p : used (b .n) (b .sheet) x ≡ true) (q : used (b .n) (b .sheet) y ≡ true) where
     pub closing-chain : (v : Verdict) (t : Reply) (work list : ℕ) → chainWork (b .n) ≤ work → ReplyTo (asked b) v x y t
         → ReplyTo (asked (next b (close room))) v (newNumber b x) (newNumber b y) (renamedReply (newNumber b) t)
-        × (chainAnswer (next b (close room)) (newNumber b x) (newNumber b y) v (renamedReply (newNumber b) t) work list ≡ renamedOutcome (newNumber b) (chainAnswer b x y v t work list))
+        × (chainAnswer (next b (close room)) (newNumber b x) (newNumber b y) v (renamedReply (newNumber b) t) work list
+        ≡ renamedOutcome (newNumber b) (chainAnswer b x y v t work list))
     closing-chain v t work list h r = (
       subst (λ (c : Book). ReplyTo (asked c) v (newNumber b x) (newNumber b y) (renamedReply (newNumber b) t)) (sym closed-is) (shut-reply b o x y p q v t r),
-      ap (λ (c : Book). chainAnswer c (newNumber b x) (newNumber b y) v (renamedReply (newNumber b) t) work list) closed-is ∙ shut-chain-answer b o x y p q v t work list h,
+      ap (λ (c : Book). chainAnswer c (newNumber b x) (newNumber b y) v (renamedReply (newNumber b) t) work list) closed-is
+          ∙ shut-chain-answer b o x y p q v t work list h,
     )
 
     -- the same of the one expression that an accepted text is
@@ -193,6 +206,7 @@ module _ (b : Book) (o : Sound b) (room : ℕ) (a : answer b (close room) ≡ 0)
     pub closing-none : (e : Expr) → ChainIs (asked b) e x y none ↔ ChainIs (asked (next b (close room))) e (newNumber b x) (newNumber b y) none
     unfolding renamedReply
     closing-none e = (
-      λ n. subst (λ (c : Book). ChainIs (asked c) e (newNumber b x) (newNumber b y) none) (sym closed-is) (shut-reply b o x y p q (accepted e) none (same-none n) e refl),
+      λ n. subst (λ (c : Book). ChainIs (asked c) e (newNumber b x) (newNumber b y) none)
+          (sym closed-is) (shut-reply b o x y p q (accepted e) none (same-none n) e refl),
       λ n. shut-none b o x y p q e (subst (λ (c : Book). ChainIs (asked c) e (newNumber b x) (newNumber b y) none) closed-is n),
     )

@@ -1,19 +1,20 @@
 -- The reader as a function on lists of bytes, by recursive descent: one function for each rule of the grammar.
---   Parse           what reading finds at the front of some bytes: an expression with the bytes after it, or none
---   firstByte l, rest l
---                   the first byte, or 0 if there is none; and the bytes after it
---   then x k        reading goes on by k from what x has found
+--   Parse                what reading finds at the front of some bytes: an expression with the bytes after it, or none
+--   firstByte l, rest l  the first byte, or 0 if there is none; and the bytes after it
+--   then x k             reading goes on by k from what x has found
 --   readMark e l, readClose e l, invertRead e l
---                   what follows e: at most one mark; the ) of a group; nothing, and a ^ stood before it
---   readMember k l  the member of a negated set at the front of l; reading goes on by k
---   membersIn f w l the members from l on up to the ), at most f of them, where w are read already
---   readNegated l   a negated set, after its !
+--                        what follows e: at most one mark; the ) of a group; nothing, and a ^ stood before it
+--   readMember k l       the member of a negated set at the front of l; reading goes on by k
+--   membersIn f w l      the members from l on up to the ), at most f of them, where w are read already
+--   readNegated l        a negated set, after its !
 --   alternativesIn f l, partsIn f l, partIn f l, atomIn f l
---                   what a rule finds at the front of l, in at most f calls one inside another
+--                        what a rule finds at the front of l, in at most f calls one inside another
+--   moreAlternativesIn, morePartsIn
+--                        of these two, what follows where something is read already
 --   readAlternatives l, readParts l, readPart l, readAtom l
---                   the same in as many calls as it needs
+--                        what a rule finds, in as many calls as it needs
 --   readMoreAlternatives e l, readMoreParts e l
---                   what they find at l, where e is read already
+--                        what they find at l, where e is read already
 -- Assumes nothing: these are definitions.
 use mathlib.Core.List.{List, [], _∷_, _++_}
 use mathlib.Core.Bool.{Bool, true, false, _&&_}
@@ -93,7 +94,8 @@ unfoldable mutual
 
   pub moreAlternativesIn : ℕ → Expr → List ℕ → Parse
   moreAlternativesIn zero e l = fault
-  moreAlternativesIn (suc f) e l = elim (eqb (firstByte l) bar) [ true ↦ then (partsIn f (rest l)) (λ g r. moreAlternativesIn f (alternative e g) r) | false ↦ got e l ]
+  moreAlternativesIn (suc f) e l =
+      elim (eqb (firstByte l) bar) [ true ↦ then (partsIn f (rest l)) (λ g r. moreAlternativesIn f (alternative e g) r) | false ↦ got e l ]
 
   pub partsIn : ℕ → List ℕ → Parse
   partsIn zero l = fault

@@ -12,13 +12,12 @@ use lib.Dec.{ltb}
 use lib.ListN.{length, take}
 use Rattle.book.specs.Causes.{Cause, firstNumber}
 use Rattle.book.specs.Book.{Link, Book, present, isWithdrawn}
-use Rattle.paths.specs.Expressions.{Expr}
 use Rattle.paths.specs.Grammar.{Verdict, accepted, long, outside, large}
-use Rattle.paths.specs.Chains.{Graph, asked, Reply, none, ChainIs}
+use Rattle.paths.specs.Chains.{Graph, asked, Reply, none}
 use Rattle.paths.specs.Relations.{pairs}
-use Rattle.paths.specs.Questions.{Outcome, paired, replied, unless, pairsOf, pairsCauses, pairsAnswer, ReplyTo, chainCauses, chainAnswer}
+use Rattle.paths.specs.Questions.{paired, unless, pairsOf, pairsCauses, pairsAnswer, ReplyTo, chainCauses, chainAnswer}
 use Rattle.paths.specs.ChainLaws.{Inside}
-use Rattle.paths.specs.FirstChain.{reply}
+use Rattle.paths.specs.FirstChainLaws.{reply}
 
 pub same-graph : (b c : Book) → b .n ≡ c .n → ((k : Link) → present (b .sheet) k ≡ present (c .sheet) k)
     → ((r : ℕ) → isWithdrawn (b .sheet) r ≡ isWithdrawn (c .sheet) r) → asked b ≡ asked c

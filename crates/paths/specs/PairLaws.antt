@@ -9,6 +9,7 @@
 --                   after every history the links lie between records in use, and n is at most 1,024
 --   withdrawn-none, none-withdrawn
 --                   a chain question from a withdrawn record gives none, also to itself; and one to it
+--   text-in-order   the verdict's cause, and then the two of lent space
 --   pairs-in-order, chain-in-order
 --                   the causes against a question stand in the order of S6.7
 --   verdict-caused  the number of a faulty text is that of a cause
@@ -23,8 +24,9 @@ use lib.Seq.{take-all}
 use lib.Dec.{ltb}
 use borrow.Author.Tests.{ltb-true, lt-ltb}
 use Rattle.book.specs.Basics.{In, here, there, Rises, rises}
-use Rattle.book.specs.Causes.{Cause, no-expression, too-many-bytes, too-large, short-work, short-list, number, Caused, firstNumber, questionOrder, InOrder, none-left, same-cause, passed-over}
-use Rattle.book.specs.Book.{Sheet, Book, isWithdrawn, Call, fresh, after}
+use Rattle.book.specs.Causes.{no-expression, too-many-bytes, too-large, short-work, short-list, number, Caused, firstNumber, questionOrder, InOrder, none-left}
+use Rattle.book.specs.Causes.{same-cause, passed-over}
+use Rattle.book.specs.Book.{Book, isWithdrawn, Call, fresh, after}
 use Rattle.book.specs.ListLaws.{in-none, rises-least, rises-same}
 use Rattle.book.specs.SetLaws.{and-both}
 use Rattle.book.specs.Sheets.{Fit}
@@ -67,7 +69,8 @@ first-part k w v l = first-from 0 k w v l
 pub long-enough : (b : Book) (v : Verdict) (work room : ℕ) → length (pairsOf b v) ≤ room
     → pairsAnswer b v work room ≡ unless (firstNumber (pairsCauses b v work)) (paired (length (pairsOf b v)) (pairsOf b v))
 unfolding pairsAnswer
-long-enough b v work room h = ap (λ (ws : List ℕ). unless (firstNumber (pairsCauses b v work)) (paired (length (pairsOf b v)) ws)) (take-all room (pairsOf b v) h)
+long-enough b v work room h =
+    ap (λ (ws : List ℕ). unless (firstNumber (pairsCauses b v work)) (paired (length (pairsOf b v)) ws)) (take-all room (pairsOf b v) h)
 
 -- ---- the graph of a book
 pub withdrawn-out : (b : Book) (x : ℕ) → isWithdrawn (b .sheet) x ≡ true → asked b .inUse x ≡ false
@@ -106,7 +109,8 @@ none-withdrawn b e x y w = no-chain (λ ss a. false≢true (sym (withdrawn-out b
 
 -- ---- the order of causes
 -- the verdict's cause, and then the two of lent space
-pub text-in-order : (v : Verdict) (t u : Bool) → InOrder (verdictCause v ++ ((short-work, t) ∷ (short-list, u) ∷ [])) (too-many-bytes ∷ no-expression ∷ too-large ∷ short-work ∷ short-list ∷ [])
+pub text-in-order : (v : Verdict) (t u : Bool)
+    → InOrder (verdictCause v ++ ((short-work, t) ∷ (short-list, u) ∷ [])) (too-many-bytes ∷ no-expression ∷ too-large ∷ short-work ∷ short-list ∷ [])
 unfolding verdictCause
 text-in-order (accepted e) t u = passed-over (passed-over (passed-over (same-cause (same-cause none-left))))
 text-in-order long t u = same-cause (passed-over (passed-over (same-cause (same-cause none-left))))

@@ -18,7 +18,7 @@ use mathlib.Core.Path.{_≡_}
 use mathlib.Core.List.{List, [], _∷_, _++_}
 use mathlib.Core.Bool.{Bool, _||_}
 use Prim.Native.Nat.{ℕ, zero, suc, _*_}
-use lib.ListN.{length, take, drop}
+use lib.ListN.{length, take}
 use lib.Dec.{leb, ltb}
 pub use Rattle.book.specs.Basics.{over}
 use Rattle.book.specs.Causes.{Cause, no-record, short-work, short-list, firstNumber}

@@ -1,26 +1,29 @@
 -- The computed set of an expression is its relation.
 --   crossed-is, is-crossed, crossed-same
---                   the pairs that one step joins, by the letters of a set
---   cells-set       it is a set of pairs of records below n
---   cells-rel, rel-cells
---                   a cell is 1 exactly if the pair is in the relation
---   cells-is        a cell is 1 exactly if the pair has a chain; cells-has says "not 0" for 1
+--                         the pairs that one step joins, by the letters of a set
+--   crossed-set, zero-steps-set
+--                         one step, and none, are sets of pairs below n
+--   cells-set             the computed set is one of pairs of records below n
+--   cells-rel, rel-cells  a cell is 1 exactly if the pair is in the relation
+--   cells-is, cells-has   a cell is 1, or not 0, exactly if the pair has a chain
 -- Assumes nothing.
-use mathlib.Core.Path.{_≡_, refl, sym, ap, ap₂, _∙_, subst, fun-ext}
+use mathlib.Core.Path.{_≡_, refl, ap, ap₂, subst, fun-ext}
 use mathlib.Core.Logic.{_↔_, _⊎_, ⊎-elim}
 use mathlib.Core.Bool.{Bool, true, false}
-use Prim.Native.Nat.{ℕ, zero, suc, max, min, _≤_, _<_}
+use Prim.Native.Nat.{ℕ, zero, suc, max, _≤_, _<_}
 use native.Mathlib.Omega.{arith}
 use native.Mathlib.Decide.{decLt}
 use lib.Dec.{eqb}
 use borrow.Author.Tests.{eq-eqb, eqb-true}
 use Rattle.book.specs.Basics.{pick, bit}
 use Rattle.book.specs.Causes.{labels}
-use Rattle.k2.specs.PairSets.{Cells, IsSet, union, transpose, most, serves, product, OneOrMore, once as once-more, more, closure, diagonal}
-use Rattle.k2.specs.PairSetLaws.{one-of, bit-small, bit-on, on-bit, most-some, some-most, most-bit, most-none, union-set, product-set, transpose-set, closure-set, diagonal-set, product-middle, middle-product, closure-leads, leads-closure}
+use Rattle.k2.specs.PairSets.{Cells, IsSet, union, transpose, most, OneOrMore, once as once-more, more, closure, diagonal}
+use Rattle.k2.specs.PairSetLaws.{one-of, bit-small, bit-on, most-some, some-most, most-bit, union-set, product-set, transpose-set, closure-set, diagonal-set}
+use Rattle.k2.specs.PairSetLaws.{product-middle, middle-product, closure-leads, leads-closure}
 use Rattle.paths.specs.Expressions.{Letter, standsFor, Expr, symbol, group, inverse, star, plus, optional, alternative, sequence}
 use Rattle.paths.specs.Chains.{Graph, crossing, Has}
-use Rattle.paths.specs.Relations.{Rel, link, inside, swapped, left, right, joined, once, again, star-none, star-some, optional-none, optional-once, joins, crossedBy, zeroSteps, cells}
+use Rattle.paths.specs.Relations.{Rel, link, inside, swapped, left, right, joined, once, again, star-none, star-some, optional-none, optional-once, joins}
+use Rattle.paths.specs.Relations.{crossedBy, zeroSteps, cells}
 use Rattle.paths.specs.ChainLaws.{Inside, crossing-in, crossing-label, rel-in-use, rel-has}
 
 -- ---- one step
@@ -34,11 +37,6 @@ joins-on false p h = absurd (omega arith)
 
 on-joins : (t p : Bool) → t ≡ true → p ≡ true → pick t (bit p) 0 ≡ 1
 on-joins t p e f = rw (e, f)
-
-joins-none : (t p : Bool) → (p ≡ true → ⊥) → pick t (bit p) 0 ≡ 0
-joins-none true true h = absurd (h refl)
-joins-none true false h = refl
-joins-none false p h = refl
 
 module _ (g : Graph) (f : Letter → Bool) where
   -- the pairs joined by a step over the label l, in either sense
@@ -159,7 +157,8 @@ module _ (g : Graph) where
     unfolding union
     in-either-set a b x y h = one-of (a x y) (b x y) (omega arith)
 
-    or-none : (e : Expr) (a : Cells) (x y : ℕ) → a x y < 2 → (a x y ≡ 1 → Rel g e x y) → (g .inUse x ≡ true → Rel g e x x) → union a (zeroSteps g) x y ≡ 1 → Rel g e x y
+    or-none : (e : Expr) (a : Cells) (x y : ℕ) → a x y < 2 → (a x y ≡ 1 → Rel g e x y)
+        → (g .inUse x ≡ true → Rel g e x x) → union a (zeroSteps g) x y ≡ 1 → Rel g e x y
     or-none e a x y l f n h = ⊎-elim
         (λ p. f (omega arith))
         (λ p. let z = zero-steps x y p in subst (λ (v : ℕ). Rel g e x v) (z .1) (n (z .0)))

@@ -1,10 +1,10 @@
 -- A graph with its records renamed in their order: what the questions give is the same, renamed.
---   Maps f g h      f takes records in use of g to records in use of h, and links to links
---   Renames f r g h f and r rename to and fro, and f keeps the order
---   first-renamed   the first chain between two records is the earlier one renamed
---   pairs-renamed   so are the pairs that have a chain
+--   Maps f g h       f takes records in use of g to records in use of h, and links to links
+--   Renames f r g h  f and r rename to and fro, and f keeps the order
+--   first-renamed    the first chain between two records is the earlier one renamed
 --   reply-renamed, none-back
---                   and the reply to a chain question, none too; and none after is none before
+--                    so is the reply to a chain question, none too; and none after is none before
+--   pairs-renamed    so are the pairs that have a chain
 -- Assumes nothing.
 use mathlib.Core.Path.{_≡_, refl, sym, ap, ap₂, _∙_, subst}
 use mathlib.Core.List.{List, [], _∷_, map}
@@ -18,10 +18,11 @@ use Rattle.book.specs.Book.{Link, renamedLink}
 use Rattle.book.specs.ListLaws.{rises-least}
 use Rattle.k2.specs.PairSets.{pairWord}
 use Rattle.paths.specs.Expressions.{Letter, Expr}
-use Rattle.paths.specs.Chains.{Graph, Step, crossing, stepWord, Chain, stay, cross, spell, stepWords, Answers, Has, Before, same, smaller, alike, NotAfter, shorter, as-long, First, Reply, none, chain, ChainIs, no-chain, first-chain}
+use Rattle.paths.specs.Chains.{Graph, Step, crossing, stepWord, Chain, stay, cross, spell, stepWords, Answers, Has, Before, same, smaller, alike}
+use Rattle.paths.specs.Chains.{NotAfter, shorter, as-long, First, Reply, none, chain, ChainIs, no-chain, first-chain}
 use Rattle.paths.specs.Relations.{PairsAre}
 use Rattle.paths.specs.ChainLaws.{Inside, crossing-in}
-use Rattle.paths.specs.ChainOrder.{before-back}
+use Rattle.paths.specs.ChainOrderLaws.{before-back}
 use Rattle.paths.specs.Renaming.{renamedPair, renamedStep, renamedReply}
 
 pub record Maps (f : ℕ → ℕ) (g h : Graph) : Type 0 where
@@ -51,7 +52,8 @@ spell-renamed f (s ∷ ss) = ap (λ (w : List Letter). s .spelt ∷ w) (spell-re
 crossing-renamed : (f : ℕ → ℕ) (a : Letter) (x y : ℕ) → crossing a (f x) (f y) ≡ renamedLink f (crossing a x y)
 crossing-renamed f a x y = go (a .inverted)
   where
-    go : (b : Bool) → crossing (record { label = a .label; inverted = b }) (f x) (f y) ≡ renamedLink f (crossing (record { label = a .label; inverted = b }) x y)
+    go : (b : Bool) → crossing (record { label = a .label; inverted = b }) (f x) (f y)
+        ≡ renamedLink f (crossing (record { label = a .label; inverted = b }) x y)
     go true = refl
     go false = refl
 
@@ -109,7 +111,8 @@ module _ (f r : ℕ → ℕ) (g h : Graph) (R : Renames f r g h) (I : Inside g) 
   small′ x u = omega (arith, J .below x u)
 
   -- ---- the order of chains
-  before-renamed : {ss ts : List Step} → Reach g ss → Reach g ts → Before (stepWords ss) (stepWords ts) → Before (stepWords (renamed f ss)) (stepWords (renamed f ts))
+  before-renamed : {ss ts : List Step} → Reach g ss → Reach g ts
+      → Before (stepWords ss) (stepWords ts) → Before (stepWords (renamed f ss)) (stepWords (renamed f ts))
   unfolding renamed stepWords
   before-renamed nowhere nowhere b = same
   before-renamed nowhere (further v q) b = absurd (front-none b refl refl)
@@ -135,7 +138,8 @@ module _ (f r : ℕ → ℕ) (g h : Graph) (R : Renames f r g h) (I : Inside g) 
   length-renamed [] = refl
   length-renamed (s ∷ ss) = ap suc (length-renamed ss)
 
-  not-after-renamed : {ss ts : List Step} → Reach g ss → Reach g ts → NotAfter (stepWords ss) (stepWords ts) → NotAfter (stepWords (renamed f ss)) (stepWords (renamed f ts))
+  not-after-renamed : {ss ts : List Step} → Reach g ss → Reach g ts
+      → NotAfter (stepWords ss) (stepWords ts) → NotAfter (stepWords (renamed f ss)) (stepWords (renamed f ts))
   not-after-renamed {ss} {ts} p q (shorter l) = shorter (omega (arith, length-renamed ss, length-renamed ts))
   not-after-renamed {ss} {ts} p q (as-long e b) = as-long (length-renamed ss ∙ e ∙ sym (length-renamed ts)) (before-renamed p q b)
 
@@ -175,11 +179,13 @@ module _ (f r : ℕ → ℕ) (g h : Graph) (R : Renames f r g h) (I : Inside g) 
   pub none-back : (e : Expr) (x y : ℕ) → g .inUse x ≡ true → g .inUse y ≡ true → ChainIs h e (f x) (f y) none → ChainIs g e x y none
   none-back e x y u v (no-chain n) = no-chain (λ ss a. n (renamed f ss) (answers-renamed f g h (R .to) e x y ss a))
 
-  pub reply-renamed : (e : Expr) (x y : ℕ) → g .inUse x ≡ true → g .inUse y ≡ true → (t : Reply) → ChainIs g e x y t → ChainIs h e (f x) (f y) (renamedReply f t)
+  pub reply-renamed : (e : Expr) (x y : ℕ) → g .inUse x ≡ true → g .inUse y ≡ true
+      → (t : Reply) → ChainIs g e x y t → ChainIs h e (f x) (f y) (renamedReply f t)
   unfolding renamedReply
   reply-renamed e x y u v none (no-chain n) = no-chain (λ ts a. n (renamed r ts) (answers-back e x y ts u v a))
   reply-renamed e x y u v (chain ws) (first-chain ss q) =
-      subst (λ (l : List ℕ). ChainIs h e (f x) (f y) (chain l)) (words-renamed (chain-reach g I (q .answers .chain))) (first-chain (renamed f ss) (first-renamed e x y ss q))
+      subst (λ (l : List ℕ). ChainIs h e (f x) (f y) (chain l)) (words-renamed (chain-reach g I (q .answers .chain)))
+      (first-chain (renamed f ss) (first-renamed e x y ss q))
 
   -- ---- pairs
   parts : (w x y : ℕ) → y < 1024 → w ≡ pairWord x y → (w / 1024 ≡ x) × (w % 1024 ≡ y)
@@ -203,10 +209,12 @@ module _ (f r : ℕ → ℕ) (g h : Graph) (R : Renames f r g h) (I : Inside g) 
   in-map here = here
   in-map (there i) = there (in-map i)
 
-  rises-renamed : (k : List ℕ) (c c′ : ℕ) → Rises c k → ((w : ℕ) → In w k → InUse w) → ((w : ℕ) → In w k → c′ ≤ renamedPair f w) → Rises c′ (map (renamedPair f) k)
+  rises-renamed : (k : List ℕ) (c c′ : ℕ) → Rises c k → ((w : ℕ) → In w k → InUse w)
+      → ((w : ℕ) → In w k → c′ ≤ renamedPair f w) → Rises c′ (map (renamedPair f) k)
   rises-renamed [] c c′ q u b = ended
   rises-renamed (w ∷ k) c c′ (rises p q) u b =
-      rises (b w here) (rises-renamed k (suc w) (suc (renamedPair f w)) q (λ v i. u v (there i)) (λ v i. above w v (u w here) (u v (there i)) (rises-least q i)))
+      rises (b w here)
+      (rises-renamed k (suc w) (suc (renamedPair f w)) q (λ v i. u v (there i)) (λ v i. above w v (u w here) (u v (there i)) (rises-least q i)))
 
   pub pairs-renamed : (e : Expr) (l : List ℕ) → PairsAre g e l → PairsAre h e (map (renamedPair f) l)
   pairs-renamed e l p = record {
@@ -226,9 +234,14 @@ module _ (f r : ℕ → ℕ) (g h : Graph) (R : Renames f r g h) (I : Inside g) 
           let q = parts w (k .0) (k .1) (small (k .1) (k .3 .1 .ends)) (k .2) in
           (rw (q .0) (k .3 .1 .begins), rw (q .1) (k .3 .1 .ends))
 
-      go : (w : ℕ) (k : List ℕ) → In w (map (renamedPair f) k) → ((v : ℕ) → In v k → (x y : ℕ) × (v ≡ pairWord x y) × Has g e x y) → (x y : ℕ) × (w ≡ pairWord x y) × Has h e x y
+      go : (w : ℕ) (k : List ℕ) → In w (map (renamedPair f) k) → ((v : ℕ) → In v k → (x y : ℕ) × (v ≡ pairWord x y) × Has g e x y)
+          → (x y : ℕ) × (w ≡ pairWord x y) × Has h e x y
       go w (v ∷ k) here c =
           let d = c v here in
-          let q = parts v (d .0) (d .1) (small (d .1) (d .3 .1 .ends)) (d .2) in
-          (f (d .0), f (d .1), ap₂ (λ (a b : ℕ). pairWord (f a) (f b)) (q .0) (q .1), (renamed f (d .3 .0), answers-renamed f g h (R .to) e (d .0) (d .1) (d .3 .0) (d .3 .1)))
+          let q = parts v (d .0) (d .1) (small (d .1) (d .3 .1 .ends)) (d .2) in (
+            f (d .0),
+            f (d .1),
+            ap₂ (λ (a b : ℕ). pairWord (f a) (f b)) (q .0) (q .1),
+            (renamed f (d .3 .0), answers-renamed f g h (R .to) e (d .0) (d .1) (d .3 .0) (d .3 .1)),
+          )
       go w (v ∷ k) (there i) c = go w k i (λ u j. c u (there j))

@@ -1,11 +1,11 @@
 -- The verdict on a text, computed, and that it is the one right verdict.
---   verdict s       over 256 bytes first, then the grammar, then 63 letters and depth 8
---   verdict-right   it is right
---   verdict-only    and no other is
+--   verdict s      over 256 bytes first, then the grammar, then 63 letters and depth 8
+--   verdict-right  it is right
 --   verdict-long, verdict-none, verdict-more, verdict-letters, verdict-deep, verdict-accepted
---                   which verdict it is, by what the descent finds
---   InLimits s e    s is the text of e, within the limits
---   accepted-is     an accepted text is such
+--                  which verdict it is, by what the descent finds
+--   verdict-only   no other verdict is right
+--   InLimits s e   s is the text of e, within the limits
+--   accepted-is    an accepted text is such
 -- Assumes nothing.
 use mathlib.Core.Path.{_≡_, refl, sym, ap, _∙_}
 use mathlib.Core.Logic.{inl, inr, ⊎-elim}
@@ -21,9 +21,9 @@ use Rattle.book.specs.Causes.{maxBytes, maxLetters, maxDepth}
 use Rattle.paths.specs.Expressions.{Expr, letters, depth}
 use Rattle.paths.specs.Grammar.{alternatives, Is, Verdict, accepted, long, outside, large, Judged, over-bytes, no-syntax, over-limits, good}
 use Rattle.paths.specs.Descent.{Parse, got, fault, readAlternatives}
-use Rattle.paths.specs.DescentSound.{All, nothing, gives, By}
-use Rattle.paths.specs.DescentWhole.{alternatives-sound}
-use Rattle.paths.specs.DescentComplete.{whole}
+use Rattle.paths.specs.DescentSoundnessLaws.{All, nothing, gives, By}
+use Rattle.paths.specs.DescentEquationLaws.{alternatives-sound}
+use Rattle.paths.specs.DescentCompletenessLaws.{text-read}
 
 -- of an expression, by its size
 abbrev pub sized : Expr → Verdict
@@ -41,13 +41,14 @@ found (got e r) = ended e r
 unfoldable pub verdict : List ℕ → Verdict
 verdict s = pick (leb (length s) maxBytes) (found (readAlternatives s)) long
 
-sized-right : (s : List ℕ) (e : Expr) → length s ≤ maxBytes → Is alternatives s e → (b c : Bool) → leb (letters e) maxLetters ≡ b → leb (depth e) maxDepth ≡ c → Judged s (pick b (pick c (accepted e) large) large)
+sized-right : (s : List ℕ) (e : Expr) → length s ≤ maxBytes → Is alternatives s e → (b c : Bool)
+    → leb (letters e) maxLetters ≡ b → leb (depth e) maxDepth ≡ c → Judged s (pick b (pick c (accepted e) large) large)
 sized-right s e h d false c p q = over-limits h d (inl (leb-false (letters e) maxLetters p))
 sized-right s e h d true false p q = over-limits h d (inr (leb-false (depth e) maxDepth q))
 sized-right s e h d true true p q = good h d (leb-true (letters e) maxLetters p) (leb-true (depth e) maxDepth q)
 
 no-other : {x : Parse} (s : List ℕ) → readAlternatives s ≡ x → ((e : Expr) → x ≡ got e [] → ⊥) → (e : Expr) → Is alternatives s e → ⊥
-no-other s p n e d = n e (sym p ∙ whole d)
+no-other s p n e d = n e (sym p ∙ text-read d)
 
 ended-right : (s : List ℕ) (e : Expr) (r : List ℕ) → length s ≤ maxBytes → readAlternatives s ≡ got e r → By alternatives s e r → Judged s (ended e r)
 ended-right s e [] h p q = sized-right s e h (rw (q .2, append-nil) (q .1)) _ _ refl refl
@@ -85,18 +86,21 @@ verdict-letters s e h q k =
     let z : sized e ≡ large = rw (lt-leb (letters e) maxLetters k) in
     verdict-short s h ∙ ap found q ∙ z
 
-pub verdict-deep : (s : List ℕ) (e : Expr) → length s ≤ maxBytes → readAlternatives s ≡ got e [] → letters e ≤ maxLetters → maxDepth < depth e → verdict s ≡ large
+pub verdict-deep : (s : List ℕ) (e : Expr) → length s ≤ maxBytes → readAlternatives s ≡ got e []
+    → letters e ≤ maxLetters → maxDepth < depth e → verdict s ≡ large
 verdict-deep s e h q k d =
     let z : sized e ≡ large = rw (le-leb (letters e) maxLetters k, lt-leb (depth e) maxDepth d) in
     verdict-short s h ∙ ap found q ∙ z
 
-pub verdict-accepted : (s : List ℕ) (e : Expr) → length s ≤ maxBytes → readAlternatives s ≡ got e [] → letters e ≤ maxLetters → depth e ≤ maxDepth → verdict s ≡ accepted e
+pub verdict-accepted : (s : List ℕ) (e : Expr) → length s ≤ maxBytes → readAlternatives s ≡ got e []
+    → letters e ≤ maxLetters → depth e ≤ maxDepth → verdict s ≡ accepted e
 verdict-accepted s e h q k d =
     let z : sized e ≡ accepted e = rw (le-leb (letters e) maxLetters k, le-leb (depth e) maxDepth d) in
     verdict-short s h ∙ ap found q ∙ z
 
 -- and no other verdict is right
-none-reads : (s : List ℕ) (x : Parse) → length s ≤ maxBytes → ((e : Expr) → Is alternatives s e → ⊥) → readAlternatives s ≡ x → All (By alternatives s) x → outside ≡ verdict s
+none-reads : (s : List ℕ) (x : Parse) → length s ≤ maxBytes → ((e : Expr) → Is alternatives s e → ⊥)
+    → readAlternatives s ≡ x → All (By alternatives s) x → outside ≡ verdict s
 none-reads s x h n p nothing = sym (verdict-none s h p)
 none-reads s x h n p (gives {e} {r} q) = go r p q
   where
@@ -108,14 +112,14 @@ too-deep : (s : List ℕ) (e : Expr) → length s ≤ maxBytes → Is alternativ
 too-deep s e h d k = go (leb (letters e) maxLetters) refl
   where
     go : (b : Bool) → leb (letters e) maxLetters ≡ b → verdict s ≡ large
-    go true q = verdict-deep s e h (whole d) (leb-true (letters e) maxLetters q) k
-    go false q = verdict-letters s e h (whole d) (leb-false (letters e) maxLetters q)
+    go true q = verdict-deep s e h (text-read d) (leb-true (letters e) maxLetters q) k
+    go false q = verdict-letters s e h (text-read d) (leb-false (letters e) maxLetters q)
 
 pub verdict-only : {s : List ℕ} {v : Verdict} → Judged s v → v ≡ verdict s
 verdict-only {s} (over-bytes h) = sym (verdict-long s h)
 verdict-only {s} (no-syntax h n) = none-reads s (readAlternatives s) h n refl (alternatives-sound s)
-verdict-only {s} (over-limits {e} h d o) = sym (⊎-elim (λ k. verdict-letters s e h (whole d) k) (λ k. too-deep s e h d k) o)
-verdict-only {s} (good {e} h d l k) = sym (verdict-accepted s e h (whole d) l k)
+verdict-only {s} (over-limits {e} h d o) = sym (⊎-elim (λ k. verdict-letters s e h (text-read d) k) (λ k. too-deep s e h d k) o)
+verdict-only {s} (good {e} h d l k) = sym (verdict-accepted s e h (text-read d) l k)
 
 -- what is accepted
 pub record InLimits (s : List ℕ) (e : Expr) : Type 0 where

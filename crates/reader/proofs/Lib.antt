@@ -1,4 +1,4 @@
-pub mod Steps
+pub mod StepLaws
 pub mod SymbolLaws
-pub mod Joining
-pub mod Answers
+pub mod JoinLaws
+pub mod AnswerLaws

@@ -1,14 +1,15 @@
 -- The laws of reading a symbol: a letter, or a negated set with its members.
 --   one-shl-32, label-letter, label-other, IsLetter, letter-there, no-letter-there
---                            the label of a byte as a set
+--                  the label of a byte as a set
 --   marks-none, marks-same, marks-other, others-are
---                            the sets of the members read so far, and what the negated set stands for
+--                  the sets of the members read so far, and what the negated set stands for
 --   hat-member, hat-none, plain-member, plain-none, member-of, no-member-of
---                            a member, or none
+--                  a member, or none
 --   Setting, set-starts, set-again, set-ends, set-fails, set-other
---                            the loop over the members of a set
+--                  the loop over the members of a set
+--   set-reaches    the loop stays within the text and the sets
 --   symbol-letter, symbol-none, symbol-negated, negated-set, negated-member, negated-none
---                            what the descent reads where no group begins, and after a !
+--                  what the descent reads where no group begins, and after a !
 -- Assumes nothing.
 use mathlib.Core.Path.{_≡_, refl, sym, ap, ap₂, _∙_, subst}
 use mathlib.Core.Logic.{_⊎_, ⊎-elim}
@@ -30,15 +31,15 @@ use Rattle.k2.specs.DigitLaws.{digit-lt, digit-none, digit-or, digit-not, digit
 use Rattle.paths.specs.Expressions.{Letter, letter, noneOf, sameSense, sameLetter, hasSense, standsFor, symbol}
 use Rattle.paths.specs.Grammar.{bar, hat, bang, open-group, close-group, letter-a}
 use Rattle.paths.specs.Descent.{Parse, got, fault, firstByte, rest, isLetter, letterOf, readMember, membersIn, gotNegated, readNegated, readAtom}
-use Rattle.paths.specs.DescentWhole.{if-true, if-false, atom-letter, atom-negated, atom-fault}
+use Rattle.paths.specs.DescentEquationLaws.{if-true, if-false, atom-letter, atom-negated, atom-fault}
 use Rattle.reader.specs.declared.symbols.Letters.{Letters}
 use Rattle.reader.specs.declared.symbols.Symbol.{Symbol as Symbol-read}
 use Rattle.reader.specs.declared.symbols.Symbol.the-variants.{Read, Missing}
-use Rattle.reader.specs.Letters.{labelSet, forwardOf, againstOf}
+use Rattle.reader.specs.Letters.{labelSet}
 use Rattle.reader.specs.LetterLaws.{label-set-tell, letter-forward, letter-against}
 use Rattle.reader.specs.Code.{label-sets}
-use Rattle.reader.specs.Progress.{StandsFor, Stands, missing, stands, labelAt, Marks, Marked, MemberIs, MemberAt, no-member, a-member, othersOf}
-use Rattle.reader.proofs.Steps.{rest-drop, there}
+use Rattle.reader.specs.Progress.{Stands, missing, stands, labelAt, Marks, Marked, MemberIs, MemberAt, no-member, a-member, othersOf}
+use Rattle.reader.proofs.StepLaws.{rest-drop, there}
 
 -- ---- the label of a byte as a set
 -- `1 << r` at a width of 32
@@ -46,7 +47,9 @@ pub one-shl-32 : (r : ℕ) → r < 32 → (1 * 2 ^ r) % 2 ^ 32 ≡ 2 ^ r
 one-shl-32 r h = shl-exact 1 r 32 (lit< tt) (omega arith) ∙ one-mul (2 ^ r)
 
 not-letter : (c : ℕ) → (c < letter-a) ⊎ (letter-a + labels ≤ c) → isLetter c ≡ false
-not-letter c h = ⊎-elim (λ k. ap (λ (b : Bool). b && ltb c (letter-a + labels)) (lt-leb letter-a c k)) (λ k. go (leb letter-a c) (ltb c (letter-a + labels)) (le-ltb c (letter-a + labels) k)) h
+not-letter c h =
+    ⊎-elim (λ k. ap (λ (b : Bool). b && ltb c (letter-a + labels)) (lt-leb letter-a c k))
+    (λ k. go (leb letter-a c) (ltb c (letter-a + labels)) (le-ltb c (letter-a + labels) k)) h
   where
     go : (a b : Bool) → b ≡ false → (a && b) ≡ false
     go true b e = e
@@ -141,11 +144,17 @@ pub marks-none : (b : Bool) → Marks b [] 0
 unfolding has hasSense
 marks-none b = record { below = omega arith; marked = λ l h. digit-none l; some = refl }
 
-pub marks-same : {b : Bool} {w : List Letter} {x : ℕ} → Marks b w x → (k : ℕ) → k < labels → Marks b (w ++ (record { label = k; inverted = b } ∷ [])) (bitOr x (2 ^ k))
+pub marks-same : {b : Bool} {w : List Letter} {x : ℕ} → Marks b w x → (k : ℕ)
+    → k < labels → Marks b (w ++ (record { label = k; inverted = b } ∷ [])) (bitOr x (2 ^ k))
 marks-same {b} {w} {x} M k h = record {
   below = or-lt labels x (2 ^ k) (M .below) (pow-lt h);
-  marked = λ l g. digit-or x (2 ^ k) l ∙ ap₂ max (M .marked l g) (digit-pow k l ∙ at l) ∙ max-or (has sameLetter (record { label = l; inverted = b }) w) (sameLetter (record { label = k; inverted = b }) (record { label = l; inverted = b })) ∙ ap bit (sym (has-more (record { label = l; inverted = b }) w (record { label = k; inverted = b })));
-  some = sense-more b w (record { label = k; inverted = b }) ∙ ap (λ (t : Bool). hasSense b w || t) (same-sense b) ∙ or-true (hasSense b w) ∙ sym (lt-ltb 0 (bitOr x (2 ^ k)) (some-digit (bitOr x (2 ^ k)) k one));
+  marked =
+      λ l g. digit-or x (2 ^ k) l ∙ ap₂ max (M .marked l g) (digit-pow k l ∙ at l)
+      ∙ max-or (has sameLetter (record { label = l; inverted = b }) w) (sameLetter (record { label = k; inverted = b }) (record { label = l; inverted = b }))
+      ∙ ap bit (sym (has-more (record { label = l; inverted = b }) w (record { label = k; inverted = b })));
+  some =
+      sense-more b w (record { label = k; inverted = b }) ∙ ap (λ (t : Bool). hasSense b w || t) (same-sense b)
+      ∙ or-true (hasSense b w) ∙ sym (lt-ltb 0 (bitOr x (2 ^ k)) (some-digit (bitOr x (2 ^ k)) k one));
 }
   where
     at : (l : ℕ) → pick (eqb l k) 1 0 ≡ bit (sameLetter (record { label = k; inverted = b }) (record { label = l; inverted = b }))
@@ -157,7 +166,11 @@ marks-same {b} {w} {x} M k h = record {
 pub marks-other : {b : Bool} {w : List Letter} {x : ℕ} → Marks b w x → (k : ℕ) → Marks b (w ++ (record { label = k; inverted = not b } ∷ [])) x
 marks-other {b} {w} {x} M k = record {
   below = M .below;
-  marked = λ l g. M .marked l g ∙ ap bit (sym (has-more (record { label = l; inverted = b }) w (record { label = k; inverted = not b }) ∙ ap (λ (t : Bool). has sameLetter (record { label = l; inverted = b }) w || t) (none l) ∙ or-false (has sameLetter (record { label = l; inverted = b }) w)));
+  marked =
+      λ l g. M .marked l g
+      ∙ ap bit (sym (has-more (record { label = l; inverted = b }) w (record { label = k; inverted = not b })
+      ∙ ap (λ (t : Bool). has sameLetter (record { label = l; inverted = b }) w || t) (none l)
+      ∙ or-false (has sameLetter (record { label = l; inverted = b }) w)));
   some = sense-more b w (record { label = k; inverted = not b }) ∙ ap (λ (t : Bool). hasSense b w || t) (other-sense b) ∙ or-false (hasSense b w) ∙ M .some;
 }
   where
@@ -180,10 +193,12 @@ others-are {b} {w} {x} M = go (eqb x 0) refl
     rest-of d true e = rw e
     rest-of d false e = rw e
 
-    go : (t : Bool) → eqb x 0 ≡ t → labelSet (λ l. ltb l labels && (hasSense b w && not (has sameLetter (record { label = l; inverted = b }) w))) ≡ pick t 0 ((label-sets - 1) - x)
+    go : (t : Bool) → eqb x 0 ≡ t → labelSet (λ l. ltb l labels && (hasSense b w && not (has sameLetter (record { label = l; inverted = b }) w)))
+        ≡ pick t 0 ((label-sets - 1) - x)
     go true e =
         let z : hasSense b w ≡ false = M .some ∙ le-ltb 0 x (omega (arith, eqb-true x 0 e)) in
-        label-set-tell _ 0 (pow-pos labels) (λ l h. digit-none l ∙ none (ltb l labels) (not (has sameLetter (record { label = l; inverted = b }) w)) ∙ ap (λ (t : Bool). bit (ltb l labels && (t && not (has sameLetter (record { label = l; inverted = b }) w)))) (sym z))
+        label-set-tell _ 0 (pow-pos labels) (λ l h. digit-none l ∙ none (ltb l labels) (not (has sameLetter (record { label = l; inverted = b }) w))
+        ∙ ap (λ (t : Bool). bit (ltb l labels && (t && not (has sameLetter (record { label = l; inverted = b }) w)))) (sym z))
     go false e =
         let n = eqb-false x 0 e in
         let z : hasSense b w ≡ true = M .some ∙ lt-ltb 0 x (omega (arith, n)) in
@@ -208,7 +223,9 @@ module _ {s : List ℕ} {q : Letters} {w : List Letter} (M : Marked w q) where
       })
 
   pub plain-none : (firstByte (drop (q .at) s) ≡ hat → ⊥) → labelAt (firstByte (drop (q .at) s)) ≡ 0 → MemberAt s (q .at) w Missing
-  plain-none v e = no-member (λ k. if-false (eqb (firstByte (drop (q .at) s)) hat) _ _ (ne-eqb _ hat v) ∙ if-false (isLetter (firstByte (drop (q .at) s))) _ _ (no-letter-there (firstByte (drop (q .at) s)) e))
+  plain-none v e =
+      no-member (λ k. if-false (eqb (firstByte (drop (q .at) s)) hat) _ _ (ne-eqb _ hat v)
+      ∙ if-false (isLetter (firstByte (drop (q .at) s))) _ _ (no-letter-there (firstByte (drop (q .at) s)) e))
 
   pub hat-member : firstByte (drop (q .at) s) ≡ hat → {y : ℕ} → y ≡ labelAt (firstByte (drop (q .at + 1) s)) → (y ≡ 0 → ⊥)
       → MemberAt s (q .at) w (Read (record { at = q .at + 2; forward = q .forward; against = bitOr (q .against) y }))
@@ -227,7 +244,10 @@ module _ {s : List ℕ} {q : Letters} {w : List Letter} (M : Marked w q) where
       })
 
   pub hat-none : firstByte (drop (q .at) s) ≡ hat → labelAt (firstByte (drop (q .at + 1) s)) ≡ 0 → MemberAt s (q .at) w Missing
-  hat-none v e = no-member (λ k. if-true (eqb (firstByte (drop (q .at) s)) hat) _ _ (eq-eqb _ hat v) ∙ if-false (isLetter (firstByte (rest (drop (q .at) s)))) _ _ (ap (λ (l : List ℕ). isLetter (firstByte l)) (rest-drop s (q .at)) ∙ no-letter-there (firstByte (drop (q .at + 1) s)) e))
+  hat-none v e =
+      no-member (λ k. if-true (eqb (firstByte (drop (q .at) s)) hat) _ _ (eq-eqb _ hat v)
+      ∙ if-false (isLetter (firstByte (rest (drop (q .at) s)))) _ _
+      (ap (λ (l : List ℕ). isLetter (firstByte l)) (rest-drop s (q .at)) ∙ no-letter-there (firstByte (drop (q .at + 1) s)) e))
 
 -- by what `member` answered
 abbrev Answered : List ℕ → ℕ → List Letter → Symbol-read → Type 0
@@ -241,7 +261,8 @@ answered (a-member a h) = (a, h)
 pub member-of : {s : List ℕ} {at : ℕ} {w : List Letter} {r : Symbol-read} {q : Letters} → r ≡ Read q → MemberAt s at w r → (a : Letter) × MemberIs s at w a q
 member-of {s} {at} {w} e h = subst (Answered s at w) e (answered h)
 
-pub no-member-of : {s : List ℕ} {at : ℕ} {w : List Letter} {r : Symbol-read} → r ≡ Missing → MemberAt s at w r → (k : Letter → List ℕ → Parse) → readMember k (drop at s) ≡ fault
+pub no-member-of : {s : List ℕ} {at : ℕ} {w : List Letter} {r : Symbol-read} → r ≡ Missing
+    → MemberAt s at w r → (k : Letter → List ℕ → Parse) → readMember k (drop at s) ≡ fault
 no-member-of {s} {at} {w} e h = subst (Answered s at w) e (answered h)
 
 -- ---- the members of a set
@@ -259,7 +280,16 @@ pub record Setting (s : List ℕ) (at : ℕ) (q : Letters) : Type 0 where
   pub marks : Marked w q
 
 pub set-starts : (s : List ℕ) (at : ℕ) → at ≤ length s → Setting s at (record { at = at; forward = 0; against = 0 })
-set-starts s at h = record { w = []; f = length (drop at s) + 1; is = refl; enough = omega (arith, length-drop at s); past = omega arith; inside = h; marks = (marks-none false, marks-none true) }
+set-starts s at h =
+    record {
+      w = [];
+      f = length (drop at s) + 1;
+      is = refl;
+      enough = omega (arith, length-drop at s);
+      past = omega arith;
+      inside = h;
+      marks = (marks-none false, marks-none true);
+    }
 
 -- what is done after the members w
 abbrev after-members : ℕ → List Letter → List ℕ → Parse
@@ -306,19 +336,23 @@ module _ {s : List ℕ} {at : ℕ} {before : Letters} (i : Setting s at before) 
         record {
           w = i .w ++ (m .0 ∷ []);
           f = more .f;
-          is = goes ∙ if-true (eqb (firstByte (drop (q .at) s)) bar) _ _ (eq-eqb _ bar v) ∙ ap (membersIn (more .f) (i .w ++ (m .0 ∷ []))) (rest-drop s (q .at));
+          is =
+              goes ∙ if-true (eqb (firstByte (drop (q .at) s)) bar) _ _ (eq-eqb _ bar v) ∙ ap (membersIn (more .f) (i .w ++ (m .0 ∷ []))) (rest-drop s (q .at));
           enough = omega (arith, more .enough, m .1 .past);
           past = omega (arith, m .1 .past, i .past);
           inside = omega arith;
           marks = m .1 .marks;
         }
 
-    pub set-ends : firstByte (drop (q .at) s) ≡ close-group → {y z : ℕ} → y ≡ othersOf (q .forward) → z ≡ othersOf (q .against) → Stands s at (membersOf s at) (Read (record { at = q .at + 1; forward = y; against = z }))
+    pub set-ends : firstByte (drop (q .at) s) ≡ close-group → {y z : ℕ} → y ≡ othersOf (q .forward)
+        → z ≡ othersOf (q .against) → Stands s at (membersOf s at) (Read (record { at = q .at + 1; forward = y; against = z }))
     set-ends v {y} {z} ey ez =
         let u = there s (q .at) close-group v (omega arith) in
         let c : ℕ = firstByte (drop (q .at) s) in
         stands {q = record { at = q .at + 1; forward = y; against = z }} (noneOf (i .w ++ (m .0 ∷ []))) (record {
-          is = goes ∙ if-false (eqb c bar) _ _ (ne-eqb c bar (λ o. omega arith)) ∙ if-true (eqb c close-group) _ _ (eq-eqb c close-group v) ∙ ap (got (symbol (noneOf (i .w ++ (m .0 ∷ []))))) (rest-drop s (q .at));
+          is =
+              goes ∙ if-false (eqb c bar) _ _ (ne-eqb c bar (λ o. omega arith)) ∙ if-true (eqb c close-group) _ _ (eq-eqb c close-group v)
+              ∙ ap (got (symbol (noneOf (i .w ++ (m .0 ∷ []))))) (rest-drop s (q .at));
           past = omega (arith, m .1 .past, i .past);
           inside = omega arith;
           forward = ey ∙ sym (others-are (m .1 .marks .0));
@@ -326,22 +360,27 @@ module _ {s : List ℕ} {at : ℕ} {before : Letters} (i : Setting s at before) 
         })
 
     pub set-other : (firstByte (drop (q .at) s) ≡ close-group → ⊥) → (firstByte (drop (q .at) s) ≡ bar → ⊥) → membersOf s at ≡ fault
-    set-other v u = goes ∙ if-false (eqb (firstByte (drop (q .at) s)) bar) _ _ (ne-eqb _ bar u) ∙ if-false (eqb (firstByte (drop (q .at) s)) close-group) _ _ (ne-eqb _ close-group v)
+    set-other v u =
+        goes ∙ if-false (eqb (firstByte (drop (q .at) s)) bar) _ _ (ne-eqb _ bar u)
+        ∙ if-false (eqb (firstByte (drop (q .at) s)) close-group) _ _ (ne-eqb _ close-group v)
 
 -- ---- after a !
 -- told from earlier on
 earlier : {s : List ℕ} {at at′ : ℕ} {x y : Parse} {r : Symbol-read} → at ≤ at′ → x ≡ y → Stands s at′ y r → Stands s at x r
 earlier h e (missing k) = missing (e ∙ k)
-earlier h e (stands {q} y k) = stands {q = q} y (record { is = e ∙ k .is; past = omega (arith, k .past); inside = k .inside; forward = k .forward; against = k .against })
+earlier h e (stands {q} y k) =
+    stands {q = q} y (record { is = e ∙ k .is; past = omega (arith, k .past); inside = k .inside; forward = k .forward; against = k .against })
 
-pub negated-set : {s : List ℕ} {at : ℕ} {r : Symbol-read} → firstByte (drop at s) ≡ open-group → Stands s (at + 1) (membersOf s (at + 1)) r → Stands s at (readNegated (drop at s)) r
+pub negated-set : {s : List ℕ} {at : ℕ} {r : Symbol-read} → firstByte (drop at s) ≡ open-group
+    → Stands s (at + 1) (membersOf s (at + 1)) r → Stands s at (readNegated (drop at s)) r
 negated-set {s} {at} v h =
     let y = there s at open-group v (omega arith) in
     let long : length (drop at s) ≡ length (drop (at + 1) s) + 1 = omega (arith, length-drop at s, length-drop (at + 1) s) in
     earlier (omega arith)
     (if-true (eqb (firstByte (drop at s)) open-group) _ _ (eq-eqb _ open-group v) ∙ ap₂ (λ (f : ℕ) (l : List ℕ). membersIn f [] l) long (rest-drop s at)) h
 
-pub negated-member : {s : List ℕ} {at : ℕ} {r : Symbol-read} {q : Letters} → (firstByte (drop at s) ≡ open-group → ⊥) → r ≡ Read q → MemberAt s at [] r → {y z : ℕ} → y ≡ othersOf (q .forward) → z ≡ othersOf (q .against)
+pub negated-member : {s : List ℕ} {at : ℕ} {r : Symbol-read} {q : Letters} → (firstByte (drop at s) ≡ open-group → ⊥)
+    → r ≡ Read q → MemberAt s at [] r → {y z : ℕ} → y ≡ othersOf (q .forward) → z ≡ othersOf (q .against)
     → Stands s at (readNegated (drop at s)) (Read (record { at = q .at; forward = y; against = z }))
 negated-member {s} {at} {q = q} v e h {y} {z} ey ez =
     let m = member-of e h in
@@ -353,17 +392,20 @@ negated-member {s} {at} {q = q} v e h {y} {z} ey ez =
       against = ez ∙ sym (others-are (m .1 .marks .1));
     })
 
-pub negated-none : {s : List ℕ} {at : ℕ} {r : Symbol-read} → (firstByte (drop at s) ≡ open-group → ⊥) → r ≡ Missing → MemberAt s at [] r → Stands s at (readNegated (drop at s)) Missing
+pub negated-none : {s : List ℕ} {at : ℕ} {r : Symbol-read} → (firstByte (drop at s) ≡ open-group → ⊥)
+    → r ≡ Missing → MemberAt s at [] r → Stands s at (readNegated (drop at s)) Missing
 negated-none {s} {at} v e h = missing (if-false (eqb (firstByte (drop at s)) open-group) _ _ (ne-eqb _ open-group v) ∙ no-member-of e h gotNegated)
 
 -- ---- where no group begins
-pub symbol-negated : {s : List ℕ} {at : ℕ} {r : Symbol-read} → firstByte (drop at s) ≡ bang → Stands s (at + 1) (readNegated (drop (at + 1) s)) r → Stands s at (readAtom (drop at s)) r
+pub symbol-negated : {s : List ℕ} {at : ℕ} {r : Symbol-read} → firstByte (drop at s) ≡ bang
+    → Stands s (at + 1) (readNegated (drop (at + 1) s)) r → Stands s at (readAtom (drop at s)) r
 symbol-negated {s} {at} v h =
     let c : ℕ = firstByte (drop at s) in
     let letterless : isLetter c ≡ false = ap isLetter v in
     earlier (omega arith) (atom-negated (drop at s) (ne-eqb c open-group (λ w. omega arith)) letterless (eq-eqb c bang v) ∙ ap readNegated (rest-drop s at)) h
 
-pub symbol-letter : {s : List ℕ} {at : ℕ} {y : ℕ} → y ≡ labelAt (firstByte (drop at s)) → (y ≡ 0 → ⊥) → Stands s at (readAtom (drop at s)) (Read (record { at = at + 1; forward = y; against = 0 }))
+pub symbol-letter : {s : List ℕ} {at : ℕ} {y : ℕ} → y ≡ labelAt (firstByte (drop at s)) → (y ≡ 0 → ⊥)
+    → Stands s at (readAtom (drop at s)) (Read (record { at = at + 1; forward = y; against = 0 }))
 symbol-letter {s} {at} {y} e n =
     let c : ℕ = firstByte (drop at s) in
     let i = letter-there c (λ z. n (e ∙ z)) in
@@ -376,5 +418,6 @@ symbol-letter {s} {at} {y} e n =
       against = sym (letter-against (c - letter-a));
     })
 
-pub symbol-none : {s : List ℕ} {at : ℕ} → (firstByte (drop at s) ≡ open-group → ⊥) → (firstByte (drop at s) ≡ bang → ⊥) → labelAt (firstByte (drop at s)) ≡ 0 → Stands s at (readAtom (drop at s)) Missing
+pub symbol-none : {s : List ℕ} {at : ℕ} → (firstByte (drop at s) ≡ open-group → ⊥)
+    → (firstByte (drop at s) ≡ bang → ⊥) → labelAt (firstByte (drop at s)) ≡ 0 → Stands s at (readAtom (drop at s)) Missing
 symbol-none {s} {at} v u e = missing (atom-fault (drop at s) (ne-eqb _ open-group v) (no-letter-there (firstByte (drop at s)) e) (ne-eqb _ bang u))

@@ -3,28 +3,29 @@
 --   letters-number  and no number below the first symbol's is any
 --   run-code        run on a stack of any kind of value, it puts the expression's value on top
 --   runs-code       no number lacks an operand, and at most 2 × depth + 3 values are on the stack at once, besides those that were there
---   few-places      the same of the stack after i numbers: 2 × depth + 3 places are enough
---   enough-operands after i numbers the stack has the operands of the next
 --   letters-code, code-short
 --                   a code is as long as it has letters at least, and as the text at most
 -- Assumes nothing.
 use mathlib.Core.Path.{_≡_, refl, ap, ap₂, _∙_}
 use mathlib.Core.List.{List, [], _∷_, _++_}
 use mathlib.Core.Bool.{Bool, true, false}
-use Prim.Native.Nat.{ℕ, zero, suc, _+_, _-_, _*_, _/_, _%_, _^_, _<_, _≤_}
+use Prim.Native.Nat.{ℕ, _+_, _-_, _*_, _/_, _%_, _<_, _≤_}
 use native.Mathlib.Omega.{arith}
-use lib.ListN.{length, take, getD, length-append}
+use lib.ListN.{length, length-append}
 use lib.Dec.{eqb, ltb}
 use borrow.Author.Tests.{ne-eqb, le-ltb, ltb-false}
 use Rattle.book.specs.Basics.{pick}
-use Rattle.book.specs.Causes.{labels}
-use Rattle.paths.specs.Expressions.{Symbol, letter, noneOf, standsFor, Expr, symbol, group, inverse, star, plus, optional, alternative, sequence, letters, depth}
-use Rattle.paths.specs.Grammar.{Rule, alternatives, parts, part, marked, atom, Is, one-alternative, more-alternatives, one-part, more-parts, plain, inverted, bare, with-star, with-plus, with-optional, is-letter, is-negated, is-set, is-group, bar, slash, asterisk, plus-sign, question-mark, close-group}
+use Rattle.paths.specs.Expressions.{Symbol, letter, noneOf, standsFor, Expr, symbol, group, inverse, star, plus, optional, alternative, sequence, letters}
+use Rattle.paths.specs.Expressions.{depth}
+use Rattle.paths.specs.Grammar.{Rule, alternatives, parts, part, marked, atom, Is, one-alternative, more-alternatives, one-part, more-parts, plain, inverted}
+use Rattle.paths.specs.Grammar.{bare, with-star, with-plus, with-optional, is-letter, is-negated, is-set, is-group, bar, slash, asterisk, plus-sign}
+use Rattle.paths.specs.Grammar.{question-mark, close-group}
 use Rattle.reader.specs.declared.items.Item.{Item}
 use Rattle.reader.specs.declared.items.Item.the-variants.{Letters}
 use Rattle.reader.specs.Letters.{forwardOf, againstOf}
 use Rattle.reader.specs.LetterLaws.{label-set-lt}
-use Rattle.reader.specs.Code.{op-inverse, op-star, op-plus, op-optional, op-alternative, op-sequence, first-letters, label-sets, lettersNumber, itemOf, code, Algebra, value, does, run}
+use Rattle.reader.specs.Code.{op-inverse, op-star, op-plus, op-optional, op-alternative, op-sequence, first-letters, label-sets, lettersNumber, itemOf}
+use Rattle.reader.specs.Code.{code, Algebra, value, does, run}
 use Rattle.reader.specs.Running.{operands, Runs, ended, next}
 
 -- places that a rule's expression needs besides two for each group around it
@@ -57,7 +58,8 @@ item-letters forward against h g =
     (ap₂ Letters (p .0) (p .1))
 
 -- by the tests in turn
-no-letters : (b : Bool) {x y : Item} {forward against : ℕ} → pick b x y ≡ Letters forward against → (x ≡ Letters forward against → ⊥) → (b ≡ false) × (y ≡ Letters forward against)
+no-letters : (b : Bool) {x y : Item} {forward against : ℕ} → pick b x y ≡ Letters forward against
+    → (x ≡ Letters forward against → ⊥) → (b ≡ false) × (y ≡ Letters forward against)
 no-letters true h n = absurd (n h)
 no-letters false h n = (refl, h)
 
@@ -93,7 +95,8 @@ module _ {D : Type 0} (A : Algebra D) where
   unfolding run
   run-one c i st v h = run-append c (i ∷ []) st ∙ ap (does A (itemOf i)) h
 
-  run-two : (c c′ : List ℕ) (i : ℕ) (st : List D) (v w : D) → run A c st ≡ v ∷ st → run A c′ (v ∷ st) ≡ w ∷ v ∷ st → run A ((c ++ c′) ++ (i ∷ [])) st ≡ does A (itemOf i) (w ∷ v ∷ st)
+  run-two : (c c′ : List ℕ) (i : ℕ) (st : List D) (v w : D) → run A c st ≡ v ∷ st
+      → run A c′ (v ∷ st) ≡ w ∷ v ∷ st → run A ((c ++ c′) ++ (i ∷ [])) st ≡ does A (itemOf i) (w ∷ v ∷ st)
   unfolding run
   run-two c c′ i st v w h g = run-append (c ++ c′) (i ∷ []) st ∙ ap (does A (itemOf i)) (run-append c c′ st ∙ ap (run A c′) h ∙ g)
 
@@ -124,11 +127,13 @@ module _ {D : Type 0} (A : Algebra D) where
   runs-one : {k : ℕ} (c : List ℕ) (i : ℕ) (st : List D) (v : D) → run A c st ≡ v ∷ st → Runs A k c st → Runs A k (i ∷ []) (v ∷ st) → Runs A k (c ++ (i ∷ [])) st
   runs-one c i st v h r q = runs-append (i ∷ []) r (rw h q)
 
-  runs-two : {k : ℕ} (c c′ : List ℕ) (i : ℕ) (st : List D) (v w : D) → run A c st ≡ v ∷ st → run A c′ (v ∷ st) ≡ w ∷ v ∷ st → Runs A k c st → Runs A k c′ (v ∷ st) → Runs A k (i ∷ []) (w ∷ v ∷ st) → Runs A k ((c ++ c′) ++ (i ∷ [])) st
+  runs-two : {k : ℕ} (c c′ : List ℕ) (i : ℕ) (st : List D) (v w : D) → run A c st ≡ v ∷ st → run A c′ (v ∷ st) ≡ w ∷ v ∷ st
+      → Runs A k c st → Runs A k c′ (v ∷ st) → Runs A k (i ∷ []) (w ∷ v ∷ st) → Runs A k ((c ++ c′) ++ (i ∷ [])) st
   runs-two c c′ i st v w h g r r′ q = runs-append (i ∷ []) (runs-append c′ r (rw h r′)) (rw (run-append c c′ st, h, g) q)
 
   -- one number with its operands on the stack
-  runs-number : (k i : ℕ) (st st′ : List D) (v : D) → does A (itemOf i) st ≡ v ∷ st′ → operands (itemOf i) ≤ length st → length st ≤ k → length st′ < k → Runs A k (i ∷ []) st
+  runs-number : (k i : ℕ) (st st′ : List D) (v : D) → does A (itemOf i) st ≡ v ∷ st′
+      → operands (itemOf i) ≤ length st → length st ≤ k → length st′ < k → Runs A k (i ∷ []) st
   runs-number k i st st′ v h b c d = next {c = []} {st = st} b c (rw h (ended {st = v ∷ st′} (omega arith)))
 
   runs-symbol : (k : ℕ) (st : List D) (s : Symbol) → length st < k → Runs A k (code (symbol s)) st
@@ -158,41 +163,25 @@ module _ {D : Type 0} (A : Algebra D) where
   runs-code (plain d) k st h = runs-code d k st h
   runs-code (inverted {e = e} d) k st h =
       let v : D = value A e in
-      runs-one (code e) op-inverse st v (run-code d st) (runs-code d k st h) (runs-number k op-inverse (v ∷ st) st (A .inverted v) refl (omega arith) (omega arith) (omega arith))
+      runs-one (code e) op-inverse st v (run-code d st) (runs-code d k st h)
+      (runs-number k op-inverse (v ∷ st) st (A .inverted v) refl (omega arith) (omega arith) (omega arith))
   runs-code (bare d) k st h = runs-code d k st h
   runs-code (with-star {e = e} d) k st h =
       let v : D = value A e in
-      runs-one (code e) op-star st v (run-code d st) (runs-code d k st h) (runs-number k op-star (v ∷ st) st (A .starred v) refl (omega arith) (omega arith) (omega arith))
+      runs-one (code e) op-star st v (run-code d st) (runs-code d k st h)
+      (runs-number k op-star (v ∷ st) st (A .starred v) refl (omega arith) (omega arith) (omega arith))
   runs-code (with-plus {e = e} d) k st h =
       let v : D = value A e in
-      runs-one (code e) op-plus st v (run-code d st) (runs-code d k st h) (runs-number k op-plus (v ∷ st) st (A .repeated v) refl (omega arith) (omega arith) (omega arith))
+      runs-one (code e) op-plus st v (run-code d st) (runs-code d k st h)
+      (runs-number k op-plus (v ∷ st) st (A .repeated v) refl (omega arith) (omega arith) (omega arith))
   runs-code (with-optional {e = e} d) k st h =
       let v : D = value A e in
-      runs-one (code e) op-optional st v (run-code d st) (runs-code d k st h) (runs-number k op-optional (v ∷ st) st (A .maybe v) refl (omega arith) (omega arith) (omega arith))
+      runs-one (code e) op-optional st v (run-code d st) (runs-code d k st h)
+      (runs-number k op-optional (v ∷ st) st (A .maybe v) refl (omega arith) (omega arith) (omega arith))
   runs-code (is-letter {k = j} b) k st h = runs-symbol k st (letter j) (omega arith)
   runs-code (is-negated {a = a} m) k st h = runs-symbol k st (noneOf (a ∷ [])) (omega arith)
   runs-code (is-set {w = w} m) k st h = runs-symbol k st (noneOf w) (omega arith)
   runs-code (is-group d) k st h = runs-code d k st (omega arith)
-
-  -- after i numbers
-  runs-few : {k : ℕ} {c : List ℕ} {st : List D} (i : ℕ) → Runs A k c st → length (run A (take i c) st) ≤ k
-  unfolding run
-  runs-few zero (ended h) = h
-  runs-few (suc i) (ended h) = h
-  runs-few zero (next b h r) = h
-  runs-few (suc i) (next b h r) = runs-few i r
-
-  runs-enough : {k : ℕ} {c : List ℕ} {st : List D} (i : ℕ) → i < length c → Runs A k c st → operands (itemOf (getD c i 0)) ≤ length (run A (take i c) st)
-  unfolding run
-  runs-enough i h (ended g) = absurd (omega arith)
-  runs-enough zero h (next b g r) = b
-  runs-enough (suc i) h (next b g r) = runs-enough i (omega arith) r
-
-  pub few-places : {s : List ℕ} {e : Expr} → Is alternatives s e → (i : ℕ) → length (run A (take i (code e)) []) ≤ 2 * depth e + 3
-  few-places {e = e} d i = runs-few i (runs-code d (2 * depth e + 3) [] (omega arith))
-
-  pub enough-operands : {s : List ℕ} {e : Expr} → Is alternatives s e → (i : ℕ) → i < length (code e) → operands (itemOf (getD (code e) i 0)) ≤ length (run A (take i (code e)) [])
-  enough-operands {e = e} d i h = runs-enough i h (runs-code d (2 * depth e + 3) [] (omega arith))
 
 pub letters-code : (e : Expr) → letters e ≤ length (code e)
 unfolding letters code
@@ -202,15 +191,33 @@ letters-code (inverse e) = omega (arith, letters-code e, length-append (code e) 
 letters-code (star e) = omega (arith, letters-code e, length-append (code e) (op-star ∷ []))
 letters-code (plus e) = omega (arith, letters-code e, length-append (code e) (op-plus ∷ []))
 letters-code (optional e) = omega (arith, letters-code e, length-append (code e) (op-optional ∷ []))
-letters-code (alternative e f) = omega (arith, letters-code e, letters-code f, length-append (code e ++ code f) (op-alternative ∷ []), length-append (code e) (code f))
-letters-code (sequence e f) = omega (arith, letters-code e, letters-code f, length-append (code e ++ code f) (op-sequence ∷ []), length-append (code e) (code f))
+letters-code (alternative e f) =
+    omega (arith, letters-code e, letters-code f, length-append (code e ++ code f) (op-alternative ∷ []), length-append (code e) (code f))
+letters-code (sequence e f) =
+    omega (arith, letters-code e, letters-code f, length-append (code e ++ code f) (op-sequence ∷ []), length-append (code e) (code f))
 
 pub code-short : {R : Rule} {s : List ℕ} {e : Expr} → Is R s e → length (code e) ≤ length s
 unfolding code
 code-short (one-alternative d) = code-short d
-code-short (more-alternatives {s} {t} {e} {f} d d′) = omega (arith, code-short d, code-short d′, length-append s (bar ∷ t), length-append (code e ++ code f) (op-alternative ∷ []), length-append (code e) (code f))
+code-short (more-alternatives {s} {t} {e} {f} d d′) =
+    omega (
+      arith,
+      code-short d,
+      code-short d′,
+      length-append s (bar ∷ t),
+      length-append (code e ++ code f) (op-alternative ∷ []),
+      length-append (code e) (code f),
+    )
 code-short (one-part d) = code-short d
-code-short (more-parts {s} {t} {e} {f} d d′) = omega (arith, code-short d, code-short d′, length-append s (slash ∷ t), length-append (code e ++ code f) (op-sequence ∷ []), length-append (code e) (code f))
+code-short (more-parts {s} {t} {e} {f} d d′) =
+    omega (
+      arith,
+      code-short d,
+      code-short d′,
+      length-append s (slash ∷ t),
+      length-append (code e ++ code f) (op-sequence ∷ []),
+      length-append (code e) (code f),
+    )
 code-short (plain d) = code-short d
 code-short (inverted {s} {e} d) = omega (arith, code-short d, length-append (code e) (op-inverse ∷ []))
 code-short (bare d) = code-short d

@@ -20,7 +20,7 @@ use lib.Pow.{pow-lt, pow-pos}
 use borrow.Author.Tests.{ne-eqb, le-ltb}
 use Rattle.book.specs.Basics.{pick, bit, has}
 use Rattle.book.specs.Causes.{labels}
-use Rattle.k2.specs.Bits.{digit, value}
+use Rattle.k2.specs.Bits.{digit}
 use Rattle.k2.specs.BitLaws.{value-lt, value-digit}
 use Rattle.k2.specs.DigitLaws.{digit-none, digit-pow, digit-big, digits-tell}
 use Rattle.k2.specs.PairSetLaws.{bit-small}

@@ -1,32 +1,30 @@
--- What the inner readers ask and what they have done when they return. They are told by the descent on lists: a reader over the text s from the
--- place at on finds what the descent finds in the bytes from there on, and writes its code from the place n on.
+-- What the inner readers ask and what they have done when they return. They are told by the descent on lists: a reader over the text s from the place at on
+-- finds what the descent finds in the bytes from there on, and writes its code from the place n on.
 --   Found s at n before after e q
---                   e is read from the place at to q's, and its code written: the code's array was `before` and is `after`
+--                      e is read from the place at to q's, and its code written: the code's array was `before` and is `after`
 --   Done k s at n before after x r
---                   r is what x is, where k is what is left to do: `got` if nothing is
---   Stands s at x r r is the symbol that x is: it is read from the place at on, and its letters are those that it stands for
---   labelAt c       the label of a letter's byte, as a set; the empty set of any other byte
---   Marks b w x     the set x has the labels of those members w of a negated set that have the sense b; Marked w q says so of both
---   MemberAt s at w r
---                   r is the member at the place at, if there is one, put to the members w
---   othersOf x      the labels that a negated set stands for in a sense where its members have the labels x: none if it has no member of that sense
---   Asks s at n code
---                   what an inner reader asks: the code is not ahead of the text, and is no shorter
+--                      r is what x is, where k is what is left to do: `got` if nothing is
+--   Stands s at x r    r is the symbol that x is: it is read from the place at on, and its letters are those that it stands for
+--   labelAt c          the label of a letter's byte, as a set; the empty set of any other byte
+--   Marks b w x        the set x has the labels of those members w of a negated set that have the sense b; Marked w q says so of both
+--   MemberAt s at w r  r is the member at the place at, if there is one, put to the members w
+--   othersOf x         the labels that a negated set stands for in a sense where its members have the labels x: none if it has no member of that sense
+--   Asks s at n code   what an inner reader asks: the code is not ahead of the text, and is no shorter
 --   Fits, RoomToJoin, RoomToWrap, RoomToWrite
---                   what the steps after a reading ask
---   Infix           the two operators that stand between expressions; of each the byte, the number, the expression that it makes of two, and what
---                   the descent reads: between two of its bytes, in all, and from the first on
+--                      what the steps after a reading ask
+--   Infix              the two operators that stand between expressions; of each the byte, the number, the expression that it makes of two, and what the
+--                      descent reads: between two of its bytes, in all, and from the first on
 --   comesNext s r b, spotOf r
---                   whether the byte b comes after what was read, and where that ends
---   bytesLeft s r   a number that falls with each turn of a loop
+--                      whether the byte b comes after what was read, and where that ends
+--   bytesLeft s r      a number that falls with each turn of a loop
 --   Joins x first next code code′ r
---                   r is `first` and `next` as one expression, joined by the operator of number x
+--                      r is `first` and `next` as one expression, joined by the operator of number x
 --   Since o s at n first₀ code₀ first code
---                   `first` is what the operator's loop has read, told from what was read before it
---   markOf s r      the number of the mark after what was read, or no-mark
+--                      `first` is what the operator's loop has read, told from what was read before it
+--   markOf s r         the number of the mark after what was read, or no-mark
 --   wrap x passed r, wrapCode x r code
---                   what was read with the operator x on it, if x is not no-mark, and the code with its number
---   Closes s r q    q is the group whose inside is r
+--                      what was read with the operator x on it, if x is not no-mark, and the code with its number
+--   Closes s r q       q is the group whose inside is r
 -- Assumes nothing: these are definitions.
 use mathlib.Core.Path.{_≡_}
 use mathlib.Core.List.{List, [], _∷_, _++_}
@@ -40,7 +38,8 @@ use Rattle.book.specs.Causes.{labels}
 use Rattle.k2.specs.Bits.{digit}
 use Rattle.paths.specs.Expressions.{Letter, Symbol, sameLetter, hasSense, standsFor, Expr, symbol, alternative, sequence, letters, depth}
 use Rattle.paths.specs.Grammar.{bar, slash, asterisk, plus-sign, question-mark, letter-a}
-use Rattle.paths.specs.Descent.{Parse, got, fault, firstByte, isLetter, then, readMember, readClose, readAlternatives, readMoreAlternatives, readParts, readMoreParts, readPart}
+use Rattle.paths.specs.Descent.{Parse, got, fault, firstByte, isLetter, then, readMember, readClose, readAlternatives, readMoreAlternatives, readParts}
+use Rattle.paths.specs.Descent.{readMoreParts, readPart}
 use Rattle.reader.specs.Code.{op-star, op-plus, op-optional, op-alternative, op-sequence, label-sets, code}
 use Rattle.reader.specs.Letters.{forwardOf, againstOf}
 use Rattle.reader.specs.declared.symbols.Letters.{Letters}
@@ -175,7 +174,8 @@ pub record Joins (x : ℕ) (first next : Parsed) (code code′ : List ℕ) (r : 
   pub left : (s : List ℕ) → bytesLeft s r ≤ bytesLeft s next
 
 abbrev pub Since : Infix → List ℕ → ℕ → ℕ → Parsed → List ℕ → Parsed → List ℕ → Type 0
-Since o s at n first₀ code₀ first code = (before : List ℕ) → Done got s at n before code₀ (readOf o (drop at s)) first₀ → Done (moreOf o) s at n before code (wholeOf o (drop at s)) first
+Since o s at n first₀ code₀ first code =
+    (before : List ℕ) → Done got s at n before code₀ (readOf o (drop at s)) first₀ → Done (moreOf o) s at n before code (wholeOf o (drop at s)) first
 
 abbrev pub markNumber : ℕ → ℕ
 markNumber c = pick (eqb c asterisk) op-star (pick (eqb c plus-sign) op-plus (pick (eqb c question-mark) op-optional no-mark))

@@ -1,25 +1,21 @@
 -- What a reading tells its callers.
 --   reads-number    the answer's number is that of the verdict's cause, or 0
+--   reads-as        what is read of a text that is to be accepted
 --   reads-accepted  an accepted text is that of an expression, whose code the array begins with
 --   reads-refused   a refused one has a cause, whose number is given, and is that of no expression within the limits
---   reads-as        what is read of a text that is to be accepted
---   run-read        what was read, run on an empty stack of any kind of value, gives the expression's value
---   few-read        with at most 19 values on the stack at once
---   operands-read   and as many as the next number takes
 -- Assumes nothing.
 use mathlib.Core.Path.{_≡_, refl, sym, ap, _∙_}
-use mathlib.Core.List.{List, [], _∷_}
-use Prim.Native.Nat.{ℕ, _≤_, _<_}
+use mathlib.Core.List.{List}
+use Prim.Native.Nat.{ℕ, _<_}
 use native.Mathlib.Omega.{arith}
-use lib.ListN.{length, take, getD}
-use lib.Seq.{take-append-seam, take-take, getD-take}
+use lib.ListN.{length, take}
+use lib.Seq.{take-append-seam}
 use Rattle.book.specs.Causes.{number, firstNumber}
 use Rattle.paths.specs.Expressions.{Expr}
 use Rattle.paths.specs.Grammar.{Verdict, accepted, long, outside, large, verdictCause}
 use Rattle.paths.specs.Verdicts.{verdict, accepted-is}
-use Rattle.reader.specs.Code.{itemOf, code, Algebra, value, run}
-use Rattle.reader.specs.Running.{operands}
-use Rattle.reader.specs.CodeLaws.{run-code, few-places, enough-operands, code-short}
+use Rattle.reader.specs.Code.{code}
+use Rattle.reader.specs.CodeLaws.{code-short}
 use Rattle.reader.specs.declared.Answer.the-variants.{Accepted, Refused}
 use Rattle.reader.specs.declared.Reading.{Reading}
 use Rattle.reader.specs.Reads.{readAnswer, codeArray, Reads, readNumber, ReadAs}
@@ -34,7 +30,8 @@ number-of large = refl
 pub reads-number : {text : List ℕ} {r : Reading} → Reads text r → readNumber (r .answer) ≡ firstNumber (verdictCause (verdict text))
 reads-number {text} h = ap readNumber (h .answered) ∙ number-of (verdict text)
 
-pub reads-as : {text : List ℕ} {r : Reading} (e : Expr) → Reads text r → verdict text ≡ accepted e → (r .answer ≡ Accepted (length (code e))) × ReadAs text (length (code e)) (r .code) e
+pub reads-as : {text : List ℕ} {r : Reading} (e : Expr) → Reads text r → verdict text ≡ accepted e
+    → (r .answer ≡ Accepted (length (code e))) × ReadAs text (length (code e)) (r .code) e
 unfolding readAnswer codeArray
 reads-as {text} {r} e h v =
     let limits = accepted-is text e v in (
@@ -49,7 +46,8 @@ reads-as {text} {r} e h v =
     )
 
 -- by the verdict
-accepted-as : {text : List ℕ} {r : Reading} {n : ℕ} (v : Verdict) → verdict text ≡ v → Reads text r → readAnswer v ≡ Accepted n → (e : Expr) × ReadAs text n (r .code) e
+accepted-as : {text : List ℕ} {r : Reading} {n : ℕ} (v : Verdict) → verdict text ≡ v
+    → Reads text r → readAnswer v ≡ Accepted n → (e : Expr) × ReadAs text n (r .code) e
 unfolding readAnswer
 accepted-as {text} {r} {n} (accepted e) q h a = let p = reads-as e h q in let z : length (code e) ≡ n = cc in (e, rw (← z) (p .1))
 accepted-as long q h a = absurd (let z : _≡_ {A = ℕ} 0 1 = cc in omega arith)
@@ -66,21 +64,6 @@ refused-some long k a = (let z : 10 ≡ k = cc in omega arith, λ e h. let z : _
 refused-some outside k a = (let z : 9 ≡ k = cc in omega arith, λ e h. let z : _≡_ {A = ℕ} 0 1 = cc in omega arith)
 refused-some large k a = (let z : 10 ≡ k = cc in omega arith, λ e h. let z : _≡_ {A = ℕ} 0 1 = cc in omega arith)
 
-pub reads-refused : {text : List ℕ} {r : Reading} {k : ℕ} → Reads text r → r .answer ≡ Refused k → (firstNumber (verdictCause (verdict text)) ≡ k) × ((0 < k) × ((e : Expr) → verdict text ≡ accepted e → ⊥))
+pub reads-refused : {text : List ℕ} {r : Reading} {k : ℕ} → Reads text r → r .answer ≡ Refused k
+    → (firstNumber (verdictCause (verdict text)) ≡ k) × ((0 < k) × ((e : Expr) → verdict text ≡ accepted e → ⊥))
 reads-refused {text} {r} {k} h a = (sym (reads-number h) ∙ ap readNumber a, refused-some (verdict text) k (sym (h .answered) ∙ a))
-
--- running what was read
-module _ {D : Type 0} (A : Algebra D) {text : List ℕ} {n : ℕ} {array : List ℕ} {e : Expr} (h : ReadAs text n array e) where
-  pub run-read : run A (take n array) [] ≡ value A e ∷ []
-  run-read = ap (λ (c : List ℕ). run A c []) (h .front) ∙ run-code A (h .limits .syntax) []
-
-  before : (i : ℕ) → i ≤ n → take i array ≡ take i (code e)
-  before i k = sym (take-take i n array k) ∙ ap (take i) (h .front)
-
-  pub few-read : (i : ℕ) → i ≤ n → length (run A (take i array) []) ≤ 19
-  few-read i k = rw (before i k) (omega (arith, few-places A (h .limits .syntax) i, h .limits .shallow))
-
-  pub operands-read : (i : ℕ) → i < n → operands (itemOf (getD array i 0)) ≤ length (run A (take i array) [])
-  operands-read i k =
-      let same : getD array i 0 ≡ getD (code e) i 0 = sym (getD-take n array i 0 k) ∙ ap (λ (c : List ℕ). getD c i 0) (h .front) in
-      rw (before i (omega arith), same) (enough-operands A (h .limits .syntax) i (omega (arith, h .end)))

@@ -23,7 +23,8 @@ ghost use Rattle.book.specs.Causes.{maxBytes};
 ghost use Rattle.paths.specs.Descent.{Parse, got, readAlternatives, readParts, readPart, readAtom};
 ghost use Rattle.reader.specs.Reads.{Reads};
 ghost use Rattle.reader.specs.declared.Answer.the-variants.{Refused};
-ghost use Rattle.reader.specs.Progress.{Done, Stands, Asks, Fits, RoomToJoin, RoomToWrap, RoomToWrite, Joins, Closes, comesNext, spotOf, markOf, wrap, wrapCode};
+ghost use Rattle.reader.specs.Progress.{Done, Stands, Asks, Fits, RoomToJoin, RoomToWrap, RoomToWrite, Joins, Closes, comesNext, spotOf, markOf, wrap};
+ghost use Rattle.reader.specs.Progress.{wrapCode};
 pub use items::Item;
 pub use items::item_of;
 

@@ -1,13 +1,11 @@
 -- What the inner functions of closing up promise one another.
---   inUse ms x      whether the record x is in use, by the marks ms
---   newOf rs x      the new number of the record x, by the ranks rs
---   renamedWord f w the word w of a link, with the record x called f x
---   Ranked ms rs    rs has, for each number up to 1,024, how many records below it are in use
---   Small rs        the ranks of all records are those of records
---   Moved ms rs n os
---                   os has the lock of each of the first n records of ms at its new number, and no other mark
---   Roomed room length k
---                   k is how many words of a list of that length are used for a closing up of a history whose word says room
+--   inUse ms x            whether the record x is in use, by the marks ms
+--   newOf rs x            the new number of the record x, by the ranks rs
+--   renamedWord f w       the word w of a link, with the record x called f x
+--   Ranked ms rs          rs has, for each number up to 1,024, how many records below it are in use
+--   Small rs              the ranks of all records are those of records
+--   Moved ms rs n os      os has the lock of each of the first n records of ms at its new number, and no other mark
+--   Roomed room length k  k is how many words of a list of that length are used for a closing up of a history whose word says room
 -- Assumes nothing: these are definitions.
 use mathlib.Core.Path.{_≡_}
 use mathlib.Core.Logic.{_⊎_}

@@ -1,34 +1,31 @@
 -- The whole history: calls made one after the other, each on the register that the one before handed back; and a history as a list of words.
---   Lent            a list as it was lent, and as it is then
+--   Lent                  a list as it was lent, and as it is then
 --   CallsMade r cs told ls e
---                   from r on, the calls cs gave the numbers told and the register e at the end, by results that meet `Steps` and `Closes`; ls are the lists
---                   that the closings among them were lent, in their order
---   Gives gs ls     of lists given and lists lent: each given one is written over the front of the lent one at its place
---   addKind .. closeKind
---                   the kinds of calls, numbered as those of the program's frames; closing up has none there
---   Entry           what a word of a history is: a call, or none
---   kindCall, wordCall
---                   the entry that a kind and arguments, or a word of 64 bits, stand for
---   entryNumber b e the number told to an entry: the book's answer to a call; 15, unknown kind, for no call, of which the book is not asked
---   entryNext b e   the book after an entry
---   roomMost room   of a list lent to a closing up of a history, how many words are used: no more than a register has records
+--                         from r on, the calls cs gave the numbers told and the register e at the end, by results that meet `Steps` and `Closes`; ls are the
+--                         lists that the closings among them were lent, in their order
+--   Gives gs ls           of lists given and lists lent: each given one is written over the front of the lent one at its place
+--   addKind .. closeKind  the kinds of calls, numbered as those of the program's frames; closing up has none there
+--   Entry                 what a word of a history is: a call, or none
+--   kindCall, wordCall    the entry that a kind and arguments, or a word of 64 bits, stand for
+--   entryNumber b e       the number told to an entry: the book's answer to a call; 15, unknown kind, for no call, of which the book is not asked
+--   entryNext b e         the book after an entry
+--   roomMost room         of a list lent to a closing up of a history, how many words are used: no more than a register has records
 --   EntryCloses self k l out
---                   what is promised of a closing up with the first k words of the list l
+--                         what is promised of a closing up with the first k words of the list l
 --   EntrySteps self e l out
---                   what is promised of an entry, with a list l for a closing up: of a call, what `Steps` and `Closes` say; of no call, that it is refused
---                   and changes nothing; of any but a closing up, that the list is as it was
---   wordAnswers     the number told to each word
---   entryCalls, callsOf
---                   the calls among entries, and among words, in their order
---   isCall e        whether an entry is a call
---   toldCalls       of the numbers told to words, those told to calls
+--                         what is promised of an entry, with a list l for a closing up: of a call, what `Steps` and `Closes` say; of no call, that it is
+--                         refused and changes nothing; of any but a closing up, that the list is as it was
+--   wordAnswers           the number told to each word
+--   entryCalls, callsOf   the calls among entries, and among words, in their order
+--   isCall e              whether an entry is a call
+--   toldCalls             of the numbers told to words, those told to calls
 --   isClose c, closings cs
---                   whether a call is a closing up, and how many of the calls are
---   laid gs l       the list l, 1,024 words for each of the lists gs, with each of these written over the front of its words
---   parts k l       k lists of 1,024 words each, one behind the other in the list l
---   replayNumber    the answer to replaying a list of words: 1 for n outside 1 to 1,024; 12 for a list shorter than the answers, or fewer than 1,024 words of
---                   numbers for each closing up among the calls
---   Replays         what `replay` promises
+--                         whether a call is a closing up, and how many of the calls are
+--   laid gs l             the list l, 1,024 words for each of the lists gs, with each of these written over the front of its words
+--   parts k l             k lists of 1,024 words each, one behind the other in the list l
+--   replayNumber          the answer to replaying a list of words: 1 for n outside 1 to 1,024; 12 for a list shorter than the answers, or fewer than 1,024
+--                         words of numbers for each closing up among the calls
+--   Replays               what `replay` promises
 -- Assumes nothing: these are definitions.
 use mathlib.Core.Path.{_≡_}
 use mathlib.Core.List.{List, [], _∷_, _++_}

@@ -1,33 +1,46 @@
 -- The history theorem: whatever calls are made, refused ones included, the answers and the lists given are the book's, and the register at the end represents
--- the book at the end.
--- And laws of a history as words: the numbers told to words, the calls among them, and that every call has a word. Assumes nothing.
---   Small c         the arguments of the call are as wide as the frames': records of 16 bits, a label of 8; and the length of a list has 40 bits
---   Members e b     what the register e and the book b have in common, as sets: the links, each once, the totals, and the locks
+-- the book at the end. And laws of a history as words.
+--   number-answer, answer-done
+--                     an answer and its number
+--   answered, kept, given-lent
+--                     of calls made one after the other: the numbers told, the register at the end and the lists lent are the book's
+--   history           so of a history of any length from a fresh register
+--   Members e b       what the register e and the book b have in common, as sets: the links, each once, the totals, and the locks
+--   members, history-members
+--                     so of a register that represents the book, at the end of a history
+--   represents-sound  a book that a register represents is sound
+--   after-append, after-entry
+--                     the book after two lists of calls, and after an entry and more calls
+--   calls-append, word-answers-length, word-answers-append
+--                     the calls among joined lists of words, and the numbers told to words
+--   told-calls        the numbers told to the calls among words are the book's answers to them
+--   Small c           the arguments of the call are as wide as the frames': records of 16 bits, a label of 8; and the length of a list has 40 bits
+--   has-word          every such call has a word
+-- Assumes nothing.
 use mathlib.Core.Path.{_≡_, refl, ap, ap₂, sym, _∙_}
 use mathlib.Core.List.{List, [], _∷_, _++_, append-assoc}
-use Prim.Native.Nat.{ℕ, zero, suc, _+_, _*_, _/_, _%_, _≤_, _<_}
+use Prim.Native.Nat.{ℕ, zero, suc, _+_, _*_, _/_, _%_, _<_}
 use native.Mathlib.Omega.{arith}
 use lib.Dec.{eqb}
 use lib.ListN.{length, take, getD}
 use Rattle.book.specs.Basics.{pick, All, all-none, all-more}
 use Rattle.book.specs.Causes.{labels}
-use Rattle.book.specs.Book.{sameLink, Sheet, Book, add, remove, lock, unlock, withdraw, reinstate, Call, edit, undo, close, isLocked, isWithdrawn, total, answer, next, fresh, answers, after, givens}
-use Rattle.book.specs.BookLaws.{caused-positive}
+use Rattle.book.specs.Book.{sameLink, Sheet, Book, add, remove, lock, unlock, withdraw, reinstate, Call, edit, undo, close, isLocked, isWithdrawn, total}
+use Rattle.book.specs.Book.{answer, next, fresh, answers, after, givens}
 use Rattle.book.specs.Sheets.{Distinct, Fit, Sound}
 use Rattle.register.specs.Links.{Linked}
 use Rattle.register.specs.Marks.{lockMark, withdrawnMark, hasMark}
 use Rattle.register.specs.Packed.{Packed, takeBack, Piled}
 use Rattle.register.specs.Representation.{heldWords, packedOf, Represents}
 use Rattle.register.specs.MarkLaws.{shows-locked, shows-withdrawn}
-use Rattle.register.specs.Calls.{answerOf, answerNumber, Steps}
+use Rattle.register.specs.Calls.{answerOf, answerNumber}
 use Rattle.register.specs.History.{Lent, CallsMade, done, more-edit, more-undo, more-close, Gives, none-given, more-given}
 use Rattle.register.specs.History.{addKind, removeKind, lockKind, unlockKind, undoKind, withdrawKind, reinstateKind, closeKind, kindCall, wordCall}
 use Rattle.register.specs.History.{Entry, is-call, no-call, entryNumber, entryNext, entryCalls, isCall}
-use Rattle.register.specs.History.{wordAnswers, callsOf, toldCalls, replayNumber, Replays}
+use Rattle.register.specs.History.{wordAnswers, callsOf, toldCalls}
 use Rattle.register.specs.declared.Register.{Register}
 use Rattle.register.specs.declared.Answer.{Answer}
-use Rattle.register.specs.declared.Answer.the-variants.{Done, Refused}
-use Rattle.register.specs.declared.Outcome.{Outcome}
+use Rattle.register.specs.declared.Answer.the-variants.{Done}
 
 pub number-answer : (k : ℕ) → answerNumber (answerOf k) ≡ k
 number-answer zero = refl
@@ -36,10 +49,6 @@ number-answer (suc k) = refl
 pub answer-done : (a : Answer) (k : ℕ) → a ≡ answerOf k → answerNumber a ≡ 0 → a ≡ Done
 answer-done a zero e z = e
 answer-done a (suc k) e z = absurd (omega (arith, ap answerNumber e, z))
-
--- no call refuses with the number 0, whatever the register contains
-pub not-zero : (self r : Register) (c : Call) → Steps self c (record { register = r; answer = Refused 0 }) → ⊥
-not-zero self r c s = let z : 1 ≤ 0 = caused-positive (s .caused 0 refl) in omega arith
 
 told-more : (a : Answer) (k : ℕ) {told rest : List ℕ} → a ≡ answerOf k → told ≡ rest → answerNumber a ∷ told ≡ k ∷ rest
 told-more a k e t = ap₂ (λ (x : ℕ) (l : List ℕ). x ∷ l) (ap answerNumber e ∙ number-answer k) t
@@ -54,14 +63,16 @@ module _ {e : Register} where
       let c = close (length (l .before)) in
       told-more (out .answer) (answer b c) (s .steps .answers b h) (answered run (next b c) (s .steps .follows b h))
 
-  pub kept : {r : Register} {cs : List Call} {told : List ℕ} {ls : List Lent} → CallsMade r cs told ls e → (b : Book) → Represents r b → Represents e (after b cs)
+  pub kept : {r : Register} {cs : List Call} {told : List ℕ} {ls : List Lent}
+      → CallsMade r cs told ls e → (b : Book) → Represents r b → Represents e (after b cs)
   unfolding after
   kept done b h = h
   kept (more-edit out s run) b h = kept run (next b _) (s .follows b h)
   kept (more-undo out s run) b h = kept run (next b _) (s .follows b h)
   kept (more-close l out s run) b h = kept run (next b _) (s .steps .follows b h)
 
-  pub given-lent : {r : Register} {cs : List Call} {told : List ℕ} {ls : List Lent} → CallsMade r cs told ls e → (b : Book) → Represents r b → Gives (givens b cs) ls
+  pub given-lent : {r : Register} {cs : List Call} {told : List ℕ} {ls : List Lent}
+      → CallsMade r cs told ls e → (b : Book) → Represents r b → Gives (givens b cs) ls
   unfolding givens
   given-lent done b h = none-given
   given-lent (more-edit out s run) b h = given-lent run (next b _) (s .follows b h)
@@ -105,11 +116,6 @@ pub history-members : (n : ℕ) {r e : Register} {cs : List Call} {told : List �
     → (told ≡ answers (fresh n) cs) × Gives (givens (fresh n) cs) ls × Members e (after (fresh n) cs)
 history-members n h run = let o = history n h run in (o .0, o .1, members (o .2))
 
--- the same of the code itself
-pub replay-members : {n : ℕ} {ws : List ℕ} {list numbers : Lent} {out : Outcome} → Replays n ws list numbers out → replayNumber n ws (list .before) (numbers .before) ≡ 0
-    → Members (out .register) (after (fresh n) (callsOf ws))
-replay-members r z = members (r .book z)
-
 -- every sheet of a book that a register represents fits
 piled-fit : (n : ℕ) (p : Packed) (ws : List ℕ) (ss : List Sheet) → Piled n p ws ss → All (Fit n) ss
 unfolding Piled
@@ -119,7 +125,8 @@ piled-fit n p (w ∷ ws) [] h = absurd h
 piled-fit n p (w ∷ ws) (s ∷ ss) h = all-more (h .0 .fit) (piled-fit n (takeBack w p) ws ss (h .1))
 
 pub represents-sound : {r : Register} {b : Book} → Represents r b → Sound b
-represents-sound {r} {b} h = record { small = omega (arith, h .size, h .ranged .size); sheet = h .sheet .fit; pile = piled-fit (b .n) (packedOf r) (heldWords r) (b .pile) (h .pile) }
+represents-sound {r} {b} h =
+    record { small = omega (arith, h .size, h .ranged .size); sheet = h .sheet .fit; pile = piled-fit (b .n) (packedOf r) (heldWords r) (b .pile) (h .pile) }
 
 -- ---- entries
 pub after-append : (b : Book) (cs ds : List Call) → after b (cs ++ ds) ≡ after (after b cs) ds

@@ -1,19 +1,17 @@
 -- What the inner functions of the register promise one another.
---   putAt i x l     x before what stands at the place i
---   cutAt i l       l without what stands at the place i
---   Seam x ws c i   i is a place for x among the first c words: the word before it is below x, and the word at it is not
---   standsAt ws c i x
---                   whether i is one of the first c places and x stands there
---   linkCauses n marks k
---                   the causes against the ends and the label of a link, in their order
---   hasAt unit r w  whether a word has the record r in the ten bits from unit on
---   Formed ws       the words of a register, as they are told: enough of them, the counters in range, each mark one of the three
---   Tested P ok     ok is whether P
---   Raised l ts us, Lowered l ts us
---                   what `raise` and `lower` promise: one more and one less of the label l, where the total has room for it
---   Counted r       the totals of the register are those of its links' words
+--   putAt i x l           x before what stands at the place i
+--   cutAt i l             l without what stands at the place i
+--   Seam x ws c i         i is a place for x among the first c words: the word before it is below x, and the word at it is not
+--   standsAt ws c i x     whether i is one of the first c places and x stands there
+--   linkCauses n marks k  the causes against the ends and the label of a link, in their order
+--   hasAt unit r w        whether a word has the record r in the ten bits from unit on
 --   Guarded, Checks, Holding, Changed, TakenBack
---                   what `ranged`, `check_link`, `hold`, the inner edits and `taken_back` promise
+--                         what `ranged`, `check_link`, `hold`, the inner edits and `taken_back` promise
+--   Raised l ts us, Lowered l ts us
+--                         what `raise` and `lower` promise: one more and one less of the label l, where the total has room for it
+--   Counted r             the totals of the register are those of its links' words
+--   Formed ws             the words of a register, as they are told: enough of them, the counters in range, each mark one of the three
+--   Tested P ok           ok is whether P
 -- Assumes nothing: these are definitions.
 use mathlib.Core.Path.{_≡_}
 use mathlib.Core.List.{List, _∷_, [], _++_}
@@ -22,7 +20,8 @@ use Prim.Native.Nat.{ℕ, suc, _+_, _/_, _%_, _≤_, _<_}
 use lib.ListN.{length, take, drop, getD}
 use lib.Dec.{leb, ltb, eqb}
 use Rattle.book.specs.Basics.{bit, Rises}
-use Rattle.book.specs.Causes.{Cause, no-record, bad-label, locked-end, not-open, withdrawn-record, number, Caused, firstNumber, labels, maxRecords, maxLinks, maxHeld}
+use Rattle.book.specs.Causes.{Cause, no-record, bad-label, locked-end, not-open, withdrawn-record, number, Caused, firstNumber, labels, maxRecords, maxLinks}
+use Rattle.book.specs.Causes.{maxHeld}
 use Rattle.book.specs.Book.{Link}
 use Rattle.register.specs.Links.{linkWord, wordTotal}
 use Rattle.register.specs.Marks.{lockMark, withdrawnMark, hasMark, Marked}

@@ -1,5 +1,13 @@
--- Laws of the lists that the closings up of a history give: what one word more gives, how the lists lie in the one that is lent, and that a room above what
--- a register has records is as good as so many. Assumes nothing.
+-- Laws of the lists that the closings up of a history give, and of how they lie in the one that is lent.
+--   givens-append, length-givens, givens-short
+--                   the lists of joined histories; one for each closing up; none is longer than a register has records
+--   laid-past, laid-append, laid-gives
+--                   lists laid one behind the other: what lies past them is as it was, more lie behind, and each lies over the front of its part
+--   room-small      of the room that is lent, no more is used than a register has records
+--   entry-answers, entry-follows, entry-given
+--                   what an entry of a history promises: the book's answer, the book after it, and the lists laid
+--   replayed-gives  of a replay, each closing up among the calls has its list in its part of the numbers
+-- Assumes nothing.
 use mathlib.Core.Path.{_≡_, refl, sym, ap, ap₂, subst, _∙_}
 use mathlib.Core.List.{List, [], _∷_, _++_, append-assoc}
 use mathlib.Core.Bool.{Bool, true, false}
@@ -17,7 +25,8 @@ use Rattle.book.specs.SetLaws.{or-neither}
 use Rattle.book.specs.GivenLaws.{room-same, given-length}
 use Rattle.book.specs.Sheets.{Sound}
 use Rattle.register.specs.Calls.{answerOf}
-use Rattle.register.specs.History.{Lent, Gives, none-given, more-given, Entry, is-call, no-call, entryNumber, entryNext, roomMost, EntrySteps, entryCalls, callsOf, isClose, closings, laid, parts, replayNumber, Replays}
+use Rattle.register.specs.History.{Lent, Gives, none-given, more-given, Entry, is-call, no-call, entryNumber, entryNext, roomMost, EntrySteps, entryCalls}
+use Rattle.register.specs.History.{callsOf, isClose, closings, laid, parts, replayNumber, Replays}
 use Rattle.register.specs.HistoryLaws.{represents-sound}
 use Rattle.register.specs.Representation.{Represents}
 use Rattle.register.specs.declared.Register.{Register}
@@ -45,7 +54,8 @@ unfolding givens
 givens-short b [] o = all-none
 givens-short b (edit a ∷ cs) o = givens-short (next b (edit a)) cs (next-sound b (edit a) o)
 givens-short b (undo ∷ cs) o = givens-short (next b undo) cs (next-sound b undo o)
-givens-short b (close room ∷ cs) o = all-more {x = given b (close room)} (omega (arith, given-length b room .0, o .small)) (givens-short (next b (close room)) cs (next-sound b (close room) o))
+givens-short b (close room ∷ cs) o =
+    all-more {x = given b (close room)} (omega (arith, given-length b room .0, o .small)) (givens-short (next b (close room)) cs (next-sound b (close room) o))
 
 -- ---- a list written over a front
 length-over : (g l : List ℕ) → length g ≤ length l → length (over g l) ≡ length l
@@ -55,7 +65,8 @@ length-over g l h = length-append g (drop (length g) l) ∙ omega (arith, length
 over-take : (g l : List ℕ) (k : ℕ) → length g ≤ k → k ≤ length l → over g (take k l) ++ drop k l ≡ over g l
 over-take g l k p q =
     append-assoc g (drop (length g) (take k l)) (drop k l)
-    ∙ ap (λ (t : List ℕ). g ++ t) (sym (drop-append-le (length g) (take k l) (drop k l) (omega (arith, length-take-le k l q))) ∙ ap (drop (length g)) (take-append-drop k l))
+    ∙ ap (λ (t : List ℕ). g ++ t) (sym (drop-append-le (length g) (take k l) (drop k l) (omega (arith, length-take-le k l q)))
+    ∙ ap (drop (length g)) (take-append-drop k l))
 
 -- ---- lists laid one behind the other
 front-length : (g l : List ℕ) → length g ≤ maxRecords → maxRecords ≤ length l → length (over g (take maxRecords l)) ≡ maxRecords
@@ -87,7 +98,8 @@ laid-append (g ∷ gs) hs l (all-more s a) h =
     let A = over g (take maxRecords l) in
     let B = laid gs (drop maxRecords l) in
     let f : length A ≡ maxRecords = front-length g l s (omega arith) in
-    let t : take (maxRecords * suc (length gs)) (A ++ B) ≡ A ++ take m B = ap (λ (i : ℕ). take i (A ++ B)) (e ∙ ap (λ (i : ℕ). i + m) (sym f)) ∙ take-append-add A B m in
+    let t : take (maxRecords * suc (length gs)) (A ++ B) ≡ A ++ take m B =
+    ap (λ (i : ℕ). take i (A ++ B)) (e ∙ ap (λ (i : ℕ). i + m) (sym f)) ∙ take-append-add A B m in
     let d : drop m (drop maxRecords l) ≡ drop (maxRecords * suc (length gs)) l = drop-drop m maxRecords l ∙ ap (λ (i : ℕ). drop i l) (sym e) in
     ap (λ (k : List ℕ). A ++ k) (laid-append gs hs (drop maxRecords l) a (omega (arith, length-drop maxRecords l)))
     ∙ sym (append-assoc A (take m B) (laid hs (drop m (drop maxRecords l))))
@@ -140,7 +152,8 @@ module _ (self : Register) (l : Lent) (out : Outcome) (b : Book) (h : Represents
   lent-length : (room : ℕ) → maxRecords ≤ length (l .before) → length (take (roomMost room) (l .before)) ≡ roomMost room
   lent-length room e = length-take-le (roomMost room) (l .before) (omega (arith, room-small room))
 
-  pub entry-answers : (e : Entry) → EntrySteps self e l out → maxRecords * closings (entryCalls e) ≤ length (l .before) → out .answer ≡ answerOf (entryNumber b e)
+  pub entry-answers : (e : Entry) → EntrySteps self e l out → maxRecords * closings (entryCalls e) ≤ length (l .before)
+      → out .answer ≡ answerOf (entryNumber b e)
   unfolding entryNumber entryCalls tally isClose
   entry-answers (is-call (edit a)) s k = s .0 .answers b h
   entry-answers (is-call undo) s k = s .0 .answers b h
@@ -150,7 +163,8 @@ module _ (self : Register) (l : Lent) (out : Outcome) (b : Book) (h : Represents
       ∙ ap answerOf (most-answer b room (represents-sound h))
   entry-answers no-call s k = s .0
 
-  pub entry-follows : (e : Entry) → EntrySteps self e l out → maxRecords * closings (entryCalls e) ≤ length (l .before) → Represents (out .register) (entryNext b e)
+  pub entry-follows : (e : Entry) → EntrySteps self e l out → maxRecords * closings (entryCalls e) ≤ length (l .before)
+      → Represents (out .register) (entryNext b e)
   unfolding entryNext entryCalls tally isClose
   entry-follows (is-call (edit a)) s k = s .0 .follows b h
   entry-follows (is-call undo) s k = s .0 .follows b h
@@ -169,7 +183,8 @@ module _ (self : Register) (l : Lent) (out : Outcome) (b : Book) (h : Represents
       let j = roomMost room in
       let g = given b (close room) in
       let m : maxRecords ≤ length (l .before) = omega arith in
-      let e : given b (close (length (take j (l .before)))) ≡ g = ap (λ (i : ℕ). given b (close i)) (lent-length room m) ∙ most-given b room (represents-sound h) in
+      let e : given b (close (length (take j (l .before)))) ≡ g =
+      ap (λ (i : ℕ). given b (close i)) (lent-length room m) ∙ most-given b room (represents-sound h) in
       let p : length g ≤ j = subst (λ (x : List ℕ). length x ≤ j) (most-given b room (represents-sound h)) (given-length b j .1) in
       let q : length g ≤ maxRecords = omega (arith, room-small room) in
       sym (take-append-drop j (l .after))
@@ -179,15 +194,19 @@ module _ (self : Register) (l : Lent) (out : Outcome) (b : Book) (h : Represents
   entry-given no-call s k = s .2
 
 -- ---- of a replay
-replay-room : (n : ℕ) (words told numbers : List ℕ) → replayNumber n words told numbers ≡ 0 → (n ≤ maxRecords) × (maxRecords * closings (callsOf words) ≤ length numbers)
+replay-room : (n : ℕ) (words told numbers : List ℕ) → replayNumber n words told numbers ≡ 0
+    → (n ≤ maxRecords) × (maxRecords * closings (callsOf words) ≤ length numbers)
 unfolding replayNumber
 replay-room n words told numbers z =
     let p = first-none bad-size _ _ z in
-    let q = first-none short-work _ _ (p .1) in
-    (ltb-false maxRecords n (or-neither (ltb n 1) (ltb maxRecords n) (p .0) .1), ltb-false (length numbers) _ (or-neither (ltb (length told) (length words)) _ (q .0) .1))
+    let q = first-none short-work _ _ (p .1) in (
+      ltb-false maxRecords n (or-neither (ltb n 1) (ltb maxRecords n) (p .0) .1),
+      ltb-false (length numbers) _ (or-neither (ltb (length told) (length words)) _ (q .0) .1),
+    )
 
 -- each closing up among the calls has its list in its part of the numbers
-pub replayed-gives : {n : ℕ} {words : List ℕ} {list numbers : Lent} {out : Outcome} → Replays n words list numbers out → replayNumber n words (list .before) (numbers .before) ≡ 0
+pub replayed-gives : {n : ℕ} {words : List ℕ} {list numbers : Lent} {out : Outcome}
+    → Replays n words list numbers out → replayNumber n words (list .before) (numbers .before) ≡ 0
     → Gives (givens (fresh n) (callsOf words)) (parts (closings (callsOf words)) numbers)
 replayed-gives {n} {words} {list} {numbers} r z =
     let cs = callsOf words in

@@ -1,6 +1,5 @@
--- Laws of links as words: a word and its link give one another, a sheet has one list of words, and what a word of the list says of the sheet. Assumes nothing.
+-- Laws of links as words: a word and its link give one another, and what a word of the list says of the sheet. Assumes nothing.
 use mathlib.Core.Path.{_≡_, refl, sym, ap, subst, _∙_}
-use mathlib.Core.Logic.{_⊎_, inl, inr, ⊎-elim}
 use mathlib.Core.List.{List, map}
 use mathlib.Core.Bool.{Bool, true, false}
 use Prim.Native.Nat.{ℕ, _/_, _%_, _≤_, _<_}
@@ -10,7 +9,7 @@ use borrow.Author.Tests.{eqb-true, eq-eqb}
 use Rattle.book.specs.Basics.{In, has}
 use Rattle.book.specs.Causes.{maxRecords}
 use Rattle.book.specs.Book.{Link, sameLink, Sheet, present, touched}
-use Rattle.book.specs.ListLaws.{rises-same, map-in, in-map}
+use Rattle.book.specs.ListLaws.{map-in, in-map}
 use Rattle.book.specs.BookLaws.{touched-end, end-touched}
 use Rattle.book.specs.SetLaws.{eqb-test, sameLink-test, has-in, in-has}
 use Rattle.book.specs.Sheets.{Proper, Fit}
@@ -22,12 +21,6 @@ linkOf-word k f t =
     let b : linkWord k / 1048576 ≡ k .label = omega arith in
     let c : linkWord k % 1024 ≡ k .to = omega arith in
     λ i. record { from = a i; label = b i; to = c i }
-
--- a sheet has one list of words
-pub linked-same : {ws vs : List ℕ} {s : Sheet} → Linked ws s → Linked vs s → ws ≡ vs
-linked-same {ws} {vs} l m = rises-same ws vs (l .ascending) (m .ascending)
-    (λ w h. let r = l .sound w h in rw (r .1) (m .whole (r .0) (r .2)))
-    (λ w h. let r = m .sound w h in rw (r .1) (l .whole (r .0) (r .2)))
 
 module _ {n : ℕ} (small : n ≤ maxRecords) where
   pub word-link : {k : Link} → Proper n k → linkOf (linkWord k) ≡ k
@@ -53,12 +46,6 @@ module _ {n : ℕ} (small : n ≤ maxRecords) where
         let e : linkOf w ≡ r .0 = ap linkOf (r .1) ∙ word-link (fit .links (r .0) (r .2)) in
         ap (present s) e ∙ r .2
 
-    pub linked-word : {w : ℕ} → In w ws → linkWord (linkOf w) ≡ w
-    linked-word {w} h =
-        let r = l .sound w h in
-        let e : linkOf w ≡ r .0 = ap linkOf (r .1) ∙ word-link (fit .links (r .0) (r .2)) in
-        ap linkWord e ∙ sym (r .1)
-
     -- the computed tests agree
     pub linked-has : {k : Link} → Proper n k → has eqb (linkWord k) ws ≡ present s k
     linked-has {k} p = go (has eqb (linkWord k) ws) refl (present s k) refl
@@ -83,6 +70,7 @@ module _ {n : ℕ} (small : n ≤ maxRecords) where
         go false e true f =
             let o = touched-end r (s .links) f in
             let p : present s (o .0) ≡ true = in-has sameLink-test (o .0) (s .links) (o .1) in
-            let i : In (o .0) (map linkOf ws) = subst (λ (k : Link). In k (map linkOf ws)) (word-link (fit .links (o .0) p)) (map-in linkOf (l .whole (o .0) p)) in
+            let i : In (o .0) (map linkOf ws) =
+            subst (λ (k : Link). In k (map linkOf ws)) (word-link (fit .links (o .0) p)) (map-in linkOf (l .whole (o .0) p)) in
             sym e ∙ end-touched r (map linkOf ws) i (o .2)
         go false e false f = refl

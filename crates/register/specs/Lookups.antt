@@ -1,4 +1,4 @@
--- What is looked up among the words of a register's links: the part of one label, and the next link out of or into a record.
+-- What is looked up among the words of a register's links: the part of one label, and the next word that passes a test.
 --   pairOf w        the pair of a link's word, from × 1,024 + to
 --   PairsOf s l ps  ps are the pairs x × 1,024 + y of the links x l y of the sheet s, ascending, each once
 --   LabelPart ws l part
@@ -7,24 +7,17 @@
 --                   the first place whose word passes the test, or the number of words
 --   nextPlace test ws at
 --                   the first place from at on whose word passes the test, or the number of words
---   start k, end k  the record at which a link begins, and ends
---   touches side r w
---                   whether the link of a word has the record r at one side
---   NextLink side ws r at i
---                   what `next_out` and `next_in` promise of the record at one side of a link
 -- Assumes nothing: these are definitions.
 use mathlib.Core.Path.{_≡_}
-use mathlib.Core.Logic.{_⊎_}
 use mathlib.Core.List.{List, [], _∷_, map}
 use mathlib.Core.Bool.{Bool, true}
-use Prim.Native.Nat.{ℕ, suc, _+_, _*_, _%_, _≤_, _<_, min}
-use lib.ListN.{length, take, drop, getD}
-use lib.Dec.{eqb}
+use Prim.Native.Nat.{ℕ, suc, _+_, _*_, _%_, _≤_, min}
+use lib.ListN.{length, take, drop}
 use Rattle.book.specs.Basics.{pick, In, Rises}
 use Rattle.book.specs.Causes.{maxRecords}
-use Rattle.book.specs.Book.{Link, Sheet, present}
+use Rattle.book.specs.Book.{Sheet, present}
 use Rattle.book.specs.Sheets.{Fit}
-use Rattle.register.specs.Links.{linkWord, linkOf, Linked}
+use Rattle.register.specs.Links.{Linked}
 
 abbrev pub pairOf : ℕ → ℕ
 pairOf w = w % 1048576
@@ -45,22 +38,3 @@ firstPlace test (w ∷ ws) = pick (test w) 0 (suc (firstPlace test ws))
 
 unfoldable pub nextPlace : (ℕ → Bool) → List ℕ → ℕ → ℕ
 nextPlace test ws at = min (length ws) (at + firstPlace test (drop at ws))
-
-abbrev pub start : Link → ℕ
-start k = k .from
-
-abbrev pub end : Link → ℕ
-end k = k .to
-
-unfoldable pub touches : (Link → ℕ) → ℕ → ℕ → Bool
-touches side r w = eqb (side (linkOf w)) r
-
--- the place by the words; and for every sheet whose links they are: there is such a link at i, and none is between at and i
-pub record NextLink (side : Link → ℕ) (ws : List ℕ) (r at i : ℕ) : Type 0 where
-  pub place : i ≡ nextPlace (touches side r) ws at
-  pub within : i ≤ length ws
-  pub onward : at ≤ length ws → at ≤ i
-  pub sound : (n : ℕ) (s : Sheet) → n ≤ maxRecords → Fit n s → Linked ws s → i < length ws →
-      (k : Link) × (getD ws i 0 ≡ linkWord k) × (present s k ≡ true) × (side k ≡ r)
-  pub whole : (n : ℕ) (s : Sheet) → n ≤ maxRecords → Fit n s → Linked ws s → (k : Link) → present s k ≡ true → side k ≡ r →
-      (j : ℕ) × (j < length ws) × (getD ws j 0 ≡ linkWord k) × ((j < at) ⊎ (i ≤ j))

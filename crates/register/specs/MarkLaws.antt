@@ -1,16 +1,15 @@
 -- Laws of marks: what a record's mark says of the sheet that is shown, and what setting one does. Assumes nothing.
 use mathlib.Core.Path.{_≡_, refl, sym, ap, subst, _∙_}
 use mathlib.Core.List.{List}
-use mathlib.Core.Bool.{Bool, true, false, not, _||_, _&&_, true≢false}
+use mathlib.Core.Bool.{Bool, true, false, true≢false}
 use Prim.Native.Nat.{ℕ, _≤_, _<_}
 use native.Mathlib.Omega.{arith}
 use lib.Dec.{eqb}
 use lib.ListN.{length, getD, set}
 use lib.Seq.{getD-set-same, getD-set-other, set-set, set-getD}
 use borrow.Author.Tests.{eqb-true, eqb-false}
-use Rattle.book.specs.Basics.{pick, has}
+use Rattle.book.specs.Basics.{pick}
 use Rattle.book.specs.Book.{Sheet, Book, isLocked, isWithdrawn}
-use Rattle.book.specs.Sheets.{Fit}
 use Rattle.register.specs.Marks.{freeMark, lockMark, withdrawnMark, hasMark, Marked}
 use Rattle.register.specs.Packed.{Packed, markOf, Shows}
 use Rattle.register.specs.Representation.{Represents}

@@ -1,13 +1,13 @@
 -- A sheet as the register keeps it, and what a held edit takes back: the means by which a register is related to a book.
---   Packed          the links' words, and the mark of each record
---   markOf s r      the mark of the record r in the sheet s
---   insert x l      x put in before the first number of l that is not below it
---   kindUnit        a held word is its kind times this, plus the link's word or the record
---   heldWord e      the word that is held for an edit
+--   Packed           the links' words, and the mark of each record
+--   markOf s r       the mark of the record r in the sheet s
+--   insert x l       x put in before the first number of l that is not below it
+--   kindUnit         a held word is its kind times this, plus the link's word or the record
+--   heldWord e       the word that is held for an edit
 --   takeBackKind, takeBack
---                   p with an edit taken back: by its kind and number, or by its held word
---   Shows n p s     p shows the sheet s of a register of n records: the same links, each once, as many of each label, and the same marks
---   Piled n p ws ss taking back the edits of the held words ws, one after the other from p on, shows the sheets ss one after the other
+--                    p with an edit taken back: by its kind and number, or by its held word
+--   Shows n p s      p shows the sheet s of a register of n records: the same links, each once, as many of each label, and the same marks
+--   Piled n p ws ss  taking back the edits of the held words ws, one after the other from p on, shows the sheets ss one after the other
 -- Assumes nothing: these are definitions.
 use mathlib.Core.Path.{_≡_}
 use mathlib.Core.List.{List, [], _∷_}

@@ -1,18 +1,15 @@
--- What is read of a register: its size, its marks, its totals, and its links as a slice of words.
--- Contents out of range are those of no register: nothing is read of them.
---   Sized self n    what `size` promises: at most 1,024, and the number of records of every book that the register represents
---   Listing self r  what `links` promises: at most 4,096 words, and for every book that the register represents, the words of its links
---   MarkList self r what `marks` promises: for every book that the register represents, whether each record is locked, and whether it is withdrawn
---   Locking self k r
---                   what `is_locked` promises: whether the record k is locked
---   Withdrawal self k r
---                   what `is_withdrawn` promises: whether it is withdrawn
---   TotalList self r
---                   what `totals` promises: for every book that the register represents, the total of each label
---   totalOf k t     the answer whose number is k: the total t if k is 0, else refused with k
---   totalAnswer s l the answer to asking for the total of the label l of the sheet s: the number of its links, or refused with 3
---   Totals self l a what `total` promises: for every book that the register represents, that answer; of other contents 16 or 3 on their
---                   causes, else some number
+-- What is read of a register: its size, its marks, its totals, and its links as a slice of words. Contents out of range are those of no register: nothing is
+-- read of them.
+--   Sized self n         what `size` promises: at most 1,024, and the number of records of every book that the register represents
+--   Listing self r       what `links` promises: at most 4,096 words, and for every book that the register represents, the words of its links
+--   MarkList self r      what `marks` promises: for every book that the register represents, whether each record is locked, and whether it is withdrawn
+--   Locking self k r     what `is_locked` promises: whether the record k is locked
+--   Withdrawal self k r  what `is_withdrawn` promises: whether it is withdrawn
+--   TotalList self r     what `totals` promises: for every book that the register represents, the total of each label
+--   totalOf k t          the answer whose number is k: the total t if k is 0, else refused with k
+--   totalAnswer s l      the answer to asking for the total of the label l of the sheet s: the number of its links, or refused with 3
+--   Totals self l a      what `total` promises: for every book that the register represents, that answer; of other contents 16 or 3 on their causes, else some
+--                        number
 -- Assumes nothing: these are definitions.
 use mathlib.Core.Path.{_≡_}
 use mathlib.Core.List.{List}

@@ -1,4 +1,12 @@
 -- Laws of a register's words: how many they are, that they are the words of one register, which words are a register's, and when they are loaded.
+--   parted         lists that are the same and parted at the same place have the same parts
+--   words-long, keeps-long
+--                  how many words a register has, and that a state which keeps one is no shorter
+--   keeps-same     words are those of one register
+--   part-long      how long a part of words is
+--   loaded         words of the form, with their parts read out, keep the register of these parts
+--   keeps-formed   words that are a register's have the form
+--   load-done      the number 0 says that they were loaded
 -- Assumes nothing.
 use mathlib.Core.Path.{_≡_, refl, sym, ap, _∙_}
 use mathlib.Core.List.{List, [], _∷_, _++_}
@@ -7,11 +15,10 @@ use native.Mathlib.Omega.{arith}
 use lib.ListN.{length, take, drop, getD, length-append, length-take, length-drop}
 use lib.Seq.{take-at, drop-at, getD-take, take-add, length-take-le}
 use Rattle.book.specs.Causes.{not-open, number, labels, maxLinks, maxHeld, maxRecords}
-use Rattle.register.specs.Counters.{Ranged}
 use Rattle.register.specs.Calls.{answerNumber}
 use Rattle.register.specs.HistoryLaws.{answer-done}
 use Rattle.register.specs.Inner.{Formed}
-use Rattle.register.specs.Words.{stateWords, linksAt, ringAt, marksAt, totalsAt, numbersOf, stateOf, Keeps, Foreign, Loads}
+use Rattle.register.specs.Words.{stateWords, linksAt, ringAt, marksAt, totalsAt, numbersOf, stateOf, Keeps, Loads}
 use Rattle.register.specs.declared.Register.{Register}
 use Rattle.register.specs.declared.Answer.{Answer}
 use Rattle.register.specs.declared.Answer.the-variants.{Done, Refused}
@@ -52,7 +59,8 @@ module _ {ws : List ℕ} where
       = omega (arith, marks-front r, marks-front s, k .links, l .links, k .ring, l .ring) in
       let marked : length (numbersOf r ++ r .links ++ r .ring ++ r .marks) ≡ length (numbersOf s ++ s .links ++ s .ring ++ s .marks)
       = omega (arith, totals-front r, totals-front s, k .links, l .links, k .ring, l .ring, k .marks, l .marks) in
-      let d = parted (numbersOf r ++ r .links ++ r .ring ++ r .marks) (r .totals) (numbersOf s ++ s .links ++ s .ring ++ s .marks) (s .totals) marked (sym (k .words) ∙ l .words) in
+      let d = parted (numbersOf r ++ r .links ++ r .ring ++ r .marks) (r .totals)
+      (numbersOf s ++ s .links ++ s .ring ++ s .marks) (s .totals) marked (sym (k .words) ∙ l .words) in
       let a = parted (numbersOf r ++ r .links ++ r .ring) (r .marks) (numbersOf s ++ s .links ++ s .ring) (s .marks) ringed (d .0) in
       let b = parted (numbersOf r ++ r .links) (r .ring) (numbersOf s ++ s .links) (s .ring) front (a .0) in
       let c = parted (numbersOf r) (r .links) (numbersOf s) (s .links) refl (b .0) in
@@ -90,7 +98,8 @@ loaded ws ls rs ks ts f e g h t = record {
     front : take marksAt ws ≡ (getD ws 0 0 ∷ getD ws 1 0 ∷ getD ws 2 0 ∷ getD ws 3 0 ∷ []) ++ ls ++ rs
     front =
         take-add ringAt maxHeld ws ∙ ap (λ (t : List ℕ). take ringAt ws ++ t) (sym g)
-        ∙ ap (λ (t : List ℕ). t ++ rs) (take-add linksAt maxLinks ws ∙ ap (λ (t : List ℕ). take linksAt ws ++ t) (sym e) ∙ ap (λ (t : List ℕ). t ++ ls) (four ws (omega (arith, f .long))))
+        ∙ ap (λ (t : List ℕ). t ++ rs) (take-add linksAt maxLinks ws ∙ ap (λ (t : List ℕ). take linksAt ws ++ t) (sym e)
+        ∙ ap (λ (t : List ℕ). t ++ ls) (four ws (omega (arith, f .long))))
 
     marked : take totalsAt ws ≡ (getD ws 0 0 ∷ getD ws 1 0 ∷ getD ws 2 0 ∷ getD ws 3 0 ∷ []) ++ ls ++ rs ++ ks
     marked = take-add marksAt maxRecords ws ∙ ap (λ (u : List ℕ). take marksAt ws ++ u) (sym h) ∙ ap (λ (u : List ℕ). u ++ ks) front
@@ -117,15 +126,6 @@ keeps-formed ws r k = record {
         sym (drop-at (take marksAt ws) (take maxRecords (drop marksAt ws)) marksAt (length-take-le marksAt ws (omega (arith, keeps-long k))))
         ∙ ap (drop marksAt) (sym (take-add marksAt maxRecords ws) ∙ whole)
         ∙ drop-at (numbersOf r ++ r .links ++ r .ring) (r .marks) marksAt (omega (arith, marks-front r, k .links, k .ring))
-
-pub formed-keeps : (ws : List ℕ) → Formed ws → (r : Register) × Keeps ws r
-formed-keeps ws f = (_, loaded ws _ _ _ _ f refl refl refl refl)
-
-pub foreign-form : {ws : List ℕ} → Foreign ws → Formed ws → ⊥
-foreign-form {ws} g f = let k = formed-keeps ws f in g (k .0) (k .1)
-
-pub form-foreign : {ws : List ℕ} → (Formed ws → ⊥) → Foreign ws
-form-foreign {ws} g r k = g (keeps-formed ws r k)
 
 -- the number 0 says that they were loaded
 pub load-done : {ws : List ℕ} {o : Outcome} → Loads ws o → answerNumber (o .answer) ≡ 0 → o .answer ≡ Done

@@ -10,7 +10,8 @@
 --                   what `copy` promises: xs from place `at` on, or, if they do not fit there, false and nothing changed
 --   Loads ws out    what `load` promises: the register of the words, or, if they are no register's, 16 and the register of no records
 --   Stores r before after ok
---                   what `store` promises: the register's words in the front, or, with too few words, or counters or marks out of range, false and nothing changed
+--                   what `store` promises: the register's words in the front, or, with too few words, or counters or marks out of
+--                   range, false and nothing changed
 -- Assumes nothing: these are definitions.
 use mathlib.Core.Path.{_≡_}
 use mathlib.Core.List.{List, [], _∷_, _++_}

@@ -45,7 +45,8 @@ fn ranks(marks: &[u32]) -> [u32; RANKS]
 
 // The new number of each record below n, over the front of the list.
 fn tell(marks: &[u32], ranks: &[u32], n: usize, numbers: &mut [u16])
-    requires { ⌜ (length (now marks) ≡ maxRecords) × Ranked (now marks) (now ranks) × (maxRecords ≤ length (now ranks)) × (n ≤ maxRecords) × (n ≤ length (now numbers)) ⌝ }
+    requires { ⌜ (length (now marks) ≡ maxRecords) × Ranked (now marks) (now ranks)
+        × (maxRecords ≤ length (now ranks)) × (n ≤ maxRecords) × (n ≤ length (now numbers)) ⌝ }
     ensures { λ _. ⌜ now (numbers .exit) ≡ over (newNumbers (inUse (now (marks .entry))) n) (now (numbers .entry)) ⌝ }
 {
     let mut i = 0;

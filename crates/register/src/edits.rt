@@ -1,4 +1,5 @@
-// The calls that edit a register: add, remove, lock, unlock, withdraw, reinstate, undo, and apply for any of them. What they promise is stated in specs/Calls.antt.
+// The calls that edit a register: add, remove, lock, unlock, withdraw, reinstate, undo, and apply for any of them. What they
+// promise is stated in specs/Calls.antt.
 use crate::Answer;
 use crate::Call;
 use crate::FREE_MARK;

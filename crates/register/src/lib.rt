@@ -11,9 +11,7 @@ mod state;
 mod totals;
 mod words;
 
-pub use closing::NO_NUMBER;
 pub use history::ADD_KIND;
-pub use history::CLOSE_KIND;
 pub use history::Entry;
 pub use history::LOCK_KIND;
 pub use history::REINSTATE_KIND;
@@ -24,8 +22,6 @@ pub use history::WITHDRAW_KIND;
 pub use history::entry_of;
 pub use history::replay;
 pub use questions::label_part;
-pub use questions::next_in;
-pub use questions::next_out;
 pub use state::number_of;
 pub use words::STATE_WORDS;
 pub use words::copy;
@@ -65,8 +61,8 @@ pub const WITHDRAWN_MARK: u32 = 2;
 // The last place of the ring.
 const LAST_HELD: usize = book::MAX_HELD - 1;
 
-// n records, and the mark of each; the first count words of links, ascending, are the links present; of ring, the held words before top are the latest accepted edits;
-// totals has the number of links of each label.
+// n records, and the mark of each; the first count words of links, ascending, are the links present; of ring, the held words before top are the latest accepted
+// edits; totals has the number of links of each label.
 pub struct Register {
     n: u16,
     count: usize,

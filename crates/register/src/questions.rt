@@ -19,7 +19,7 @@ ghost use lib.ListN.{length, take};
 ghost use Rattle.book.specs.Book.{touched as Book·touched};
 ghost use Rattle.register.specs.Links.{linkOf};
 ghost use Rattle.register.specs.Inner.{hasAt};
-ghost use Rattle.register.specs.Lookups.{LabelPart, nextPlace, NextLink, start, end};
+ghost use Rattle.register.specs.Lookups.{LabelPart, nextPlace};
 ghost use Rattle.register.specs.Questions.{Sized, Listing, MarkList, Locking, Withdrawal, TotalList, Totals};
 
 impl Register {
@@ -143,18 +143,4 @@ pub fn touched(words: &[u32], count: usize, record: u16) -> bool
         return true;
     }
     next_side(part, TO_UNIT, record, 0) < part.len()
-}
-
-// The first place from at on whose link begins at the record, or the number of words.
-pub fn next_out(words: &[u32], record: u16, at: usize) -> usize
-    ensures { λ r. ⌜ NextLink start (now (words .entry)) «record» at r ⌝ }
-{
-    next_side(words, FROM_UNIT, record, at)
-}
-
-// The first place from at on whose link ends at the record, or the number of words.
-pub fn next_in(words: &[u32], record: u16, at: usize) -> usize
-    ensures { λ r. ⌜ NextLink end (now (words .entry)) «record» at r ⌝ }
-{
-    next_side(words, TO_UNIT, record, at)
 }

@@ -115,7 +115,8 @@ impl Register {
         }
     }
 
-    // The register's words in the front of a slice; false, and nothing written, if its counters or marks are out of range or the slice is shorter than its words.
+    // The register's words in the front of a slice; false, and nothing written, if its counters or marks are out of range or the
+    // slice is shorter than its words.
     pub fn store(self, words: &mut [u32]) -> bool
         ensures { λ r. ⌜ Stores self (now (words .entry)) (now (words .exit)) r ⌝ }
     {

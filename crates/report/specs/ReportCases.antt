@@ -6,11 +6,12 @@ use mathlib.Core.List.{List, [], _∷_, map}
 use mathlib.Core.Bool.{Bool, true, false}
 use Prim.Native.Nat.{ℕ}
 use Prim.Native.String.{String}
-use Rattle.book.specs.Causes.{Cause, bad-label, locked-end, not-open, number}
+use Rattle.book.specs.Causes.{bad-label, locked-end, not-open, number}
 use Rattle.k2.specs.PairSets.{pairWord}
-use Rattle.paths.specs.Chains.{Step, stepWord, none, chain}
+use Rattle.paths.specs.Chains.{stepWord, none, chain}
 use Rattle.paths.specs.Questions.{refused, paired, replied}
-use Rattle.report.specs.Report.{bytes, figures, decimal, labelLetter, senseSign, pairLine, stepLine, lines, counted, okText, noneText, refusedText, pairsText, chainText, answerText, totalText, outcomeText}
+use Rattle.report.specs.Report.{bytes, figures, decimal, labelLetter, senseSign, pairLine, stepLine, lines, counted, okText, noneText, refusedText}
+use Rattle.report.specs.Report.{pairsText, chainText, answerText, totalText, outcomeText}
 
 abbrev step : ℕ → Bool → ℕ → ℕ
 step l i r = stepWord (record { spelt = record { label = l; inverted = i }; reached = r })
@@ -32,5 +33,6 @@ table =
     (outcomeText (replied none), "none\n") ∷ []
 
 pub lines-printed : map (λ t. t .0) table ≡ map (λ t. bytes (t .1)) table
-unfolding table bytes number figures decimal labelLetter senseSign pairLine stepLine lines counted okText noneText refusedText pairsText chainText answerText totalText outcomeText
+unfolding table bytes number figures decimal labelLetter senseSign pairLine stepLine lines counted okText noneText refusedText pairsText chainText answerText
+    totalText outcomeText
 lines-printed = refl

@@ -1,6 +1,6 @@
 -- Bytes written into a lent slice.
---   written p t l   the list l with the text t written over it from place p on
---   Wrote p t l m q a call that was given the contents l and the place p wrote t there: it left m, and handed back q, the place after t, within l
+--   written p t l    the list l with the text t written over it from place p on
+--   Wrote p t l m q  a call that was given the contents l and the place p wrote t there: it left m, and handed back q, the place after t, within l
 -- Assumes nothing: these are definitions.
 use mathlib.Core.Path.{_≡_}
 use mathlib.Core.List.{List, _++_}

@@ -1,8 +1,8 @@
 -- Laws of writing: lengths are kept, nothing written is nothing changed, one text after another is both as one.
 -- Assumes nothing.
 use mathlib.Core.Path.{_≡_, refl, sym, ap, subst, _∙_}
-use mathlib.Core.List.{List, [], _∷_, _++_, append-assoc, append-nil}
-use Prim.Native.Nat.{ℕ, suc, _+_, _≤_, _<_}
+use mathlib.Core.List.{List, [], _∷_, _++_, append-assoc}
+use Prim.Native.Nat.{ℕ, _+_, _≤_, _<_}
 use native.Mathlib.Nat.{add-zero, add-assoc}
 use native.Mathlib.Numerals.{add-one}
 use native.Mathlib.Omega.{arith}
@@ -36,7 +36,8 @@ written-written p t u l h =
     ∙ ap (λ (m : List ℕ). drop (length u) m) (ap (λ (m : List ℕ). drop (p + length t) m) same ∙ drop-at (take p l ++ t) rest (p + length t) long)
     ∙ drop-drop (length u) (p + length t) l
     ∙ ap (λ (n : ℕ). drop n l) (add-assoc p (length t) (length u) ∙ ap (λ (n : ℕ). p + n) (sym (length-append t u))) in
-    rw (front, back) (append-assoc (take p l) t (u ++ drop (p + length (t ++ u)) l) ∙ ap (λ (m : List ℕ). take p l ++ m) (sym (append-assoc t u (drop (p + length (t ++ u)) l))))
+    rw (front, back) (append-assoc (take p l) t (u ++ drop (p + length (t ++ u)) l)
+    ∙ ap (λ (m : List ℕ). take p l ++ m) (sym (append-assoc t u (drop (p + length (t ++ u)) l))))
 
 pub wrote-byte : (p b : ℕ) (l : List ℕ) → p < length l → Wrote p (b ∷ []) l (set l p b) (p + 1)
 unfolding written
@@ -50,7 +51,8 @@ pub wrote-then : {p q r : ℕ} {t u l m k : List ℕ} → Wrote p t l m q → Wr
 wrote-then {p} {q} {r} {t} {u} {l} {m} {k} a b =
     let room : p + length t ≤ length l = rw (a .place) at (a .fits) in
     record {
-      contents = b .contents ∙ ap (λ (j : ℕ). written j u m) (a .place) ∙ ap (λ (x : List ℕ). written (p + length t) u x) (a .contents) ∙ written-written p t u l room;
+      contents =
+          b .contents ∙ ap (λ (j : ℕ). written j u m) (a .place) ∙ ap (λ (x : List ℕ). written (p + length t) u x) (a .contents) ∙ written-written p t u l room;
       place = b .place ∙ ap (λ (j : ℕ). j + length u) (a .place) ∙ add-assoc p (length t) (length u) ∙ ap (λ (n : ℕ). p + n) (sym (length-append t u));
       fits = omega (arith, b .fits, ap length (a .contents), length-written p t l room);
     }
@@ -60,7 +62,8 @@ pub wrote-as : {p q : ℕ} {t u l m : List ℕ} → t ≡ u → Wrote p t l m q 
 wrote-as {p} {q} {t} {u} {l} {m} e w = subst (λ (v : List ℕ). Wrote p v l m q) e w
 
 -- one byte more of a text
-pub wrote-more : (p i : ℕ) (t l m : List ℕ) → Wrote p (take i t) l m (p + i) → i < length t → p + i < length m → Wrote p (take (i + 1) t) l (set m (p + i) (getD t i 0)) (p + (i + 1))
+pub wrote-more : (p i : ℕ) (t l m : List ℕ) → Wrote p (take i t) l m (p + i) → i < length t
+    → p + i < length m → Wrote p (take (i + 1) t) l (set m (p + i) (getD t i 0)) (p + (i + 1))
 wrote-more p i t l m w h k =
     rw (add-one i, take-suc t i 0 h, ← add-one, ← add-assoc)
     (wrote-then w (wrote-byte (p + i) (getD t i 0) m k))

@@ -3,7 +3,8 @@
 ghost use mathlib.Core.List.{[], _∷_};
 ghost use Prim.Native.Nat.{_+_, _*_, _≤_, _<_};
 ghost use lib.ListN.{length};
-ghost use Rattle.report.specs.Report.{decimal, counted, pairLine, stepLine, labelLetter, senseSign, okText, noneText, refusedText, pairsText, chainText, answerText, totalText};
+ghost use Rattle.report.specs.Report.{decimal, counted, pairLine, stepLine, labelLetter, senseSign, okText, noneText, refusedText, pairsText, chainText};
+ghost use Rattle.report.specs.Report.{answerText, totalText};
 ghost use Rattle.report.specs.Written.{Wrote};
 ghost use mathlib.Core.Path.{_≡_};
 

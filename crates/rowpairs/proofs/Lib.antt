@@ -1,6 +1,6 @@
-pub mod Operating
-pub mod Stepping
-pub mod Running
-pub mod Answering
-pub mod Lettering
-pub mod Alone
+pub mod OperationLaws
+pub mod StepLaws
+pub mod RunLaws
+pub mod AnswerLaws
+pub mod LetterLaws
+pub mod LoneLetterLaws

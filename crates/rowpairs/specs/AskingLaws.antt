@@ -8,7 +8,7 @@
 -- Assumes nothing.
 use mathlib.Core.Path.{_≡_, refl, sym, ap, _∙_, subst}
 use mathlib.Core.List.{List}
-use Prim.Native.Nat.{ℕ, _*_, _≤_, _<_}
+use Prim.Native.Nat.{ℕ, _≤_, _<_}
 use native.Mathlib.Omega.{arith}
 use lib.ListN.{length, take}
 use borrow.Author.Tests.{lt-ltb, le-ltb}
@@ -25,7 +25,7 @@ use Rattle.register.specs.Representation.{Represents}
 use Rattle.register.specs.declared.Register.{Register}
 use Rattle.pairs.specs.declared.PairsAnswer.{PairsAnswer}
 use Rattle.pairs.specs.Asking.{Tells, told-number, told-pairs, Handed, handed, AsksPairs}
-use Rattle.rowpairs.specs.Asking.{rowWidth, rowsWork, rowsCauses, rowsAnswer, BookRows, AsksRows}
+use Rattle.rowpairs.specs.Asking.{rowsWork, rowsCauses, rowsAnswer, BookRows, AsksRows}
 
 module _ (b : Book) (work room : ℕ) where
   pub rows-refused : (v : Verdict) (k : ℕ) → readAnswer v ≡ Faulty k → rowsAnswer b v work room ≡ refused k
@@ -39,18 +39,21 @@ module _ (b : Book) (work room : ℕ) where
   unfolding rowsAnswer rowsCauses verdictCause firstNumber number
   rows-short e h = rw (lt-ltb work (rowsWork (b .n)) h)
 
-  pub rows-paired : (e : Expr) → rowsWork (b .n) ≤ work → rowsAnswer b (accepted e) work room ≡ paired (length (pairs (asked b) e)) (take room (pairs (asked b) e))
+  pub rows-paired : (e : Expr) → rowsWork (b .n) ≤ work
+      → rowsAnswer b (accepted e) work room ≡ paired (length (pairs (asked b) e)) (take room (pairs (asked b) e))
   unfolding rowsAnswer rowsCauses verdictCause firstNumber number pairsOf
   rows-paired e h = rw (le-ltb work (rowsWork (b .n)) h)
 
 -- what is handed over is the outcome, told and listed
-pub rows-handed : (b : Book) (e : Expr) (work : ℕ) {before after : List ℕ} {a : PairsAnswer} → rowsWork (b .n) ≤ work → Handed (pairs (asked b) e) before after a
+pub rows-handed : (b : Book) (e : Expr) (work : ℕ) {before after : List ℕ} {a : PairsAnswer}
+    → rowsWork (b .n) ≤ work → Handed (pairs (asked b) e) before after a
     → BookRows b (accepted e) work before after a
 unfolding listAfter
 rows-handed b e work {before} h (handed q) = let o = rows-paired b work (length before) e h in record { tells = rw o told-pairs; list = rw o q }
 
 -- ---- by rows and by trees
-pub rows-outcome : (b : Book) (v : Verdict) (trees rows room : ℕ) → pairsWork (b .n) ≤ trees → rowsWork (b .n) ≤ rows → rowsAnswer b v rows room ≡ pairsAnswer b v trees room
+pub rows-outcome : (b : Book) (v : Verdict) (trees rows room : ℕ) → pairsWork (b .n) ≤ trees
+    → rowsWork (b .n) ≤ rows → rowsAnswer b v rows room ≡ pairsAnswer b v trees room
 unfolding rowsAnswer rowsCauses pairsAnswer pairsCauses verdictCause
 rows-outcome b v trees rows room h l = rw (le-ltb trees (pairsWork (b .n)) h, le-ltb rows (rowsWork (b .n)) l)
 
@@ -63,7 +66,8 @@ tells-same t u = go t u refl
     go told-number told-pairs e = absurd (let z : _≡_ {A = ℕ} 0 1 = cc in omega arith)
     go told-pairs told-number e = absurd (let z : _≡_ {A = ℕ} 0 1 = cc in omega arith)
 
-pub rows-same : (r : Register) (b : Book) (text : List ℕ) (trees rows : ℕ) (before after after′ : List ℕ) (a a′ : PairsAnswer) → Represents r b → pairsWork (b .n) ≤ trees → rowsWork (b .n) ≤ rows
+pub rows-same : (r : Register) (b : Book) (text : List ℕ) (trees rows : ℕ) (before after after′ : List ℕ) (a a′ : PairsAnswer)
+    → Represents r b → pairsWork (b .n) ≤ trees → rowsWork (b .n) ≤ rows
     → AsksPairs r text trees before after a → AsksRows r text rows before after′ a′ → (a′ ≡ a) × (after′ ≡ after)
 rows-same r b text trees rows before after after′ a a′ R h l T S =
     let o = rows-outcome b _ trees rows (length before) h l in

@@ -1,26 +1,23 @@
 -- How a pair question is evaluated by rows: the relations still waiting, which lie one after another at the front of the lent work, and so do their masks.
 --   Space n w cells masks
---                   what an operation on relations of n rows of w words is lent: so many words and masks, enough for two relations and a row
---   Lent n cells masks
---                   what the whole question is lent: enough for 32 relations, and for the masks of 20 and one more
---   outcomeOf g y a b
---                   the value of the item y on its operands in the graph g: a, or a and b, or none
+--                         what an operation on relations of n rows of w words is lent: so many words and masks, enough for two relations and a row
+--   Lent n cells masks    what the whole question is lent: enough for 32 relations, and for the masks of 20 and one more
+--   outcomeOf g y a b     the value of the item y on its operands in the graph g: a, or a and b, or none
 --   Operates n w links used y ws ws′ ms ms′
---                   an operation on the relations at the front of ws and ms: for every book whose links and records in use these are, it has left the value of the
---                   item y as the first
---   relationAt n ws ms k
---                   the relation at place k of the work ws, its masks being in ms
---   lying n ws ms k the relations at the first k places, the last one first
+--                         an operation on the relations at the front of ws and ms: for every book whose links and records in use these are, it has left the
+--                         value of the item y as the first
+--   relationAt n ws ms k  the relation at place k of the work ws, its masks being in ms
+--   lying n ws ms k       the relations at the first k places, the last one first
 --   Goes n links used y ws ws′ ms ms′ k k′
---                   one number of the code, which is the item y: k relations wait before it and k′ after it; for every book whose links and records in use these
---                   are, it has done to them what the item does
---   Reading c i q   what is read of the code c at place i: an item, and how many numbers it was read from; `^` right after letters is read with them, and exchanges
---                   their two sets
---   Height c k      k relations wait, the code c is left to run on as many, and it never wants more than 19
+--                         one number of the code, which is the item y: k relations wait before it and k′ after it; for every book whose links and records in
+--                         use these are, it has done to them what the item does
+--   Reading c i q         what is read of the code c at place i: an item, and how many numbers it was read from; `^` right after letters is read with them, and
+--                         exchanges their two sets
+--   Height c k            k relations wait, the code c is left to run on as many, and it never wants more than 19
 --   Going n links used c ws ms k i
---                   the first i numbers of the code c have been run, and k relations wait
+--                         the first i numbers of the code c have been run, and k relations wait
 --   ValueFirst n links used c ws ms
---                   the code c has been run: for every book whose links and records in use these are, the first relation is its value
+--                         the code c has been run: for every book whose links and records in use these are, the first relation is its value
 -- Assumes nothing: these are definitions.
 use mathlib.Core.Path.{_≡_}
 use mathlib.Core.List.{List, [], _∷_}
@@ -90,7 +87,8 @@ pub record Height (c : List ℕ) (k : ℕ) : Type 0 where
 
 pub record Going (n : ℕ) (links used c ws ms : List ℕ) (k i : ℕ) : Type 0 where
   pub height : Height (drop i c) k
-  pub rest : (b : Book) → Lettered b n links used → (s : List ℕ) (e : Expr) → Coded s e c → run (relations (asked b)) (drop i c) (lying n ws ms k) ≡ cells (asked b) e ∷ []
+  pub rest : (b : Book) → Lettered b n links used → (s : List ℕ) (e : Expr) → Coded s e c
+      → run (relations (asked b)) (drop i c) (lying n ws ms k) ≡ cells (asked b) e ∷ []
 
 pub record ValueFirst (n : ℕ) (links used c ws ms : List ℕ) : Type 0 where
   pub value : (b : Book) → Lettered b n links used → (s : List ℕ) (e : Expr) → Coded s e c → first n (rowWidth n) ws ms ≡ cells (asked b) e

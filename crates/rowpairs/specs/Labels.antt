@@ -1,14 +1,14 @@
 -- The links of letters, label by label.
---   everyLabel      the set of all 26 labels
---   everyIf m l     that set if the label l is in the set m of labels, else the set of none
---   steppedBy g f l the pairs that one step joins, whose letter is of the label l and one of the set f
---   steppedBelow g f k
---                   the same for the labels below k
+--   everyLabel          the set of all 26 labels
+--   everyIf m l         that set if the label l is in the set m of labels, else the set of none
+--   steppedBy g f l     the pairs that one step joins, whose letter is of the label l and one of the set f
+--   steppedBelow g f k  the same for the labels below k
 --   PutBelow n w links forward against ws ms ws′ ms′ k
---                   into the first relation of ws and ms the links of the letters whose labels are below k have been put, for every book whose links these are
---   Alone l c       the code c is one number, that of the plain letter of the label l
+--                       into the first relation of ws and ms the links of the letters whose labels are below k have been put, for every book whose links these
+--                       are
+--   Alone l c           the code c is one number, that of the plain letter of the label l
 --   LetterListed links l before after r
---                   the pairs of the part of the label l of the links have been written to a list that held `before`, as many as it takes; they are r
+--                       the pairs of the part of the label l of the links have been written to a list that held `before`, as many as it takes; they are r
 -- Assumes nothing: these are definitions.
 use mathlib.Core.Path.{_≡_}
 use mathlib.Core.List.{List, map, _++_}

@@ -3,7 +3,7 @@
 ghost use mathlib.Core.Path.{_≡_};
 ghost use mathlib.Core.List.{List, map, _++_};
 ghost use mathlib.Core.Logic.{_⊎_};
-ghost use Prim.Native.Nat.{ℕ, _+_, _-_, _*_, _/_, _^_, _<_, _≤_};
+ghost use Prim.Native.Nat.{ℕ, _^_, _<_, _≤_};
 ghost use lib.ListN.{length, take, drop, getD};
 ghost use mathlib.Core.Bool.{true};
 ghost use Rattle.book.specs.Book.{Book};
@@ -11,7 +11,6 @@ ghost use Rattle.book.specs.Causes.{maxRecords};
 ghost use Rattle.k2.specs.PairSets.{union};
 ghost use Rattle.paths.specs.Expressions.{Expr};
 ghost use Rattle.paths.specs.Grammar.{accepted};
-ghost use Rattle.paths.specs.Verdicts.{verdict};
 ghost use Rattle.paths.specs.Chains.{asked};
 ghost use Rattle.paths.specs.Relations.{crossedBy};
 ghost use Rattle.reader.specs.declared.items.Item.the-variants.{Inverse};
@@ -22,7 +21,7 @@ ghost use Rattle.rows.specs.Rows.{linkPair};
 ghost use Rattle.grid.specs.Grid.{first};
 ghost use Rattle.pairs.specs.Evaluation.{Ready};
 ghost use Rattle.pairs.specs.Steps.{Lettered, Coded};
-ghost use Rattle.rowpairs.specs.Asking.{rowWidth, rowsWork, AsksRowsFor, AsksRows};
+ghost use Rattle.rowpairs.specs.Asking.{rowWidth, AsksRowsFor, AsksRows};
 ghost use Rattle.rowpairs.specs.Labels.{everyIf, Alone, LetterListed};
 ghost use Rattle.rowpairs.specs.Evaluation.{Space, Lent, Operates, Goes, Reading, ValueFirst};
 use reader::Item;
@@ -105,7 +104,8 @@ fn operate(
     item: Item,
 )
     requires { ⌜ Space n w (length (now cells)) (length (now masks)) ⌝ }
-    ensures { λ _. ⌜ Operates n w (now (links .entry)) (now (used .entry)) item (now (cells .entry)) (now (cells .exit)) (now (masks .entry)) (now (masks .exit)) ⌝ }
+    ensures { λ _. ⌜ Operates n w (now (links .entry)) (now (used .entry)) item
+        (now (cells .entry)) (now (cells .exit)) (now (masks .entry)) (now (masks .exit)) ⌝ }
 {
     match item {
         Item::Letters(forward, against) => {
@@ -150,7 +150,8 @@ fn step(
     item: Item,
 ) -> usize
     requires { ⌜ Lent n (length (now cells)) (length (now masks)) × Ready item count ⌝ }
-    ensures { λ r. ⌜ Goes n (now (links .entry)) (now (used .entry)) item (now (cells .entry)) (now (cells .exit)) (now (masks .entry)) (now (masks .exit)) count r ⌝ }
+    ensures { λ r. ⌜ Goes n (now (links .entry)) (now (used .entry)) item (now (cells .entry))
+        (now (cells .exit)) (now (masks .entry)) (now (masks .exit)) count r ⌝ }
 {
     let w = row_width(n);
     let unit = n * w;

@@ -1,6 +1,6 @@
-pub mod Wordwise
-pub mod Search
-pub mod Entries
-pub mod Closing
-pub mod Listing
-pub mod Puts
+pub mod WordwiseLaws
+pub mod SearchLaws
+pub mod EntryLaws
+pub mod ClosureLaws
+pub mod ListingLaws
+pub mod PutLaws

@@ -1,5 +1,18 @@
--- Laws of rows: a row's bits are the set's cells, the rows of the operations on sets, the pairs of link words and one step over them, and the pairs
--- that rows hold.
+-- Laws of rows, of the operations on sets, and of the pairs of link words.
+--   flat-at        a row's bits are the set's cells
+--   flat-none, none-set, union-none, union-right, transpose-none, none-tree
+--                  the set with no pair, under each operation
+--   union-join, union-swap, transpose-union, transpose-twice
+--                  the algebra of unions and transposes
+--   flat-intersection, flat-difference
+--                  the rows of an intersection and of a difference, bit by bit
+--   pair-links, labelled-none, set-none
+--                  pair words read as links are their own; no label, no words; no words, no pairs
+--   crossed-none, crossed-turned, crossed-pairs, crossed-set
+--                  one step over link words: by no label, with the senses exchanged, over pair words as they are; it makes a set
+--   diagonal-used  records below n, each joined to itself, are a set
+--   places-gap     places over a gap are those before it
+--   pairs-in       rows of a set hold its pairs
 -- Assumes nothing.
 use mathlib.Core.Path.{_≡_, refl, sym, ap, ap₂, _∙_, fun-ext}
 use mathlib.Core.Bool.{Bool, true, false}
@@ -7,18 +20,17 @@ use mathlib.Core.List.{List, [], _∷_, _++_, map, append-nil, append-assoc}
 use Prim.Native.Nat.{ℕ, zero, suc, _+_, _-_, _*_, _/_, _%_, _≤_, _<_}
 use native.Mathlib.Nat.{add-zero, add-suc, mod-eq-of-lt}
 use native.Mathlib.Omega.{arith}
-use lib.Dec.{ltb, eqb}
-use borrow.Author.Tests.{le-ltb}
+use lib.Dec.{eqb}
 use Rattle.book.specs.Basics.{pick, bit, has, In, here, there}
 use Rattle.k2.specs.Bits.{digit, bitAt}
 use Rattle.k2.specs.DigitLaws.{digit-none}
 use Rattle.k2.specs.BitLaws.{bit-lt}
 use Rattle.k2.specs.PairSets.{Cells, IsSet, ifSet, rowPairs, rowsPairs, listed, setOf, union, intersection, difference, transpose, diagonal, PairsBelow}
-use Rattle.k2.specs.PairSetLaws.{bit-small, union-set, transpose-set, setOf-set, diagonal-set}
+use Rattle.k2.specs.PairSetLaws.{union-set, transpose-set, setOf-set, diagonal-set}
 use Rattle.k2.specs.Trees.{treeWords}
 use Rattle.k2.specs.TreeLaws.{treeWords-none}
 use Rattle.bits.specs.BitSets.{none, both, minus, Gap}
-use Rattle.rows.specs.Rows.{flat, noPairs, identity, linkPair, labelled, crossedWords, places, pairsIn}
+use Rattle.rows.specs.Rows.{flat, noPairs, linkPair, labelled, crossedWords, places, pairsIn}
 
 pub flat-at : (a : Cells) (x y : ℕ) → y < 1024 → flat a (x * 1024 + y) ≡ a x y
 unfolding flat
@@ -51,9 +63,6 @@ transpose-none = refl
 -- its tree has no words
 pub none-tree : (n : ℕ) → [] ≡ treeWords n noPairs
 none-tree n = sym (treeWords-none n) ∙ ap (treeWords n) (unfold noPairs in refl)
-
-pub identity-set : (n : ℕ) → IsSet n (identity n)
-identity-set n = diagonal-set n (λ x. bit (ltb x n)) (λ x. bit-small (ltb x n)) (λ x l. rw (le-ltb x n l))
 
 -- ---- the operations, cell by cell
 pub union-join : (x a b : Cells) → union (union x a) b ≡ union x (union a b)

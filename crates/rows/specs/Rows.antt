@@ -1,7 +1,6 @@
 -- Sets of pairs of records below 1,024 as rows of bits: 1,024 rows of 16 words, so that bit p of the rows is the pair word p.
 --   flat a          the bits of a set's rows
 --   noPairs         the set that has no pair
---   identity n      each record below n joined to itself
 --   linkPair w      the pair word of a link's word, label × 1,048,576 + pair word
 --   labelled m ws   the words of the links ws whose label is in the set m of labels, bit l of which stands for the label l
 --   crossedWords ws forward against
@@ -14,19 +13,16 @@
 use mathlib.Core.Path.{_≡_}
 use mathlib.Core.List.{List, [], _∷_, _++_, map}
 use Prim.Native.Nat.{ℕ, zero, suc, _*_, _/_, _%_}
-use lib.Dec.{ltb, eqb}
-use Rattle.book.specs.Basics.{pick, bit}
+use lib.Dec.{eqb}
+use Rattle.book.specs.Basics.{pick}
 use Rattle.k2.specs.Bits.{digit, bitAt}
-use Rattle.k2.specs.PairSets.{Cells, IsSet, ifSet, setOf, union, transpose, diagonal}
+use Rattle.k2.specs.PairSets.{Cells, IsSet, ifSet, setOf, union, transpose}
 
 unfoldable pub flat : Cells → ℕ → ℕ
 flat a p = a (p / 1024) (p % 1024)
 
 unfoldable pub noPairs : Cells
 noPairs x y = 0
-
-abbrev pub identity : ℕ → Cells
-identity n = diagonal (λ x. bit (ltb x n))
 
 unfoldable pub linkPair : ℕ → ℕ
 linkPair w = w % 1048576

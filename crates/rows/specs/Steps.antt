@@ -1,19 +1,17 @@
 -- What the inner functions on rows promise.
---   EmptyRow f i    row i of the bits f has no pair
---   Masked f i v    nor have its squares of 64 columns at which the mask v has no bit
---   rowAt n m l t   the row of entry t of m entries, each mask × 1,024 + row; n past the last
---   Occupied f n r m
---                   r 0 < r 1 < .. r m are the rows below n that may hold a pair, and n: every row between them is empty
---   Masks f m l     each of m entries has a mask of its row
---   meets f g i j k row i of f and row j of g both have column k
---   Common f g i j v
---                   they have none in the squares at which the mask v has no bit
---   served f g i j  1 if they have a column in common, else 0
---   below b g       the bits g before place b
---   withRow i g f   f with the bits g as row i
---   rowsTo i a b    the set a in the rows below i, b in the others
---   plusRow i k a   a with the pairs of row k in row i besides
---   partRow i k w f the same of bits, of the first w squares
+--   EmptyRow f i      row i of the bits f has no pair
+--   Masked f i v      nor have its squares of 64 columns at which the mask v has no bit
+--   rowAt n m l t     the row of entry t of m entries, each mask × 1,024 + row; n past the last
+--   Occupied f n r m  r 0 < r 1 < .. r m are the rows below n that may hold a pair, and n: every row between them is empty
+--   Masks f m l       each of m entries has a mask of its row
+--   meets f g i j k   row i of f and row j of g both have column k
+--   Common f g i j v  they have none in the squares at which the mask v has no bit
+--   served f g i j    1 if they have a column in common, else 0
+--   below b g         the bits g before place b
+--   withRow i g f     f with the bits g as row i
+--   rowsTo i a b      the set a in the rows below i, b in the others
+--   plusRow i k a     a with the pairs of row k in row i besides
+--   partRow i k w f   the same of bits, of the first w squares
 -- Assumes nothing: these are definitions.
 use mathlib.Core.Path.{_≡_}
 use mathlib.Core.Bool.{_&&_}

@@ -3,7 +3,7 @@
 ghost use mathlib.Core.Path.{_≡_};
 ghost use mathlib.Core.Bool.{true};
 ghost use mathlib.Core.List.{_++_};
-ghost use Prim.Native.Nat.{ℕ, _+_, _*_, _≤_, _<_};
+ghost use Prim.Native.Nat.{ℕ, _≤_, _<_};
 ghost use lib.Dec.{eqb};
 ghost use lib.ListN.{length, take, drop};
 ghost use Rattle.k2.specs.Bits.{digit, bitAt};
@@ -66,7 +66,7 @@ pub fn set_diagonal(rows: &mut [u64], records: &[u64])
 }
 
 // Is a label in a set of labels?
-fn has_label(labels: u32, label: u32) -> bool
+pub fn has_label(labels: u32, label: u32) -> bool
     ensures { λ r. ⌜ r ≡ eqb (digit labels label) 1 ⌝ }
 {
     if 32 <= label {

@@ -1,4 +1,12 @@
--- Laws of a level committed: record by record of its list; what it is when all are done; and an empty level, committed by nothing. Assumes nothing.
+-- Laws of a level committed: record by record of its list; what it is when all are done; and an empty level, committed by nothing.
+--   commit-zero    an empty level, committed by nothing
+--   Committing w seen nx mark list i w′ seen′ nx′ records masks
+--                  the first i records of the list are committed
+--   committing-none, committing-more
+--                  so before the first, and one record more
+--   level-committed, level-cleared, level-held
+--                  all of them: the level is committed, its words are cleared, and it is held as a list
+-- Assumes nothing.
 use mathlib.Core.Path.{_≡_, refl, sym, ap, _∙_}
 use mathlib.Core.List.{List}
 use Prim.Native.Nat.{ℕ, _+_, _≤_, _<_, max}
@@ -19,7 +27,13 @@ use Rattle.search.proofs.FrontierLaws.{listed-some}
 
 -- an empty level, committed by nothing
 pub commit-zero : (w s nx : List ℕ) (mark n : ℕ) → Zero nx → Committed w s nx mark n w s
-commit-zero w s nx mark n z = record { hit = λ r q h g o. absurd (none-on q (rw (z r) at o)); miss = λ r q h e. refl; seen-more = λ r q h. rw (z r, digit-none) (omega arith); seen-same = λ r q h. refl }
+commit-zero w s nx mark n z =
+    record {
+      hit = λ r q h g o. absurd (none-on q (rw (z r) at o));
+      miss = λ r q h e. refl;
+      seen-more = λ r q h. rw (z r, digit-none) (omega arith);
+      seen-same = λ r q h. refl;
+    }
 
 pub record Committing (w seen nx : List ℕ) (mark : ℕ) (list : List ℕ) (i : ℕ) (w′ seen′ nx′ records masks : List ℕ) : Type 0 where
   pub hit : (h q : ℕ) → h < i → q < 64 → On (digit (getD nx (getD list h 0) 0) q) → numberAt w′ (getD list h 0) q ≡ mark
@@ -43,7 +57,8 @@ committing-none w seen nx mark list records masks = record {
   masks-at = λ h l. absurd (omega arith);
 }
 
-module _ {w seen nx : List ℕ} {mark : ℕ} {list : List ℕ} {i : ℕ} {w′ seen′ nx′ records masks : List ℕ} (I : Committing w seen nx mark list i w′ seen′ nx′ records masks) {c n : ℕ} (L : Listed list c n nx) where
+module _ {w seen nx : List ℕ} {mark : ℕ} {list : List ℕ} {i : ℕ} {w′ seen′ nx′ records masks : List ℕ}
+    (I : Committing w seen nx mark list i w′ seen′ nx′ records masks) {c n : ℕ} (L : Listed list c n nx) where
   -- the record at i is not among the first
   first-here : i < c → (h : ℕ) → h < i → getD list h 0 ≡ getD list i 0 → ⊥
   first-here l h g e = L .apart h i g l e
@@ -56,7 +71,8 @@ module _ {w seen nx : List ℕ} {mark : ℕ} {list : List ℕ} {i : ℕ} {w′ s
     word : getD nx′ r₀ 0 ≡ getD nx r₀ 0
     word = I .left r₀ (first-here hi)
 
-    pub committing-more : Committing w seen nx mark list (i + 1) w₂ (set seen′ r₀ (bitOr (getD seen′ r₀ 0) (getD nx′ r₀ 0))) (set nx′ r₀ 0) (set records i r₀) (set masks i (getD nx′ r₀ 0))
+    pub committing-more : Committing w seen nx mark list (i + 1) w₂
+        (set seen′ r₀ (bitOr (getD seen′ r₀ 0) (getD nx′ r₀ 0))) (set nx′ r₀ 0) (set records i r₀) (set masks i (getD nx′ r₀ 0))
     committing-more = record {
       hit = λ h q l g o. ht h q g o (which h i) l;
       miss = λ r q g e. ms r q g e (ℕ-discrete r r₀);
@@ -83,7 +99,8 @@ module _ {w seen nx : List ℕ} {mark : ℕ} {list : List ℕ} {i : ℕ} {w′ s
         ms r q g e (yes f) = let d : digit (getD nx r₀ 0) q ≡ 0 = rw f at e in rw f (S .miss q g (rw word d) ∙ I .miss r₀ q g d)
         ms r q g e (no f) = S .rest r q g f ∙ I .miss r q g e
 
-        si : (h q : ℕ) → h < i + 1 → Which h i → digit (getD (set seen′ r₀ (bitOr (getD seen′ r₀ 0) (getD nx′ r₀ 0))) (getD list h 0) 0) q ≡ max (digit (getD seen (getD list h 0) 0) q) (digit (getD nx (getD list h 0) 0) q)
+        si : (h q : ℕ) → h < i + 1 → Which h i → digit (getD (set seen′ r₀ (bitOr (getD seen′ r₀ 0) (getD nx′ r₀ 0))) (getD list h 0) 0) q
+            ≡ max (digit (getD seen (getD list h 0) 0) q) (digit (getD nx (getD list h 0) 0) q)
         si h q l (less f) = seen-other (getD list h 0) q (first-here hi h f) ∙ I .seen-in h q f
         si h q l (same f) =
             rw f (ap (λ (x : ℕ). digit x q) (getD-set-same seen′ r₀ (bitOr (getD seen′ r₀ 0) (getD nx′ r₀ 0)) 0 hs)
@@ -107,30 +124,39 @@ module _ {w seen nx : List ℕ} {mark : ℕ} {list : List ℕ} {i : ℕ} {w′ s
         ma h l (same f) = rw f (getD-set-same masks i (getD nx′ r₀ 0) 0 hm ∙ word)
         ma h l (more f) = absurd (omega arith)
 
-module _ {w seen nx : List ℕ} {mark : ℕ} {list : List ℕ} {c : ℕ} {w′ seen′ nx′ records masks : List ℕ} (I : Committing w seen nx mark list c w′ seen′ nx′ records masks) {n : ℕ} (L : Listed list c n nx) where
+module _ {w seen nx : List ℕ} {mark : ℕ} {list : List ℕ} {c : ℕ} {w′ seen′ nx′ records masks : List ℕ}
+    (I : Committing w seen nx mark list c w′ seen′ nx′ records masks) {n : ℕ} (L : Listed list c n nx) where
   -- a record with no state is not on the list
   not-listed : (r : ℕ) → getD nx r 0 ≡ 0 → (h : ℕ) → h < c → getD list h 0 ≡ r → ⊥
   not-listed r e h l f = let z : 0 < getD nx r 0 = rw f at (listed-some L h l) in omega arith
 
-  pub committed : Committed w seen nx mark n w′ seen′
-  committed = record { hit = λ r q h g o. ht r q g o (L .all r (some-on (getD nx r 0) q o)); miss = I .miss; seen-more = λ r q h. sm r q (digit-of (getD nx r 0)); seen-same = λ r q g. I .seen-off r q (λ h l e. (let z = L .small h l in omega arith)) }
+  pub level-committed : Committed w seen nx mark n w′ seen′
+  level-committed =
+      record {
+        hit = λ r q h g o. ht r q g o (L .all r (some-on (getD nx r 0) q o));
+        miss = I .miss;
+        seen-more = λ r q h. sm r q (digit-of (getD nx r 0));
+        seen-same = λ r q g. I .seen-off r q (λ h l e. (let z = L .small h l in omega arith));
+      }
     where
       ht : (r q : ℕ) → q < 64 → On (digit (getD nx r 0) q) → (h : ℕ) × (h < c) × (getD list h 0 ≡ r) → numberAt w′ r q ≡ mark
       ht r q g o z = rw (z .2) at (I .hit (z .0) q (z .1) g (rw (z .2) o))
 
       sm : (r q : ℕ) → Digit (getD nx r 0) → digit (getD seen′ r 0) q ≡ max (digit (getD seen r 0) q) (digit (getD nx r 0) q)
-      sm r q (is-off e) = let z : digit (getD nx r 0) q ≡ 0 = rw e (digit-none q) in I .seen-off r q (not-listed r e) ∙ (let y : digit (getD seen r 0) q ≡ max (digit (getD seen r 0) q) (digit (getD nx r 0) q) = omega arith in y)
+      sm r q (is-off e) =
+          let z : digit (getD nx r 0) q ≡ 0 = rw e (digit-none q) in
+          I .seen-off r q (not-listed r e) ∙ (let y : digit (getD seen r 0) q ≡ max (digit (getD seen r 0) q) (digit (getD nx r 0) q) = omega arith in y)
       sm r q (is-on o) = let z = L .all r o in rw (z .2) at (I .seen-in (z .0) q (z .1))
 
-  pub cleared : Zero nx′
-  cleared r = go (digit-of (getD nx r 0))
+  pub level-cleared : Zero nx′
+  level-cleared r = go (digit-of (getD nx r 0))
     where
       go : Digit (getD nx r 0) → getD nx′ r 0 ≡ 0
       go (is-off e) = I .left r (not-listed r e) ∙ e
       go (is-on o) = let z = L .all r o in rw (z .2) at (I .gone (z .0) (z .1))
 
-  pub held : n ≤ 1024 → Frontier records masks c nx
-  held hn = record {
+  pub level-held : n ≤ 1024 → Frontier records masks c nx
+  level-held hn = record {
     small = λ i h. rw (I .records-at i h) (let z = L .small i h in omega arith);
     at = λ i h. rw (I .records-at i h) (I .masks-at i h);
     all = λ r o. (let z = L .all r o in (z .0, z .1, I .records-at (z .0) (z .1) ∙ z .2));

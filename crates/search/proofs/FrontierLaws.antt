@@ -1,4 +1,14 @@
--- Laws of the records of a level: states added, records listed, the level of one record. Assumes nothing.
+-- Laws of the records of a level: states added, records listed, the level of one record.
+--   added-zero, added-past, added-more
+--                   states added to a record: none, to no record, some
+--   listed-none, listed-some, listed-fits
+--                   the records listed: none; each has a state; at most 1,024
+--   list-room, listed-new, listed-old
+--                   a record more: there is room, it is new, or it is listed already
+--   listed-take     the records listed, alone
+--   none-listed     an empty list is an empty level
+--   frontier-start  the level of one record
+-- Assumes nothing.
 use mathlib.Core.Path.{_≡_, refl, sym, ap, _∙_}
 use mathlib.Core.List.{List}
 use Prim.Native.Nat.{ℕ, _+_, _≤_, _<_, min}
@@ -33,7 +43,14 @@ added-more nx n r v l g = record {
 }
 
 pub listed-none : (list nx : List ℕ) (n : ℕ) → Zero nx → Listed list 0 n nx
-listed-none list nx n z = record { small = λ i h. absurd (omega arith); some = λ i h. absurd (omega arith); all = λ r o. absurd (let e = z r in omega arith); apart = λ i j l h. absurd (omega arith); room = omega arith }
+listed-none list nx n z =
+    record {
+      small = λ i h. absurd (omega arith);
+      some = λ i h. absurd (omega arith);
+      all = λ r o. absurd (let e = z r in omega arith);
+      apart = λ i j l h. absurd (omega arith);
+      room = omega arith;
+    }
 
 pub listed-some : {list : List ℕ} {c n : ℕ} {nx : List ℕ} → Listed list c n nx → (i : ℕ) → i < c → 0 < getD nx (getD list i 0) 0
 listed-some {list} {nx = nx} I i h = let z = I .some i h in some-on (getD nx (getD list i 0) 0) (z .0) (z .2)
@@ -42,7 +59,8 @@ pub listed-fits : {list : List ℕ} {c n : ℕ} {nx : List ℕ} → Listed list 
 unfolding hasState
 listed-fits {nx = nx} I = let z = ones-le (hasState nx) (λ i. omega arith) 1024 in let y = I .room in omega arith
 
-module _ {list : List ℕ} {c n : ℕ} {nx : List ℕ} (I : Listed list c n nx) (r v : ℕ) (hr : r < 1024) (hn : r < n) (vs : (q : ℕ) × (q < 64) × On (digit v q)) (long : length nx ≡ 1024) where
+module _ {list : List ℕ} {c n : ℕ} {nx : List ℕ} (I : Listed list c n nx) (r v : ℕ) (hr : r < 1024)
+    (hn : r < n) (vs : (q : ℕ) × (q < 64) × On (digit v q)) (long : length nx ≡ 1024) where
   abbrev nx₁ : List ℕ
   nx₁ = set nx r (bitOr (getD nx r 0) v)
 
@@ -75,7 +93,14 @@ module _ {list : List ℕ} {c n : ℕ} {nx : List ℕ} (I : Listed list c n nx) 
       go (no e) = let z = off-r a e in omega arith
 
   pub listed-old : 0 < getD nx r 0 → Listed list c n nx₁
-  listed-old o = record { small = I .small; some = λ i h. more-at (getD list i 0) (I .some i h); all = λ a h. al a h (ℕ-discrete a r); apart = I .apart; room = (let z = I .room in let y = ones-mono (hasState nx) (hasState nx₁) 1024 (λ i h. grows i) in omega arith) }
+  listed-old o =
+      record {
+        small = I .small;
+        some = λ i h. more-at (getD list i 0) (I .some i h);
+        all = λ a h. al a h (ℕ-discrete a r);
+        apart = I .apart;
+        room = (let z = I .room in let y = ones-mono (hasState nx) (hasState nx₁) 1024 (λ i h. grows i) in omega arith);
+      }
     where
       al : (a : ℕ) → 0 < getD nx₁ a 0 → Dec (a ≡ r) → (i : ℕ) × (i < c) × (getD list i 0 ≡ a)
       al a h (yes e) = I .all a (rw e o)
@@ -95,7 +120,14 @@ module _ {list : List ℕ} {c n : ℕ} {nx : List ℕ} (I : Listed list c n nx) 
     list-room = let z = ones-le (hasState nx₁) (λ i. omega arith) 1024 in let y = room-more in omega arith
 
     pub listed-new : length list ≡ 1024 → Listed (set list c r) (c + 1) n nx₁
-    listed-new ll = record { small = λ i h. sm i h (which i c); some = λ i h. so i h (which i c); all = λ a h. al a h (ℕ-discrete a r); apart = λ i j l h. ap′ i j l h (which j c); room = (let z = room-more in omega arith) }
+    listed-new ll =
+        record {
+          small = λ i h. sm i h (which i c);
+          some = λ i h. so i h (which i c);
+          all = λ a h. al a h (ℕ-discrete a r);
+          apart = λ i j l h. ap′ i j l h (which j c);
+          room = (let z = room-more in omega arith);
+        }
       where
         here-c : getD (set list c r) c 0 ≡ r
         here-c = getD-set-same list c r 0 (let z = list-room in omega arith)
@@ -148,7 +180,12 @@ none-listed {nx = nx} I h r = go (digit-of (getD nx r 0))
 
 -- ---- the level of one record
 pub frontier-start : (k y v : ℕ) → y < k → y < 1024 → Frontier (replicate k y) (replicate k v) 1 (set (replicate k 0) y v)
-frontier-start k y v h g = record { small = λ i l. rw (getD-replicate {A = ℕ} k i y 0 (omega arith)) g; at = λ i l. rw (getD-replicate {A = ℕ} k i y 0 (omega arith), getD-replicate {A = ℕ} k i v 0 (omega arith)) (sym (mask-here k y v h)); all = λ r o. al r o (ℕ-discrete r y) }
+frontier-start k y v h g =
+    record {
+      small = λ i l. rw (getD-replicate {A = ℕ} k i y 0 (omega arith)) g;
+      at = λ i l. rw (getD-replicate {A = ℕ} k i y 0 (omega arith), getD-replicate {A = ℕ} k i v 0 (omega arith)) (sym (mask-here k y v h));
+      all = λ r o. al r o (ℕ-discrete r y);
+    }
   where
     al : (r : ℕ) → 0 < getD {A = ℕ} (set (replicate k 0) y v) r 0 → Dec (r ≡ y) → (i : ℕ) × (i < 1) × (getD {A = ℕ} (replicate k y) i 0 ≡ r)
     al r o (yes e) = (0, omega arith, getD-replicate {A = ℕ} k 0 y 0 (omega arith) ∙ sym e)

@@ -1,4 +1,19 @@
--- The levels backward: the words and numbers keep what the search knows, states not seen grow fewer, and an empty level ends the search.
+-- The levels backward: what the search knows, kept level by level.
+--   distance-on, distance-off, distance-seen
+--                        the number counts where the state was seen
+--   ones-mono, ones-less, ones-most
+--                        how many bits are set: not more, fewer, at most all
+--   level-falls          a level that is not empty has more states seen, so fewer are left
+--   step-arc, shut, arc-moves
+--                        the arc of a step, that no step leads out of the records below n, and the step of an arc
+--   Level g M y n l w seen cur
+--                        the numbers of the first l levels are right, and cur has the states of the last
+--   level-next           one level more keeps it
+--   level-empty          an empty level: no walk from where the state was not seen
+--   mask-here, mask-off  a set of states at one record alone
+--   Start r q            the number is 1 at y and a final state, else 0
+--   level-start          so the level at the start
+--   sought               at the end, the start's number is that of its shortest walk
 -- Assumes nothing.
 use mathlib.Core.Path.{_≡_, refl, sym, _∙_, subst}
 use mathlib.Core.List.{List, [], _∷_}
@@ -65,7 +80,8 @@ unfolding bitAt
 ones-most ws k = ones-le (bitAt ws) (λ i. digit-lt (getD ws (i / 64) 0) (i % 64)) k
 
 -- a level that is not empty has more states seen
-pub level-falls : {cs ps es cur seen : List ℕ} {m mark n : ℕ} {nx w w′ seen′ : List ℕ} → Levelled cs ps es cur seen n m nx → Committed w seen nx mark n w′ seen′ → {r q : ℕ} → r < n → q < 64 → On (digit (getD nx r 0) q)
+pub level-falls : {cs ps es cur seen : List ℕ} {m mark n : ℕ} {nx w w′ seen′ : List ℕ} → Levelled cs ps es cur seen n m nx
+    → Committed w seen nx mark n w′ seen′ → {r q : ℕ} → r < n → q < 64 → On (digit (getD nx r 0) q)
     → onesBelow (bitAt seen) (n * 64) < onesBelow (bitAt seen′) (n * 64)
 unfolding bitAt
 level-falls {seen = seen} {n = n} {nx = nx} {seen′ = seen′} N C {r} {q} hr hq o =
@@ -73,12 +89,14 @@ level-falls {seen = seen} {n = n} {nx = nx} {seen′ = seen′} N C {r} {q} hr h
     let b : (r * 64 + q) % 64 ≡ q = omega arith in
     let f = N .fresh r q hq o in
     let s = C .seen-more r q hr in
-    ones-less (bitAt seen) (bitAt seen′) (n * 64) (r * 64 + q) (λ i h. (let z = C .seen-more (i / 64) (i % 64) (omega arith) in omega arith)) (omega arith) (rw (a, b) (omega arith))
+    ones-less (bitAt seen) (bitAt seen′) (n * 64) (r * 64 + q) (λ i h. (let z = C .seen-more (i / 64) (i % 64) (omega arith) in omega arith))
+    (omega arith) (rw (a, b) (omega arith))
 
 -- ---- no step leads out
 module _ {g : Graph} {M : Automaton} {fs ps es : List ℕ} {f n : ℕ} {cs : List ℕ} {k : ℕ} (S : Setting g M fs ps es f n cs k) where
   -- the arc of a step
-  pub step-arc : (r q q′ : ℕ) (s : Step) → Moves g M r q s q′ → (i : ℕ) × (i < k) × (arcFrom cs i ≡ r) × (arcTo cs i ≡ s .reached) × (arcLetter cs i ≡ letterNumber (s .spelt))
+  pub step-arc : (r q q′ : ℕ) (s : Step) → Moves g M r q s q′
+      → (i : ℕ) × (i < k) × (arcFrom cs i ≡ r) × (arcTo cs i ≡ s .reached) × (arcLetter cs i ≡ letterNumber (s .spelt))
   step-arc r q q′ s m = S .drawn .whole r q′ s (m .crosses) (rw (S .masked .enters q′ (s .spelt)) (m .enters))
 
   pub shut : Shut g M n
@@ -96,7 +114,10 @@ module _ {g : Graph} {M : Automaton} {fs ps es : List ℕ} {f n : ℕ} {cs : Lis
   arc-moves i r q q′ h e fo en = record {
     crosses = subst (λ (a : ℕ). g .present (crossing (arcStep cs i .spelt) a (arcTo cs i)) ≡ true) e (S .drawn .sound i h);
     follow = fo;
-    enters = (let z : digit (getD es (letterNumber (letterOf (arcLetter cs i))) 0) q′ ≡ M .enters q′ (letterOf (arcLetter cs i)) = S .masked .enters q′ (letterOf (arcLetter cs i)) in let y : digit (getD es (arcLetter cs i) 0) q′ ≡ M .enters q′ (letterOf (arcLetter cs i)) = rw (number-letter (arcLetter cs i)) at z in omega arith);
+    enters =
+        (let z : digit (getD es (letterNumber (letterOf (arcLetter cs i))) 0) q′ ≡ M .enters q′ (letterOf (arcLetter cs i)) =
+        S .masked .enters q′ (letterOf (arcLetter cs i)) in let y : digit (getD es (arcLetter cs i) 0) q′ ≡ M .enters q′ (letterOf (arcLetter cs i)) =
+        rw (number-letter (arcLetter cs i)) at z in omega arith);
   }
 
 -- ---- a level
@@ -107,7 +128,8 @@ pub record Level (g : Graph) (M : Automaton) (y n l : ℕ) (w seen cur : List �
   pub cur-all : (r q : ℕ) → r < n → q < 64 → distance w seen r q ≡ suc l → On (digit (getD cur r 0) q)
 
 module _ {g : Graph} {M : Automaton} {fs ps es : List ℕ} {f n : ℕ} {cs : List ℕ} {k : ℕ} (S : Setting g M fs ps es f n cs k)
-    {y l : ℕ} {w seen cur nx w′ seen′ : List ℕ} (I : Level g M y n l w seen cur) (N : Levelled cs ps es cur seen n k nx) (C : Committed w seen nx (suc (suc l)) n w′ seen′) where
+    {y l : ℕ} {w seen cur nx w′ seen′ : List ℕ} (I : Level g M y n l w seen cur)
+    (N : Levelled cs ps es cur seen n k nx) (C : Committed w seen nx (suc (suc l)) n w′ seen′) where
   abbrev d : ℕ → ℕ → ℕ
   d = distance w seen
 
@@ -141,7 +163,8 @@ module _ {g : Graph} {M : Automaton} {fs ps es : List ℕ} {f n : ℕ} {cs : Lis
   grown : Grown g M n l d d′
   grown = record { kept = kept-old; made = mk; all = al }
     where
-      mk : (r q : ℕ) → r < n → q < 64 → d r q ≡ 0 → 0 < d′ r q → (d′ r q ≡ suc (suc l)) × (s : Step) × (q′ : ℕ) × Moves g M r q s q′ × (d (s .reached) q′ ≡ suc l)
+      mk : (r q : ℕ) → r < n → q < 64 → d r q ≡ 0 → 0 < d′ r q
+          → (d′ r q ≡ suc (suc l)) × (s : Step) × (q′ : ℕ) × Moves g M r q s q′ × (d (s .reached) q′ ≡ suc l)
       mk r q hr hq e o = go (digit-of (digit (getD nx r 0) q))
         where
           go : Digit (digit (getD nx r 0) q) → (d′ r q ≡ suc (suc l)) × (s : Step) × (q′ : ℕ) × Moves g M r q s q′ × (d (s .reached) q′ ≡ suc l)
@@ -192,7 +215,8 @@ module _ {g : Graph} {M : Automaton} {fs ps es : List ℕ} {f n : ℕ} {cs : Lis
   -- an empty level: no walk from where the state was not seen
   pub level-empty : (x : ℕ) → x < n → digit (getD seen x 0) 0 ≡ 0 → Zero nx → (ss : List Step) → Walk g M y x 0 ss → ⊥
   level-empty x hx e none ss v =
-      let o = known-none (shut S) (level-next .known) (λ r q hr hq z. none-on q (rw (none r) at (level-next .cur-all r q hr hq z))) (length ss) x 0 hx (omega arith) (ss, refl, v) in
+      let o = known-none (shut S) (level-next .known) (λ r q hr hq z. none-on q (rw (none r) at (level-next .cur-all r q hr hq z)))
+      (length ss) x 0 hx (omega arith) (ss, refl, v) in
       let z : digit (getD nx x 0) 0 ≡ 0 = rw (none x) (digit-none 0) in
       let a = neither x 0 hx (distance-off w seen x 0 e) (omega arith) z in
       omega arith
@@ -229,7 +253,12 @@ module _ {g : Graph} {M : Automaton} {fs ps es : List ℕ} {f n : ℕ} {cs : Lis
 
   pub level-start : Level g M y n 0 w m m
   level-start = record {
-    known = record { sound = λ r q k hr hq e. snd r q k e (start-of r q hq); complete = λ r q k hr hq h v. cmp r q k h v (start-of r q hq); bound = λ r q hr hq. bnd r q (start-of r q hq) };
+    known =
+        record {
+          sound = λ r q k hr hq e. snd r q k e (start-of r q hq);
+          complete = λ r q k hr hq h v. cmp r q k h v (start-of r q hq);
+          bound = λ r q hr hq. bnd r q (start-of r q hq);
+        };
     marked = λ r q hr hq o. mk r q o (start-of r q hq);
     cur-on = λ r q hr hq o. on1 r q o (start-of r q hq);
     cur-all = λ r q hr hq e. all1 r q e (start-of r q hq);
@@ -245,7 +274,8 @@ module _ {g : Graph} {M : Automaton} {fs ps es : List ℕ} {f n : ℕ} {cs : Lis
 
       cmp : (r q k : ℕ) → k ≤ 0 → Reach g M y k r q → Start r q → (0 < distance w m r q) × (distance w m r q ≤ suc k)
       cmp r q k h v (final e o a b c) = (omega arith, omega arith)
-      cmp r q k h v (not a b c) = absurd (let z = at-end r q (v .0) (v .2) (omega (arith, v .1)) in let u = S .masked .final q in let t = z .1 in c (z .0) (omega arith))
+      cmp r q k h v (not a b c) =
+          absurd (let z = at-end r q (v .0) (v .2) (omega (arith, v .1)) in let u = S .masked .final q in let t = z .1 in c (z .0) (omega arith))
 
       bnd : (r q : ℕ) → Start r q → distance w m r q ≤ 1
       bnd r q (final e o a b c) = omega arith
@@ -264,7 +294,8 @@ module _ {g : Graph} {M : Automaton} {fs ps es : List ℕ} {f n : ℕ} {cs : Lis
       all1 r q e (not a b c) = absurd (omega arith)
 
 -- ---- at the end
-pub sought : {g : Graph} {M : Automaton} {y n l : ℕ} {w seen cur : List ℕ} (x : ℕ) → x < n → Level g M y n l w seen cur → On (digit (getD seen x 0) 0) → Sought g M x y n w seen (numberAt w x 0)
+pub sought : {g : Graph} {M : Automaton} {y n l : ℕ} {w seen cur : List ℕ} (x : ℕ) → x < n
+    → Level g M y n l w seen cur → On (digit (getD seen x 0) 0) → Sought g M x y n w seen (numberAt w x 0)
 sought {g} {M} {y} {n} {l} {w} {seen} x hx I o = go (numberAt w x 0) refl (I .marked x 0 hx (omega arith) o)
   where
     go : (v : ℕ) → numberAt w x 0 ≡ v → On (numberAt w x 0) → Sought g M x y n w seen v

@@ -1,4 +1,10 @@
--- Laws of a level made arc by arc: no arc passed yet, the arcs into one record from its first on, the next record, all. Assumes nothing.
+-- Laws of a level made arc by arc: no arc passed yet, the arcs into one record from its first on, the next record, all.
+--   levelling-none   no arc passed yet
+--   levelling-first  the arcs into one record, from its first on
+--   levelling-done   none left: the next record
+--   levelling-all    all records of the level: the next level is made
+--   levelling-more   one arc more
+-- Assumes nothing.
 use mathlib.Core.Path.{_≡_, sym, ap, _∙_}
 use mathlib.Core.Logic.{_⊎_, inl, inr}
 use mathlib.Core.List.{List}
@@ -20,25 +26,29 @@ use Rattle.search.specs.Levels.{Spread, Levelled, LevelledOver}
 use Rattle.search.specs.Frontiers.{Passed, before, here, Levelling, Added, Frontier, Zero}
 
 pub levelling-none : (cs ps es cur seen : List ℕ) (n k : ℕ) (records nx : List ℕ) → Zero nx → Levelling cs ps es cur seen n k records 0 k nx
-levelling-none cs ps es cur seen n k records nx z = record { fresh = λ r q h o. absurd (none-on q (rw (z r) at o)); from = λ r q h o. absurd (none-on q (rw (z r) at o)); all = λ q j t h P. absurd (no j P) }
+levelling-none cs ps es cur seen n k records nx z =
+    record { fresh = λ r q h o. absurd (none-on q (rw (z r) at o)); from = λ r q h o. absurd (none-on q (rw (z r) at o)); all = λ q j t h P. absurd (no j P) }
   where
     no : (j : ℕ) → Passed cs records k 0 k j → ⊥
     no j (before h l e g) = omega arith
     no j (here e l g) = omega arith
 
 -- the same words over other arcs
-over-as : {P Q : ℕ → Type 0} {cs ps es cur seen : List ℕ} {n k : ℕ} {nx : List ℕ} → ((j : ℕ) → Q j → P j) → LevelledOver P cs ps es cur seen n k nx → LevelledOver Q cs ps es cur seen n k nx
+over-as : {P Q : ℕ → Type 0} {cs ps es cur seen : List ℕ} {n k : ℕ} {nx : List ℕ} → ((j : ℕ) → Q j → P j)
+    → LevelledOver P cs ps es cur seen n k nx → LevelledOver Q cs ps es cur seen n k nx
 over-as f I = record { fresh = I .fresh; from = I .from; all = λ q j t h o. I .all q j t h (f j o) }
 
 module _ {cs ps es cur seen : List ℕ} {n k : ℕ} {records : List ℕ} {i r : ℕ} {nx : List ℕ} (at : r ≡ getD records i 0) where
-  pub levelling-first : {ix : List ℕ} → Indexed (arcTo cs) k ix → Levelling cs ps es cur seen n k records i k nx → Levelling cs ps es cur seen n k records i (firstArc ix r) nx
+  pub levelling-first : {ix : List ℕ} → Indexed (arcTo cs) k ix → Levelling cs ps es cur seen n k records i k nx
+      → Levelling cs ps es cur seen n k records i (firstArc ix r) nx
   levelling-first {ix} X = over-as go
     where
       go : (j : ℕ) → Passed cs records k i (firstArc ix r) j → Passed cs records k i k j
       go j (before h l e g) = before h l e g
       go j (here e l g) = here e (before-first X j g (e ∙ sym at) l) g
 
-pub levelling-done : {cs ps es cur seen : List ℕ} {n k : ℕ} {records : List ℕ} {i : ℕ} {nx : List ℕ} → Levelling cs ps es cur seen n k records i 0 nx → Levelling cs ps es cur seen n k records (i + 1) k nx
+pub levelling-done : {cs ps es cur seen : List ℕ} {n k : ℕ} {records : List ℕ} {i : ℕ} {nx : List ℕ}
+    → Levelling cs ps es cur seen n k records i 0 nx → Levelling cs ps es cur seen n k records (i + 1) k nx
 levelling-done {cs} {k = k} {records = records} {i = i} = over-as go
   where
     last : (j h : ℕ) → h < i + 1 → getD records h 0 ≡ arcTo cs j → j < k → Which h i → Passed cs records k i 0 j
@@ -50,12 +60,21 @@ levelling-done {cs} {k = k} {records = records} {i = i} = over-as go
     go j (before h l e g) = last j h l e g (which h i)
     go j (here e l g) = absurd (omega arith)
 
-pub levelling-all : {cs ps es cur seen : List ℕ} {n k : ℕ} {records masks : List ℕ} {c : ℕ} {nx : List ℕ} → Levelling cs ps es cur seen n k records c k nx → Frontier records masks c cur → Levelled cs ps es cur seen n k nx
-levelling-all {cs} {cur = cur} I F = record { fresh = I .fresh; from = I .from; all = λ q j t h g b oc. (let z = F .all (arcTo cs j) (some-on (getD cur (arcTo cs j) 0) t oc) in I .all q j t h (before (z .0) (z .1) (z .2) g) b oc) }
+pub levelling-all : {cs ps es cur seen : List ℕ} {n k : ℕ} {records masks : List ℕ} {c : ℕ} {nx : List ℕ}
+    → Levelling cs ps es cur seen n k records c k nx → Frontier records masks c cur → Levelled cs ps es cur seen n k nx
+levelling-all {cs} {cur = cur} I F =
+    record {
+      fresh = I .fresh;
+      from = I .from;
+      all = λ q j t h g b oc. (let z = F .all (arcTo cs j) (some-on (getD cur (arcTo cs j) 0) t oc) in I .all q j t h (before (z .0) (z .1) (z .2) g) b oc);
+    }
 
-module _ {cs ps es cur seen : List ℕ} {n k : ℕ} {records : List ℕ} {i r p : ℕ} {nx ix : List ℕ} (at : r ≡ getD records i 0) (X : Indexed (arcTo cs) k ix) (T : Cursor (arcTo cs) k r p) (hp : 0 < p)
-    (I : Levelling cs ps es cur seen n k records i p nx) (mask v : ℕ) (mask-at : mask ≡ getD cur r 0) (S : Spread ps (bitAnd mask (getD es (arcLetter cs (p - 1)) 0)) 0 v)
-    (fs : getD seen (arcFrom cs (p - 1)) 0 < 2 ^ 64) {nx′ : List ℕ} (A : Added nx n (arcFrom cs (p - 1)) (bitAnd v ((2 ^ 64 - 1) - getD seen (arcFrom cs (p - 1)) 0)) nx′) where
+module _ {cs ps es cur seen : List ℕ} {n k : ℕ} {records : List ℕ} {i r p : ℕ} {nx ix : List ℕ}
+    (at : r ≡ getD records i 0) (X : Indexed (arcTo cs) k ix) (T : Cursor (arcTo cs) k r p) (hp : 0 < p)
+    (I : Levelling cs ps es cur seen n k records i p nx) (mask v : ℕ) (mask-at : mask ≡ getD cur r 0)
+    (S : Spread ps (bitAnd mask (getD es (arcLetter cs (p - 1)) 0)) 0 v)
+    (fs : getD seen (arcFrom cs (p - 1)) 0 < 2 ^ 64) {nx′ : List ℕ}
+    (A : Added nx n (arcFrom cs (p - 1)) (bitAnd v ((2 ^ 64 - 1) - getD seen (arcFrom cs (p - 1)) 0)) nx′) where
   abbrev m₀ : ℕ
   m₀ = p - 1
 
@@ -102,14 +121,17 @@ module _ {cs ps es cur seen : List ℕ} {n k : ℕ} {records : List ℕ} {i r p 
       fr r q h (inl o) = I .fresh r q h o
       fr r q h (inr o) = rw (o .0) (o .2)
 
-      fm : (r q : ℕ) → q < 64 → On (digit (getD nx r 0) q) ⊎ New r q → (j t : ℕ) × (j < k) × (t < 64) × (arcFrom cs j ≡ r) × On (digit (getD cur (arcTo cs j) 0) t) × On (digit (getD es (arcLetter cs j) 0) t) × On (digit (getD ps t 0) q)
+      fm : (r q : ℕ) → q < 64 → On (digit (getD nx r 0) q) ⊎ New r q → (j t : ℕ) × (j < k) × (t < 64) × (arcFrom cs j ≡ r)
+          × On (digit (getD cur (arcTo cs j) 0) t) × On (digit (getD es (arcLetter cs j) 0) t) × On (digit (getD ps t 0) q)
       fm r q h (inl o) = I .from r q h o
       fm r q h (inr o) =
           let g = S .from q (o .1) in
           let b = on-min _ _ (rw digit-and at (g .2)) in
           (m₀, g .0, m-lt, g .1, sym (o .0), rw mask-to at (b .0), b .1, g .3)
 
-      al : (q j t : ℕ) → q < 64 → Passed cs records k i (nextArc ix (p - 1)) j → arcFrom cs j < n → On (digit (getD cur (arcTo cs j) 0) t) → On (digit (getD es (arcLetter cs j) 0) t) → On (digit (getD ps t 0) q) → digit (getD seen (arcFrom cs j) 0) q ≡ 0 → On (digit (getD nx′ (arcFrom cs j) 0) q)
+      al : (q j t : ℕ) → q < 64 → Passed cs records k i (nextArc ix (p - 1)) j → arcFrom cs j < n → On (digit (getD cur (arcTo cs j) 0) t)
+          → On (digit (getD es (arcLetter cs j) 0) t) → On (digit (getD ps t 0) q)
+          → digit (getD seen (arcFrom cs j) 0) q ≡ 0 → On (digit (getD nx′ (arcFrom cs j) 0) q)
       al q j t h P b oc oe op os = go P
         where
           old : Passed cs records k i p j → On (digit (getD nx′ (arcFrom cs j) 0) q)

@@ -1,4 +1,14 @@
--- Laws of the numbers in work: marks written, states kept, the smallest step chosen. Assumes nothing.
+-- Laws of the numbers in work: marks written, states kept, the smallest step chosen.
+--   number-here, number-other
+--                    a number written: there, and at every other place
+--   stamp-none, stamp-more
+--                    marks written at the states of a set: none, the lowest that is left
+--   bit-off, bit-at  the set of one state
+--   kept-out, kept-none, kept-no, kept-yes
+--                    the states of a set with a given number: of no record, none looked at, one that has it not, one that has it
+--   chosen-none, arc-small, chosen-first, chosen-more
+--                    the smallest step: no arc looked at, arcs are small, arcs of other records, one arc more
+-- Assumes nothing.
 use mathlib.Core.Path.{_≡_, refl, sym, ap, _∙_, subst}
 use mathlib.Core.Logic.{_⊎_, inl, inr}
 use mathlib.Core.List.{List}
@@ -33,9 +43,14 @@ module _ (w : List ℕ) (r q v : ℕ) where
 pub stamp-none : (w : List ℕ) (r m mark : ℕ) → Stamped w r m mark m w
 stamp-none w r m mark = record { hit = λ q h o e. absurd (omega arith); miss = λ q h e. refl; rest = λ a q h n. refl }
 
-pub stamp-more : {w : List ℕ} {r m mark left : ℕ} {v : List ℕ} {k left′ : ℕ} → Stamped w r m mark left v → Among left m → Lowest left k left′ → r * 64 + k < length v → Stamped w r m mark left′ (set v (r * 64 + k) mark)
+pub stamp-more : {w : List ℕ} {r m mark left : ℕ} {v : List ℕ} {k left′ : ℕ} → Stamped w r m mark left v
+    → Among left m → Lowest left k left′ → r * 64 + k < length v → Stamped w r m mark left′ (set v (r * 64 + k) mark)
 stamp-more {w} {r} {m} {mark} {left} {v} {k} {left′} I A L l =
-    record { hit = λ q h o e. ht q h o (which q k) (gone L q e); miss = ms; rest = λ a q h n. number-other v r k mark a q (λ e. (let z = L .small in n (omega arith))) ∙ I .rest a q h n }
+    record {
+      hit = λ q h o e. ht q h o (which q k) (gone L q e);
+      miss = ms;
+      rest = λ a q h n. number-other v r k mark a q (λ e. (let z = L .small in n (omega arith))) ∙ I .rest a q h n;
+    }
   where
     ht : (q : ℕ) → q < 64 → On (digit m q) → Which q k → (digit left q ≡ 0) ⊎ (q ≡ k) → numberAt (set v (r * 64 + k) mark) r q ≡ mark
     ht q h o (same f) e = rw f (number-here v r k mark l)
@@ -81,7 +96,8 @@ module _ {w : List ℕ} {n a m d left r k left′ : ℕ} (I : Kept w n a m d lef
 
 -- ---- the smallest step
 pub chosen-none : (cs es w seen : List ℕ) (n r follows d k : ℕ) → Chosen cs es w seen n r follows d k k 65536 0
-chosen-none cs es w seen n r follows d k = record { from = λ q o. absurd (none-on q o); all = λ j q h g. absurd (omega arith); some = λ h. absurd (omega arith); top = omega arith }
+chosen-none cs es w seen n r follows d k =
+    record { from = λ q o. absurd (none-on q o); all = λ j q h g. absurd (omega arith); some = λ h. absurd (omega arith); top = omega arith }
 
 pub arc-small : (cs : List ℕ) (j : ℕ) → (arcLetter cs j < 64) × (arcTo cs j < 1024)
 unfolding arcLetter arcTo
@@ -90,7 +106,13 @@ arc-small cs j = (omega arith, omega arith)
 module _ {cs es w seen : List ℕ} {n r follows d k p word states : ℕ} (I : Chosen cs es w seen n r follows d k p word states) where
   -- arcs before p, if none of them is of the record
   pub chosen-first : {u : ℕ} → u ≤ p → ((j : ℕ) → j < k → arcFrom cs j ≡ r → u ≤ j → p ≤ j) → Chosen cs es w seen n r follows d k u word states
-  chosen-first lo h = record { from = λ q o. (let g = I .from q o in (g .0, g .1, g .2, g .3, omega (arith, g .4))); all = λ j q l g s. I .all j q l (h j l (s .from) g) s; some = I .some; top = I .top }
+  chosen-first lo h =
+      record {
+        from = λ q o. (let g = I .from q o in (g .0, g .1, g .2, g .3, omega (arith, g .4)));
+        all = λ j q l g s. I .all j q l (h j l (s .from) g) s;
+        some = I .some;
+        top = I .top;
+      }
 
 module _ {cs es w seen : List ℕ} {n r follows d k p word states : ℕ} (I : Chosen cs es w seen n r follows d k p word states)
     {m u : ℕ} (hm : m < k) (hp : m < p) (hu : u ≤ m) (only : (j : ℕ) → j < k → arcFrom cs j ≡ r → u ≤ j → (j ≡ m) ⊎ (p ≤ j)) where
@@ -99,13 +121,20 @@ module _ {cs es w seen : List ℕ} {n r follows d k p word states : ℕ} (I : Ch
 
   -- where arc m serves no state, or none that is not there already
   chosen-same : ((q : ℕ) → Serve cs es w seen n r follows d m q → Leads word states m q) → Chosen cs es w seen n r follows d k u word states
-  chosen-same at = record { from = λ q o. (let g = I .from q o in (g .0, g .1, g .2, g .3, omega (arith, g .4))); all = λ j q h g s. go j q h s (only j h (s .from) g); some = I .some; top = I .top }
+  chosen-same at =
+      record {
+        from = λ q o. (let g = I .from q o in (g .0, g .1, g .2, g .3, omega (arith, g .4)));
+        all = λ j q h g s. go j q h s (only j h (s .from) g);
+        some = I .some;
+        top = I .top;
+      }
     where
       go : (j q : ℕ) → j < k → Serve cs es w seen n r follows d j q → (j ≡ m) ⊎ (p ≤ j) → Leads word states j q
       go j q h s (inr f) = I .all j q h f s
       go j q h s (inl f) = subst (λ (i : ℕ). Leads word states i q) (sym f) (at q (subst (λ (i : ℕ). Serve cs es w seen n r follows d i q) f s))
 
-  module _ (K : ℕ) (at : arcFrom cs m ≡ r) (Q : Kept w n (arcTo cs m) (bitAnd (bitAnd follows (getD es (arcLetter cs m) 0)) (getD seen (arcTo cs m) 0)) d 0 K) where
+  module _ (K : ℕ) (at : arcFrom cs m ≡ r)
+      (Q : Kept w n (arcTo cs m) (bitAnd (bitAnd follows (getD es (arcLetter cs m) 0)) (getD seen (arcTo cs m) 0)) d 0 K) where
     -- the states kept are those that serve
     serves : (q : ℕ) → On (digit K q) → Serve cs es w seen n r follows d m q
     serves q o =
@@ -115,7 +144,8 @@ module _ {cs es w seen : List ℕ} {n r follows d k p word states : ℕ} (I : Ch
         record { from = at; small = z .0; to = z .1; among = c .0; enters = c .1; seen-at = b .1; number = z .3 }
 
     served : (q : ℕ) → Serve cs es w seen n r follows d m q → On (digit K q)
-    served q s = Q .all q (s .to) (rw (digit-and, digit-and) (let a = s .among in let b = s .enters in let c = s .seen-at in omega arith)) (digit-none q) (s .number)
+    served q s =
+        Q .all q (s .to) (rw (digit-and, digit-and) (let a = s .among in let b = s .enters in let c = s .seen-at in omega arith)) (digit-none q) (s .number)
 
     pub chosen-more : {word′ states′ : ℕ} → Better word states (arcStepWord cs m) K word′ states′ → Chosen cs es w seen n r follows d k u word′ states′
     chosen-more (no-states e) = chosen-same (λ q s. absurd (none-on q (rw e at (served q s))))
@@ -130,7 +160,15 @@ module _ {cs es w seen : List ℕ} {n r follows d k p word states : ℕ} (I : Ch
             let a = arc-small cs (g .0) in
             let el : arcLetter cs (g .0) ≡ arcLetter cs m = omega (arith, g .2) in
             let et : arcTo cs (g .0) ≡ arcTo cs m = omega (arith, g .2) in
-            let s′ : Serve cs es w seen n r follows d (g .0) q = record { from = g .3 .from; small = s .small; to = rw et (s .to); among = s .among; enters = rw el (s .enters); seen-at = rw et (s .seen-at); number = rw et (s .number) } in
+            let s′ : Serve cs es w seen n r follows d (g .0) q = record {
+              from = g .3 .from;
+              small = s .small;
+              to = rw et (s .to);
+              among = s .among;
+              enters = rw el (s .enters);
+              seen-at = rw et (s .seen-at);
+              number = rw et (s .number);
+            } in
             pick (g .0) (g .2) (I .all (g .0) q (g .1) (g .4) s′)
           where
             pick : (j : ℕ) → arcStepWord cs j ≡ word → Leads word states j q → On (digit states q)
@@ -141,7 +179,13 @@ module _ {cs es w seen : List ℕ} {n r follows d k p word states : ℕ} (I : Ch
         last q s (less f) = inl f
         last q s (same f) = inr (f, twin q f s)
         last q s (more f) = absurd (omega arith)
-    chosen-more (smaller z₀ e) = record { from = λ q o. (m, hm, refl, serves q o, hu); all = λ j q h g s. go j q h s (only j h (s .from) g); some = λ h. (let z = some-digit K K (below-pow K) z₀ in (z .0, z .2)); top = (let t = I .top in omega arith) }
+    chosen-more (smaller z₀ e) =
+        record {
+          from = λ q o. (m, hm, refl, serves q o, hu);
+          all = λ j q h g s. go j q h s (only j h (s .from) g);
+          some = λ h. (let z = some-digit K K (below-pow K) z₀ in (z .0, z .2));
+          top = (let t = I .top in omega arith);
+        }
       where
         old : (j q : ℕ) → Leads word states j q → Leads (arcStepWord cs m) K j q
         old j q (inl f) = inl (omega arith)

@@ -23,8 +23,10 @@ zero-at (suc n) (suc i) = zero-at n i
 pub spread-none : (rows : List ℕ) (x : ℕ) → Spread rows x x 0
 spread-none rows x = record { from = λ p o. absurd (none-on p o); all = λ p q o e. absurd (omega arith) }
 
-pub spread-more : {rows : List ℕ} {x left r q left′ : ℕ} → Spread rows x left r → Among left x → Lowest left q left′ → Spread rows x left′ (bitOr r (getD rows q 0))
-spread-more {rows} {x} {left} {r} {q} {left′} S A L = record { from = λ p o. fm p (on-max _ _ (rw digit-or at o)); all = λ p j o e h. rw digit-or (al p j o h (gone L j e)) }
+pub spread-more : {rows : List ℕ} {x left r q left′ : ℕ} → Spread rows x left r
+    → Among left x → Lowest left q left′ → Spread rows x left′ (bitOr r (getD rows q 0))
+spread-more {rows} {x} {left} {r} {q} {left′} S A L =
+    record { from = λ p o. fm p (on-max _ _ (rw digit-or at o)); all = λ p j o e h. rw digit-or (al p j o h (gone L j e)) }
   where
     fm : (p : ℕ) → On (digit r p) ⊎ On (digit (getD rows q 0) p) → (j : ℕ) × (j < 64) × On (digit x j) × On (digit (getD rows j 0) p)
     fm p (inl o) = S .from p o

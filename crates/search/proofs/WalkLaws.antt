@@ -1,4 +1,12 @@
--- The walk forward: the steps written so far, put before any best walk from where they lead, are a best walk from the start. Assumes nothing.
+-- The walk forward: the steps written so far, put before any best walk from where they lead, are a best walk from the start.
+--   step-of, word-of, words-of
+--                  step words and steps, to and fro
+--   Going g M y n w seen x steps t r st out
+--                  the t steps written so far, put before any best walk from r and the states st, are a best walk from the start
+--   going-ends     at the end they are a best walk
+--   going-more     one step more: the smallest that leads on
+--   going-start    at the start none is written
+-- Assumes nothing.
 use mathlib.Core.Path.{_≡_, refl, sym, ap, ap₂, _∙_, subst}
 use mathlib.Core.Logic.{_⊎_, inl, inr}
 use mathlib.Core.List.{List, [], _∷_, _++_, map, append-assoc, append-nil}
@@ -29,7 +37,8 @@ pub step-of : (s : Step) → s .reached < 1024 → stepOf (stepWord s) ≡ s
 step-of s h =
     let a : stepWord s / 1024 ≡ letterNumber (s .spelt) = omega arith in
     let b : stepWord s % 1024 ≡ s .reached = omega arith in
-    ap₂ (λ (c : ℕ) (t : ℕ). record { spelt = letterOf c; reached = t }) a b ∙ ap (λ (l : Letter). record { spelt = l; reached = s .reached }) (letter-number (s .spelt))
+    ap₂ (λ (c : ℕ) (t : ℕ). record { spelt = letterOf c; reached = t }) a b
+    ∙ ap (λ (l : Letter). record { spelt = l; reached = s .reached }) (letter-number (s .spelt))
 
 pub word-of : (w : ℕ) → stepWord (stepOf w) ≡ w
 word-of w = let e = number-letter (w / 1024) in omega arith
@@ -65,7 +74,8 @@ module _ {g : Graph} {M : Automaton} {fs ps es : List ℕ} {f n : ℕ} {cs : Lis
       let b : Best g M y (digit st) r (steps - t) [] = rw z (best-none (q .1) (K .sound r (q .0) 0 (G .below) (a .0) (rw z at (a .1)))) in
       subst (λ (ss : List Step). Best g M y (is 0) x steps ss) (append-nil (map stepOf (take t out))) (G .goes-on [] b)
 
-  module _ (m : ℕ) (em : steps - t ≡ suc m) (follows word states : ℕ) (F : Spread fs st 0 follows) (C : Chosen cs es w seen n r follows (suc m) k 0 word states) where
+  module _ (m : ℕ) (em : steps - t ≡ suc m) (follows word states : ℕ)
+      (F : Spread fs st 0 follows) (C : Chosen cs es w seen n r follows (suc m) k 0 word states) where
     -- a step that leads on is one of an arc that serves
     leads : (q q′ : ℕ) (s : Step) → On (digit st q) → Moves g M r q s q′ → Reach g M y m (s .reached) q′
         → (j : ℕ) × (arcStepWord cs j ≡ stepWord s) × (s .reached < 1024) × ((word < arcStepWord cs j) ⊎ ((word ≡ arcStepWord cs j) × On (digit states q′)))
@@ -76,7 +86,15 @@ module _ {g : Graph} {M : Automaton} {fs ps es : List ℕ} {f n : ℕ} {cs : Lis
         let i = distance-seen w seen (s .reached) q′ (omega arith) in
         let c = step-arc S r q q′ s v in
         let follows-on = F .all q′ q o (digit-none q) (rw (S .masked .follow q q′) (v .follow)) in
-        let sv : Serve cs es w seen n r follows (suc m) (c .0) q′ = record { from = c .2; small = b .1; to = rw (c .3) (b .0); among = follows-on; enters = rw (c .4, S .masked .enters q′ (s .spelt)) (v .enters); seen-at = rw (c .3) i; number = rw (c .3) (sym (distance-on w seen (s .reached) q′ i) ∙ e) } in
+        let sv : Serve cs es w seen n r follows (suc m) (c .0) q′ = record {
+          from = c .2;
+          small = b .1;
+          to = rw (c .3) (b .0);
+          among = follows-on;
+          enters = rw (c .4, S .masked .enters q′ (s .spelt)) (v .enters);
+          seen-at = rw (c .3) i;
+          number = rw (c .3) (sym (distance-on w seen (s .reached) q′ i) ∙ e);
+        } in
         (c .0, ap₂ (λ (c : ℕ) (d : ℕ). c * 1024 + d) (c .4) (c .3), omega (arith, b .0), C .all (c .0) q′ (c .1) (omega arith) sv)
 
     picks : Picks g M y (digit st) r m (stepOf word) (digit states)
@@ -86,13 +104,19 @@ module _ {g : Graph} {M : Automaton} {fs ps es : List ℕ} {f n : ℕ} {cs : Lis
         cm q′ o =
             let c = C .from q′ o in
             let p = F .from q′ (c .3 .among) in
-            let follows-on : On (M .follow (p .0) q′) = (let z = S .masked .follow (p .0) q′ in let h = p .3 in omega arith) in
-            (p .0, p .2, subst (λ (s : Step). Moves g M r (p .0) s q′) (sym (step-arc-of cs (c .0) word (c .2))) (arc-moves S (c .0) r (p .0) q′ (c .1) (c .3 .from) follows-on (c .3 .enters)))
+            let follows-on : On (M .follow (p .0) q′) = (let z = S .masked .follow (p .0) q′ in let h = p .3 in omega arith) in (
+              p .0,
+              p .2,
+              subst (λ (s : Step). Moves g M r (p .0) s q′) (sym (step-arc-of cs (c .0) word (c .2)))
+                  (arc-moves S (c .0) r (p .0) q′ (c .1) (c .3 .from) follows-on (c .3 .enters)),
+            )
 
-        ls : (q q′ : ℕ) (s : Step) → On (digit st q) → Moves g M r q s q′ → Reach g M y m (s .reached) q′ → (stepWord (stepOf word) < stepWord s) ⊎ ((stepOf word ≡ s) × On (digit states q′))
+        ls : (q q′ : ℕ) (s : Step) → On (digit st q) → Moves g M r q s q′ → Reach g M y m (s .reached) q′
+            → (stepWord (stepOf word) < stepWord s) ⊎ ((stepOf word ≡ s) × On (digit states q′))
         ls q q′ s o v h = let z = leads q q′ s o v h in go (z .0) (z .1) (z .2) (z .3)
           where
-            go : (j : ℕ) → arcStepWord cs j ≡ stepWord s → s .reached < 1024 → (word < arcStepWord cs j) ⊎ ((word ≡ arcStepWord cs j) × On (digit states q′)) → (stepWord (stepOf word) < stepWord s) ⊎ ((stepOf word ≡ s) × On (digit states q′))
+            go : (j : ℕ) → arcStepWord cs j ≡ stepWord s → s .reached < 1024 → (word < arcStepWord cs j) ⊎ ((word ≡ arcStepWord cs j) × On (digit states q′))
+                → (stepWord (stepOf word) < stepWord s) ⊎ ((stepOf word ≡ s) × On (digit states q′))
             go j e b (inl h) = inl (let z = word-of word in omega arith)
             go j e b (inr h) = inr (ap stepOf (h .0 ∙ e) ∙ step-of s b, h .1)
 
@@ -125,7 +149,8 @@ module _ {g : Graph} {M : Automaton} {fs ps es : List ℕ} {f n : ℕ} {cs : Lis
         ex : (q : ℕ) → On (digit states q) → (q < 64) × (distance w seen (word % 1024) q ≡ suc (steps - (t + 1)))
         ex q o = let c = C .from q o .3 in (c .small, rw (left, there q o) (distance-on w seen _ q (c .seen-at) ∙ c .number))
 
-        go : (ss : List Step) → Best g M y (digit states) (word % 1024) (steps - (t + 1)) ss → Best g M y (is 0) x steps (map stepOf (take (t + 1) (set out t word)) ++ ss)
+        go : (ss : List Step) → Best g M y (digit states) (word % 1024) (steps - (t + 1)) ss
+            → Best g M y (is 0) x steps (map stepOf (take (t + 1) (set out t word)) ++ ss)
         go ss b =
             let b₁ : Best g M y (digit states) (word % 1024) m ss = rw left at b in
             let b₂ : Best g M y (digit st) r (steps - t) (stepOf word ∷ ss) = rw em (best-more picks b₁) in
@@ -142,7 +167,8 @@ module _ {g : Graph} {M : Automaton} {fs ps es : List ℕ} {f n : ℕ} {cs : Lis
                 ∙ append-assoc (map stepOf (take t out)) (stepOf word ∷ []) ss
 
 -- at the start
-pub going-start : (g : Graph) (M : Automaton) (y n : ℕ) (w seen : List ℕ) (x steps : ℕ) (out : List ℕ) → x < n → distance w seen x 0 ≡ suc steps → Going g M y n w seen x steps 0 x 1 out
+pub going-start : (g : Graph) (M : Automaton) (y n : ℕ) (w seen : List ℕ) (x steps : ℕ) (out : List ℕ)
+    → x < n → distance w seen x 0 ≡ suc steps → Going g M y n w seen x steps 0 x 1 out
 going-start g M y n w seen x steps out h e = record {
   below = h;
   at = λ q o. (let z = bit-off 0 q o in (omega arith, rw (z, left) e));
@@ -154,4 +180,11 @@ going-start g M y n w seen x steps out h e = record {
     left = omega arith
 
     whole : (ss : List Step) → Best g M y (digit 1) x steps ss → Best g M y (is 0) x steps ss
-    whole ss b = record { from = 0; among = is-on 0; walk = subst (λ (q : ℕ). Walk g M y x q ss) (bit-off 0 (b .from) (b .among)) (b .walk); long = b .long; least = λ q ts o. b .least q ts (rw (on-is 0 q o) (bit-at 0)) }
+    whole ss b =
+        record {
+          from = 0;
+          among = is-on 0;
+          walk = subst (λ (q : ℕ). Walk g M y x q ss) (bit-off 0 (b .from) (b .among)) (b .walk);
+          long = b .long;
+          least = λ q ts o. b .least q ts (rw (on-is 0 q o) (bit-at 0));
+        }

@@ -48,8 +48,10 @@ pub record Spread (rows : List ℕ) (x left r : ℕ) : Type 0 where
 pub record LevelledOver (P : ℕ → Type 0) (cs ps es cur seen : List ℕ) (n m : ℕ) (nx : List ℕ) : Type 0 where
   pub fresh : (r q : ℕ) → q < 64 → On (digit (getD nx r 0) q) → digit (getD seen r 0) q ≡ 0
   pub from : (r q : ℕ) → q < 64 → On (digit (getD nx r 0) q)
-      → (j t : ℕ) × (j < m) × (t < 64) × (arcFrom cs j ≡ r) × On (digit (getD cur (arcTo cs j) 0) t) × On (digit (getD es (arcLetter cs j) 0) t) × On (digit (getD ps t 0) q)
-  pub all : (q j t : ℕ) → q < 64 → P j → arcFrom cs j < n → On (digit (getD cur (arcTo cs j) 0) t) → On (digit (getD es (arcLetter cs j) 0) t) → On (digit (getD ps t 0) q)
+      → (j t : ℕ) × (j < m) × (t < 64) × (arcFrom cs j ≡ r) × On (digit (getD cur (arcTo cs j) 0) t)
+      × On (digit (getD es (arcLetter cs j) 0) t) × On (digit (getD ps t 0) q)
+  pub all : (q j t : ℕ) → q < 64 → P j → arcFrom cs j < n → On (digit (getD cur (arcTo cs j) 0) t)
+      → On (digit (getD es (arcLetter cs j) 0) t) → On (digit (getD ps t 0) q)
       → digit (getD seen (arcFrom cs j) 0) q ≡ 0 → On (digit (getD nx (arcFrom cs j) 0) q)
 
 abbrev pub Levelled : List ℕ → List ℕ → List ℕ → List ℕ → List ℕ → ℕ → ℕ → List ℕ → Type 0

@@ -58,7 +58,8 @@ abbrev pub stepOf : ℕ → Step
 stepOf w = record { spelt = letterOf (w / 1024); reached = w % 1024 }
 
 pub record Walked (fs es w seen : List ℕ) (cs : List ℕ) (k n x m : ℕ) (out out′ : List ℕ) : Type 0 where
-  pub best : (g : Graph) (M : Automaton) (ps : List ℕ) (f y l : ℕ) → Setting g M fs ps es f n cs k → Known g M y n l (distance w seen) → distance w seen x 0 ≡ suc m
+  pub best : (g : Graph) (M : Automaton) (ps : List ℕ) (f y l : ℕ) → Setting g M fs ps es f n cs k
+      → Known g M y n l (distance w seen) → distance w seen x 0 ≡ suc m
       → Best g M y (is 0) x m (map stepOf (take m out′))
   pub rest : drop m out′ ≡ drop m out
 
@@ -70,4 +71,5 @@ pub data Untouched (out out′ : List ℕ) : Found → Type 0 where
 pub data Answered (g : Graph) (e : Expr) (x y : ℕ) (out out′ : List ℕ) : Found → Type 0 where
   first : {k : ℕ} (ss : List Step) → First g e x y ss → take k out′ ≡ stepWords ss → Answered g e x y out out′ (Steps k)
   none : ((ss : List Step) → Answers g e x y ss → ⊥) → Answered g e x y out out′ Nowhere
-  short : (ss : List Step) → Answers g e x y ss → ((ts : List Step) → Answers g e x y ts → length ss ≤ length ts) → length out < length ss → Answered g e x y out out′ Short
+  short : (ss : List Step) → Answers g e x y ss → ((ts : List Step) → Answers g e x y ts → length ss ≤ length ts)
+      → length out < length ss → Answered g e x y out out′ Short

@@ -28,8 +28,12 @@ pub fn first_chain(
     work: &mut [u64],
     out: &mut [u32],
 ) -> Found
-    requires { ⌜ (length (now links) ≤ maxLinks) × (ends .n ≤ maxRecords) × (length (now follow) ≡ 64) × (length (now predecessors) ≡ 64) × (length (now enter) ≡ 64) × (ends .from < ends .n) × (ends .to < ends .n) × (ends .n * 64 ≤ length (now work)) ⌝ }
-    ensures { λ r. ⌜ Untouched (now (out .entry)) (now (out .exit)) r × ((g : Graph) (e : Expr) → g .n ≡ ends .n → Inside g → Spans (now (links .entry)) (length (now (links .entry))) g → Masked (now (follow .entry)) (now (predecessors .entry)) (now (enter .entry)) accepting (automaton e) → g .inUse (ends .from) ≡ true → g .inUse (ends .to) ≡ true → Answered g e (ends .from) (ends .to) (now (out .entry)) (now (out .exit)) r) ⌝ }
+    requires { ⌜ (length (now links) ≤ maxLinks) × (ends .n ≤ maxRecords) × (length (now follow) ≡ 64) × (length (now predecessors) ≡ 64)
+        × (length (now enter) ≡ 64) × (ends .from < ends .n) × (ends .to < ends .n) × (ends .n * 64 ≤ length (now work)) ⌝ }
+    ensures { λ r. ⌜ Untouched (now (out .entry)) (now (out .exit)) r
+        × ((g : Graph) (e : Expr) → g .n ≡ ends .n → Inside g → Spans (now (links .entry)) (length (now (links .entry))) g
+        → Masked (now (follow .entry)) (now (predecessors .entry)) (now (enter .entry)) accepting (automaton e) → g .inUse (ends .from) ≡ true
+        → g .inUse (ends .to) ≡ true → Answered g e (ends .from) (ends .to) (now (out .entry)) (now (out .exit)) r) ⌝ }
 {
     let n = ends.n;
     let from = ends.from;

@@ -18,8 +18,10 @@ ghost use Rattle.search.specs.Frontiers.{Levelling, Added, Listed, Front
 
 // The states of the entry, if its record is below n, besides those of next, whose records are on the list. How many are they now?
 fn add_states(next: &mut [u64], list: &mut [u16], entry: Entry) -> usize
-    requires { ⌜ (entry .n ≤ maxRecords) × (length (now next) ≡ maxRecords) × (length (now list) ≡ maxRecords) × (entry .at < maxRecords) × Listed (now list) (entry .listed) (entry .n) (now next) ⌝ }
-    ensures { λ k. ⌜ Listed (now (list .exit)) k (entry .n) (now (next .exit)) × Added (now (next .entry)) (entry .n) (entry .at) (entry .states) (now (next .exit)) ⌝ }
+    requires { ⌜ (entry .n ≤ maxRecords) × (length (now next) ≡ maxRecords) × (length (now list) ≡ maxRecords)
+        × (entry .at < maxRecords) × Listed (now list) (entry .listed) (entry .n) (now next) ⌝ }
+    ensures { λ k. ⌜ Listed (now (list .exit)) k (entry .n) (now (next .exit))
+        × Added (now (next .entry)) (entry .n) (entry .at) (entry .states) (now (next .exit)) ⌝ }
 {
     let at = entry.at;
     let listed = entry.listed;
@@ -49,8 +51,15 @@ fn into(
     list: &mut [u16],
     entry: Entry,
 ) -> usize
-    requires { ⌜ (length (now arcs) ≤ maxArcs) × (length (now index) ≡ indexWords) × (length (now predecessors) ≡ 64) × (length (now enter) ≡ 64) × (entry .at < maxRecords) × (length (now seen) ≡ maxRecords) × (entry .n ≤ maxRecords) × (length (now next) ≡ maxRecords) × (length (now list) ≡ maxRecords) × Indexed (arcTo (now arcs)) (length (now arcs)) (now index) × Listed (now list) (entry .listed) (entry .n) (now next) ⌝ }
-    ensures { λ k. ⌜ Listed (now (list .exit)) k (entry .n) (now (next .exit)) × ((cur records : List ℕ) (i : ℕ) → entry .at ≡ getD records i 0 → entry .states ≡ getD cur (entry .at) 0 → Levelling (now (arcs .entry)) (now (predecessors .entry)) (now (enter .entry)) cur (now (seen .entry)) (entry .n) (length (now (arcs .entry))) records i (length (now (arcs .entry))) (now (next .entry)) → Levelling (now (arcs .entry)) (now (predecessors .entry)) (now (enter .entry)) cur (now (seen .entry)) (entry .n) (length (now (arcs .entry))) records (i + 1) (length (now (arcs .entry))) (now (next .exit))) ⌝ }
+    requires { ⌜ (length (now arcs) ≤ maxArcs) × (length (now index) ≡ indexWords) × (length (now predecessors) ≡ 64) × (length (now enter) ≡ 64)
+        × (entry .at < maxRecords) × (length (now seen) ≡ maxRecords) × (entry .n ≤ maxRecords) × (length (now next) ≡ maxRecords)
+        × (length (now list) ≡ maxRecords) × Indexed (arcTo (now arcs)) (length (now arcs)) (now index)
+        × Listed (now list) (entry .listed) (entry .n) (now next) ⌝ }
+    ensures { λ k. ⌜ Listed (now (list .exit)) k (entry .n) (now (next .exit))
+        × ((cur records : List ℕ) (i : ℕ) → entry .at ≡ getD records i 0 → entry .states ≡ getD cur (entry .at) 0
+        → Levelling (now (arcs .entry)) (now (predecessors .entry)) (now (enter .entry)) cur (now (seen .entry)) (entry .n) (length (now (arcs .entry))) records
+        i (length (now (arcs .entry))) (now (next .entry)) → Levelling (now (arcs .entry)) (now (predecessors .entry)) (now (enter .entry))
+        cur (now (seen .entry)) (entry .n) (length (now (arcs .entry))) records (i + 1) (length (now (arcs .entry))) (now (next .exit))) ⌝ }
 {
     let n = entry.n;
     let mut listed = entry.listed;
@@ -99,8 +108,11 @@ fn commit(
     records: &mut [u16],
     masks: &mut [u64],
 )
-    requires { ⌜ (length (now next) ≡ maxRecords) × (length (now records) ≡ maxRecords) × (length (now masks) ≡ maxRecords) × (length (now list) ≤ maxRecords) × ((n : ℕ) × (n ≤ maxRecords) × (n * 64 ≤ length (now work)) × (n ≤ length (now seen)) × Listed (now list) (length (now list)) n (now next)) ⌝ }
-    ensures { λ _. ⌜ Zero (now (next .exit)) × Frontier (now (records .exit)) (now (masks .exit)) (length (now (list .entry))) (now (next .entry)) × ((n : ℕ) → Listed (now (list .entry)) (length (now (list .entry))) n (now (next .entry)) → Committed (now (work .entry)) (now (seen .entry)) (now (next .entry)) mark n (now (work .exit)) (now (seen .exit))) ⌝ }
+    requires { ⌜ (length (now next) ≡ maxRecords) × (length (now records) ≡ maxRecords) × (length (now masks) ≡ maxRecords) × (length (now list) ≤ maxRecords)
+        × ((n : ℕ) × (n ≤ maxRecords) × (n * 64 ≤ length (now work)) × (n ≤ length (now seen)) × Listed (now list) (length (now list)) n (now next)) ⌝ }
+    ensures { λ _. ⌜ Zero (now (next .exit)) × Frontier (now (records .exit)) (now (masks .exit)) (length (now (list .entry))) (now (next .entry))
+        × ((n : ℕ) → Listed (now (list .entry)) (length (now (list .entry))) n (now (next .entry))
+        → Committed (now (work .entry)) (now (seen .entry)) (now (next .entry)) mark n (now (work .exit)) (now (seen .exit))) ⌝ }
 {
     let mut i = 0;
     while i < list.len() {
@@ -124,8 +136,10 @@ pub(crate) fn backward(
     ends: Ends,
     work: &mut [u64],
 ) -> Marks
-    requires { ⌜ (length (now arcs) ≤ maxArcs) × (ends .n ≤ maxRecords) × (length (now predecessors) ≡ 64) × (length (now enter) ≡ 64) × (ends .from < ends .n) × (ends .to < ends .n) × (ends .n * 64 ≤ length (now work)) ⌝ }
-    ensures { λ r. ⌜ ((g : Graph) (M : Automaton) (fs : List ℕ) → Setting g M fs (now (predecessors .entry)) (now (enter .entry)) accepting (ends .n) (now (arcs .entry)) (length (now (arcs .entry))) → Sought g M (ends .from) (ends .to) (ends .n) (now (work .exit)) (r .seen) (r .number)) ⌝ }
+    requires { ⌜ (length (now arcs) ≤ maxArcs) × (ends .n ≤ maxRecords) × (length (now predecessors) ≡ 64)
+        × (length (now enter) ≡ 64) × (ends .from < ends .n) × (ends .to < ends .n) × (ends .n * 64 ≤ length (now work)) ⌝ }
+    ensures { λ r. ⌜ ((g : Graph) (M : Automaton) (fs : List ℕ) → Setting g M fs (now (predecessors .entry)) (now (enter .entry)) accepting (ends .n)
+        (now (arcs .entry)) (length (now (arcs .entry))) → Sought g M (ends .from) (ends .to) (ends .n) (now (work .exit)) (r .seen) (r .number)) ⌝ }
 {
     let n = ends.n;
     let start = ends.from;

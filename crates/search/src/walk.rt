@@ -56,8 +56,10 @@ fn choose(
     seen: &[u64],
     aim: Aim,
 ) -> Choice
-    requires { ⌜ (length (now arcs) ≤ maxArcs) × (length (now index) ≡ indexWords) × (length (now enter) ≡ 64) × (aim .n * 64 ≤ length (now work)) × (length (now seen) ≡ maxRecords) × (aim .n ≤ maxRecords) × (aim .at < maxRecords) × Indexed (arcFrom (now arcs)) (length (now arcs)) (now index) ⌝ }
-    ensures { λ r. ⌜ Chosen (now (arcs .entry)) (now (enter .entry)) (now (work .entry)) (now (seen .entry)) (aim .n) (aim .at) (aim .follows) (aim .distance) (length (now (arcs .entry))) 0 (r .word) (r .states) ⌝ }
+    requires { ⌜ (length (now arcs) ≤ maxArcs) × (length (now index) ≡ indexWords) × (length (now enter) ≡ 64) × (aim .n * 64 ≤ length (now work))
+        × (length (now seen) ≡ maxRecords) × (aim .n ≤ maxRecords) × (aim .at < maxRecords) × Indexed (arcFrom (now arcs)) (length (now arcs)) (now index) ⌝ }
+    ensures { λ r. ⌜ Chosen (now (arcs .entry)) (now (enter .entry)) (now (work .entry)) (now (seen .entry))
+        (aim .n) (aim .at) (aim .follows) (aim .distance) (length (now (arcs .entry))) 0 (r .word) (r .states) ⌝ }
 {
     let n = aim.n;
     let distance = aim.distance;
@@ -95,8 +97,10 @@ pub(crate) fn forward(
     route: Route,
     out: &mut [u32],
 )
-    requires { ⌜ (length (now arcs) ≤ maxArcs) × (length (now follow) ≡ 64) × (length (now enter) ≡ 64) × (route .n * 64 ≤ length (now work)) × (length (now seen) ≡ maxRecords) × (route .n ≤ maxRecords) × (route .from < route .n) × (route .steps ≤ length (now out)) ⌝ }
-    ensures { λ _. ⌜ Walked (now (follow .entry)) (now (enter .entry)) (now (work .entry)) (now (seen .entry)) (now (arcs .entry)) (length (now (arcs .entry))) (route .n) (route .from) (route .steps) (now (out .entry)) (now (out .exit)) ⌝ }
+    requires { ⌜ (length (now arcs) ≤ maxArcs) × (length (now follow) ≡ 64) × (length (now enter) ≡ 64) × (route .n * 64 ≤ length (now work))
+        × (length (now seen) ≡ maxRecords) × (route .n ≤ maxRecords) × (route .from < route .n) × (route .steps ≤ length (now out)) ⌝ }
+    ensures { λ _. ⌜ Walked (now (follow .entry)) (now (enter .entry)) (now (work .entry)) (now (seen .entry)) (now (arcs .entry))
+        (length (now (arcs .entry))) (route .n) (route .from) (route .steps) (now (out .entry)) (now (out .exit)) ⌝ }
 {
     let n = route.n;
     let steps = route.steps;

@@ -1,16 +1,16 @@
 -- What the answers of the questions say.
---   listing a l     the outcome that the answer a to a pair question says, with the pairs in the first words of the list l
+--   totalSaid a    what the answer a to asking for a total prints
+--   total-said     of the answer that a register gives, it is the text of its number and total
+--   listing a l    the outcome that the answer a to a pair question says, with the pairs in the first words of the list l
 --   listing-is, listing-rows
---                   of a question that keeps its promise it is the outcome itself, by trees and by rows
+--                  of a question that keeps its promise it is the outcome itself, by trees and by rows
 --   AnswersPairs r text work before after a
---                   what the program's answer to a pair question of the register r promises: over any contents the words past the pairs are as they were; for every book
---                   that the register represents, it says what the program must, and the list is that outcome's
+--                  what the program's answer to a pair question of the register r promises: over any contents the words past the pairs are as they were; for
+--                  every book that the register represents, it says what the program must, and the list is that outcome's
 --   rows-answers, trees-answers
---                   by rows up to 32 records, by trees above
+--                  by rows up to 32 records, by trees above
 --   listing-left, reply-left
---                   an answer that leaves the words past it leaves the list that its outcome does
---   totalSaid a     what the answer a to asking for a total prints
---   total-said      of the answer that a register gives, it is the text of its number and total
+--                  an answer that leaves the words past it leaves the list that its outcome does
 -- Assumes nothing.
 use mathlib.Core.Path.{_≡_, refl, sym, ap, _∙_}
 use mathlib.Core.List.{List, _++_, append-nil}
@@ -66,7 +66,8 @@ front-over ps l = go (decLt (length l) (length ps))
     go (no h) = rw (take-all (length l) ps (omega arith)) (take-at ps (drop (length ps) l) (length ps) refl)
 
 by-number : (k : ℕ) (ps before after : List ℕ) (a : PairsAnswer) → Tells (unless k (paired (length ps) (take (length before) ps))) a
-    → after ≡ listAfter (unless k (paired (length ps) (take (length before) ps))) before → listing a after ≡ unless k (paired (length ps) (take (length before) ps))
+    → after ≡ listAfter (unless k (paired (length ps) (take (length before) ps))) before
+    → listing a after ≡ unless k (paired (length ps) (take (length before) ps))
 unfolding listing listAfter
 by-number zero ps before after (Pairs j) told-pairs e = ap (paired (length ps)) (ap (take (length ps)) e ∙ front-over ps before)
 by-number (suc k) ps before after (Refused j) told-number e = refl
@@ -83,7 +84,8 @@ listing-rows b v work a before after q = by-number (firstNumber (rowsCauses b v 
 
 pub record AnswersPairs (r : Register) (text : List ℕ) (work : ℕ) (before after : List ℕ) (a : PairsAnswer) : Type 0 where
   pub past : drop (pairsLength a) after ≡ drop (pairsLength a) before
-  pub book : (b : Book) → Represents r b → (listing a after ≡ programPairs b (verdict text) work (length before)) × (after ≡ listAfter (programPairs b (verdict text) work (length before)) before)
+  pub book : (b : Book) → Represents r b → (listing a after ≡ programPairs b (verdict text) work (length before))
+      × (after ≡ listAfter (programPairs b (verdict text) work (length before)) before)
 
 module _ {r : Register} {n work : ℕ} {text before after : List ℕ} {a : PairsAnswer} (S : Sized r n) where
   pub rows-answers : n ≤ rowRecords → AsksRows r text work before after a → AnswersPairs r text work before after a
@@ -101,7 +103,8 @@ module _ {r : Register} {n work : ℕ} {text before after : List ℕ} {a : Pairs
   }
 
 -- the first k words are the answer's
-over-front : (k : ℕ) (before after : List ℕ) → k ≤ length before → length after ≡ length before → drop k after ≡ drop k before → after ≡ over (take k after) before
+over-front : (k : ℕ) (before after : List ℕ) → k ≤ length before → length after ≡ length before
+    → drop k after ≡ drop k before → after ≡ over (take k after) before
 over-front k before after h same past =
     let size : length (take k after) ≡ k = length-take-le k after (omega arith) in
     sym (take-append-drop k after) ∙ ap (λ (l : List ℕ). take k after ++ l) (past ∙ ap (λ (n : ℕ). drop n before) (sym size))
@@ -113,10 +116,13 @@ module _ (before after : List ℕ) (same : length after ≡ length before) where
   listing-left (Pairs k) past = go (decLt (length before) k)
     where
       go : Dec (length before < k) → after ≡ over (take k after) before
-      go (yes h) = sym (rw (take-all k after (omega arith)) (ap (λ (t : List ℕ). after ++ t) (drop-of-length-le before {i = length after} (omega arith)) ∙ append-nil after))
+      go (yes h) =
+          sym (rw (take-all k after (omega arith)) (ap (λ (t : List ℕ). after ++ t) (drop-of-length-le before {i = length after} (omega arith))
+          ∙ append-nil after))
       go (no h) = over-front k before after (omega arith) same past
 
-  pub reply-left : (a : ChainAnswer) → stepsLength a ≤ length before → drop (stepsLength a) after ≡ drop (stepsLength a) before → after ≡ listAfter (outcomeOf a after) before
+  pub reply-left : (a : ChainAnswer) → stepsLength a ≤ length before
+      → drop (stepsLength a) after ≡ drop (stepsLength a) before → after ≡ listAfter (outcomeOf a after) before
   unfolding stepsLength outcomeOf listAfter steps
   reply-left (Chain k) h past = over-front k before after h same past
   reply-left NoChain h past = past

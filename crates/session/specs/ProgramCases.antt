@@ -1,14 +1,15 @@
--- Four runs as theorems, the sample of S7.8, one of refusals, one of totals and one of withdrawn records: these frames on standard input, these lines on standard output.
---   input           the frames: open 4; add 0 a 1; add 2 a 1; lock 1; add 1 b 3; pairs a/^a; undo; add 1 b 3; chain 0 to 3 a/b
---   output          the lines
---   Prints s i o    from the session s, with 4,096 words of work and any list of 4,096, a run over i prints o
---   sample          the run prints them
+-- Four runs as theorems, the sample of S7.8, one of refusals, one of totals and one of withdrawn records: these frames on standard input, these lines on
+-- standard output.
+--   input          the frames: open 4; add 0 a 1; add 2 a 1; lock 1; add 1 b 3; pairs a/^a; undo; add 1 b 3; chain 0 to 3 a/b
+--   output         the lines
+--   Prints s i o   from the session s, with 4,096 words of work and any list of 4,096, a run over i prints o
+--   sample         the run prints them
 --   faults, refusals, refused-run
---                   a run of refused frames: the order of 15, 14 and 16; a refused open keeps the register; a cut frame ends it
+--                  a run of refused frames: the order of 15, 14 and 16; a refused open keeps the register; a cut frame ends it
 --   totalled, totals, totalled-run
---                   a run that asks for totals: 16 before an open even of a label that there is not; after adds, a remove and an undo; then 3 and 14
+--                  a run that asks for totals: 16 before an open even of a label that there is not; after adds, a remove and an undo; then 3 and 14
 --   struck, uses, struck-run
---                   a run that withdraws a record and reinstates it, with its refusals, both undone; pairs and a chain in between
+--                  a run that withdraws a record and reinstates it, with its refusals, both undone; pairs and a chain in between
 -- Assumes nothing.
 use mathlib.Core.Path.{_≡_, refl, subst, _∙_}
 use mathlib.Core.List.{List, [], _∷_, _++_}
@@ -20,7 +21,8 @@ use lib.Dec.{leb}
 use borrow.Author.Tests.{leb-true}
 use Rattle.book.specs.Basics.{has, without, tally}
 use Rattle.book.specs.Causes.{number, firstNumber}
-use Rattle.book.specs.Book.{Call, edit, undo, add, lock, withdraw, touched, causes, editAnswer, edited, turned, undoAnswer, undone, answer, next, fresh, after, total, totalNumber}
+use Rattle.book.specs.Book.{Call, edit, undo, add, lock, withdraw, touched, causes, editAnswer, edited, turned, undoAnswer, undone, answer, next, fresh, after}
+use Rattle.book.specs.Book.{total, totalNumber}
 use Rattle.k2.specs.PairSets.{rowPairs, rowsPairs, listed, union, transpose, most, serves, product, via, closure, diagonal}
 use Rattle.k2.specs.Trees.{rise, height, treeUnit}
 use Rattle.paths.specs.Expressions.{Expr, symbol, letter, sequence, standsFor, letters, depth}
@@ -31,12 +33,14 @@ use Rattle.paths.specs.Questions.{ReplyTo, pairsOf, pairsCauses, pairsAnswer, s
 use Rattle.paths.specs.Descent.{alternativesIn, readAlternatives}
 use Rattle.paths.specs.Verdicts.{verdict, verdict-right}
 use Rattle.paths.specs.PairLaws.{history-inside, withdrawn-none}
-use Rattle.paths.specs.ChainOrder.{before}
-use Rattle.paths.specs.Acceptance.{parted, many, accepts}
-use Rattle.paths.specs.FirstChain.{reach, stepsBelow, before-each, after-each, walks, walksTo, end, best, firstTo, chainTo, chain-first}
-use Rattle.report.specs.Report.{bytes, figures, decimal, pairLine, labelLetter, senseSign, stepLine, lines, counted, okText, refusedText, noneText, pairsText, chainText, answerText, totalText, outcomeText}
+use Rattle.paths.specs.ChainOrderLaws.{before}
+use Rattle.paths.specs.AcceptanceLaws.{parted, many, accepts}
+use Rattle.paths.specs.FirstChainLaws.{reach, stepsBelow, before-each, after-each, walks, walksTo, end, best, firstTo, chainTo, chain-first}
+use Rattle.report.specs.Report.{bytes, figures, decimal, pairLine, labelLetter, senseSign, stepLine, lines, counted, okText, refusedText, noneText, pairsText}
+use Rattle.report.specs.Report.{chainText, answerText, totalText, outcomeText}
 use Rattle.rowpairs.specs.Asking.{rowsCauses, rowsAnswer}
-use Rattle.session.specs.Program.{programWords, minFrame, maxFrame, number16, twoBytes, frameOf, linkIn, decode, Session, unopened, openAnswer, programPairs, nextSession, Right, printed, listLeft, frameIn, Run, framed, ended, lone-byte}
+use Rattle.session.specs.Program.{programWords, minFrame, maxFrame, number16, twoBytes, frameOf, linkIn, decode, Session, unopened, openAnswer}
+use Rattle.session.specs.Program.{programPairs, nextSession, Right, printed, listLeft, frameIn, Run, framed, ended, lone-byte}
 use Rattle.session.specs.ProgramLaws.{length-left}
 
 unfoldable pub input : List ℕ
@@ -92,17 +96,23 @@ same-expression : (e f : Expr) → accepted e ≡ accepted f → e ≡ f
 same-expression e f h = cc
 
 asked-last : ReplyTo (asked (after (fresh 4) history)) (accepted a/b) 0 3 (chain (stepWords steps-found))
-unfolding number firstNumber causes editAnswer edited turned undone next fresh after has without asked standsFor parted many accepts before reach stepsBelow before-each after-each walks walksTo end best firstTo chainTo spell stepWords letters cells most
+unfolding number firstNumber causes editAnswer edited turned undone next fresh after has without asked standsFor parted many accepts before reach stepsBelow
+    before-each after-each walks walksTo end best firstTo chainTo spell stepWords letters cells most
 asked-last e h =
     subst (λ (f : Expr). ChainIs (asked (after (fresh 4) history)) f 0 3 (chain (stepWords steps-found))) (same-expression a/b e h)
     (first-chain steps-found (chain-first (asked (after (fresh 4) history)) (history-inside 4 (omega arith) history) 2 a/b 0 3 steps-found refl))
 
-last-right : Judged (bytes "a/b") (verdict (bytes "a/b")) × ReplyTo (asked (after (fresh 4) history)) (verdict (bytes "a/b")) 0 3 (chain (stepWords steps-found))
+last-right : Judged (bytes "a/b") (verdict (bytes "a/b"))
+    × ReplyTo (asked (after (fresh 4) history)) (verdict (bytes "a/b")) 0 3 (chain (stepWords steps-found))
 unfolding bytes verdict readAlternatives alternativesIn letters depth
 last-right = (verdict-right (bytes "a/b"), asked-last)
 
 pub sample : Prints unopened input output
-unfolding input output twoBytes frameOf bytes number16 linkIn decode openAnswer nextSession printed answerText outcomeText okText refusedText pairsText chainText counted lines pairLine stepLine labelLetter senseSign decimal figures number firstNumber causes editAnswer edited turned undoAnswer undone answer next fresh after has without verdict readAlternatives alternativesIn letters depth verdictCause standsFor asked most crossedBy zeroSteps diagonal transpose union serves product via closure cells rowPairs rowsPairs listed pairs pairsOf pairsCauses pairsAnswer rowsCauses rowsAnswer programPairs steps stepWords chainCauses chainAnswer rise height treeUnit
+unfolding input output twoBytes frameOf bytes number16 linkIn decode openAnswer nextSession printed answerText outcomeText okText refusedText pairsText
+    chainText counted lines pairLine stepLine labelLetter senseSign decimal figures number firstNumber causes editAnswer edited turned undoAnswer undone answer
+    next fresh after has without verdict readAlternatives alternativesIn letters depth verdictCause standsFor asked most crossedBy zeroSteps diagonal transpose
+    union serves product via closure cells rowPairs rowsPairs listed pairs pairsOf pairsCauses pairsAnswer
+    rowsCauses rowsAnswer programPairs steps stepWords chainCauses chainAnswer rise height treeUnit
 sample =
     by (drop 3 output) long none refl refl refl tt
     (by (drop 6 output) long none refl refl refl tt
@@ -140,7 +150,8 @@ faults =
 
 unfoldable pub refusals : List ℕ
 refusals =
-    bytes "refused 15\nrefused 14\nrefused 16\nrefused 16\nrefused 1\nok\nok\nrefused 1\nrefused 5\nrefused 2\nrefused 3\nrefused 4\nrefused 6\nok\nrefused 8\nrefused 9\nrefused 14\nrefused 9\nrefused 15\nrefused 14\n"
+    bytes
+    "refused 15\nrefused 14\nrefused 16\nrefused 16\nrefused 1\nok\nok\nrefused 1\nrefused 5\nrefused 2\nrefused 3\nrefused 4\nrefused 6\nok\nrefused 8\nrefused 9\nrefused 14\nrefused 9\nrefused 15\nrefused 14\n"
 
 outside-none : (e : Expr) → outside ≡ accepted e → ⊥
 outside-none e h = let z : _≡_ {A = ℕ} 0 1 = cc in omega arith
@@ -150,7 +161,9 @@ unfolding verdict readAlternatives alternativesIn
 none-asked = (verdict-right [], λ e h. absurd (outside-none e h))
 
 pub refused-run : Prints unopened faults refusals
-unfolding faults refusals twoBytes frameOf bytes number16 linkIn decode openAnswer nextSession printed answerText outcomeText okText refusedText counted decimal figures number firstNumber causes editAnswer edited turned undoAnswer undone answer next fresh has without verdict readAlternatives alternativesIn letters depth verdictCause asked pairsOf pairsCauses pairsAnswer rowsCauses rowsAnswer programPairs steps chainCauses chainAnswer
+unfolding faults refusals twoBytes frameOf bytes number16 linkIn decode openAnswer nextSession printed answerText outcomeText okText refusedText counted decimal
+    figures number firstNumber causes editAnswer edited turned undoAnswer undone answer next fresh has without verdict readAlternatives
+    alternativesIn letters depth verdictCause asked pairsOf pairsCauses pairsAnswer rowsCauses rowsAnswer programPairs steps chainCauses chainAnswer
 refused-run =
     by (drop 11 refusals) long none refl refl refl tt
     (by (drop 22 refusals) long none refl refl refl tt
@@ -195,7 +208,8 @@ totals =
     bytes "refused 16\nok\ntotal 0\nok\nok\nrefused 5\ntotal 2\nok\ntotal 1\nok\ntotal 2\ntotal 0\nrefused 3\nrefused 14\n"
 
 pub totalled-run : Prints unopened totalled totals
-unfolding totalled totals twoBytes frameOf bytes number16 linkIn decode openAnswer nextSession printed answerText totalText okText refusedText counted decimal figures number firstNumber causes editAnswer edited turned undoAnswer undone answer next fresh has without total tally totalNumber
+unfolding totalled totals twoBytes frameOf bytes number16 linkIn decode openAnswer nextSession printed answerText totalText okText refusedText counted decimal
+    figures number firstNumber causes editAnswer edited turned undoAnswer undone answer next fresh has without total tally totalNumber
 totalled-run =
     by (drop 11 totals) long none refl refl refl tt
     (by (drop 14 totals) long none refl refl refl tt
@@ -233,12 +247,17 @@ struck =
 unfoldable pub uses : List ℕ
 uses = bytes "ok\nok\nok\nrefused 5\nrefused 17\nrefused 18\npairs 1\n0 0\nnone\nok\nrefused 6\nok\nok\npairs 2\n0 0\n1 1\nrefused 14\n"
 
-none-from-1 : Judged (bytes "a*") (verdict (bytes "a*")) × ReplyTo (asked (after (fresh 2) (link 0 0 0 ∷ edit (withdraw 1) ∷ []))) (verdict (bytes "a*")) 1 1 none
+none-from-1 : Judged (bytes "a*") (verdict (bytes "a*"))
+    × ReplyTo (asked (after (fresh 2) (link 0 0 0 ∷ edit (withdraw 1) ∷ []))) (verdict (bytes "a*")) 1 1 none
 unfolding number firstNumber causes editAnswer edited turned undone next fresh after has without touched
 none-from-1 = (verdict-right (bytes "a*"), λ e h. withdrawn-none _ e 1 1 refl)
 
 pub struck-run : Prints unopened struck uses
-unfolding struck uses twoBytes frameOf bytes number16 linkIn decode openAnswer nextSession printed answerText outcomeText okText refusedText noneText pairsText chainText counted lines pairLine stepLine labelLetter senseSign decimal figures number firstNumber causes editAnswer edited turned undoAnswer undone answer next fresh after has without touched verdict readAlternatives alternativesIn letters depth verdictCause standsFor asked most crossedBy zeroSteps diagonal transpose union serves product via closure cells rowPairs rowsPairs listed pairs pairsOf pairsCauses pairsAnswer rowsCauses rowsAnswer programPairs steps stepWords chainCauses chainAnswer rise height treeUnit
+unfolding struck uses twoBytes frameOf bytes number16 linkIn decode openAnswer nextSession printed answerText outcomeText okText refusedText noneText pairsText
+    chainText counted lines pairLine stepLine labelLetter senseSign decimal figures number firstNumber causes editAnswer edited turned undoAnswer undone answer
+    next fresh after has without touched verdict readAlternatives alternativesIn letters depth verdictCause standsFor asked most crossedBy zeroSteps diagonal
+    transpose union serves product via closure cells rowPairs rowsPairs listed pairs pairsOf pairsCauses
+    pairsAnswer rowsCauses rowsAnswer programPairs steps stepWords chainCauses chainAnswer rise height treeUnit
 struck-run =
     by (drop 3 uses) long none refl refl refl tt
     (by (drop 6 uses) long none refl refl refl tt

@@ -1,15 +1,18 @@
 -- Laws of the program.
---   Steady s        the session's book, if any, is sound and has at most 64 records; so from the start, after every frame
---   length-left     a frame leaves the list as long as it was
---   right-exists    every frame has a verdict and a reply, so that what it prints is always said
+--   listed-length  at most n × n pairs are listed
+--   Steady s       the session's book, if any, is sound and has at most 64 records; so from the start, after every frame
+--   start-steady, next-steady
+--                  a session is steady at the start, and after every frame
+--   length-left    a frame leaves the list as long as it was
+--   right-exists   every frame has a verdict and a reply, so that what it prints is always said
 --   pairs-answered, chain-answered
---                   with 4,096 words of work and list, a question whose expression and records are accepted is not refused, and every pair is listed:
---                   12 and 13 never come
+--                  with 4,096 words of work and list, a question whose expression and records are accepted is not refused, and every pair is listed: 12 and 13
+--                  never come
 -- Assumes nothing.
 use mathlib.Core.Path.{_≡_, refl, ap, subst, _∙_}
 use mathlib.Core.List.{List, [], _∷_, _++_}
 use mathlib.Core.Bool.{Bool, true, false, _||_}
-use Prim.Native.Nat.{ℕ, zero, suc, _+_, _-_, _*_, _/_, _^_, _≤_, _<_}
+use Prim.Native.Nat.{ℕ, zero, suc, _+_, _*_, _/_, _^_, _≤_, _<_}
 use native.Mathlib.Nat.{suc-mul, mul-le-mul}
 use native.Mathlib.Decide.{decLt}
 use native.Mathlib.Omega.{arith}
@@ -28,17 +31,19 @@ use Rattle.k2.specs.Trees.{height, treeUnit}
 use Rattle.k2.specs.HeightLaws.{height-is}
 use Rattle.paths.specs.Expressions.{Expr, letters}
 use Rattle.paths.specs.Grammar.{Verdict, accepted, long, outside, large, verdictCause}
-use Rattle.paths.specs.Chains.{asked, Reply, none, chain, ChainIs, first-chain, stepWords}
+use Rattle.paths.specs.Chains.{asked, Reply, none, chain, ChainIs, first-chain}
 use Rattle.paths.specs.Relations.{pairs, cells}
-use Rattle.paths.specs.Questions.{Outcome, paired, replied, unless, chainWork, pairsOf, pairsCauses, pairsAnswer, steps, ReplyTo, chainCauses, chainAnswer, over, listAfter}
+use Rattle.paths.specs.Questions.{Outcome, paired, replied, unless, chainWork, pairsOf, pairsCauses, pairsAnswer, steps, ReplyTo, chainCauses, chainAnswer}
+use Rattle.paths.specs.Questions.{over, listAfter}
 use Rattle.paths.specs.Verdicts.{verdict, verdict-right}
 use Rattle.paths.specs.PairLaws.{fit-inside, long-enough}
-use Rattle.paths.specs.FirstChain.{reply}
-use Rattle.rowpairs.specs.Asking.{rowsWork, rowsCauses, rowsAnswer}
+use Rattle.paths.specs.FirstChainLaws.{reply}
+use Rattle.rowpairs.specs.Asking.{rowsCauses, rowsAnswer}
 use Rattle.rowpairs.specs.AskingLaws.{rows-paired}
 use Rattle.automaton.specs.WalkLaws.{length-stepWords}
-use Rattle.automaton.specs.ShortChains.{chains-63}
-use Rattle.session.specs.Program.{programRecords, programWords, Frame, asks, faulty, opening, call, pairs as pairs-asked, chain as chain-asked, totalling, Session, unopened, opened, openAnswer, rowRecords, programPairs, nextSession, Right, listLeft}
+use Rattle.automaton.specs.ShortChainLaws.{chains-63}
+use Rattle.session.specs.Program.{programRecords, programWords, Frame, asks, faulty, opening, call, pairs as pairs-asked, chain as chain-asked, totalling}
+use Rattle.session.specs.Program.{Session, unopened, opened, openAnswer, rowRecords, programPairs, nextSession, Right, listLeft}
 use Rattle.session.specs.TurnLaws.{open-none, open-many, open-fine, next-size}
 
 -- ---- at most n × n pairs
@@ -116,7 +121,8 @@ room-enough outside c d short k room h = absurd (omega arith)
 room-enough large c d short k room h = absurd (omega arith)
 
 -- by rows or by trees
-either-length : (o p : Outcome) (l : List ℕ) (t : Bool) → length (listAfter o l) ≡ length l → length (listAfter p l) ≡ length l → length (listAfter (pick t o p) l) ≡ length l
+either-length : (o p : Outcome) (l : List ℕ) (t : Bool) → length (listAfter o l) ≡ length l
+    → length (listAfter p l) ≡ length l → length (listAfter (pick t o p) l) ≡ length l
 either-length o p l true h k = h
 either-length o p l false h k = k
 
@@ -138,7 +144,8 @@ length-left work l (opened b) (asks (pairs-asked u)) v t =
     (length-pairs (firstNumber (pairsCauses b v work)) (length (pairsOf b v)) (pairsOf b v) l)
 length-left work l (opened b) (asks (chain-asked x y u)) v t =
     length-reply (firstNumber (chainCauses b x y v t work (length l))) t l
-    (λ h. room-enough v short-work short-list (ltb work (chainWork (b .n))) (length (steps t)) (length l) (first-none no-record (leb (b .n) x || leb (b .n) y) _ h .1))
+    (λ h. room-enough v short-work short-list (ltb work (chainWork (b .n))) (length (steps t))
+    (length l) (first-none no-record (leb (b .n) x || leb (b .n) y) _ h .1))
 
 -- ---- every frame has a verdict and a reply
 same-expression : (e f : Expr) → accepted e ≡ accepted f → e ≡ f
@@ -164,7 +171,8 @@ right-exists (opened b) (asks (chain-asked x y u)) h =
     (verdict u, r .0, (verdict-right u, r .1))
 
 -- ---- with 4,096 words each, no question is refused for room
-trees-answered : (b : Book) (e : Expr) → b .n ≤ programRecords → pairsAnswer b (accepted e) programWords programWords ≡ paired (length (pairs (asked b) e)) (pairs (asked b) e)
+trees-answered : (b : Book) (e : Expr) → b .n ≤ programRecords
+    → pairsAnswer b (accepted e) programWords programWords ≡ paired (length (pairs (asked b) e)) (pairs (asked b) e)
 unfolding pairsCauses pairsOf pairs asked verdictCause firstNumber
 trees-answered b e h =
     let square : b .n * b .n ≤ 64 * 64 = mul-le-mul h h in
@@ -172,7 +180,8 @@ trees-answered b e h =
     let work : 32 * treeUnit (b .n) ≤ programWords = omega (arith, small-tree (b .n) h) in
     long-enough b (accepted e) programWords programWords few ∙ rw (le-ltb programWords (32 * treeUnit (b .n)) work) refl
 
-rows-answered : (b : Book) (e : Expr) → b .n ≤ rowRecords → rowsAnswer b (accepted e) programWords programWords ≡ paired (length (pairs (asked b) e)) (pairs (asked b) e)
+rows-answered : (b : Book) (e : Expr) → b .n ≤ rowRecords
+    → rowsAnswer b (accepted e) programWords programWords ≡ paired (length (pairs (asked b) e)) (pairs (asked b) e)
 unfolding pairs asked
 rows-answered b e h =
     let square : b .n * b .n ≤ 32 * 32 = mul-le-mul h h in
@@ -180,7 +189,8 @@ rows-answered b e h =
     let few : length (listed (b .n) (cells (asked b) e)) ≤ programWords = omega (arith, listed-length (b .n) (cells (asked b) e)) in
     rows-paired b programWords programWords e (omega arith) ∙ ap (paired (length (pairs (asked b) e))) (take-all programWords (pairs (asked b) e) few)
 
-pub pairs-answered : (b : Book) (e : Expr) → b .n ≤ programRecords → programPairs b (accepted e) programWords programWords ≡ paired (length (pairs (asked b) e)) (pairs (asked b) e)
+pub pairs-answered : (b : Book) (e : Expr) → b .n ≤ programRecords
+    → programPairs b (accepted e) programWords programWords ≡ paired (length (pairs (asked b) e)) (pairs (asked b) e)
 unfolding programPairs
 pairs-answered b e h = go (decLt rowRecords (b .n))
   where
@@ -188,12 +198,14 @@ pairs-answered b e h = go (decLt rowRecords (b .n))
     go (yes l) = rw (lt-leb (b .n) rowRecords l) (trees-answered b e h)
     go (no l) = rw (le-leb (b .n) rowRecords (omega arith)) (rows-answered b e (omega arith))
 
-steps-few : (b : Book) → Sound b → b .n ≤ programRecords → (e : Expr) → letters e ≤ 63 → (x y : ℕ) (t : Reply) → ChainIs (asked b) e x y t → length (steps t) ≤ programWords
+steps-few : (b : Book) → Sound b → b .n ≤ programRecords → (e : Expr) → letters e ≤ 63
+    → (x y : ℕ) (t : Reply) → ChainIs (asked b) e x y t → length (steps t) ≤ programWords
 unfolding steps asked
 steps-few b h m e l x y none r = omega arith
 steps-few b h m e l x y (chain ws) (first-chain ss f) = omega (arith, length-stepWords ss, chains-63 (asked b) (fit-inside b (h .sheet)) e l x y ss f)
 
-pub chain-answered : (b : Book) → Sound b → b .n ≤ programRecords → (e : Expr) → letters e ≤ 63 → (x y : ℕ) → x < b .n → y < b .n → (t : Reply) → ChainIs (asked b) e x y t
+pub chain-answered : (b : Book) → Sound b → b .n ≤ programRecords → (e : Expr)
+    → letters e ≤ 63 → (x y : ℕ) → x < b .n → y < b .n → (t : Reply) → ChainIs (asked b) e x y t
     → chainAnswer b x y (accepted e) t programWords programWords ≡ replied t
 unfolding chainAnswer chainCauses verdictCause firstNumber
 chain-answered b h m e l x y i j t r =

@@ -19,9 +19,10 @@ use Rattle.paths.specs.Grammar.{Verdict, accepted, long, outside, large, Judged
 use Rattle.paths.specs.Chains.{asked, Reply}
 use Rattle.paths.specs.Questions.{Outcome, unless, replied, ReplyTo, chainCauses, chainAnswer, listAfter}
 use Rattle.paths.specs.Verdicts.{verdict-only}
-use Rattle.paths.specs.FirstChain.{reply-only}
+use Rattle.paths.specs.FirstChainLaws.{reply-only}
 use Rattle.report.specs.Report.{outcomeText}
-use Rattle.session.specs.Program.{minFrame, maxFrame, Frame, asks, faulty, opening, call, pairs, chain, totalling, Session, unopened, opened, nextSession, programPairs, Right, printed, listLeft, frameIn, Run, ended, lone-byte, bad-length, cut, framed}
+use Rattle.session.specs.Program.{minFrame, maxFrame, Frame, asks, faulty, opening, call, pairs, chain, totalling, Session, unopened, opened, nextSession}
+use Rattle.session.specs.Program.{programPairs, Right, printed, listLeft, frameIn, Run, ended, lone-byte, bad-length, cut, framed}
 use Rattle.session.specs.ProgramLaws.{Steady, next-steady, right-exists}
 
 module _ (work : ℕ) where
@@ -44,7 +45,8 @@ module _ (work : ℕ) where
       go (no p) (no q) (no r) =
           let f = frameIn (a + 256 * b) i in
           let t = right-exists s f h in
-          let more = outputs (nextSession s f) (next-steady s f h) (listLeft work l s f (t .0) (t .1)) (drop (a + 256 * b) i) (omega (arith, length-drop (a + 256 * b) i)) in
+          let more = outputs (nextSession s f) (next-steady s f h) (listLeft work l s f (t .0) (t .1))
+          (drop (a + 256 * b) i) (omega (arith, length-drop (a + 256 * b) i)) in
           (_, more .1, more .2, framed {a = a} {b = b} {i = i} (t .0) (t .1) (omega arith) (omega arith) (omega arith) (t .2) (more .3))
 
   outputs : (k : ℕ) → Outputs k
@@ -72,7 +74,8 @@ module _ (work : ℕ) where
   reply-same room b x y outside t u h k = text-refused (leb (b .n) x || leb (b .n) y) 8 (replied t) (replied u)
   reply-same room b x y large t u h k = text-refused (leb (b .n) x || leb (b .n) y) 9 (replied t) (replied u)
 
-  chain-only : (room : ℕ) (b : Book) (x y : ℕ) (e : List ℕ) (v w : Verdict) (t u : Reply) → Judged e v × ReplyTo (asked b) v x y t → Judged e w × ReplyTo (asked b) w x y u
+  chain-only : (room : ℕ) (b : Book) (x y : ℕ) (e : List ℕ) (v w : Verdict) (t u : Reply)
+      → Judged e v × ReplyTo (asked b) v x y t → Judged e w × ReplyTo (asked b) w x y u
       → chainAnswer b x y v t work room ≡ chainAnswer b x y w u work room
   chain-only room b x y e v w t u h k =
       let same = verdict-only (h .0) ∙ sym (verdict-only (k .0)) in
@@ -127,10 +130,13 @@ module _ (work : ℕ) where
   pub run-only : {s s′ t : Session} {l l′ m i o p : List ℕ} → Run work s l i o s′ l′ → Run work s l i p t m → (o ≡ p) × (s′ ≡ t) × (l′ ≡ m)
   run-only q r = only refl q r
 
-  pub framed-as : {s s′ : Session} {l l′ : List ℕ} (a b : ℕ) (i j o : List ℕ) (f : Frame) (v : Verdict) (t : Reply) → frameIn (a + 256 * b) i ≡ f → drop (a + 256 * b) i ≡ j
-      → minFrame ≤ a + 256 * b → a + 256 * b ≤ maxFrame → a + 256 * b ≤ length i → Right s f v t → Run work (nextSession s f) (listLeft work l s f v t) j o s′ l′
+  pub framed-as : {s s′ : Session} {l l′ : List ℕ} (a b : ℕ) (i j o : List ℕ) (f : Frame) (v : Verdict) (t : Reply)
+      → frameIn (a + 256 * b) i ≡ f → drop (a + 256 * b) i ≡ j
+      → minFrame ≤ a + 256 * b → a + 256 * b ≤ maxFrame → a + 256 * b ≤ length i
+      → Right s f v t → Run work (nextSession s f) (listLeft work l s f v t) j o s′ l′
       → Run work s l (a ∷ b ∷ i) (printed work (length l) s f v t ++ o) s′ l′
   framed-as {s} {s′} {l} {l′} a b i j o f v t e d h k x =
-      subst (λ (g : Frame). Right s g v t → Run work (nextSession s g) (listLeft work l s g v t) j o s′ l′ → Run work s l (a ∷ b ∷ i) (printed work (length l) s g v t ++ o) s′ l′) e
+      subst (λ (g : Frame). Right s g v t → Run work (nextSession s g) (listLeft work l s g v t) j o s′ l′
+      → Run work s l (a ∷ b ∷ i) (printed work (length l) s g v t ++ o) s′ l′) e
       (λ r m. framed {a = a} {b = b} {i = i} v t h k x r
       (subst (λ (c : List ℕ). Run work (nextSession s (frameIn (a + 256 * b) i)) (listLeft work l s (frameIn (a + 256 * b) i) v t) c o s′ l′) (sym d) m))

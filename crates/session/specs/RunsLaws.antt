@@ -1,15 +1,28 @@
 -- Laws of runs over lent input: how a turn and a run keep their promise.
+--   lone-front, bad-front, cut-front
+--                        the front of the input is no frame: one byte alone, a length out of range, fewer bytes than it says
+--   front-frame, front-none
+--                        what a front is: a whole frame of a length in range, or none, which ends the run with 14
+--   andThen, withRest    two parts of a run as one; and out, with what was written into the rest of it
+--   frontFrame           the frame at the front of the input, if it has the length n
+--   front-run            a run from a whole frame on: what it prints, then the run over what follows
+--   stays, at-end, is-broken, one-frame
+--                        a turn: with too little room, at the end, at a broken frame, over one frame
 --   Reached st i work l l′ out out′ r
---                   how far a run came that has read, or not yet begun: the invariant of the loop
---   lives-on        the state handed back is that of a session, if the one at the start was
---   prints-run      a run with no more to do has printed the one output that the definition of a run says, and left its one session and list
---   loop-runs       so has the program's loop, if what it lends is its input and what it prints its output
+--                        how far a run came that has read, or not yet begun: the invariant of the loop
+--   not-begun, has-read  it holds before the first turn, and after one that read
+--   goes-further, goes-on-part
+--                        a run and a turn more are a run; also where the rest is lent as parts
+--   no-room, rest-short  a turn that read nothing, though there is more to do, had too little room
+--   lives-on             the state handed back is that of a session, if the one at the start was
+--   prints-run           a run with no more to do has printed the one output that the definition of a run says, and left its one session and list
+--   loop-runs            so has the program's loop, if what it lends is its input and what it prints its output
 -- Assumes nothing.
 use mathlib.Core.Path.{_≡_, refl, sym, ap, subst, _∙_}
 use mathlib.Core.Logic.{_⊎_}
 use mathlib.Core.List.{List, [], _∷_, _++_, append-assoc, append-nil}
 use mathlib.Core.Bool.{Bool, true, false}
-use Prim.Native.Nat.{ℕ, zero, suc, _+_, _-_, _*_, _≤_, _<_}
+use Prim.Native.Nat.{ℕ, suc, _+_, _-_, _*_, _≤_, _<_}
 use native.Mathlib.Nat.{zero-add}
 use native.Mathlib.Decide.{decLt}
 use native.Mathlib.Omega.{arith}
@@ -23,7 +36,8 @@ use Rattle.register.specs.HistoryLaws.{represents-sound}
 use Rattle.report.specs.Report.{refusedText}
 use Rattle.report.specs.Written.{written, Wrote}
 use Rattle.report.specs.WrittenLaws.{wrote-as, wrote-none, wrote-then}
-use Rattle.session.specs.Program.{minFrame, maxFrame, number16, Frame, decode, Session, nextSession, Right, printed, listLeft, Run, ended, lone-byte, bad-length, cut}
+use Rattle.session.specs.Program.{minFrame, maxFrame, number16, Frame, decode, Session, nextSession, Right, printed, listLeft, Run, ended, lone-byte}
+use Rattle.session.specs.Program.{bad-length, cut}
 use Rattle.session.specs.ProgramLaws.{Steady, right-exists}
 use Rattle.session.specs.RunLaws.{run-only, framed-as}
 use Rattle.session.specs.TurnLaws.{both-ways}
@@ -72,7 +86,8 @@ withRest w m part = putMid w (length m - w) m part
 
 module _ (work : ℕ) where
   -- ---- a whole frame at the front, and more input after what is lent
-  whole : {s s′ : Session} {l l′ : List ℕ} (a b c d m : ℕ) (k j p : List ℕ) (v : Verdict) (t : Reply) → a + 256 * b ≡ suc (suc m) → a + 256 * b ≤ maxFrame → m ≤ length k
+  whole : {s s′ : Session} {l l′ : List ℕ} (a b c d m : ℕ) (k j p : List ℕ) (v : Verdict) (t : Reply)
+      → a + 256 * b ≡ suc (suc m) → a + 256 * b ≤ maxFrame → m ≤ length k
       → Right s (decode (c + 256 * d) (take m k)) v t
       → Run work (nextSession s (decode (c + 256 * d) (take m k))) (listLeft work l s (decode (c + 256 * d) (take m k)) v t) (drop m k ++ j) p s′ l′
       → Run work s l (a ∷ b ∷ c ∷ d ∷ (k ++ j)) (printed work (length l) s (decode (c + 256 * d) (take m k)) v t ++ p) s′ l′
@@ -104,10 +119,12 @@ module _ (work : ℕ) where
       (whole a b c d (n - 2) i j p v t (omega arith) (omega arith) (omega arith) (rw part at right) (rw (part, after) at run))
 
   -- ---- a turn
-  stands : (st : State) (s : Session) (l i out : List ℕ) (more : Bool) → StateOf st s → GoesOn work s l l i out out (record { state = st; read = 0; written = 0; more = more })
+  stands : (st : State) (s : Session) (l i out : List ℕ) (more : Bool) → StateOf st s
+      → GoesOn work s l l i out out (record { state = st; read = 0; written = 0; more = more })
   stands st s l i out more h = record { output = []; session = s; wrote = wrote-none 0 out (omega arith); holds = h; runs = λ j p s′ l″ r. r }
 
-  pub stays : (st : State) (i l out : List ℕ) → length out < room (length l) → Advances st i work l l out out (record { state = st; read = 0; written = 0; more = true })
+  pub stays : (st : State) (i l out : List ℕ) → length out < room (length l)
+      → Advances st i work l l out out (record { state = st; read = 0; written = 0; more = true })
   stays st i l out short =
       record {
         inside = omega arith;
@@ -159,7 +176,8 @@ module _ (work : ℕ) where
               holds = right .next s h;
               runs = λ j p s′ l″ run.
                   front-run i n j p (r .0) (r .1) (facts .0) (facts .1) (facts .2) (facts .3) (r .2)
-                  (subst (λ (m : List ℕ). Run work (nextSession s (frontFrame i n)) m (drop (n + 2) i ++ j) p s′ l″) (right .list s h (r .0) (r .1) (r .2)) run);
+                  (subst (λ (m : List ℕ). Run work (nextSession s (frontFrame i n)) m (drop (n + 2) i ++ j) p s′ l″)
+                  (right .list s h (r .0) (r .1) (r .2)) run);
             };
       }
     where
@@ -176,7 +194,8 @@ module _ (work : ℕ) where
   pub not-begun : (st : State) (i l out : List ℕ) → Reached st i l l out out (record { state = st; read = 0; written = 0; more = true })
   not-begun st i l out = record { inside = omega arith; within = omega arith; begun = λ e. refl; goes = λ s h. stands st s l i out true h }
 
-  pub has-read : {st : State} {i l l′ out out′ : List ℕ} {r : Ran} → Advances st i work l l′ out out′ r → r .more ≡ true → 0 < r .read → Reached st i l l′ out out′ r
+  pub has-read : {st : State} {i l l′ out out′ : List ℕ} {r : Ran}
+      → Advances st i work l l′ out out′ r → r .more ≡ true → 0 < r .read → Reached st i l l′ out out′ r
   has-read a more some = record { inside = a .inside; within = a .within; begun = λ e. absurd (omega arith); goes = a .goes more }
 
   -- a text written into a part of out is written into out
@@ -186,7 +205,8 @@ module _ (work : ℕ) where
       let rest : drop (length m - w) (drop w m) ≡ [] = drop-of-length-le (drop w m) {i = length m - w} (omega (arith, length-drop w m)) in
       let size : w + q ≡ w + length p = omega (arith, r .place) in
       record {
-        contents = rw rest (ap (λ (l : List ℕ). take w m ++ l) (append-nil part ∙ r .contents ∙ rw zero-add (ap (λ (l : List ℕ). p ++ l) (drop-drop (length p) w m))));
+        contents =
+            rw rest (ap (λ (l : List ℕ). take w m ++ l) (append-nil part ∙ r .contents ∙ rw zero-add (ap (λ (l : List ℕ). p ++ l) (drop-drop (length p) w m))));
         place = size;
         fits = omega (arith, r .fits, length-drop w m);
       }
@@ -214,7 +234,8 @@ module _ (work : ℕ) where
               let enough : room (length k) ≤ length (drop (r .written) m) = omega (arith, length-drop (r .written) m) in
               omega (arith, b .onward enough e)
 
-      wrote : (o p : List ℕ) → Wrote 0 o out m (r .written) → Wrote 0 p (drop (r .written) m) part (q .written) → Wrote 0 (o ++ p) out (withRest (r .written) m part) (r .written + q .written)
+      wrote : (o p : List ℕ) → Wrote 0 o out m (r .written) → Wrote 0 p (drop (r .written) m) part (q .written)
+          → Wrote 0 (o ++ p) out (withRest (r .written) m part) (r .written + q .written)
       wrote o p u v = wrote-then u (wrote-part (r .written) (q .written) p m part (omega (arith, a .within)) v)
 
       ending : q .more ≡ false → (s : Session) → StateOf st s
@@ -250,12 +271,15 @@ module _ (work : ℕ) where
           }
 
   -- the same, where the rest of the input and of out are lent as parts
-  pub goes-on-part : (st : State) (i l k k′ out m part : List ℕ) (r q : Ran) (w : ℕ) → length k ≡ length l → length m ≡ length out → w ≡ work → Reached st i l k out m r
+  pub goes-on-part : (st : State) (i l k k′ out m part : List ℕ) (r q : Ran) (w : ℕ)
+      → length k ≡ length l → length m ≡ length out → w ≡ work → Reached st i l k out m r
       → Advances (r .state) (take (length i - r .read) (drop (r .read) i)) w k k′ (take (length m - r .written) (drop (r .written) m)) part q
       → Advances st i work l k′ out (withRest (r .written) m part) (andThen r q)
   goes-on-part st i l k k′ out m part r q w long same ew a b =
-      let input : take (length i - r .read) (drop (r .read) i) ≡ drop (r .read) i = take-all (length i - r .read) (drop (r .read) i) (omega (arith, length-drop (r .read) i)) in
-      let rest : take (length m - r .written) (drop (r .written) m) ≡ drop (r .written) m = take-all (length m - r .written) (drop (r .written) m) (omega (arith, length-drop (r .written) m)) in
+      let input : take (length i - r .read) (drop (r .read) i) ≡ drop (r .read) i =
+      take-all (length i - r .read) (drop (r .read) i) (omega (arith, length-drop (r .read) i)) in
+      let rest : take (length m - r .written) (drop (r .written) m) ≡ drop (r .written) m =
+      take-all (length m - r .written) (drop (r .written) m) (omega (arith, length-drop (r .written) m)) in
       goes-further st i l k k′ out m part r q long same a (rw (ew, input, rest) at b)
 
 -- a turn that read nothing, though there is more to do, had too little room
@@ -292,7 +316,8 @@ module _ (work : ℕ) where
       let same = run-only work (x .runs) run in
       (wrote-as (same .0) (x .wrote), subst (λ (t : Session). StateOf (r .state) t) (same .1) (x .holds), same .2)
 
-  pub loop-runs : {st st′ : State} {l l′ i o : List ℕ} → Loop work st l i o st′ l′ → (s : Session) → StateOf st s → (s′ : Session) × StateOf st′ s′ × Run work s l i o s′ l′
+  pub loop-runs : {st st′ : State} {l l′ i o : List ℕ} → Loop work st l i o st′ l′
+      → (s : Session) → StateOf st s → (s′ : Session) × StateOf st′ s′ × Run work s l i o s′ l′
   loop-runs (stops {l = l} {l′ = l′} {i = i} a e) s h =
       let x = a .ends e s h in
       (x .session, x .holds, subst (λ (d : List ℕ). Run work s l i d (x .session) l′) (sym (printed-is (x .wrote))) (x .runs))
@@ -300,5 +325,6 @@ module _ (work : ℕ) where
       let x = a .goes e s h in
       let y = loop-runs more (x .session) (x .holds) in
       let none : drop (r .read) i ≡ [] = drop-of-length-le i {i = r .read} (omega arith) in
-      let run : Run work (x .session) l′ (drop (r .read) i ++ j) o (y .0) l″ = subst (λ (d : List ℕ). Run work (x .session) l′ (d ++ j) o (y .0) l″) (sym none) (y .2) in
+      let run : Run work (x .session) l′ (drop (r .read) i ++ j) o (y .0) l″ =
+      subst (λ (d : List ℕ). Run work (x .session) l′ (d ++ j) o (y .0) l″) (sym none) (y .2) in
       (y .0, y .1, subst (λ (d : List ℕ). Run work s l (i ++ j) (d ++ o) (y .0) l″) (sym (printed-is (x .wrote))) (x .runs j o (y .0) l″ run))

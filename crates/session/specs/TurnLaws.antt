@@ -1,4 +1,20 @@
 -- Laws of the program's frames: what a frame's promise follows from, case by case.
+--   both-ways      a test does not come out both ways
+--   open-none, open-many, open-fine, fresh-fine
+--                  opening with n: 1 for none or more than 64, else accepted
+--   next-size      a call keeps n, or lowers it
+--   faulty-turns   a frame that says no request
+--   closed-turns   any request but open while no register is opened
+--   open-turns     a request while one is
+--   kept-turns, fresh-turns
+--                  a refused open keeps the session, an accepted one begins afresh
+--   call-turns     an edit, undo or closing up
+--   pairs-turns, chain-turns
+--                  the two questions, which leave the session as it was
+--   total-turns    asking for a total
+--   part-turns     a chain question's text is the part of its body from byte 4 on
+--   none-framed, turned-framed
+--                  with too little room for out nothing is done; with enough, what a turn promises
 -- Assumes nothing.
 use mathlib.Core.Path.{_≡_, refl, sym, ap, subst, _∙_}
 use mathlib.Core.List.{List, [], _∷_}
@@ -7,11 +23,11 @@ use Prim.Native.Nat.{ℕ, zero, suc, _-_, _≤_, _<_}
 use native.Mathlib.Omega.{arith}
 use lib.ListN.{length, take, drop, length-drop}
 use lib.Seq.{take-all}
-use lib.Dec.{ltb}
 use borrow.Author.Tests.{lt-ltb, le-ltb}
 use Rattle.book.specs.Causes.{Cause, bad-size, not-open, number, firstNumber, maxRecords}
 use Rattle.book.specs.RankLaws.{rank-le}
-use Rattle.book.specs.Book.{Book, Sheet, Call, edit, undo, close, turned, undone, used, closed, editAnswer, edited, closeAnswer, answer, next, freshAnswer, fresh, total, totalNumber}
+use Rattle.book.specs.Book.{Book, Sheet, Call, edit, undo, close, turned, undone, used, closed, editAnswer, edited, closeAnswer, answer, next, freshAnswer}
+use Rattle.book.specs.Book.{fresh, total, totalNumber}
 use Rattle.paths.specs.Grammar.{Verdict}
 use Rattle.paths.specs.Chains.{asked, Reply}
 use Rattle.paths.specs.Questions.{Outcome, ReplyTo, chainAnswer, listAfter}
@@ -25,7 +41,8 @@ use Rattle.register.specs.declared.TotalAnswer.{TotalAnswer}
 use Rattle.report.specs.Report.{refusedText, answerText, okText, outcomeText}
 use Rattle.report.specs.Written.{Wrote}
 use Rattle.report.specs.WrittenLaws.{wrote-as}
-use Rattle.session.specs.Program.{programRecords, Frame, asks, faulty, opening, call, pairs, chain, totalling, Session, unopened, opened, openAnswer, nextSession, programPairs, Right, printed, listLeft}
+use Rattle.session.specs.Program.{programRecords, Frame, asks, faulty, opening, call, pairs, chain, totalling, Session, unopened, opened, openAnswer}
+use Rattle.session.specs.Program.{nextSession, programPairs, Right, printed, listLeft}
 use Rattle.session.specs.Turns.{StateOf, is-closed, is-open, room, Spares, as-it-was, answered, Turns, Framing}
 use Rattle.session.specs.Listing.{totalSaid, total-said}
 use Rattle.session.specs.declared.State.{State}
@@ -81,7 +98,8 @@ module _ (st : State) (work : ℕ) (l l′ out out′ : List ℕ) (r : Framed) w
   faulty-turns c kept same w = record { within = w .fits; spares = as-it-was same; next = λ s h. rw kept h; prints = λ s h v t q. w; list = λ s h v t q. same }
 
   -- any request but open while no register is opened
-  pub closed-turns : (f : Frame) → nextSession unopened f ≡ unopened → ((v : Verdict) (t : Reply) → printed work (length l) unopened f v t ≡ refusedText (number not-open))
+  pub closed-turns : (f : Frame) → nextSession unopened f ≡ unopened
+      → ((v : Verdict) (t : Reply) → printed work (length l) unopened f v t ≡ refusedText (number not-open))
       → ((v : Verdict) (t : Reply) → listLeft work l unopened f v t ≡ l)
       → st .opened ≡ false → r .state ≡ st → l′ ≡ l → Wrote 0 (refusedText (number not-open)) out out′ (r .written) → Turns st f work l l′ out out′ r
   closed-turns f n p k shut kept same w = record { within = w .fits; spares = as-it-was same; next = after; prints = told; list = left }
@@ -104,7 +122,8 @@ module _ (st : State) (work : ℕ) (l l′ out out′ : List ℕ) (r : Framed) w
       → ((b : Book) → Represents (st .register) b → (v : Verdict) (t : Reply) → Right (opened b) f v t
       → Wrote 0 (printed work (length l) (opened b) f v t) out out′ (r .written) × (l′ ≡ listLeft work l (opened b) f v t))
       → Turns st f work l l′ out out′ r
-  open-turns f up inside spared n p = record { within = inside; spares = spared; next = after; prints = λ s h v t q. told s h v t q .0; list = λ s h v t q. told s h v t q .1 }
+  open-turns f up inside spared n p =
+      record { within = inside; spares = spared; next = after; prints = λ s h v t q. told s h v t q .0; list = λ s h v t q. told s h v t q .1 }
     where
       after : (s : Session) → StateOf st s → StateOf (r .state) (nextSession s f)
       after unopened (is-closed shut) = absurd (both-ways (st .opened) up shut)
@@ -119,12 +138,14 @@ module _ (st : State) (work : ℕ) (l l′ out out′ : List ℕ) (r : Framed) w
   pub kept-turns : (n : ℕ) → openAnswer n ≡ number bad-size → r .state ≡ st → l′ ≡ l → Wrote 0 (refusedText (number bad-size)) out out′ (r .written)
       → Turns st (asks (opening n)) work l l′ out out′ r
   unfolding nextSession printed listLeft number answerText
-  kept-turns n e kept same w = record { within = w .fits; spares = as-it-was same; next = λ s h. rw (e, kept) h; prints = λ s h v t q. rw e w; list = λ s h v t q. same }
+  kept-turns n e kept same w =
+      record { within = w .fits; spares = as-it-was same; next = λ s h. rw (e, kept) h; prints = λ s h v t q. rw e w; list = λ s h v t q. same }
 
   pub fresh-turns : (n : ℕ) → openAnswer n ≡ 0 → n ≤ programRecords → r .state .opened ≡ true → Represents (r .state .register) (fresh n) → l′ ≡ l
       → Wrote 0 okText out out′ (r .written) → Turns st (asks (opening n)) work l l′ out out′ r
   unfolding nextSession printed listLeft answerText fresh
-  fresh-turns n e small up x same w = record { within = w .fits; spares = as-it-was same; next = λ s h. rw e (is-open up x small); prints = λ s h v t q. rw e w; list = λ s h v t q. same }
+  fresh-turns n e small up x same w =
+      record { within = w .fits; spares = as-it-was same; next = λ s h. rw e (is-open up x small); prints = λ s h v t q. rw e w; list = λ s h v t q. same }
 
   -- an edit or undo
   pub call-turns : (c : Call) (o : Told) → Steps (st .register) c o → st .opened ≡ true → r .state .opened ≡ true → r .state .register ≡ o .register → l′ ≡ l
@@ -137,7 +158,8 @@ module _ (st : State) (work : ℕ) (l l′ out out′ : List ℕ) (r : Framed) w
 
   -- the two questions, which leave the session as it was
   pub pairs-turns : (u : List ℕ) (o : Outcome) → st .opened ≡ true → r .state ≡ st → l′ ≡ listAfter o l
-      → ((b : Book) → Represents (st .register) b → (o ≡ programPairs b (verdict u) work (length l)) × (l′ ≡ listAfter (programPairs b (verdict u) work (length l)) l))
+      → ((b : Book) → Represents (st .register) b → (o ≡ programPairs b (verdict u) work (length l))
+      × (l′ ≡ listAfter (programPairs b (verdict u) work (length l)) l))
       → Wrote 0 (outcomeText o) out out′ (r .written) → Turns st (asks (pairs u)) work l l′ out out′ r
   unfolding nextSession printed listLeft
   pairs-turns u o up kept left says w =
@@ -173,7 +195,8 @@ module _ (st : State) (work : ℕ) (l l′ out out′ : List ℕ) (r : Framed) w
   -- a chain question's text is the part of its body from byte 4 on
   pub part-turns : (x y : ℕ) (s : List ℕ) → Turns st (asks (chain x y (take (length s - 4) (drop 4 s)))) work l l′ out out′ r
       → Turns st (asks (chain x y (drop 4 s))) work l l′ out out′ r
-  part-turns x y s t = subst (λ (u : List ℕ). Turns st (asks (chain x y u)) work l l′ out out′ r) (take-all (length s - 4) (drop 4 s) (omega (arith, length-drop 4 s))) t
+  part-turns x y s t =
+      subst (λ (u : List ℕ). Turns st (asks (chain x y u)) work l l′ out out′ r) (take-all (length s - 4) (drop 4 s) (omega (arith, length-drop 4 s))) t
 
   -- any room: with too little, nothing is done
   pub none-framed : (f : Frame) → length out < room (length l) → r .state ≡ st → r .written ≡ 0 → out′ ≡ out → l′ ≡ l → Framing st f work l l′ out out′ r

@@ -1,3 +1,3 @@
-mod Walking
-mod Cutting
-mod Answering
+mod LoopLaws
+mod CutLaws
+mod AnswerLaws

@@ -1,19 +1,18 @@
 -- What the inner functions promise.
---   wordLink w      the link that a register's word w names, its label as a byte
---   cut core k b    the book b after the link k is removed, if it touches the core: both ends are unlocked first
---   cutAll core ws b
---                   so for each word of ws in turn
---   joinedBy ws x y the bit of the pair (x, y) in rows of bits
+--   wordLink w        the link that a register's word w names, its label as a byte
+--   cut core k b      the book b after the link k is removed, if it touches the core: both ends are unlocked first
+--   cutAll core ws b  so for each word of ws in turn
+--   joinedBy ws x y   the bit of the pair (x, y) in rows of bits
 --   lost before after core x
---                   whether x is not the core, and is marked before and not after
+--                     whether x is not the core, and is marked before and not after
 --   Marked r v anchors work n m
---                   asked of the register r: the number of a refusal is a cause's; for every book that the register represents, it is the one of the pair
---                   question, and with none the records below n are marked that have a chain to some anchor
---   Parted core b r the register r represents a book whose graph is that of b without the links that touch the core
+--                     asked of the register r: the number of a refusal is a cause's; for every book that the register represents, it is the one of the pair
+--                     question, and with none the records below n are marked that have a chain to some anchor
+--   Parted core b r   the register r represents a book whose graph is that of b without the links that touch the core
 --   Handed l before after a
---                   the words l handed over into a list that held `before`: refused with 13 if it is shorter, else written over its front
+--                     the words l handed over into a list that held `before`: refused with 13 if it is shorter, else written over its front
 --   Compares r core n v anchors work before after a
---                   what `Support` `SupportsFor` says, of a core and anchors that are not refused and with the work of a pair question alone
+--                     what `Support` `SupportsFor` says, of a core and anchors that are not refused and with the work of a pair question alone
 -- Assumes nothing: these are definitions.
 use mathlib.Core.Path.{_≡_}
 use mathlib.Core.List.{List, [], _∷_}

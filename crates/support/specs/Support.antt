@@ -1,36 +1,34 @@
 -- Sole support: which records would lose every chain to the anchors if one core did.
---   touches core k  whether the link k touches the core, at either end
---   without core g  the graph g with every link that touches the core gone; the core itself stays in use
---   Held g e anchors x
---                   the record x has a chain to some anchor that spells a word of e
+--   touches core k       whether the link k touches the core, at either end
+--   without core g       the graph g with every link that touches the core gone; the core itself stays in use
+--   Held g e anchors x   the record x has a chain to some anchor that spells a word of e
 --   Falls g e core anchors x
---                   x is not the core, has a chain to some anchor, and has none to any once the links that touch the core are gone
+--                        x is not the core, has a chain to some anchor, and has none to any once the links that touch the core are gone
 --   FallenAre g e core anchors l
---                   the list l is the answer: its numbers ascend, and they are the records that fall
---   some t l        whether some member of the list l passes the test t
---   chosen t n      the numbers below n that pass the test t, ascending
---   reaches c anchors x
---                   whether the set of pairs c joins x to some anchor, computed
---   falls, fallen   whether a record falls, computed; that list, computed
---   orderly m l     whether the numbers of l ascend, each once, the first at least m, computed
---   supportWork n   the words of work that are needed: 32 × D + 64 × n
+--                        the list l is the answer: its numbers ascend, and they are the records that fall
+--   some t l             whether some member of the list l passes the test t
+--   chosen t n           the numbers below n that pass the test t, ascending
+--   reaches c anchors x  whether the set of pairs c joins x to some anchor, computed
+--   falls, fallen        whether a record falls, computed; that list, computed
+--   orderly m l          whether the numbers of l ascend, each once, the first at least m, computed
+--   supportWork n        the words of work that are needed: 32 × D + 64 × n
 --   fallenOf b v core anchors
---                   the answer asked of the book b, if the text is an expression
+--                        the answer asked of the book b, if the text is an expression
 --   supportCauses, supportNumber
---                   the causes against the question, in their order, and the number of the first, or 0
+--                        the causes against the question, in their order, and the number of the first, or 0
 --   answered k l, supportAnswer
---                   the answer whose number is k, if l fall: how many they are, or refused with k; so the answer of the question
+--                        the answer whose number is k, if l fall: how many they are, or refused with k; so the answer of the question
 --   listed k l before, supportList
---                   what the list holds then: the records that fall, and the words past them as they were; all as it was if the question is refused
+--                        what the list holds then: the records that fall, and the words past them as they were; all as it was if the question is refused
 --   BookSupports b core v anchors work before after a
---                   asked of the book b with a text of the verdict v, so many words of work and a list that held `before`: the answer a and the list, which
---                   holds `after`, are the book's
---   recordsLength a how many words of the list are the answer's
+--                        asked of the book b with a text of the verdict v, so many words of work and a list that held `before`: the answer a and the list,
+--                        which holds `after`, are the book's
+--   recordsLength a      how many words of the list are the answer's
 --   SupportsFor r core v anchors work before after a
---                   asked of the register r. Over any contents: the answer fits the list, the words past it are as they were, all of them with a refusal,
---                   whose number is a cause's. For every book that the register represents: answer and list are the book's
+--                        asked of the register r. Over any contents: the answer fits the list, the words past it are as they were, all of them with a refusal,
+--                        whose number is a cause's. For every book that the register represents: answer and list are the book's
 --   Supports r core text anchors work before after a
---                   the same of a text
+--                        the same of a text
 -- Assumes nothing: these are definitions.
 use mathlib.Core.Path.{_≡_}
 use mathlib.Core.List.{List, [], _∷_, _++_}

@@ -1,20 +1,19 @@
 -- Laws of sole support: the computed answer is what the definition says, and nothing else is; the order of its causes.
---   some-in, in-some
---                   some member of a list passes a test exactly if one does
+--   some-in, in-some      some member of a list passes a test exactly if one does
+--   some-same, some-none  tests that agree on every member; no member passes
 --   in-chosen, chosen-in, chosen-rises, chosen-same
---                   the numbers below n that pass a test, ascending; tests that agree below n choose alike
+--                         the numbers below n that pass a test, ascending; tests that agree below n choose alike
 --   orderly-rises, rises-orderly
---                   the computed test of order is `Rises`
---   without-inside  the graph without the core's links is as proper as the graph
+--                         the computed test of order is `Rises`
+--   without-inside        the graph without the core's links is as proper as the graph
 --   reaches-held, held-reaches
---                   the computed test of a chain to some anchor is `Held`
---   fallen-are      fallen g e core anchors ascends, and its members are exactly the records that fall
---   fallen-only     no other list is so
---   history-fallen  so of the book after every history
---   fallen-none     no anchors, no records
---   core-never      the core is not among them
---   support-in-order
---                   the causes stand in the order of S16.4
+--                         the computed test of a chain to some anchor is `Held`
+--   fallen-are            fallen g e core anchors ascends, and its members are exactly the records that fall
+--   fallen-only           no other list is so
+--   core-never            the core is not among them
+--   history-fallen        the computed answer is right for the book after every history
+--   fallen-none           no anchors, no records
+--   support-in-order      the causes stand in the order of S16.4
 -- Assumes nothing.
 use mathlib.Core.Path.{_≡_, refl, sym, ap, ap₂, _∙_, subst}
 use mathlib.Core.Logic.{⊎-elim}
@@ -37,7 +36,8 @@ use Rattle.paths.specs.Relations.{cells}
 use Rattle.paths.specs.ChainLaws.{Inside}
 use Rattle.paths.specs.RelationLaws.{cells-is}
 use Rattle.paths.specs.PairLaws.{history-inside, text-in-order}
-use Rattle.support.specs.Support.{touches, without, Held, Falls, FallenAre, some, chosen, reaches, falls, fallen, orderly, supportWork, fallenOf, supportCauses}
+use Rattle.support.specs.Support.{touches, without, Held, Falls, FallenAre, some, chosen, reaches, falls, fallen, orderly, supportWork, fallenOf}
+use Rattle.support.specs.Support.{supportCauses}
 
 -- ---- tests of members
 pub some-in : (t : ℕ → Bool) (l : List ℕ) → some t l ≡ true → (x : ℕ) × In x l × (t x ≡ true)

@@ -269,7 +269,8 @@ fn compared(
     list: &mut [u32],
 ) -> SupportAnswer
     requires { ⌜ (n ≤ maxRecords) × (core < n) × (some (leb n) (now anchors) ≡ false) × (orderly 0 (now anchors) ≡ true) ⌝ }
-    ensures { λ a. ⌜ Compares register core n (verdict (now (text .entry))) (now (anchors .entry)) (length (now (work .entry))) (now (list .entry)) (now (list .exit)) a ⌝ }
+    ensures { λ a. ⌜ Compares register core n (verdict (now (text .entry))) (now (anchors .entry))
+        (length (now (work .entry))) (now (list .entry)) (now (list .exit)) a ⌝ }
 {
     let before = mark_records(register, text, anchors, work, n);
     if before.number != 0 {

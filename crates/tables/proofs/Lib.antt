@@ -1,3 +1,6 @@
 pub mod RowLaws
-pub mod BuildLaws
+pub mod PartLaws
+pub mod UnaryLaws
+pub mod SymbolLaws
+pub mod BinaryLaws
 pub mod RunLaws

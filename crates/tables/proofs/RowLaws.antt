@@ -1,4 +1,11 @@
--- Laws of the helpers on tables of masks, row by row. Assumes nothing.
+-- Laws of the helpers on tables of masks, row by row.
+--   joined-none, joined-no, joined-yes
+--                  rows joined with a mask where another says so: before the first, a row that stays, one that is joined
+--   mixed-none, mixed-no, mixed-yes
+--                  two tables mixed by a mask of rows: before the first, a row of the first, one of the second
+--   turned-none, turned-more
+--                  the entries turned round under a mask: before the first, one more
+-- Assumes nothing.
 use mathlib.Core.Path.{_≡_, refl, ap, _∙_}
 use mathlib.Core.List.{List}
 use Prim.Native.Nat.{ℕ, zero, suc, _+_, _-_, _^_, _≤_, _<_, min, max}
@@ -62,7 +69,12 @@ module _ {a b : List ℕ} {own k : ℕ} {r : List ℕ} (I : Mixed a b own k r) w
       out p h e (more f) = absurd (omega arith)
 
   pub mixed-yes : On (digit own k) → k < length r → Mixed a b own (k + 1) (set r k (getD b k 0))
-  mixed-yes o l = record { inside = λ p h g. go p h g (which p k); outside = λ p h e. out p h e (which p k); above = λ p h. off p (λ e. omega arith) ∙ I .above p (omega arith) }
+  mixed-yes o l =
+      record {
+        inside = λ p h g. go p h g (which p k);
+        outside = λ p h e. out p h e (which p k);
+        above = λ p h. off p (λ e. omega arith) ∙ I .above p (omega arith);
+      }
     where
       off : (p : ℕ) → (p ≡ k → ⊥) → getD (set r k (getD b k 0)) p 0 ≡ getD r p 0
       off p n = getD-set-other r k p (getD b k 0) 0 n
@@ -79,7 +91,8 @@ module _ {a b : List ℕ} {own k : ℕ} {r : List ℕ} (I : Mixed a b own k r) w
 
 -- ---- turned
 pub turned-none : (e : List ℕ) (own : ℕ) → Turned e own 0 e
-turned-none e own = record { inside = λ c q h. absurd (omega arith); outside = λ c q h. absurd (omega arith); high = λ c q h. absurd (omega arith); above = λ c h. refl }
+turned-none e own =
+    record { inside = λ c q h. absurd (omega arith); outside = λ c q h. absurd (omega arith); high = λ c q h. absurd (omega arith); above = λ c h. refl }
 
 module _ {e : List ℕ} {own k : ℕ} {r : List ℕ} (I : Turned e own k r) (fo : own < 2 ^ 64) (l : k < length r) where
   abbrev v : ℕ
@@ -88,12 +101,14 @@ module _ {e : List ℕ} {own k : ℕ} {r : List ℕ} (I : Turned e own k r) (fo 
   off : (c : ℕ) → (c ≡ k → ⊥) → getD (set r k v) c 0 ≡ getD r c 0
   off c n = getD-set-other r k c v 0 n
 
-  here : (q : ℕ) → q < 64 → digit (getD (set r k v) k 0) q ≡ max (min (digit (getD e k 0) q) (1 - digit own q)) (min (digit (getD e (inverseNumber k) 0) q) (digit own q))
+  here : (q : ℕ) → q < 64 → digit (getD (set r k v) k 0) q
+      ≡ max (min (digit (getD e k 0) q) (1 - digit own q)) (min (digit (getD e (inverseNumber k) 0) q) (digit own q))
   here q h = rw (getD-set-same r k v 0 l, digit-or, digit-and, digit-not 64 q own fo h, digit-and)
 
   ins : (c q : ℕ) → c < k + 1 → q < 64 → On (digit own q) → Which c k → digit (getD (set r k v) c 0) q ≡ digit (getD e (inverseNumber c) 0) q
   ins c q h g o (less f) = ap (λ (x : ℕ). digit x q) (off c (λ z. omega arith)) ∙ I .inside c q f g o
-  ins c q h g o (same f) = rw f (here q g ∙ (let a = digit-lt own q in let b = digit-lt (getD e (inverseNumber k) 0) q in let d = digit-lt (getD e k 0) q in omega arith))
+  ins c q h g o (same f) =
+      rw f (here q g ∙ (let a = digit-lt own q in let b = digit-lt (getD e (inverseNumber k) 0) q in let d = digit-lt (getD e k 0) q in omega arith))
   ins c q h g o (more f) = absurd (omega arith)
 
   out : (c q : ℕ) → c < k + 1 → q < 64 → digit own q ≡ 0 → Which c k → digit (getD (set r k v) c 0) q ≡ digit (getD e c 0) q
@@ -103,8 +118,16 @@ module _ {e : List ℕ} {own k : ℕ} {r : List ℕ} (I : Turned e own k r) (fo 
 
   hi : (c q : ℕ) → c < k + 1 → 64 ≤ q → Which c k → digit (getD (set r k v) c 0) q ≡ 0
   hi c q h g (less f) = ap (λ (x : ℕ). digit x q) (off c (λ z. omega arith)) ∙ I .high c q f g
-  hi c q h g (same f) = rw (f, getD-set-same r k v 0 l, digit-or, digit-and, digit-and, digit-big 64 q own fo g, digit-big 64 q ((2 ^ 64 - 1) - own) (ones-sub-lt 64 own) g) (omega arith)
+  hi c q h g (same f) =
+      rw (f, getD-set-same r k v 0 l, digit-or, digit-and, digit-and, digit-big 64 q own fo g, digit-big 64 q ((2 ^ 64 - 1) - own) (ones-sub-lt 64 own) g)
+      (omega arith)
   hi c q h g (more f) = absurd (omega arith)
 
   pub turned-more : Turned e own (k + 1) (set r k v)
-  turned-more = record { high = λ c q h g. hi c q h g (which c k); inside = λ c q h g o. ins c q h g o (which c k); outside = λ c q h g o. out c q h g o (which c k); above = λ c h. off c (λ z. omega arith) ∙ I .above c (omega arith) }
+  turned-more =
+      record {
+        high = λ c q h g. hi c q h g (which c k);
+        inside = λ c q h g o. ins c q h g o (which c k);
+        outside = λ c q h g o. out c q h g o (which c k);
+        above = λ c h. off c (λ z. omega arith) ∙ I .above c (omega arith);
+      }

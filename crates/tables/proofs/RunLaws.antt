@@ -1,4 +1,16 @@
--- Running the code: what each number does to the tables, what stands at the start and at the end. Assumes nothing.
+-- Running the code: what each number does to the tables, what stands at the start and at the end.
+--   Unary y f, Binary y f
+--                        the item y is an operator on one operand, or on two, and makes f of them
+--   inverts, stars, repeats, allows-none, unites, follows
+--                        what each operator makes
+--   Opened               of a number of the code: its operands, what is left of the run, and the symbols left
+--   room-one, after-one, room-two, after-two, room-symbol, after-symbol
+--                        for an operator on one, on two, and a symbol: there is room, and the tables after it hold what is left
+--   holds-none, next-none, zeros-at
+--                        at the start: empty tables hold nothing, and the whole code is left
+--   at-end               at the end one part waits
+--   masked, masked-part  with the start added, the tables are those of the automaton
+-- Assumes nothing.
 use mathlib.Core.Path.{_≡_, refl, sym, ap, ap₂, _∙_, subst}
 use mathlib.Core.List.{List, [], _∷_, _++_}
 use mathlib.Core.Bool.{Bool, false}
@@ -14,14 +26,17 @@ use Rattle.book.specs.Basics.{bit}
 use Rattle.book.specs.Causes.{labels}
 use Rattle.k2.specs.Bits.{digit}
 use Rattle.k2.specs.DigitLaws.{digit-lt, digit-zero, digit-none, digit-or, digit-pow, digit-big}
-use Rattle.paths.specs.Expressions.{Letter, Symbol, letter, noneOf, standsFor, Expr, symbol, group, inverse, star, plus, optional as optional-part, alternative, sequence, letters}
-use Rattle.paths.specs.Grammar.{Rule, alternatives, Is, one-alternative, more-alternatives, one-part, more-parts, plain, inverted, bare, with-star, with-plus, with-optional, is-letter, is-negated, is-set, is-group}
+use Rattle.paths.specs.Expressions.{Letter, Symbol, letter, noneOf, standsFor, Expr, symbol, group, inverse, star, plus, optional as optional-part, alternative}
+use Rattle.paths.specs.Expressions.{sequence, letters}
+use Rattle.paths.specs.Grammar.{Rule, alternatives, Is, one-alternative, more-alternatives, one-part, more-parts, plain, inverted, bare, with-star, with-plus}
+use Rattle.paths.specs.Grammar.{with-optional, is-letter, is-negated, is-set, is-group}
 use Rattle.paths.specs.Verdicts.{InLimits}
 use Rattle.reader.specs.declared.items.Item.{Item}
 use Rattle.reader.specs.declared.items.Item.the-variants.{Letters, Inverse, Star, Plus, Optional, Alternative, Sequence}
 use Rattle.reader.specs.Letters.{forwardOf, againstOf}
 use Rattle.reader.specs.LetterLaws.{letters-all, letter-past, none-past}
-use Rattle.reader.specs.Code.{op-inverse, op-star, op-plus, op-optional, op-alternative, op-sequence, first-letters, lettersNumber, itemOf, code, value, does, run}
+use Rattle.reader.specs.Code.{op-inverse, op-star, op-plus, op-optional, op-alternative, op-sequence, first-letters, lettersNumber, itemOf, code, value, does}
+use Rattle.reader.specs.Code.{run}
 use Rattle.reader.specs.Running.{operands, Runs, ended, next}
 use Rattle.reader.specs.CodeLaws.{letters-number, run-code, runs-code}
 use Rattle.automaton.specs.Automata.{is, Fragment, single, reversed, repeated, optional, either, followed, fragment, started, automaton}
@@ -30,7 +45,7 @@ use Rattle.automaton.specs.Masks.{letterNumber, Masked}
 use Rattle.tables.specs.declared.Build.{Build}
 use Rattle.tables.specs.Rows.{Joined}
 use Rattle.tables.specs.Builds.{Part, changed, combined, parts, Item as Place, Items, none, item, Holds, symbols, places, Next}
-use Rattle.tables.proofs.BuildLaws.{zero-of, Top, top-of, joins}
+use Rattle.tables.proofs.PartLaws.{zero-of, Top, top-of, joins}
 
 -- ---- how many wait
 items-length : {b : Build} {m k : ℕ} {st : List Part} → Items b m k st → k ≡ length st
@@ -120,7 +135,8 @@ module _ {b : Build} {i : ℕ} {c : List ℕ} {v : Part} (N : Next b (i ∷ c) v
   pub room-two : {f : Part → Part → Part} → Binary y f → (2 ≤ b .top) × (b .top ≤ places)
   room-two B = room-of 2 (B .takes)
 
-  pub after-two : {f : Part → Part → Part} {r : Build} → Binary y f → ((m : ℕ) (x z : Part) (st : List Part) → Holds b m (z ∷ x ∷ st) → Holds r m (f x z ∷ st)) → Next r c v
+  pub after-two : {f : Part → Part → Part} {r : Build} → Binary y f
+      → ((m : ℕ) (x z : Part) (st : List Part) → Holds b m (z ∷ x ∷ st) → Holds r m (f x z ∷ st)) → Next r c v
   after-two {f} {r} B H = go (N .st) refl
     where
       go : (s : List Part) → N .st ≡ s → Next r c v
@@ -147,7 +163,8 @@ module _ {b : Build} {i : ℕ} {c : List ℕ} {v : Part} (N : Next b (i ∷ c) v
       (omega arith, omega arith)
 
   pub after-symbol : {r : Build} → ((m : ℕ) (st : List Part) → Holds b m st → Holds r (m + 1) (parts .of forward against ∷ st)) → Next r c v
-  after-symbol {r} H = after N is-item r (N .m + 1) (parts .of forward against ∷ N .st) does-symbol (let l = symbols-left in omega arith) (H (N .m) (N .st) (N .holds))
+  after-symbol {r} H =
+      after N is-item r (N .m + 1) (parts .of forward against ∷ N .st) does-symbol (let l = symbols-left in omega arith) (H (N .m) (N .st) (N .holds))
 
 -- ---- at the start
 symbols-append : (c d : List ℕ) → symbols (c ++ d) ≡ symbols c + symbols d
@@ -161,7 +178,8 @@ symbols-two c d i = symbols-append (c ++ d) (i ∷ []) ∙ ap (λ (k : ℕ). k +
 -- a code has as many symbols as its expression has letters
 symbols-code : (e : Expr) → symbols (code e) ≡ letters e
 unfolding symbols code letters
-symbols-code (symbol s) = rw (le-leb first-letters (lettersNumber (forwardOf (standsFor s)) (againstOf (standsFor s))) (unfold lettersNumber in (omega arith))) refl
+symbols-code (symbol s) =
+    rw (le-leb first-letters (lettersNumber (forwardOf (standsFor s)) (againstOf (standsFor s))) (unfold lettersNumber in (omega arith))) refl
 symbols-code (group e) = symbols-code e
 symbols-code (inverse e) = let u = symbols-code e in symbols-append (code e) (op-inverse ∷ []) ∙ (omega arith)
 symbols-code (star e) = let u = symbols-code e in symbols-append (code e) (op-star ∷ []) ∙ (omega arith)
@@ -170,7 +188,8 @@ symbols-code (optional-part e) = let u = symbols-code e in symbols-append (code 
 symbols-code (alternative e f) = let u = symbols-code e in let v = symbols-code f in symbols-two (code e) (code f) op-alternative ∙ (omega arith)
 symbols-code (sequence e f) = let u = symbols-code e in let v = symbols-code f in symbols-two (code e) (code f) op-sequence ∙ (omega arith)
 
-pub holds-none : (f p e : List ℕ) → ((i : ℕ) → getD f i 0 ≡ 0) → ((i : ℕ) → getD p i 0 ≡ 0) → ((i : ℕ) → getD e i 0 ≡ 0) → (u v w n : List ℕ) → Holds (record { follow = f; pred = p; enter = e; first = u; last = v; own = w; nullable = n; top = 0; used = 0 }) 0 []
+pub holds-none : (f p e : List ℕ) → ((i : ℕ) → getD f i 0 ≡ 0) → ((i : ℕ) → getD p i 0 ≡ 0) → ((i : ℕ) → getD e i 0 ≡ 0)
+    → (u v w n : List ℕ) → Holds (record { follow = f; pred = p; enter = e; first = u; last = v; own = w; nullable = n; top = 0; used = 0 }) 0 []
 holds-none f p e hf hp he u v w n = record {
   items = none;
   count = refl;
@@ -179,7 +198,15 @@ holds-none f p e hf hp he u v w n = record {
 }
 
 pub next-none : {b : Build} {s ns : List ℕ} {e : Expr} → InLimits s e → ns ≡ code e → Holds b 0 [] → Next b ns (value parts e)
-next-none {e = e} L q H = rw q (record { m = 0; st = []; runs = runs-code parts (L .syntax) places [] (let d = L .shallow in omega arith); leaves = run-code parts (L .syntax) []; room = (let z = symbols-code e in let l = L .few-letters in omega arith); holds = H })
+next-none {e = e} L q H =
+    rw q (record {
+      m = 0;
+      st = [];
+      runs = runs-code parts (L .syntax) places [] (let d = L .shallow in omega arith);
+      leaves = run-code parts (L .syntax) [];
+      room = (let z = symbols-code e in let l = L .few-letters in omega arith);
+      holds = H;
+    })
 
 pub zeros-at : (n i : ℕ) → getD {A = ℕ} (replicate n 0) i 0 ≡ 0
 zeros-at zero i = refl
@@ -276,7 +303,8 @@ module _ {b : Build} {m : ℕ} {x : Part} (H : Holds b m (x ∷ [])) where
       go (yes h) = T .follow p q h
       go (no h) = H .blank .follow p q (out p h) ∙ sym (no-follow p q h)
 
-  pub masked : {pred : List ℕ} → length (b .follow) ≡ 64 → Joined (b .pred) (digit (getD (b .first) 0 0)) 1 64 pred → Masked (set (b .follow) 0 (getD (b .first) 0 0)) pred (b .enter) (bitOr (getD (b .last) 0 0) (getD (b .nullable) 0 0)) (started A)
+  pub masked : {pred : List ℕ} → length (b .follow) ≡ 64 → Joined (b .pred) (digit (getD (b .first) 0 0)) 1 64 pred
+      → Masked (set (b .follow) 0 (getD (b .first) 0 0)) pred (b .enter) (bitOr (getD (b .last) 0 0) (getD (b .nullable) 0 0)) (started A)
   unfolding started
   masked {pred} long J = record { follow = fo; before = be; enters = en; final = fi }
     where
@@ -307,7 +335,9 @@ module _ {b : Build} {m : ℕ} {x : Part} (H : Holds b m (x ∷ [])) where
         where
           go : Dec (Between 0 (x .letters) q) → digit (getD (b .enter) (letterNumber a) 0) q ≡ A .enters q a
           go (yes h) = T .enters q a h
-          go (no h) = H .blank .enter (letterNumber a) q (out q h) ∙ sym (zero-of (A .enters q a) (λ o. h (let k = W .enters q a o in (omega arith, omega arith))))
+          go (no h) =
+              H .blank .enter (letterNumber a) q (out q h) ∙ sym (zero-of (A .enters q a) (λ o. h (let k = W .enters q a o in (omega arith, omega arith))))
 
-pub masked-part : {fs ps es : List ℕ} {f : ℕ} {s : List ℕ} {e : Expr} → Is alternatives s e → Masked fs ps es f (started (value parts e .fragment 0)) → Masked fs ps es f (automaton e)
+pub masked-part : {fs ps es : List ℕ} {f : ℕ} {s : List ℕ} {e : Expr} → Is alternatives s e
+    → Masked fs ps es f (started (value parts e .fragment 0)) → Masked fs ps es f (automaton e)
 masked-part {fs} {ps} {es} {f} d T = subst (λ (x : Part). Masked fs ps es f (started (x .fragment 0))) (value-parts d) T

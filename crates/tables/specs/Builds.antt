@@ -1,14 +1,14 @@
 -- The tables under construction: which parts of the expression wait on the stack, and that each one's masks are those of its fragment.
---   Part            a part of an expression: how many letters it has, and its fragment after any number of letters
---   parts           the algebra of parts
---   Fit x           the positions of x's fragment are those of its letters
---   Item b i o hi A place i of the stack holds the fragment A, whose positions are o + 1 to hi
---   Items b m k st  the parts st wait, the latest first, in k places, and have the positions 1 to m
---   Blank b m       nothing stands past the position m
---   Holds b m st    all of this, with m at most 63
---   symbols c       how many numbers of a code are symbols
---   places          how many places of the stack are enough
---   Next b c x      the code c is still to be run, leaves the part x alone, and finds enough operands, places and positions
+--   Part             a part of an expression: how many letters it has, and its fragment after any number of letters
+--   parts            the algebra of parts
+--   Fit x            the positions of x's fragment are those of its letters
+--   Item b i o hi A  place i of the stack holds the fragment A, whose positions are o + 1 to hi
+--   Items b m k st   the parts st wait, the latest first, in k places, and have the positions 1 to m
+--   Blank b m        nothing stands past the position m
+--   Holds b m st     all of this, with m at most 63
+--   symbols c        how many numbers of a code are symbols
+--   places           how many places of the stack are enough
+--   Next b c x       the code c is still to be run, leaves the part x alone, and finds enough operands, places and positions
 -- Assumes nothing: these are definitions.
 use mathlib.Core.Path.{_≡_}
 use mathlib.Core.List.{List, [], _∷_}
@@ -65,7 +65,8 @@ pub record Item (b : Build) (i o hi : ℕ) (A : Fragment) : Type 0 where
 
 pub data Items (b : Build) : ℕ → ℕ → List Part → Type 0 where
   none : Items b 0 0 []
-  item : {o k : ℕ} {x : Part} {st : List Part} → Items b o k st → Fit x → Item b k o (o + x .letters) (x .fragment o) → Items b (o + x .letters) (suc k) (x ∷ st)
+  item : {o k : ℕ} {x : Part} {st : List Part} → Items b o k st → Fit x
+      → Item b k o (o + x .letters) (x .fragment o) → Items b (o + x .letters) (suc k) (x ∷ st)
 
 pub record Blank (b : Build) (m : ℕ) : Type 0 where
   pub follow : (p q : ℕ) → (Between 0 m p → ⊥) → digit (getD (b .follow) p 0) q ≡ 0

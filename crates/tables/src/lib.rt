@@ -243,7 +243,8 @@ pub struct Tables {
 // The tables of the automaton of the expression whose code it is.
 pub fn tables_of(numbers: &[u64]) -> Tables
     requires { ⌜ ((text : List ℕ) × (e : Expr) × InLimits text e × (now numbers ≡ code e)) ⌝ }
-    ensures { λ r. ⌜ ((text : List ℕ) (e : Expr) → InLimits text e → now (numbers .entry) ≡ code e → Masked (r .follow) (r .pred) (r .enter) (r .accepting) (automaton e)) ⌝ }
+    ensures { λ r. ⌜ ((text : List ℕ) (e : Expr) → InLimits text e → now (numbers .entry) ≡ code e
+        → Masked (r .follow) (r .pred) (r .enter) (r .accepting) (automaton e)) ⌝ }
 {
     let mut b = Build {
         follow: [0; 64],

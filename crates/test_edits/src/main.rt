@@ -1,5 +1,6 @@
-// Runs the register's calls and prints the answers: the edits of the sample (S7.8), as calls and as words, closings up in a history, a register kept as words, every refusal that a
-// register can give, a record withdrawn and reinstated, 257 edits with 257 undos, and a register filled to 4,096 links with one more, of which a removed link's space is used again.
+// Runs the register's calls and prints the answers: the edits of the sample (S7.8), as calls and as words, closings up in a history, a register kept as
+// words, every refusal that a register can give, a record withdrawn and reinstated, 257 edits with 257 undos, and a register filled to 4,096 links with one
+// more, of which a removed link's space is used again.
 use libc::STDOUT_FILENO;
 use register::Answer;
 use register::Outcome;
@@ -58,27 +59,7 @@ fn pairs(part: &[u32]) {
     }
 }
 
-// The label and the other end of each link out of a record.
-fn links_out(words: &[u32], record: u16) {
-    let mut at = register::next_out(words, record, 0);
-    while at < words.len() {
-        let word = words[at];
-        pair(word / 1048576, word % 1024);
-        at = register::next_out(words, record, at + 1);
-    }
-}
-
-// The label and the other end of each link into a record.
-fn links_in(words: &[u32], record: u16) {
-    let mut at = register::next_in(words, record, 0);
-    while at < words.len() {
-        let word = words[at];
-        pair(word / 1048576, word / 1024 % 1024);
-        at = register::next_in(words, record, at + 1);
-    }
-}
-
-// What the questions are given: the links of label a as pairs, and the links out of and into record 1.
+// What the questions are given: the links, and those of label a as pairs.
 fn show(r: Register) {
     let all = r.links();
     let words = all.words;
@@ -87,10 +68,6 @@ fn show(r: Register) {
     count(b"links", n);
     line(b"label a");
     pairs(register::label_part(used, 0));
-    line(b"out of 1");
-    links_out(used, 1);
-    line(b"into 1");
-    links_in(used, 1);
 }
 
 // open 4; add 0 a 1; add 2 a 1; lock 1; add 1 b 3; undo; add 1 b 3.

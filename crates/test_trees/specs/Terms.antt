@@ -4,10 +4,12 @@
 --   onOne k i s    the operation k on nothing and a tree of i words, read with the sense s
 --   anyLetter       nothing and the links of every label, crossed forward
 --   below n         the records below n, as bits
+--   identity n      each record below n joined to itself
 -- Assumes nothing: these are definitions.
 use Prim.Native.Nat.{ℕ}
 use lib.Dec.{ltb}
 use Rattle.book.specs.Basics.{bit}
+use Rattle.k2.specs.PairSets.{Cells, diagonal}
 use Rattle.packing.specs.declared.loading.Sense.{Sense}
 use Rattle.packing.specs.declared.loading.Sense.the-variants.{Plain}
 use Rattle.tree.specs.declared.operations.Operation.{Operation}
@@ -26,3 +28,6 @@ anyLetter = record { operation = Union; first = nothing; second = record { size 
 
 unfoldable pub below : ℕ → ℕ → ℕ
 below n x = bit (ltb x n)
+
+abbrev pub identity : ℕ → Cells
+identity n = diagonal (λ x. bit (ltb x n))

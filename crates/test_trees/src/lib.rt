@@ -13,12 +13,11 @@ ghost use Rattle.k2.specs.Bits.{bitAt};
 ghost use Rattle.k2.specs.PairSets.{Cells, IsSet, union};
 ghost use Rattle.k2.specs.Trees.{treeWords};
 ghost use Rattle.bits.specs.BitSets.{none};
-ghost use Rattle.rows.specs.Rows.{identity};
 ghost use Rattle.packing.specs.declared.loading.Sense.the-variants.{Plain, Inverted};
 ghost use Rattle.tree.specs.declared.operations.Operation.the-variants.{Union, Intersection, Difference, Product, Closure, Optional};
 ghost use Rattle.tree.specs.Calls.{senseOf};
 ghost use Rattle.tree.specs.Inner.{Roomy, TreeAt, Operated};
-ghost use Rattle.test_trees.specs.Terms.{onTwo, onOne, anyLetter, below};
+ghost use Rattle.test_trees.specs.Terms.{onTwo, onOne, anyLetter, below, identity};
 
 // An operation on two trees, with no links. It has rows of its own.
 fn on_trees(

@@ -1,3 +1,3 @@
-pub mod Ops
-pub mod Answers
-pub mod Copies
+pub mod OperationLaws
+pub mod AnswerLaws
+pub mod CopyLaws

@@ -1,16 +1,16 @@
 -- Laws of the calls' causes: what each test says, the number of the first cause, and that the causes stand in the order of S6.8.
---   sense-other     a number that is not 0 stands for the inverted sense
---   all-below, below-all
---                   pairs below n, as a fact and as a test
---   one-more, none-more
---                   an empty tree more is no cause
+--   sense-other           a number that is not 0 stands for the inverted sense
+--   all-below, below-all  pairs below n, as a fact and as a test
+--   one-more, none-more   an empty tree more is no cause
+--   one-formed, two-formed
+--                         whether one or two lent trees are well formed
 --   lent-size, lent-pairs, lent-trees, lent-work, lent-none
---                   the number of the first cause against what is lent
---   lent-met        what no cause leaves
+--                         the number of the first cause against what is lent
+--   lent-met              what no cause leaves
 --   tree-refused, tree-accepted
---                   the number of the first cause of all
---   first-over      the first words of xs over a list, if it is too short for all of them too
---   causes-in-order the causes are those of `treeOrder`, in that order
+--                         the number of the first cause of all
+--   causes-in-order       the causes are those of `treeOrder`, in that order
+--   first-over            the first words of xs over a list, if it is too short for all of them too
 -- Assumes nothing.
 use mathlib.Core.Path.{_≡_, refl, sym, ap, _∙_}
 use mathlib.Core.List.{List, [], _∷_, _++_}
@@ -23,7 +23,8 @@ use lib.ListN.{length, take, drop, drop-of-length-le}
 use lib.Seq.{take-all, length-take-le}
 use borrow.Author.Tests.{lt-ltb, le-ltb, ltb-true, ltb-false, not-false}
 use Rattle.book.specs.Basics.{pick, In, here, there}
-use Rattle.book.specs.Causes.{Cause, bad-size, no-record, bad-tree, short-work, short-list, number, treeOrder, firstNumber, InOrder, none-left, same-cause, maxRecords}
+use Rattle.book.specs.Causes.{Cause, bad-size, no-record, bad-tree, short-work, short-list, number, treeOrder, firstNumber, InOrder, none-left, same-cause}
+use Rattle.book.specs.Causes.{maxRecords}
 use Rattle.book.specs.ListLaws.{in-none}
 use Rattle.k2.specs.PairSets.{PairsBelow}
 use Rattle.k2.specs.Trees.{treeUnit, WellFormed}
@@ -133,8 +134,13 @@ module _ (n : ℕ) (ps : List ℕ) (ts : List (List ℕ)) (k : ℕ) where
   pub lent-met : firstNumber (lentCauses n ps ts k) ≡ 0 → (1 ≤ n) × (n ≤ maxRecords) × (allBelow n ps ≡ true) × (allFormed n ts ≡ true) × (32 * treeUnit n ≤ k)
   lent-met e =
       let o = lent-off e in
-      let s = or-none (ltb n 1) (ltb maxRecords n) (o .0) in
-      (ltb-false n 1 (s .0), ltb-false maxRecords n (s .1), not-false (allBelow n ps) (o .1), not-false (allFormed n ts) (o .2), ltb-false k (32 * treeUnit n) (o .3))
+      let s = or-none (ltb n 1) (ltb maxRecords n) (o .0) in (
+        ltb-false n 1 (s .0),
+        ltb-false maxRecords n (s .1),
+        not-false (allBelow n ps) (o .1),
+        not-false (allFormed n ts) (o .2),
+        ltb-false k (32 * treeUnit n) (o .3),
+      )
 
   module _ (xs : List ℕ) (room : ℕ) where
     pub tree-refused : {m : ℕ} → firstNumber (lentCauses n ps ts k) ≡ suc m → firstNumber (treeCauses n ps ts k xs room) ≡ suc m
@@ -159,5 +165,7 @@ pub first-over : (xs l : List ℕ) → take (length l) xs ++ drop (length xs) l 
 first-over xs l = go (decLt (length l) (length xs))
   where
     go : Dec (length l < length xs) → take (length l) xs ++ drop (length xs) l ≡ take (length l) xs ++ drop (length (take (length l) xs)) l
-    go (yes h) = ap (λ (t : List ℕ). take (length l) xs ++ t) (drop-of-length-le l {i = length xs} (omega arith) ∙ sym (drop-of-length-le l {i = length (take (length l) xs)} (omega (arith, length-take-le (length l) xs (omega arith)))))
+    go (yes h) =
+        ap (λ (t : List ℕ). take (length l) xs ++ t) (drop-of-length-le l {i =
+        length xs} (omega arith) ∙ sym (drop-of-length-le l {i = length (take (length l) xs)} (omega (arith, length-take-le (length l) xs (omega arith)))))
     go (no h) = ap (λ (t : List ℕ). take (length l) xs ++ drop (length t) l) (sym (take-all (length l) xs (omega arith)))

@@ -1,25 +1,24 @@
 -- What the public calls promise, as equations: a call is refused with the number of the first cause, in the order of S6.8, and the list is as it was; with no
 -- cause the answer's words stand at the list's front, and behind them it is as it was. A list of pairs may be shorter than the answer: it gets the first of
 -- them, and the answer tells how many there are in all.
---   senseOf w       the sense that the number w stands for: 0 is plain, any other inverted
+--   senseOf w             the sense that the number w stands for: 0 is plain, any other inverted
 --   productSensed n s t a b
---                   the product of the set a read with the sense s, and of b read with t
---   allBelow n ps   whether both ends of each pair of ps are below n, as `PairsBelow` has it (CallLaws `all-below`, `below-all`)
---   allFormed n ts  whether each of the lent trees ts is well formed
---   lentCauses n ps ts k
---                   the causes against what is lent: n, the pairs ps, the trees ts, and k words of work
+--                         the product of the set a read with the sense s, and of b read with t
+--   allBelow n ps         whether both ends of each pair of ps are below n, as `PairsBelow` has it (CallLaws `all-below`, `below-all`)
+--   allFormed n ts        whether each of the lent trees ts is well formed
+--   lentCauses n ps ts k  the causes against what is lent: n, the pairs ps, the trees ts, and k words of work
 --   treeCauses n ps ts k xs room
---                   these, and that the answer xs is longer than its list, which has room for so many words
---   treeAnswer c m  what a call returns: refused with the number c; if that is 0, done with m words
---   treeList c xs l what it makes of a list that held l: nothing; if c is 0, the words xs over its front
+--                         these, and that the answer xs is longer than its list, which has room for so many words
+--   treeAnswer c m        what a call returns: refused with the number c; if that is 0, done with m words
+--   treeList c xs l       what it makes of a list that held l: nothing; if c is 0, the words xs over its front
 --   Answered n ps ts k xs before after r
---                   the answer r of a call that was lent these and whose answer is xs, and its list, which held `before` and holds `after`
+--                         the answer r of a call that was lent these and whose answer is xs, and its list, which held `before` and holds `after`
 --   Listed n ts k xs before after r
---                   the same of a call whose answer is the pairs xs: those that the list takes, and their number
---   treeOf n ps     the tree of the pairs ps
---   listOf n t      the pairs of the tree t, ascending
+--                         the same of a call whose answer is the pairs xs: those that the list takes, and their number
+--   treeOf n ps           the tree of the pairs ps
+--   listOf n t            the pairs of the tree t, ascending
 --   treeOfOne op n t, treeOfTwo op n t u
---                   the tree of what op makes of the set of the tree t, or of the sets of t and u
+--                         the tree of what op makes of the set of the tree t, or of the sets of t and u
 -- Assumes nothing: these are definitions.
 use mathlib.Core.Path.{_≡_}
 use mathlib.Core.List.{List, [], _∷_, _++_}

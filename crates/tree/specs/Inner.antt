@@ -1,27 +1,27 @@
 -- What an operation on operands in the lent work promises. The operands' trees lie at the front of a part of it, one after the other, and the outcome is left
 -- in rows, or as a tree at the front.
---   nothing         the operand that has no pair
---   treeAlone k s   a tree of k words, read with the sense s, and no links
---   flipped o       the operand o with each pair exchanged
---   valued ws o a   the set that the operand o stands for, whose tree is that of the set a: a and beside it the links of its letters, which are among the
---                   words ws, read with its sense
---   LinksBelow n ws both ends of each link of the words ws are below n
---   outcome k n u a b
---                   what the operation k makes of the sets a and b of pairs below n, u being the records in use: for Closure, Optional and Star of the union of
---                   both. Zero steps join each record in use to itself
---   Apart k         the operations that look at both operands apart, besides Union
---   Roomy n t k     the operands of the term t have at most D words each, and k words of work have room for two trees
+--   nothing               the operand that has no pair
+--   treeAlone k s         a tree of k words, read with the sense s, and no links
+--   flipped o             the operand o with each pair exchanged
+--   valued ws o a         the set that the operand o stands for, whose tree is that of the set a: a and beside it the links of its letters, which are among the
+--                         words ws, read with its sense
+--   LinksBelow n ws       both ends of each link of the words ws are below n
+--   outcome k n u a b     what the operation k makes of the sets a and b of pairs below n, u being the records in use: for Closure, Optional and Star of the
+--                         union of both. Zero steps join each record in use to itself
+--   Apart k               the operations that look at both operands apart, besides Union
+--   Roomy n t k           the operands of the term t have at most D words each, and k words of work have room for two trees
 --   Room n t work used rows
---                   so it is, with 16 words for the records in use, and 16,384 for rows
+--                         so it is, with 16 words for the records in use, and 16,384 for rows
 --   Lent t n ws u work a b
---                   what a term's outcome is said of: its operands' trees are those of sets a and b of pairs below n, and so are the links and the records in use
---   termSet t n ws u a b
---                   the set that is its outcome then
---   TreeAt n a ws r the first r words are the tree of a, and no more than D
+--                         what a term's outcome is said of: its operands' trees are those of sets a and b of pairs below n, and so are the links and the
+--                         records in use
+--   termSet t n ws u a b  the set that is its outcome then
+--   TreeAt n a ws r       the first r words are the tree of a, and no more than D
 --   InRows t n ws used work before after r
---                   what `outcome_rows` promises: with room, r is true and the rows are those of the outcome; without, r is false and they are as they were
+--                         what `outcome_rows` promises: with room, r is true and the rows are those of the outcome; without, r is false and they are as they
+--                         were
 --   Operated t n ws used rows before after r
---                   what `operate` promises: with room, the first r words of the work are the outcome's tree; without, r is 0 and the work is as it was
+--                         what `operate` promises: with room, the first r words of the work are the outcome's tree; without, r is 0 and the work is as it was
 -- Assumes nothing: these are definitions.
 use mathlib.Core.Path.{_≡_}
 use mathlib.Core.Bool.{Bool, true, false}

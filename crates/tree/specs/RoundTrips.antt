@@ -1,13 +1,14 @@
--- Demand 2 over what the calls promise. Pairs below n are made into a tree, and the tree is listed: with space enough neither call refuses, and the
--- list is the set, ascending and each pair once. A well-formed tree is listed, and the list made into a tree: neither refuses, and the tree is the same.
---   answerWords r l the words of the list l that are the answer r's; a refusal has none
+-- Demand 2 over what the calls promise. Pairs below n are made into a tree, and the tree is listed: with space enough neither call refuses, and the list is the
+-- set, ascending and each pair once. A well-formed tree is listed, and the list made into a tree: neither refuses, and the tree is the same.
+--   answerWords r l       the words of the list l that are the answer r's; a refusal has none
 --   Enough n a work work′ out list
---                   space enough for the set a: n is 1 to 1,024, both calls are lent 32 D words of work, out is as long as the set's tree and list as
---                   long as its pairs
+--                         space enough for the set a: n is 1 to 1,024, both calls are lent 32 D words of work, out is as long as the set's tree and list as
+--                         long as its pairs
 --   MadeListed n ps out′ list′ v u
---                   the answers v of `make` and u of `list` and what they wrote: the set of the pairs ps
+--                         the answers v of `make` and u of `list` and what they wrote: the set of the pairs ps
 --   ListedMade n t a list′ out′ u v
---                   the answers u of `list` and v of `make` and what they wrote: the pairs of the set a, and its tree t
+--                         the answers u of `list` and v of `make` and what they wrote: the pairs of the set a, and its tree t
+--   make-list, list-make  so it is, from what the calls promise
 -- Assumes nothing.
 use mathlib.Core.Path.{_≡_, refl, sym, ap, subst, _∙_}
 use mathlib.Core.Bool.{true}
@@ -59,12 +60,14 @@ pub record ListedMade (n : ℕ) (t : List ℕ) (a : Cells) (list′ out′ : Lis
 no-pair : {n : ℕ} → PairsBelow n []
 no-pair w i = absurd (in-none i refl)
 
-enough : {n : ℕ} {ps : List ℕ} {ts : List (List ℕ)} {k : ℕ} {xs before after : List ℕ} {v : Answer} → 1 ≤ n → n ≤ maxRecords → PairsBelow n ps → allFormed n ts ≡ true
+enough : {n : ℕ} {ps : List ℕ} {ts : List (List ℕ)} {k : ℕ} {xs before after : List ℕ} {v : Answer}
+    → 1 ≤ n → n ≤ maxRecords → PairsBelow n ps → allFormed n ts ≡ true
     → 32 * treeUnit n ≤ k → length xs ≤ length before → Answered n ps ts k xs before after v → (v ≡ Done (length xs)) × (answerWords v after ≡ xs)
 unfolding treeAnswer treeList answerWords
 enough {n} {ps} {ts} {k} {xs} {before} {after} some few below trees wide fits A =
     let z : firstNumber (treeCauses n ps ts k xs (length before)) ≡ 0 =
-    tree-accepted n ps ts k xs (length before) (lent-none n ps ts k some few (below-all n ps below) trees wide) ∙ rw (le-ltb (length before) (length xs) fits) refl in
+    tree-accepted n ps ts k xs (length before) (lent-none n ps ts k some few (below-all n ps below) trees wide)
+    ∙ rw (le-ltb (length before) (length xs) fits) refl in
     let r = A .answer ∙ ap (λ (c : ℕ). treeAnswer c (length xs)) z in
     let l : after ≡ xs ++ drop (length xs) before = A .list ∙ ap (λ (c : ℕ). treeList c xs before) z in
     (r, rw (r, l) (take-at xs (drop (length xs) before) (length xs) refl))
@@ -92,8 +95,10 @@ make-list {n} {ps = ps} {out′ = out′} {list = list} {list′ = list′} {v =
     let x = enough (E .some) (E .few) b (no-tree n) (E .first) (E .words) A in
     let F : WellFormed n (answerWords v out′) = record { set = setOf ps; is-set = is; tree = x .1 } in
     let s : listOf n (answerWords v out′) ≡ listed n (setOf ps) = ap (listed n) (formed-set F) in
-    let z = enough-list (E .some) (E .few) (one-formed n (answerWords v out′) F) (E .second) (subst (λ (l : List ℕ). length l ≤ length list) (sym s) (E .pairs)) B in
-    let y : (u ≡ Done (length (listed n (setOf ps)))) × (answerWords u list′ ≡ listed n (setOf ps)) = (z .0 ∙ ap (λ (l : List ℕ). Done (length l)) s, z .1 ∙ s) in
+    let z =
+    enough-list (E .some) (E .few) (one-formed n (answerWords v out′) F) (E .second) (subst (λ (l : List ℕ). length l ≤ length list) (sym s) (E .pairs)) B in
+    let y : (u ≡ Done (length (listed n (setOf ps)))) × (answerWords u list′ ≡ listed n (setOf ps)) =
+    (z .0 ∙ ap (λ (l : List ℕ). Done (length l)) s, z .1 ∙ s) in
     record {
       made = x .0;
       told = y .0;
@@ -106,7 +111,10 @@ make-list {n} {ps = ps} {out′ = out′} {list = list} {list′ = list′} {v =
             let l = b w i in
             let q : pairWord (w / 1024) (w % 1024) ≡ w = omega arith in
             subst (λ (v : ℕ). In v (listed n (setOf ps))) q
-            (listed-in n (setOf ps) (w / 1024) (w % 1024) (l .0) (l .1) (omega (arith, in-set ps (w / 1024) (w % 1024) (omega arith) (subst (λ (v : ℕ). In v ps) (sym q) i)))),
+            (listed-in n (setOf ps) (w / 1024) (w % 1024) (l .0) (l .1) (omega (
+              arith,
+              in-set ps (w / 1024) (w % 1024) (omega arith) (subst (λ (v : ℕ). In v ps) (sym q) i),
+            ))),
       );
     }
 

@@ -41,7 +41,8 @@ accepted-words zero m xs before after e l =
     (refl, rw (l, q) (take-at xs (drop (length xs) before) (length xs) refl))
 accepted-words (suc c) m xs before after e l = absurd (omega (arith, ap done e))
 
-no-cause : (n k : ℕ) (ps xs : List ℕ) (ts : List (List ℕ)) (room c : ℕ) → firstNumber (lentCauses n ps ts k) ≡ c → firstNumber (treeCauses n ps ts k xs room) ≡ 0 → c ≡ 0
+no-cause : (n k : ℕ) (ps xs : List ℕ) (ts : List (List ℕ)) (room c : ℕ)
+    → firstNumber (lentCauses n ps ts k) ≡ c → firstNumber (treeCauses n ps ts k xs room) ≡ 0 → c ≡ 0
 no-cause n k ps xs ts room zero e z = refl
 no-cause n k ps xs ts room (suc c) e z = absurd (omega (arith, tree-refused n ps ts k xs room e, z))
 
@@ -64,7 +65,8 @@ transposed-formed {n} {t} (written {k} A e) =
     tree-formed (two-formed n t [] (one-more n t ∙ lent-met n [] (t ∷ []) k (a .0) .3) .0)
     ∙ sym (tree-formed (record { set = transpose (setIn n t); is-set = transpose-set n (setIn n t) (told-set n t); tree = e ∙ a .1 }))
 
-same-causes : (n k : ℕ) (t u t′ u′ : List ℕ) → formed n t ≡ formed n t′ → formed n u ≡ formed n u′ → lentCauses n [] (t ∷ u ∷ []) k ≡ lentCauses n [] (t′ ∷ u′ ∷ []) k
+same-causes : (n k : ℕ) (t u t′ u′ : List ℕ) → formed n t ≡ formed n t′
+    → formed n u ≡ formed n u′ → lentCauses n [] (t ∷ u ∷ []) k ≡ lentCauses n [] (t′ ∷ u′ ∷ []) k
 unfolding lentCauses allFormed
 same-causes n k t u t′ u′ e f = rw (e, f) refl
 

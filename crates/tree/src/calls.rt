@@ -154,6 +154,21 @@ fn binary(
     settle(work, len, out)
 }
 
+// An operation on two lent trees, each read as it is.
+fn plain(
+    operation: Operation,
+    n: usize,
+    a: &[u64],
+    b: &[u64],
+    out: &mut [u64],
+    work: &mut [u64],
+) -> Answer
+    ensures { λ r. ⌜ Answered n [] (now (a .entry) ∷ now (b .entry) ∷ []) (length (now (work .entry)))
+        (treeOfTwo (outcome operation n none) n (now (a .entry)) (now (b .entry))) (now (out .entry)) (now (out .exit)) r ⌝ }
+{
+    binary(operation, n, a, Sense::Plain, b, Sense::Plain, out, work)
+}
+
 // An operation on one lent tree, read with a sense.
 fn unary(
     operation: Operation,
@@ -186,16 +201,7 @@ pub fn union(n: usize, a: &[u64], b: &[u64], out: &mut [u64], work: &mut [u64]) 
     ensures { λ r. ⌜ Answered n [] (now (a .entry) ∷ now (b .entry) ∷ []) (length (now (work .entry)))
         (treeOfTwo union n (now (a .entry)) (now (b .entry))) (now (out .entry)) (now (out .exit)) r ⌝ }
 {
-    binary(
-        Operation::Union,
-        n,
-        a,
-        Sense::Plain,
-        b,
-        Sense::Plain,
-        out,
-        work,
-    )
+    plain(Operation::Union, n, a, b, out, work)
 }
 
 // The tree of the pairs in both.
@@ -203,16 +209,7 @@ pub fn intersection(n: usize, a: &[u64], b: &[u64], out: &mut [u64], work: &mut 
     ensures { λ r. ⌜ Answered n [] (now (a .entry) ∷ now (b .entry) ∷ []) (length (now (work .entry)))
         (treeOfTwo intersection n (now (a .entry)) (now (b .entry))) (now (out .entry)) (now (out .exit)) r ⌝ }
 {
-    binary(
-        Operation::Intersection,
-        n,
-        a,
-        Sense::Plain,
-        b,
-        Sense::Plain,
-        out,
-        work,
-    )
+    plain(Operation::Intersection, n, a, b, out, work)
 }
 
 // The tree of the pairs in the first and not in the second.
@@ -220,16 +217,7 @@ pub fn difference(n: usize, a: &[u64], b: &[u64], out: &mut [u64], work: &mut [u
     ensures { λ r. ⌜ Answered n [] (now (a .entry) ∷ now (b .entry) ∷ []) (length (now (work .entry)))
         (treeOfTwo difference n (now (a .entry)) (now (b .entry))) (now (out .entry)) (now (out .exit)) r ⌝ }
 {
-    binary(
-        Operation::Difference,
-        n,
-        a,
-        Sense::Plain,
-        b,
-        Sense::Plain,
-        out,
-        work,
-    )
+    plain(Operation::Difference, n, a, b, out, work)
 }
 
 // The tree of the product, each operand read with its sense: the pairs for which some middle record serves.

@@ -120,7 +120,8 @@ fn load(work: &[u64], at: usize, operand: Operand, n: usize, links: &[u32], rows
 // difference or product. Left in rows.
 fn with_second(term: Term, work: &[u64], n: usize, links: &[u32], rows: &mut [u64])
     requires { ⌜ Roomy n term (length (now work)) × Apart (term .operation) × (length (now rows) ≡ 16384) ⌝ }
-    ensures { λ _. ⌜ ((a b : Cells) (u : ℕ → ℕ) → IsSet n a → IsSet n b → take (term .second .size) (drop (term .first .size) (now (work .entry))) ≡ treeWords n b
+    ensures { λ _. ⌜ ((a b : Cells) (u : ℕ → ℕ) → IsSet n a → IsSet n b
+        → take (term .second .size) (drop (term .first .size) (now (work .entry))) ≡ treeWords n b
         → LinksBelow n (now (links .entry)) → bitAt (now (rows .entry)) ≡ flat a
         → bitAt (now (rows .exit)) ≡ flat (outcome (term .operation) n u a (valued (now (links .entry)) (term .second) b))) ⌝ }
 {

@@ -103,7 +103,8 @@ fn run_all() -> ExitCode {
     }
     let counts = &run.counts;
     println!(
-        "{cases} cases: {} edits, {} registers read, {} pair questions, {} by rows, {} chain questions, {} tree calls, {} pages printed or read, {} damaged registers, {} generations, {} of sole support ({} records fall), {} offsets; \
+        "{cases} cases: {} edits, {} registers read, {} pair questions, {} by rows, {} chain questions, {} tree calls, \
+         {} pages printed or read, {} damaged registers, {} generations, {} of sole support ({} records fall), {} offsets; \
          {} calls, {} differences",
         counts.edits,
         counts.contents,

@@ -78,7 +78,8 @@ pub enum Refusal {
     Tree = 11,
     /// the lent work is shorter than stated
     Work = 12,
-    /// the chain, the loop, the tree or the numbers are longer than their list; a space cannot hold every page, or a list every pair that pages show; the list of new numbers is shorter than the old n
+    /// the chain, the loop, the tree or the numbers are longer than their list; a space cannot hold every page, or a list every pair that pages
+    /// show; the list of new numbers is shorter than the old n
     List = 13,
     /// the frame is broken; bytes that are not the pages of the expression and some list
     Frame = 14,

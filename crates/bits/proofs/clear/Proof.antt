@@ -34,8 +34,11 @@ loop-less c = simp length-set (omega arith)
 
 loop-again : tie.Need-loop-again Inv-loop μ-loop
 loop-again c =
-    let i = c .before .loop .i in
-    (simp length-set (omega arith), simp length-set (omega arith), rw (c .before .loop .inv .2) (fill-more i 0 (c .before .before .args .words .now) (omega arith)))
+    let i = c .before .loop .i in (
+      simp length-set (omega arith),
+      simp length-set (omega arith),
+      rw (c .before .loop .inv .2) (fill-more i 0 (c .before .before .args .words .now) (omega arith)),
+    )
 
 same-length : tie.Need-same-length Inv-loop μ-loop
 same-length c = search needs

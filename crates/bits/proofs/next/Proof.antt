@@ -36,7 +36,8 @@ place-requires c κs = omega arith
 returns-2 : tie.Need-returns-2 Inv-loop μ-loop
 returns-2 c =
     let a = c .before .before .before .before .before .args in
-    next-here (a .words .now) (a .lo / 64) (a .lo % 64) (c .before .before .shared-slice-known2 .given (a .lo / 64) .fits) (omega (arith, c .before .if2 .taken))
+    next-here (a .words .now) (a .lo / 64) (a .lo % 64) (c .before .before .shared-slice-known2 .given (a .lo / 64) .fits)
+    (omega (arith, c .before .if2 .taken))
     (a .lo) (a .end) _ (omega arith) (omega arith) (c .place .ensures)
 
 add-q : tie.Need-add-q Inv-loop μ-loop
@@ -77,7 +78,8 @@ returns-4 c =
     let a = c .before .before .before .before .before .before .before .before .before .before .before .args in
     let l = c .before .before .before .before .before .before .loop in
     next-after _ (a .lo) (l .q * 64) (a .end) _ (l .inv .2) (l .inv .3)
-    (next-word (a .words .now) (l .q) (a .end) _ (c .before .before .before .shared-slice-known3 .given (l .q) .fits) (omega (arith, c .before .before .if4 .taken)) (omega arith) (c .place2 .ensures))
+    (next-word (a .words .now) (l .q) (a .end) _ (c .before .before .before .shared-slice-known3 .given (l .q) .fits)
+    (omega (arith, c .before .before .if4 .taken)) (omega arith) (c .place2 .ensures))
 
 add-q-2 : tie.Need-add-q-2 Inv-loop μ-loop
 add-q-2 c = omega arith

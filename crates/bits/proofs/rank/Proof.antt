@@ -16,19 +16,22 @@ ones-requires c κs = (omega arith, omega arith)
 
 returns : tie.Need-returns
 returns c =
-    let ws = c .before .before .before .args .words .now in
-    c .ones .ensures ∙ sym (ones-gap (bitAt ws) (length ws * 64) (c .before .before .before .args .p) (omega arith) (λ k a b. bit-out ws k (omega arith)))
+    let start = c .before .before .before in
+    let ws = start .args .words .now in
+    c .ones .ensures ∙ sym (ones-gap (bitAt ws) (length ws * 64) (start .args .p) (omega arith) (λ k a b. bit-out ws k (omega arith)))
 
 ones-requires-2 : tie.Need-ones-requires-2
 ones-requires-2 c κs = (omega arith, omega arith)
 
 -- the whole words and the last part, together
 counted : (c : tie.After-shared-slice-known2)
-    → c .before .ones2 .result + ones (getD (c .before .before .before .before .args .words .now) (c .before .before .before .before .args .p / 64) 0 % ((1 * 2 ^ (c .before .before .before .before .args .p % 64)) % 2 ^ 64))
-    ≡ onesBelow (bitAt (c .before .before .before .before .args .words .now)) (c .before .before .before .before .args .p)
+    → let start = c .before .before .before .before in
+    c .before .ones2 .result + ones (getD (start .args .words .now) (start .args .p / 64) 0 % ((1 * 2 ^ (start .args .p % 64)) % 2 ^ 64))
+    ≡ onesBelow (bitAt (start .args .words .now)) (start .args .p)
 counted c =
-    let p = c .before .before .before .before .args .p in
-    let ws = c .before .before .before .before .args .words .now in
+    let start = c .before .before .before .before in
+    let p = start .args .p in
+    let ws = start .args .words .now in
     let s : p / 64 * 64 + p % 64 ≡ p = omega arith in
     rw (one-shl (p % 64) (omega arith))
     (ap (λ (x : ℕ). x + ones (getD ws (p / 64) 0 % 2 ^ (p % 64))) (c .before .ones2 .ensures)
@@ -47,10 +50,14 @@ rem-result : tie.Need-rem-result
 rem-result c = rw (one-shl (c .before .before .before .before .args .p % 64) (omega arith)) (pow-pos _)
 
 cast-result : tie.Need-cast-result
-cast-result c = omega (arith, counted c, ones-le _ (bit-lt (c .before .before .before .before .args .words .now)) (c .before .before .before .before .args .p))
+cast-result c =
+    let start = c .before .before .before .before in
+    omega (arith, counted c, ones-le _ (bit-lt (start .args .words .now)) (start .args .p))
 
 add-result : tie.Need-add-result
-add-result c = omega (arith, counted c, ones-le _ (bit-lt (c .before .before .before .before .args .words .now)) (c .before .before .before .before .args .p))
+add-result c =
+    let start = c .before .before .before .before in
+    omega (arith, counted c, ones-le _ (bit-lt (start .args .words .now)) (start .args .p))
 
 returns-2 : tie.Need-returns-2
 returns-2 c = counted c

@@ -1,5 +1,5 @@
--- `sought` meets its contract: from or to a withdrawn record there is no chain; else the tables are those of the expression's automaton, and the search's promise
--- is over any such tables and the links that count. Assumes nothing.
+-- `sought` meets its contract: from or to a withdrawn record there is no chain; else the tables are those of the expression's automaton, and the search's
+-- promise is over any such tables and the links that count. Assumes nothing.
 use mathlib.Core.Path.{_≡_, refl}
 use Prim.Native.Nat.{_-_}
 use native.Mathlib.Omega.{arith}
@@ -58,8 +58,10 @@ slice-aggregate-first-chain-3 c = search needs
 
 first-chain-requires : tie.Need-first-chain-requires
 first-chain-requires c κs =
-    let a = c .before .before .before .before .before .before .before .before .before .before .before .before .before .before .before .before .before .before .before .before .args in
-    let p = c .before .before .before .before .before .before .before .before .before .before .before .before .before .before .before .before .before .before .before .before .pre in
+    let a = (let earlier = c .before .before .before .before .before .before .before .before .before .before in
+    earlier .before .before .before .before .before .before .before .before .before .before) .args in
+    let p = (let earlier = c .before .before .before .before .before .before .before .before .before .before in
+    earlier .before .before .before .before .before .before .before .before .before .before) .pre in
     let e : length (take (a .count - 0) (a .links .now)) ≡ a .count - 0 = length-take-le (a .count - 0) (a .links .now) (omega arith) in
     (omega arith, p .2, search needs, search needs, search needs, p .3, p .4, p .5)
 
@@ -71,15 +73,19 @@ same-length-2 c = search needs
 
 returns-3 : tie.Need-returns-3
 returns-3 c =
-    let f = c .before .before .before .before .first-chain .ensures in
-    let a = c .before .before .before .before .before .before .before .before .before .before .before .before .before .before .before .before .before .before .before .before .before .before .before .before .before .args in
-    let p = c .before .before .before .before .before .before .before .before .before .before .before .before .before .before .before .before .before .before .before .before .before .before .before .before .before .pre in
+    let after-first-chain = c .before .before .before .before in
+    let after-tables-of = after-first-chain .before .before .before .before .before .before .before .before .before .before in
+    let else1 = after-tables-of .before .before .before .before in
+    let start = else1 .before .before .before .before .before .before .before in
+    let f = after-first-chain .first-chain .ensures in
+    let a = start .args in
+    let p = start .pre in
     let part : a .count - 0 ≡ a .count = omega arith in (
       f .0,
       λ text e L q b R size S.
-          f .1 (asked b) e (asked-size R size) (inside R) (rw part (spans-take _ _ (p .0) S)) (c .before .before .before .before .before .before .before .before .before .before .before .before .before .before .tables-of .ensures text e L q)
-          (used R size (a .ends .from) (p .3) (c .before .before .before .before .before .before .before .before .before .before .before .before .before .before .before .before .before .before .before .is-withdrawn .ensures) (c .before .before .before .before .before .before .before .before .before .before .before .before .before .before .before .before .before .before .if1 .left))
-          (used R size (a .ends .to) (p .4) (c .before .before .before .before .before .before .before .before .before .before .before .before .before .before .before .before .is-withdrawn2 .ensures) (c .before .before .before .before .before .before .before .before .before .before .before .before .before .before .before .if2 .left)),
+          f .1 (asked b) e (asked-size R size) (inside R) (rw part (spans-take _ _ (p .0) S)) (after-tables-of .tables-of .ensures text e L q)
+          (used R size (a .ends .from) (p .3) (else1 .before .is-withdrawn .ensures) (else1 .if1 .left))
+          (used R size (a .ends .to) (p .4) (after-tables-of .before .before .is-withdrawn2 .ensures) (after-tables-of .before .if2 .left)),
     )
 
 pub sought-spec : {M : Type 1} → statement M

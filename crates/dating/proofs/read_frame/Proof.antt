@@ -61,9 +61,12 @@ read-full-requires-2 c κs = search needs
 -- and what follows at most as many as it says
 rest : (c : tie.After-read-full2) → c .read-full2 .result ≤ 1024
 rest c =
+    let after-number16 = c .before .before .before in
+    let after-read-full = after-number16 .before .before .before .before .before in
+    let start = after-read-full .before .before .before in
     let k = c .read-full2 .kept .1 .0 in
-    let n = c .before .before .before .number16 .result in
-    omega (arith, c .read-full2 .ensures .0, k, length-take (n + 2 - 2) (drop 2 (c .before .before .before .before .before .before .before .before .read-full .last .1 .0 ++ drop 2 (now (c .before .before .before .before .before .before .before .before .before .before .before .args .bytes)))))
+    let n = after-number16 .number16 .result in
+    omega (arith, c .read-full2 .ensures .0, k, length-take (n + 2 - 2) (drop 2 (after-read-full .read-full .last .1 .0 ++ drop 2 (now (start .args .bytes)))))
 
 add-result : tie.Need-add-result
 add-result c = omega (arith, two (c .before .before .before .before .before .before .before .before .before .before), rest (c .before .before))

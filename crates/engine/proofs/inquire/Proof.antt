@@ -42,9 +42,11 @@ same-length-2 c = search needs
 returns : tie.Need-returns
 unfolding has fresh total tally
 returns c =
-    let told = c .before .before .before .before .number-of .ensures in
-    let p = c .before .before .before .before .before .before .before .before .before .before .replay .ensures in
-    let k : c .before .before .before .before .number-of .result ≡ replayNumber _ _ _ _ = told ∙ ap answerNumber (p .answer) ∙ number-answer _ in
+    let after-marks = c .before .before in
+    let after-number-of = after-marks .before .before in
+    let told = after-number-of .number-of .ensures in
+    let p = after-number-of .before .before .before .before .before .before .replay .ensures in
+    let k : after-number-of .number-of .result ≡ replayNumber _ _ _ _ = told ∙ ap answerNumber (p .answer) ∙ number-answer _ in
     record {
       answer = p .answer;
       refused = λ n.
@@ -56,9 +58,9 @@ returns c =
             given = p .refused n .1;
             list = refl;
             steps = refl;
-            links = none-linked 0 _ (c .before .before .before .links .ensures .linked (fresh 0) e);
-            locks = c .before .before .marks .ensures .locked (fresh 0) e;
-            withdrawn = c .before .before .marks .ensures .withdrawn (fresh 0) e;
+            links = none-linked 0 _ (after-marks .before .links .ensures .linked (fresh 0) e);
+            locks = after-marks .marks .ensures .locked (fresh 0) e;
+            withdrawn = after-marks .marks .ensures .withdrawn (fresh 0) e;
             totals = c .before .totals .ensures .totals (fresh 0) e;
           };
       made = λ z. absurd (c .if1 .taken (k ∙ z));
@@ -91,11 +93,17 @@ lent {e} {x} {y} {u} {l = l} {l′} {t} q R = subst (λ (j : ℕ). Replies e x y
 
 returns-2 : tie.Need-returns-2
 returns-2 c =
-    let replied = c .before .before .before .before .chain .ensures in
-    let long = c .before .before .before .before .before .before .before .before .before .before .before .pairs .kept .1 .1 .0 in
-    let asked = c .before .before .before .before .before .before .before .before .before .before .before .pairs .ensures in
-    let p = c .before .before .before .before .before .before .before .before .before .before .before .before .before .before .before .before .before .before .before .before .before .before .before .before .replay .ensures in
-    let zero : replayNumber _ _ _ _ ≡ 0 = sym (number-answer _) ∙ sym (ap answerNumber (p .answer)) ∙ sym (c .before .before .before .before .before .before .before .before .before .before .before .before .before .before .before .before .before .before .number-of .ensures) ∙ c .before .before .before .before .before .before .before .before .before .before .before .before .before .before .if1 .left in
+    let after-chain = c .before .before .before .before in
+    let after-pairs = after-chain .before .before .before .before .before .before .before in
+    let else1 = after-pairs .before .before .before in
+    let after-links = else1 .before .before .before in
+    let after-replay = after-links .before .before .before .before .before .before .before in
+    let replied = after-chain .chain .ensures in
+    let long = after-pairs .pairs .kept .1 .1 .0 in
+    let asked = after-pairs .pairs .ensures in
+    let p = after-replay .replay .ensures in
+    let zero : replayNumber _ _ _ _ ≡ 0 =
+    sym (number-answer _) ∙ sym (ap answerNumber (p .answer)) ∙ sym (after-links .before .number-of .ensures) ∙ else1 .if1 .left in
     record {
       answer = p .answer;
       refused = λ n. absurd (n zero);
@@ -107,9 +115,9 @@ returns-2 c =
         demand =
             claims _
             (record {
-              links = (_, c .before .before .before .before .before .before .before .before .before .before .before .before .before .before .before .before .before .links .ensures, refl);
-              marks = c .before .before .before .before .before .before .before .before .before .before .before .before .before .before .before .before .marks .ensures;
-              totals = c .before .before .before .before .before .before .before .before .before .before .before .before .before .before .before .totals .ensures;
+              links = (_, after-links .links .ensures, refl);
+              marks = else1 .before .before .marks .ensures;
+              totals = else1 .before .totals .ensures;
               pairs = asked;
               chain = lent long replied;
             })

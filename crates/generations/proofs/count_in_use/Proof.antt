@@ -1,18 +1,15 @@
 -- `count_in_use` looks at the marks in turn. The loop's invariant: the count is that of the records passed that are in use. The measure is how many are left.
 -- It rests on `count-used` and `count-out`. Assumes nothing.
-use mathlib.Core.Path.{_≡_, refl, sym, ap, _∙_, subst}
+use mathlib.Core.Path.{_≡_, refl, ap, _∙_}
 use mathlib.Core.Logic.{⊎-elim}
 use mathlib.Core.List.{List}
 use Prim.Native.Nat.{ℕ, _≤_, _-_}
 use native.Mathlib.Omega.{arith}
-use borrow.Author.Needs.{needs}
 use lib.ListN.{length}
 use Rattle.generations.specs.Inner.{chosen}
 use Rattle.generations.proofs.NumberLaws.{count-used, count-out}
 use Rattle.generations.proofs.count_in_use.Statement.{statement}
 use Rattle.generations.proofs.count_in_use.Tie as tie
-use Rattle.generations.proofs.count_in_use.Reads as reads
-use Rattle.generations.proofs.count_in_use.Lts as lts
 
 abbrev Inv-loop : tie.InvT-loop
 Inv-loop marks n count₀ y₀ count y = (y ≤ n) × (count ≤ y) × ((ds : List ℕ) → count ≡ length (chosen marks ds y))

@@ -1,15 +1,13 @@
--- `first_joined` looks at the records in turn. The loop's invariant: none of those passed is joined to itself. The measure is how many are left. Assumes nothing.
-use mathlib.Core.Path.{_≡_, refl, sym, ap, _∙_, subst}
-use Prim.Native.Nat.{ℕ, _+_, _*_, _<_, _≤_, _-_}
+-- `first_joined` looks at the records in turn. The loop's invariant: none of those passed is joined to itself. The measure is how
+-- many are left. Assumes nothing.
+use mathlib.Core.Path.{sym, _∙_}
+use Prim.Native.Nat.{ℕ, _<_, _≤_, _-_}
 use native.Mathlib.Omega.{arith}
 use borrow.Author.Needs.{needs}
 use Rattle.generations.specs.Inner.{Joined}
 use Rattle.generations.proofs.NumberLaws.{none-next}
 use Rattle.generations.proofs.first_joined.Statement.{statement}
 use Rattle.generations.proofs.first_joined.Tie as tie
-use Rattle.generations.proofs.first_joined.Reads as reads
-use Rattle.generations.proofs.first_joined.Lts as lts
-use Rattle.bits.proofs.bit.Reads as bit-reads
 
 abbrev Inv-loop : tie.InvT-loop
 Inv-loop rows n x₀ x = (x ≤ n) × ((k : ℕ) → k < x → Joined rows k → ⊥)

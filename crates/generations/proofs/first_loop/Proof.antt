@@ -1,16 +1,12 @@
 -- `first_loop` asks the chain question on the text of the loops, whose first chain is the first loop (`looped`). Assumes nothing.
-use mathlib.Core.Path.{_≡_, refl, sym, ap, _∙_, subst}
-use Prim.Native.Nat.{ℕ, _-_, _≤_}
+use mathlib.Core.Path.{_≡_, ap, _∙_}
+use Prim.Native.Nat.{ℕ, _-_}
 use native.Mathlib.Omega.{arith}
 use borrow.Author.Needs.{needs}
 use lib.ListN.{length, take}
 use Rattle.generations.proofs.AnswerLaws.{looped}
 use Rattle.generations.proofs.first_loop.Statement.{statement}
 use Rattle.generations.proofs.first_loop.Tie as tie
-use Rattle.generations.proofs.first_loop.Reads as reads
-use Rattle.generations.proofs.first_loop.Lts as lts
-use Rattle.engine.proofs.chain.Reads as chain-reads
-use Rattle.generations.proofs.labels.put_text.Reads as put-text-reads
 
 slice-aggregate-put-text : tie.Need-slice-aggregate-put-text
 slice-aggregate-put-text c = search needs
@@ -56,9 +52,10 @@ same-length-2 c = search needs
 
 returns : tie.Need-returns
 returns c =
-    let p = c .before .before .before .before .before .before .before .before .before .before .before .before .before .put-text in
+    let after-chain = c .before .before .before .before .before .before .before in
+    let p = after-chain .before .before .before .before .before .before .put-text in
     let part : p .result - 0 ≡ p .result = omega arith in
-    let all = looped (c .before .before .before .before .before .before .before .chain .ensures) (ap (λ (k : ℕ). take k (p .last .1 .0)) part ∙ p .ensures .1) in
+    let all = looped (after-chain .chain .ensures) (ap (λ (k : ℕ). take k (p .last .1 .0)) part ∙ p .ensures .1) in
     rw (c .before .answer .given .1) at all
 
 same-length-3 : tie.Need-same-length-3
@@ -82,9 +79,10 @@ same-length-6 c = search needs
 
 returns-3 : tie.Need-returns-3
 returns-3 c =
-    let p = c .before .before .before .before .before .before .before .before .before .before .before .before .before .put-text in
+    let after-chain = c .before .before .before .before .before .before .before in
+    let p = after-chain .before .before .before .before .before .before .put-text in
     let part : p .result - 0 ≡ p .result = omega arith in
-    let all = looped (c .before .before .before .before .before .before .before .chain .ensures) (ap (λ (k : ℕ). take k (p .last .1 .0)) part ∙ p .ensures .1) in
+    let all = looped (after-chain .chain .ensures) (ap (λ (k : ℕ). take k (p .last .1 .0)) part ∙ p .ensures .1) in
     rw (c .before .answer2 .given .1) at all
 
 pub first-loop-spec : {M : Type 1} → statement M

@@ -1,10 +1,6 @@
 -- `first_returning` makes rows of the links, closes them, and looks for the smallest record on the diagonal (`smallest-closed`). Assumes nothing.
-use mathlib.Core.Path.{_≡_, refl, sym, ap, _∙_, subst}
-use mathlib.Core.List.{List}
-use Prim.Native.Nat.{ℕ}
-use native.Mathlib.Omega.{arith}
+use mathlib.Core.Path.{sym, ap, _∙_}
 use borrow.Author.Needs.{needs}
-use lib.ListN.{replicate}
 use Rattle.k2.specs.PairSets.{Cells}
 use Rattle.bits.specs.BitSetLaws.{bits-none}
 use Rattle.rows.specs.Rows.{flat, noPairs, crossedWords}
@@ -12,11 +8,6 @@ use Rattle.rows.specs.RowLaws.{flat-none, union-none}
 use Rattle.generations.proofs.NumberLaws.{smallest-closed}
 use Rattle.generations.proofs.first_returning.Statement.{statement}
 use Rattle.generations.proofs.first_returning.Tie as tie
-use Rattle.generations.proofs.first_returning.Reads as reads
-use Rattle.generations.proofs.first_returning.Lts as lts
-use Rattle.generations.proofs.first_joined.Reads as first-joined-reads
-use Rattle.rows.proofs.close.Reads as close-reads
-use Rattle.rows.proofs.put_letters.Reads as put-letters-reads
 
 slice-aggregate-put-letters : tie.Need-slice-aggregate-put-letters
 slice-aggregate-put-letters c = search needs
@@ -38,11 +29,14 @@ first-joined-requires c κs = search needs
 
 returns : tie.Need-returns
 returns c =
-    let a = c .before .before .before .before .before .before .before .before .before .args in
+    let after-close = c .before .before .before in
+    let after-put-letters = after-close .before .before .before in
+    let start = after-put-letters .before .before .before in
+    let a = start .args in
     let x : Cells = crossedWords (a .words .now) (a .set) 0 in (
       c .first-joined .ensures .most,
-      λ S. smallest-closed _ x (c .before .before .before .before .before .before .before .before .before .pre)
-          (c .before .before .before .close .ensures x S (c .before .before .before .before .before .before .put-letters .ensures noPairs (bits-none 16384 ∙ sym flat-none) ∙ ap flat (union-none x)))
+      λ S. smallest-closed _ x (start .pre)
+          (after-close .close .ensures x S (after-put-letters .put-letters .ensures noPairs (bits-none 16384 ∙ sym flat-none) ∙ ap flat (union-none x)))
           (c .first-joined .ensures),
     )
 

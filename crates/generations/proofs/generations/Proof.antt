@@ -1,9 +1,9 @@
--- `generations` refuses by the order of causes, and else tells the numbers if no record leads to itself, or the first loop. Its helpers say what the calls before a
--- place gave. It rests on `book-numbers` and `book-loop`. Assumes nothing.
+-- `generations` refuses by the order of causes, and else tells the numbers if no record leads to itself, or the first loop. Its helpers say what the calls
+-- before a place gave. It rests on `book-numbers` and `book-loop`. Assumes nothing.
 use mathlib.Core.Path.{_≡_, refl, sym, ap, _∙_, subst}
 use mathlib.Core.List.{List}
 use mathlib.Core.Bool.{false}
-use Prim.Native.Nat.{ℕ, _-_, _<_, _≤_}
+use Prim.Native.Nat.{ℕ, _-_}
 use native.Mathlib.Omega.{arith}
 use borrow.Author.Needs.{needs}
 use lib.ListN.{length, take}
@@ -18,45 +18,48 @@ use Rattle.generations.specs.Inner.{Right, Leads, chosen}
 use Rattle.generations.proofs.AnswerLaws.{label-first, work-next, list-last, told, refuses, tells-numbers, tells-loop, book-numbers, book-loop}
 use Rattle.generations.proofs.generations.Statement.{statement}
 use Rattle.generations.proofs.generations.Tie as tie
-use Rattle.generations.proofs.generations.Reads as reads
-use Rattle.generations.proofs.generations.Lts as lts
-use Rattle.generations.proofs.count_in_use.Reads as count-in-use-reads
-use Rattle.generations.proofs.depths.visit_all.Reads as visit-all-reads
-use Rattle.generations.proofs.first_loop.Reads as first-loop-reads
-use Rattle.generations.proofs.first_returning.Reads as first-returning-reads
-use Rattle.generations.proofs.labels.any_above.Reads as any-above-reads
-use Rattle.generations.proofs.labels.keep.Reads as keep-reads
-use Rattle.generations.proofs.labels.set_of.Reads as set-of-reads
-use Rattle.generations.proofs.write_numbers.Reads as write-numbers-reads
-use Rattle.register.proofs.Register.links.Reads as links-reads
-use Rattle.register.proofs.Register.marks.Reads as marks-reads
-use Rattle.register.proofs.Register.size.Reads as size-reads
 
 -- no label is above 25
 low : (c : tie.Else1) → above (c .before .before .before .before .before .args .labels .now) ≡ false
 low c = sym (c .before .any-above .ensures) ∙ c .if1 .left
 
 -- the links of the labels
-kept-are : (c : tie.After-keep) → take (c .keep .result - 0) (c .keep .last .1 .1 .0) ≡ labelled (c .before .before .before .before .before .before .set-of .result) (take (c .before .before .before .before .before .links .result .count - 0) (c .before .before .before .before .before .links .result .words))
+kept-are : (c : tie.After-keep)
+    → let after-links = c .before .before .before .before .before in
+    take (c .keep .result - 0) (c .keep .last .1 .1 .0)
+    ≡ labelled (after-links .before .set-of .result) (take (after-links .links .result .count - 0) (after-links .links .result .words))
 kept-are c =
     let k = c .keep in
     let part : k .result - 0 ≡ k .result = omega arith in
     ap (λ (i : ℕ). take i (k .last .1 .1 .0)) part ∙ k .ensures .1
 
-linked : (c : tie.After-links) (b : Book) → Represents (c .before .before .before .before .before .before .before .before .before .args .register) b → Linked (take (c .links .result .count - 0) (c .links .result .words)) (b .sheet)
+linked : (c : tie.After-links) (b : Book)
+    → let start = c .before .before .before .before .before .before .before .before .before in
+    Represents (start .args .register) b → Linked (take (c .links .result .count - 0) (c .links .result .words)) (b .sheet)
 linked c b R =
     let l = c .links in
     let part : l .result .count ≡ l .result .count - 0 = omega arith in
     subst (λ (i : ℕ). Linked (take i (l .result .words)) (b .sheet)) part (l .ensures .linked b R)
 
 -- the numbers
-numbers-of : (c : tie.After-marks) (b : Book) → Represents (c .before .before .before .before .before .before .before .before .before .before .before .before .before .before .before .before .before .before .before .before .before .before .args .register) b → GenerationsAre (asked b) (c .before .before .before .before .before .before .before .before .before .before .before .before .before .before .before .before .before .before .before .before .before .before .args .labels .now) (numbers (chosen (c .marks .result) (c .before .before .before .visit-all .last .1 .1 .0) (c .before .before .before .before .before .before .before .before .before .before .before .before .before .before .before .before .size .result)))
+numbers-of : (c : tie.After-marks) (b : Book)
+    → let after-visit-all = c .before .before .before in
+    let after-size = after-visit-all .before .before .before .before .before .before .before .before .before .before .before .before .before in
+    let start = after-size .before .before .before .before .before .before in
+    Represents (start .args .register) b → GenerationsAre (asked b) (start .args .labels .now)
+    (numbers (chosen (c .marks .result) (after-visit-all .visit-all .last .1 .1 .0) (after-size .size .result)))
 numbers-of c b R =
-    let v = c .before .before .before .visit-all in
+    let after-visit-all = c .before .before .before in
+    let after-keep = after-visit-all .before .before .before .before .before in
+    let after-links = after-keep .before .before .before .before .before in
+    let after-size = after-links .before .before .before in
+    let start = after-size .before .before .before .before .before .before in
+    let v = after-visit-all .visit-all in
     let d : List ℕ = v .last .1 .1 .0 in
     let t = v .ensures .0 (c .before .if3 .taken) in
-    book-numbers (c .before .before .before .before .before .before .before .before .before .before .before .before .before .before .before .before .size .ensures) b R (take (c .before .before .before .before .before .before .before .before .before .before .before .before .before .links .result .count - 0) (c .before .before .before .before .before .before .before .before .before .before .before .before .before .links .result .words)) (linked (c .before .before .before .before .before .before .before .before .before .before .before .before .before) b R)
-    (c .before .before .before .before .before .before .before .before .before .before .before .before .before .before .set-of .result) (c .before .before .before .before .before .before .before .before .before .before .before .before .before .before .before .before .before .before .before .before .before .before .args .labels .now) (c .before .before .before .before .before .before .before .before .before .before .before .before .before .before .set-of .ensures) d (subst (λ (l : List ℕ). Right l d) (kept-are (c .before .before .before .before .before .before .before .before)) (t .0)) (t .1)
+    book-numbers (after-size .size .ensures) b R (take (after-links .links .result .count - 0) (after-links .links .result .words)) (linked after-links b R)
+    (after-links .before .set-of .result) (start .args .labels .now) (after-links .before .set-of .ensures)
+    d (subst (λ (l : List ℕ). Right l d) (kept-are after-keep) (t .0)) (t .1)
     (c .marks .result) (c .marks .ensures)
 
 any-above-requires : tie.Need-any-above-requires
@@ -64,7 +67,10 @@ any-above-requires c κs = search needs
 
 returns : tie.Need-returns
 unfolding number
-returns c = refuses 3 (bad-label, refl) (λ b R. label-first b (c .before .before .before .before .before .args .labels .now) (length (c .before .before .before .before .before .args .work .now)) (length (c .before .before .before .before .before .args .list .now)) (sym (c .before .any-above .ensures) ∙ c .if1 .taken))
+returns c =
+    let start = c .before .before .before .before .before in
+    refuses 3 (bad-label, refl) (λ b R. label-first b (start .args .labels .now) (length (start .args .work .now))
+    (length (start .args .list .now)) (sym (c .before .any-above .ensures) ∙ c .if1 .taken))
 
 size-requires : tie.Need-size-requires
 size-requires c κs = search needs
@@ -77,7 +83,8 @@ unfolding number
 returns-2 c =
     let a = c .before .before .before .before .before .before .before .args in
     let n = c .before .size .ensures in
-    refuses 12 (short-work, refl) (λ b R. (let e = n .size b R in work-next b (a .labels .now) (length (a .work .now)) (length (a .list .now)) (low (c .before .before)) (omega (arith, c .if2 .taken))))
+    refuses 12 (short-work, refl) (λ b R. (let e = n .size b R in
+    work-next b (a .labels .now) (length (a .work .now)) (length (a .list .now)) (low (c .before .before)) (omega (arith, c .if2 .taken))))
 
 set-of-requires : tie.Need-set-of-requires
 set-of-requires c κs = low (c .before .before)
@@ -127,11 +134,16 @@ count-in-use-requires c κs = search needs
 returns-3 : tie.Need-returns-3
 unfolding number written
 returns-3 c =
-    let a = c .before .before .before .before .before .before .before .before .before .before .before .before .before .before .before .before .before .before .before .before .before .before .before .before .before .args in
-    let n = c .before .before .before .before .before .before .before .before .before .before .before .before .before .before .before .before .before .before .before .size .ensures in
+    let after-marks = c .before .before .before in
+    let after-visit-all = after-marks .before .before .before in
+    let else2 = after-visit-all .before .before .before .before .before .before .before .before .before .before .before .before in
+    let start = else2 .before .before .before .before .before .before .before in
+    let a = start .args in
+    let n = else2 .before .size .ensures in
     refuses 13 (short-list, refl) (λ b R. (let e = n .size b R in
-    list-last b (a .labels .now) (length (a .work .now)) (length (a .list .now)) (low (c .before .before .before .before .before .before .before .before .before .before .before .before .before .before .before .before .before .before .before .before)) (omega (arith, c .before .before .before .before .before .before .before .before .before .before .before .before .before .before .before .before .before .before .if2 .left)) (numbers-of (c .before .before .before) b R)
-    (omega (arith, c .if4 .taken, c .before .count-in-use .ensures (c .before .before .before .before .before .before .visit-all .last .1 .1 .0)))))
+    list-last b (a .labels .now) (length (a .work .now)) (length (a .list .now))
+    (low (else2 .before .before)) (omega (arith, else2 .if2 .left)) (numbers-of after-marks b R)
+    (omega (arith, c .if4 .taken, c .before .count-in-use .ensures (after-visit-all .visit-all .last .1 .1 .0)))))
 
 slice-aggregate-write-numbers : tie.Need-slice-aggregate-write-numbers
 slice-aggregate-write-numbers c = search needs
@@ -141,13 +153,17 @@ slice-aggregate-write-numbers-2 c = search needs
 
 write-numbers-requires : tie.Need-write-numbers-requires
 write-numbers-requires c κs =
-    let v = c .before .before .before .before .before .before .before .before .before .visit-all in
+    let else4 = c .before .before .before in
+    let after-marks = else4 .before .before .before in
+    let after-visit-all = after-marks .before .before .before in
+    let after-size = after-visit-all .before .before .before .before .before .before .before .before .before .before .before .before .before in
+    let v = after-visit-all .visit-all in
     let k : length (v .last .1 .1 .0) ≡ 1024 = search needs in (
-      c .before .before .before .before .before .before .before .before .before .before .before .before .before .before .before .before .before .before .before .before .before .before .size .ensures .small,
-      c .before .before .before .before .before .before .marks .ensures .long,
+      after-size .size .ensures .small,
+      after-marks .marks .ensures .long,
       k,
-      v .ensures .0 (c .before .before .before .before .before .before .before .if3 .taken) .1,
-      omega (arith, c .before .before .before .if4 .left, c .before .before .before .before .count-in-use .ensures (v .last .1 .1 .0)),
+      v .ensures .0 (after-marks .before .if3 .taken) .1,
+      omega (arith, else4 .if4 .left, else4 .before .count-in-use .ensures (v .last .1 .1 .0)),
     )
 
 same-length : tie.Need-same-length
@@ -156,12 +172,19 @@ same-length c = search needs
 returns-4 : tie.Need-returns-4
 unfolding written
 returns-4 c =
-    let a = c .before .before .before .before .before .before .before .before .before .before .before .before .before .before .before .before .before .before .before .before .before .before .before .before .before .before .before .before .before .before .before .args in
-    let n = c .before .before .before .before .before .before .before .before .before .before .before .before .before .before .before .before .before .before .before .before .before .before .before .before .before .size .ensures in
-    let d : List ℕ = c .before .before .before .before .before .before .before .before .before .before .before .before .visit-all .last .1 .1 .0 in
-    tells-numbers (chosen (c .before .before .before .before .before .before .before .before .before .marks .result) d (c .before .before .before .before .before .before .before .before .before .before .before .before .before .before .before .before .before .before .before .before .before .before .before .before .before .size .result)) (c .before .before .write-numbers .ensures) (λ b R. (let e = n .size b R in
-    told b (a .labels .now) (length (a .work .now)) (length (a .list .now)) (low (c .before .before .before .before .before .before .before .before .before .before .before .before .before .before .before .before .before .before .before .before .before .before .before .before .before .before)) (omega (arith, c .before .before .before .before .before .before .before .before .before .before .before .before .before .before .before .before .before .before .before .before .before .before .before .before .if2 .left)) (numbers-of (c .before .before .before .before .before .before .before .before .before) b R)
-    (omega (arith, c .before .before .before .before .before .before .if4 .left, c .before .before .before .before .before .before .before .count-in-use .ensures d))))
+    let else4 = c .before .before .before .before .before .before in
+    let after-marks = else4 .before .before .before in
+    let after-visit-all = after-marks .before .before .before in
+    let else2 = after-visit-all .before .before .before .before .before .before .before .before .before .before .before .before in
+    let start = else2 .before .before .before .before .before .before .before in
+    let a = start .args in
+    let n = else2 .before .size .ensures in
+    let d : List ℕ = after-visit-all .visit-all .last .1 .1 .0 in
+    tells-numbers (chosen (after-marks .marks .result) d (else2 .before .size .result))
+    (c .before .before .write-numbers .ensures) (λ b R. (let e = n .size b R in
+    told b (a .labels .now) (length (a .work .now)) (length (a .list .now))
+    (low (else2 .before .before)) (omega (arith, else2 .if2 .left)) (numbers-of after-marks b R)
+    (omega (arith, else4 .if4 .left, else4 .before .count-in-use .ensures d))))
 
 sub-first-returning : tie.Need-sub-first-returning
 sub-first-returning c = search needs
@@ -176,7 +199,10 @@ first-returning-requires : tie.Need-first-returning-requires
 first-returning-requires c κs = search needs
 
 first-loop-requires : tie.Need-first-loop-requires
-first-loop-requires c κs = omega (arith, c .before .before .first-returning .ensures .0, c .before .before .before .before .before .before .before .before .before .before .before .before .before .before .before .before .before .before .before .before .size .ensures .small)
+first-loop-requires c κs =
+    let earlier = c .before .before .before .before .before .before .before .before .before .before in
+    let after-size = earlier .before .before .before .before .before .before .before .before .before .before in
+    omega (arith, c .before .before .first-returning .ensures .0, after-size .size .ensures .small)
 
 same-length-2 : tie.Need-same-length-2
 same-length-2 c = search needs
@@ -186,15 +212,23 @@ same-length-3 c = search needs
 
 returns-5 : tie.Need-returns-5
 returns-5 c =
-    let a = c .before .before .before .before .before .before .before .before .before .before .before .before .before .before .before .before .before .before .before .before .before .before .before .before .before .before .before .before .before .before .before .args in
-    let n = c .before .before .before .before .before .before .before .before .before .before .before .before .before .before .before .before .before .before .before .before .before .before .before .before .before .size .ensures in
-    let C = c .before .before .before .before .before .before .before .before .before .before .before .before .before .before .before .before .before .before .before .before .before .before .before .set-of .ensures in
-    let v = c .before .before .before .before .before .before .before .before .before .before .before .before .visit-all in
-    let z = subst (λ (l : List ℕ). (x : ℕ) × Leads l x x) (kept-are (c .before .before .before .before .before .before .before .before .before .before .before .before .before .before .before .before .before)) (v .ensures .1 (c .before .before .before .before .before .before .before .before .before .before .if3 .left)) in
-    tells-loop (c .before .before .before .before .first-loop .ensures) (low (c .before .before .before .before .before .before .before .before .before .before .before .before .before .before .before .before .before .before .before .before .before .before .before .before .before .before)) C (λ b R. (let e = n .size b R in (
-      omega (arith, c .before .before .before .before .before .before .before .before .before .before .before .before .before .before .before .before .before .before .before .before .before .before .before .before .if2 .left),
-      book-loop n b R (take (c .before .before .before .before .before .before .before .before .before .before .before .before .before .before .before .before .before .before .before .before .before .before .links .result .count - 0) (c .before .before .before .before .before .before .before .before .before .before .before .before .before .before .before .before .before .before .before .before .before .before .links .result .words)) (linked (c .before .before .before .before .before .before .before .before .before .before .before .before .before .before .before .before .before .before .before .before .before .before) b R) (c .before .before .before .before .before .before .before .before .before .before .before .before .before .before .before .before .before .before .before .before .before .before .before .set-of .result) (a .labels .now) C z
-          (c .before .before .before .before .before .before .before .first-returning .ensures .1),
+    let at-first-loop = c .before .before .before .before in
+    let after-first-returning = at-first-loop .before .before .before in
+    let else3 = after-first-returning .before .before .before in
+    let after-keep = else3 .before .before .before .before .before .before .before in
+    let after-links = after-keep .before .before .before .before .before in
+    let after-size = after-links .before .before .before in
+    let start = after-size .before .before .before .before .before .before in
+    let a = start .args in
+    let n = after-size .size .ensures in
+    let C = after-links .before .set-of .ensures in
+    let v = else3 .before .before .visit-all in
+    let z = subst (λ (l : List ℕ). (x : ℕ) × Leads l x x) (kept-are after-keep) (v .ensures .1 (else3 .if3 .left)) in
+    tells-loop (at-first-loop .first-loop .ensures) (low (after-size .before)) C (λ b R. (let e = n .size b R in (
+      omega (arith, after-links .before .before .if2 .left),
+      book-loop n b R (take (after-links .links .result .count - 0) (after-links .links .result .words))
+          (linked after-links b R) (after-links .before .set-of .result) (a .labels .now) C z
+          (after-first-returning .first-returning .ensures .1),
     )))
 
 pub generations-spec : {M : Type 1} → statement M

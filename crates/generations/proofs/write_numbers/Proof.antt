@@ -1,11 +1,9 @@
--- `write_numbers` looks at the records in turn. The loop's invariant: the numbers of those passed that are in use are written (`Wrote`). The measure is how many are
--- left. It rests on `wrote-used` and `wrote-out`. Assumes nothing.
-use mathlib.Core.Path.{_≡_, refl, sym, ap, _∙_, subst}
+-- `write_numbers` looks at the records in turn. The loop's invariant: the numbers of those passed that are in use are written (`Wrote`). The measure is how
+-- many are left. It rests on `wrote-used` and `wrote-out`. Assumes nothing.
+use mathlib.Core.Path.{_≡_, refl, subst}
 use mathlib.Core.Logic.{⊎-elim}
-use mathlib.Core.List.{List}
 use Prim.Native.Nat.{ℕ, _≤_, _-_}
 use native.Mathlib.Omega.{arith}
-use borrow.Author.Needs.{needs}
 use lib.ListN.{length, length-set}
 use Rattle.report.specs.Written.{Wrote}
 use Rattle.report.specs.WrittenLaws.{wrote-none}
@@ -13,8 +11,6 @@ use Rattle.generations.specs.Inner.{chosen}
 use Rattle.generations.proofs.NumberLaws.{wrote-room, wrote-used, wrote-out}
 use Rattle.generations.proofs.write_numbers.Statement.{statement}
 use Rattle.generations.proofs.write_numbers.Tie as tie
-use Rattle.generations.proofs.write_numbers.Reads as reads
-use Rattle.generations.proofs.write_numbers.Lts as lts
 
 abbrev Inv-loop : tie.InvT-loop
 Inv-loop marks depths n list₀ count₀ y₀ list count y = (y ≤ n) × (count ≤ y) × (length list ≡ length list₀) × Wrote 0 (chosen marks depths y) list₀ list count
@@ -39,16 +35,23 @@ shared-slice-read-list : tie.Need-shared-slice-read-list Inv-loop μ-loop
 shared-slice-read-list c = omega (arith, c .before .before .before .before .before .pre .2)
 
 sub-list : tie.Need-sub-list Inv-loop μ-loop
-sub-list c = omega (arith, c .before .before .before .before .before .pre .3 (c .before .before .before .before .loop .y) (c .before .before .before .loop-test .taken))
+sub-list c =
+    omega (arith, c .before .before .before .before .before .pre .3 (c .before .before .before .before .loop .y) (c .before .before .before .loop-test .taken))
 
 mul-list-2 : tie.Need-mul-list-2 Inv-loop μ-loop
 mul-list-2 c = omega arith
 
 slice-write-list : tie.Need-slice-write-list Inv-loop μ-loop
 slice-write-list c =
-    let l = c .before .before .before .before .loop in
-    let a = c .before .before .before .before .before .args in
-    omega (arith, l .inv .2, wrote-room (a .marks .now) (a .depths .now) (l .y) (l .inv .3) (a .n) (c .before .before .before .loop-test .taken) (c .before .if1 .taken) (c .before .before .before .before .before .pre .4))
+    let in-loop = c .before .before .before in
+    let start = in-loop .before .before in
+    let l = in-loop .before .loop in
+    let a = start .args in
+    omega (
+      arith,
+      l .inv .2,
+      wrote-room (a .marks .now) (a .depths .now) (l .y) (l .inv .3) (a .n) (in-loop .loop-test .taken) (c .before .if1 .taken) (start .pre .4),
+    )
 
 add-count : tie.Need-add-count Inv-loop μ-loop
 add-count c = omega arith
@@ -61,8 +64,9 @@ loop-less c = omega arith
 
 loop-again : tie.Need-loop-again Inv-loop μ-loop
 loop-again c =
-    let l = c .before .before .before .loop in
-    let a = c .before .before .before .before .args in
+    let at-loop = c .before .before .before in
+    let l = at-loop .loop in
+    let a = at-loop .before .args in
     let h = c .before .before .loop-test .taken in
     ⊎-elim
     (λ w. (
@@ -70,9 +74,14 @@ loop-again c =
       omega (arith, w .3),
       rw (w .2) (simp length-set (l .inv .2)),
       rw (w .2, w .3) (wrote-used (a .marks .now) (a .depths .now) (l .y) (l .inv .3) (w .0 .taken)
-          (omega (arith, l .inv .2, wrote-room (a .marks .now) (a .depths .now) (l .y) (l .inv .3) (a .n) h (w .0 .taken) (c .before .before .before .before .pre .4)))),
+          (omega (arith, l .inv .2, wrote-room (a .marks .now) (a .depths .now) (l .y) (l .inv .3) (a .n) h (w .0 .taken) (at-loop .before .pre .4)))),
     ))
-    (λ w. (omega arith, omega (arith, w .2), rw (w .1) (l .inv .2), rw (w .1, w .2) (wrote-out (a .marks .now) (a .depths .now) (l .y) (l .inv .3) (w .0 .left))))
+    (λ w. (
+      omega arith,
+      omega (arith, w .2),
+      rw (w .1) (l .inv .2),
+      rw (w .1, w .2) (wrote-out (a .marks .now) (a .depths .now) (l .y) (l .inv .3) (w .0 .left)),
+    ))
     (c .if1 .came)
 
 same-length : tie.Need-same-length Inv-loop μ-loop
@@ -82,7 +91,8 @@ returns : tie.Need-returns Inv-loop μ-loop
 returns c =
     let l = c .before .loop in
     let e : l .y ≡ c .before .before .args .n = omega (arith, c .loop-test .left) in
-    subst (λ (y : ℕ). Wrote 0 (chosen (c .before .before .args .marks .now) (c .before .before .args .depths .now) y) (c .before .before .args .list .now) (l .list) (l .count)) e (l .inv .3)
+    subst (λ (y : ℕ). Wrote 0 (chosen (c .before .before .args .marks .now) (c .before .before .args .depths .now) y)
+    (c .before .before .args .list .now) (l .list) (l .count)) e (l .inv .3)
 
 pub write-numbers-spec : {M : Type 1} → statement M
 write-numbers-spec =

@@ -49,9 +49,10 @@ loop-less c = omega arith
 
 loop-again : tie.Need-loop-again Inv-loop μ-loop
 loop-again c =
+    let at-loop = c .before .before .before .before .before in
     ⊎-elim
-    (λ w. rw (w .1, w .2) (simp length-set (omega arith), simp length-set (c .before .before .before .before .before .loop .inv .1)))
-    (λ w. rw (w .1, w .2) (c .before .before .before .before .before .loop .inv))
+    (λ w. rw (w .1, w .2) (simp length-set (omega arith), simp length-set (at-loop .loop .inv .1)))
+    (λ w. rw (w .1, w .2) (at-loop .loop .inv))
     (c .if3 .came)
 
 same-length-3 : tie.Need-same-length-3 Inv-loop μ-loop

@@ -6,19 +6,15 @@ use lib.Seq.{length-take-le}
 use native.Mathlib.Omega.{arith}
 use borrow.Author.Needs.{needs}
 use Rattle.offsets.specs.Inner.{sooner, baseNumber}
-use Rattle.offsets.proofs.Planning.{plan-refused, plan-judged, base-in, plan-short, plan-made}
+use Rattle.offsets.proofs.PlanLaws.{plan-refused, plan-judged, base-in, plan-short, plan-made}
 use Rattle.offsets.proofs.begin.Statement.{statement}
 use Rattle.offsets.proofs.begin.Tie as tie
-use Rattle.offsets.proofs.begin.Reads as reads
-use Rattle.offsets.proofs.begin.Lts as lts
-use Rattle.offsets.proofs.base_number.Reads as base-number-reads
-use Rattle.offsets.proofs.fill.Reads as fill-reads
-use Rattle.offsets.proofs.open_number.Reads as open-number-reads
-use Rattle.offsets.proofs.sooner.Reads as sooner-reads
 
 -- the number of the base and that of the ties, the sooner of the two
-first-is : (c : tie.After-sooner) → c .sooner .result ≡ sooner (baseNumber (c .before .before .before .before .args .n) (c .before .before .before .before .args .state .now)
-    (c .before .before .before .before .args .base) (c .before .before .before .before .args .count)) (c .before .before .before .before .args .found)
+first-is : (c : tie.After-sooner)
+    → let start = c .before .before .before .before in
+    c .sooner .result ≡ sooner (baseNumber (start .args .n) (start .args .state .now)
+    (start .args .base) (start .args .count)) (start .args .found)
 first-is c = c .sooner .ensures ∙ ap (λ (k : ℕ). sooner k (c .before .before .before .before .args .found)) (c .before .base-number .ensures)
 
 -- src/lib.rt:363:9
@@ -35,11 +31,29 @@ sooner-requires c κs = search needs
 
 -- src/lib.rt:367:9
 returns : tie.Need-returns
-returns c = let s = c .before .before .before .before .before in (_, (c .before .before .before .open-number .ensures, plan-refused (record { refused = c .before .before .before .open-number .result; n = s .args .n; marks = s .args .state .now }) (s .args .base) (s .args .found) (s .args .count) (s .args .work .now) (c .if1 .taken)))
+returns c =
+    let after-open-number = c .before .before .before in
+    let s = after-open-number .before .before in (
+      _,
+      (
+        after-open-number .open-number .ensures,
+        plan-refused (record { refused = after-open-number .open-number .result; n = s .args .n; marks = s .args .state .now })
+            (s .args .base) (s .args .found) (s .args .count) (s .args .work .now) (c .if1 .taken),
+      ),
+    )
 
 -- src/lib.rt:370:9
 returns-2 : tie.Need-returns-2
-returns-2 c = let s = c .before .before .before .before .before .before in (_, (c .before .before .before .before .open-number .ensures, plan-judged (record { refused = c .before .before .before .before .open-number .result; n = s .args .n; marks = s .args .state .now }) (s .args .base) (s .args .found) (s .args .count) (s .args .work .now) (c .before .if1 .left) _ (first-is (c .before .before)) (c .if2 .taken)))
+returns-2 c =
+    let after-open-number = c .before .before .before .before in
+    let s = after-open-number .before .before in (
+      _,
+      (
+        after-open-number .open-number .ensures,
+        plan-judged (record { refused = after-open-number .open-number .result; n = s .args .n; marks = s .args .state .now }) (s .args .base)
+            (s .args .found) (s .args .count) (s .args .work .now) (c .before .if1 .left) _ (first-is (c .before .before)) (c .if2 .taken),
+      ),
+    )
 
 -- src/lib.rt:373:21
 mul-if3 : tie.Need-mul-if3
@@ -47,7 +61,17 @@ mul-if3 c = search needs
 
 -- src/lib.rt:374:9
 returns-3 : tie.Need-returns-3
-returns-3 c = let s = c .before .before .before .before .before .before .before in (_, (c .before .before .before .before .before .open-number .ensures, plan-short (record { refused = c .before .before .before .before .before .open-number .result; n = s .args .n; marks = s .args .state .now }) (s .args .base) (s .args .found) (s .args .count) (s .args .work .now) (c .before .before .if1 .left) _ (first-is (c .before .before .before)) (c .before .if2 .left) (c .if3 .taken)))
+returns-3 c =
+    let after-sooner = c .before .before .before in
+    let after-open-number = after-sooner .before .before in
+    let s = after-open-number .before .before in (
+      _,
+      (
+        after-open-number .open-number .ensures,
+        plan-short (record { refused = after-open-number .open-number .result; n = s .args .n; marks = s .args .state .now }) (s .args .base) (s .args .found)
+            (s .args .count) (s .args .work .now) (c .before .before .if1 .left) _ (first-is after-sooner) (c .before .if2 .left) (c .if3 .taken),
+      ),
+    )
 
 -- src/lib.rt:376:40
 mul-fill : tie.Need-mul-fill
@@ -66,9 +90,17 @@ slice-aggregate-fill c =
 -- src/lib.rt:376:5
 fill-requires : tie.Need-fill-requires
 fill-requires c κs =
-    let s = c .before .before .before .before .before .before .before .before in
-    let h : s .args .n * 3 ≤ length (s .args .work .now) = omega (arith, c .before .if3 .left) in
-    (length-take-le (s .args .n * 3) (s .args .work .now) h, (omega arith, base-in (record { refused = c .before .before .before .before .before .before .open-number .result; n = s .args .n; marks = s .args .state .now }) (s .args .base) (s .args .found) (s .args .count) (s .args .work .now) (c .before .before .before .if1 .left) _ (first-is (c .before .before .before .before)) (c .before .before .if2 .left)))
+    let else1 = c .before .before .before in
+    let after-open-number = else1 .before .before .before in
+    let s = after-open-number .before .before in
+    let h : s .args .n * 3 ≤ length (s .args .work .now) = omega (arith, c .before .if3 .left) in (
+      length-take-le (s .args .n * 3) (s .args .work .now) h,
+      (
+        omega arith,
+        base-in (record { refused = after-open-number .open-number .result; n = s .args .n; marks = s .args .state .now }) (s .args .base)
+            (s .args .found) (s .args .count) (s .args .work .now) (else1 .if1 .left) _ (first-is (else1 .before)) (c .before .before .if2 .left),
+      ),
+    )
 
 -- src/lib.rt:360:1
 same-length : tie.Need-same-length
@@ -77,8 +109,18 @@ same-length c = search needs
 -- src/lib.rt:360:1
 returns-4 : tie.Need-returns-4
 returns-4 c =
-    let s = c .before .before .before .before .before .before .before .before .before .before in
-    (_, (c .before .before .before .before .before .before .before .before .open-number .ensures, plan-made (record { refused = c .before .before .before .before .before .before .before .before .open-number .result; n = s .args .n; marks = s .args .state .now }) (s .args .base) (s .args .found) (s .args .count) (s .args .work .now) (c .before .before .before .before .before .if1 .left) _ (first-is (c .before .before .before .before .before .before)) (c .before .before .before .before .if2 .left) (c .before .before .before .if3 .left) (c .before .fill .last .1 .1 .0) (drop (s .args .n * 3) (s .args .work .now)) (c .before .fill .ensures)))
+    let else3 = c .before .before .before in
+    let after-sooner = else3 .before .before .before in
+    let after-open-number = after-sooner .before .before in
+    let s = after-open-number .before .before in (
+      _,
+      (
+        after-open-number .open-number .ensures,
+        plan-made (record { refused = after-open-number .open-number .result; n = s .args .n; marks = s .args .state .now }) (s .args .base) (s .args .found)
+            (s .args .count) (s .args .work .now) (else3 .before .before .if1 .left) _ (first-is after-sooner) (else3 .before .if2 .left)
+            (else3 .if3 .left) (c .before .fill .last .1 .1 .0) (drop (s .args .n * 3) (s .args .work .now)) (c .before .fill .ensures),
+      ),
+    )
 
 pub begin-spec : {M : Type 1} → statement M
 begin-spec =

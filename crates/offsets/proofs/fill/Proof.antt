@@ -1,16 +1,13 @@
 -- `fill` writes the numbers in turn. The loop's invariant: the numbers before i are as they are to be. The measure is what is left.
 -- Assumes nothing.
-use mathlib.Core.Path.{_≡_, refl, sym, ap, _∙_, subst}
-use Prim.Native.Nat.{_≤_, _-_, _+_, _*_}
+use mathlib.Core.Path.{_≡_, refl, _∙_}
+use Prim.Native.Nat.{_≤_, _-_}
 use native.Mathlib.Omega.{arith}
 use borrow.Author.Needs.{needs}
-use lib.ListN.{length, set, length-set}
-use Rattle.offsets.proofs.Begins.{Begun, begun-none, begun-more, begun-all}
+use lib.ListN.{length, length-set}
+use Rattle.offsets.proofs.StartLaws.{Begun, begun-none, begun-more, begun-all}
 use Rattle.offsets.proofs.fill.Statement.{statement}
 use Rattle.offsets.proofs.fill.Tie as tie
-use Rattle.offsets.proofs.fill.Reads as reads
-use Rattle.offsets.proofs.fill.Lts as lts
-use Rattle.offsets.proofs.first_number.Reads as first-number-reads
 
 abbrev Inv-loop : tie.InvT-loop
 Inv-loop n base d₀ i₀ d i = (i ≤ length d) × ((length d ≡ length d₀) × Begun n base i d)
@@ -48,7 +45,10 @@ loop-again c =
     let l = c .before .before .loop in
     let a = c .before .before .before .args in (
       simp length-set (omega arith),
-      (length-set (l .d) (l .i) _ ∙ l .inv .1 .0, begun-more (a .n) (a .base) (l .i) (l .d) (c .first-number .result) (c .before .loop-test .taken) (c .first-number .ensures) (l .inv .1 .1)),
+      (
+        length-set (l .d) (l .i) _ ∙ l .inv .1 .0,
+        begun-more (a .n) (a .base) (l .i) (l .d) (c .first-number .result) (c .before .loop-test .taken) (c .first-number .ensures) (l .inv .1 .1),
+      ),
     )
 
 -- src/lib.rt:129:1

@@ -1,11 +1,9 @@
--- `first_number` meets its contract: each way out by a law of `Begins`.
+-- `first_number` meets its contract: each way out by a law of `StartLaws`.
 -- Assumes nothing.
 use borrow.Author.Needs.{needs}
-use Rattle.offsets.proofs.Begins.{at-zero, at-most, at-least, at-far}
+use Rattle.offsets.proofs.StartLaws.{at-zero, at-most, at-least, at-far}
 use Rattle.offsets.proofs.first_number.Statement.{statement}
 use Rattle.offsets.proofs.first_number.Tie as tie
-use Rattle.offsets.proofs.first_number.Reads as reads
-use Rattle.offsets.proofs.first_number.Lts as lts
 
 -- src/lib.rt:117:9
 returns : tie.Need-returns
@@ -29,11 +27,15 @@ add-if3 c = search needs
 
 -- src/lib.rt:123:9
 returns-3 : tie.Need-returns-3
-returns-3 c = at-least (c .before .before .before .args .n) (c .before .before .before .args .base) (c .before .before .before .args .i) (c .before .before .if1 .left) (c .before .if2 .left) (c .if3 .taken)
+returns-3 c =
+    let start = c .before .before .before in
+    at-least (start .args .n) (start .args .base) (start .args .i) (c .before .before .if1 .left) (c .before .if2 .left) (c .if3 .taken)
 
 -- src/lib.rt:112:1
 returns-4 : tie.Need-returns-4
-returns-4 c = at-far (c .before .before .before .args .n) (c .before .before .before .args .base) (c .before .before .before .args .i) (c .before .before .if1 .left) (c .before .if2 .left) (c .if3 .left)
+returns-4 c =
+    let start = c .before .before .before in
+    at-far (start .args .n) (start .args .base) (start .args .i) (c .before .before .if1 .left) (c .before .if2 .left) (c .if3 .left)
 
 pub first-number-spec : {M : Type 1} → statement M
 first-number-spec =

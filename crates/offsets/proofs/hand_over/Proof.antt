@@ -1,17 +1,13 @@
 -- `hand_over` goes by the number, the flag and the lengths, and tells the words. Assumes nothing.
-use mathlib.Core.Path.{_≡_, refl}
+use mathlib.Core.Path.{refl}
 use Prim.Native.Nat.{_*_}
-use native.Mathlib.Omega.{arith}
 use borrow.Author.Needs.{needs}
 use Rattle.book.specs.Causes.{short-work, short-list, number}
 use Rattle.offsets.specs.Answers.{Limits, CannotHold, Refused}
 use Rattle.offsets.specs.Inner.{cannot-hold, scant, short, told}
-use Rattle.offsets.proofs.Planning.{hand-refused}
+use Rattle.offsets.proofs.PlanLaws.{hand-refused}
 use Rattle.offsets.proofs.hand_over.Statement.{statement}
 use Rattle.offsets.proofs.hand_over.Tie as tie
-use Rattle.offsets.proofs.hand_over.Reads as reads
-use Rattle.offsets.proofs.hand_over.Lts as lts
-use Rattle.offsets.proofs.tell.Reads as tell-reads
 
 -- src/lib.rt:395:16
 add-result : tie.Need-add-result
@@ -77,7 +73,12 @@ same-length-2 c = search needs
 
 -- src/lib.rt:391:1
 returns-5 : tie.Need-returns-5
-returns-5 c = (Limits (c .before .before .before .before .before .before .before .before .args .n * 2), (told (c .before .before .before .before .before .before .before .if1 .left) (c .before .before .before .before .before .before .if2 .left) (c .before .before .before .before .if4 .left) (c .before .tell .ensures .0) (c .before .tell .ensures .1), refl))
+returns-5 c =
+    let else4 = c .before .before .before .before in
+    let else1 = else4 .before .before .before in (
+      Limits (else1 .before .args .n * 2),
+      (told (else1 .if1 .left) (else4 .before .before .if2 .left) (else4 .if4 .left) (c .before .tell .ensures .0) (c .before .tell .ensures .1), refl),
+    )
 
 pub hand-over-spec : {M : Type 1} → statement M
 hand-over-spec =

@@ -1,10 +1,8 @@
 -- `is_withdrawn` reads the record's mark among the words, and finds none past them. Assumes nothing.
 use borrow.Author.Needs.{needs}
-use Rattle.offsets.proofs.Numbers.{mark-none, mark-past, mark-here}
+use Rattle.offsets.proofs.NumberLaws.{mark-none, mark-past, mark-here}
 use Rattle.offsets.proofs.is_withdrawn.Statement.{statement}
 use Rattle.offsets.proofs.is_withdrawn.Tie as tie
-use Rattle.offsets.proofs.is_withdrawn.Reads as reads
-use Rattle.offsets.proofs.is_withdrawn.Lts as lts
 
 -- src/lib.rt:74:9
 returns : tie.Need-returns
@@ -28,7 +26,9 @@ shared-slice-read-result c = search needs
 
 -- src/lib.rt:69:1
 returns-3 : tie.Need-returns-3
-returns-3 c = mark-here (c .before .before .before .args .state .now) (c .before .before .before .args .«record») (c .before .before .if1 .left)
+returns-3 c =
+    let start = c .before .before .before in
+    mark-here (start .args .state .now) (start .args .«record») (c .before .before .if1 .left)
 
 pub is-withdrawn-spec : {M : Type 1} → statement M
 is-withdrawn-spec =

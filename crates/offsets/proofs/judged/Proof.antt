@@ -2,13 +2,9 @@
 use mathlib.Core.Path.{ap, _∙_}
 use borrow.Author.Needs.{needs}
 use Rattle.offsets.specs.Inner.{sooner}
-use Rattle.offsets.proofs.Numbers.{tie-back}
+use Rattle.offsets.proofs.NumberLaws.{tie-back}
 use Rattle.offsets.proofs.judged.Statement.{statement}
 use Rattle.offsets.proofs.judged.Tie as tie
-use Rattle.offsets.proofs.judged.Reads as reads
-use Rattle.offsets.proofs.judged.Lts as lts
-use Rattle.offsets.proofs.sooner.Reads as sooner-reads
-use Rattle.offsets.proofs.tie_number.Reads as tie-number-reads
 
 -- src/lib.rt:147:9
 tie-number-requires : tie.Need-tie-number-requires

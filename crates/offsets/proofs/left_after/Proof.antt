@@ -1,7 +1,7 @@
 -- `offsets::left_after` meets its contract.
 -- Assumes nothing.
 use borrow.Author.Needs.{needs}
-use Rattle.offsets.proofs.Turns.{on-more, on-none}
+use Rattle.offsets.proofs.TurnLaws.{on-more, on-none}
 use Rattle.offsets.proofs.left_after.Statement.{statement}
 use Rattle.offsets.proofs.left_after.Tie as tie
 

@@ -1,11 +1,8 @@
--- `most_word` meets its contract: each way out by a law of `Told`. Assumes nothing.
+-- `most_word` meets its contract: each way out by a law of `TellLaws`. Assumes nothing.
 use borrow.Author.Needs.{needs}
-use Rattle.offsets.proofs.Told.{most-low, most-high, most-narrowed}
+use Rattle.offsets.proofs.TellLaws.{most-low, most-high, most-narrowed}
 use Rattle.offsets.proofs.most_word.Statement.{statement}
 use Rattle.offsets.proofs.most_word.Tie as tie
-use Rattle.offsets.proofs.most_word.Reads as reads
-use Rattle.offsets.proofs.most_word.Lts as lts
-use Rattle.offsets.proofs.narrow.Reads as narrow-reads
 
 -- src/lib.rt:354:15
 add-a : tie.Need-add-a
@@ -34,7 +31,8 @@ narrow-requires c κs = search needs
 -- src/lib.rt:350:1
 returns-3 : tie.Need-returns-3
 returns-3 c = let s = c .before .before .before .before in
-    most-narrowed (s .args .n) (s .args .x) (s .args .d .now) (c .before .before .before .a .given) (c .before .before .if1 .left) (c .before .if2 .left) (c .narrow .result) (c .narrow .ensures)
+    most-narrowed (s .args .n) (s .args .x) (s .args .d .now) (c .before .before .before .a .given)
+    (c .before .before .if1 .left) (c .before .if2 .left) (c .narrow .result) (c .narrow .ensures)
 
 pub most-word-spec : {M : Type 1} → statement M
 most-word-spec =

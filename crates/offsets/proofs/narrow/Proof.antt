@@ -1,9 +1,7 @@
 -- `narrow` tests that the number fits before it casts. Assumes nothing.
-use Rattle.offsets.proofs.Told.{narrow-low, narrow-high, narrow-fits, narrow-is}
+use Rattle.offsets.proofs.TellLaws.{narrow-low, narrow-high, narrow-fits, narrow-is}
 use Rattle.offsets.proofs.narrow.Statement.{statement}
 use Rattle.offsets.proofs.narrow.Tie as tie
-use Rattle.offsets.proofs.narrow.Reads as reads
-use Rattle.offsets.proofs.narrow.Lts as lts
 
 returns : tie.Need-returns
 returns c = narrow-low (c .before .args .v) (c .before .fits .v .sfits) (c .if1 .taken)

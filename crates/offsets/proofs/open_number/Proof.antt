@@ -1,12 +1,8 @@
 -- `open_number`: the number of the answer to loading. Assumes nothing.
 use borrow.Author.Needs.{needs}
-use Rattle.offsets.proofs.Keeping.{open-number}
+use Rattle.offsets.proofs.KeepLaws.{open-number}
 use Rattle.offsets.proofs.open_number.Statement.{statement}
 use Rattle.offsets.proofs.open_number.Tie as tie
-use Rattle.offsets.proofs.open_number.Reads as reads
-use Rattle.offsets.proofs.open_number.Lts as lts
-use Rattle.register.proofs.Register.load.Reads as load-reads
-use Rattle.register.proofs.number_of.Reads as number-of-reads
 
 -- src/lib.rt:63:9
 load-requires : tie.Need-load-requires

@@ -1,10 +1,8 @@
 -- `rounds_of`, by whether there is a cause. Assumes nothing.
-use Rattle.offsets.proofs.Planning.{rounds-none, rounds-all}
+use Rattle.offsets.proofs.PlanLaws.{rounds-none, rounds-all}
 use borrow.Author.Needs.{needs}
 use Rattle.offsets.proofs.rounds_of.Statement.{statement}
 use Rattle.offsets.proofs.rounds_of.Tie as tie
-use Rattle.offsets.proofs.rounds_of.Reads as reads
-use Rattle.offsets.proofs.rounds_of.Lts as lts
 
 -- src/lib.rt:385:9
 returns : tie.Need-returns

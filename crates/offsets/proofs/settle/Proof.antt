@@ -1,6 +1,6 @@
 -- `offsets::settle` meets its contract: a walk of its MIR, by hand, with a loop that hands both slices on. A turn has two calls.
--- `pass` gets a copy of what ties owns, at ties' own lifetime, and d lent again for a lifetime of the call; `left_after` takes numbers, and ends the turn (`calls-at-last`, `land-last`).
--- All that the proof knows of the two is that each meets its contract.
+-- `pass` gets a copy of what ties owns, at ties' own lifetime, and d lent again for a lifetime of the call; `left_after` takes numbers, and ends the turn
+-- (`calls-at-last`, `land-last`). All that the proof knows of the two is that each meets its contract.
 --     At t ds c        what is had at the loop's head: at most t passes are left, the distances are ds, and c says whether the last pass lowered one
 --     Facts t ds c     t fits, ds is as long as d was, and t passes make of (ds, c) what all make of (d, false)
 -- Assumes nothing.
@@ -28,9 +28,11 @@ use contract.Monad.{Fun, fact}
 use contract.Running.{givenOf, tables, tablesOf}
 use sound.Loop.{loop-rule}
 use sound.WpLaws.{fmOf, WpFn-mono}
-use types.Kit.{Given, Item, ‵, raw, _⊛_, some, later, ⋆, anyQ, atRet, _$_, _∵_, !, qed, by, move, keep, use1, use2, use3, drop, split, join, pick, rewrite, fsplit, fjoin, feqL, suffices, frame, await, done}
+use types.Kit.{Given, Item, ‵, raw, _⊛_, some, later, ⋆, anyQ, atRet, _$_, _∵_, !, qed, by, move, keep, use1, use2, use3, drop, split, join, pick, rewrite}
+use types.Kit.{fsplit, fjoin, feqL, suffices, frame, await, done}
 use types.Part.{agg, whole, sub, look-in}
-use types.Run.{look, store, init, forget, stop, hop, fld, from, load, lit, false-lit, addr, of-opd, bin, and-then, no-more, assigns, land, land-last, stays, leaves-loop, returns, enter, alloc1, alloc0, params1, pass1, pass0, free1, free0, exec}
+use types.Run.{look, store, init, forget, stop, hop, fld, from, load, lit, false-lit, addr, of-opd, bin, and-then, no-more, assigns, land, land-last, stays}
+use types.Run.{leaves-loop, returns, enter, alloc1, alloc0, params1, pass1, pass0, free1, free0, exec}
 use types.Tokens.{lft-new, lft-end}
 use denote.RattleType.{RattleType, owns}
 use denote.Laws.{Is, shows}
@@ -47,13 +49,14 @@ use denote.Triple.Statement.{Contract, Triple}
 use denote.Triple.Call.{calls-at, calls-at-last}
 use denote.Triple.Clauses.{ensured, lasts}
 use denote.Triple.Table.{entered, cited}
-use denote.Triple.Walked.{says, Stays, stay-none, stay-none-slice, stay-slice, walkOf, goes-none, goes-none-slice, goes-slice, Walks, ends-at, walked, walk-meets}
+use denote.Triple.Walked.{says, Stays, stay-none, stay-none-slice, stay-slice, walkOf, goes-none, goes-none-slice, goes-slice, Walks, ends-at, walked}
+use denote.Triple.Walked.{walk-meets}
 use denote.Exit.{yes}
 use borrow.Author.Tests.{lt-ltb, le-ltb}
 use Rattle.offsets.specs.Relax.{State, relaxAll, leftAfter, settled}
 use Rattle.offsets.specs.declared.Tie.{Tie}
-use Rattle.offsets.proofs.Again.{LentAgain, lends-again, comes-back}
-use Rattle.offsets.proofs.Turns.{again, fewer}
+use Rattle.offsets.proofs.ReborrowLaws.{LentAgain, lends-again, comes-back}
+use Rattle.offsets.proofs.TurnLaws.{passes-again, passes-fewer}
 use Rattle.offsets.proofs.Tie as T
 use Rattle.offsets.proofs.pass as pass
 use Rattle.offsets.proofs.pass.Symbol as pass-def
@@ -73,7 +76,10 @@ abbrev R : RattleType
 R = T.the-row
 
 abbrev stayed : Stays (settle.ended .signature .params) (settle.ended .kept)
-stayed = (stay-none-slice (0 ∷ []) tt (plain (λ _. R)) yes, (stay-none (λ _. u16) yes, (stay-none (λ _. usize) yes, (stay-slice (1 ∷ []) tt (plain (λ _. i64)), tt))))
+stayed = (
+  stay-none-slice (0 ∷ []) tt (plain (λ _. R)) yes,
+  (stay-none (λ _. u16) yes, (stay-none (λ _. usize) yes, (stay-slice (1 ∷ []) tt (plain (λ _. i64)), tt))),
+)
 
 -- the contracts that the proof cites
 module _ {M : Type 1} (𝓤 : URA M) (H : Heap 𝓤) (A : Atoms 𝓤) (mem : Memory → SProp 𝓤) (run : Routine → Fun 𝓤) where
@@ -96,7 +102,8 @@ d-ty = sliceTy (tyRef (named 1) mut word)
 abbrev lent-ty : Ty
 lent-ty = sliceTy (tyRef erased mut word)
 
-module _ {M : Type 1} (𝓤 : URA M) (H : Heap 𝓤) (A : Atoms 𝓤) (W : Given 𝓤 H A) (at-mem : Memory → SProp 𝓤) (run : Routine → Fun 𝓤) (κ κ′ : Lft) (q q′ : Share) (b o : ℕ) (γ : GName) (ts : List Tie) (n m : ℕ) (b′ o′ : ℕ) (γ′ : GName) (d₀ : List ℤ) (n-fits : n < 2 ^ 16) (m-fits : m < 2 ^ 64) where
+module _ {M : Type 1} (𝓤 : URA M) (H : Heap 𝓤) (A : Atoms 𝓤) (W : Given 𝓤 H A) (at-mem : Memory → SProp 𝓤) (run : Routine → Fun 𝓤) (κ κ′ : Lft)
+    (q q′ : Share) (b o : ℕ) (γ : GName) (ts : List Tie) (n m : ℕ) (b′ o′ : ℕ) (γ′ : GName) (d₀ : List ℤ) (n-fits : n < 2 ^ 16) (m-fits : m < 2 ^ 64) where
   abbrev v : Val
   v = sliceVal (b, o) (length ts)
 
@@ -133,12 +140,18 @@ module _ {M : Type 1} (𝓤 : URA M) (H : Heap 𝓤) (A : Atoms 𝓤) (W : Given
   abbrev Out : State
   Out = settled n m ts (d₀, false)
 
-  exits : (ds : List ℤ) (c : Bool) → length ds ≡ length d₀ → _≡_ {A = State} (ds, c) Out → ent 𝓤 (⋆ 𝓤 H A (‵ (flft κ q) ∷ ‵ (flft κ′ q′) ∷ ‵ (OwnD ds (length ds)) ∷ ‵ OwnT ∷ [])) (Post (vbool c))
+  exits : (ds : List ℤ) (c : Bool) → length ds ≡ length d₀ → _≡_ {A = State} (ds, c) Out
+      → ent 𝓤 (⋆ 𝓤 H A (‵ (flft κ q) ∷ ‵ (flft κ′ q′) ∷ ‵ (OwnD ds (length ds)) ∷ ‵ OwnT ∷ [])) (Post (vbool c))
   exits ds c l e =
       qed W (‵ (flft κ q) ∷ ‵ (flft κ′ q′) ∷ ‵ (OwnD ds (length ds)) ∷ ‵ OwnT ∷ []) ∵ rewrite ! 2 (λ (k : ℕ). ‵ (OwnD ds k)) l refl $
-      suffices ! _ (ends-at 𝓤 H A settle.ended stayed (settle.clauses 𝓤 H A at-mem run) W (((κ, (κ′, tt)), (q, (q′, tt)), tt, a, at), tt) (vbool c) c (tt, (tt, (tt, (ds, tt)))) (tt, (tt, (tt, (l, tt))))) $ says ! e $
+      suffices ! _ (ends-at 𝓤 H A settle.ended stayed (settle.clauses 𝓤 H A at-mem run) W (
+        ((κ, (κ′, tt)), (q, (q′, tt)), tt, a, at),
+        tt,
+      ) (vbool c) c (tt, (tt, (tt, (ds, tt)))) (tt, (tt, (tt, (l, tt))))) $ says ! e $
       nothing ! $ move ! (2 ∷ 0 ∷ []) $ join ! $ move ! (1 ∷ 0 ∷ []) $ join ! $ frame ! $
-      nothing ! $ move ! (1 ∷ 0 ∷ []) $ fjoin ! $ owned ! usize (Is usize) (uint-makes 𝓤 H A W w64) m _ (refl, m-fits) $ fjoin ! $ owned ! u16 (Is u16) (uint-makes 𝓤 H A W w16) n _ (refl, n-fits) $ fjoin ! $ move ! (1 ∷ 0 ∷ []) $ fjoin ! $ frame ! $ owned ! bool (Is bool) (bool-makes 𝓤 H A W) c _ refl $ done !
+      nothing ! $ move ! (1 ∷ 0 ∷ []) $ fjoin ! $ owned ! usize (Is usize) (uint-makes 𝓤 H A W w64) m _ (refl, m-fits) $ fjoin ! $
+      owned ! u16 (Is u16) (uint-makes 𝓤 H A W w16) n _ (refl, n-fits) $ fjoin ! $ move ! (1 ∷ 0 ∷ []) $
+      fjoin ! $ frame ! $ owned ! bool (Is bool) (bool-makes 𝓤 H A W) c _ refl $ done !
 
   -- what `pass`'s triple binds outside: ties as it is, and d lent again for the lifetime ν, under the name δ
   module _ (ds : List ℤ) where
@@ -154,9 +167,11 @@ module _ {M : Type 1} (𝓤 : URA M) (H : Heap 𝓤) (A : Atoms 𝓤) (W : Given
     abbrev to-pass : ℕ → GName → Pass 𝓤 H A at-mem run .Ghost
     to-pass ν δ = (((κ, (ν ∷ [], tt)), (q, (fullShare, tt)), tt, args δ, (v ∷ [], (vint w16 n ∷ [], (s (length ds) ∷ [], tt)))), tt)
 
-    goes : (ν : ℕ) (δ : GName) → ent 𝓤 (sep 𝓤 (sep 𝓤 (A .lft κ q) (A .lft (ν ∷ []) fullShare)) (sep 𝓤 (sem 𝓤 H A OwnT) (sem 𝓤 H A (Lent ν δ)))) (Pass 𝓤 H A at-mem run .pre (to-pass ν δ))
+    goes : (ν : ℕ) (δ : GName) → ent 𝓤 (sep 𝓤 (sep 𝓤 (A .lft κ q) (A .lft (ν ∷ []) fullShare)) (sep 𝓤 (sem 𝓤 H A OwnT) (sem 𝓤 H A (Lent ν δ))))
+        (Pass 𝓤 H A at-mem run .pre (to-pass ν δ))
     goes ν δ =
-        qed W ((‵ (flft κ q) ⊛ ‵ (flft (ν ∷ []) fullShare)) ∷ ‵ OwnT ∷ ‵ (Lent ν δ) ∷ []) ∵ nothing ! $ move ! (3 ∷ 0 ∷ []) $ fjoin ! $ owned ! u16 (Is u16) (uint-makes 𝓤 H A W w16) n _ (refl, n-fits) $ fjoin ! $ move ! (2 ∷ 0 ∷ []) $ fjoin ! $ move ! (1 ∷ []) $ split ! $
+        qed W ((‵ (flft κ q) ⊛ ‵ (flft (ν ∷ []) fullShare)) ∷ ‵ OwnT ∷ ‵ (Lent ν δ) ∷ []) ∵ nothing ! $ move ! (3 ∷ 0 ∷ []) $ fjoin ! $
+        owned ! u16 (Is u16) (uint-makes 𝓤 H A W w16) n _ (refl, n-fits) $ fjoin ! $ move ! (2 ∷ 0 ∷ []) $ fjoin ! $ move ! (1 ∷ []) $ split ! $
         nothing ! $ move ! (2 ∷ 0 ∷ []) $ join ! $ move ! (1 ∷ 0 ∷ []) $ join ! $ join ! $ frame ! $ done !
 
   -- what `left_after`'s triple binds outside: it has no lifetime
@@ -169,13 +184,15 @@ module _ {M : Type 1} (𝓤 : URA M) (H : Heap 𝓤) (A : Atoms 𝓤) (W : Given
 
     goes-left : t < 2 ^ 64 → ent 𝓤 (sem 𝓤 H A ftrue) (LeftAfter 𝓤 H A at-mem run .pre to-left)
     goes-left fits =
-        qed W (‵ ftrue ∷ []) ∵ nothing ! $ owned ! usize (Is usize) (uint-makes 𝓤 H A W w64) t _ (refl, fits) $ fjoin ! $ owned ! bool (Is bool) (bool-makes 𝓤 H A W) r _ refl $ fjoin ! $ move ! (1 ∷ 0 ∷ []) $ join ! $ frame ! $ done !
+        qed W (‵ ftrue ∷ []) ∵ nothing ! $ owned ! usize (Is usize) (uint-makes 𝓤 H A W w64) t _ (refl, fits) $ fjoin ! $
+        owned ! bool (Is bool) (bool-makes 𝓤 H A W) r _ refl $ fjoin ! $ move ! (1 ∷ 0 ∷ []) $ join ! $ frame ! $ done !
 
     -- of its `ensured`, the clause alone
     left-said : (k : ℕ) → ent 𝓤 (ensured 𝓤 H A left-after.ended (left-after.clauses 𝓤 H A at-mem run) tt numbers tt k) (fact 𝓤 (k ≡ leftAfter r t))
     left-said k = exE 𝓤 _ (λ ws. snd∗ 𝓤 (sem 𝓤 H A (lasts left-after.ended tt numbers ws)) (fact 𝓤 (k ≡ leftAfter r t)))
 
-  module _ (𝓣 : Tables 𝓤 H) (known-pass : Triple 𝓤 (𝓣 .C #offsets·pass) (Pass 𝓤 H A at-mem run)) (known-left : Triple 𝓤 (𝓣 .C #offsets·left-after) (LeftAfter 𝓤 H A at-mem run)) (rd : Room i64 (length d₀)) (l₀ l₁ l′ l₂ l₃ l₄ l₅ l₆ l₇ l₈ : ℕ) where
+  module _ (𝓣 : Tables 𝓤 H) (known-pass : Triple 𝓤 (𝓣 .C #offsets·pass) (Pass 𝓤 H A at-mem run))
+      (known-left : Triple 𝓤 (𝓣 .C #offsets·left-after) (LeftAfter 𝓤 H A at-mem run)) (rd : Room i64 (length d₀)) (l₀ l₁ l′ l₂ l₃ l₄ l₅ l₆ l₇ l₈ : ℕ) where
     abbrev C : Calls 𝓤 H
     C = 𝓣 .C
 
@@ -183,14 +200,19 @@ module _ {M : Type 1} (𝓤 : URA M) (H : Heap 𝓤) (A : Atoms 𝓤) (W : Given
     Λ = 𝓣 .Λ
 
     abbrev En : Env 𝓤 H
-    En = (tyBool, l₀) ∷ (ties-ty, l₁) ∷ (tyInt w16, l′) ∷ (word, l₂) ∷ (d-ty, l₃) ∷ (word, l₄) ∷ (tyBool, l₅) ∷ (tyBool, l₆) ∷ (tyRef erased mut word, l₇) ∷ (lent-ty, l₈) ∷ []
+    En =
+        (tyBool, l₀) ∷ (ties-ty, l₁) ∷ (tyInt w16, l′) ∷ (word, l₂) ∷ (d-ty, l₃) ∷ (word, l₄)
+        ∷ (tyBool, l₅) ∷ (tyBool, l₆) ∷ (tyRef erased mut word, l₇) ∷ (lent-ty, l₈) ∷ []
 
-    -- at the loop's head. The places: ties' token 0, what d owns 1, its token 2, left 3, on 4, room for _7 to _9 5 to 7, _1 8, _3 9, _4 10, room for the result 11, what ties owns 12, that each local but _2 dies 13 to 21, _2 22, and that it dies 23
+    -- at the loop's head. The places: ties' token 0, what d owns 1, its token 2, left 3, on 4, room for _7 to _9 5 to 7, _1 8, _3 9, _4 10, room for the result
+    -- 11, what ties owns 12, that each local but _2 dies 13 to 21, _2 22, and that it dies 23
     abbrev At : ℕ → List ℤ → Bool → List (Item 𝓤)
     At t ds c = ‵ (flft κ q) ∷ ‵ (OwnD ds (length ds)) ∷ ‵ (flft κ′ q′) ∷ ‵ (fat fullShare word l₄ 0 (vint w64 t)) ∷ ‵ (fat fullShare tyBool l₅ 0 (vbool c))
         ∷ ‵ (froom tyBool l₆ 0) ∷ ‵ (froom (tyRef erased mut word) l₇ 0) ∷ ‵ (froom lent-ty l₈ 0)
-        ∷ ‵ (fat fullShare ties-ty l₁ 0 v) ∷ ‵ (fat fullShare word l₂ 0 (vint w64 m)) ∷ ‵ (fat fullShare d-ty l₃ 0 (s (length ds))) ∷ ‵ (froom tyBool l₀ 0) ∷ ‵ OwnT
-        ∷ ‵ (fdies tyBool l₀) ∷ ‵ (fdies ties-ty l₁) ∷ ‵ (fdies word l₂) ∷ ‵ (fdies d-ty l₃) ∷ ‵ (fdies word l₄) ∷ ‵ (fdies tyBool l₅) ∷ ‵ (fdies tyBool l₆) ∷ ‵ (fdies (tyRef erased mut word) l₇) ∷ ‵ (fdies lent-ty l₈)
+        ∷ ‵ (fat fullShare ties-ty l₁ 0 v) ∷ ‵ (fat fullShare word l₂ 0 (vint w64 m))
+        ∷ ‵ (fat fullShare d-ty l₃ 0 (s (length ds))) ∷ ‵ (froom tyBool l₀ 0) ∷ ‵ OwnT
+        ∷ ‵ (fdies tyBool l₀) ∷ ‵ (fdies ties-ty l₁) ∷ ‵ (fdies word l₂) ∷ ‵ (fdies d-ty l₃) ∷ ‵ (fdies word l₄)
+        ∷ ‵ (fdies tyBool l₅) ∷ ‵ (fdies tyBool l₆) ∷ ‵ (fdies (tyRef erased mut word) l₇) ∷ ‵ (fdies lent-ty l₈)
         ∷ ‵ (fat fullShare (tyInt w16) l′ 0 (vint w16 n)) ∷ ‵ (fdies (tyInt w16) l′) ∷ []
 
     abbrev Facts : ℕ → List ℤ → Bool → Type 0
@@ -218,34 +240,53 @@ module _ {M : Type 1} (𝓤 : URA M) (H : Heap 𝓤) (A : Atoms 𝓤) (W : Given
         assigns ! (bin ! (lit ! tt) (load ! (from ! (stop !)) (look ! 3 refl)) tt) (from ! (stop !)) (init ! 5 refl (tt, tt)) $
         rewrite ! 5 (λ (u : Bool). ‵ (fat fullShare tyBool l₆ 0 (vbool u))) (lt-ltb 0 t some-left) refl $ stays ! (load ! (from ! (stop !)) (look ! 5 refl)) $
         assigns ! (addr ! (from ! (fld ! refl (hop ! (look-in ! 10 (sub ! 0 refl (whole !))) (stop !))))) (from ! (stop !)) (init ! 6 refl (tt, tt)) $
-        assigns ! (agg ! (and-then ! (load ! (from ! (stop !)) (look ! 6 refl)) (and-then ! (load ! (from ! (fld ! refl (stop !))) (look-in ! 10 (sub ! 1 refl (whole !)))) (no-more !)))) (from ! (stop !)) (init ! 7 refl (tt, (tt, (record { fits = room .0 }, tt)))) $
+        assigns !
+        (agg ! (and-then ! (load ! (from ! (stop !)) (look ! 6 refl))
+        (and-then ! (load ! (from ! (fld ! refl (stop !))) (look-in ! 10 (sub ! 1 refl (whole !)))) (no-more !))))
+        (from ! (stop !)) (init ! 7 refl (tt, (tt, (record { fits = room .0 }, tt)))) $
         -- a copy of what ties owns, and d lent again for a lifetime ν of the call
         move ! (12 ∷ []) $ use1 W (‵ OwnT ⊛ ‵ OwnT) (shr-slice-copy 𝓤 H A W (named 0) κ R .twice y (v ∷ [])) $ split ! $
         lft-new ! tt (λ ν. move ! (4 ∷ 5 ∷ []) $
-        use2 W (later (some (λ (δ : GName). ‵ (Lent ds ν δ) ⊛ ‵ (LentAgain i64 κ′ (ν ∷ []) q′ γ′ b′ o′ δ ds)))) (lends-again i64 κ′ (ν ∷ []) q′ γ′ b′ o′ 𝓤 H A W (named 1) (named 1) ds) $ await ! tt $ pick ! (λ δ. split ! $
+        use2 W (later (some (λ (δ : GName). ‵ (Lent ds ν δ) ⊛ ‵ (LentAgain i64 κ′ (ν ∷ []) q′ γ′ b′ o′ δ ds))))
+        (lends-again i64 κ′ (ν ∷ []) q′ γ′ b′ o′ 𝓤 H A W (named 1) (named 1) ds) $ await ! tt $ pick ! (λ δ. split ! $
         move ! (5 ∷ 2 ∷ []) $ join ! $ move ! (0 ∷ 3 ∷ 1 ∷ []) $ use3 W (raw (Pass 𝓤 H A at-mem run .pre (to-pass ds ν δ))) (goes ds ν δ) $
         -- [what `pass` asks; what is kept of d; what ties owns; _4; _5; _6; _7; _8; _1; _2; _3; …]
-        calls-at ! (fmOf 𝓤 H (W .laws) 𝓣) (Pass 𝓤 H A at-mem run) known-pass (to-pass ds ν δ) (and-then ! (load ! (from ! (stop !)) (look ! 8 refl)) (and-then ! (load ! (from ! (stop !)) (look ! 21 refl)) (and-then ! (load ! (from ! (stop !)) (look ! 7 refl)) (no-more !)))) (λ w.
-        use1 W (later (some (λ (r : Bool). ((‵ (flft κ q) ⊛ ‵ (flft (ν ∷ []) fullShare) ⊛ ‵ ftrue) ⊛ ‵ (bool .own r (w ∷ []))) ⊛ raw (ensured 𝓤 H A pass.ended (pass.clauses 𝓤 H A at-mem run) (κ, (ν ∷ [], tt)) (args ds δ) tt r)))) (id⊢ 𝓤 _) $ await ! tt $ pick ! (λ r.
-        split ! $ move ! (1 ∷ []) $ use1 W (some (λ (zs : Last). ‵ (lasts pass.ended (κ, (ν ∷ [], tt)) (args ds δ) zs) ⊛ raw (fact 𝓤 (Said r (zs .1 .1 .0))))) (id⊢ 𝓤 _) $ pick ! (λ zs.
-        split ! $ move ! (1 ∷ []) $ heard ! (Said r (zs .1 .1 .0)) (λ e. fsplit ! $ drop ! $ fsplit ! $ drop ! $ fsplit ! $ fsplit ! $ move ! (1 ∷ []) $ feqL ! (λ l.
+        calls-at ! (fmOf 𝓤 H (W .laws) 𝓣) (Pass 𝓤 H A at-mem run) known-pass (to-pass ds ν δ)
+        (and-then ! (load ! (from ! (stop !)) (look ! 8 refl))
+        (and-then ! (load ! (from ! (stop !)) (look ! 21 refl)) (and-then ! (load ! (from ! (stop !)) (look ! 7 refl)) (no-more !)))) (λ w.
+        use1 W
+        (later (some (λ (r : Bool). ((‵ (flft κ q) ⊛ ‵ (flft (ν ∷ []) fullShare) ⊛ ‵ ftrue) ⊛ ‵ (bool .own r (w ∷ [])))
+        ⊛ raw (ensured 𝓤 H A pass.ended (pass.clauses 𝓤 H A at-mem run) (κ, (ν ∷ [], tt)) (args ds δ) tt r)))) (id⊢ 𝓤 _) $ await ! tt $ pick ! (λ r.
+        split ! $ move ! (1 ∷ []) $
+        use1 W (some (λ (zs : Last). ‵ (lasts pass.ended (κ, (ν ∷ [], tt)) (args ds δ) zs) ⊛ raw (fact 𝓤 (Said r (zs .1 .1 .0))))) (id⊢ 𝓤 _) $ pick ! (λ zs.
+        split ! $ move ! (1 ∷ []) $
+        heard ! (Said r (zs .1 .1 .0)) (λ e. fsplit ! $ drop ! $ fsplit ! $ drop ! $ fsplit ! $ fsplit ! $ move ! (1 ∷ []) $ feqL ! (λ l.
         -- [the last list; true; the tokens and the result; what is kept of d; what ties owns; _4; …]
         move ! (2 ∷ []) $ split ! $ move ! (1 ∷ []) $ peeks ! bool (Is bool) (shows 𝓤 H A bool) r (w ∷ []) (λ is-r.
-        land ! (from ! (stop !)) (store ! 7 refl (bool-lawful 𝓤 H A W .typed r _ is-r .0)) $ rewrite ! 7 (λ (u : Val). ‵ (fat fullShare tyBool l₅ 0 u)) (ap only is-r) refl $
+        land ! (from ! (stop !)) (store ! 7 refl (bool-lawful 𝓤 H A W .typed r _ is-r .0)) $
+        rewrite ! 7 (λ (u : Val). ‵ (fat fullShare tyBool l₅ 0 u)) (ap only is-r) refl $
         -- the lifetime is ended, and d comes back at that list
         move ! (1 ∷ []) $ split ! $ move ! (1 ∷ []) $ split ! $ lft-end ! tt $ move ! (0 ∷ 6 ∷ 4 ∷ []) $
-        use3 W (later (‵ (OwnD (zs .1 .1 .0) (length ds)) ⊛ ‵ (flft κ′ q′))) (comes-back i64 κ′ (ν ∷ []) q′ γ′ b′ o′ 𝓤 H A W (named 1) (named 1) ds δ (zs .1 .1 .0) room l) $ await ! tt $ split ! $
+        use3 W (later (‵ (OwnD (zs .1 .1 .0) (length ds)) ⊛ ‵ (flft κ′ q′)))
+        (comes-back i64 κ′ (ν ∷ []) q′ γ′ b′ o′ 𝓤 H A W (named 1) (named 1) ds δ (zs .1 .1 .0) room l) $ await ! tt $ split ! $
         -- [what d owns; its token; true; ties' token; the result; true; what ties owns; _4; _5; _6; _7; _8; _1; _2; _3; …]
         rewrite ! 0 (λ (j : ℕ). ‵ (OwnD (zs .1 .1 .0) j)) (sym l) refl $ rewrite ! 14 (λ (j : ℕ). ‵ (fat fullShare d-ty l₃ 0 (s j))) (sym l) refl $
         -- `left_after`, which ends the turn
         nothing ! $ use1 W (raw (LeftAfter 𝓤 H A at-mem run .pre (to-left r t))) (goes-left r t t-fits) $
-        calls-at-last ! (fmOf 𝓤 H (W .laws) 𝓣) (LeftAfter 𝓤 H A at-mem run) known-left (to-left r t) (and-then ! (load ! (from ! (stop !)) (look ! 9 refl)) (and-then ! (load ! (from ! (stop !)) (look ! 8 refl)) (no-more !))) (λ w′.
-        use1 W (later (some (λ (j : ℕ). (‵ ftrue ⊛ ‵ (usize .own j (w′ ∷ []))) ⊛ raw (ensured 𝓤 H A left-after.ended (left-after.clauses 𝓤 H A at-mem run) tt (numbers r t) tt j)))) (id⊢ 𝓤 _) $ await ! tt $ pick ! (λ j.
-        split ! $ move ! (1 ∷ []) $ use1 W (raw (fact 𝓤 (j ≡ leftAfter r t))) (left-said r t j) $ heard ! (j ≡ leftAfter r t) (λ e′. split ! $ move ! (1 ∷ []) $ peeks ! usize (Is usize) (shows 𝓤 H A usize) j (w′ ∷ []) (λ is-j.
-        land-last ! (from ! (stop !)) (store ! 9 refl (uint-lawful 𝓤 H A W w64 .typed j _ is-j .0)) $ rewrite ! 9 (λ (u : Val). ‵ (fat fullShare word l₄ 0 u)) (ap only (is-j .0)) refl $ rewrite ! 9 (λ (i : ℕ). ‵ (fat fullShare word l₄ 0 (vint w64 i))) e′ refl $
+        calls-at-last ! (fmOf 𝓤 H (W .laws) 𝓣) (LeftAfter 𝓤 H A at-mem run) known-left (to-left r t)
+        (and-then ! (load ! (from ! (stop !)) (look ! 9 refl)) (and-then ! (load ! (from ! (stop !)) (look ! 8 refl)) (no-more !))) (λ w′.
+        use1 W
+        (later (some (λ (j : ℕ). (‵ ftrue ⊛ ‵ (usize .own j (w′ ∷ [])))
+        ⊛ raw (ensured 𝓤 H A left-after.ended (left-after.clauses 𝓤 H A at-mem run) tt (numbers r t) tt j)))) (id⊢ 𝓤 _) $ await ! tt $ pick ! (λ j.
+        split ! $ move ! (1 ∷ []) $ use1 W (raw (fact 𝓤 (j ≡ leftAfter r t))) (left-said r t j) $
+        heard ! (j ≡ leftAfter r t) (λ e′. split ! $ move ! (1 ∷ []) $ peeks ! usize (Is usize) (shows 𝓤 H A usize) j (w′ ∷ []) (λ is-j.
+        land-last ! (from ! (stop !)) (store ! 9 refl (uint-lawful 𝓤 H A W w64 .typed j _ is-j .0)) $
+        rewrite ! 9 (λ (u : Val). ‵ (fat fullShare word l₄ 0 u)) (ap only (is-j .0)) refl $
+        rewrite ! 9 (λ (i : ℕ). ‵ (fat fullShare word l₄ 0 (vint w64 i))) e′ refl $
         -- [left; true; what d owns; its token; true; ties' token; the result; true; what ties owns; _4; _5; _6; _7; _8; _1; _2; _3; room for _0; …]
         forget ! 11 refl $ forget ! 12 refl $ forget ! 13 refl $
-        keep ! (5 ∷ 2 ∷ 3 ∷ 9 ∷ 10 ∷ 11 ∷ 12 ∷ 13 ∷ 14 ∷ 15 ∷ 16 ∷ 17 ∷ 8 ∷ 18 ∷ 19 ∷ 20 ∷ 21 ∷ 22 ∷ 23 ∷ 24 ∷ 25 ∷ 26 ∷ 27 ∷ 28 ∷ []) $ by ! (k (zs .1 .1 .0) r l e)))))))))))))
+        keep ! (5 ∷ 2 ∷ 3 ∷ 9 ∷ 10 ∷ 11 ∷ 12 ∷ 13 ∷ 14 ∷ 15 ∷ 16 ∷ 17 ∷ 8 ∷ 18 ∷ 19 ∷ 20 ∷ 21 ∷ 22 ∷ 23 ∷ 24 ∷ 25 ∷ 26 ∷ 27 ∷ 28 ∷ []) $
+        by ! (k (zs .1 .1 .0) r l e)))))))))))))
       where
         room : Room i64 (length ds)
         room = subst (Room i64) (sym len) rd
@@ -257,16 +298,21 @@ module _ {M : Type 1} (𝓤 : URA M) (H : Heap 𝓤) (A : Atoms 𝓤) (W : Given
         Said r zs = _≡_ {A = State} (zs, r) (relaxAll n ts (ds, false))
 
     -- the turn that leaves the loop, and the rest of the body
-    ends : (ds : List ℤ) (c : Bool) (X : SProp 𝓤) → length ds ≡ length d₀ → _≡_ {A = State} (ds, c) Out → ent 𝓤 (⋆ 𝓤 H A (At 0 ds c)) (Wp 𝓤 H C Λ En mir.turn-1 (afterTurn 𝓤 H X Left))
+    ends : (ds : List ℤ) (c : Bool) (X : SProp 𝓤) → length ds ≡ length d₀ → _≡_ {A = State} (ds, c) Out
+        → ent 𝓤 (⋆ 𝓤 H A (At 0 ds c)) (Wp 𝓤 H C Λ En mir.turn-1 (afterTurn 𝓤 H X Left))
     unfolding afterTurn
     ends ds c X len e =
         qed W (At 0 ds c) ∵ exec ! C Λ En mir.turn-1 (anyQ (afterTurn 𝓤 H X Left)) $
         assigns ! (bin ! (lit ! tt) (load ! (from ! (stop !)) (look ! 3 refl)) tt) (from ! (stop !)) (init ! 5 refl (tt, tt)) $
-        rewrite ! 5 (λ (u : Bool). ‵ (fat fullShare tyBool l₆ 0 (vbool u))) (le-ltb 0 0 (le-refl 0)) refl $ leaves-loop ! (load ! (from ! (stop !)) (look ! 5 refl)) $ exec ! C Λ En mir.t-4 (atRet En Post) $
+        rewrite ! 5 (λ (u : Bool). ‵ (fat fullShare tyBool l₆ 0 (vbool u))) (le-ltb 0 0 (le-refl 0)) refl $
+        leaves-loop ! (load ! (from ! (stop !)) (look ! 5 refl)) $ exec ! C Λ En mir.t-4 (atRet En Post) $
         assigns ! (of-opd ! (load ! (from ! (stop !)) (look ! 4 refl))) (from ! (stop !)) (init ! 11 refl (tt, tt)) $
-        returns ! (look ! 11 refl) $ forget ! 3 refl $ forget ! 4 refl $ forget ! 5 refl $ forget ! 8 refl $ forget ! 9 refl $ forget ! 10 refl $ forget ! 11 refl $ forget ! 22 refl $
-        move ! (11 ∷ 13 ∷ []) $ free1 ! $ move ! (8 ∷ 12 ∷ []) $ free1 ! $ move ! (18 ∷ 19 ∷ []) $ free1 ! $ move ! (8 ∷ 11 ∷ []) $ free1 ! $ move ! (8 ∷ 10 ∷ []) $ free1 ! $
-        move ! (3 ∷ 9 ∷ []) $ free1 ! $ move ! (3 ∷ 8 ∷ []) $ free1 ! $ move ! (3 ∷ 7 ∷ []) $ free1 ! $ move ! (3 ∷ 6 ∷ []) $ free1 ! $ move ! (3 ∷ 5 ∷ []) $ free1 ! $ free0 ! $
+        returns ! (look ! 11 refl) $ forget ! 3 refl $ forget ! 4 refl $ forget ! 5 refl $
+        forget ! 8 refl $ forget ! 9 refl $ forget ! 10 refl $ forget ! 11 refl $ forget ! 22 refl $
+        move ! (11 ∷ 13 ∷ []) $ free1 ! $ move ! (8 ∷ 12 ∷ []) $ free1 ! $ move ! (18 ∷ 19 ∷ []) $
+        free1 ! $ move ! (8 ∷ 11 ∷ []) $ free1 ! $ move ! (8 ∷ 10 ∷ []) $ free1 ! $
+        move ! (3 ∷ 9 ∷ []) $ free1 ! $ move ! (3 ∷ 8 ∷ []) $ free1 ! $ move ! (3 ∷ 7 ∷ []) $
+        free1 ! $ move ! (3 ∷ 6 ∷ []) $ free1 ! $ move ! (3 ∷ 5 ∷ []) $ free1 ! $ free0 ! $
         keep ! (0 ∷ 2 ∷ 1 ∷ 3 ∷ []) $ by ! (exits ds c len e)
 
     -- into the invariant
@@ -286,7 +332,10 @@ module _ {M : Type 1} (𝓤 : URA M) (H : Heap 𝓤) (A : Atoms 𝓤) (W : Given
     turn-at zero ds c f = ends ds c (Below zero) (f .1 .0) (f .1 .1)
     turn-at (suc k) ds c f =
         more (suc k) ds c (Below (suc k)) (zero-lt-suc k) (f .0) (f .1 .0) (λ zs r l e.
-        below (suc k) (leftAfter r (suc k)) zs r (fewer r k) (omega (arith, fewer r k, f .0), (l ∙ f .1 .0, again n ts k ds zs c r e ∙ f .1 .1)))
+        below (suc k) (leftAfter r (suc k)) zs r (passes-fewer r k) (
+          omega (arith, passes-fewer r k, f .0),
+          (l ∙ f .1 .0, passes-again n ts k ds zs c r e ∙ f .1 .1),
+        ))
 
     turns : (t : ℕ) → ent 𝓤 (Inv t) (Wp 𝓤 H C Λ En mir.turn-1 (afterTurn 𝓤 H (Below t) Left))
     turns t = exE 𝓤 (λ (ds : List ℤ). ex 𝓤 (λ (c : Bool). guard 𝓤 (Facts t ds c) (⋆ 𝓤 H A (At t ds c)))) (λ ds.
@@ -296,27 +345,48 @@ module _ {M : Type 1} (𝓤 : URA M) (H : Heap 𝓤) (A : Atoms 𝓤) (W : Given
     loops = via 𝓤 (Inv m) (in-inv m d₀ false (m-fits, (refl, refl))) (loop-rule 𝓤 H (W .laws) 𝓣 _<_ (Nat·lt-wfRel .wf) En mir.turn-1 Left Inv turns m)
 
   -- the MIR, up to the loop
-  walk : (𝓣 : Tables 𝓤 H) → Triple 𝓤 (𝓣 .C #offsets·pass) (Pass 𝓤 H A at-mem run) → Triple 𝓤 (𝓣 .C #offsets·left-after) (LeftAfter 𝓤 H A at-mem run) → Room R (length ts) → Room i64 (length d₀)
-      → ent 𝓤 (onEntry 𝓤 H A settle.signature (κ, (κ′, tt)) (q, (q′, tt)) a at) (WpFn 𝓤 H (𝓣 .C) (𝓣 .Λ) code.function (v ∷ vint w16 n ∷ vint w64 m ∷ s (length d₀) ∷ []) Post)
+  walk : (𝓣 : Tables 𝓤 H) → Triple 𝓤 (𝓣 .C #offsets·pass) (Pass 𝓤 H A at-mem run)
+      → Triple 𝓤 (𝓣 .C #offsets·left-after) (LeftAfter 𝓤 H A at-mem run) → Room R (length ts) → Room i64 (length d₀)
+      → ent 𝓤 (onEntry 𝓤 H A settle.signature (κ, (κ′, tt)) (q, (q′, tt)) a at)
+      (WpFn 𝓤 H (𝓣 .C) (𝓣 .Λ) code.function (v ∷ vint w16 n ∷ vint w64 m ∷ s (length d₀) ∷ []) Post)
   walk 𝓣 known-pass known-left rt rd =
-      qed W ((‵ (flft κ q) ⊛ ‵ (flft κ′ q′) ⊛ ‵ ftrue) ∷ ‵ (owns (ShrSlice (named 0) κ R ∷ u16 ∷ usize ∷ MutSlice (named 1) κ′ i64 ∷ []) a at) ∷ []) ∵ enter ! (𝓣 .C) (𝓣 .Λ) code.function (v ∷ vint w16 n ∷ vint w64 m ∷ s (length d₀) ∷ []) _ $
-      alloc1 ! (λ l₀. alloc1 ! (λ l₁. alloc1 ! (λ l′. alloc1 ! (λ l₂. alloc1 ! (λ l₃. alloc1 ! (λ l₄. alloc1 ! (λ l₅. alloc1 ! (λ l₆. alloc1 ! (λ l₇. alloc1 ! (λ l₈. alloc0 ! $ params1 ! $
-      pass1 ! (init ! 16 refl (tt, (tt, (record { fits = rt .0 }, tt)))) $ pass1 ! (init ! 14 refl (tt, record { fits = n-fits })) $ pass1 ! (init ! 12 refl (tt, record { fits = m-fits })) $ pass1 ! (init ! 10 refl (tt, (tt, (record { fits = rd .0 }, tt)))) $ pass0 ! $
+      qed W ((‵ (flft κ q) ⊛ ‵ (flft κ′ q′) ⊛ ‵ ftrue) ∷ ‵ (owns (ShrSlice (named 0) κ R ∷ u16 ∷ usize ∷ MutSlice (named 1) κ′ i64 ∷ []) a at) ∷ [])
+      ∵ enter ! (𝓣 .C) (𝓣 .Λ) code.function (v ∷ vint w16 n ∷ vint w64 m ∷ s (length d₀) ∷ []) _ $
+      alloc1 !
+      (λ l₀. alloc1 !
+      (λ l₁. alloc1 !
+      (λ l′. alloc1 ! (λ l₂. alloc1 ! (λ l₃. alloc1 ! (λ l₄. alloc1 ! (λ l₅. alloc1 ! (λ l₆. alloc1 ! (λ l₇. alloc1 ! (λ l₈. alloc0 ! $ params1 ! $
+      pass1 ! (init ! 16 refl (tt, (tt, (record { fits = rt .0 }, tt)))) $ pass1 ! (init ! 14 refl (tt, record { fits = n-fits })) $
+      pass1 ! (init ! 12 refl (tt, record { fits = m-fits })) $ pass1 ! (init ! 10 refl (tt, (tt, (record { fits = rd .0 }, tt)))) $ pass0 ! $
       assigns ! (of-opd ! (load ! (from ! (stop !)) (look ! 12 refl))) (from ! (stop !)) (init ! 8 refl (tt, record { fits = m-fits })) $
       assigns ! (of-opd ! (false-lit !)) (from ! (stop !)) (init ! 6 refl (tt, tt)) $
-      move ! (21 ∷ []) $ fsplit ! $ move ! (1 ∷ []) $ fsplit ! $ drop ! $ fsplit ! $ drop ! $ fsplit ! $ move ! (23 ∷ []) $ split ! $ move ! (1 ∷ []) $ split ! $
+      move ! (21 ∷ []) $ fsplit ! $ move ! (1 ∷ []) $ fsplit ! $ drop ! $ fsplit ! $
+      drop ! $ fsplit ! $ move ! (23 ∷ []) $ split ! $ move ! (1 ∷ []) $ split ! $
       -- [d's token; true; ties' token; what d owns; true; what ties owns; _9; …; _0; …]
       keep ! (2 ∷ 3 ∷ 0 ∷ 14 ∷ 12 ∷ 10 ∷ 8 ∷ 6 ∷ 22 ∷ 18 ∷ 16 ∷ 24 ∷ 5 ∷ 25 ∷ 23 ∷ 19 ∷ 17 ∷ 15 ∷ 13 ∷ 11 ∷ 9 ∷ 7 ∷ 20 ∷ 21 ∷ []) $
       by ! (loops 𝓣 known-pass known-left rd l₀ l₁ l′ l₂ l₃ l₄ l₅ l₆ l₇ l₈)))))))))))
 
-module _ {M : Type 1} (𝓤 : URA M) (H : Heap 𝓤) (A : Atoms 𝓤) (W : Given 𝓤 H A) (mem : Memory → SProp 𝓤) (run : Routine → Fun 𝓤) (𝓣 : Tables 𝓤 H) (known-pass : Triple 𝓤 (𝓣 .C #offsets·pass) (Pass 𝓤 H A mem run)) (known-left : Triple 𝓤 (𝓣 .C #offsets·left-after) (LeftAfter 𝓤 H A mem run)) where
+module _ {M : Type 1} (𝓤 : URA M) (H : Heap 𝓤) (A : Atoms 𝓤) (W : Given 𝓤 H A) (mem : Memory → SProp 𝓤) (run : Routine → Fun 𝓤) (𝓣 : Tables 𝓤 H)
+    (known-pass : Triple 𝓤 (𝓣 .C #offsets·pass) (Pass 𝓤 H A mem run)) (known-left : Triple 𝓤 (𝓣 .C #offsets·left-after) (LeftAfter 𝓤 H A mem run)) where
   settle-walks : Walks 𝓤 H A settle.ended stayed (WpFn 𝓤 H (𝓣 .C) (𝓣 .Λ) code.function) (settle.clauses 𝓤 H A mem run)
-  settle-walks = walked 𝓤 H A settle.ended stayed (settle.clauses 𝓤 H A mem run) (WpFn 𝓤 H (𝓣 .C) (𝓣 .Λ) code.function) (λ κs. (slice-vals, (uint-vals w16, (uint-vals w64, (slice-vals, tt))))) (λ κs. (shr-slice-tells (named 0) (κs .0) R, (uint-tells w16, (uint-tells w64, (mut-slice-tells (named 1) (κs .1 .0) i64, tt)))))
+  settle-walks =
+      walked 𝓤 H A settle.ended stayed (settle.clauses 𝓤 H A mem run) (WpFn 𝓤 H (𝓣 .C) (𝓣 .Λ) code.function)
+      (λ κs. (slice-vals, (uint-vals w16, (uint-vals w64, (slice-vals, tt)))))
+      (λ κs. (shr-slice-tells (named 0) (κs .0) R, (uint-tells w16, (uint-tells w64, (mut-slice-tells (named 1) (κs .1 .0) i64, tt)))))
       (λ κs qs bounds a g are. via 𝓤 _ (fst∗ 𝓤 _ (emp 𝓤))
-      (walk 𝓤 H A W mem run (κs .0) (κs .1 .0) (qs .0) (qs .1 .0) (a .0 .ptr .0) (a .0 .ptr .1) (a .0 .name) (a .0 .now) (a .1 .0) (a .1 .1 .0) (a .1 .1 .1 .0 .ptr .0) (a .1 .1 .1 .0 .ptr .1) (a .1 .1 .1 .0 .name) (a .1 .1 .1 .0 .now) (are .1 .0 .1) (are .1 .1 .0 .1) 𝓣 known-pass known-left (are .0 .0 .1) (are .1 .1 .1 .0 .0 .1)))
+      (walk 𝓤 H A W mem run (κs .0) (κs .1 .0) (qs .0) (qs .1 .0) (a .0 .ptr .0) (a .0 .ptr .1) (a .0 .name) (a .0 .now) (a .1 .0) (a .1 .1 .0)
+      (a .1 .1 .1 .0 .ptr .0) (a .1 .1 .1 .0 .ptr .1) (a .1 .1 .1 .0 .name) (a .1 .1 .1 .0 .now)
+      (are .1 .0 .1) (are .1 .1 .0 .1) 𝓣 known-pass known-left (are .0 .0 .1) (are .1 .1 .1 .0 .0 .1)))
 
   settle-meets : Meets 𝓤 H A settle.signature (WpFn 𝓤 H (𝓣 .C) (𝓣 .Λ) code.function) (settle.spec 𝓤 H A mem run)
-  settle-meets = walk-meets 𝓤 H A settle.ended stayed W (goes-none-slice 𝓤 H A W 2 (0 ∷ []) tt (plain (λ _. R)) yes, (goes-none 𝓤 H A W 2 (λ _. u16) yes (λ κs x f. refl), (goes-none 𝓤 H A W 2 (λ _. usize) yes (λ κs x f. refl), (goes-slice 𝓤 H A W 2 1 tt (plain (λ _. i64)), tt)))) (settle.clauses 𝓤 H A mem run)
+  settle-meets =
+      walk-meets 𝓤 H A settle.ended stayed W (
+        goes-none-slice 𝓤 H A W 2 (0 ∷ []) tt (plain (λ _. R)) yes,
+        (
+          goes-none 𝓤 H A W 2 (λ _. u16) yes (λ κs x f. refl),
+          (goes-none 𝓤 H A W 2 (λ _. usize) yes (λ κs x f. refl), (goes-slice 𝓤 H A W 2 1 tt (plain (λ _. i64)), tt)),
+        ),
+      ) (settle.clauses 𝓤 H A mem run)
       (WpFn 𝓤 H (𝓣 .C) (𝓣 .Λ) code.function) (WpFn-mono 𝓤 H (W .laws) 𝓣 code.function) settle-walks
 
 pub settle-spec : {M : Type 1} → stated.statement M
@@ -326,4 +396,5 @@ settle-spec 𝓤 H 𝓜 𝓖 𝓡 =
     (tables 𝓤 H 𝓜 𝓡 code.env .C) (tables 𝓤 H 𝓜 𝓡 code.env .Λ) #offsets·settle code.function (code.unfolded 𝓤 H 𝓜 𝓡)
     (settle-meets 𝓤 H (𝓖 .A) (givenOf 𝓤 H 𝓜 𝓖) (𝓜 .mem) (𝓡 .run) (tablesOf 𝓤 H 𝓜 (tables 𝓤 H 𝓜 𝓡 code.env))
     (cited 𝓤 H (Pass 𝓤 H (𝓖 .A) (𝓜 .mem) (𝓡 .run)) 𝓜 𝓡 code.env #offsets·pass pass-def.routine code.calls-offsets·pass (pass-thm.met 𝓤 H 𝓜 𝓖 𝓡))
-    (cited 𝓤 H (LeftAfter 𝓤 H (𝓖 .A) (𝓜 .mem) (𝓡 .run)) 𝓜 𝓡 code.env #offsets·left-after left-after-def.routine code.calls-offsets·left-after (left-after-thm.met 𝓤 H 𝓜 𝓖 𝓡)))
+    (cited 𝓤 H (LeftAfter 𝓤 H (𝓖 .A) (𝓜 .mem) (𝓡 .run)) 𝓜 𝓡 code.env #offsets·left-after
+    left-after-def.routine code.calls-offsets·left-after (left-after-thm.met 𝓤 H 𝓜 𝓖 𝓡)))

@@ -1,12 +1,8 @@
 -- `size_in`: the size of what was loaded. Assumes nothing.
 use borrow.Author.Needs.{needs}
-use Rattle.offsets.proofs.Keeping.{size-in}
+use Rattle.offsets.proofs.KeepLaws.{size-in}
 use Rattle.offsets.proofs.size_in.Statement.{statement}
 use Rattle.offsets.proofs.size_in.Tie as tie
-use Rattle.offsets.proofs.size_in.Reads as reads
-use Rattle.offsets.proofs.size_in.Lts as lts
-use Rattle.register.proofs.Register.load.Reads as load-reads
-use Rattle.register.proofs.Register.size.Reads as size-reads
 
 -- src/lib.rt:54:9
 load-requires : tie.Need-load-requires

@@ -1,18 +1,14 @@
--- `tell` writes the two words of each record in turn. The loop's invariant: the words of the records before x are there, if all fit, and those past the last record's are as they were. The measure is what is left.
--- Assumes nothing.
-use mathlib.Core.Path.{_≡_, refl, sym, ap, _∙_, subst}
-use Prim.Native.Nat.{_≤_, _<_, _-_, _+_, _*_}
+-- `tell` writes the two words of each record in turn. The loop's invariant: the words of the records before x are there, if all fit, and those past the last
+-- record's are as they were. The measure is what is left. Assumes nothing.
+use mathlib.Core.Path.{_≡_, refl, _∙_}
+use Prim.Native.Nat.{_≤_, _-_, _+_, _*_}
 use native.Mathlib.Omega.{arith}
 use borrow.Author.Needs.{needs}
 use lib.ListN.{length, set, drop, length-set}
 use Rattle.offsets.specs.Finds.{Told, Fits}
-use Rattle.offsets.proofs.Told.{told-none, told-more, past-same}
+use Rattle.offsets.proofs.TellLaws.{told-none, told-more, past-same}
 use Rattle.offsets.proofs.tell.Statement.{statement}
 use Rattle.offsets.proofs.tell.Tie as tie
-use Rattle.offsets.proofs.tell.Reads as reads
-use Rattle.offsets.proofs.tell.Lts as lts
-use Rattle.offsets.proofs.least_word.Reads as least-word-reads
-use Rattle.offsets.proofs.most_word.Reads as most-word-reads
 
 abbrev Inv-loop : tie.InvT-loop
 Inv-loop n d list₀ x₀ list x = (x ≤ n) × ((length list ≡ length list₀) × ((Fits n d → Told n d x list) × (drop (n * 2) list ≡ drop (n * 2) list₀)))
@@ -74,7 +70,8 @@ loop-again c =
       (
         length-set (set (l .list) (l .x * 2) _) (l .x * 2 + 1) _ ∙ length-set (l .list) (l .x * 2) _ ∙ l .inv .1 .0,
         (
-          told-more (a .n) (a .d .now) (l .list) (l .x) (c .before .least-word .result) (c .most-word .result) t (omega arith) (c .before .least-word .ensures) (c .most-word .ensures) (l .inv .1 .1 .0),
+          told-more (a .n) (a .d .now) (l .list) (l .x) (c .before .least-word .result) (c .most-word .result)
+              t (omega arith) (c .before .least-word .ensures) (c .most-word .ensures) (l .inv .1 .1 .0),
           past-same (a .n * 2) (l .x * 2) (l .x * 2 + 1) _ _ (l .list) (a .list .now) (omega arith) (omega arith) (l .inv .1 .1 .1),
         ),
       ),

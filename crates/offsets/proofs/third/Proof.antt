@@ -1,12 +1,9 @@
 -- `offsets::third` meets its contract: two calls of `lower`.
 -- Assumes nothing.
 use borrow.Author.Needs.{needs}
-use Rattle.offsets.proofs.Laws.{both}
+use Rattle.offsets.proofs.LowerLaws.{both}
 use Rattle.offsets.proofs.third.Statement.{statement}
 use Rattle.offsets.proofs.third.Tie as tie
-use Rattle.offsets.proofs.third.Reads as reads
-use Rattle.offsets.proofs.third.Lts as lts
-use Rattle.offsets.proofs.lower.Reads as lower-reads
 
 -- src/lib.rt:49:13
 add-x : tie.Need-add-x
@@ -32,7 +29,8 @@ same-length c = search needs
 returns : tie.Need-returns
 returns c =
     let a = c .before .before .before .before .before .before in
-    both (a .args .o) (a .args .a) (a .args .b) (a .args .up) (a .args .down) (a .args .d .now, a .args .was) _ _ (a .fits .up) (a .fits .down) (c .before .before .before .before .lower .ensures) (c .before .lower2 .ensures)
+    both (a .args .o) (a .args .a) (a .args .b) (a .args .up) (a .args .down) (a .args .d .now, a .args .was) _ _
+    (a .fits .up) (a .fits .down) (c .before .before .before .before .lower .ensures) (c .before .lower2 .ensures)
 
 pub third-spec : {M : Type 1} → statement M
 third-spec = tie.close (tie.spec add-x add-y lower-requires lower-requires-2 same-length returns)

@@ -1,19 +1,20 @@
--- `gather`: the loop's invariant is that what is ahead of the start is the words found, and then what is ahead of the place reached; the measure is how many more
--- fit a line. A turn finds one more (`gathered-more`). Assumes nothing.
+-- `gather`: the loop's invariant is that what is ahead of the start is the words found, and then what is ahead of the place reached; the measure is how many
+-- more fit a line. A turn finds one more (`gathered-more`). Assumes nothing.
 use mathlib.Core.Path.{_≡_, refl, ap, _∙_}
 use mathlib.Core.List.{List, [], _++_}
-use Prim.Native.Nat.{ℕ, _+_, _-_, _≤_, _<_}
+use Prim.Native.Nat.{ℕ, _-_, _≤_, _<_}
 use native.Mathlib.Omega.{arith}
 use denote.Ref.{now}
 use lib.ListN.{length, take, getD, length-set}
 use Rattle.k2.specs.Bits.{bitAt}
 use Rattle.pages.specs.Lines.{pairWords, ahead}
-use Rattle.pages.proofs.Gathering.{ahead-gap, ahead-end, gathered-more, small-more}
+use Rattle.pages.proofs.GatherLaws.{ahead-gap, ahead-end, gathered-more, small-more}
 use Rattle.pages.proofs.gather.Statement.{statement}
 use Rattle.pages.proofs.gather.Tie as tie
 
 abbrev Inv-loop : tie.InvT-loop
-Inv-loop rows from words₀ count₀ place₀ words count place = (count ≤ 6) × (place ≤ pairWords) × (length words ≡ length words₀) × ((i : ℕ) → i < count → getD words i 0 < pairWords)
+Inv-loop rows from words₀ count₀ place₀ words count place =
+    (count ≤ 6) × (place ≤ pairWords) × (length words ≡ length words₀) × ((i : ℕ) → i < count → getD words i 0 < pairWords)
     × (ahead (bitAt rows) from (pairWords - from) ≡ take count words ++ ahead (bitAt rows) place (pairWords - place))
 
 abbrev μ-loop : tie.MeasureT-loop
@@ -39,7 +40,9 @@ returns c = let s = c .before .before .before .before .before .before in
       few = here .inv .0;
       in-range = n .ensures .high;
       small = here .inv .3;
-      found = here .inv .4 ∙ ap (λ (t : List ℕ). take (here .count) (here .words) ++ t) (ahead-gap f (here .place) (n .result) (n .ensures .low) (n .ensures .high) (n .ensures .gap));
+      found =
+          here .inv .4 ∙ ap (λ (t : List ℕ). take (here .count) (here .words) ++ t)
+          (ahead-gap f (here .place) (n .result) (n .ensures .low) (n .ensures .high) (n .ensures .gap));
       all = λ h. z;
     }
 
@@ -50,7 +53,9 @@ mul-words : tie.Need-mul-words Inv-loop μ-loop
 mul-words c = omega arith
 
 slice-write-words : tie.Need-slice-write-words Inv-loop μ-loop
-slice-write-words c = let s = c .before .before .before .before .before .before in omega (arith, s .pre .1, c .before .before .before .loop .inv .2, c .before .before .loop-test .taken)
+slice-write-words c =
+    let at-loop = c .before .before .before in
+    let s = at-loop .before .before .before in omega (arith, s .pre .1, at-loop .loop .inv .2, c .before .before .loop-test .taken)
 
 add-count : tie.Need-add-count Inv-loop μ-loop
 add-count c = omega (arith, c .before .before .loop-test .taken)
@@ -72,7 +77,8 @@ loop-again c = let s = c .before .before .before .before .before .before in
       omega arith,
       simp length-set (here .inv .2),
       small-more (here .words) (here .count) (n .result) k l (here .inv .3),
-      gathered-more f (here .words) (ahead f (s .args .from) (pairWords - s .args .from)) (here .count) (here .place) (n .result) k (n .ensures .low) l (n .ensures .gap) (n .ensures .hit l) (here .inv .4),
+      gathered-more f (here .words) (ahead f (s .args .from) (pairWords - s .args .from)) (here .count)
+          (here .place) (n .result) k (n .ensures .low) l (n .ensures .gap) (n .ensures .hit l) (here .inv .4),
     )
 
 same-length-2 : tie.Need-same-length-2 Inv-loop μ-loop

@@ -1,6 +1,6 @@
 -- `lay_out`: as many lines as the rows' pairs take, if there is room. Assumes nothing.
 use mathlib.Core.Path.{_≡_, refl, ap, sym, subst, _∙_}
-use Prim.Native.Nat.{ℕ, _-_, _*_, _≤_}
+use Prim.Native.Nat.{ℕ, _*_, _≤_}
 use native.Mathlib.Omega.{arith}
 use denote.Ref.{now}
 use lib.ListN.{length}
@@ -9,7 +9,7 @@ use Rattle.pages.specs.Pages.{pages}
 use Rattle.pages.specs.Lines.{linesOf, LaidOut, no-room, laid-out}
 use Rattle.pages.specs.LineLaws.{lines-most}
 use Rattle.pages.specs.declared.PagesAnswer.the-variants.{Bytes}
-use Rattle.pages.proofs.Laying.{rows-few, rows-length}
+use Rattle.pages.proofs.LayoutLaws.{rows-few, rows-length}
 use borrow.Author.Needs.{needs}
 use Rattle.pages.proofs.lay_out.Statement.{statement}
 use Rattle.pages.proofs.lay_out.Tie as tie
@@ -18,9 +18,11 @@ count-pairs-requires : tie.Need-count-pairs-requires
 count-pairs-requires c κs = search needs
 
 -- so many lines, and as many bytes as the pages have
-long : (c : tie.After-lines-of) → (c .lines-of .result ≡ linesOf (length (pairsIn 1024 (now (c .before .before .before .before .before .args .rows)))))
-    × (linesOf (length (pairsIn 1024 (now (c .before .before .before .before .before .args .rows)))) ≤ 177726)
-    × (length (pages (now (c .before .before .before .before .before .args .text)) (pairsIn 1024 (now (c .before .before .before .before .before .args .rows)))) ≡ 73 * c .lines-of .result)
+long : (c : tie.After-lines-of)
+    → let start = c .before .before .before .before .before in
+    (c .lines-of .result ≡ linesOf (length (pairsIn 1024 (now (start .args .rows)))))
+    × (linesOf (length (pairsIn 1024 (now (start .args .rows)))) ≤ 177726)
+    × (length (pages (now (start .args .text)) (pairsIn 1024 (now (start .args .rows)))) ≡ 73 * c .lines-of .result)
 long c =
     let s = c .before .before .before .before .before in
     let rows = now (s .args .rows) in

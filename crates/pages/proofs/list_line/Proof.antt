@@ -32,16 +32,20 @@ put-words-requires c κs = let s = c .before .before .before .before .before .be
     let q = c .before .before .before .cells-at in
     let k : length (q .last .1 .1 .0) ≡ 6 = q .kept .1 .1 .0 in
     let n : length (take (q .result) (q .last .1 .1 .0)) ≡ q .result = length-take-le (q .result) (q .last .1 .1 .0) (omega (arith, q .ensures .0)) in
-    let e : take (q .result) (q .last .1 .1 .0) ≡ wordsAt (now (s .args .pages)) (s .args .i) = q .ensures .1 ∙ sym (words-pairs (now (s .args .pages)) (s .args .i) (omega (arith, c .before .before .before .before .before .if1 .left))) in
+    let e : take (q .result) (q .last .1 .1 .0) ≡ wordsAt (now (s .args .pages)) (s .args .i) =
+    q .ensures .1 ∙ sym (words-pairs (now (s .args .pages)) (s .args .i) (omega (arith, c .before .before .before .before .before .if1 .left))) in
     (omega (arith, q .ensures .0), omega (arith, s .pre .1, ap length e))
 
 same-length : tie.Need-same-length
 same-length c = search needs
 
 returns-2 : tie.Need-returns-2
-returns-2 c = let s = c .before .before .before .before .before .before .before .before .before .before .before in
-    let q = c .before .before .before .before .before .before .cells-at in
-    let e : take (q .result) (q .last .1 .1 .0) ≡ wordsAt (now (s .args .pages)) (s .args .i) = q .ensures .1 ∙ sym (words-pairs (now (s .args .pages)) (s .args .i) (omega (arith, c .before .before .before .before .before .before .before .before .if1 .left))) in
+returns-2 c =
+    let after-cells-at = c .before .before .before .before .before .before in
+    let s = after-cells-at .before .before .before .before .before in
+    let q = after-cells-at .cells-at in
+    let e : take (q .result) (q .last .1 .1 .0) ≡ wordsAt (now (s .args .pages)) (s .args .i) =
+    q .ensures .1 ∙ sym (words-pairs (now (s .args .pages)) (s .args .i) (omega (arith, after-cells-at .before .before .if1 .left))) in
     wrote-as e (c .before .before .put-words .ensures)
 
 pub list-line-spec : {M : Type 1} → statement M

@@ -9,7 +9,7 @@ use Rattle.report.specs.WrittenLaws.{wrote-none, wrote-as, wrote-then}
 use Rattle.pages.specs.Pages.{joined}
 use Rattle.pages.specs.Lines.{wordsAt, wordsBefore}
 use Rattle.pages.specs.LineLaws.{joined-next}
-use Rattle.pages.proofs.Reading.{wrote-front, joined-fits}
+use Rattle.pages.proofs.ReadingLaws.{wrote-front, joined-fits}
 use Rattle.pages.proofs.list_lines.Statement.{statement}
 use Rattle.pages.proofs.list_lines.Tie as tie
 
@@ -26,8 +26,10 @@ loop-holds c = let s = c .before .before in (omega arith, refl, wrote-none 0 (no
 list-line-requires : tie.Need-list-line-requires Inv-loop μ-loop
 list-line-requires c κs = let s = c .before .before .before .before .before in
     let here = c .before .before .loop in
-    let h = c .before .loop-test .taken in
-    (omega (arith, s .pre .0), omega (arith, s .pre .1, here .inv .1, here .inv .2 .place, joined-fits (wordsAt (now (s .args .pages))) (here .i) (s .args .lines) h))
+    let h = c .before .loop-test .taken in (
+      omega (arith, s .pre .0),
+      omega (arith, s .pre .1, here .inv .1, here .inv .2 .place, joined-fits (wordsAt (now (s .args .pages))) (here .i) (s .args .lines) h),
+    )
 
 add-i : tie.Need-add-i Inv-loop μ-loop
 add-i c = omega (arith, c .before .before .before .before .loop-test .taken)
@@ -39,8 +41,11 @@ loop-again : tie.Need-loop-again Inv-loop μ-loop
 loop-again c = let s = c .before .before .before .before .before .before .before .before in
     let here = c .before .before .before .before .before .loop in
     let q = c .before .before .list-line in
-    let k : length (q .last .1 .1 .0) ≡ length (here .list) = q .kept .1 .1 .0 in
-    (omega (arith, c .before .before .before .before .loop-test .taken), k ∙ here .inv .1, wrote-as (sym (joined-next (wordsAt (now (s .args .pages))) (here .i))) (wrote-then (here .inv .2) (q .ensures)))
+    let k : length (q .last .1 .1 .0) ≡ length (here .list) = q .kept .1 .1 .0 in (
+      omega (arith, c .before .before .before .before .loop-test .taken),
+      k ∙ here .inv .1,
+      wrote-as (sym (joined-next (wordsAt (now (s .args .pages))) (here .i))) (wrote-then (here .inv .2) (q .ensures)),
+    )
 
 same-length : tie.Need-same-length Inv-loop μ-loop
 same-length c = c .before .loop .inv .1

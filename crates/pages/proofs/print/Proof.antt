@@ -4,7 +4,7 @@ use native.Mathlib.Omega.{arith}
 use denote.Ref.{now}
 use lib.ListN.{length}
 use lib.Seq.{take-all}
-use Rattle.pages.proofs.Answering.{prints-refused, prints-laid}
+use Rattle.pages.proofs.AnswerLaws.{prints-refused, prints-laid}
 use borrow.Author.Needs.{needs}
 use Rattle.pages.proofs.print.Statement.{statement}
 use Rattle.pages.proofs.print.Tie as tie
@@ -33,7 +33,8 @@ same-length c = search needs
 returns : tie.Need-returns
 returns c = let s = c .before .before .before .before .before .before .before .before .before .before .before .before in
     let t = c .before .before .before .before .before .before .relation in
-    prints-refused (s .args .register) (now (s .args .text)) (length (now (s .args .work))) _ (t .last .1 .1 .1 .0) (now (s .args .pages)) refl (c .before .related .given .1) (t .ensures)
+    prints-refused (s .args .register) (now (s .args .text)) (length (now (s .args .work))) _
+    (t .last .1 .1 .1 .0) (now (s .args .pages)) refl (c .before .related .given .1) (t .ensures)
 
 same-length-2 : tie.Need-same-length-2
 same-length-2 c = search needs
@@ -42,10 +43,14 @@ same-length-3 : tie.Need-same-length-3
 same-length-3 c = search needs
 
 returns-2 : tie.Need-returns-2
-returns-2 c = let s = c .before .before .before .before .before .before .before .before .before .before .before .before .before .before .before .before in
-    let t = c .before .before .before .before .before .before .before .before .before .before .relation in
+returns-2 c =
+    let after-enum-told = c .before .before .before .before .before in
+    let after-relation = after-enum-told .before .before .before .before .before in
+    let s = after-relation .before .before .before .before .before .before in
+    let t = after-relation .relation in
     let k : length (t .last .1 .1 .1 .0) ≡ 16384 = t .kept .1 .1 .1 .0 in
-    prints-laid (s .args .register) (now (s .args .text)) (length (now (s .args .work))) _ (t .last .1 .1 .1 .0) (now (s .args .pages)) refl (c .before .before .before .before .before .enum-told .given .1)
+    prints-laid (s .args .register) (now (s .args .text)) (length (now (s .args .work))) _
+    (t .last .1 .1 .1 .0) (now (s .args .pages)) refl (after-enum-told .enum-told .given .1)
     (take-all 16384 (t .last .1 .1 .1 .0) (omega arith)) (t .ensures) (c .before .before .lay-out .ensures)
 
 pub print-spec : {M : Type 1} → statement M

@@ -8,7 +8,7 @@ use lib.ListN.{length, length-set}
 use Rattle.report.specs.Written.{Wrote}
 use Rattle.report.specs.WrittenLaws.{wrote-none}
 use Rattle.pages.specs.Pages.{blanks}
-use Rattle.pages.proofs.Writing.{wrote-blank}
+use Rattle.pages.proofs.WritingLaws.{wrote-blank}
 use Rattle.pages.proofs.put_blanks.Statement.{statement}
 use Rattle.pages.proofs.put_blanks.Tie as tie
 

@@ -8,7 +8,7 @@ use lib.ListN.{length, take, length-replicate}
 use lib.Seq.{length-take-le}
 use Rattle.report.specs.Report.{space}
 use Rattle.pages.specs.LineLaws.{page-figures, length-right}
-use Rattle.pages.proofs.Writing.{wrote-head}
+use Rattle.pages.proofs.WritingLaws.{wrote-head}
 use Rattle.pages.proofs.put_head_line.Statement.{statement}
 use Rattle.pages.proofs.put_head_line.Tie as tie
 
@@ -28,8 +28,11 @@ put-text-requires c κs =
     omega (arith, n .ensures, s .pre .1)
 
 -- where the text ends, and how long the space is
-text-end : (c : tie.After-put-text) → (c .put-text .result ≡ c .before .before .before .before .before .before .args .at + c .before .before .before .shown-bytes .result)
-    × (length (c .put-text .last .1 .0) ≡ length (now (c .before .before .before .before .before .before .args .out))) × (c .before .before .before .shown-bytes .result ≤ 60)
+text-end : (c : tie.After-put-text)
+    → let after-shown-bytes = c .before .before .before in
+    let start = after-shown-bytes .before .before .before in
+    (c .put-text .result ≡ start .args .at + after-shown-bytes .shown-bytes .result)
+    × (length (c .put-text .last .1 .0) ≡ length (now (start .args .out))) × (after-shown-bytes .shown-bytes .result ≤ 60)
 text-end c =
     let s = c .before .before .before .before .before .before in
     let n = c .before .before .before .shown-bytes in
@@ -41,19 +44,25 @@ sub-put-blanks : tie.Need-sub-put-blanks
 sub-put-blanks c = omega (arith, text-end (c .before .before) .2)
 
 put-blanks-requires : tie.Need-put-blanks-requires
-put-blanks-requires c κs = let t = text-end (c .before .before .before) in omega (arith, t .0, t .1, t .2, c .before .before .before .before .before .before .before .before .before .pre .1)
+put-blanks-requires c κs =
+    let after-put-text = c .before .before .before in
+    let start = after-put-text .before .before .before .before .before .before in
+    let t = text-end after-put-text in omega (arith, t .0, t .1, t .2, start .pre .1)
 
 add-put-right : tie.Need-add-put-right
 add-put-right c = omega (arith, c .before .before .before .before .before .before .before .before .before .before .before .before .pre .0)
 
 -- the same after the blanks
-blanks-end : (c : tie.After-put-blanks) → (c .put-blanks .result ≡ c .before .before .before .before .before .before .before .before .before .before .args .at + 60)
-    × (length (c .put-blanks .last .1 .0) ≡ length (now (c .before .before .before .before .before .before .before .before .before .before .args .out)))
+blanks-end : (c : tie.After-put-blanks)
+    → let start = c .before .before .before .before .before .before .before .before .before .before in
+    (c .put-blanks .result ≡ start .args .at + 60)
+    × (length (c .put-blanks .last .1 .0) ≡ length (now (start .args .out)))
 blanks-end c =
-    let t = text-end (c .before .before .before .before) in
+    let after-put-text = c .before .before .before .before in
+    let t = text-end after-put-text in
     let p = c .put-blanks in
-    let n = c .before .before .before .before .before .before .before .shown-bytes in
-    let k : length (p .last .1 .0) ≡ length (c .before .before .before .before .put-text .last .1 .0) = p .kept .1 .0 in
+    let n = after-put-text .before .before .before .shown-bytes in
+    let k : length (p .last .1 .0) ≡ length (after-put-text .put-text .last .1 .0) = p .kept .1 .0 in
     (omega (arith, t .0, t .2, p .ensures .place, length-replicate (60 - n .result) space), k ∙ t .1)
 
 put-right-requires : tie.Need-put-right-requires
@@ -64,10 +73,12 @@ put-right-requires c κs =
 
 put-byte-requires : tie.Need-put-byte-requires
 put-byte-requires c κs =
-    let s = c .before .before .before .before .before .before .before .before .before .before .before .before .before .before .before .before .before in
-    let b = blanks-end (c .before .before .before .before .before .before .before) in
-    let p = c .before .before .before .put-right in
-    let k : length (p .last .1 .1 .0) ≡ length (c .before .before .before .before .before .before .before .put-blanks .last .1 .0) = p .kept .1 .1 .0 in
+    let after-put-right = c .before .before .before in
+    let after-put-blanks = after-put-right .before .before .before .before in
+    let s = after-put-blanks .before .before .before .before .before .before .before .before .before .before in
+    let b = blanks-end after-put-blanks in
+    let p = after-put-right .put-right in
+    let k : length (p .last .1 .1 .0) ≡ length (after-put-blanks .put-blanks .last .1 .0) = p .kept .1 .1 .0 in
     omega (arith, b .0, b .1, p .ensures .place, length-right 12 (s .args .page + 1) (page-figures (s .args .page) (s .pre .0)), s .pre .1)
 
 same-length : tie.Need-same-length
@@ -75,10 +86,14 @@ same-length c = search needs
 
 returns : tie.Need-returns
 returns c =
-    let s = c .before .before .before .before .before .before .before .before .before .before .before .before .before .before .before .before .before .before .before .before in
-    let n = c .before .before .before .before .before .before .before .before .before .before .before .before .before .before .before .before .before .shown-bytes in
-    wrote-head (now (s .args .text)) (n .result) (s .args .page) (n .ensures) (c .before .before .before .before .before .before .before .before .before .before .before .before .before .before .put-text .ensures) (c .before .before .before .before .before .before .before .before .before .before .put-blanks .ensures)
-    (c .before .before .before .before .before .before .put-right .ensures) (c .before .before .put-byte .ensures)
+    let after-put-right = c .before .before .before .before .before .before in
+    let after-put-blanks = after-put-right .before .before .before .before in
+    let after-put-text = after-put-blanks .before .before .before .before in
+    let after-shown-bytes = after-put-text .before .before .before in
+    let s = after-shown-bytes .before .before .before in
+    let n = after-shown-bytes .shown-bytes in
+    wrote-head (now (s .args .text)) (n .result) (s .args .page) (n .ensures) (after-put-text .put-text .ensures) (after-put-blanks .put-blanks .ensures)
+    (after-put-right .put-right .ensures) (c .before .before .put-byte .ensures)
 
 pub put-head-line-spec : {M : Type 1} → statement M
 put-head-line-spec =

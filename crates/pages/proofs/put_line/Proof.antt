@@ -1,11 +1,10 @@
 -- `put_line`: a head, or the next six pairs (`laid-head`, `laid-pairs`). Assumes nothing.
 use mathlib.Core.Path.{_≡_, refl, sym}
-use Prim.Native.Nat.{_-_}
 use native.Mathlib.Omega.{arith}
 use denote.Ref.{now}
 use lib.ListN.{length}
 use Rattle.k2.specs.Bits.{bitAt}
-use Rattle.pages.proofs.Laying.{laid-head, laid-pairs}
+use Rattle.pages.proofs.LayoutLaws.{laid-head, laid-pairs}
 use borrow.Author.Needs.{needs}
 use Rattle.pages.proofs.put_line.Statement.{statement}
 use Rattle.pages.proofs.put_line.Tie as tie
@@ -21,7 +20,8 @@ same-length c = search needs
 
 returns : tie.Need-returns
 returns c = let s = c .before .before .before .before .before .before .before .before in
-    laid-head (bitAt (now (s .args .rows))) (now (s .args .text)) (s .args .i) (s .args .place) (omega (arith, c .before .before .before .before .if1 .taken)) (omega (arith, s .pre .0)) (s .pre .1) (c .before .before .put-head-line .ensures)
+    laid-head (bitAt (now (s .args .rows))) (now (s .args .text)) (s .args .i) (s .args .place)
+    (omega (arith, c .before .before .before .before .if1 .taken)) (omega (arith, s .pre .0)) (s .pre .1) (c .before .before .put-head-line .ensures)
 
 slice-aggregate-gather : tie.Need-slice-aggregate-gather
 slice-aggregate-gather c = refl
@@ -45,10 +45,13 @@ same-length-2 : tie.Need-same-length-2
 same-length-2 c = search needs
 
 returns-2 : tie.Need-returns-2
-returns-2 c = let s = c .before .before .before .before .before .before .before .before .before .before .before .before in
-    let g = c .before .before .before .before .before .before .gather in
+returns-2 c =
+    let after-gather = c .before .before .before .before .before .before in
+    let s = after-gather .before .before .before .before .before .before in
+    let g = after-gather .gather in
     let k : length (g .last .1 .1 .0) ≡ 6 = g .kept .1 .1 .0 in
-    laid-pairs (bitAt (now (s .args .rows))) (now (s .args .text)) (s .args .i) (s .args .place) (omega (arith, c .before .before .before .before .before .before .before .before .if1 .left)) k (g .ensures) (c .before .before .put-pair-line .ensures)
+    laid-pairs (bitAt (now (s .args .rows))) (now (s .args .text)) (s .args .i) (s .args .place)
+    (omega (arith, after-gather .before .before .if1 .left)) k (g .ensures) (c .before .before .put-pair-line .ensures)
 
 pub put-line-spec : {M : Type 1} → statement M
 put-line-spec =

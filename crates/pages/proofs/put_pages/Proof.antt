@@ -1,5 +1,5 @@
--- `put_pages`: the loop's invariant is that the lines before line i are laid, and the pairs of the others are ahead of `place`; the measure is how many lines are
--- left. In the end the lines are the pages (`pages-lines`). Assumes nothing.
+-- `put_pages`: the loop's invariant is that the lines before line i are laid, and the pairs of the others are ahead of `place`; the measure is how many lines
+-- are left. In the end the lines are the pages (`pages-lines`). Assumes nothing.
 use mathlib.Core.Path.{_≡_, refl, ap, sym, subst, _∙_}
 use Prim.Native.Nat.{ℕ, _+_, _-_, _*_, _≤_}
 use native.Mathlib.Omega.{arith}
@@ -12,8 +12,8 @@ use Rattle.report.specs.WrittenLaws.{wrote-none, wrote-as, wrote-then}
 use Rattle.pages.specs.Pages.{joined, pages}
 use Rattle.pages.specs.Lines.{pairWords, pairsBefore, linesOf, lineOf, ahead}
 use Rattle.pages.specs.LineLaws.{joined-next, pages-lines, lines-most}
-use Rattle.pages.proofs.Laying.{rows-ahead, rows-few}
-use Rattle.pages.proofs.Reading.{wrote-front}
+use Rattle.pages.proofs.LayoutLaws.{rows-ahead, rows-few}
+use Rattle.pages.proofs.ReadingLaws.{wrote-front}
 use Rattle.pages.proofs.put_pages.Statement.{statement}
 use Rattle.pages.proofs.put_pages.Tie as tie
 

@@ -1,4 +1,5 @@
--- `put_words`: the loop's invariant is that the first i words are written; the measure is how many are left. A turn is one word more (`wrote-more`). Assumes nothing.
+-- `put_words`: the loop's invariant is that the first i words are written; the measure is how many are left. A turn is one word
+-- more (`wrote-more`). Assumes nothing.
 use mathlib.Core.Path.{_≡_, refl, subst}
 use Prim.Native.Nat.{ℕ, _+_, _-_, _≤_}
 use native.Mathlib.Nat.{add-zero}
@@ -43,8 +44,12 @@ loop-less c = omega (arith, c .before .loop-test .taken)
 loop-again : tie.Need-loop-again Inv-loop μ-loop
 loop-again c = let s = c .before .before .before in
     let here = c .before .before .loop in
-    let h = c .before .loop-test .taken in
-    (omega arith, simp length-set (here .inv .1), wrote-more (s .args .at) (here .i) (now (s .args .words)) (now (s .args .list)) (here .list) (here .inv .2) (omega (arith, s .pre .0)) (omega (arith, s .pre .1, here .inv .1)))
+    let h = c .before .loop-test .taken in (
+      omega arith,
+      simp length-set (here .inv .1),
+      wrote-more (s .args .at) (here .i) (now (s .args .words)) (now (s .args .list)) (here .list)
+          (here .inv .2) (omega (arith, s .pre .0)) (omega (arith, s .pre .1, here .inv .1)),
+    )
 
 add-result : tie.Need-add-result Inv-loop μ-loop
 add-result c = let s = c .before .before in omega (arith, s .pre .1, c .before .loop .inv .0)

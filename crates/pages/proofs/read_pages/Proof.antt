@@ -1,7 +1,7 @@
 -- `read_pages`: the text's number, or the pages read. Assumes nothing.
 use mathlib.Core.Path.{sym, _∙_}
 use denote.Ref.{now}
-use Rattle.pages.proofs.Answering.{reads-refused, reads-accepted}
+use Rattle.pages.proofs.AnswerLaws.{reads-refused, reads-accepted}
 use borrow.Author.Needs.{needs}
 use Rattle.pages.proofs.read_pages.Statement.{statement}
 use Rattle.pages.proofs.read_pages.Tie as tie
@@ -30,9 +30,12 @@ same-length : tie.Need-same-length
 same-length c = search needs
 
 returns-2 : tie.Need-returns-2
-returns-2 c = let s = c .before .before .before .before .before .before .before .before .before .before in
-    let t = c .before .before .before .before .before .before .read in
-    reads-accepted (now (s .args .text)) (now (s .args .pages)) (now (s .args .list)) (sym (t .ensures .answered) ∙ c .before .before .before .before .enum-told .given .1) (c .before .before .read-accepted .ensures)
+returns-2 c =
+    let after-enum-told = c .before .before .before .before in
+    let s = after-enum-told .before .before .before .before .before .before in
+    let t = after-enum-told .before .before .read in
+    reads-accepted (now (s .args .text)) (now (s .args .pages)) (now (s .args .list))
+    (sym (t .ensures .answered) ∙ after-enum-told .enum-told .given .1) (c .before .before .read-accepted .ensures)
 
 pub read-pages-spec : {M : Type 1} → statement M
 read-pages-spec =

@@ -7,7 +7,7 @@ use denote.Ref.{now}
 use lib.ListN.{take, drop, length-drop}
 use lib.Seq.{getD-drop}
 use Rattle.pages.specs.Lines.{valueFrom, value}
-use Rattle.pages.proofs.Reading.{value-more, record-small}
+use Rattle.pages.proofs.ReadingLaws.{value-more, record-small}
 use Rattle.pages.proofs.record_at.Statement.{statement}
 use Rattle.pages.proofs.record_at.Tie as tie
 
@@ -22,7 +22,10 @@ unfolding valueFrom
 loop-holds c = (omega arith, refl)
 
 mul-v : tie.Need-mul-v Inv-loop μ-loop
-mul-v c = let s = c .before .before in let here = c .before .loop in omega (arith, here .inv .1, record-small (now (s .args .pages)) (here .i) (s .args .at) (here .inv .0))
+mul-v c =
+    let s = c .before .before in
+    let here = c .before .loop in
+    omega (arith, here .inv .1, record-small (now (s .args .pages)) (here .i) (s .args .at) (here .inv .0))
 
 add-v : tie.Need-add-v Inv-loop μ-loop
 add-v c = let s = c .before .before in omega (arith, s .pre)
@@ -34,7 +37,10 @@ cast-v : tie.Need-cast-v Inv-loop μ-loop
 cast-v c = omega arith
 
 add-v-2 : tie.Need-add-v-2 Inv-loop μ-loop
-add-v-2 c = let s = c .before .before .before in let here = c .before .before .loop in omega (arith, here .inv .1, record-small (now (s .args .pages)) (here .i) (s .args .at) (here .inv .0))
+add-v-2 c =
+    let s = c .before .before .before in
+    let here = c .before .before .loop in
+    omega (arith, here .inv .1, record-small (now (s .args .pages)) (here .i) (s .args .at) (here .inv .0))
 
 add-i : tie.Need-add-i Inv-loop μ-loop
 add-i c = omega (arith, c .before .loop-test .taken)

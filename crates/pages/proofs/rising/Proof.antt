@@ -1,5 +1,5 @@
--- `rising`: the loop's invariant is that the first i words ascend, and `next` is the number after them; the measure is how many are left. A turn is one word more
--- (`rising-more`); a word that does not ascend is one that no ascending list has (`rising-not`). Assumes nothing.
+-- `rising`: the loop's invariant is that the first i words ascend, and `next` is the number after them; the measure is how many are left. A turn is one word
+-- more (`rising-more`); a word that does not ascend is one that no ascending list has (`rising-not`). Assumes nothing.
 use mathlib.Core.Path.{_≡_, refl, ap, sym, subst, _∙_}
 use Prim.Native.Nat.{ℕ, _-_, _≤_}
 use native.Mathlib.Omega.{arith}
@@ -7,7 +7,7 @@ use denote.Ref.{now}
 use lib.ListN.{take}
 use Rattle.k2.specs.PairSetLaws.{Within, ends}
 use Rattle.pages.specs.Lines.{pairWords, after, Rising, up, down}
-use Rattle.pages.proofs.Reading.{rising-more, rising-not}
+use Rattle.pages.proofs.ReadingLaws.{rising-more, rising-not}
 use Rattle.pages.proofs.rising.Statement.{statement}
 use Rattle.pages.proofs.rising.Tie as tie
 
@@ -33,7 +33,8 @@ add-result c = omega arith
 returns : tie.Need-returns Inv-loop μ-loop
 returns c = let s = c .before .before .before .before in
     let here = c .before .before .before .loop in
-    down (λ W. let r = rising-not (now (s .args .words)) (s .args .low) (here .i) (s .args .count) (c .before .before .loop-test .taken) (s .pre .0) W in omega (arith, r .0, here .inv .1, c .if1 .taken))
+    down (λ W. let r = rising-not (now (s .args .words)) (s .args .low) (here .i) (s .args .count) (c .before .before .loop-test .taken) (s .pre .0) W in
+    omega (arith, r .0, here .inv .1, c .if1 .taken))
 
 add-result-2 : tie.Need-add-result-2 Inv-loop μ-loop
 add-result-2 c = omega arith
@@ -41,7 +42,9 @@ add-result-2 c = omega arith
 returns-2 : tie.Need-returns-2 Inv-loop μ-loop
 returns-2 c = let s = c .before .before .before .before .before in
     let here = c .before .before .before .before .loop in
-    down (λ W. let r = rising-not (now (s .args .words)) (s .args .low) (here .i) (s .args .count) (c .before .before .before .loop-test .taken) (s .pre .0) W in omega (arith, r .1, c .if2 .taken))
+    down (λ W. let r =
+    rising-not (now (s .args .words)) (s .args .low) (here .i) (s .args .count) (c .before .before .before .loop-test .taken) (s .pre .0) W in
+    omega (arith, r .1, c .if2 .taken))
 
 add-next : tie.Need-add-next Inv-loop μ-loop
 add-next c = omega (arith, c .if2 .left)
@@ -53,10 +56,13 @@ loop-less : tie.Need-loop-less Inv-loop μ-loop
 loop-less c = omega (arith, c .before .before .before .loop-test .taken)
 
 loop-again : tie.Need-loop-again Inv-loop μ-loop
-loop-again c = let s = c .before .before .before .before .before in
-    let here = c .before .before .before .before .loop in
-    let r = rising-more (now (s .args .words)) (s .args .low) (here .i) (omega (arith, s .pre .0, c .before .before .before .loop-test .taken)) (here .inv .2) (omega (arith, here .inv .1, c .before .if1 .left)) (c .if2 .left) in
-    (omega (arith, c .before .before .before .loop-test .taken), sym (r .0), r .1)
+loop-again c =
+    let in-loop = c .before .before .before in
+    let s = in-loop .before .before in
+    let here = in-loop .before .loop in
+    let r = rising-more (now (s .args .words)) (s .args .low) (here .i) (omega (arith, s .pre .0, in-loop .loop-test .taken))
+    (here .inv .2) (omega (arith, here .inv .1, c .before .if1 .left)) (c .if2 .left) in
+    (omega (arith, in-loop .loop-test .taken), sym (r .0), r .1)
 
 returns-3 : tie.Need-returns-3 Inv-loop μ-loop
 returns-3 c = let s = c .before .before in

@@ -1,7 +1,7 @@
 -- `same_line`: the loop's invariant is that the first i bytes are the same; the measure is how many are left. Assumes nothing.
 use mathlib.Core.Path.{_≡_, refl, ap, ap₂, sym, subst, _∙_}
 use mathlib.Core.List.{List, [], _∷_, _++_}
-use Prim.Native.Nat.{ℕ, _+_, _-_, _≤_}
+use Prim.Native.Nat.{ℕ, _-_, _≤_}
 use native.Mathlib.Numerals.{add-one}
 use native.Mathlib.Omega.{arith}
 use denote.Ref.{now}
@@ -34,7 +34,8 @@ returns c = let s = c .before .before .before .before .before in
     let l = now (s .args .pages) in (
       λ e. absurd (let z : _≡_ {A = ℕ} 0 1 = cc in omega arith),
       λ e. absurd (c .if1 .taken
-          (sym (getD-take 73 (drop (s .args .at) l) (here .i) 0 (omega (arith, c .before .before .before .loop-test .taken)) ∙ getD-drop (s .args .at) l (here .i) 0) ∙ ap (λ (t : List ℕ). getD t (here .i) 0) e)),
+          (sym (getD-take 73 (drop (s .args .at) l) (here .i) 0 (omega (arith, c .before .before .before .loop-test .taken))
+          ∙ getD-drop (s .args .at) l (here .i) 0) ∙ ap (λ (t : List ℕ). getD t (here .i) 0) e)),
     )
 
 add-i : tie.Need-add-i Inv-loop μ-loop
@@ -50,7 +51,8 @@ loop-again c = let s = c .before .before .before .before .before in
     let m = now (s .args .line) in
     let h = c .before .before .before .loop-test .taken in (
       omega arith,
-      ap (λ (n : ℕ). take n (drop (s .args .at) l)) (add-one (here .i)) ∙ take-suc (drop (s .args .at) l) (here .i) 0 (omega (arith, length-drop (s .args .at) l, s .pre .1))
+      ap (λ (n : ℕ). take n (drop (s .args .at) l)) (add-one (here .i))
+          ∙ take-suc (drop (s .args .at) l) (here .i) 0 (omega (arith, length-drop (s .args .at) l, s .pre .1))
           ∙ ap₂ (λ (t : List ℕ) (v : ℕ). t ++ (v ∷ [])) (here .inv .1) (getD-drop (s .args .at) l (here .i) 0 ∙ c .if1 .left)
           ∙ sym (ap (λ (n : ℕ). take n m) (add-one (here .i)) ∙ take-suc m (here .i) 0 (omega (arith, s .pre .0))),
     )
@@ -59,7 +61,8 @@ returns-2 : tie.Need-returns-2 Inv-loop μ-loop
 returns-2 c = let s = c .before .before in
     let here = c .before .loop in
     let e : here .i ≡ 73 = omega (arith, here .inv .0, c .loop-test .left) in (
-      λ z. subst (λ (n : ℕ). take n (drop (s .args .at) (now (s .args .pages))) ≡ take n (now (s .args .line))) e (here .inv .1) ∙ take-all 73 (now (s .args .line)) (omega (arith, s .pre .0)),
+      λ z. subst (λ (n : ℕ). take n (drop (s .args .at) (now (s .args .pages))) ≡ take n (now (s .args .line))) e (here .inv .1)
+          ∙ take-all 73 (now (s .args .line)) (omega (arith, s .pre .0)),
       λ z. refl,
     )
 

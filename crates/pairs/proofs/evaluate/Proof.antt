@@ -6,13 +6,9 @@ use mathlib.Core.Path.{_≡_, refl, sym, _∙_, subst}
 use Prim.Native.Nat.{ℕ, _+_, _-_, _≤_}
 use lib.ListN.{length}
 use Rattle.pairs.specs.Steps.{Going}
-use Rattle.pairs.proofs.Running.{coded-some, going-begins, going-ready, going-more}
+use Rattle.pairs.proofs.RunLaws.{coded-some, going-begins, going-ready, going-more}
 use Rattle.pairs.proofs.evaluate.Statement.{statement}
 use Rattle.pairs.proofs.evaluate.Tie as tie
-use Rattle.pairs.proofs.evaluate.Reads as reads
-use Rattle.pairs.proofs.evaluate.Lts as lts
-use Rattle.pairs.proofs.step.Reads as step-reads
-use Rattle.tree.proofs.no_operand.Reads as no-operand-reads
 
 abbrev Inv-loop : tie.InvT-loop
 Inv-loop work₀ n links used rows₀ code stack₀ i₀ work rows stack i =
@@ -28,8 +24,9 @@ no-operand-requires c κs = search needs
 -- src/lib.rt:246:5
 loop-holds : tie.Need-loop-holds Inv-loop μ-loop
 loop-holds c =
-    let P = c .before .before .before .before .before .before .pre in
-    let a = c .before .before .before .before .before .before .args in
+    let start = c .before .before .before .before .before .before in
+    let P = start .pre in
+    let a = start .args in
     (coded-some (a .n) (a .links .now) (a .used .now) _ (P .4 .2), refl, refl, going-begins _ _ _ _ (P .4 .2) _ _ refl)
 
 -- src/lib.rt:246:11
@@ -63,9 +60,16 @@ loop-less c = omega arith
 -- src/lib.rt:246:5
 loop-again : tie.Need-loop-again Inv-loop μ-loop
 loop-again c =
-    let l = c .before .before .before .before .before .before .before .before .before .before .loop in
-    let s = c .before .before .before .before .step in
-    (omega arith, s .kept .0 ∙ l .inv .1, s .kept .1 .1 .1 .1 .0 ∙ l .inv .2, going-more _ _ _ _ (l .i) (omega arith) (l .inv .3) (sym (c .before .before .before .before .before .before .before .item-of .ensures)) (s .ensures))
+    let after-step = c .before .before .before .before in
+    let after-item-of = after-step .before .before .before in
+    let at-loop = after-item-of .before .before .before in
+    let l = at-loop .loop in
+    let s = after-step .step in (
+      omega arith,
+      s .kept .0 ∙ l .inv .1,
+      s .kept .1 .1 .1 .1 .0 ∙ l .inv .2,
+      going-more _ _ _ _ (l .i) (omega arith) (l .inv .3) (sym (after-item-of .item-of .ensures)) (s .ensures),
+    )
 
 -- src/lib.rt:228:1
 same-length : tie.Need-same-length Inv-loop μ-loop
@@ -80,7 +84,8 @@ returns : tie.Need-returns Inv-loop μ-loop
 returns c =
     let l = c .before .loop in
     let a = c .before .before .before .before .before .before .before .before .args in
-    subst (λ (j : ℕ). Going (a .n) (a .links .now) (a .used .now) (a .code .now) (l .work) (l .stack) j) (let e : l .i ≡ length (a .code .now) - 1 = omega arith in e) (l .inv .3)
+    subst (λ (j : ℕ). Going (a .n) (a .links .now) (a .used .now) (a .code .now) (l .work) (l .stack) j)
+    (let e : l .i ≡ length (a .code .now) - 1 = omega arith in e) (l .inv .3)
 
 pub evaluate-spec : {M : Type 1} → statement M
 evaluate-spec =

@@ -22,12 +22,14 @@ same-length c = search needs
 
 returns : tie.Need-returns
 returns c =
-    let a = c .before .before .before .before .before .before .before .args in
+    let after-write-pairs = c .before .before in
+    let after-count-pairs = after-write-pairs .before .before in
+    let a = after-count-pairs .before .before .before .args in
     let list : List ℕ = a .list .now in
     let xs : List ℕ = pairsIn (a .n) (a .rows .now) in
-    let k : c .before .before .before .before .count-pairs .result ≡ length xs = c .before .before .before .before .count-pairs .ensures in
-    subst (λ (t : ℕ). Handed xs list (c .before .before .write-pairs .last .1 .1 .0) (Pairs t)) (sym k)
-    (handed (c .before .before .write-pairs .ensures ∙ first-over xs list))
+    let k : after-count-pairs .count-pairs .result ≡ length xs = after-count-pairs .count-pairs .ensures in
+    subst (λ (t : ℕ). Handed xs list (after-write-pairs .write-pairs .last .1 .1 .0) (Pairs t)) (sym k)
+    (handed (after-write-pairs .write-pairs .ensures ∙ first-over xs list))
 
 pub hand-over-spec : {M : Type 1} → statement M
 hand-over-spec = tie.close (tie.spec count-pairs-requires write-pairs-requires same-length returns)

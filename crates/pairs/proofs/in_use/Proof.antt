@@ -11,7 +11,7 @@ use Rattle.k2.specs.Bits.{bitAt}
 use Rattle.bits.specs.BitSets.{put}
 use Rattle.bits.specs.BitSetLaws.{bits-none}
 use Rattle.pairs.specs.Evaluation.{usedBelow}
-use Rattle.pairs.proofs.Running.{used-none, used-more, used-same, used-asked}
+use Rattle.pairs.proofs.RunLaws.{used-none, used-more, used-same, used-asked}
 use Rattle.pairs.proofs.in_use.Statement.{statement}
 use Rattle.pairs.proofs.in_use.Tie as tie
 

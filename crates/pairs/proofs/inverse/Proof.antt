@@ -6,9 +6,6 @@ use Rattle.tree.specs.declared.operations.Operand.{Operand}
 use borrow.Author.Needs.{needs}
 use Rattle.pairs.proofs.inverse.Statement.{statement}
 use Rattle.pairs.proofs.inverse.Tie as tie
-use Rattle.pairs.proofs.inverse.Reads as reads
-use Rattle.pairs.proofs.inverse.Lts as lts
-use Rattle.tree.proofs.inverted.Reads as inverted-reads
 
 -- src/lib.rt:165:15
 sub-top : tie.Need-sub-top
@@ -36,7 +33,12 @@ element-set-from-operand c = search needs
 
 -- src/lib.rt:160:1
 returns : tie.Need-returns
-returns c = ap (λ (o : Operand). record { operands = set (c .before .before .args .stack .operands) (c .before .before .args .stack .count - 1) o; count = c .before .before .args .stack .count; end = c .before .before .args .stack .end }) (c .inverted .ensures)
+returns c =
+    ap (λ (o : Operand). record {
+      operands = set (c .before .before .args .stack .operands) (c .before .before .args .stack .count - 1) o;
+      count = c .before .before .args .stack .count;
+      end = c .before .before .args .stack .end;
+    }) (c .inverted .ensures)
 
 pub inverse-spec : {M : Type 1} → statement M
 inverse-spec =

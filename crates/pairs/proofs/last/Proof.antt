@@ -4,13 +4,15 @@ use native.Mathlib.Omega.{arith}
 use borrow.Author.Needs.{needs}
 use Rattle.k2.specs.Trees.{treeUnit}
 use Rattle.pairs.specs.Steps.{Takes}
-use Rattle.pairs.proofs.Stepping.{starts-early, takes-early}
-use Rattle.pairs.proofs.Running.{ends-term}
+use Rattle.pairs.proofs.StepLaws.{starts-early, takes-early}
+use Rattle.pairs.proofs.RunLaws.{ends-term}
 use Rattle.pairs.proofs.last.Statement.{statement}
 use Rattle.pairs.proofs.last.Tie as tie
 
 -- the operands taken off
-takes : (c : tie.After-take-off) → Takes (treeUnit (c .before .before .before .before .before .args .n)) (c .before .before .before .before .before .args .item) (c .before .before .before .before .before .args .stack) (c .take-off .result)
+takes : (c : tie.After-take-off)
+    → let start = c .before .before .before .before .before in
+    Takes (treeUnit (start .args .n)) (start .args .item) (start .args .stack) (c .take-off .result)
 takes c = c .take-off .ensures _ (c .before .before .before .before .before .pre .5)
 
 early : (c : tie.After-take-off) → c .take-off .result .below ≤ 18
@@ -42,11 +44,14 @@ same-length c = search needs
 
 returns : tie.Need-returns
 returns c =
-    let a = c .before .before .before .before .before .before .before .before .before .before .before .args in
-    let P = c .before .before .before .before .before .before .before .before .before .before .before .pre in
+    let after-take-off = c .before .before .before .before .before .before in
+    let start = after-take-off .before .before .before .before .before in
+    let a = start .args in
+    let P = start .pre in
     let I = c .before .before .outcome-rows in
-    ends-term (a .n) (a .item) (a .links .now) (a .used .now) (a .work .now) (a .rows .now) (I .last .1 .1 .1 .1 .1 .0) (I .result) (a .stack) (P .0) (P .1) (P .2) (P .3)
-    (c .before .before .before .before .before .before .take-off .result) (takes (c .before .before .before .before .before .before)) (early (c .before .before .before .before .before .before)) (I .ensures)
+    ends-term (a .n) (a .item) (a .links .now) (a .used .now) (a .work .now) (a .rows .now)
+    (I .last .1 .1 .1 .1 .1 .0) (I .result) (a .stack) (P .0) (P .1) (P .2) (P .3)
+    (after-take-off .take-off .result) (takes after-take-off) (early after-take-off) (I .ensures)
 
 pub last-spec : {M : Type 1} → statement M
 last-spec =

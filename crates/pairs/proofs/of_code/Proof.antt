@@ -4,17 +4,10 @@ use mathlib.Core.Path.{_≡_, sym, _∙_}
 use Prim.Native.Nat.{_≤_}
 use lib.ListN.{length, take}
 use lib.Seq.{length-take-le}
-use Rattle.pairs.proofs.Answering.{little-work, few-rows, made-rows}
+use Rattle.pairs.proofs.AnswerLaws.{little-work, few-rows, made-rows}
 use borrow.Author.Needs.{needs}
 use Rattle.pairs.proofs.of_code.Statement.{statement}
 use Rattle.pairs.proofs.of_code.Tie as tie
-use Rattle.pairs.proofs.of_code.Reads as reads
-use Rattle.pairs.proofs.of_code.Lts as lts
-use Rattle.packing.proofs.tree_unit.Reads as tree-unit-reads
-use Rattle.pairs.proofs.in_use.Reads as in-use-reads
-use Rattle.pairs.proofs.run.Reads as run-reads
-use Rattle.register.proofs.Register.links.Reads as links-reads
-use Rattle.register.proofs.Register.size.Reads as size-reads
 
 in-words : (c : tie.After-links) → c .links .result .count ≤ length (c .links .result .words)
 in-words c = let o = c .links .ensures in omega (arith, o .few, o .long)
@@ -33,11 +26,17 @@ mul-if1 c = search needs
 
 -- src/lib.rt:327:9
 returns : tie.Need-returns
-returns c = λ s e q. little-work (c .before .before .before .before .before .args .register) e (c .before .before .size .result) (c .before .tree-unit .result) _ _ (c .before .before .size .ensures .size) (c .before .tree-unit .ensures .0) (c .if1 .taken)
+returns c =
+    λ s e q. little-work (c .before .before .before .before .before .args .register) e (c .before .before .size .result)
+    (c .before .tree-unit .result) _ _ (c .before .before .size .ensures .size) (c .before .tree-unit .ensures .0) (c .if1 .taken)
 
 -- src/lib.rt:330:9
 returns-2 : tie.Need-returns-2
-returns-2 c = λ s e q. few-rows (c .before .before .before .before .before .before .args .register) e (c .before .before .before .size .result) (c .before .before .tree-unit .result) _ _ (c .before .before .before .size .ensures .size) (c .before .before .tree-unit .ensures .0) (omega arith) (c .if2 .taken)
+returns-2 c =
+    let after-tree-unit = c .before .before in
+    let start = after-tree-unit .before .before .before .before in
+    λ s e q. few-rows (start .args .register) e (after-tree-unit .before .size .result) (after-tree-unit .tree-unit .result)
+    _ _ (after-tree-unit .before .size .ensures .size) (after-tree-unit .tree-unit .ensures .0) (omega arith) (c .if2 .taken)
 
 -- src/lib.rt:332:9
 links-requires : tie.Need-links-requires
@@ -65,7 +64,9 @@ slice-relend-prefix-run c = search needs
 
 -- src/lib.rt:336:42
 slice-aggregate-run-3 : tie.Need-slice-aggregate-run-3
-slice-aggregate-run-3 c = sym (length-take-le 16384 (c .before .before .before .before .before .before .before .before .before .before .before .before .before .args .rows .now) (omega arith))
+slice-aggregate-run-3 c =
+    let start = c .before .before .before .before .before .before .before .before .before .before .before .before .before in
+    sym (length-take-le 16384 (start .args .rows .now) (omega arith))
 
 -- src/lib.rt:336:62
 array-share-prefix-code : tie.Need-array-share-prefix-code
@@ -73,14 +74,24 @@ array-share-prefix-code c = search needs
 
 -- src/lib.rt:336:62
 slice-aggregate-run-4 : tie.Need-slice-aggregate-run-4
-slice-aggregate-run-4 c = sym (length-take-le _ _ (c .before .before .before .before .before .before .before .before .before .before .before .before .before .before .pre .0))
+slice-aggregate-run-4 c =
+    let start = c .before .before .before .before .before .before .before .before .before .before .before .before .before .before in
+    sym (length-take-le _ _ (start .pre .0))
 
 -- src/lib.rt:336:5
 run-requires : tie.Need-run-requires
 run-requires c κs =
-    let P = c .before .before .before .before .before .before .before .before .before .before .before .before .before .before .pre in
-    let k : length (c .before .before .before .before .before .in-use .result) ≡ 16 = search needs in
-    (c .before .before .before .before .before .before .before .before .before .before .before .size .ensures .small, omega (arith, c .before .before .before .before .before .before .before .before .before .if1 .left, c .before .before .before .before .before .before .before .before .before .before .tree-unit .ensures .0), k, length-take-le 16384 (c .before .before .before .before .before .before .before .before .before .before .before .before .before .before .args .rows .now) (omega arith), P .1)
+    let after-in-use = c .before .before .before .before .before in
+    let else1 = after-in-use .before .before .before .before in
+    let start = else1 .before .before .before .before .before in
+    let P = start .pre in
+    let k : length (after-in-use .in-use .result) ≡ 16 = search needs in (
+      else1 .before .before .size .ensures .small,
+      omega (arith, else1 .if1 .left, else1 .before .tree-unit .ensures .0),
+      k,
+      length-take-le 16384 (start .args .rows .now) (omega arith),
+      P .1,
+    )
 
 -- src/lib.rt:315:1
 same-length : tie.Need-same-length
@@ -93,14 +104,17 @@ same-length-2 c = search needs
 -- src/lib.rt:315:1
 returns-3 : tie.Need-returns-3
 returns-3 c =
-    let a = c .before .before .before .before .before .before .before .before .before .before .before .before .before .before .before .before .before .before .before .args in
+    let a = (let earlier = c .before .before .before .before .before .before .before .before .before in
+    earlier .before .before .before .before .before .before .before .before .before .before) .args in
     let n = c .before .before .before .before .before .before .before .before .before .before .before .before .before .before .before .before .size in
     let u = c .before .before .before .before .before .before .before .before .before .before .before .before .before .before .before .tree-unit in
     let l = c .before .before .before .before .before .before .before .before .before .before .before .before .links in
     let m = c .before .before .before .before .run in
     let k : length (m .last .1 .1 .1 .1 .0) ≡ length (take 16384 (a .rows .now)) = m .kept .1 .1 .1 .1 .0 in
-    λ s e q. made-rows (a .register) e (n .result) (u .result) _ (a .rows .now) (n .ensures .size) (u .ensures .0) s (take (l .result .count) (l .result .words)) (c .before .before .before .before .before .before .before .before .before .before .in-use .result) _
-    (m .last .1 .1 .1 .1 .0) (k ∙ length-take-le 16384 (a .rows .now) (omega arith)) (n .ensures .small) (omega arith) (omega arith) (l .ensures .linked) (c .before .before .before .before .before .before .before .before .before .before .in-use .ensures) q (m .ensures)
+    λ s e q. made-rows (a .register) e (n .result) (u .result) _ (a .rows .now) (n .ensures .size) (u .ensures .0) s
+    (take (l .result .count) (l .result .words)) (c .before .before .before .before .before .before .before .before .before .before .in-use .result) _
+    (m .last .1 .1 .1 .1 .0) (k ∙ length-take-le 16384 (a .rows .now) (omega arith)) (n .ensures .small) (omega arith) (omega arith)
+    (l .ensures .linked) (c .before .before .before .before .before .before .before .before .before .before .in-use .ensures) q (m .ensures)
 
 pub of-code-spec : {M : Type 1} → statement M
 of-code-spec =

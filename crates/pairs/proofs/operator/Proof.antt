@@ -5,18 +5,15 @@ use Prim.Native.Nat.{_-_, _*_, _≤_}
 use lib.ListN.{length, take, drop}
 use Rattle.k2.specs.Trees.{treeUnit}
 use Rattle.pairs.specs.Steps.{Takes}
-use Rattle.pairs.proofs.Stepping.{starts-early, takes-early, goes-operator}
+use Rattle.pairs.proofs.StepLaws.{starts-early, takes-early, goes-operator}
 use borrow.Author.Needs.{needs}
 use Rattle.pairs.proofs.operator.Statement.{statement}
 use Rattle.pairs.proofs.operator.Tie as tie
-use Rattle.pairs.proofs.operator.Reads as reads
-use Rattle.pairs.proofs.operator.Lts as lts
-use Rattle.pairs.proofs.bounded.Reads as bounded-reads
-use Rattle.pairs.proofs.take_off.Reads as take-off-reads
-use Rattle.tree.proofs.operate.Reads as operate-reads
 
 -- the operands taken off
-takes : (c : tie.After-take-off) → Takes (treeUnit (c .before .before .before .before .before .args .n)) (c .before .before .before .before .before .args .item) (c .before .before .before .before .before .args .stack) (c .take-off .result)
+takes : (c : tie.After-take-off)
+    → let start = c .before .before .before .before .before in
+    Takes (treeUnit (start .args .n)) (start .args .item) (start .args .stack) (c .take-off .result)
 takes c = c .take-off .ensures _ (c .before .before .before .before .before .pre .5)
 
 early : (c : tie.After-take-off) → c .take-off .result .below ≤ 18
@@ -67,7 +64,10 @@ add-next c = omega (arith, early (c .before .before .before .before .before .bef
 
 -- src/lib.rt:200:16
 add-next-2 : tie.Need-add-next-2
-add-next-2 c = omega (arith, starts (c .before .before .before .before .before .before .before .before .before), c .before .before .before .before .before .before .before .before .before .before .before .before .before .before .pre .1, c .bounded .ensures .0)
+add-next-2 c =
+    let after-take-off = c .before .before .before .before .before .before .before .before .before in
+    let start = after-take-off .before .before .before .before .before in
+    omega (arith, starts after-take-off, start .pre .1, c .bounded .ensures .0)
 
 -- src/lib.rt:172:1
 same-length : tie.Need-same-length
@@ -80,14 +80,18 @@ same-length-2 c = search needs
 -- src/lib.rt:172:1
 returns : tie.Need-returns
 returns c =
-    let a = c .before .before .before .before .before .before .before .before .before .before .before .before .before .before .args in
-    let P = c .before .before .before .before .before .before .before .before .before .before .before .before .before .before .pre in
-    let q = c .before .before .before .before .before .before .before .before .before .take-off .result in
-    let I = c .before .before .before .before .before .operate in
-    let h : q .start ≤ length (a .work .now) = omega (arith, starts (c .before .before .before .before .before .before .before .before .before), P .1) in
+    let after-operate = c .before .before .before .before .before in
+    let after-take-off = after-operate .before .before .before .before in
+    let start′ = after-take-off .before .before .before .before .before in
+    let a = start′ .args in
+    let P = start′ .pre in
+    let q = after-take-off .take-off .result in
+    let I = after-operate .operate in
+    let h : q .start ≤ length (a .work .now) = omega (arith, starts after-take-off, P .1) in
     let kept : length (I .last .1 .0) ≡ length (take (length (a .work .now) - q .start) (drop (q .start) (a .work .now))) = I .kept .1 .0 in
     goes-operator (a .n) (a .item) (a .links .now) (a .used .now) (a .work .now) (I .last .1 .0) (a .stack) q (I .result) (c .bounded .result) (P .0) (P .1)
-    (takes (c .before .before .before .before .before .before .before .before .before)) h (c .bounded .ensures .0) (c .bounded .ensures .1) kept (length (a .rows .now)) (P .3) (I .ensures) (P .2) (early (c .before .before .before .before .before .before .before .before .before)) (P .5 .slots)
+    (takes after-take-off) h (c .bounded .ensures .0) (c .bounded .ensures .1) kept
+    (length (a .rows .now)) (P .3) (I .ensures) (P .2) (early after-take-off) (P .5 .slots)
 
 pub operator-spec : {M : Type 1} → statement M
 operator-spec =

@@ -4,14 +4,10 @@ use mathlib.Core.Path.{_≡_, refl}
 use mathlib.Core.List.{[]}
 use lib.ListN.{length}
 use lib.Seq.{take-all}
-use Rattle.pairs.proofs.Answering.{asks-refused, asks-rows}
+use Rattle.pairs.proofs.AnswerLaws.{asks-refused, asks-rows}
 use borrow.Author.Needs.{needs}
 use Rattle.pairs.proofs.pairs.Statement.{statement}
 use Rattle.pairs.proofs.pairs.Tie as tie
-use Rattle.pairs.proofs.pairs.Reads as reads
-use Rattle.pairs.proofs.pairs.Lts as lts
-use Rattle.pairs.proofs.hand_over.Reads as hand-over-reads
-use Rattle.pairs.proofs.of_text.Reads as of-text-reads
 
 -- src/lib.rt:397:49
 slice-aggregate-of-text : tie.Need-slice-aggregate-of-text
@@ -35,7 +31,12 @@ slice-aggregate-hand-over c = search needs
 
 -- src/lib.rt:400:29
 hand-over-requires : tie.Need-hand-over-requires
-hand-over-requires c κs = let t = c .before .before .before .before .before .before .before .before .of-text in let k : length (t .last .1 .1 .1 .0) ≡ 16384 = t .kept .1 .1 .1 .0 in (t .ensures .small _ (c .before .before .before .related2 .given .1), k)
+hand-over-requires c κs =
+    let after-related2 = c .before .before .before in
+    let after-of-text = after-related2 .before .before .before .before .before in
+    let t = after-of-text .of-text in
+    let k : length (t .last .1 .1 .1 .0) ≡ 16384 = t .kept .1 .1 .1 .0 in
+    (t .ensures .small _ (after-related2 .related2 .given .1), k)
 
 -- src/lib.rt:388:1
 same-length : tie.Need-same-length
@@ -56,9 +57,11 @@ same-length-3 c = search needs
 -- src/lib.rt:388:1
 returns-2 : tie.Need-returns-2
 returns-2 c =
-    let t = c .before .before .before .before .before .before .before .before .before .before .before .of-text in
+    let after-related2 = c .before .before .before .before .before .before in
+    let t = after-related2 .before .before .before .before .before .of-text in
     let k : length (t .last .1 .1 .1 .0) ≡ 16384 = t .kept .1 .1 .1 .0 in
-    asks-rows _ _ _ _ (t .last .1 .1 .1 .0) refl _ _ (c .before .before .before .before .before .before .related2 .given .1) (t .ensures) (take-all 16384 (t .last .1 .1 .1 .0) (omega arith)) (c .before .before .hand-over .ensures)
+    asks-rows _ _ _ _ (t .last .1 .1 .1 .0) refl _ _ (after-related2 .related2 .given .1) (t .ensures)
+    (take-all 16384 (t .last .1 .1 .1 .0) (omega arith)) (c .before .before .hand-over .ensures)
 
 pub pairs-spec : {M : Type 1} → statement M
 pairs-spec =

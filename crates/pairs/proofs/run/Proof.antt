@@ -3,14 +3,10 @@ use native.Mathlib.Omega.{arith}
 use mathlib.Core.Path.{_≡_, sym, _∙_}
 use Prim.Native.Nat.{_≤_}
 use lib.ListN.{length}
-use Rattle.pairs.proofs.Running.{coded-some, going-ready, going-ends}
+use Rattle.pairs.proofs.RunLaws.{coded-some, going-ready, going-ends}
 use borrow.Author.Needs.{needs}
 use Rattle.pairs.proofs.run.Statement.{statement}
 use Rattle.pairs.proofs.run.Tie as tie
-use Rattle.pairs.proofs.run.Reads as reads
-use Rattle.pairs.proofs.run.Lts as lts
-use Rattle.pairs.proofs.evaluate.Reads as evaluate-reads
-use Rattle.pairs.proofs.last.Reads as last-reads
 
 -- src/lib.rt:296:9
 evaluate-requires : tie.Need-evaluate-requires
@@ -34,12 +30,14 @@ item-of-requires c κs = search needs
 
 last-requires : tie.Need-last-requires
 last-requires c κs =
-    let a = c .before .before .before .before .before .before .before .before .before .before .before .before .before .before .before .before .args in
-    let P = c .before .before .before .before .before .before .before .before .before .before .before .before .before .before .before .before .pre in
-    let E = c .before .before .before .before .before .before .before .before .evaluate in
+    let after-evaluate = c .before .before .before .before .before .before .before .before in
+    let start = after-evaluate .before .before .before .before .before .before .before .before in
+    let a = start .args in
+    let P = start .pre in
+    let E = after-evaluate .evaluate in
     let w : length (E .last .0) ≡ length (a .work .now) = E .kept .0 in
     let r : length (E .last .1 .1 .1 .1 .0) ≡ length (a .rows .now) = E .kept .1 .1 .1 .1 .0 in
-    let h = some (c .before .before .before .before .before .before .before .before .before .before .before .before .before .before .before .before) in
+    let h = some start in
     let q = going-ready (a .n) (a .links .now) (a .used .now) _ _ (omega arith) (E .ensures) (sym (c .before .before .item-of .ensures)) in
     (P .0, omega (arith, P .1), P .2, r ∙ P .3, q .0, q .1)
 
@@ -54,8 +52,12 @@ same-length-2 c = search needs
 -- src/lib.rt:283:1
 returns : tie.Need-returns
 returns c =
-    let a = c .before .before .before .before .before .before .before .before .before .before .before .before .before .before .before .before .before .before .before .args in
-    going-ends (a .n) (a .links .now) (a .used .now) _ (some (c .before .before .before .before .before .before .before .before .before .before .before .before .before .before .before .before .before .before .before)) (sym (c .before .before .before .before .before .item-of .ensures)) (c .before .before .before .before .before .before .before .before .before .before .before .evaluate .ensures) (c .before .before .last .ensures)
+    let after-item-of = c .before .before .before .before .before in
+    let after-evaluate = after-item-of .before .before .before .before .before .before in
+    let start = after-evaluate .before .before .before .before .before .before .before .before in
+    let a = start .args in
+    going-ends (a .n) (a .links .now) (a .used .now) _ (some start) (sym (after-item-of .item-of .ensures))
+    (after-evaluate .evaluate .ensures) (c .before .before .last .ensures)
 
 pub run-spec : {M : Type 1} → statement M
 run-spec =

@@ -11,7 +11,7 @@ use Rattle.tree.specs.declared.operations.Operand.{Operand}
 use Rattle.pairs.specs.declared.Stack.{Stack}
 use Rattle.pairs.specs.Evaluation.{pushed}
 use Rattle.pairs.specs.Steps.{Goes}
-use Rattle.pairs.proofs.Stepping.{goes-letters, goes-inverse}
+use Rattle.pairs.proofs.StepLaws.{goes-letters, goes-inverse}
 use Rattle.pairs.proofs.step.Statement.{statement}
 use Rattle.pairs.proofs.step.Tie as tie
 
@@ -23,7 +23,9 @@ letters-requires c κs = search needs
 
 -- there is room for an operand more
 room : (c : tie.After-item) → c .before .before .before .before .before .before .args .stack .count < 19
-room c = let o : operands (c .before .before .before .before .before .before .args .item) ≡ 0 = ap operands (c .item .given .1) in let r = c .before .before .before .before .before .before .pre .4 .room in omega arith
+room c =
+    let start = c .before .before .before .before .before .before in
+    let o : operands (start .args .item) ≡ 0 = ap operands (c .item .given .1) in let r = start .pre .4 .room in omega arith
 
 push-requires : tie.Need-push-requires
 push-requires c κs = (room (c .before .before), c .before .before .before .before .before .before .before .before .pre .5 .slots)
@@ -32,11 +34,14 @@ enum-told : tie.Need-enum-told
 enum-told c = search needs
 
 -- `^` has an operand
-some : (c : tie.After-enum-told) → (1 ≤ c .before .before .before .before .before .before .args .stack .count) × (c .before .before .before .before .before .before .args .stack .count ≤ 19) × (length (c .before .before .before .before .before .before .args .stack .operands) ≡ 19)
+some : (c : tie.After-enum-told)
+    → let start = c .before .before .before .before .before .before in
+    (1 ≤ start .args .stack .count) × (start .args .stack .count ≤ 19) × (length (start .args .stack .operands) ≡ 19)
 some c =
-    let o : operands (c .before .before .before .before .before .before .args .item) ≡ 1 = ap operands (c .enum-told .given .1) in
-    let f = c .before .before .before .before .before .before .pre .4 .found in
-    (omega arith, c .before .before .before .before .before .before .pre .4 .few, c .before .before .before .before .before .before .pre .5 .slots)
+    let start = c .before .before .before .before .before .before in
+    let o : operands (start .args .item) ≡ 1 = ap operands (c .enum-told .given .1) in
+    let f = start .pre .4 .found in
+    (omega arith, start .pre .4 .few, start .pre .5 .slots)
 
 inverse-requires : tie.Need-inverse-requires
 inverse-requires c κs = some c
@@ -46,18 +51,22 @@ operator-requires c κs = search needs
 
 returns : tie.Need-returns
 returns c =
-    let a = c .before .before .before .before .before .before .before .before .before .args in
-    let q = c .before .before .before .item .given .0 in
-    subst (λ (y : Item). Goes (a .n) (a .links .now) (a .used .now) y (a .work .now) (a .work .now) (a .stack) (c .push .result)) (sym (c .before .before .before .item .given .1))
+    let after-item = c .before .before .before in
+    let start = after-item .before .before .before .before .before .before in
+    let a = start .args in
+    let q = after-item .item .given .0 in
+    subst (λ (y : Item). Goes (a .n) (a .links .now) (a .used .now) y (a .work .now) (a .work .now) (a .stack) (c .push .result))
+    (sym (after-item .item .given .1))
     (subst (λ (S : Stack). Goes (a .n) (a .links .now) (a .used .now) (Letters (q .0) (q .1 .0)) (a .work .now) (a .work .now) (a .stack) S)
     (sym (c .push .ensures ∙ ap (λ (o : Operand). pushed o (a .stack .count) (a .stack .end) (a .stack)) (c .before .letters .ensures)))
-    (goes-letters (a .n) (q .0) (q .1 .0) (a .links .now) (a .used .now) (a .work .now) (a .stack) (c .before .before .before .before .before .before .before .before .before .pre .5 .slots) (room (c .before .before .before))))
+    (goes-letters (a .n) (q .0) (q .1 .0) (a .links .now) (a .used .now) (a .work .now) (a .stack) (start .pre .5 .slots) (room after-item)))
 
 returns-2 : tie.Need-returns-2
 returns-2 c =
     let a = c .before .before .before .before .before .before .before .args in
     let h = some (c .before) in
-    subst (λ (y : Item). Goes (a .n) (a .links .now) (a .used .now) y (a .work .now) (a .work .now) (a .stack) (c .inverse .result)) (sym (c .before .enum-told .given .1))
+    subst (λ (y : Item). Goes (a .n) (a .links .now) (a .used .now) y (a .work .now) (a .work .now) (a .stack) (c .inverse .result))
+    (sym (c .before .enum-told .given .1))
     (subst (λ (S : Stack). Goes (a .n) (a .links .now) (a .used .now) Inverse (a .work .now) (a .work .now) (a .stack) S) (sym (c .inverse .ensures))
     (goes-inverse (a .n) (a .links .now) (a .used .now) (a .work .now) (a .stack) (h .0) (h .1) (h .2)))
 

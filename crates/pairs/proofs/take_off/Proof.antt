@@ -1,19 +1,14 @@
 -- `take_off` goes by the item: how many operands it takes, and with which operation (`takes-letters`, `takes-inverse`, `takes-one`, `takes-two`). Assumes
 -- nothing.
-use mathlib.Core.Path.{_≡_, sym, ap, _∙_, subst}
-use Prim.Native.Nat.{ℕ, _≤_}
+use mathlib.Core.Path.{_≡_, sym, ap, subst}
+use Prim.Native.Nat.{_≤_}
 use native.Mathlib.Omega.{arith}
 use borrow.Author.Needs.{needs}
 use Rattle.reader.specs.declared.items.Item.{Item}
 use Rattle.reader.specs.Running.{operands}
 use Rattle.tree.specs.declared.operations.Operation.the-variants.{Union, Product, Closure, Optional, Star}
-use Rattle.tree.specs.declared.operations.Operand.{Operand}
-use Rattle.pairs.specs.declared.Stack.{Stack}
-use Rattle.pairs.specs.declared.Taken.{Taken}
-use Rattle.pairs.specs.Evaluation.{takenNone, takenOne, turned}
 use Rattle.pairs.specs.EvaluationLaws.{Unary, of-star, of-plus, of-optional, Binary, of-alternative, of-sequence, unary-one}
-use Rattle.pairs.specs.Steps.{Takes}
-use Rattle.pairs.proofs.Stepping.{has-one, has-turned, has-two, takes-letters, takes-inverse, takes-one, takes-two}
+use Rattle.pairs.proofs.StepLaws.{has-one, has-turned, has-two, takes-letters, takes-inverse, takes-one, takes-two}
 use Rattle.pairs.proofs.take_off.Statement.{statement}
 use Rattle.pairs.proofs.take_off.Tie as tie
 
@@ -37,7 +32,9 @@ inverse-requires : tie.Need-inverse-requires
 inverse-requires c κs = let h = has-one (c .before .before .pre .1 .1) (c .before .before .pre .0) (inverts c) in (h .0, h .1, h .2)
 
 on-one-requires : tie.Need-on-one-requires
-on-one-requires c κs = rw (c .inverse .ensures) (has-turned (c .before .before .before .pre .1 .1) (c .before .before .before .pre .0) (inverts (c .before)))
+on-one-requires c κs =
+    let start = c .before .before .before in
+    rw (c .inverse .ensures) (has-turned (start .pre .1 .1) (start .pre .0) (inverts (c .before)))
 
 enum-told-2 : tie.Need-enum-told-2
 enum-told-2 c = search needs
@@ -85,10 +82,14 @@ on-two-requires-2 : tie.Need-on-two-requires-2
 on-two-requires-2 c κs = has-two (c .before .before .pre .1 .1) (c .before .before .pre .0) (is-sequence c)
 
 returns : tie.Need-returns
-returns c = λ d P. rw (c .before .no-operand .ensures, c .letters .ensures) (takes-letters P (c .before .before .before .before .before .pre .0) _ _ (c .before .before .before .item .given .1))
+returns c =
+    λ d P. rw (c .before .no-operand .ensures, c .letters .ensures)
+    (takes-letters P (c .before .before .before .before .before .pre .0) _ _ (c .before .before .before .item .given .1))
 
 returns-2 : tie.Need-returns-2
-returns-2 c = λ d P. rw (c .on-one .ensures, c .before .inverse .ensures) (takes-inverse P (c .before .before .before .before .pre .0) (c .before .before .enum-told .given .1))
+returns-2 c =
+    λ d P. rw (c .on-one .ensures, c .before .inverse .ensures)
+    (takes-inverse P (c .before .before .before .before .pre .0) (c .before .before .enum-told .given .1))
 
 returns-3 : tie.Need-returns-3
 returns-3 c = λ d P. rw (c .on-one2 .ensures) (takes-one P (c .before .before .before .pre .0) (is-star (c .before)))

@@ -5,7 +5,8 @@ mod AlternativesNeeds
 mod SequenceNeeds
 mod PartNeeds
 mod AtomNeeds
-use Rattle.reader.proofs.+alternatives+atom+part+sequence.Proof.Ranks.{μ-alternatives, alternatives-at, μ-sequence, sequence-at, μ-part, part-at, μ-atom, atom-at}
+use Rattle.reader.proofs.+alternatives+atom+part+sequence.Proof.Ranks.{μ-alternatives, alternatives-at, μ-sequence, sequence-at, μ-part, part-at, μ-atom}
+use Rattle.reader.proofs.+alternatives+atom+part+sequence.Proof.Ranks.{atom-at}
 use Rattle.reader.proofs.+alternatives+atom+part+sequence.Proof.AlternativesNeeds as alternatives
 use Rattle.reader.proofs.alternatives.Reads as alternatives-reads
 use Rattle.reader.proofs.+alternatives+atom+part+sequence.Lts-alternatives as alternatives-lts

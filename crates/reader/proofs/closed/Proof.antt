@@ -5,7 +5,7 @@ use native.Mathlib.Omega.{arith}
 use lib.ListN.{length}
 use borrow.Author.Needs.{needs}
 use Rattle.paths.specs.Grammar.{close-group}
-use Rattle.reader.proofs.Steps.{there, fit, none-closed, closes, not-closed}
+use Rattle.reader.proofs.StepLaws.{there, fit, none-closed, closes, not-closed}
 use Rattle.reader.proofs.closed.Statement.{statement}
 use Rattle.reader.proofs.closed.Tie as tie
 
@@ -22,8 +22,14 @@ peek-requires : tie.Need-peek-requires
 peek-requires c κs = search needs
 
 -- the ) stands inside the text, and the depth fits
-inside : (c : tie.Then1) → (c .before .before .before .r .given .0 .0 .at < length (c .before .before .before .before .before .before .args .s .now)) × (c .before .before .before .r .given .0 .0 .depth ≤ c .before .before .before .r .given .0 .0 .at)
-inside c = (there _ _ close-group (sym (c .before .peek .ensures) ∙ c .if1 .taken) (omega arith), fit (c .before .before .before .r .given .1) (c .before .before .before .before .before .before .pre) .flat)
+inside : (c : tie.Then1)
+    → let after-r = c .before .before .before in
+    let start = after-r .before .before .before in
+    (after-r .r .given .0 .0 .at < length (start .args .s .now)) × (after-r .r .given .0 .0 .depth ≤ after-r .r .given .0 .0 .at)
+inside c =
+    let after-r = c .before .before .before in
+    let start = after-r .before .before .before in
+    (there _ _ close-group (sym (c .before .peek .ensures) ∙ c .if1 .taken) (omega arith), fit (after-r .r .given .1) (start .pre) .flat)
 
 add-t7 : tie.Need-add-t7
 add-t7 c = let h = inside (c .before) in omega arith

@@ -3,7 +3,7 @@ use Prim.Native.Nat.{_+_, _<_, _≤_}
 use native.Mathlib.Omega.{arith}
 use lib.ListN.{length}
 use borrow.Author.Needs.{needs}
-use Rattle.reader.proofs.Joining.{joins, joins-no-first, joins-no-next, has-room}
+use Rattle.reader.proofs.JoinLaws.{joins, joins-no-first, joins-no-next, has-room}
 use Rattle.reader.proofs.joined.Statement.{statement}
 use Rattle.reader.proofs.joined.Tie as tie
 
@@ -26,7 +26,11 @@ returns-2 : tie.Need-returns-2
 returns-2 c = joins-no-next _ _ _ (c .before .before .before .first .given .1) (c .enum-told2 .given .1)
 
 -- there is room for the number, and the letters fit
-room : (c : tie.After-next) → (c .next .given .0 .0 .end < length (c .before .before .before .before .before .before .args .code .now)) × (c .before .before .before .first .given .0 .0 .letters + c .next .given .0 .0 .letters ≤ length (c .before .before .before .before .before .before .args .code .now))
+room : (c : tie.After-next)
+    → let after-first = c .before .before .before in
+    let start = after-first .before .before .before in
+    (c .next .given .0 .0 .end < length (start .args .code .now))
+    × (after-first .first .given .0 .0 .letters + c .next .given .0 .0 .letters ≤ length (start .args .code .now))
 room c = has-room (c .before .before .before .first .given .1) (c .next .given .1) (c .before .before .before .before .before .before .pre)
 
 push-requires : tie.Need-push-requires
@@ -42,7 +46,12 @@ same-length : tie.Need-same-length
 same-length c = search needs
 
 returns-3 : tie.Need-returns-3
-returns-3 c = rw (c .before .before .before .before .before .push .ensures .0, c .before .before .before .before .before .push .ensures .1, c .larger .ensures) (joins _ _ (c .before .before .before .before .before .before .before .before .before .before .before .first .given .1) (c .before .before .before .before .before .before .before .before .next .given .1))
+returns-3 c =
+    let after-push = c .before .before .before .before .before in
+    let after-next = after-push .before .before .before in
+    let after-first = after-next .before .before .before in
+    rw (after-push .push .ensures .0, after-push .push .ensures .1, c .larger .ensures) (joins _ _ (after-first .first .given .1) (after-next .next .given .1))
 
 pub joined-spec : {M : Type 1} → statement M
-joined-spec = tie.close (tie.spec enum-known-first enum-told returns enum-known-next enum-told-2 returns-2 push-requires add-t10 larger-requires same-length returns-3)
+joined-spec =
+    tie.close (tie.spec enum-known-first enum-told returns enum-known-next enum-told-2 returns-2 push-requires add-t10 larger-requires same-length returns-3)

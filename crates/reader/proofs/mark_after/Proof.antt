@@ -20,7 +20,9 @@ peek-requires : tie.Need-peek-requires
 peek-requires c κs = search needs
 
 -- the mark after what was read is that of the byte
-of-byte : (c : tie.After-peek) → markNumber (c .peek .result) ≡ markOf (c .before .before .before .before .before .args .s .now) (c .before .before .before .before .before .args .r)
+of-byte : (c : tie.After-peek)
+    → let start = c .before .before .before .before .before in
+    markNumber (c .peek .result) ≡ markOf (start .args .s .now) (start .args .r)
 of-byte c = ap markNumber (c .peek .ensures) ∙ sym (ap (markOf (c .before .before .before .before .before .args .s .now)) (c .before .before .r .given .1))
 
 returns-2 : tie.Need-returns-2
@@ -35,13 +37,17 @@ returns-3 c =
 
 returns-4 : tie.Need-returns-4
 returns-4 c =
-    let number : markNumber (c .before .before .before .peek .result) ≡ op-optional = rw (ne-eqb _ _ (c .before .before .if1 .left), ne-eqb _ _ (c .before .if2 .left), eq-eqb _ _ (c .if3 .taken)) in
-    sym number ∙ of-byte (c .before .before .before)
+    let after-peek = c .before .before .before in
+    let number : markNumber (after-peek .peek .result) ≡ op-optional =
+    rw (ne-eqb _ _ (c .before .before .if1 .left), ne-eqb _ _ (c .before .if2 .left), eq-eqb _ _ (c .if3 .taken)) in
+    sym number ∙ of-byte after-peek
 
 returns-5 : tie.Need-returns-5
 returns-5 c =
-    let number : markNumber (c .before .before .before .peek .result) ≡ no-mark = rw (ne-eqb _ _ (c .before .before .if1 .left), ne-eqb _ _ (c .before .if2 .left), ne-eqb _ _ (c .if3 .left)) in
-    sym number ∙ of-byte (c .before .before .before)
+    let after-peek = c .before .before .before in
+    let number : markNumber (after-peek .peek .result) ≡ no-mark =
+    rw (ne-eqb _ _ (c .before .before .if1 .left), ne-eqb _ _ (c .before .if2 .left), ne-eqb _ _ (c .if3 .left)) in
+    sym number ∙ of-byte after-peek
 
 pub mark-after-spec : {M : Type 1} → statement M
 mark-after-spec = tie.close (tie.spec enum-known-r enum-told returns peek-requires returns-2 returns-3 returns-4 returns-5)

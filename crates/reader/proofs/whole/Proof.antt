@@ -1,8 +1,8 @@
 -- `reader::whole` meets its contract: each return by the verdict's law for it. Assumes nothing.
 use borrow.Author.Needs.{needs}
 use Rattle.paths.specs.Verdicts.{verdict-long, verdict-none}
-use Rattle.reader.proofs.Steps.{gave, missed}
-use Rattle.reader.proofs.Answers.{refuses-long, refuses-outside, refuses-large, more-bytes, many-letters, too-deep, accepts}
+use Rattle.reader.proofs.StepLaws.{gave, missed}
+use Rattle.reader.proofs.AnswerLaws.{refuses-long, refuses-outside, refuses-large, more-bytes, many-letters, too-deep, accepts}
 use Rattle.reader.proofs.whole.Statement.{statement}
 use Rattle.reader.proofs.whole.Tie as tie
 
@@ -28,36 +28,51 @@ refused-requires-2 : tie.Need-refused-requires-2
 refused-requires-2 c κs = search needs
 
 returns-2 : tie.Need-returns-2
-returns-2 c = refuses-outside (verdict-none _ (c .before .before .before .before .before .before .if1 .left) (missed (c .before .enum-told .given .1) (c .before .before .before .before .alternatives .ensures))) (c .refused2 .ensures)
+returns-2 c =
+    let after-alternatives = c .before .before .before .before in
+    refuses-outside (verdict-none _ (after-alternatives .before .before .if1 .left)
+    (missed (c .before .enum-told .given .1) (after-alternatives .alternatives .ensures))) (c .refused2 .ensures)
 
 refused-requires-3 : tie.Need-refused-requires-3
 refused-requires-3 c κs = search needs
 
 returns-3 : tie.Need-returns-3
 returns-3 c =
-    let read = gave (c .before .before .before .before .r .given .1) (c .before .before .before .before .before .before .before .alternatives .ensures) in
-    refuses-outside (more-bytes (c .before .before .before .before .before .before .before .before .before .if1 .left) read (c .before .if2 .taken)) (c .refused3 .ensures)
+    let after-r = c .before .before .before .before in
+    let after-alternatives = after-r .before .before .before in
+    let read = gave (after-r .r .given .1) (after-alternatives .alternatives .ensures) in
+    refuses-outside (more-bytes (after-alternatives .before .before .if1 .left) read (c .before .if2 .taken)) (c .refused3 .ensures)
 
 refused-requires-4 : tie.Need-refused-requires-4
 refused-requires-4 c κs = search needs
 
 returns-4 : tie.Need-returns-4
 returns-4 c =
-    let read = gave (c .before .before .before .before .before .before .r .given .1) (c .before .before .before .before .before .before .before .before .before .alternatives .ensures) in
-    refuses-large (many-letters (c .before .before .before .before .before .before .before .before .before .before .before .if1 .left) read (c .before .before .before .if2 .left) (c .before .if3 .taken)) (c .refused4 .ensures)
+    let else2 = c .before .before .before in
+    let after-r = else2 .before .before .before in
+    let after-alternatives = after-r .before .before .before in
+    let read = gave (after-r .r .given .1) (after-alternatives .alternatives .ensures) in
+    refuses-large (many-letters (after-alternatives .before .before .if1 .left) read (else2 .if2 .left) (c .before .if3 .taken)) (c .refused4 .ensures)
 
 refused-requires-5 : tie.Need-refused-requires-5
 refused-requires-5 c κs = search needs
 
 returns-5 : tie.Need-returns-5
 returns-5 c =
-    let read = gave (c .before .before .before .before .before .before .before .before .r .given .1) (c .before .before .before .before .before .before .before .before .before .before .before .alternatives .ensures) in
-    refuses-large (too-deep (c .before .before .before .before .before .before .before .before .before .before .before .before .before .if1 .left) read (c .before .before .before .before .before .if2 .left) (c .before .before .before .if3 .left) (c .before .if4 .taken)) (c .refused5 .ensures)
+    let else3 = c .before .before .before in
+    let after-r = else3 .before .before .before .before .before in
+    let after-alternatives = after-r .before .before .before in
+    let read = gave (after-r .r .given .1) (after-alternatives .alternatives .ensures) in
+    refuses-large (too-deep (after-alternatives .before .before .if1 .left) read (else3 .before .before .if2 .left) (else3 .if3 .left) (c .before .if4 .taken))
+    (c .refused5 .ensures)
 
 returns-6 : tie.Need-returns-6
 returns-6 c =
-    let read = gave (c .before .before .before .before .before .before .before .r .given .1) (c .before .before .before .before .before .before .before .before .before .before .alternatives .ensures) in
-    accepts (c .before .before .before .before .before .before .before .before .before .before .before .before .if1 .left) read (c .before .before .before .before .if2 .left) (c .before .before .if3 .left) (c .if4 .left)
+    let else2 = c .before .before .before .before in
+    let after-r = else2 .before .before .before in
+    let after-alternatives = after-r .before .before .before in
+    let read = gave (after-r .r .given .1) (after-alternatives .alternatives .ensures) in
+    accepts (after-alternatives .before .before .if1 .left) read (else2 .if2 .left) (c .before .before .if3 .left) (c .if4 .left)
 
 pub whole-spec : {M : Type 1} → statement M
 whole-spec =

@@ -1,6 +1,6 @@
 -- `reader::written` meets its contract: the symbol's number, where there is one. Assumes nothing.
 use borrow.Author.Needs.{needs}
-use Rattle.reader.proofs.Steps.{writes, writes-none, has-place}
+use Rattle.reader.proofs.StepLaws.{writes, writes-none, has-place}
 use Rattle.reader.proofs.written.Statement.{statement}
 use Rattle.reader.proofs.written.Tie as tie
 

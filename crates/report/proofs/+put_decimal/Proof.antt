@@ -1,15 +1,15 @@
 -- The proof of the cycle of calls {put_decimal}. The measure is the number. The figures are those of the tenth part, and then the last one (`decimal-more`).
 -- Assumes nothing.
-use mathlib.Core.Path.{_≡_, ap}
-use Prim.Native.Nat.{ℕ, _+_, _/_, _<_, _≤_}
+use mathlib.Core.Path.{_≡_}
+use Prim.Native.Nat.{ℕ, _+_, _<_, _≤_}
 use native.Mathlib.Omega.{arith}
 use denote.Ref.{now}
-use lib.ListN.{length, length-append}
+use lib.ListN.{length}
 use borrow.Author.Needs.{needs}
 use borrow.Fn.Kinds.{In}
 use borrow.Fn.PlainCycle.{Measures, is, falls, and}
 use Rattle.report.specs.Report.{decimal}
-use Rattle.report.specs.ReportLaws.{decimal-small, decimal-more}
+use Rattle.report.specs.ReportLaws.{decimal-small, decimal-more, length-decimal-small, length-decimal-more}
 use Rattle.report.specs.WrittenLaws.{wrote-then}
 use Rattle.report.proofs.put_decimal.Reads as put-decimal
 use Rattle.report.proofs.put_decimal.Kinds as put-decimal-kinds
@@ -39,7 +39,7 @@ add-put-byte t c = omega arith
 put-byte-requires : (t : ℕ) → put-decimal-lts.Need-put-byte-requires (calls t) (at-measure t) put-decimal.Post
 put-byte-requires t c κs =
     let s = c .before .before .before in
-    let one : length (decimal (s .args .n)) ≡ 1 = ap length (decimal-small (s .args .n) (c .before .if1 .taken)) in
+    let one = length-decimal-small (s .args .n) (c .before .if1 .taken) in
     let room : s .args .at + length (decimal (s .args .n)) ≤ length (now (s .args .out)) = s .pre .1 in
     omega arith
 
@@ -49,15 +49,11 @@ same-length t c = search needs
 returns : (t : ℕ) → put-decimal-lts.Need-returns (calls t) (at-measure t) put-decimal.Post
 returns t c = rw (decimal-small _ (c .before .before .before .before .if1 .taken)) (c .before .before .put-byte .ensures)
 
--- the tenth part has one figure less
-one-less : (n : ℕ) → 10 ≤ n → length (decimal n) ≡ length (decimal (n / 10)) + 1
-one-less n h = rw (decimal-more n h, length-append)
-
 put-decimal-requires : (t : ℕ) → put-decimal-lts.Need-put-decimal-requires (calls t) (at-measure t) put-decimal.Post
 put-decimal-requires t c κs =
     let s = c .before .before .before in
     let z : s .args .n ≡ t = s .pre .0 in
-    let one = one-less (s .args .n) (c .before .if1 .left) in
+    let less = length-decimal-more (s .args .n) (c .before .if1 .left) in
     let room : s .args .at + length (decimal (s .args .n)) ≤ length (now (s .args .out)) = s .pre .1 in
     (omega (arith, c .before .if1 .left), omega arith)
 
@@ -71,7 +67,7 @@ put-byte-requires-2 : (t : ℕ) → put-decimal-lts.Need-put-byte-requires-2 (ca
 put-byte-requires-2 t c κs =
     let s = c .before .before .before .before .before .before .before in
     let p = c .before .before .before .put-decimal in
-    let one = one-less (s .args .n) (c .before .before .before .before .before .if1 .left) in
+    let less = length-decimal-more (s .args .n) (c .before .before .before .before .before .if1 .left) in
     let room : s .args .at + length (decimal (s .args .n)) ≤ length (now (s .args .out)) = s .pre .1 in
     let k : length (p .last .1 .0) ≡ length (now (s .args .out)) = p .kept .1 .0 in
     omega (arith, p .ensures .place)
@@ -81,9 +77,10 @@ same-length-2 t c = search needs
 
 returns-2 : (t : ℕ) → put-decimal-lts.Need-returns-2 (calls t) (at-measure t) put-decimal.Post
 returns-2 t c =
-    let s = c .before .before .before .before .before .before .before .before .before .before in
-    let l = c .before .before .before .before .before .before .before .before .if1 .left in
-    let p = c .before .before .before .before .before .before .put-decimal in
+    let after-put-decimal = c .before .before .before .before .before .before in
+    let s = after-put-decimal .before .before .before .before in
+    let l = after-put-decimal .before .before .if1 .left in
+    let p = after-put-decimal .put-decimal in
     rw (decimal-more (s .args .n) l) (wrote-then (p .ensures) (c .before .before .put-byte2 .ensures))
 
 pub +put-decimal-spec : {M : Type 1} → statement M

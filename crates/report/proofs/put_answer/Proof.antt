@@ -24,7 +24,9 @@ same-length-2 : tie.Need-same-length-2
 same-length-2 c = search needs
 
 returns-2 : tie.Need-returns-2
-returns-2 c = wrote-as (sym (refused-text (c .before .before .before .before .before .before .args .k) (c .before .before .before .before .if1 .left))) (c .before .before .put-refused .ensures)
+returns-2 c =
+    let else1 = c .before .before .before .before in
+    wrote-as (sym (refused-text (else1 .before .before .args .k) (else1 .if1 .left))) (c .before .before .put-refused .ensures)
 
 pub put-answer-spec : {M : Type 1} → statement M
 put-answer-spec = tie.close (tie.spec put-ok-requires same-length returns put-refused-requires same-length-2 returns-2)

@@ -1,21 +1,18 @@
 -- `report::put_chain` meets its contract. The loop's invariant: the lines of the first i words are written, and there is room for the others.
--- The measure is the number of words left. A turn is one line more (`wrote-line`). Assumes nothing.
-use mathlib.Core.Path.{_≡_, refl, ap, _∙_}
-use Prim.Native.Nat.{_+_, _-_, _*_, _≤_}
+-- The measure is the number of words left. A turn is one line more (`lined-more`). Assumes nothing.
+use mathlib.Core.Path.{_≡_, refl, _∙_}
+use Prim.Native.Nat.{_-_}
 use native.Mathlib.Omega.{arith}
 use denote.Ref.{now}
-use lib.ListN.{length, take, getD}
-use lib.Seq.{take-all}
-use Rattle.report.specs.Report.{bytes, lines, stepLine, chainText}
-use Rattle.report.specs.ReportLaws.{length-counted-most, length-step-line, wrote-line}
-use Rattle.report.specs.Written.{Wrote}
-use Rattle.report.specs.WrittenLaws.{wrote-none, wrote-as, wrote-then}
+use lib.ListN.{length}
+use Rattle.report.specs.Report.{bytes, stepLine, chainText}
+use Rattle.report.specs.ReportLaws.{Lined, lined-none, lined-more, lined-all, length-counted-most, length-step-line}
+use Rattle.report.specs.WrittenLaws.{wrote-then}
 use Rattle.report.proofs.put_chain.Statement.{statement}
 use Rattle.report.proofs.put_chain.Tie as tie
 
 abbrev Inv-loop : tie.InvT-loop
-Inv-loop words out₀ at end₀ i₀ out end i =
-    (i ≤ length words) × (length out ≡ length out₀) × (end + 9 * (length words - i) ≤ length out) × Wrote end₀ (lines stepLine (take i words)) out₀ out end
+Inv-loop words out₀ at end₀ i₀ out end i = Lined stepLine 9 words end₀ out₀ i end out
 
 abbrev μ-loop : tie.MeasureT-loop
 μ-loop words out₀ at end₀ i₀ out end i = length words - i
@@ -28,12 +25,13 @@ unfolding bytes
 put-counted-requires c κs = omega (arith, length-counted-most (bytes "chain ") (length (now (c .before .before .before .before .args .words))) (omega arith))
 
 loop-holds : tie.Need-loop-holds Inv-loop μ-loop
-unfolding bytes lines
+unfolding bytes
 loop-holds c =
+    let start = c .before .before .before .before .before .before .before in
     let p = c .before .before .put-counted in
-    let k : length (p .last .1 .1 .0) ≡ length (now (c .before .before .before .before .before .before .before .args .out)) = p .kept .1 .1 .0 in
-    let m = length-counted-most (bytes "chain ") (length (now (c .before .before .before .before .before .before .before .args .words))) (omega arith) in
-    (omega arith, refl, omega (arith, p .ensures .place), wrote-none (p .result) (p .last .1 .1 .0) (omega (arith, p .ensures .fits)))
+    let k : length (p .last .1 .1 .0) ≡ length (now (start .args .out)) = p .kept .1 .1 .0 in
+    let most = length-counted-most (bytes "chain ") (length (now (start .args .words))) (omega arith) in
+    lined-none (omega (arith, p .ensures .place))
 
 mul-put-step : tie.Need-mul-put-step Inv-loop μ-loop
 mul-put-step c = omega arith
@@ -52,24 +50,16 @@ loop-less c = omega arith
 
 loop-again : tie.Need-loop-again Inv-loop μ-loop
 loop-again c =
-    let words = now (c .before .before .before .before .before .before .before .before .before .before .before .before .before .before .args .words) in
     let here = c .before .before .before .before .before .before .loop in
     let q = c .before .before .put-step in
-    let k : length (q .last .1 .0) ≡ length (here .out) = q .kept .1 .0 in
-    let w = getD words (here .i) 0 in
-    let b = length-step-line w in
-    let h = c .before .before .before .before .before .loop-test .taken in
-    (omega arith, k ∙ here .inv .1, omega (arith, q .ensures .place), wrote-line stepLine words (here .i) (here .inv .3) (q .ensures) h)
+    lined-more (here .inv) (c .before .before .before .before .before .loop-test .taken) (q .kept .1 .0) (length-step-line _) (q .ensures)
 
 same-length : tie.Need-same-length Inv-loop μ-loop
-same-length c = c .before .loop .inv .1 ∙ c .before .before .before .before .put-counted .kept .1 .1 .0
+same-length c = c .before .loop .inv .kept ∙ c .before .before .before .before .put-counted .kept .1 .1 .0
 
 returns : tie.Need-returns Inv-loop μ-loop
 unfolding bytes chainText
-returns c =
-    let here = c .before .loop in
-    let p = c .before .before .before .before .put-counted in
-    wrote-then (p .ensures) (wrote-as (ap (lines stepLine) (take-all (here .i) (now (c .before .before .before .before .before .before .before .before .before .args .words)) (c .loop-test .left))) (here .inv .3))
+returns c = wrote-then (c .before .before .before .before .put-counted .ensures) (lined-all (c .before .loop .inv) (c .loop-test .left))
 
 pub put-chain-spec : {M : Type 1} → statement M
 put-chain-spec =

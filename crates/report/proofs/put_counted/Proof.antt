@@ -20,17 +20,22 @@ put-text-requires c κs = omega (arith, room (c .before .before .before))
 
 put-decimal-requires : tie.Need-put-decimal-requires
 put-decimal-requires c κs =
-    let p = c .before .before .before .put-text in
-    let k : length (p .last .1 .0) ≡ length (now (c .before .before .before .before .before .before .before .args .out)) = p .kept .1 .0 in
-    omega (arith, room (c .before .before .before .before .before .before .before), p .ensures .place)
+    let after-put-text = c .before .before .before in
+    let start = after-put-text .before .before .before .before in
+    let p = after-put-text .put-text in
+    let k : length (p .last .1 .0) ≡ length (now (start .args .out)) = p .kept .1 .0 in
+    omega (arith, room start, p .ensures .place)
 
 put-byte-requires : tie.Need-put-byte-requires
 put-byte-requires c κs =
-    let p = c .before .before .before .before .before .before .before .put-text in
-    let q = c .before .before .before .put-decimal in
-    let k : length (p .last .1 .0) ≡ length (now (c .before .before .before .before .before .before .before .before .before .before .before .args .out)) = p .kept .1 .0 in
+    let after-put-decimal = c .before .before .before in
+    let after-put-text = after-put-decimal .before .before .before .before in
+    let start = after-put-text .before .before .before .before in
+    let p = after-put-text .put-text in
+    let q = after-put-decimal .put-decimal in
+    let k : length (p .last .1 .0) ≡ length (now (start .args .out)) = p .kept .1 .0 in
     let l : length (q .last .1 .0) ≡ length (p .last .1 .0) = q .kept .1 .0 in
-    omega (arith, room (c .before .before .before .before .before .before .before .before .before .before .before), p .ensures .place, q .ensures .place)
+    omega (arith, room start, p .ensures .place, q .ensures .place)
 
 same-length : tie.Need-same-length
 same-length c = search needs

@@ -1,7 +1,7 @@
 -- `report::put_pair` meets its contract: the figures of from, and then a line of a space and to (`pair-line`). Assumes nothing.
 use mathlib.Core.Path.{_≡_}
 use mathlib.Core.List.{[], _∷_}
-use Prim.Native.Nat.{_+_, _/_, _%_, _≤_}
+use Prim.Native.Nat.{_/_, _%_}
 use native.Mathlib.Omega.{arith}
 use borrow.Author.Needs.{needs}
 use denote.Ref.{now}
@@ -26,9 +26,11 @@ cast-put-counted c = search needs
 
 put-counted-requires : tie.Need-put-counted-requires
 put-counted-requires c κs =
-    let w = c .before .before .before .before .before .before .before .args .w in
-    let p = c .before .before .before .before .put-decimal in
-    let k : length (p .last .1 .0) ≡ length (now (c .before .before .before .before .before .before .before .args .out)) = p .kept .1 .0 in
+    let after-put-decimal = c .before .before .before .before in
+    let start = after-put-decimal .before .before .before in
+    let w = start .args .w in
+    let p = after-put-decimal .put-decimal in
+    let k : length (p .last .1 .0) ≡ length (now (start .args .out)) = p .kept .1 .0 in
     let f = length-decimal 6 (w / 1024) (omega arith) in
     let t = length-decimal 3 (w % 1024) (omega arith) in
     omega (arith, length-counted (space ∷ []) (w % 1024), p .ensures .place)

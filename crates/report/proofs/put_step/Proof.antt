@@ -1,5 +1,4 @@
 -- `report::put_step` meets its contract: letter and sign with spaces are the name of a line whose number is the record. Assumes nothing.
-use mathlib.Core.Path.{_≡_}
 use mathlib.Core.List.{[], _∷_}
 use Prim.Native.Nat.{_%_}
 use native.Mathlib.Omega.{arith}
@@ -32,7 +31,9 @@ same-length c = search needs
 
 returns : tie.Need-returns
 unfolding counted stepLine
-returns c = rw (← c .before .before .before .before .before .before .label-letter .ensures, ← c .before .before .before .before .before .sense-sign .ensures) (c .before .before .put-counted .ensures)
+returns c =
+    let after-sense-sign = c .before .before .before .before .before in
+    rw (← after-sense-sign .before .label-letter .ensures, ← after-sense-sign .sense-sign .ensures) (c .before .before .put-counted .ensures)
 
 pub put-step-spec : {M : Type 1} → statement M
 put-step-spec =

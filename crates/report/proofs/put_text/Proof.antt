@@ -42,8 +42,11 @@ loop-less c = omega arith
 loop-again : tie.Need-loop-again Inv-loop μ-loop
 loop-again c =
     let s = c .before .before .before .args in
-    let here = c .before .before .loop in
-    (omega arith, simp length-set (here .inv .1), wrote-more (s .at) (here .i) (now (s .text)) (now (s .out)) (here .out) (here .inv .2) (omega arith) (omega arith))
+    let here = c .before .before .loop in (
+      omega arith,
+      simp length-set (here .inv .1),
+      wrote-more (s .at) (here .i) (now (s .text)) (now (s .out)) (here .out) (here .inv .2) (omega arith) (omega arith),
+    )
 
 add-result : tie.Need-add-result Inv-loop μ-loop
 add-result c = omega arith

@@ -1,5 +1,5 @@
 -- `every_if` reads a digit. Assumes nothing.
-use Rattle.rowpairs.proofs.Lettering.{every-true, every-false}
+use Rattle.rowpairs.proofs.LetterLaws.{every-true, every-false}
 use borrow.Author.Needs.{needs}
 use Rattle.rowpairs.proofs.every_if.Statement.{statement}
 use Rattle.rowpairs.proofs.every_if.Tie as tie

@@ -28,7 +28,13 @@ only-label-requires c κs = search needs
 
 -- src/lib.rt:231:1
 returns-2 : tie.Need-returns-2
-returns-2 c = λ h. let o = c .only-label .ensures h in record { single = c .before .before .before .before .before .before .if1 .left; letter = sym (c .before .before .before .before .item-of .ensures) ∙ c .before .before .item .given .1 ∙ ap₂ Letters (o .0) (o .1) }
+returns-2 c =
+    let after-item-of = c .before .before .before .before in
+    λ h. let o = c .only-label .ensures h in
+    record {
+      single = after-item-of .before .before .if1 .left;
+      letter = sym (after-item-of .item-of .ensures) ∙ c .before .before .item .given .1 ∙ ap₂ Letters (o .0) (o .1);
+    }
 
 -- src/lib.rt:231:1
 returns-3 : tie.Need-returns-3

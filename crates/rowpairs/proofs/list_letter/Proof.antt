@@ -1,6 +1,6 @@
 -- `list_letter` writes the pairs of the part of a label. Assumes nothing.
 use mathlib.Core.Path.{sym}
-use Rattle.rowpairs.proofs.Alone.{length-pairs}
+use Rattle.rowpairs.proofs.LoneLetterLaws.{length-pairs}
 use borrow.Author.Needs.{needs}
 use Rattle.rowpairs.proofs.list_letter.Statement.{statement}
 use Rattle.rowpairs.proofs.list_letter.Tie as tie
@@ -19,7 +19,14 @@ same-length c = search needs
 
 -- src/lib.rt:268:1
 returns : tie.Need-returns
-returns c = record { part = _; of-label = c .before .before .before .before .label-part .ensures; total = sym (length-pairs (c .before .before .before .before .label-part .result .now)); written = c .before .before .write-links .ensures }
+returns c =
+    let after-label-part = c .before .before .before .before in
+    record {
+      part = _;
+      of-label = after-label-part .label-part .ensures;
+      total = sym (length-pairs (after-label-part .label-part .result .now));
+      written = c .before .before .write-links .ensures;
+    }
 
 pub list-letter-spec : {M : Type 1} → statement M
 list-letter-spec =

@@ -36,7 +36,9 @@ enum-known-item c = search needs
 
 -- src/lib.rt:176:1
 returns-2 : tie.Need-returns-2
-returns-2 c = let h = c .before .before .before .before .inverts .ensures (not-false _ (c .before .before .before .if1 .left)) in turned-letters (sym (c .before .before .before .before .before .item-of .ensures) ∙ c .before .item .given .1) (h .0) (h .1)
+returns-2 c =
+    let h = c .before .before .before .before .inverts .ensures (not-false _ (c .before .before .before .if1 .left)) in
+    turned-letters (sym (c .before .before .before .before .before .item-of .ensures) ∙ c .before .item .given .1) (h .0) (h .1)
 
 -- src/lib.rt:176:1
 returns-3 : tie.Need-returns-3

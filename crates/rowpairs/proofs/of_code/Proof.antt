@@ -1,13 +1,13 @@
--- `of_code` tests its space and reads the register's links. A letter alone is listed from them; any other code is run, and the relation that it leaves is listed.
--- Assumes nothing.
+-- `of_code` tests its space and reads the register's links. A letter alone is listed from them; any other code is run, and the
+-- relation that it leaves is listed. Assumes nothing.
 use native.Mathlib.Omega.{arith}
 use mathlib.Core.Path.{_≡_, sym, subst}
 use Prim.Native.Nat.{ℕ, _*_, _≤_}
 use lib.ListN.{length, take}
 use lib.Seq.{length-take-le}
 use Rattle.rowpairs.specs.Asking.{rowWidth}
-use Rattle.rowpairs.proofs.Stepping.{unit-le, list-space}
-use Rattle.rowpairs.proofs.Answering.{little-work, listed-value, alone-asks}
+use Rattle.rowpairs.proofs.StepLaws.{unit-le, list-space}
+use Rattle.rowpairs.proofs.AnswerLaws.{little-work, listed-value, alone-asks}
 use borrow.Author.Needs.{needs}
 use Rattle.rowpairs.proofs.of_code.Statement.{statement}
 use Rattle.rowpairs.proofs.of_code.Tie as tie
@@ -25,15 +25,21 @@ row-width-requires c κs = search needs
 
 -- src/lib.rt:290:27
 mul-if1 : tie.Need-mul-if1
-mul-if1 c = let w : c .row-width .result ≡ rowWidth (c .before .size .result) = c .row-width .ensures in rw w (omega (arith, unit-le (c .before .size .result) (c .before .size .ensures .small)))
+mul-if1 c =
+    let w : c .row-width .result ≡ rowWidth (c .before .size .result) = c .row-width .ensures in
+    rw w (omega (arith, unit-le (c .before .size .result) (c .before .size .ensures .small)))
 
 -- src/lib.rt:290:21
 mul-if1-2 : tie.Need-mul-if1-2
-mul-if1-2 c = let w : c .row-width .result ≡ rowWidth (c .before .size .result) = c .row-width .ensures in rw w (omega (arith, unit-le (c .before .size .result) (c .before .size .ensures .small)))
+mul-if1-2 c =
+    let w : c .row-width .result ≡ rowWidth (c .before .size .result) = c .row-width .ensures in
+    rw w (omega (arith, unit-le (c .before .size .result) (c .before .size .ensures .small)))
 
 -- src/lib.rt:291:9
 returns : tie.Need-returns
-returns c = λ s e q. little-work (c .before .before .before .before .before .args .register) e (c .before .before .size .result) _ _ (c .before .before .size .ensures .size) (c .before .row-width .ensures) (c .if1 .taken)
+returns c =
+    λ s e q. little-work (c .before .before .before .before .before .args .register) e (c .before .before .size .result)
+    _ _ (c .before .before .size .ensures .size) (c .before .row-width .ensures) (c .if1 .taken)
 
 -- src/lib.rt:293:9
 links-requires : tie.Need-links-requires
@@ -70,11 +76,17 @@ same-length c = search needs
 -- src/lib.rt:299:9
 returns-2 : tie.Need-returns-2
 returns-2 c =
-    let a = c .before .before .before .before .before .before .before .before .before .before .before .before .before .before .before .args in
-    let n = c .before .before .before .before .before .before .before .before .before .before .before .before .size in
-    let l = c .before .before .before .before .before .before .before .before .before .links in
+    let then2 = c .before .before .before .before .before in
+    let after-links = then2 .before .before .before .before in
+    let after-size = after-links .before .before .before in
+    let start = after-size .before .before .before in
+    let a = start .args in
+    let n = after-size .size in
+    let l = after-links .links in
     let t = c .before .before .list-letter in
-    λ s e q. alone-asks (a .register) e (n .result) _ (a .list .now) (n .ensures .size) _ s (take (l .result .count) (l .result .words)) _ (t .last .1 .1 .0) (t .result) _ (c .before .before .before .before .before .before .before .before .before .before .before .row-width .ensures) (n .ensures .small) (omega (arith, c .before .before .before .before .before .before .before .before .before .before .if1 .left)) (l .ensures .linked) q (c .before .before .before .before .before .before .letter-alone .ensures (c .before .before .before .before .before .if2 .taken)) (t .ensures)
+    λ s e q. alone-asks (a .register) e (n .result) _ (a .list .now) (n .ensures .size) _ s (take (l .result .count) (l .result .words)) _ (t .last .1 .1 .0)
+    (t .result) _ (after-links .before .before .row-width .ensures) (n .ensures .small) (omega (arith, after-links .before .if1 .left))
+    (l .ensures .linked) q (then2 .before .letter-alone .ensures (then2 .if2 .taken)) (t .ensures)
 
 -- src/lib.rt:301:16
 in-use-requires : tie.Need-in-use-requires
@@ -102,18 +114,26 @@ array-share-prefix-code-2 c = search needs
 
 -- src/lib.rt:303:54
 slice-aggregate-run-4 : tie.Need-slice-aggregate-run-4
-slice-aggregate-run-4 c = sym (length-take-le _ _ (c .before .before .before .before .before .before .before .before .before .before .before .before .before .before .before .before .pre .0))
+slice-aggregate-run-4 c =
+    let earlier = c .before .before .before .before .before .before .before .before in
+    let start = earlier .before .before .before .before .before .before .before .before in
+    sym (length-take-le _ _ (start .pre .0))
 
 -- src/lib.rt:303:5
 run-requires : tie.Need-run-requires
 run-requires c κs =
-    let small = c .before .before .before .before .before .before .before .before .before .before .before .before .before .size .ensures .small in (
+    let else1 = c .before .before .before .before .before .before .before .before .before .before .before in
+    let after-size = else1 .before .before in
+    let start = after-size .before .before .before in
+    let small = after-size .size .ensures .small in (
       record {
         small = small;
-        words = subst (λ (w : ℕ). 32 * (c .before .before .before .before .before .before .before .before .before .before .before .before .before .size .result * w) ≤ length (c .before .before .before .before .before .before .before .before .before .before .before .before .before .before .before .before .args .work .now)) (c .before .before .before .before .before .before .before .before .before .before .before .before .row-width .ensures) (omega (arith, c .before .before .before .before .before .before .before .before .before .before .before .if1 .left));
+        words =
+            subst (λ (w : ℕ). 32 * (after-size .size .result * w) ≤ length (start .args .work .now))
+            (else1 .before .row-width .ensures) (omega (arith, else1 .if1 .left));
         marks = omega (arith, small);
       },
-      c .before .before .before .before .before .before .before .before .before .before .before .before .before .before .before .before .pre .1,
+      start .pre .1,
     )
 
 -- src/lib.rt:304:34
@@ -123,11 +143,14 @@ slice-aggregate-list c = search needs
 -- src/lib.rt:304:9
 list-requires : tie.Need-list-requires
 list-requires c κs =
-    let n = c .before .before .before .before .before .before .before .before .before .before .before .before .before .before .before .before .before .before .before .before .size in
-    let m = c .before .before .before .before .before .before .run in
-    let k : length (m .last .1 .1 .0) ≡ length (c .before .before .before .before .before .before .before .before .before .before .before .before .before .before .before .before .before .before .before .before .before .before .before .args .work .now) = m .kept .1 .1 .0 in
+    let after-run = c .before .before .before .before .before .before in
+    let else1 = after-run .before .before .before .before .before .before .before .before .before .before .before .before in
+    let start = else1 .before .before .before .before .before in
+    let n = else1 .before .before .size in
+    let m = after-run .run in
+    let k : length (m .last .1 .1 .0) ≡ length (start .args .work .now) = m .kept .1 .1 .0 in
     let j : length (m .last .1 .1 .1 .0) ≡ 20481 = m .kept .1 .1 .1 .0 in
-    list-space (n .result) _ _ _ (c .before .before .before .before .before .before .before .before .before .before .before .before .before .before .before .before .before .before .before .row-width .ensures) (n .ensures .small) (omega (arith, c .before .before .before .before .before .before .before .before .before .before .before .before .before .before .before .before .before .before .if1 .left)) (omega (arith, n .ensures .small))
+    list-space (n .result) _ _ _ (else1 .before .row-width .ensures) (n .ensures .small) (omega (arith, else1 .if1 .left)) (omega (arith, n .ensures .small))
 
 -- src/lib.rt:277:1
 same-length-2 : tie.Need-same-length-2
@@ -140,13 +163,20 @@ same-length-3 c = search needs
 -- src/lib.rt:277:1
 returns-3 : tie.Need-returns-3
 returns-3 c =
-    let a = c .before .before .before .before .before .before .before .before .before .before .before .before .before .before .before .before .before .before .before .before .before .before .before .before .before .before .args in
-    let n = c .before .before .before .before .before .before .before .before .before .before .before .before .before .before .before .before .before .before .before .before .before .before .before .size in
-    let l = c .before .before .before .before .before .before .before .before .before .before .before .before .before .before .before .before .before .before .before .before .links in
-    let m = c .before .before .before .before .before .before .before .before .before .run in
+    let after-run = c .before .before .before .before .before .before .before .before .before in
+    let after-in-use = after-run .before .before .before .before .before .before in
+    let after-links = after-in-use .before .before .before .before .before in
+    let after-size = after-links .before .before .before in
+    let start = after-size .before .before .before in
+    let a = start .args in
+    let n = after-size .size in
+    let l = after-links .links in
+    let m = after-run .run in
     let t = c .before .before .list2 in
-    λ s e q. listed-value (a .register) e (n .result) _ (a .list .now) (n .ensures .size) s (take (l .result .count) (l .result .words)) (c .before .before .before .before .before .before .before .before .before .before .before .before .before .before .before .in-use .result) _
-    (m .last .1 .1 .0) (m .last .1 .1 .1 .0) (t .last .1 .1 .1 .1 .0) (t .result) _ (c .before .before .before .before .before .before .before .before .before .before .before .before .before .before .before .before .before .before .before .before .before .before .row-width .ensures) (n .ensures .small) (omega (arith, c .before .before .before .before .before .before .before .before .before .before .before .before .before .before .before .before .before .before .before .before .before .if1 .left)) (l .ensures .linked) (c .before .before .before .before .before .before .before .before .before .before .before .before .before .before .before .in-use .ensures) q (m .ensures) (t .ensures .0) (t .ensures .1)
+    λ s e q. listed-value (a .register) e (n .result) _ (a .list .now) (n .ensures .size)
+    s (take (l .result .count) (l .result .words)) (after-in-use .in-use .result) _
+    (m .last .1 .1 .0) (m .last .1 .1 .1 .0) (t .last .1 .1 .1 .1 .0) (t .result) _ (after-links .before .before .row-width .ensures) (n .ensures .small)
+    (omega (arith, after-links .before .if1 .left)) (l .ensures .linked) (after-in-use .in-use .ensures) q (m .ensures) (t .ensures .0) (t .ensures .1)
 
 pub of-code-spec : {M : Type 1} → statement M
 of-code-spec =

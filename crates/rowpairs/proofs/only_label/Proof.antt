@@ -1,6 +1,6 @@
 -- `only_label` compares the set with that of its lowest label alone. Assumes nothing.
 use native.Mathlib.Omega.{arith}
-use Rattle.rowpairs.proofs.Alone.{one-shifted}
+use Rattle.rowpairs.proofs.LoneLetterLaws.{one-shifted}
 use borrow.Author.Needs.{needs}
 use Rattle.rowpairs.proofs.only_label.Statement.{statement}
 use Rattle.rowpairs.proofs.only_label.Tie as tie

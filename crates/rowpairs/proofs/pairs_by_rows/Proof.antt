@@ -6,16 +6,22 @@ use Rattle.paths.specs.Expressions.{Expr}
 use Rattle.reader.specs.Reads.{ReadAs}
 use Rattle.reader.specs.ReadsLaws.{reads-accepted}
 use Rattle.pairs.specs.Steps.{Coded}
-use Rattle.rowpairs.proofs.Answering.{faulty-text, same-verdict}
+use Rattle.rowpairs.proofs.AnswerLaws.{faulty-text, same-verdict}
 use borrow.Author.Needs.{needs}
 use Rattle.rowpairs.proofs.pairs_by_rows.Statement.{statement}
 use Rattle.rowpairs.proofs.pairs_by_rows.Tie as tie
 
 -- what an accepted text is
-read : (c : tie.After-answer2) → (e : Expr) × ReadAs (c .before .before .before .before .before .before .before .args .text .now) (c .answer2 .given .0 .0) (c .before .before .before .read .result .code) e
+read : (c : tie.After-answer2)
+    → let after-read = c .before .before .before in
+    let start = after-read .before .before .before .before in
+    (e : Expr) × ReadAs (start .args .text .now) (c .answer2 .given .0 .0) (after-read .read .result .code) e
 read c = reads-accepted (c .before .before .before .read .ensures) (c .answer2 .given .1)
 
-coded : (c : tie.After-answer2) → Coded (c .before .before .before .before .before .before .before .args .text .now) (read c .0) (take (c .answer2 .given .0 .0) (c .before .before .before .read .result .code))
+coded : (c : tie.After-answer2)
+    → let after-read = c .before .before .before in
+    let start = after-read .before .before .before .before in
+    Coded (start .args .text .now) (read c .0) (take (c .answer2 .given .0 .0) (after-read .read .result .code))
 coded c = let a = read c in record { syntax = a .1 .limits .syntax; shallow = a .1 .limits .shallow; is = a .1 .front }
 
 -- src/lib.rt:185:9
@@ -38,8 +44,10 @@ enum-known-answer-2 c = search needs
 of-code-requires : tie.Need-of-code-requires
 of-code-requires c κs =
     let a = read (c .before .before .before) in
-    let k : length (c .before .before .before .before .before .before .read .result .code) ≡ 256 = search needs in
-    (omega (arith, a .1 .fits), (c .before .before .before .before .before .before .before .before .before .before .args .text .now, a .0, coded (c .before .before .before)))
+    let k : length (c .before .before .before .before .before .before .read .result .code) ≡ 256 = search needs in (
+      omega (arith, a .1 .fits),
+      (c .before .before .before .before .before .before .before .before .before .before .args .text .now, a .0, coded (c .before .before .before)),
+    )
 
 -- src/lib.rt:177:1
 returns : tie.Need-returns
@@ -56,8 +64,11 @@ same-length-2 c = search needs
 -- src/lib.rt:177:1
 returns-2 : tie.Need-returns-2
 returns-2 c =
-    let a = read (c .before .before .before .before .before .before .before .before) in
-    same-verdict _ _ (a .0) _ _ _ _ (a .1 .is) (c .before .before .before .before .of-code .ensures (c .before .before .before .before .before .before .before .before .before .before .before .before .before .before .before .args .text .now) (a .0) (coded (c .before .before .before .before .before .before .before .before)))
+    let after-of-code = c .before .before .before .before in
+    let after-answer2 = after-of-code .before .before .before .before in
+    let start = after-answer2 .before .before .before .before .before .before .before in
+    let a = read after-answer2 in
+    same-verdict _ _ (a .0) _ _ _ _ (a .1 .is) (after-of-code .of-code .ensures (start .args .text .now) (a .0) (coded after-answer2))
 
 pub pairs-by-rows-spec : {M : Type 1} → statement M
 pairs-by-rows-spec =

@@ -1,5 +1,5 @@
--- `put_letters` puts the links of the letters in, label by label, each label's from its part of the register's words. The loop's invariant: the links of the labels
--- passed are in (`PutBelow`), and cells and masks are as long as they were. The measure is the labels left. Assumes nothing.
+-- `put_letters` puts the links of the letters in, label by label, each label's from its part of the register's words. The loop's invariant: the links of the
+-- labels passed are in (`PutBelow`), and cells and masks are as long as they were. The measure is the labels left. Assumes nothing.
 use mathlib.Core.Path.{_≡_, refl, sym, ap, _∙_, subst}
 use mathlib.Core.Logic.{⊎-elim}
 use mathlib.Core.List.{List}
@@ -8,12 +8,13 @@ use borrow.Author.Needs.{needs}
 use Prim.Native.Nat.{ℕ, _+_, _-_, _≤_}
 use lib.ListN.{length}
 use Rattle.rowpairs.specs.Labels.{PutBelow}
-use Rattle.rowpairs.proofs.Lettering.{every-le, put-begins, put-more, put-same, put-ends}
+use Rattle.rowpairs.proofs.LetterLaws.{every-le, put-begins, put-more, put-same, put-ends}
 use Rattle.rowpairs.proofs.put_letters.Statement.{statement}
 use Rattle.rowpairs.proofs.put_letters.Tie as tie
 
 abbrev Inv-loop : tie.InvT-loop
-Inv-loop links forward against cells₀ masks₀ n w label₀ cells masks label = (label ≤ 26) × (length cells ≡ length cells₀) × (length masks ≡ length masks₀) × PutBelow n w links forward against cells₀ masks₀ cells masks label
+Inv-loop links forward against cells₀ masks₀ n w label₀ cells masks label =
+    (label ≤ 26) × (length cells ≡ length cells₀) × (length masks ≡ length masks₀) × PutBelow n w links forward against cells₀ masks₀ cells masks label
 
 abbrev μ-loop : tie.MeasureT-loop
 μ-loop links forward against cells₀ masks₀ n w label₀ cells masks label = 26 - label
@@ -32,7 +33,16 @@ every-if-requires-2 c κs = omega arith
 
 -- src/lib.rt:69:12
 add-if1 : tie.Need-add-if1 Inv-loop μ-loop
-add-if1 c = omega (arith, every-le (c .before .before .before .before .before .before .before .args .forward) (c .before .before .before .loop .label), every-le (c .before .before .before .before .before .before .before .args .against) (c .before .before .before .loop .label), c .before .every-if .ensures, c .every-if2 .ensures)
+add-if1 c =
+    let at-loop = c .before .before .before in
+    let start = at-loop .before .before .before .before in
+    omega (
+      arith,
+      every-le (start .args .forward) (at-loop .loop .label),
+      every-le (start .args .against) (at-loop .loop .label),
+      c .before .every-if .ensures,
+      c .every-if2 .ensures,
+    )
 
 -- src/lib.rt:70:17
 label-part-requires : tie.Need-label-part-requires Inv-loop μ-loop
@@ -65,17 +75,23 @@ loop-again c =
       omega arith,
       ap length (v .9) ∙ v .4 .kept .1 .1 .1 .0 ∙ l .inv .1,
       ap length (v .10) ∙ v .4 .kept .1 .1 .1 .1 .0 ∙ l .inv .2,
-      subst (λ (x : List ℕ). PutBelow (a .n) (a .w) (a .links .now) (a .forward) (a .against) (a .cells .now) (a .masks .now) x (c .if1 .masks) (l .label + 1)) (sym (v .9))
-          (subst (λ (x : List ℕ). PutBelow (a .n) (a .w) (a .links .now) (a .forward) (a .against) (a .cells .now) (a .masks .now) (v .4 .last .1 .1 .1 .0) x (l .label + 1)) (sym (v .10))
-          (put-more (a .n) (a .w) (a .links .now) (a .forward) (a .against) (a .cells .now) (a .masks .now) (l .label) _ _ (l .cells) (l .masks) (p .ensures) (t .ensures) (l .inv .3) _ _ _ (v .1 .ensures) (v .4 .ensures))),
+      subst (λ (x : List ℕ). PutBelow (a .n) (a .w) (a .links .now) (a .forward) (a .against) (a .cells .now) (a .masks .now) x (c .if1 .masks) (l .label + 1))
+          (sym (v .9))
+          (subst (λ (x : List ℕ). PutBelow (a .n) (a .w) (a .links .now) (a .forward) (a .against)
+          (a .cells .now) (a .masks .now) (v .4 .last .1 .1 .1 .0) x (l .label + 1)) (sym (v .10))
+          (put-more (a .n) (a .w) (a .links .now) (a .forward) (a .against) (a .cells .now) (a .masks .now) (l .label)
+          _ _ (l .cells) (l .masks) (p .ensures) (t .ensures) (l .inv .3) _ _ _ (v .1 .ensures) (v .4 .ensures))),
     ))
     (λ v. (
       omega arith,
       ap length (v .1) ∙ l .inv .1,
       ap length (v .2) ∙ l .inv .2,
-      subst (λ (x : List ℕ). PutBelow (a .n) (a .w) (a .links .now) (a .forward) (a .against) (a .cells .now) (a .masks .now) x (c .if1 .masks) (l .label + 1)) (sym (v .1))
-          (subst (λ (x : List ℕ). PutBelow (a .n) (a .w) (a .links .now) (a .forward) (a .against) (a .cells .now) (a .masks .now) (l .cells) x (l .label + 1)) (sym (v .2))
-          (put-same (a .n) (a .w) (a .links .now) (a .forward) (a .against) (a .cells .now) (a .masks .now) (l .label) _ _ (l .cells) (l .masks) (p .ensures) (t .ensures) (l .inv .3) (let h = v .0 .left in omega arith))),
+      subst (λ (x : List ℕ). PutBelow (a .n) (a .w) (a .links .now) (a .forward) (a .against) (a .cells .now) (a .masks .now) x (c .if1 .masks) (l .label + 1))
+          (sym (v .1))
+          (subst (λ (x : List ℕ). PutBelow (a .n) (a .w) (a .links .now) (a .forward) (a .against) (a .cells .now) (a .masks .now) (l .cells) x (l .label + 1))
+          (sym (v .2))
+          (put-same (a .n) (a .w) (a .links .now) (a .forward) (a .against) (a .cells .now) (a .masks .now) (l .label)
+          _ _ (l .cells) (l .masks) (p .ensures) (t .ensures) (l .inv .3) (let h = v .0 .left in omega arith))),
     ))
     (c .if1 .came)
 

@@ -1,23 +1,26 @@
--- `run` runs the code item by item. The loop's invariant: the first i numbers have been run (`Going`), and work and masks are as long as they were. The measure is
--- what is left of the code. Assumes nothing.
+-- `run` runs the code item by item. The loop's invariant: the first i numbers have been run (`Going`), and work and masks are as long as they were. The
+-- measure is what is left of the code. Assumes nothing.
 use native.Mathlib.Omega.{arith}
-use borrow.Author.Needs.{needs}
-use mathlib.Core.Path.{_≡_, refl, sym, _∙_}
+use mathlib.Core.Path.{_≡_, refl, _∙_}
 use Prim.Native.Nat.{_+_, _-_, _≤_}
 use lib.ListN.{length}
 use Rattle.rowpairs.specs.Evaluation.{Going}
-use Rattle.rowpairs.proofs.Running.{going-begins, reading-used, reading-ready, reading-more, going-ends}
+use Rattle.rowpairs.proofs.RunLaws.{going-begins, reading-used, reading-ready, reading-more, going-ends}
 use Rattle.rowpairs.proofs.run.Statement.{statement}
 use Rattle.rowpairs.proofs.run.Tie as tie
 
 abbrev Inv-loop : tie.InvT-loop
-Inv-loop links used cells₀ masks₀ n code count₀ i₀ cells masks count i = (i ≤ length code) × (length cells ≡ length cells₀) × (length masks ≡ length masks₀) × Going n links used code cells masks count i
+Inv-loop links used cells₀ masks₀ n code count₀ i₀ cells masks count i =
+    (i ≤ length code) × (length cells ≡ length cells₀) × (length masks ≡ length masks₀) × Going n links used code cells masks count i
 
 abbrev μ-loop : tie.MeasureT-loop
 μ-loop links used cells₀ masks₀ n code count₀ i₀ cells masks count i = length code - i
 
 -- the numbers read
-used : (c : tie.After-next-item Inv-loop μ-loop) → (1 ≤ c .next-item .result .used) × (c .next-item .result .used ≤ 2) × (c .before .before .loop .i + c .next-item .result .used ≤ length (c .before .before .before .before .before .before .before .before .args .code .now))
+used : (c : tie.After-next-item Inv-loop μ-loop)
+    → let start = c .before .before .before .before .before .before .before .before in
+    (1 ≤ c .next-item .result .used) × (c .next-item .result .used ≤ 2)
+    × (c .before .before .loop .i + c .next-item .result .used ≤ length (start .args .code .now))
 used c = let l = c .before .before .loop in reading-used _ _ _ _ (l .i) (omega arith) (l .inv .3) (c .next-item .ensures)
 
 -- src/lib.rt:200:5
@@ -32,8 +35,10 @@ next-item-requires c κs = omega arith
 step-requires : tie.Need-step-requires Inv-loop μ-loop
 step-requires c κs =
     let l = c .before .before .before .before .loop in
-    let P = c .before .before .before .before .before .before .before .before .before .before .pre .0 in
-    (record { small = P .small; words = omega (arith, l .inv .1, P .words); marks = omega (arith, l .inv .2, P .marks) }, reading-ready _ _ _ _ (l .i) (omega arith) (l .inv .3) (c .before .before .next-item .ensures))
+    let P = c .before .before .before .before .before .before .before .before .before .before .pre .0 in (
+      record { small = P .small; words = omega (arith, l .inv .1, P .words); marks = omega (arith, l .inv .2, P .marks) },
+      reading-ready _ _ _ _ (l .i) (omega arith) (l .inv .3) (c .before .before .next-item .ensures),
+    )
 
 -- src/lib.rt:204:9
 add-i : tie.Need-add-i Inv-loop μ-loop
@@ -46,9 +51,15 @@ loop-less c = omega (arith, used (c .before .before .before .before .before .bef
 -- src/lib.rt:200:5
 loop-again : tie.Need-loop-again Inv-loop μ-loop
 loop-again c =
-    let l = c .before .before .before .before .before .before .before .before .before .before .loop in
-    let s = c .before .before .before .before .before .step in
-    (used (c .before .before .before .before .before .before .before .before) .2, s .kept .1 .1 .0 ∙ l .inv .1, s .kept .1 .1 .1 .0 ∙ l .inv .2, reading-more _ _ _ _ (l .i) (omega arith) (l .inv .3) (c .before .before .before .before .before .before .before .before .next-item .ensures) (s .ensures))
+    let after-step = c .before .before .before .before .before in
+    let after-next-item = after-step .before .before .before in
+    let l = after-next-item .before .before .loop in
+    let s = after-step .step in (
+      used after-next-item .2,
+      s .kept .1 .1 .0 ∙ l .inv .1,
+      s .kept .1 .1 .1 .0 ∙ l .inv .2,
+      reading-more _ _ _ _ (l .i) (omega arith) (l .inv .3) (after-next-item .next-item .ensures) (s .ensures),
+    )
 
 -- src/lib.rt:194:1
 same-length : tie.Need-same-length Inv-loop μ-loop

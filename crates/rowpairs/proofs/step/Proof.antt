@@ -1,23 +1,34 @@
 -- `step` lends the part from its operands on to the operation; `goes-step` does the rest. Assumes nothing.
 use native.Mathlib.Omega.{arith}
-use mathlib.Core.Path.{_≡_, sym, ap, _∙_, subst}
-use Prim.Native.Nat.{ℕ, _-_, _*_, _≤_}
-use lib.ListN.{length, take, drop}
+use mathlib.Core.Path.{_≡_}
+use Prim.Native.Nat.{_-_, _*_, _≤_}
+use lib.ListN.{length}
 use Rattle.rowpairs.specs.Asking.{rowWidth}
-use Rattle.rowpairs.proofs.Stepping.{unit-le, start-le, mark-le, lent-space, goes-part}
+use Rattle.rowpairs.proofs.StepLaws.{unit-le, start-le, mark-le, lent-space, goes-part}
 use borrow.Author.Needs.{needs}
 use Rattle.rowpairs.proofs.step.Statement.{statement}
 use Rattle.rowpairs.proofs.step.Tie as tie
 
 -- at most 18 relations stand below the operands
 early : (c : tie.After-operands-of) → c .before .before .before .before .before .before .args .count - c .operands-of .result ≤ 18
-early c = let o = c .operands-of .ensures in let r = c .before .before .before .before .before .before .pre .1 .room in let f = c .before .before .before .before .before .before .pre .1 .found in omega arith
+early c =
+    let start = c .before .before .before .before .before .before in
+    let o = c .operands-of .ensures in let r = start .pre .1 .room in let f = start .pre .1 .found in omega arith
 
-starts : (c : tie.After-operands-of) → (c .before .before .before .before .before .before .args .count - c .operands-of .result) * (c .before .before .before .before .before .before .args .n * c .before .row-width .result) ≤ 18 * (c .before .before .before .before .before .before .args .n * rowWidth (c .before .before .before .before .before .before .args .n))
-starts c = let w : c .before .row-width .result ≡ rowWidth (c .before .before .before .before .before .before .args .n) = c .before .row-width .ensures in rw w (start-le (c .before .before .before .before .before .before .args .n) _ (length (c .before .before .before .before .before .before .args .cells .now)) (length (c .before .before .before .before .before .before .args .masks .now)) (c .before .before .before .before .before .before .pre .0) (early c))
+starts : (c : tie.After-operands-of)
+    → let start = c .before .before .before .before .before .before in
+    (start .args .count - c .operands-of .result) * (start .args .n * c .before .row-width .result) ≤ 18 * (start .args .n * rowWidth (start .args .n))
+starts c =
+    let start = c .before .before .before .before .before .before in
+    let w : c .before .row-width .result ≡ rowWidth (start .args .n) = c .before .row-width .ensures in
+    rw w (start-le (start .args .n) _ (length (start .args .cells .now)) (length (start .args .masks .now)) (start .pre .0) (early c))
 
-marks : (c : tie.After-operands-of) → (c .before .before .before .before .before .before .args .count - c .operands-of .result) * c .before .before .before .before .before .before .args .n ≤ 18 * c .before .before .before .before .before .before .args .n
-marks c = mark-le (c .before .before .before .before .before .before .args .n) _ (length (c .before .before .before .before .before .before .args .cells .now)) (length (c .before .before .before .before .before .before .args .masks .now)) (c .before .before .before .before .before .before .pre .0) (early c)
+marks : (c : tie.After-operands-of)
+    → let start = c .before .before .before .before .before .before in
+    (start .args .count - c .operands-of .result) * start .args .n ≤ 18 * start .args .n
+marks c =
+    let start = c .before .before .before .before .before .before in
+    mark-le (start .args .n) _ (length (start .args .cells .now)) (length (start .args .masks .now)) (start .pre .0) (early c)
 
 -- src/lib.rt:111:9
 row-width-requires : tie.Need-row-width-requires
@@ -25,7 +36,9 @@ row-width-requires c κs = search needs
 
 -- src/lib.rt:112:16
 mul-unit : tie.Need-mul-unit
-mul-unit c = let w : c .row-width .result ≡ rowWidth (c .before .before .before .before .before .args .n) = c .row-width .ensures in rw w (omega (arith, unit-le (c .before .before .before .before .before .args .n) (c .before .before .before .before .before .pre .0 .small)))
+mul-unit c =
+    let start = c .before .before .before .before .before in
+    let w : c .row-width .result ≡ rowWidth (start .args .n) = c .row-width .ensures in rw w (omega (arith, unit-le (start .args .n) (start .pre .0 .small)))
 
 -- src/lib.rt:113:25
 operands-of-requires : tie.Need-operands-of-requires
@@ -37,7 +50,9 @@ sub-below c = omega (arith, c .operands-of .ensures, c .before .before .before .
 
 -- src/lib.rt:114:17
 mul-start : tie.Need-mul-start
-mul-start c = omega (arith, starts c, unit-le (c .before .before .before .before .before .before .args .n) (c .before .before .before .before .before .before .pre .0 .small))
+mul-start c =
+    let start = c .before .before .before .before .before .before in
+    omega (arith, starts c, unit-le (start .args .n) (start .pre .0 .small))
 
 -- src/lib.rt:115:16
 mul-mark : tie.Need-mul-mark
@@ -45,7 +60,9 @@ mul-mark c = omega (arith, marks c, c .before .before .before .before .before .b
 
 -- src/lib.rt:119:9
 mul-operate : tie.Need-mul-operate
-mul-operate c = omega (arith, starts c, unit-le (c .before .before .before .before .before .before .args .n) (c .before .before .before .before .before .before .pre .0 .small))
+mul-operate c =
+    let start = c .before .before .before .before .before .before in
+    omega (arith, starts c, unit-le (start .args .n) (start .pre .0 .small))
 
 -- src/lib.rt:119:9
 sub-operate : tie.Need-sub-operate
@@ -78,8 +95,10 @@ part-operate-end-2 c = search needs
 -- src/lib.rt:116:5
 operate-requires : tie.Need-operate-requires
 operate-requires c κs =
-    let a = c .before .before .before .before .before .before .before .before .args in
-    lent-space (a .n) _ _ (a .cells .now) (a .masks .now) (c .before .before .before .row-width .ensures) (c .before .before .before .before .before .before .before .before .pre .0) (early (c .before .before))
+    let after-row-width = c .before .before .before in
+    let start = after-row-width .before .before .before .before .before in
+    let a = start .args in
+    lent-space (a .n) _ _ (a .cells .now) (a .masks .now) (after-row-width .row-width .ensures) (start .pre .0) (early (c .before .before))
 
 -- src/lib.rt:125:5
 add-result : tie.Need-add-result
@@ -96,11 +115,15 @@ same-length-2 c = search needs
 -- src/lib.rt:99:1
 returns : tie.Need-returns
 returns c =
-    let a = c .before .before .before .before .before .before .before .before .before .before .before .before .before .args in
-    let o = c .before .before .before .before .operate in
-    let f = c .before .before .before .before .before .before .before .before .before .before .before .before .before .pre .1 .found in
-    let e = c .before .before .before .before .before .before .before .operands-of .ensures in
-    goes-part (a .n) (a .links .now) (a .used .now) (a .item) (a .cells .now) (o .last .1 .1 .0) (a .masks .now) (o .last .1 .1 .1 .0) (a .count) _ _ (c .before .before .before .before .before .before .before .before .row-width .ensures) (omega arith) (c .before .before .before .before .before .before .before .before .before .before .before .before .before .pre .0) (early (c .before .before .before .before .before .before .before)) (o .ensures)
+    let after-operate = c .before .before .before .before in
+    let after-operands-of = after-operate .before .before .before in
+    let start = after-operands-of .before .before .before .before .before .before in
+    let a = start .args in
+    let o = after-operate .operate in
+    let f = start .pre .1 .found in
+    let e = after-operands-of .operands-of .ensures in
+    goes-part (a .n) (a .links .now) (a .used .now) (a .item) (a .cells .now) (o .last .1 .1 .0) (a .masks .now) (o .last .1 .1 .1 .0)
+    (a .count) _ _ (after-operands-of .before .row-width .ensures) (omega arith) (start .pre .0) (early after-operands-of) (o .ensures)
 
 pub step-spec : {M : Type 1} → statement M
 step-spec =

@@ -1,5 +1,5 @@
--- `write_links` writes pair after pair. The loop's invariant: the first i pairs stand at the front of the list, and past them it is as it was. The measure is how many
--- are left. Assumes nothing.
+-- `write_links` writes pair after pair. The loop's invariant: the first i pairs stand at the front of the list, and past them it is as it was.
+-- The measure is how many are left. Assumes nothing.
 use mathlib.Core.Path.{_≡_, refl, _∙_}
 use mathlib.Core.List.{map, _++_}
 use native.Mathlib.Omega.{arith}
@@ -7,7 +7,7 @@ use borrow.Author.Needs.{needs}
 use Prim.Native.Nat.{_-_, _≤_}
 use lib.ListN.{length, take, drop, length-set}
 use Rattle.rows.specs.Rows.{linkPair}
-use Rattle.rowpairs.proofs.Alone.{written-more, written-all}
+use Rattle.rowpairs.proofs.LoneLetterLaws.{written-more, written-all}
 use Rattle.rowpairs.proofs.write_links.Statement.{statement}
 use Rattle.rowpairs.proofs.write_links.Tie as tie
 
@@ -54,8 +54,11 @@ loop-again : tie.Need-loop-again Inv-loop μ-loop
 loop-again c =
     let l = c .before .before .loop in
     let o = c .before .before .before .lesser .ensures in
-    let a = c .before .before .before .before .before .before .args in
-    (omega arith, length-set (l .list) (l .i) _ ∙ l .inv .1, written-more (l .i) (a .words .now) (l .list) (a .list .now) (omega (arith, o .0)) (omega (arith, o .1)) (l .inv .2))
+    let a = c .before .before .before .before .before .before .args in (
+      omega arith,
+      length-set (l .list) (l .i) _ ∙ l .inv .1,
+      written-more (l .i) (a .words .now) (l .list) (a .list .now) (omega (arith, o .0)) (omega (arith, o .1)) (l .inv .2),
+    )
 
 -- src/lib.rt:255:1
 same-length : tie.Need-same-length Inv-loop μ-loop
@@ -66,7 +69,8 @@ returns : tie.Need-returns Inv-loop μ-loop
 returns c =
     let l = c .before .loop in
     let a = c .before .before .before .before .before .args in
-    written-all (l .i) (c .before .before .lesser .result) (a .words .now) (l .list) (a .list .now) (omega arith) (c .before .before .lesser .ensures) (l .inv .2)
+    written-all (l .i) (c .before .before .lesser .result) (a .words .now) (l .list)
+    (a .list .now) (omega arith) (c .before .before .lesser .ensures) (l .inv .2)
 
 pub write-links-spec : {M : Type 1} → statement M
 write-links-spec =

@@ -10,8 +10,8 @@ use Rattle.k2.specs.PairSets.{Cells, IsSet, via, closure}
 use Rattle.k2.specs.PairSetLaws.{closure-set}
 use Rattle.rows.specs.Rows.{flat}
 use Rattle.rows.specs.Steps.{rowAt, Occupied}
-use Rattle.rows.proofs.Entries.{row-at, row-end}
-use Rattle.rows.proofs.Closing.{rounds-start, rounds-more, rounds-occupied}
+use Rattle.rows.proofs.EntryLaws.{row-at, row-end}
+use Rattle.rows.proofs.ClosureLaws.{rounds-start, rounds-more, rounds-occupied}
 use Rattle.rows.proofs.close.Statement.{statement}
 use Rattle.rows.proofs.close.Tie as tie
 
@@ -60,9 +60,11 @@ loop-less c = omega arith
 
 loop-again : tie.Need-loop-again Inv-loop μ-loop
 loop-again c =
-    let l = c .before .before .before .before .before .before .loop in
-    let a = c .before .before .before .before .before .before .before .before .before .before .before .before .args in
-    let u = c .before .before .before .before .before .before .before .before .occupied in
+    let at-loop = c .before .before .before .before .before .before in
+    let start = at-loop .before .before .before .before .before .before in
+    let l = at-loop .loop in
+    let a = start .args in
+    let u = at-loop .before .before .occupied in
     let m = u .result in
     let list = u .last .1 .1 .0 in
     let r = rowAt (a .n) m list in
@@ -72,7 +74,8 @@ loop-again c =
       omega arith,
       v .kept .0 ∙ l .inv .1,
       λ x X o e.
-          v .ensures (a .n) (closure (r (l .round)) x) nl (closure-set (a .n) (r (l .round)) x X) (rounds-occupied (a .n) m x nl X r o (r (l .round))) (l .inv .2 x X o e)
+          v .ensures (a .n) (closure (r (l .round)) x) nl (closure-set (a .n) (r (l .round)) x X)
+          (rounds-occupied (a .n) m x nl X r o (r (l .round))) (l .inv .2 x X o e)
           ∙ ap flat (ap (λ (k : ℕ). via k (closure (r (l .round)) x)) (sym (row-at (a .n) m list (l .round) h)) ∙ rounds-more (a .n) m x nl X r o (l .round) h),
     )
 

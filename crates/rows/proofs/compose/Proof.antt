@@ -12,7 +12,7 @@ use Rattle.k2.specs.PairSetLaws.{product-set}
 use Rattle.bits.specs.BitSetLaws.{bits-none}
 use Rattle.rows.specs.Rows.{flat}
 use Rattle.rows.specs.Steps.{EmptyRow, rowsTo}
-use Rattle.rows.proofs.Search.{mask-empty, to-none, to-all, product-store, product-skip}
+use Rattle.rows.proofs.SearchLaws.{mask-empty, to-none, to-all, product-store, product-skip}
 use Rattle.rows.proofs.compose.Statement.{statement}
 use Rattle.rows.proofs.compose.Tie as tie
 
@@ -61,9 +61,11 @@ loop-less c = omega arith
 
 loop-again : tie.Need-loop-again Inv-loop μ-loop
 loop-again c =
-    let l = c .before .before .before .before .loop in
-    let a = c .before .before .before .before .before .before .before .before .before .before .args in
-    let o = c .before .before .before .before .before .before .occupied in
+    let at-loop = c .before .before .before .before in
+    let start = at-loop .before .before .before .before .before .before in
+    let l = at-loop .loop in
+    let a = start .args in
+    let o = at-loop .before .before .occupied in
     let s = c .before .squares in
     let nl : a .n ≤ 1024 = omega arith in
     ⊎-elim

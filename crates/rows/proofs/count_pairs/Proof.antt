@@ -4,7 +4,7 @@ use Prim.Native.Nat.{_*_}
 use native.Mathlib.Omega.{arith}
 use Rattle.k2.specs.Bits.{bitAt}
 use Rattle.k2.specs.BitLaws.{bit-lt}
-use Rattle.rows.proofs.Listing.{places-length}
+use Rattle.rows.proofs.ListingLaws.{places-length}
 use Rattle.rows.proofs.count_pairs.Statement.{statement}
 use Rattle.rows.proofs.count_pairs.Tie as tie
 

@@ -1,27 +1,27 @@
 -- `intersect` writes the words in turn. The loop's invariant: the words before i hold the answer's bits, those from i on are as at the start. The
--- measure is the words left. It rests on `both-word`. Assumes nothing.
-use mathlib.Core.Path.{_≡_, refl, ap₂, _∙_}
-use Prim.Native.Nat.{_≤_, _-_}
+-- measure is the words left. It rests on `written-more` and `both-word`. Assumes nothing.
+use mathlib.Core.Path.{ap₂, _∙_}
+use Prim.Native.Nat.{ℕ, _≤_, _-_}
 use native.Mathlib.Omega.{arith}
 use borrow.Author.Needs.{needs}
-use lib.ListN.{length, length-set}
+use lib.Bits.{bitAnd}
+use lib.ListN.{getD}
 use Rattle.k2.specs.Bits.{bitAt}
-use Rattle.k2.specs.BitLaws.{Upto, upto-none, upto-more, upto-all}
 use Rattle.bits.specs.BitSets.{both}
 use Rattle.bits.specs.BitSetLaws.{both-word}
 use Rattle.rows.specs.RowLaws.{flat-intersection}
-use Rattle.rows.proofs.Wordwise.{Rest, rest-more, both-out}
+use Rattle.rows.proofs.WordwiseLaws.{Written, written-none, written-more, written-all, both-out}
 use Rattle.rows.proofs.intersect.Statement.{statement}
 use Rattle.rows.proofs.intersect.Tie as tie
 
 abbrev Inv-loop : tie.InvT-loop
-Inv-loop a₀ b i₀ a i = (i ≤ 16384) × (length a ≡ length a₀) × Upto i (bitAt a) (both (bitAt a₀) (bitAt b)) × Rest i a a₀
+Inv-loop a₀ b i₀ a i = (i ≤ 16384) × Written (both (bitAt a₀) (bitAt b)) i a a₀
 
 abbrev μ-loop : tie.MeasureT-loop
 μ-loop a₀ b i₀ a i = 16384 - i
 
 loop-holds : tie.Need-loop-holds Inv-loop μ-loop
-loop-holds c = (omega arith, refl, upto-none _ _, λ j h. refl)
+loop-holds c = (omega arith, written-none)
 
 mul-a : tie.Need-mul-a Inv-loop μ-loop
 mul-a c = omega arith
@@ -52,9 +52,8 @@ loop-again c =
     let l = c .before .before .before .loop in
     let args = c .before .before .before .before .args in (
       omega arith,
-      simp length-set (l .inv .1),
-      upto-more (l .a) (l .i) _ _ (omega arith) (l .inv .2) (λ k h. rw (l .inv .3 (l .i) (omega arith)) (both-word (args .a .now) (args .b .now) (l .i) k h)),
-      rest-more (l .i) _ (l .a) (args .a .now) (l .inv .3),
+      written-more (λ (w : ℕ). bitAnd w (getD (args .b .now) (l .i) 0)) (omega arith) (l .inv .1)
+          (λ k h. both-word (args .a .now) (args .b .now) (l .i) k h),
     )
 
 same-length : tie.Need-same-length Inv-loop μ-loop
@@ -63,8 +62,7 @@ same-length c = search needs
 returns : tie.Need-returns Inv-loop μ-loop
 returns c =
     let l = c .before .loop in
-    let e = upto-all (l .a) (l .i) _ (omega arith) (l .inv .2) (λ p h. both-out _ _ p (omega arith)) in
-    λ x y ex ey. e ∙ ap₂ both ex ey ∙ flat-intersection x y
+    λ x y ex ey. written-all (omega arith) (l .inv .1) (both-out _ _) ∙ ap₂ both ex ey ∙ flat-intersection x y
 
 pub intersect-spec : {M : Type 1} → statement M
 intersect-spec =

@@ -11,9 +11,9 @@ use Rattle.k2.specs.Bits.{bitAt}
 use Rattle.k2.specs.PairSets.{Cells, IsSet, via}
 use Rattle.rows.specs.Rows.{flat}
 use Rattle.rows.specs.Steps.{rowAt, Occupied, rowsTo, plusRow}
-use Rattle.rows.proofs.Search.{to-row}
-use Rattle.rows.proofs.Entries.{row-at}
-use Rattle.rows.proofs.Closing.{round-start, round-yes, round-no, round-end}
+use Rattle.rows.proofs.SearchLaws.{to-row}
+use Rattle.rows.proofs.EntryLaws.{row-at}
+use Rattle.rows.proofs.ClosureLaws.{round-start, round-yes, round-no, round-end}
 use Rattle.rows.proofs.lead_over.Statement.{statement}
 use Rattle.rows.proofs.lead_over.Tie as tie
 
@@ -61,7 +61,8 @@ loop-less c = omega arith
 cell : (n k t m : ℕ) (x : Cells) (l rows : List ℕ) → t < m → k < 1024 → bitAt rows ≡ flat (rowsTo (rowAt n m l t) (via k x) x)
     → bitAt rows (getD l t 0 % 1024 * 1024 + k) ≡ x (rowAt n m l t) k
 cell n k t m x l rows h kl e =
-    ap (λ (i : ℕ). bitAt rows (i * 1024 + k)) (sym (row-at n m l t h)) ∙ ap (λ (f : ℕ → ℕ). f (rowAt n m l t * 1024 + k)) e ∙ to-row (rowAt n m l t) (via k x) x k kl
+    ap (λ (i : ℕ). bitAt rows (i * 1024 + k)) (sym (row-at n m l t h))
+    ∙ ap (λ (f : ℕ → ℕ). f (rowAt n m l t * 1024 + k)) e ∙ to-row (rowAt n m l t) (via k x) x k kl
 
 loop-again : tie.Need-loop-again Inv-loop μ-loop
 loop-again c =
@@ -77,9 +78,11 @@ loop-again c =
       rw (w .5) (w .2 .kept .0 ∙ l .inv .1),
       λ n x nl X o e.
           let q = l .inv .2 n x nl X o e in
-          let s : x (R n (l .t)) (a .k) ≡ 1 = sym (cell n (a .k) (l .t) (a .m) x (a .list .now) (l .rows) h kl q) ∙ sym (c .before .bit .ensures) ∙ w .0 .taken in
+          let s : x (R n (l .t)) (a .k) ≡ 1 =
+          sym (cell n (a .k) (l .t) (a .m) x (a .list .now) (l .rows) h kl q) ∙ sym (c .before .bit .ensures) ∙ w .0 .taken in
           rw (w .5) (w .2 .ensures (rowsTo (R n (l .t)) (via (a .k) x) x) q
-          ∙ ap flat (ap (λ (i : ℕ). plusRow i (a .k) (rowsTo (R n (l .t)) (via (a .k) x) x)) (sym (at n)) ∙ round-yes n (a .k) x nl X (a .m) (R n) o (l .t) h s)),
+          ∙ ap flat (ap (λ (i : ℕ). plusRow i (a .k) (rowsTo (R n (l .t)) (via (a .k) x) x)) (sym (at n))
+          ∙ round-yes n (a .k) x nl X (a .m) (R n) o (l .t) h s)),
     ))
     (λ w. (
       omega arith,

@@ -8,8 +8,8 @@ use borrow.Author.Needs.{needs}
 use lib.ListN.{length, length-set}
 use Rattle.k2.specs.Bits.{bitAt}
 use Rattle.rows.specs.Steps.{rowAt, Occupied, Masks}
-use Rattle.rows.proofs.Search.{mask-empty}
-use Rattle.rows.proofs.Entries.{occupied-none, entries-skip, entries-add, masks-add}
+use Rattle.rows.proofs.SearchLaws.{mask-empty}
+use Rattle.rows.proofs.EntryLaws.{occupied-none, entries-skip, entries-add, masks-add}
 use Rattle.rows.proofs.occupied.Statement.{statement}
 use Rattle.rows.proofs.occupied.Tie as tie
 

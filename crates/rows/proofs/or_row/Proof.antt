@@ -7,7 +7,7 @@ use borrow.Author.Needs.{needs}
 use lib.ListN.{length, length-set}
 use Rattle.k2.specs.Bits.{bitAt}
 use Rattle.rows.specs.Steps.{partRow}
-use Rattle.rows.proofs.Closing.{part-start, part-step, part-end}
+use Rattle.rows.proofs.ClosureLaws.{part-start, part-step, part-end}
 use Rattle.rows.proofs.or_row.Statement.{statement}
 use Rattle.rows.proofs.or_row.Tie as tie
 

@@ -10,8 +10,8 @@ use lib.ListN.{length, getD}
 use Rattle.k2.specs.Bits.{bitAt}
 use Rattle.bits.specs.BitSets.{none, put}
 use Rattle.rows.specs.Steps.{Masked, rowAt, Occupied, Masks, Common, served, below}
-use Rattle.rows.proofs.Search.{served-bit, masks-common, masks-apart, row-start, row-skip, row-put}
-use Rattle.rows.proofs.Entries.{row-at, row-end}
+use Rattle.rows.proofs.SearchLaws.{served-bit, masks-common, masks-apart, row-start, row-skip, row-put}
+use Rattle.rows.proofs.EntryLaws.{row-at, row-end}
 use Rattle.rows.proofs.product_row.Statement.{statement}
 use Rattle.rows.proofs.product_row.Tie as tie
 
@@ -39,8 +39,14 @@ cast-j c = omega arith
 
 serves-requires : tie.Need-serves-requires Inv-loop μ-loop
 serves-requires c κs =
-    let a = c .before .before .before .before .before .before .before .before .args in
-    (omega arith, omega arith, omega arith, omega arith, omega arith, omega (arith, and-le-l (a .mask) (getD (a .list .now) (c .before .before .before .loop .t) 0 / 1024)))
+    let a = c .before .before .before .before .before .before .before .before .args in (
+      omega arith,
+      omega arith,
+      omega arith,
+      omega arith,
+      omega arith,
+      omega (arith, and-le-l (a .mask) (getD (a .list .now) (c .before .before .before .loop .t) 0 / 1024)),
+    )
 
 set-bit-requires : tie.Need-set-bit-requires Inv-loop μ-loop
 set-bit-requires c κs = omega arith
@@ -60,7 +66,8 @@ loop-again c =
     let R : ℕ → ℕ → ℕ = λ n. rowAt n (a .m) (a .list .now) in
     let S = served f g (a .i) in
     let h : l .t < a .m = omega arith in
-    let both : Masked f (a .i) (a .mask) → Masks g (a .m) (a .list .now) → Common f g (a .i) (getD (a .list .now) (l .t) 0 % 1024) (bitAnd (a .mask) (getD (a .list .now) (l .t) 0 / 1024))
+    let both : Masked f (a .i) (a .mask) → Masks g (a .m) (a .list .now)
+    → Common f g (a .i) (getD (a .list .now) (l .t) 0 % 1024) (bitAnd (a .mask) (getD (a .list .now) (l .t) 0 / 1024))
     = λ u k. masks-common f g (a .i) _ (a .mask) _ u (k (l .t) h) in
     let at : (n : ℕ) → R n (l .t) ≡ getD (a .list .now) (l .t) 0 % 1024 = λ n. row-at n (a .m) (a .list .now) (l .t) h in
     ⊎-elim
@@ -99,7 +106,8 @@ returns c =
     let l = c .before .loop in
     let a = c .before .before .before .before .before .before .args in
     let e : l .t ≡ a .m = omega arith in
-    λ n g o k z. l .inv .2 n g o k z ∙ ap (λ (b : ℕ). below b (served (bitAt (a .a .now)) (bitAt (a .columns .now)) (a .i))) (ap (rowAt n (a .m) (a .list .now)) e ∙ row-end n (a .m) (a .list .now))
+    λ n g o k z. l .inv .2 n g o k z ∙ ap (λ (b : ℕ). below b (served (bitAt (a .a .now)) (bitAt (a .columns .now)) (a .i)))
+    (ap (rowAt n (a .m) (a .list .now)) e ∙ row-end n (a .m) (a .list .now))
 
 pub product-row-spec : {M : Type 1} → statement M
 product-row-spec =

@@ -12,7 +12,7 @@ use Rattle.k2.specs.Bits.{bitAt}
 use Rattle.k2.specs.BitLaws.{Bits, bit-lt}
 use Rattle.k2.specs.PairSets.{Cells, union}
 use Rattle.rows.specs.Rows.{flat, linkPair, crossedWords}
-use Rattle.rows.proofs.Puts.{lettersOf, crossing, letters-out, crossed-forward, crossed-against, crossed-is, crossed-start, crossed-all}
+use Rattle.rows.proofs.PutLaws.{lettersOf, crossing, letters-out, crossed-forward, crossed-against, crossed-is, crossed-start, crossed-all}
 use Rattle.rows.proofs.put_letters.Statement.{statement}
 use Rattle.rows.proofs.put_letters.Tie as tie
 
@@ -117,13 +117,15 @@ loop-again c =
       rw (w .5) (w .2 .kept .0 ∙ old .0),
       λ x e.
           let b : Bits (flat x) = λ k. rw (← e) (bit-lt (a .rows .now) k) in
-          rw (w .5) (w .2 .ensures ∙ rw (old .1 x e) (crossed-against x ws (l .i) (a .forward) (a .against) h b ps (sym r ∙ w .0 .taken) ∙ ap (λ (t : Cells). flat (union x t)) new)),
+          rw (w .5) (w .2 .ensures ∙ rw (old .1 x e) (crossed-against x ws (l .i) (a .forward) (a .against) h b ps (sym r ∙ w .0 .taken)
+          ∙ ap (λ (t : Cells). flat (union x t)) new)),
     ))
     (λ w. (
       omega arith,
       rw (w .1) (old .0),
       λ x e.
-          rw (w .1) (old .1 x e ∙ ap (λ (qs : List ℕ). flat (union x (crossing ps qs))) (letters-out (a .against) ws (l .i) h (sym r ∙ w .0 .left)) ∙ ap (λ (t : Cells). flat (union x t)) new),
+          rw (w .1) (old .1 x e ∙ ap (λ (qs : List ℕ). flat (union x (crossing ps qs))) (letters-out (a .against) ws (l .i) h (sym r ∙ w .0 .left))
+          ∙ ap (λ (t : Cells). flat (union x t)) new),
     ))
     (c .if2 .came)
 

@@ -10,7 +10,9 @@ use lib.ListN.{getD}
 use Rattle.k2.specs.Bits.{digit, bitAt}
 use Rattle.k2.specs.PairSets.{most}
 use Rattle.rows.specs.Steps.{meets, Common, served}
-use Rattle.rows.proofs.Search.{most-more, most-hit, most-far, meets-bits, meets-in, meets-word, meets-passed, first-square, square-inside, common-first, common-last}
+use Rattle.rows.proofs.SearchLaws.{most-more, most-hit, most-far, meets-bits, meets-in, meets-word, meets-passed, first-square, square-inside}
+use Rattle.rows.proofs.SearchLaws.{common-first}
+use Rattle.rows.proofs.SearchLaws.{common-last}
 use Rattle.rows.proofs.serves.Statement.{statement}
 use Rattle.rows.proofs.serves.Tie as tie
 
@@ -22,7 +24,8 @@ abbrev μ-loop : tie.MeasureT-loop
 μ-loop a i b j common found₀ s both k₀ found k = 64 - k
 
 abbrev Inv-search : tie.InvT-search
-Inv-search a i b j common found₀ s₀ found s = (s ≤ 16) × (found ≡ 0) × (Common (bitAt a) (bitAt b) i j common → most (s * 64) (meets (bitAt a) (bitAt b) i j) ≡ 0)
+Inv-search a i b j common found₀ s₀ found s =
+    (s ≤ 16) × (found ≡ 0) × (Common (bitAt a) (bitAt b) i j common → most (s * 64) (meets (bitAt a) (bitAt b) i j) ≡ 0)
 
 abbrev μ-search : tie.MeasureT-search
 μ-search a i b j common found₀ s₀ found s = 16 - s
@@ -98,8 +101,11 @@ loop-again c =
     let l = c .before .before .loop in
     let S = c .before .before .before .before .before .before .before .search in
     let a = c .before .before .before .before .before .before .before .before .args in
-    let e : S .s * 64 + (l .k + 1) ≡ S .s * 64 + l .k + 1 = omega arith in
-    (omega arith, l .inv .1, λ g. rw e (most-more (S .s * 64 + l .k) _ (l .inv .2 g) (meets-in (a .a .now) (a .b .now) (a .i) (a .j) (S .s) (l .k) (omega arith) ∙ omega arith)))
+    let e : S .s * 64 + (l .k + 1) ≡ S .s * 64 + l .k + 1 = omega arith in (
+      omega arith,
+      l .inv .1,
+      λ g. rw e (most-more (S .s * 64 + l .k) _ (l .inv .2 g) (meets-in (a .a .now) (a .b .now) (a .i) (a .j) (S .s) (l .k) (omega arith) ∙ omega arith)),
+    )
 
 add-s : tie.Need-add-s Inv-loop μ-loop Inv-search μ-search
 add-s c = omega arith
@@ -131,10 +137,11 @@ returns c =
 returns-2 : tie.Need-returns-2 Inv-loop μ-loop Inv-search μ-search
 unfolding digit served
 returns-2 c =
-    let S = c .before .before .before .before .before .before .before .search in
+    let in-search = c .before .before .before .before .before .before in
+    let S = in-search .before .search in
     let l = c .before .before .loop in
-    let a = c .before .before .before .before .before .before .before .before .args in
-    λ g. sym (most-hit 1024 _ (S .s * 64 + l .k) (meets-bits (a .a .now) (a .b .now) (a .i) (a .j)) (omega (arith, inside (c .before .before .before .before .before .before)))
+    let a = in-search .before .before .args in
+    λ g. sym (most-hit 1024 _ (S .s * 64 + l .k) (meets-bits (a .a .now) (a .b .now) (a .i) (a .j)) (omega (arith, inside in-search))
     (meets-in (a .a .now) (a .b .now) (a .i) (a .j) (S .s) (l .k) (omega arith) ∙ c .if2 .taken))
 
 pub serves-spec : {M : Type 1} → statement M

@@ -11,7 +11,7 @@ use Rattle.k2.specs.BitLaws.{Bits, bit-lt}
 use Rattle.k2.specs.PairSets.{Cells, union, diagonal}
 use Rattle.rows.specs.Rows.{flat}
 use Rattle.rows.specs.Steps.{below}
-use Rattle.rows.proofs.Puts.{diagonal-none, diagonal-more, diagonal-skip, diagonal-all}
+use Rattle.rows.proofs.PutLaws.{diagonal-none, diagonal-more, diagonal-skip, diagonal-all}
 use Rattle.rows.proofs.set_diagonal.Statement.{statement}
 use Rattle.rows.proofs.set_diagonal.Tie as tie
 

@@ -9,7 +9,7 @@ use lib.Bits.{bitOr, or-lt}
 use lib.Dec.{lit<}
 use lib.Pow.{pow-lt, shl-exact}
 use Rattle.k2.specs.Bits.{digit, bitAt}
-use Rattle.rows.proofs.Search.{mask-set, mask-skip}
+use Rattle.rows.proofs.SearchLaws.{mask-set, mask-skip}
 use Rattle.rows.proofs.squares.Statement.{statement}
 use Rattle.rows.proofs.squares.Tie as tie
 

@@ -5,7 +5,7 @@ use Prim.Native.Nat.{_≤_, _-_}
 use native.Mathlib.Omega.{arith}
 use borrow.Author.Needs.{needs}
 use lib.ListN.{length, length-set}
-use Rattle.rows.proofs.Wordwise.{Stored, stored-none, stored-more, stored-all}
+use Rattle.rows.proofs.WordwiseLaws.{Stored, stored-none, stored-more, stored-all}
 use Rattle.rows.proofs.store_row.Statement.{statement}
 use Rattle.rows.proofs.store_row.Tie as tie
 

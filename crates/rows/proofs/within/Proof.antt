@@ -11,7 +11,7 @@ use lib.ListN.{length}
 use Rattle.k2.specs.Bits.{bitAt}
 use Rattle.bits.specs.BitSets.{Gap, Next}
 use Rattle.rows.specs.Rows.{RowsOf}
-use Rattle.rows.proofs.Puts.{rows-of, rows-in}
+use Rattle.rows.proofs.PutLaws.{rows-of, rows-in}
 use Rattle.rows.proofs.within.Statement.{statement}
 use Rattle.rows.proofs.within.Tie as tie
 
@@ -63,8 +63,11 @@ loop-again : tie.Need-loop-again Inv-loop μ-loop
 loop-again c =
     let l = c .before .before .before .loop in
     let a = c .before .before .before .before .before .args in
-    let x = c .before .next .ensures in
-    (omega arith, below-more (λ (j : ℕ). Gap (bitAt (a .rows .now)) (j * 1024 + a .n) (j * 1024 + 1024)) (l .i) (l .inv .1) (λ k p q. x .gap k p (omega (arith, c .if1 .left))))
+    let x = c .before .next .ensures in (
+      omega arith,
+      below-more (λ (j : ℕ). Gap (bitAt (a .rows .now)) (j * 1024 + a .n) (j * 1024 + 1024))
+          (l .i) (l .inv .1) (λ k p q. x .gap k p (omega (arith, c .if1 .left))),
+    )
 
 mul-next-2 : tie.Need-mul-next-2 Inv-loop μ-loop
 mul-next-2 c = omega arith

@@ -11,7 +11,7 @@ use lib.Count.{trailingZeros, trailing-le}
 use lib.ListN.{length, getD, length-set, length-append}
 use Rattle.k2.specs.Bits.{bitAt}
 use Rattle.rows.specs.Rows.{places}
-use Rattle.rows.proofs.Listing.{places-first, places-longer, Wrote, wrote-one, wrote-again, wrote-on, wrote-all, wrote-full, bit-found, bits-gone}
+use Rattle.rows.proofs.ListingLaws.{places-first, places-longer, Wrote, wrote-one, wrote-again, wrote-on, wrote-all, wrote-full, bit-found, bits-gone}
 use Rattle.rows.proofs.write_pairs.Statement.{statement}
 use Rattle.rows.proofs.write_pairs.Tie as tie
 
@@ -24,7 +24,8 @@ abbrev μ-loop2 : tie.MeasureT-loop2
 μ-loop2 rows n out₀ t₀ q p₀ rest₀ out t p rest = q * 64 + 64 - p
 
 abbrev Inv-loop : tie.InvT-loop
-Inv-loop rows n out₀ t₀ q₀ out t q = (q ≤ n * 16) × (t ≤ length out₀) × (length out ≡ length out₀) × (t ≡ length (places (bitAt rows) (q * 64))) × Wrote (places (bitAt rows) (q * 64)) out₀ out
+Inv-loop rows n out₀ t₀ q₀ out t q =
+    (q ≤ n * 16) × (t ≤ length out₀) × (length out ≡ length out₀) × (t ≡ length (places (bitAt rows) (q * 64))) × Wrote (places (bitAt rows) (q * 64)) out₀ out
 
 abbrev μ-loop : tie.MeasureT-loop
 μ-loop rows n out₀ t₀ q₀ out t q = n * 16 - q
@@ -47,23 +48,34 @@ shared-slice-read-rest c = omega arith
 
 loop2-holds : tie.Need-loop2-holds Inv-loop2 μ-loop2 Inv-loop μ-loop
 loop2-holds c =
+    let start = c .before .before .before in
     let l = c .before .before .loop in
-    let ws = c .before .before .before .args .rows .now in
-    let e : l .q * 64 - l .q * 64 ≡ 0 = omega arith in
-    (omega arith, omega arith, sym (rw e (div-one (getD ws (l .q) 0))), omega arith, refl, l .inv .3, wrote-again (places (bitAt ws) (l .q * 64)) (c .before .before .before .args .out .now) (l .out) (l .inv .4))
+    let ws = start .args .rows .now in
+    let e : l .q * 64 - l .q * 64 ≡ 0 = omega arith in (
+      omega arith,
+      omega arith,
+      sym (rw e (div-one (getD ws (l .q) 0))),
+      omega arith,
+      refl,
+      l .inv .3,
+      wrote-again (places (bitAt ws) (l .q * 64)) (start .args .out .now) (l .out) (l .inv .4),
+    )
 
 -- the place and the rest after a bit that is set
 found : (c : tie.In-loop2 Inv-loop2 μ-loop2 Inv-loop μ-loop)
-    → (c .before .loop2 .p + trailingZeros 64 (c .before .loop2 .rest) < c .before .before .before .before .loop .q * 64 + 64)
-    × (places (bitAt (c .before .before .before .before .before .args .rows .now)) (c .before .loop2 .p + trailingZeros 64 (c .before .loop2 .rest) + 1)
-    ≡ places (bitAt (c .before .before .before .before .before .args .rows .now)) (c .before .loop2 .p) ++ ((c .before .loop2 .p + trailingZeros 64 (c .before .loop2 .rest)) ∷ []))
+    → let at-loop = c .before .before .before .before in
+    (c .before .loop2 .p + trailingZeros 64 (c .before .loop2 .rest) < at-loop .loop .q * 64 + 64)
+    × (places (bitAt (at-loop .before .args .rows .now)) (c .before .loop2 .p + trailingZeros 64 (c .before .loop2 .rest) + 1)
+    ≡ places (bitAt (at-loop .before .args .rows .now)) (c .before .loop2 .p) ++ ((c .before .loop2 .p + trailingZeros 64 (c .before .loop2 .rest)) ∷ []))
     × (c .before .loop2 .rest / 2 ^ trailingZeros 64 (c .before .loop2 .rest) / 2
-    ≡ getD (c .before .before .before .before .before .args .rows .now) (c .before .before .before .before .loop .q) 0 / 2 ^ (c .before .loop2 .p + trailingZeros 64 (c .before .loop2 .rest) + 1 - c .before .before .before .before .loop .q * 64))
+    ≡ getD (at-loop .before .args .rows .now) (at-loop .loop .q) 0 / 2 ^
+    (c .before .loop2 .p + trailingZeros 64 (c .before .loop2 .rest) + 1 - at-loop .loop .q * 64))
 found c =
     let l = c .before .before .before .before .loop in
     let i = c .before .loop2 in
     let f = c .before .before .shared-slice-known .given (l .q) .fits in
-    bit-found (c .before .before .before .before .before .args .rows .now) (l .q) (i .p) (i .inv .0) f (i .rest) (trailingZeros 64 (i .rest)) (i .inv .2) (omega (arith, c .loop2-test .taken)) refl
+    bit-found (c .before .before .before .before .before .args .rows .now) (l .q) (i .p) (i .inv .0)
+    f (i .rest) (trailingZeros 64 (i .rest)) (i .inv .2) (omega (arith, c .loop2-test .taken)) refl
 
 same-length : tie.Need-same-length Inv-loop2 μ-loop2 Inv-loop μ-loop
 same-length c = search needs
@@ -138,12 +150,14 @@ loop-again c =
     let a = c .before .before .before .before .before .args in
     let f = bitAt (a .rows .now) in
     let g = c .before .before .shared-slice-known .given (l .q) .fits in
-    let e : places f ((l .q + 1) * 64) ≡ places f (i .p) = bits-gone (a .rows .now) (l .q) (i .p) (i .inv .0) g (i .inv .1) (sym (i .inv .2) ∙ c .loop2-test .left) in (
+    let e : places f ((l .q + 1) * 64) ≡ places f (i .p) =
+    bits-gone (a .rows .now) (l .q) (i .p) (i .inv .0) g (i .inv .1) (sym (i .inv .2) ∙ c .loop2-test .left) in (
       omega arith,
       omega (arith, i .inv .3, l .inv .2),
       i .inv .4 ∙ l .inv .2,
       i .inv .5 ∙ ap length (sym e),
-      rw e (wrote-on (places f (l .q * 64)) (places f (i .p)) (a .out .now) (l .out) (i .out) (places-longer f (l .q * 64) (i .p) (i .inv .0)) (l .inv .4) (i .inv .6)),
+      rw e (wrote-on (places f (l .q * 64)) (places f (i .p)) (a .out .now) (l .out)
+          (i .out) (places-longer f (l .q * 64) (i .p) (i .inv .0)) (l .inv .4) (i .inv .6)),
     )
 
 same-length-2 : tie.Need-same-length-2 Inv-loop2 μ-loop2 Inv-loop μ-loop

@@ -23,7 +23,10 @@ same-length-2 c = search needs
 
 -- src/lib.rt:317:9
 returns : tie.Need-returns
-returns c = rows-answers (c .before .before .before .before .before .before .before .before .size .ensures) (c .before .before .before .before .before .before .before .if1 .taken) (c .before .before .before .before .pairs-by-rows .ensures)
+returns c =
+    let after-pairs-by-rows = c .before .before .before .before in
+    let then1 = after-pairs-by-rows .before .before .before in
+    rows-answers (then1 .before .size .ensures) (then1 .if1 .taken) (after-pairs-by-rows .pairs-by-rows .ensures)
 
 -- src/lib.rt:319:5
 pairs-requires : tie.Need-pairs-requires
@@ -39,7 +42,10 @@ same-length-4 c = search needs
 
 -- src/lib.rt:308:1
 returns-2 : tie.Need-returns-2
-returns-2 c = trees-answers (c .before .before .before .before .before .before .before .before .size .ensures) (omega (arith, c .before .before .before .before .before .before .before .if1 .left)) (c .before .before .before .before .pairs .ensures)
+returns-2 c =
+    let after-pairs = c .before .before .before .before in
+    let else1 = after-pairs .before .before .before in
+    trees-answers (else1 .before .size .ensures) (omega (arith, else1 .if1 .left)) (after-pairs .pairs .ensures)
 
 pub answer-pairs-spec : {M : Type 1} → statement M
 answer-pairs-spec =

@@ -23,7 +23,8 @@ unfolding nextSession printed listLeft number
 returns c =
     let s = c .before .before .before .before .before .before .before .before .before .before .args in
     let w = c .before .before .refuse in
-    closed-turns (s .state) _ (now (s .list)) (now (s .list)) (now (s .out)) (w .last .1 .1 .0) (w .result) (asks (chain (s .x) (s .y) (now (s .text)))) refl (λ v t. refl) (λ v t. refl) (not-true _ (c .before .before .before .before .if1 .taken)) (w .ensures .0) refl (w .ensures .1)
+    closed-turns (s .state) _ (now (s .list)) (now (s .list)) (now (s .out)) (w .last .1 .1 .0) (w .result) (asks (chain (s .x) (s .y) (now (s .text))))
+    refl (λ v t. refl) (λ v t. refl) (not-true _ (c .before .before .before .before .if1 .taken)) (w .ensures .0) refl (w .ensures .1)
 
 chain-requires : tie.Need-chain-requires
 chain-requires c κs = search needs
@@ -42,10 +43,14 @@ same-length-4 c = search needs
 
 returns-2 : tie.Need-returns-2
 returns-2 c =
-    let s = c .before .before .before .before .before .before .before .before .before .before .before .before .before .before .before .before .before .before .args in
-    let a = c .before .before .before .before .before .before .before .before .before .chain in
+    let after-chain = c .before .before .before .before .before .before .before .before .before in
+    let else1 = after-chain .before .before .before in
+    let start = else1 .before .before .before .before .before .before in
+    let s = start .args in
+    let a = after-chain .chain in
     let w = c .before .before .put-reply in
-    chain-turns (s .state) (length (now (s .work))) (now (s .list)) _ (now (s .out)) (w .last .1 .1 .0) _ (s .x) (s .y) (now (s .text)) _ (not-false _ (c .before .before .before .before .before .before .before .before .before .before .before .before .if1 .left)) refl
+    chain-turns (s .state) (length (now (s .work))) (now (s .list)) _ (now (s .out))
+    (w .last .1 .1 .0) _ (s .x) (s .y) (now (s .text)) _ (not-false _ (else1 .if1 .left)) refl
     (reply-left (now (s .list)) _ (a .kept .1 .1 .1 .1 .1 .0) (a .result) (a .ensures .fits) (a .ensures .past)) (a .ensures .answers) (w .ensures)
 
 pub ask-chain-spec : {M : Type 1} → statement M

@@ -23,7 +23,8 @@ unfolding nextSession printed listLeft number
 returns c =
     let s = c .before .before .before .before .before .before .before .before .before .before .args in
     let w = c .before .before .refuse in
-    closed-turns (s .state) _ (now (s .list)) (now (s .list)) (now (s .out)) (w .last .1 .1 .0) (w .result) (asks (pairs (now (s .text)))) refl (λ v t. refl) (λ v t. refl) (not-true _ (c .before .before .before .before .if1 .taken)) (w .ensures .0) refl (w .ensures .1)
+    closed-turns (s .state) _ (now (s .list)) (now (s .list)) (now (s .out)) (w .last .1 .1 .0) (w .result) (asks (pairs (now (s .text))))
+    refl (λ v t. refl) (λ v t. refl) (not-true _ (c .before .before .before .before .if1 .taken)) (w .ensures .0) refl (w .ensures .1)
 
 answer-pairs-requires : tie.Need-answer-pairs-requires
 answer-pairs-requires c κs = search needs
@@ -42,10 +43,14 @@ same-length-4 c = search needs
 
 returns-2 : tie.Need-returns-2
 returns-2 c =
-    let s = c .before .before .before .before .before .before .before .before .before .before .before .before .before .before .before .before .before .before .args in
-    let a = c .before .before .before .before .before .before .before .before .before .answer-pairs in
+    let after-answer-pairs = c .before .before .before .before .before .before .before .before .before in
+    let else1 = after-answer-pairs .before .before .before in
+    let start = else1 .before .before .before .before .before .before in
+    let s = start .args in
+    let a = after-answer-pairs .answer-pairs in
     let w = c .before .before .put-listing in
-    pairs-turns (s .state) (length (now (s .work))) (now (s .list)) _ (now (s .out)) (w .last .1 .1 .0) _ (now (s .text)) _ (not-false _ (c .before .before .before .before .before .before .before .before .before .before .before .before .if1 .left)) refl
+    pairs-turns (s .state) (length (now (s .work))) (now (s .list)) _ (now (s .out))
+    (w .last .1 .1 .0) _ (now (s .text)) _ (not-false _ (else1 .if1 .left)) refl
     (listing-left (now (s .list)) _ (a .kept .1 .1 .1 .0) (a .result) (a .ensures .past))
     (a .ensures .book) (w .ensures)
 

@@ -95,11 +95,17 @@ returns-11 c = (rw (c .before .before .match .keys1, eq-eqb _ _ (c .before .if1 
 
 returns-12 : tie.Need-returns-12
 unfolding says callOf decode linkIn
-returns-12 c = (rw (c .before .before .before .before .match .keys2, eq-eqb _ _ (c .before .before .before .if2 .left), c .before .number162 .ensures, c .number163 .ensures), tt)
+returns-12 c = (
+  rw (c .before .before .before .before .match .keys2, eq-eqb _ _ (c .before .before .before .if2 .left), c .before .number162 .ensures, c .number163 .ensures),
+  tt,
+)
 
 returns-13 : tie.Need-returns-13
 unfolding says callOf decode linkIn
-returns-13 c = (rw (c .before .before .before .before .match .keys3, eq-eqb _ _ (c .before .before .before .if3 .left), c .before .number164 .ensures, c .number165 .ensures), tt)
+returns-13 c = (
+  rw (c .before .before .before .before .match .keys3, eq-eqb _ _ (c .before .before .before .if3 .left), c .before .number164 .ensures, c .number165 .ensures),
+  tt,
+)
 
 returns-14 : tie.Need-returns-14
 unfolding says callOf decode linkIn
@@ -119,7 +125,10 @@ returns-17 c = (rw (c .match .keys7), tt)
 
 returns-18 : tie.Need-returns-18
 unfolding says callOf decode linkIn
-returns-18 c = (rw (c .before .before .before .match .keys8, le-leb _ _ (c .before .before .if7 .left), c .before .number168 .ensures, c .number169 .ensures), c .before .before .if7 .left)
+returns-18 c = (
+  rw (c .before .before .before .match .keys8, le-leb _ _ (c .before .before .if7 .left), c .before .number168 .ensures, c .number169 .ensures),
+  c .before .before .if7 .left,
+)
 
 returns-19 : tie.Need-returns-19
 unfolding says callOf decode linkIn

@@ -23,7 +23,8 @@ unfolding nextSession printed listLeft number
 returns c =
     let s = c .before .before .before .before .before .before .before .args in
     let w = c .before .before .refuse in
-    λ work l. closed-turns (s .state) work l l (now (s .out)) (w .last .1 .1 .0) (w .result) (asks (call (callOf (s .call)))) refl (λ v t. refl) (λ v t. refl) (not-true _ (c .before .before .before .before .if1 .taken)) (w .ensures .0) refl (w .ensures .1)
+    λ work l. closed-turns (s .state) work l l (now (s .out)) (w .last .1 .1 .0) (w .result) (asks (call (callOf (s .call)))) refl
+    (λ v t. refl) (λ v t. refl) (not-true _ (c .before .before .before .before .if1 .taken)) (w .ensures .0) refl (w .ensures .1)
 
 apply-requires : tie.Need-apply-requires
 apply-requires c κs = search needs
@@ -39,10 +40,14 @@ same-length-2 c = search needs
 
 returns-2 : tie.Need-returns-2
 returns-2 c =
-    let s = c .before .before .before .before .before .before .before .before .before .before .args in
-    let o = c .before .before .before .before .before .before .apply in
+    let after-number-of = c .before .before .before .before in
+    let else1 = after-number-of .before .before .before in
+    let start = else1 .before .before .before in
+    let s = start .args in
+    let o = after-number-of .before .before .apply in
     let w = c .before .before .put-answer in
-    λ work l. call-turns (s .state) work l l (now (s .out)) (w .last .1 .0) _ (callOf (s .call)) (o .result) (o .ensures) (not-false _ (c .before .before .before .before .before .before .before .if1 .left)) refl refl refl (wrote-as (ap answerText (c .before .before .before .before .number-of .ensures)) (w .ensures))
+    λ work l. call-turns (s .state) work l l (now (s .out)) (w .last .1 .0) _ (callOf (s .call)) (o .result) (o .ensures)
+    (not-false _ (else1 .if1 .left)) refl refl refl (wrote-as (ap answerText (after-number-of .number-of .ensures)) (w .ensures))
 
 pub edit-spec : {M : Type 1} → statement M
 edit-spec =

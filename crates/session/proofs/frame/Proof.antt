@@ -46,7 +46,9 @@ enum-known-decoded-3 c = search needs
 
 -- the body of a chain question has at least four bytes
 long : (c : tie.After-decoded3) → 4 ≤ length (now (c .before .before .before .before .before .before .before .before .args .body))
-long c = subst (λ d. Long d (now (c .before .before .before .before .before .before .before .before .args .body))) (c .decoded3 .given .1) (c .before .before .decode .ensures .1)
+long c =
+    let start = c .before .before .before .before .before .before .before .before in
+    subst (λ d. Long d (now (start .args .body))) (c .decoded3 .given .1) (c .before .before .decode .ensures .1)
 
 sub-ask-chain : tie.Need-sub-ask-chain
 sub-ask-chain c = omega (arith, long (c .before))
@@ -84,10 +86,14 @@ same-length c = search needs
 returns-2 : tie.Need-returns-2
 unfolding says
 returns-2 c =
-    let s = c .before .before .before .before .before .before .before .before .before .before .before .before .before .args in
+    let after-decoded = c .before .before .before .before .before in
+    let after-decode = after-decoded .before .before in
+    let start = after-decode .before .before .before .before .before .before in
+    let s = start .args in
     let w = c .before .before .«open» in
-    turned-framed (s .state) (length (now (s .work))) (now (s .list)) _ (now (s .out)) _ _ (says (c .before .before .before .before .before .before .before .decode .result) (now (s .body))) _ (c .before .before .before .before .before .before .before .decode .ensures .0) (omega arith)
-    (rw (c .before .before .before .before .before .decoded .given .1) (w .ensures _ _))
+    turned-framed (s .state) (length (now (s .work))) (now (s .list)) _ (now (s .out)) _ _
+    (says (after-decode .decode .result) (now (s .body))) _ (after-decode .decode .ensures .0) (omega arith)
+    (rw (after-decoded .decoded .given .1) (w .ensures _ _))
 
 same-length-2 : tie.Need-same-length-2
 same-length-2 c = search needs
@@ -95,10 +101,14 @@ same-length-2 c = search needs
 returns-3 : tie.Need-returns-3
 unfolding says
 returns-3 c =
-    let s = c .before .before .before .before .before .before .before .before .before .before .before .before .before .args in
+    let after-decoded2 = c .before .before .before .before .before in
+    let after-decode = after-decoded2 .before .before in
+    let start = after-decode .before .before .before .before .before .before in
+    let s = start .args in
     let w = c .before .before .edit in
-    turned-framed (s .state) (length (now (s .work))) (now (s .list)) _ (now (s .out)) _ _ (says (c .before .before .before .before .before .before .before .decode .result) (now (s .body))) _ (c .before .before .before .before .before .before .before .decode .ensures .0) (omega arith)
-    (rw (c .before .before .before .before .before .decoded2 .given .1) (w .ensures _ _))
+    turned-framed (s .state) (length (now (s .work))) (now (s .list)) _ (now (s .out)) _ _
+    (says (after-decode .decode .result) (now (s .body))) _ (after-decode .decode .ensures .0) (omega arith)
+    (rw (after-decoded2 .decoded2 .given .1) (w .ensures _ _))
 
 same-length-3 : tie.Need-same-length-3
 same-length-3 c = search needs
@@ -112,10 +122,15 @@ same-length-5 c = search needs
 returns-4 : tie.Need-returns-4
 unfolding says
 returns-4 c =
-    let s = c .before .before .before .before .before .before .before .before .before .before .before .before .before .before .before .before .before .before .args in
-    let w = c .before .before .before .before .before .before .ask-pairs in
-    turned-framed (s .state) (length (now (s .work))) (now (s .list)) _ (now (s .out)) _ _ (says (c .before .before .before .before .before .before .before .before .before .before .before .before .decode .result) (now (s .body))) _ (c .before .before .before .before .before .before .before .before .before .before .before .before .decode .ensures .0) (omega arith)
-    (rw (c .before .before .before .before .before .before .before .before .before .before .enum-told .given .1) (w .ensures))
+    let after-ask-pairs = c .before .before .before .before .before .before in
+    let after-enum-told = after-ask-pairs .before .before .before .before in
+    let after-decode = after-enum-told .before .before in
+    let start = after-decode .before .before .before .before .before .before in
+    let s = start .args in
+    let w = after-ask-pairs .ask-pairs in
+    turned-framed (s .state) (length (now (s .work))) (now (s .list)) _ (now (s .out)) _ _
+    (says (after-decode .decode .result) (now (s .body))) _ (after-decode .decode .ensures .0) (omega arith)
+    (rw (after-enum-told .enum-told .given .1) (w .ensures))
 
 same-length-6 : tie.Need-same-length-6
 same-length-6 c = search needs
@@ -129,10 +144,15 @@ same-length-8 c = search needs
 returns-5 : tie.Need-returns-5
 unfolding says
 returns-5 c =
-    let s = c .before .before .before .before .before .before .before .before .before .before .before .before .before .before .before .before .before .before .before .before .args in
-    let w = c .before .before .before .before .before .before .ask-chain in
-    turned-framed (s .state) (length (now (s .work))) (now (s .list)) _ (now (s .out)) _ _ (says (c .before .before .before .before .before .before .before .before .before .before .before .before .before .before .decode .result) (now (s .body))) _ (c .before .before .before .before .before .before .before .before .before .before .before .before .before .before .decode .ensures .0) (omega (arith, c .before .before .before .before .before .before .before .before .before .before .before .before .before .before .before .if1 .left))
-    (rw (c .before .before .before .before .before .before .before .before .before .before .before .before .decoded3 .given .1) (part-turns (s .state) _ _ _ _ _ _ _ _ (now (s .body)) (w .ensures)))
+    let after-ask-chain = c .before .before .before .before .before .before in
+    let after-decoded3 = after-ask-chain .before .before .before .before .before .before in
+    let after-decode = after-decoded3 .before .before in
+    let start = after-decode .before .before .before .before .before .before in
+    let s = start .args in
+    let w = after-ask-chain .ask-chain in
+    turned-framed (s .state) (length (now (s .work))) (now (s .list)) _ (now (s .out)) _ _
+    (says (after-decode .decode .result) (now (s .body))) _ (after-decode .decode .ensures .0) (omega (arith, after-decode .before .if1 .left))
+    (rw (after-decoded3 .decoded3 .given .1) (part-turns (s .state) _ _ _ _ _ _ _ _ (now (s .body)) (w .ensures)))
 
 same-length-9 : tie.Need-same-length-9
 same-length-9 c = search needs
@@ -140,10 +160,14 @@ same-length-9 c = search needs
 returns-6 : tie.Need-returns-6
 unfolding says
 returns-6 c =
-    let s = c .before .before .before .before .before .before .before .before .before .before .before .before .before .args in
+    let after-decoded4 = c .before .before .before .before .before in
+    let after-decode = after-decoded4 .before .before in
+    let start = after-decode .before .before .before .before .before .before in
+    let s = start .args in
     let w = c .before .before .ask-total in
-    turned-framed (s .state) (length (now (s .work))) (now (s .list)) _ (now (s .out)) _ _ (says (c .before .before .before .before .before .before .before .decode .result) (now (s .body))) _ (c .before .before .before .before .before .before .before .decode .ensures .0) (omega arith)
-    (rw (c .before .before .before .before .before .decoded4 .given .1) (w .ensures _ _))
+    turned-framed (s .state) (length (now (s .work))) (now (s .list)) _ (now (s .out)) _ _
+    (says (after-decode .decode .result) (now (s .body))) _ (after-decode .decode .ensures .0) (omega arith)
+    (rw (after-decoded4 .decoded4 .given .1) (w .ensures _ _))
 
 same-length-10 : tie.Need-same-length-10
 same-length-10 c = search needs
@@ -151,10 +175,14 @@ same-length-10 c = search needs
 returns-7 : tie.Need-returns-7
 unfolding says number
 returns-7 c =
-    let s = c .before .before .before .before .before .before .before .before .before .before .before .before .args in
+    let after-enum-told2 = c .before .before .before .before in
+    let after-decode = after-enum-told2 .before .before in
+    let start = after-decode .before .before .before .before .before .before in
+    let s = start .args in
     let w = c .before .before .refuse in
-    turned-framed (s .state) (length (now (s .work))) (now (s .list)) _ (now (s .out)) _ _ (says (c .before .before .before .before .before .before .decode .result) (now (s .body))) _ (c .before .before .before .before .before .before .decode .ensures .0) (omega arith)
-    (rw (c .before .before .before .before .enum-told2 .given .1) (faulty-turns (s .state) _ _ _ _ _ (w .result) broken-frame (w .ensures .0) refl (w .ensures .1)))
+    turned-framed (s .state) (length (now (s .work))) (now (s .list)) _ (now (s .out)) _ _
+    (says (after-decode .decode .result) (now (s .body))) _ (after-decode .decode .ensures .0) (omega arith)
+    (rw (after-enum-told2 .enum-told2 .given .1) (faulty-turns (s .state) _ _ _ _ _ (w .result) broken-frame (w .ensures .0) refl (w .ensures .1)))
 
 same-length-11 : tie.Need-same-length-11
 same-length-11 c = search needs
@@ -162,10 +190,14 @@ same-length-11 c = search needs
 returns-8 : tie.Need-returns-8
 unfolding says number
 returns-8 c =
-    let s = c .before .before .before .before .before .before .before .before .before .before .before .before .args in
+    let after-enum-told3 = c .before .before .before .before in
+    let after-decode = after-enum-told3 .before .before in
+    let start = after-decode .before .before .before .before .before .before in
+    let s = start .args in
     let w = c .before .before .refuse2 in
-    turned-framed (s .state) (length (now (s .work))) (now (s .list)) _ (now (s .out)) _ _ (says (c .before .before .before .before .before .before .decode .result) (now (s .body))) _ (c .before .before .before .before .before .before .decode .ensures .0) (omega arith)
-    (rw (c .before .before .before .before .enum-told3 .given .1) (faulty-turns (s .state) _ _ _ _ _ (w .result) unknown-kind (w .ensures .0) refl (w .ensures .1)))
+    turned-framed (s .state) (length (now (s .work))) (now (s .list)) _ (now (s .out)) _ _
+    (says (after-decode .decode .result) (now (s .body))) _ (after-decode .decode .ensures .0) (omega arith)
+    (rw (after-enum-told3 .enum-told3 .given .1) (faulty-turns (s .state) _ _ _ _ _ (w .result) unknown-kind (w .ensures .0) refl (w .ensures .1)))
 
 pub frame-spec : {M : Type 1} → statement M
 frame-spec =

@@ -22,10 +22,14 @@ returns-2 : tie.Need-returns-2
 returns-2 c = bad-front (now (c .before .before .before .before .args .input)) (omega arith) (inl (rw (sym (c .before .number16 .ensures)) (omega arith)))
 
 returns-3 : tie.Need-returns-3
-returns-3 c = bad-front (now (c .before .before .before .before .before .args .input)) (omega arith) (inr (rw (sym (c .before .before .number16 .ensures)) (omega arith)))
+returns-3 c =
+    bad-front (now (c .before .before .before .before .before .args .input)) (omega arith) (inr (rw (sym (c .before .before .number16 .ensures)) (omega arith)))
 
 returns-4 : tie.Need-returns-4
-returns-4 c = cut-front (now (c .before .before .before .before .before .before .args .input)) (omega arith) (rw (sym (c .before .before .before .number16 .ensures)) (omega arith))
+returns-4 c =
+    let after-number16 = c .before .before .before in
+    let start = after-number16 .before .before .before in
+    cut-front (now (start .args .input)) (omega arith) (rw (sym (after-number16 .number16 .ensures)) (omega arith))
 
 returns-5 : tie.Need-returns-5
 returns-5 c = a-frame (c .before .before .before .number16 .ensures) (omega arith) (omega arith) (omega arith)

@@ -10,7 +10,12 @@ use Rattle.session.proofs.number16.Tie as tie
 
 returns : tie.Need-returns
 unfolding number16
-returns c = let p = c .before .before .args .p in rw (List·getD-eq-default (now (c .before .before .args .s)) 0 {n = p} (omega arith), List·getD-eq-default (now (c .before .before .args .s)) 0 {n = p + 1} (omega arith))
+returns c =
+    let p = c .before .before .args .p in
+    rw (
+      List·getD-eq-default (now (c .before .before .args .s)) 0 {n = p} (omega arith),
+      List·getD-eq-default (now (c .before .before .args .s)) 0 {n = p + 1} (omega arith),
+    )
 
 byte-at-requires : tie.Need-byte-at-requires
 byte-at-requires c κs = search needs

@@ -20,7 +20,8 @@ unfolding number
 returns c =
     let s = c .before .before .before .before .before .before .args in
     let w = c .before .before .refuse in
-    λ work l. kept-turns (s .state) work l l (now (s .out)) (w .last .1 .1 .0) (w .result) (s .n) (open-none (s .n) (c .before .before .before .before .if1 .taken)) (w .ensures .0) refl (w .ensures .1)
+    λ work l. kept-turns (s .state) work l l (now (s .out)) (w .last .1 .1 .0) (w .result) (s .n)
+    (open-none (s .n) (c .before .before .before .before .if1 .taken)) (w .ensures .0) refl (w .ensures .1)
 
 refuse-requires-2 : tie.Need-refuse-requires-2
 refuse-requires-2 c κs = search needs
@@ -33,7 +34,9 @@ unfolding number
 returns-2 c =
     let s = c .before .before .before .before .before .before .before .args in
     let w = c .before .before .refuse2 in
-    λ work l. kept-turns (s .state) work l l (now (s .out)) (w .last .1 .1 .0) (w .result) (s .n) (open-many (s .n) (c .before .before .before .before .before .if1 .left) (c .before .before .before .before .if2 .taken)) (w .ensures .0) refl (w .ensures .1)
+    λ work l. kept-turns (s .state) work l l (now (s .out)) (w .last .1 .1 .0) (w .result) (s .n)
+    (open-many (s .n) (c .before .before .before .before .before .if1 .left) (c .before .before .before .before .if2 .taken))
+    (w .ensures .0) refl (w .ensures .1)
 
 open-requires : tie.Need-open-requires
 open-requires c κs = search needs
@@ -46,11 +49,14 @@ same-length-3 c = search needs
 
 returns-3 : tie.Need-returns-3
 returns-3 c =
-    let s = c .before .before .before .before .before .before .before .before .before .args in
-    let low : 1 ≤ s .n = omega (arith, c .before .before .before .before .before .before .before .if1 .left) in
-    let high : s .n ≤ 64 = omega (arith, c .before .before .before .before .before .before .if2 .left) in
+    let after-open = c .before .before .before .before .before in
+    let start = after-open .before .before .before .before in
+    let s = start .args in
+    let low : 1 ≤ s .n = omega (arith, after-open .before .before .if1 .left) in
+    let high : s .n ≤ 64 = omega (arith, after-open .before .if2 .left) in
     let w = c .before .before .put-ok in
-    λ work l. fresh-turns (s .state) work l l (now (s .out)) (w .last .0) _ (s .n) (open-fine (s .n) low high) high refl (c .before .before .before .before .before .«open» .ensures .made (fresh-fine (s .n) low high)) refl (w .ensures)
+    λ work l. fresh-turns (s .state) work l l (now (s .out)) (w .last .0) _ (s .n) (open-fine (s .n) low high)
+    high refl (after-open .«open» .ensures .made (fresh-fine (s .n) low high)) refl (w .ensures)
 
 pub open-spec : {M : Type 1} → statement M
 open-spec =

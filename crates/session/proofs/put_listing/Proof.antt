@@ -38,7 +38,8 @@ returns : tie.Need-returns
 unfolding outcomeText listing
 returns c =
     let a = c .before .before .before .before .before .before .before .answer in
-    rw (a .given .1) (wrote-as (ap (pairsText (a .given .0 .0)) (c .before .before .before .before .before .listed .ensures .1)) (c .before .before .put-pairs .ensures))
+    rw (a .given .1)
+    (wrote-as (ap (pairsText (a .given .0 .0)) (c .before .before .before .before .before .listed .ensures .1)) (c .before .before .put-pairs .ensures))
 
 same-length-2 : tie.Need-same-length-2
 same-length-2 c = search needs

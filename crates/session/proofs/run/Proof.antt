@@ -12,7 +12,6 @@ use Rattle.session.specs.Turns.{room}
 use Rattle.session.specs.Runs.{Advances}
 use Rattle.session.specs.TurnLaws.{both-ways}
 use Rattle.session.specs.RunsLaws.{withRest, Reached, not-begun, has-read, goes-on-part, no-room, rest-short}
-use borrow.Author.Needs.{needs}
 use Rattle.session.proofs.run.Statement.{statement}
 use Rattle.session.proofs.run.Tie as tie
 
@@ -37,39 +36,63 @@ part-step-end : tie.Need-part-step-end Inv-loop μ-loop
 part-step-end c = omega (arith, c .loop .inv .0 .inside, c .loop .inv .0 .within)
 
 sub-step-2 : tie.Need-sub-step-2 Inv-loop μ-loop
-sub-step-2 c = omega (arith, c .before .before .before .loop .inv .0 .inside, c .before .before .before .loop .inv .0 .within)
+sub-step-2 c =
+    let at-loop = c .before .before .before in
+    omega (arith, at-loop .loop .inv .0 .inside, at-loop .loop .inv .0 .within)
 
 part-step-start-2 : tie.Need-part-step-start-2 Inv-loop μ-loop
-part-step-start-2 c = omega (arith, c .before .before .before .loop .inv .0 .inside, c .before .before .before .loop .inv .0 .within)
+part-step-start-2 c =
+    let at-loop = c .before .before .before in
+    omega (arith, at-loop .loop .inv .0 .inside, at-loop .loop .inv .0 .within)
 
 part-step-end-2 : tie.Need-part-step-end-2 Inv-loop μ-loop
-part-step-end-2 c = omega (arith, c .before .before .before .loop .inv .0 .inside, c .before .before .before .loop .inv .0 .within)
+part-step-end-2 c =
+    let at-loop = c .before .before .before in
+    omega (arith, at-loop .loop .inv .0 .inside, at-loop .loop .inv .0 .within)
 
 step-requires : tie.Need-step-requires Inv-loop μ-loop
 step-requires c κs = tt
 
 -- how far the run came with this turn
-went : (c : tie.After-step Inv-loop μ-loop) (more : Bool) → c .step .result .more ≡ more
-    → let l = c .before .before .before .before .before .loop in let q = c .step .result in let s = c .before .before .before .before .before .before .before .before .before .before .args in
+went : (c : tie.After-step Inv-loop μ-loop) (more : Bool)
+    → let at-loop = c .before .before .before .before .before in
+    let start = at-loop .before .before .before .before .before in
+    c .step .result .more ≡ more
+    → let l = at-loop .loop in let q = c .step .result in let s = start .args in
     Advances (s .state) (now (s .input)) (length (now (s .work))) (now (s .list)) (c .step .last .1 .1 .1 .0) (now (s .out))
-    (withRest (l .written) (l .out) (c .step .last .1 .1 .1 .1 .0)) (record { state = q .state; read = l .read + q .read; written = l .written + q .written; more = more })
+    (withRest (l .written) (l .out) (c .step .last .1 .1 .1 .1 .0)) (record {
+      state = q .state;
+      read = l .read + q .read;
+      written = l .written + q .written;
+      more = more;
+    })
 went c more e =
     let l = c .before .before .before .before .before .loop in
     let s = c .before .before .before .before .before .before .before .before .before .before .args in
     let q = c .step .result in
     subst (λ (b : Bool). Advances (s .state) (now (s .input)) (length (now (s .work))) (now (s .list)) (c .step .last .1 .1 .1 .0) (now (s .out))
-    (withRest (l .written) (l .out) (c .step .last .1 .1 .1 .1 .0)) (record { state = q .state; read = l .read + q .read; written = l .written + q .written; more = b })) e
+    (withRest (l .written) (l .out) (c .step .last .1 .1 .1 .1 .0)) (record {
+      state = q .state;
+      read = l .read + q .read;
+      written = l .written + q .written;
+      more = b;
+    })) e
     (goes-on-part (length (now (s .work))) (s .state) (now (s .input)) (now (s .list)) (l .list) _ (now (s .out)) (l .out) (c .step .last .1 .1 .1 .1 .0)
     (record { state = l .state; read = l .read; written = l .written; more = true }) q _ (l .inv .2) (l .inv .3) (l .inv .1) (l .inv .0) (c .step .ensures))
 
 -- the lent slices keep their lengths
-works : (c : tie.After-step Inv-loop μ-loop) → length (c .step .last .1 .1 .0) ≡ length (now (c .before .before .before .before .before .before .before .before .before .before .args .work))
+works : (c : tie.After-step Inv-loop μ-loop)
+    → let start = c .before .before .before .before .before .before .before .before .before .before in
+    length (c .step .last .1 .1 .0) ≡ length (now (start .args .work))
 works c = c .step .kept .1 .1 .0 ∙ c .before .before .before .before .before .loop .inv .1
 
-lists : (c : tie.After-step Inv-loop μ-loop) → length (c .step .last .1 .1 .1 .0) ≡ length (now (c .before .before .before .before .before .before .before .before .before .before .args .list))
+lists : (c : tie.After-step Inv-loop μ-loop)
+    → let start = c .before .before .before .before .before .before .before .before .before .before in
+    length (c .step .last .1 .1 .1 .0) ≡ length (now (start .args .list))
 lists c = c .step .kept .1 .1 .1 .0 ∙ c .before .before .before .before .before .loop .inv .2
 
-outs : (c : tie.After-step Inv-loop μ-loop) → let l = c .before .before .before .before .before .loop in length (withRest (l .written) (l .out) (c .step .last .1 .1 .1 .1 .0))
+outs : (c : tie.After-step Inv-loop μ-loop) → let l = c .before .before .before .before .before .loop in
+    length (withRest (l .written) (l .out) (c .step .last .1 .1 .1 .1 .0))
     ≡ length (now (c .before .before .before .before .before .before .before .before .before .before .args .out))
 outs c =
     let l = c .before .before .before .before .before .loop in
@@ -79,7 +102,10 @@ add-read : tie.Need-add-read Inv-loop μ-loop
 add-read c = omega (arith, went (c .before .before .before .before .before .before .before .before) _ refl .inside)
 
 add-written : tie.Need-add-written Inv-loop μ-loop
-add-written c = let h = went (c .before .before .before .before .before .before .before .before .before) _ refl .within in let g = c .before .before .before .before .before .before .before .before .before .before .before .before .before .before .before .before .before .before .before .good in omega (arith, h, g)
+add-written c =
+    let after-step = c .before .before .before .before .before .before .before .before .before in
+    let start = after-step .before .before .before .before .before .before .before .before .before .before in
+    let h = went after-step _ refl .within in let g = start .good in omega (arith, h, g)
 
 same-length : tie.Need-same-length Inv-loop μ-loop
 same-length c = works (c .before .before .before .before .before .before .before .before .before .before .before)
@@ -91,7 +117,9 @@ same-length-3 : tie.Need-same-length-3 Inv-loop μ-loop
 same-length-3 c = outs (c .before .before .before .before .before .before .before .before .before .before .before)
 
 returns : tie.Need-returns Inv-loop μ-loop
-returns c = record { advances = went (c .before .before .before .before .before .before .before .before .before .before .before) false (not-true _ (c .if1 .taken)); full = λ e. absurd (both-ways _ e refl) }
+returns c =
+    let after-step = c .before .before .before .before .before .before .before .before .before .before .before in
+    record { advances = went after-step false (not-true _ (c .if1 .taken)); full = λ e. absurd (both-ways _ e refl) }
 
 same-length-4 : tie.Need-same-length-4 Inv-loop μ-loop
 same-length-4 c = works (c .before .before .before .before .before .before .before .before .before .before .before .before .before)
@@ -104,13 +132,16 @@ same-length-6 c = outs (c .before .before .before .before .before .before .befor
 
 returns-2 : tie.Need-returns-2 Inv-loop μ-loop
 returns-2 c =
-    let l = c .before .before .before .before .before .before .before .before .before .before .before .before .before .before .before .before .before .before .loop in
-    let out = now (c .before .before .before .before .before .before .before .before .before .before .before .before .before .before .before .before .before .before .before .before .before .before .before .args .out) in
-    let turn = c .before .before .before .before .before .before .before .before .before .before .before .before .before .step in
+    let after-step = c .before .before .before .before .before .before .before .before .before .before .before .before .before in
+    let at-loop = after-step .before .before .before .before .before in
+    let start = at-loop .before .before .before .before .before in
+    let l = at-loop .loop in
+    let out = now (start .args .out) in
+    let turn = after-step .step in
     let more = not-false _ (c .before .before .if1 .left) in
     let short = no-room (turn .result) _ _ (turn .ensures .onward) more (omega arith) in
     record {
-      advances = went (c .before .before .before .before .before .before .before .before .before .before .before .before .before) true more;
+      advances = went after-step true more;
       full = λ e.
           subst (λ (k : ℕ). length out < l .written + turn .result .written + room k) (l .inv .2)
           (rest-short (l .out) (length out) (l .written) (turn .result .written) (room (length (l .list))) (l .inv .0 .within) (l .inv .3) short);

@@ -38,10 +38,13 @@ returns-3 : tie.Need-returns-3
 unfolding number
 returns-3 c =
     let s = c .before .before .before .before .before .before .before .before .before .before .before .before .args in
-    is-broken _ (s .state) (now (s .input)) (now (s .list)) (now (s .out)) _ _ (c .before .before .put-refused .ensures) (front-none (c .before .before .before .before .before .front .ensures) (omega arith) _)
+    is-broken _ (s .state) (now (s .input)) (now (s .list)) (now (s .out)) _ _ (c .before .before .put-refused .ensures)
+    (front-none (c .before .before .before .before .before .front .ensures) (omega arith) _)
 
 -- the frame's length, and that it is whole
-facts : (c : tie.Else3) → let n = c .before .front .result in let i = now (c .before .before .before .before .before .before .before .before .args .input) in (n ≡ number16 i 0) × (minFrame ≤ n) × (n ≤ maxFrame) × (n + 2 ≤ length i)
+facts : (c : tie.Else3)
+    → let start = c .before .before .before .before .before .before .before .before in
+    let n = c .before .front .result in let i = now (start .args .input) in (n ≡ number16 i 0) × (minFrame ≤ n) × (n ≤ maxFrame) × (n + 2 ≤ length i)
 facts c = front-frame (c .before .front .ensures) (λ e. omega arith)
 
 add-read : tie.Need-add-read
@@ -73,9 +76,14 @@ same-length-4 c = search needs
 
 returns-4 : tie.Need-returns-4
 returns-4 c =
-    let s = c .before .before .before .before .before .before .before .before .before .before .before .before .before .before .before .before .before .before .before .before .before .args in
-    let f = c .before .before .before .before .before .before .before .frame in
-    one-frame _ (s .state) (now (s .input)) (now (s .list)) _ (now (s .out)) _ (c .before .before .before .before .before .before .before .before .before .before .before .before .before .before .front .result) _ (f .result) (facts (c .before .before .before .before .before .before .before .before .before .before .before .before .before)) (c .before .before .before .before .before .before .before .before .before .before .before .before .number16 .ensures) (f .ensures .turns (omega (arith, c .before .before .before .before .before .before .before .before .before .before .before .before .before .before .before .before .if1 .left)))
+    let after-frame = c .before .before .before .before .before .before .before in
+    let after-number16 = after-frame .before .before .before .before .before in
+    let else1 = after-number16 .before .before .before .before in
+    let start = else1 .before .before .before .before .before in
+    let s = start .args in
+    let f = after-frame .frame in
+    one-frame _ (s .state) (now (s .input)) (now (s .list)) _ (now (s .out)) _ (after-number16 .before .before .front .result) _
+    (f .result) (facts (after-number16 .before)) (after-number16 .number16 .ensures) (f .ensures .turns (omega (arith, else1 .if1 .left)))
 
 pub step-spec : {M : Type 1} → statement M
 step-spec =

@@ -1,11 +1,11 @@
--- `ascending` goes over the records with the least that the next may be. The loop's invariant: the list is in order exactly if the rest is from that least on. The
--- measure is the records left. Assumes nothing.
+-- `ascending` goes over the records with the least that the next may be. The loop's invariant: the list is in order exactly if the rest is from that least on.
+-- The measure is the records left. Assumes nothing.
 use native.Mathlib.Omega.{arith}
 use mathlib.Core.Path.{_≡_, refl, sym, _∙_}
 use Prim.Native.Nat.{_-_, _≤_}
 use lib.ListN.{length, drop}
 use Rattle.support.specs.Support.{orderly}
-use Rattle.support.proofs.Walking.{order-broken, order-next, order-past}
+use Rattle.support.proofs.LoopLaws.{order-broken, order-next, order-past}
 use Rattle.support.proofs.ascending.Statement.{statement}
 use Rattle.support.proofs.ascending.Tie as tie
 

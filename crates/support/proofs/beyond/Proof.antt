@@ -7,7 +7,7 @@ use lib.Dec.{leb}
 use lib.ListN.{length, drop}
 use borrow.Author.Tests.{le-leb, lt-leb}
 use Rattle.support.specs.Support.{some}
-use Rattle.support.proofs.Walking.{some-found, some-next, some-past}
+use Rattle.support.proofs.LoopLaws.{some-found, some-next, some-past}
 use Rattle.support.proofs.beyond.Statement.{statement}
 use Rattle.support.proofs.beyond.Tie as tie
 

@@ -1,7 +1,8 @@
--- `compared` hands over the records that the first marks have and the second have not, by the promises of the calls in their order (Answering). Assumes nothing.
+-- `compared` hands over the records that the first marks have and the second have not, by the promises of the calls in their order
+-- (Answering). Assumes nothing.
 use mathlib.Core.Path.{_≡_}
 use lib.ListN.{length}
-use Rattle.support.proofs.Answering.{first-refused, second-refused, handed-over}
+use Rattle.support.proofs.AnswerLaws.{first-refused, second-refused, handed-over}
 use borrow.Author.Needs.{needs}
 use Rattle.support.proofs.compared.Statement.{statement}
 use Rattle.support.proofs.compared.Tie as tie
@@ -26,13 +27,23 @@ same-length-2 : tie.Need-same-length-2
 same-length-2 c = search needs
 
 returns-2 : tie.Need-returns-2
-returns-2 c = let p = c .before .before .before .before .before .before .before .before .before .before .before .before .before .before .before .before .before .pre in
-    let m = c .before .before .before .before .before .before .before .before .before .before .before .mark-records in
-    let kept : length (m .last .1 .1 .1 .0) ≡ length (c .before .before .before .before .before .before .before .before .before .before .before .before .before .before .before .before .before .args .work .now) = m .kept .1 .1 .1 .0 in
-    second-refused _ _ _ _ _ _ _ (p .0) (p .1) (p .2) (p .3) (m .ensures) (c .before .before .before .before .before .before .before .if1 .left) (c .before .before .before .before .before .before .without-core .ensures) kept (c .before .before .before .before .mark-records2 .ensures) (c .if2 .taken)
+returns-2 c =
+    let after-mark-records2 = c .before .before .before .before in
+    let else1 = after-mark-records2 .before .before .before in
+    let after-mark-records = else1 .before .before .before .before in
+    let start = after-mark-records .before .before .before .before .before .before in
+    let p = start .pre in
+    let m = after-mark-records .mark-records in
+    let kept : length (m .last .1 .1 .1 .0) ≡ length (start .args .work .now) = m .kept .1 .1 .1 .0 in
+    second-refused _ _ _ _ _ _ _ (p .0) (p .1) (p .2) (p .3) (m .ensures) (else1 .if1 .left)
+    (after-mark-records2 .before .before .without-core .ensures) kept (after-mark-records2 .mark-records2 .ensures) (c .if2 .taken)
 
 hand-over-requires : tie.Need-hand-over-requires
-hand-over-requires c κs = (c .before .before .before .before .before .before .before .before .before .before .before .before .before .before .before .before .before .before .before .before .pre .0, c .before .before .before .before .before .before .before .before .before .before .before .before .before .before .mark-records .ensures .long, c .before .before .before .before .before .before .before .mark-records2 .ensures .long)
+hand-over-requires c κs =
+    let after-mark-records2 = c .before .before .before .before .before .before .before in
+    let after-mark-records = after-mark-records2 .before .before .before .before .before .before .before in
+    let start = after-mark-records .before .before .before .before .before .before in
+    (start .pre .0, after-mark-records .mark-records .ensures .long, after-mark-records2 .mark-records2 .ensures .long)
 
 same-length-3 : tie.Need-same-length-3
 same-length-3 c = search needs
@@ -41,10 +52,16 @@ same-length-4 : tie.Need-same-length-4
 same-length-4 c = search needs
 
 returns-3 : tie.Need-returns-3
-returns-3 c = let p = c .before .before .before .before .before .before .before .before .before .before .before .before .before .before .before .before .before .before .before .before .before .before .before .pre in
-    let m = c .before .before .before .before .before .before .before .before .before .before .before .before .before .before .before .before .before .mark-records in
-    let kept : length (m .last .1 .1 .1 .0) ≡ length (c .before .before .before .before .before .before .before .before .before .before .before .before .before .before .before .before .before .before .before .before .before .before .before .args .work .now) = m .kept .1 .1 .1 .0 in
-    handed-over _ _ _ _ _ _ _ (p .0) (p .1) (p .2) (p .3) (m .ensures) (c .before .before .before .before .before .before .before .before .before .before .before .before .before .if1 .left) (c .before .before .before .before .before .before .before .before .before .before .before .before .without-core .ensures) kept (c .before .before .before .before .before .before .before .before .before .before .mark-records2 .ensures) (c .before .before .hand-over .ensures)
+returns-3 c =
+    let after-mark-records2 = c .before .before .before .before .before .before .before .before .before .before in
+    let else1 = after-mark-records2 .before .before .before in
+    let after-mark-records = else1 .before .before .before .before in
+    let start = after-mark-records .before .before .before .before .before .before in
+    let p = start .pre in
+    let m = after-mark-records .mark-records in
+    let kept : length (m .last .1 .1 .1 .0) ≡ length (start .args .work .now) = m .kept .1 .1 .1 .0 in
+    handed-over _ _ _ _ _ _ _ (p .0) (p .1) (p .2) (p .3) (m .ensures) (else1 .if1 .left) (after-mark-records2 .before .before .without-core .ensures)
+    kept (after-mark-records2 .mark-records2 .ensures) (c .before .before .hand-over .ensures)
 
 pub compared-spec : {M : Type 1} → statement M
 compared-spec =

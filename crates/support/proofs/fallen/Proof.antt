@@ -1,4 +1,5 @@
--- `fallen` goes over the records. The loop's invariant: the words written are the records below x that are lost. The measure is the records left. Assumes nothing.
+-- `fallen` goes over the records. The loop's invariant: the words written are the records below x that are lost. The measure is the
+-- records left. Assumes nothing.
 use native.Mathlib.Omega.{arith}
 use mathlib.Core.List.{List}
 use mathlib.Core.Logic.{⊎-elim}
@@ -9,12 +10,13 @@ use borrow.Author.Needs.{needs}
 use Rattle.book.specs.Causes.{maxRecords}
 use Rattle.support.specs.Support.{chosen}
 use Rattle.support.specs.Inner.{lost}
-use Rattle.support.proofs.Walking.{chosen-more, chosen-passed}
+use Rattle.support.proofs.LoopLaws.{chosen-more, chosen-passed}
 use Rattle.support.proofs.fallen.Statement.{statement}
 use Rattle.support.proofs.fallen.Tie as tie
 
 abbrev Inv-loop : tie.InvT-loop
-Inv-loop core n before after words₀ count₀ x₀ words count x = (x ≤ n) × (n ≤ maxRecords) × (count ≤ x) × (length words ≡ maxRecords) × (take count words ≡ chosen (lost before after core) x)
+Inv-loop core n before after words₀ count₀ x₀ words count x =
+    (x ≤ n) × (n ≤ maxRecords) × (count ≤ x) × (length words ≡ maxRecords) × (take count words ≡ chosen (lost before after core) x)
 
 abbrev μ-loop : tie.MeasureT-loop
 μ-loop core n before after words₀ count₀ x₀ words count x = n - x
@@ -36,13 +38,19 @@ cast-words : tie.Need-cast-words Inv-loop μ-loop
 cast-words c = omega (arith, c .before .before .before .loop .inv .1)
 
 mul-words : tie.Need-mul-words Inv-loop μ-loop
-mul-words c = omega (arith, c .before .before .before .loop .inv .1, c .before .before .before .loop .inv .2)
+mul-words c =
+    let at-loop = c .before .before .before in
+    omega (arith, at-loop .loop .inv .1, at-loop .loop .inv .2)
 
 array-write-words : tie.Need-array-write-words Inv-loop μ-loop
-array-write-words c = omega (arith, c .before .before .before .loop .inv .1, c .before .before .before .loop .inv .2)
+array-write-words c =
+    let at-loop = c .before .before .before in
+    omega (arith, at-loop .loop .inv .1, at-loop .loop .inv .2)
 
 add-count : tie.Need-add-count Inv-loop μ-loop
-add-count c = omega (arith, c .before .before .before .loop .inv .1, c .before .before .before .loop .inv .2)
+add-count c =
+    let at-loop = c .before .before .before in
+    omega (arith, at-loop .loop .inv .1, at-loop .loop .inv .2)
 
 add-x : tie.Need-add-x Inv-loop μ-loop
 add-x c = omega (arith, c .before .before .before .loop .inv .1)
@@ -71,7 +79,8 @@ loop-again c = let l = c .before .before .before .loop in
       l .inv .1,
       omega (arith, w .2),
       ap length (w .1) ∙ l .inv .3,
-      ap₂ (λ (k : ℕ) (ws : List ℕ). take k ws) (w .2) (w .1) ∙ chosen-passed t (l .words) (l .count) (l .x) (l .inv .4) (sym (c .before .loses .ensures) ∙ w .0 .left),
+      ap₂ (λ (k : ℕ) (ws : List ℕ). take k ws) (w .2) (w .1)
+          ∙ chosen-passed t (l .words) (l .count) (l .x) (l .inv .4) (sym (c .before .loses .ensures) ∙ w .0 .left),
     ))
     (c .if1 .came)
 

@@ -2,7 +2,7 @@
 use native.Mathlib.Omega.{arith}
 use mathlib.Core.Path.{sym}
 use lib.Seq.{length-take-le}
-use Rattle.support.proofs.Answering.{handed-short, handed-whole}
+use Rattle.support.proofs.AnswerLaws.{handed-short, handed-whole}
 use borrow.Author.Needs.{needs}
 use Rattle.support.proofs.hand_over.Statement.{statement}
 use Rattle.support.proofs.hand_over.Tie as tie
@@ -18,7 +18,9 @@ array-share-prefix-words : tie.Need-array-share-prefix-words
 array-share-prefix-words c = search needs
 
 slice-aggregate-write : tie.Need-slice-aggregate-write
-slice-aggregate-write c = let f = c .before .before .before .fallen in sym (length-take-le (f .result .count) (f .result .words) (omega (arith, f .ensures .0, f .ensures .1)))
+slice-aggregate-write c =
+    let f = c .before .before .before .fallen in
+    sym (length-take-le (f .result .count) (f .result .words) (omega (arith, f .ensures .0, f .ensures .1)))
 
 write-requires : tie.Need-write-requires
 write-requires c κs = let f = c .before .before .before .before .fallen in
@@ -30,7 +32,8 @@ same-length c = search needs
 
 returns-2 : tie.Need-returns-2
 returns-2 c = let f = c .before .before .before .before .before .before .before .fallen in
-    handed-whole (f .result .words) (f .result .count) (omega (arith, f .ensures .0, f .ensures .1)) (f .ensures .2) (c .before .before .before .before .before .if1 .left) (c .before .before .write .ensures)
+    handed-whole (f .result .words) (f .result .count) (omega (arith, f .ensures .0, f .ensures .1))
+    (f .ensures .2) (c .before .before .before .before .before .if1 .left) (c .before .before .write .ensures)
 
 pub hand-over-spec : {M : Type 1} → statement M
 hand-over-spec =

@@ -1,4 +1,5 @@
--- `joined_records` goes over the records. The loop's invariant: the records below x are marked as they are joined. The measure is the records left. Assumes nothing.
+-- `joined_records` goes over the records. The loop's invariant: the records below x are marked as they are joined. The measure is
+-- the records left. Assumes nothing.
 use native.Mathlib.Omega.{arith}
 use mathlib.Core.Bool.{false}
 use mathlib.Core.Path.{_≡_, refl, _∙_}
@@ -7,12 +8,13 @@ use lib.ListN.{length, length-set, getD}
 use Rattle.book.specs.Causes.{maxRecords}
 use Rattle.support.specs.Support.{reaches}
 use Rattle.support.specs.Inner.{joinedBy}
-use Rattle.support.proofs.Walking.{marked-more}
+use Rattle.support.proofs.LoopLaws.{marked-more}
 use Rattle.support.proofs.joined_records.Statement.{statement}
 use Rattle.support.proofs.joined_records.Tie as tie
 
 abbrev Inv-loop : tie.InvT-loop
-Inv-loop rows anchors n records₀ x₀ records x = (x ≤ n) × (n ≤ maxRecords) × (length records ≡ maxRecords) × ((y : ℕ) → y < x → getD records y false ≡ reaches (joinedBy rows) anchors y)
+Inv-loop rows anchors n records₀ x₀ records x =
+    (x ≤ n) × (n ≤ maxRecords) × (length records ≡ maxRecords) × ((y : ℕ) → y < x → getD records y false ≡ reaches (joinedBy rows) anchors y)
 
 abbrev μ-loop : tie.MeasureT-loop
 μ-loop rows anchors n records₀ x₀ records x = n - x
@@ -35,8 +37,13 @@ loop-less c = omega arith
 loop-again : tie.Need-loop-again Inv-loop μ-loop
 loop-again c = let l = c .before .before .loop in
     let a = c .before .before .before .before .before .args in
-    let j = c .joined-to-some in
-    (omega arith, l .inv .1, length-set (l .records) (l .x) (j .result) ∙ l .inv .2, marked-more (reaches (joinedBy (a .rows .now)) (a .anchors .now)) (l .records) (l .x) (j .result) (omega (arith, l .inv .1, l .inv .2)) (j .ensures) (l .inv .3))
+    let j = c .joined-to-some in (
+      omega arith,
+      l .inv .1,
+      length-set (l .records) (l .x) (j .result) ∙ l .inv .2,
+      marked-more (reaches (joinedBy (a .rows .now)) (a .anchors .now)) (l .records)
+          (l .x) (j .result) (omega (arith, l .inv .1, l .inv .2)) (j .ensures) (l .inv .3),
+    )
 
 returns : tie.Need-returns Inv-loop μ-loop
 returns c = let l = c .before .loop in

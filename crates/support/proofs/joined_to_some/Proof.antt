@@ -1,5 +1,5 @@
--- `joined_to_some` goes over the anchors. The loop's invariant: the record is joined to some anchor exactly if it is to one of the rest. The measure is the anchors
--- left. Assumes nothing.
+-- `joined_to_some` goes over the anchors. The loop's invariant: the record is joined to some anchor exactly if it is to one of the rest.
+-- The measure is the anchors left. Assumes nothing.
 use native.Mathlib.Omega.{arith}
 use mathlib.Core.Path.{_≡_, refl, sym, _∙_}
 use Prim.Native.Nat.{_-_, _≤_}
@@ -7,12 +7,13 @@ use lib.Dec.{eqb}
 use lib.ListN.{length, drop}
 use Rattle.support.specs.Support.{some, reaches}
 use Rattle.support.specs.Inner.{joinedBy}
-use Rattle.support.proofs.Walking.{some-found, some-next, some-past}
+use Rattle.support.proofs.LoopLaws.{some-found, some-next, some-past}
 use Rattle.support.proofs.joined_to_some.Statement.{statement}
 use Rattle.support.proofs.joined_to_some.Tie as tie
 
 abbrev Inv-loop : tie.InvT-loop
-Inv-loop rows «record» anchors i₀ i = (i ≤ length anchors) × (reaches (joinedBy rows) anchors «record» ≡ some (λ a. eqb (joinedBy rows «record» a) 1) (drop i anchors))
+Inv-loop rows «record» anchors i₀ i =
+    (i ≤ length anchors) × (reaches (joinedBy rows) anchors «record» ≡ some (λ a. eqb (joinedBy rows «record» a) 1) (drop i anchors))
 
 abbrev μ-loop : tie.MeasureT-loop
 μ-loop rows «record» anchors i₀ i = length anchors - i
@@ -36,7 +37,8 @@ joined-requires c κs = (c .before .before .before .before .before .pre, omega (
 returns : tie.Need-returns Inv-loop μ-loop
 returns c = let l = c .before .before .before .before .loop in
     let a = c .before .before .before .before .before .before .before .args in
-    sym (l .inv .1 ∙ some-found (λ x. eqb (joinedBy (a .rows .now) (a .«record») x) 1) (a .anchors .now) (l .i) (omega arith) (sym (c .before .joined .ensures) ∙ c .if1 .taken))
+    sym (l .inv .1 ∙ some-found (λ x. eqb (joinedBy (a .rows .now) (a .«record») x) 1)
+    (a .anchors .now) (l .i) (omega arith) (sym (c .before .joined .ensures) ∙ c .if1 .taken))
 
 add-i : tie.Need-add-i Inv-loop μ-loop
 add-i c = omega arith
@@ -46,8 +48,11 @@ loop-less c = omega arith
 
 loop-again : tie.Need-loop-again Inv-loop μ-loop
 loop-again c = let l = c .before .before .before .before .loop in
-    let a = c .before .before .before .before .before .before .before .args in
-    (omega arith, l .inv .1 ∙ some-next (λ x. eqb (joinedBy (a .rows .now) (a .«record») x) 1) (a .anchors .now) (l .i) (omega arith) (sym (c .before .joined .ensures) ∙ c .if1 .left))
+    let a = c .before .before .before .before .before .before .before .args in (
+      omega arith,
+      l .inv .1 ∙ some-next (λ x. eqb (joinedBy (a .rows .now) (a .«record») x) 1)
+          (a .anchors .now) (l .i) (omega arith) (sym (c .before .joined .ensures) ∙ c .if1 .left),
+    )
 
 returns-2 : tie.Need-returns-2 Inv-loop μ-loop
 returns-2 c = let l = c .before .loop in

@@ -1,6 +1,6 @@
 -- `mark_records` asks the engine for the relation, and marks the records by its rows (`marks-refused`, `marks-made`). Assumes nothing.
 use mathlib.Core.Path.{refl}
-use Rattle.support.proofs.Answering.{marks-refused, marks-made}
+use Rattle.support.proofs.AnswerLaws.{marks-refused, marks-made}
 use borrow.Author.Needs.{needs}
 use Rattle.support.proofs.mark_records.Statement.{statement}
 use Rattle.support.proofs.mark_records.Tie as tie

@@ -1,8 +1,8 @@
--- `sole_support`: each refusal by the causes' order, and the rest by the promise of `compared`, whose part of the work is short exactly if the whole is. Assumes
--- nothing.
+-- `sole_support`: each refusal by the causes' order, and the rest by the promise of `compared`, whose part of the work is short
+-- exactly if the whole is. Assumes nothing.
 use mathlib.Core.Path.{sym, _∙_}
 use borrow.Author.Tests.{not-true, not-false}
-use Rattle.support.proofs.Answering.{refuses-core, refuses-beyond, refuses-unordered, part-length, supports}
+use Rattle.support.proofs.AnswerLaws.{refuses-core, refuses-beyond, refuses-unordered, part-length, supports}
 use borrow.Author.Needs.{needs}
 use Rattle.support.proofs.sole_support.Statement.{statement}
 use Rattle.support.proofs.sole_support.Tie as tie
@@ -23,7 +23,10 @@ ascending-requires : tie.Need-ascending-requires
 ascending-requires c κs = search needs
 
 returns-3 : tie.Need-returns-3
-returns-3 c = refuses-unordered (c .before .before .before .before .before .size .ensures .size) (c .before .before .before .before .if1 .left) (sym (c .before .before .before .beyond .ensures) ∙ c .before .before .if2 .left) (sym (c .before .ascending .ensures) ∙ not-true (c .before .ascending .result) (c .if3 .taken))
+returns-3 c =
+    refuses-unordered (c .before .before .before .before .before .size .ensures .size) (c .before .before .before .before .if1 .left)
+    (sym (c .before .before .before .beyond .ensures) ∙ c .before .before .if2 .left)
+    (sym (c .before .ascending .ensures) ∙ not-true (c .before .ascending .result) (c .if3 .taken))
 
 spared-requires : tie.Need-spared-requires
 spared-requires c κs = search needs
@@ -41,7 +44,14 @@ part-compared-end : tie.Need-part-compared-end
 part-compared-end c = search needs
 
 compared-requires : tie.Need-compared-requires
-compared-requires c κs = (c .before .before .before .before .before .before .before .before .size .ensures .small, c .before .before .before .before .before .before .before .if1 .left, sym (c .before .before .before .before .before .before .beyond .ensures) ∙ c .before .before .before .before .before .if2 .left, sym (c .before .before .before .before .ascending .ensures) ∙ not-false (c .before .before .before .before .ascending .result) (c .before .before .before .if3 .left))
+compared-requires c κs =
+    let else3 = c .before .before .before in
+    let after-beyond = else3 .before .before .before in (
+      after-beyond .before .before .size .ensures .small,
+      after-beyond .before .if1 .left,
+      sym (after-beyond .beyond .ensures) ∙ else3 .before .before .if2 .left,
+      sym (else3 .before .ascending .ensures) ∙ not-false (else3 .before .ascending .result) (else3 .if3 .left),
+    )
 
 same-length : tie.Need-same-length
 same-length c = search needs
@@ -50,7 +60,12 @@ same-length-2 : tie.Need-same-length-2
 same-length-2 c = search needs
 
 returns-4 : tie.Need-returns-4
-returns-4 c = supports (c .before .before .before .before .before .before .before .before .before .before .before .before .before .size .ensures .size) (part-length (c .before .before .before .before .before .before .before .before .before .before .before .before .before .before .before .before .before .before .args .work .now) _ _ (c .before .before .before .before .before .before .before .spared .ensures)) (c .before .before .before .before .compared .ensures)
+returns-4 c =
+    let after-compared = c .before .before .before .before in
+    let after-spared = after-compared .before .before .before in
+    let after-size = after-spared .before .before .before .before .before .before in
+    let start = after-size .before .before .before .before .before in
+    supports (after-size .size .ensures .size) (part-length (start .args .work .now) _ _ (after-spared .spared .ensures)) (after-compared .compared .ensures)
 
 pub sole-support-spec : {M : Type 1} → statement M
 sole-support-spec =

@@ -1,5 +1,5 @@
--- `without_core` cuts the words of the links one after another. The loop's invariant: what is left represents the book with the words done cut. The measure is the
--- words left. It rests on `cut-graph`. Assumes nothing.
+-- `without_core` cuts the words of the links one after another. The loop's invariant: what is left represents the book with the words done cut. The measure is
+-- the words left. It rests on `cut-graph`. Assumes nothing.
 use native.Mathlib.Omega.{arith}
 use mathlib.Core.Path.{_≡_, subst}
 use Prim.Native.Nat.{ℕ, _-_, _≤_}
@@ -9,7 +9,7 @@ use Rattle.book.specs.Book.{Book}
 use Rattle.engine.specs.BookLaws.{represented-fit}
 use Rattle.register.specs.Representation.{Represents}
 use Rattle.support.specs.Inner.{cutAll}
-use Rattle.support.proofs.Cutting.{cut-next, cut-graph}
+use Rattle.support.proofs.CutLaws.{cut-next, cut-graph}
 use Rattle.support.proofs.without_core.Statement.{statement}
 use Rattle.support.proofs.without_core.Tie as tie
 
@@ -44,8 +44,11 @@ loop-less c = omega arith
 loop-again : tie.Need-loop-again Inv-loop μ-loop
 loop-again c = let l = c .before .before .loop in
     let a = c .before .before .before .before .before .args in
-    let k = c .before .before .before .before .links in
-    (omega arith, λ b R. subst (Represents (c .without-link .result)) (cut-next (a .core) (k .result .words) (l .i) b (omega (arith, k .ensures .few, k .ensures .long))) (c .without-link .ensures (cutAll (a .core) (take (l .i) (k .result .words)) b) (l .inv .1 b R)))
+    let k = c .before .before .before .before .links in (
+      omega arith,
+      λ b R. subst (Represents (c .without-link .result)) (cut-next (a .core) (k .result .words) (l .i) b (omega (arith, k .ensures .few, k .ensures .long)))
+          (c .without-link .ensures (cutAll (a .core) (take (l .i) (k .result .words)) b) (l .inv .1 b R)),
+    )
 
 returns : tie.Need-returns Inv-loop μ-loop
 returns c = let l = c .before .loop in

@@ -2,7 +2,7 @@
 use mathlib.Core.Path.{sym, ap, subst, _∙_}
 use mathlib.Core.Bool.{Bool}
 use Rattle.book.specs.Basics.{pick}
-use Rattle.book.specs.Book.{remove, unlock, edit, next}
+use Rattle.book.specs.Book.{unlock, edit, next}
 use Rattle.register.specs.Representation.{Represents}
 use Rattle.support.specs.Inner.{wordLink, cutLink}
 use borrow.Author.Tests.{not-true, not-false}
@@ -38,15 +38,18 @@ remove-requires c κs = search needs
 
 returns-2 : tie.Need-returns-2
 unfolding cutLink
-returns-2 c = let a = c .before .before .before .before .before .before .args in
+returns-2 c =
+    let after-unlock = c .before .before .before in
+    let start = after-unlock .before .before .before in
+    let a = start .args in
     let k = wordLink (a .word) in
-    let touch = c .before .before .before .before .before .touching in
-    let e = not-false (touch .result) (c .before .before .before .before .if1 .left) in
+    let touch = after-unlock .before .before .touching in
+    let e = not-false (touch .result) (after-unlock .before .if1 .left) in
     λ b R.
     subst (Represents (c .before .remove .result .register))
     (sym (ap (λ (t : Bool). pick t (cutLink (wordLink (a .word)) b) b) (sym (touch .ensures) ∙ e)))
     (c .before .remove .ensures .follows (next (next b (edit (unlock (k .from)))) (edit (unlock (k .to))))
-    (c .before .before .unlock2 .ensures .follows (next b (edit (unlock (k .from)))) (c .before .before .before .unlock .ensures .follows b R)))
+    (c .before .before .unlock2 .ensures .follows (next b (edit (unlock (k .from)))) (after-unlock .unlock .ensures .follows b R)))
 
 pub without-link-spec : {M : Type 1} → statement M
 without-link-spec =

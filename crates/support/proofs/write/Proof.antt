@@ -5,7 +5,7 @@ use Prim.Native.Nat.{_-_, _≤_}
 use lib.ListN.{length, length-set}
 use lib.Seq.{paste, paste-zero}
 use borrow.Author.Needs.{needs}
-use Rattle.support.proofs.Walking.{paste-next, paste-over}
+use Rattle.support.proofs.LoopLaws.{paste-next, paste-over}
 use Rattle.support.proofs.write.Statement.{statement}
 use Rattle.support.proofs.write.Tie as tie
 

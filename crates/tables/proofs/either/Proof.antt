@@ -4,7 +4,7 @@ use Prim.Native.Nat.{suc, _-_}
 use native.Mathlib.Omega.{arith}
 use borrow.Author.Needs.{needs}
 use lib.ListN.{length}
-use Rattle.tables.proofs.BuildLaws.{holds-alternative}
+use Rattle.tables.proofs.BinaryLaws.{holds-alternative}
 use Rattle.tables.proofs.either.Statement.{statement}
 use Rattle.tables.proofs.either.Tie as tie
 
@@ -95,7 +95,8 @@ returns c =
     let k-nullable : length (s .nullable) ≡ 19 = search needs in
     let et : suc (s .top - 1) ≡ s .top = omega arith in
     let ei : suc (s .top - 1 - 1) ≡ s .top - 1 = omega arith in
-    λ m x y st H. holds-alternative H _ et refl (s .top - 1 - 1) (s .top - 1) et ei _ _ _ (omega arith) (omega arith) (omega arith) (omega arith) refl refl refl refl refl refl refl refl refl refl
+    λ m x y st H. holds-alternative H _ et refl (s .top - 1 - 1) (s .top - 1) et ei _ _ _ (omega arith)
+    (omega arith) (omega arith) (omega arith) refl refl refl refl refl refl refl refl refl refl
 
 pub either-spec : {M : Type 1} → statement M
 either-spec =

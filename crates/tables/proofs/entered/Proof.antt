@@ -1,12 +1,12 @@
 -- `entered` meets its contract. The loop's invariant: it is met for the rows below c (Joined). The measure is what is left of the rows. Assumes nothing.
 use mathlib.Core.Path.{_≡_, sym, ap}
 use mathlib.Core.Logic.{⊎-elim}
-use Prim.Native.Nat.{ℕ, _-_, _/_, _<_, _≤_}
+use Prim.Native.Nat.{ℕ, _-_, _/_, _≤_}
 use native.Mathlib.Omega.{arith}
 use borrow.Author.Needs.{needs}
 use lib.ListN.{length, length-set}
 use Rattle.k2.specs.Bits.{digit}
-use Rattle.tables.specs.Rows.{Joined, sideOf, letterDigit}
+use Rattle.tables.specs.Rows.{Joined, letterDigit}
 use Rattle.tables.proofs.RowLaws.{joined-none, joined-yes, joined-no}
 use Rattle.tables.proofs.entered.Statement.{statement}
 use Rattle.tables.proofs.entered.Tie as tie
@@ -52,9 +52,14 @@ unfolding digit
 loop-again c =
     let l = c .before .before .before .loop in
     let s = c .before .before .before .before .args in
-    let d : letterDigit (s .forward) (s .against) (l .c) ≡ digit (c .before .side-of .result) (l .c / 2) = ap (λ (x : ℕ). digit x (l .c / 2)) (sym (c .before .side-of .ensures)) in
+    let d : letterDigit (s .forward) (s .against) (l .c) ≡ digit (c .before .side-of .result) (l .c / 2) =
+    ap (λ (x : ℕ). digit x (l .c / 2)) (sym (c .before .side-of .ensures)) in
     ⊎-elim
-    (λ w. (omega arith, rw (w .1) (simp length-set (l .inv .1)), rw (w .1) (joined-yes (l .inv .2) (omega (arith, d, w .0 .taken)) (omega (arith, d)) (omega arith))))
+    (λ w. (
+      omega arith,
+      rw (w .1) (simp length-set (l .inv .1)),
+      rw (w .1) (joined-yes (l .inv .2) (omega (arith, d, w .0 .taken)) (omega (arith, d)) (omega arith)),
+    ))
     (λ w. (omega arith, rw (w .1) (l .inv .1), rw (w .1) (joined-no (l .inv .2) (λ o. omega (arith, d, w .0 .left)))))
     (c .if1 .came)
 

@@ -4,7 +4,7 @@ use Prim.Native.Nat.{suc, _-_}
 use native.Mathlib.Omega.{arith}
 use borrow.Author.Needs.{needs}
 use lib.ListN.{length}
-use Rattle.tables.proofs.BuildLaws.{holds-sequence}
+use Rattle.tables.proofs.BinaryLaws.{holds-sequence}
 use Rattle.tables.proofs.followed.Statement.{statement}
 use Rattle.tables.proofs.followed.Tie as tie
 
@@ -119,7 +119,11 @@ returns c =
     let k-nullable : length (s .nullable) ≡ 19 = search needs in
     let et : suc (s .top - 1) ≡ s .top = omega arith in
     let ei : suc (s .top - 1 - 1) ≡ s .top - 1 = omega arith in
-    λ m x y st H. holds-sequence H _ et refl (s .top - 1 - 1) (s .top - 1) et ei _ _ _ (omega arith) (omega arith) (omega arith) (omega arith) refl refl refl refl refl (c .before .before .before .before .before .before .before .only .result) (c .before .before .before .before .only2 .result) (c .before .before .before .before .before .before .before .before .before .before .before .joined .ensures) (c .before .before .before .before .before .before .before .before .before .before .joined2 .ensures) (c .before .before .before .before .before .before .before .only .ensures) (c .before .before .before .before .only2 .ensures) refl refl refl
+    λ m x y st H. holds-sequence H _ et refl (s .top - 1 - 1) (s .top - 1) et ei _ _ _ (omega arith) (omega arith) (omega arith) (omega arith) refl refl refl
+    refl refl (c .before .before .before .before .before .before .before .only .result) (c .before .before .before .before .only2 .result)
+    (c .before .before .before .before .before .before .before .before .before .before .before .joined .ensures)
+    (c .before .before .before .before .before .before .before .before .before .before .joined2 .ensures)
+    (c .before .before .before .before .before .before .before .only .ensures) (c .before .before .before .before .only2 .ensures) refl refl refl
 
 pub followed-spec : {M : Type 1} → statement M
 followed-spec =

@@ -3,7 +3,7 @@ use mathlib.Core.Path.{_≡_, refl}
 use native.Mathlib.Omega.{arith}
 use borrow.Author.Needs.{needs}
 use lib.ListN.{length}
-use Rattle.tables.proofs.BuildLaws.{holds-inverse}
+use Rattle.tables.proofs.UnaryLaws.{holds-inverse}
 use Rattle.tables.proofs.inverted.Statement.{statement}
 use Rattle.tables.proofs.inverted.Tie as tie
 
@@ -56,7 +56,8 @@ returns c =
     let k-last : length (s .last) ≡ 19 = search needs in
     let k-enter : length (s .enter) ≡ 64 = search needs in
     let k-turned : length (c .before .before .turned .result) ≡ 64 = search needs in
-    λ m x st H. holds-inverse H (omega arith) (omega arith) k-enter k-turned refl refl refl refl refl refl (c .before .before .before .before .mixed .ensures) (c .before .before .before .mixed2 .ensures) (c .before .before .turned .ensures)
+    λ m x st H. holds-inverse H (omega arith) (omega arith) k-enter k-turned refl refl refl refl refl refl
+    (c .before .before .before .before .mixed .ensures) (c .before .before .before .mixed2 .ensures) (c .before .before .turned .ensures)
 
 pub inverted-spec : {M : Type 1} → statement M
 inverted-spec =

@@ -3,7 +3,7 @@ use mathlib.Core.Path.{_≡_, refl}
 use native.Mathlib.Omega.{arith}
 use borrow.Author.Needs.{needs}
 use lib.ListN.{length}
-use Rattle.tables.proofs.BuildLaws.{holds-optional}
+use Rattle.tables.proofs.UnaryLaws.{holds-optional}
 use Rattle.tables.proofs.maybe.Statement.{statement}
 use Rattle.tables.proofs.maybe.Tie as tie
 

@@ -1,7 +1,7 @@
 -- `repeated` meets its contract, by the law of the tables (holds-plus). Assumes nothing.
 use mathlib.Core.Path.{refl}
 use borrow.Author.Needs.{needs}
-use Rattle.tables.proofs.BuildLaws.{holds-plus}
+use Rattle.tables.proofs.UnaryLaws.{holds-plus}
 use Rattle.tables.proofs.repeated.Statement.{statement}
 use Rattle.tables.proofs.repeated.Tie as tie
 

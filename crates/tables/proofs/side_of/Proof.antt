@@ -1,5 +1,4 @@
 -- `side_of` meets its contract: its test is that of `sideOf`. Assumes nothing.
-use borrow.Author.Needs.{needs}
 use borrow.Author.Tests.{eq-eqb, ne-eqb}
 use Rattle.tables.proofs.side_of.Statement.{statement}
 use Rattle.tables.proofs.side_of.Tie as tie

@@ -4,7 +4,8 @@ use native.Mathlib.Omega.{arith}
 use borrow.Author.Needs.{needs}
 use Rattle.reader.specs.declared.items.Item.the-variants.{Letters, Inverse, Star, Plus, Optional, Alternative, Sequence}
 use Rattle.reader.specs.Code.{itemOf}
-use Rattle.tables.proofs.RunLaws.{inverts, stars, repeats, allows-none, unites, follows, room-symbol, after-symbol, room-one, after-one, room-two, after-two}
+use Rattle.tables.proofs.RunLaws.{inverts, stars, repeats, allows-none, unites, follows, room-symbol, after-symbol, room-one, after-one, room-two}
+use Rattle.tables.proofs.RunLaws.{after-two}
 use Rattle.tables.proofs.step.Statement.{statement}
 use Rattle.tables.proofs.step.Tie as tie
 
@@ -40,7 +41,10 @@ repeated-requires : tie.Need-repeated-requires
 repeated-requires c κs = room-one (c .before .before .before .pre .2) (is-star c) stars
 
 maybe-requires : tie.Need-maybe-requires
-maybe-requires c κs = let z = room-one (c .before .before .before .before .pre .2) (is-star (c .before)) stars in let y = c .repeated .ensures .1 in (omega arith, omega arith)
+maybe-requires c κs =
+    let z = room-one (c .before .before .before .before .pre .2) (is-star (c .before)) stars in
+    let y = c .repeated .ensures .1 in
+    (omega arith, omega arith)
 
 enum-told-3 : tie.Need-enum-told-3
 enum-told-3 c = search needs

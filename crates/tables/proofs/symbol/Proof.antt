@@ -5,7 +5,7 @@ use native.Mathlib.Omega.{arith}
 use borrow.Author.Needs.{needs}
 use lib.ListN.{length}
 use Rattle.k2.specs.DigitLaws.{one-shl}
-use Rattle.tables.proofs.BuildLaws.{holds-symbol}
+use Rattle.tables.proofs.SymbolLaws.{holds-symbol}
 use Rattle.tables.proofs.symbol.Statement.{statement}
 use Rattle.tables.proofs.symbol.Tie as tie
 
@@ -54,7 +54,8 @@ returns c =
     let k-nullable : length (s .b .nullable) ≡ 19 = search needs in
     let k-forward : s .forward < 2 ^ 32 = search needs in
     let k-against : s .against < 2 ^ 32 = search needs in
-    λ m st H. holds-symbol H (s .forward) (s .against) _ k-forward k-against (c .before .before .pre .1) (omega arith) (omega arith) (omega arith) (omega arith) (one-shl (s .b .used + 1) (omega arith)) refl refl refl refl refl refl (c .entered .ensures) refl refl
+    λ m st H. holds-symbol H (s .forward) (s .against) _ k-forward k-against (c .before .before .pre .1) (omega arith) (omega arith)
+    (omega arith) (omega arith) (one-shl (s .b .used + 1) (omega arith)) refl refl refl refl refl refl (c .entered .ensures) refl refl
 
 pub symbol-spec : {M : Type 1} → statement M
 symbol-spec =

@@ -19,7 +19,8 @@ use Rattle.tables.proofs.tables_of.Tie as tie
 
 abbrev Inv-loop : tie.InvT-loop
 Inv-loop numbers b₀ i₀ b i =
-    (i ≤ length numbers) × (length (b .follow) ≡ 64) × ((text : List ℕ) (e : Expr) → InLimits text e → numbers ≡ code e → Next b (drop i numbers) (value parts e))
+    (i ≤ length numbers) × (length (b .follow) ≡ 64)
+    × ((text : List ℕ) (e : Expr) → InLimits text e → numbers ≡ code e → Next b (drop i numbers) (value parts e))
 
 abbrev μ-loop : tie.MeasureT-loop
 μ-loop numbers b₀ i₀ b i = length numbers - i
@@ -35,8 +36,9 @@ shared-slice-read-step c = omega arith
 
 step-requires : tie.Need-step-requires Inv-loop μ-loop
 step-requires c κs =
-    let p = c .before .before .before .before .pre in
-    let s = c .before .before .before .before .args .numbers .now in
+    let start = c .before .before .before .before in
+    let p = start .pre in
+    let s = start .args .numbers .now in
     let l = c .before .before .loop in
     (drop (suc (l .i)) s, value parts (p .1), rw (drop-cons s (l .i) 0 (omega arith)) at (l .inv .2 (p .0) (p .1) (p .2) (p .3)))
 
@@ -49,8 +51,11 @@ loop-less c = omega arith
 loop-again : tie.Need-loop-again Inv-loop μ-loop
 loop-again c =
     let s = c .before .before .before .before .before .args .numbers .now in
-    let l = c .before .before .before .loop in
-    (omega arith, search needs, λ text e L q. rw add-one (c .step .ensures (drop (suc (l .i)) s) (value parts e) (rw (drop-cons s (l .i) 0 (omega arith)) at (l .inv .2 text e L q))))
+    let l = c .before .before .before .loop in (
+      omega arith,
+      search needs,
+      λ text e L q. rw add-one (c .step .ensures (drop (suc (l .i)) s) (value parts e) (rw (drop-cons s (l .i) 0 (omega arith)) at (l .inv .2 text e L q))),
+    )
 
 element-copy-out-first : tie.Need-element-copy-out-first Inv-loop μ-loop
 element-copy-out-first c = omega arith

@@ -56,9 +56,11 @@ print-requires-6 c κs = search needs
 print-steps-requires : tie.Need-print-steps-requires
 unfolding stepsLength
 print-steps-requires c κs =
-    let fits = c .before .before .before .before .before .before .before .before .before .before .before .before .before .chain .ensures .fits in
-    let steps = rw (c .before .before .before .before .before .before .before .answer .given .1) at fits in
-    let same = c .before .before .before .before .before .before .before .before .before .before .before .before .before .chain .kept .1 .1 .1 .1 .1 .0 in
+    let after-answer = c .before .before .before .before .before .before .before in
+    let after-chain = after-answer .before .before .before .before .before .before in
+    let fits = after-chain .chain .ensures .fits in
+    let steps = rw (after-answer .answer .given .1) at fits in
+    let same = after-chain .chain .kept .1 .1 .1 .1 .1 .0 in
     omega arith
 
 enum-told : tie.Need-enum-told

@@ -38,24 +38,6 @@ label-part-requires c κs = search needs
 pairs-requires : tie.Need-pairs-requires
 pairs-requires c κs = search needs
 
-slice-aggregate-line-2 : tie.Need-slice-aggregate-line-2
-slice-aggregate-line-2 c = search needs
-
-line-requires-2 : tie.Need-line-requires-2
-line-requires-2 c κs = search needs
-
-links-out-requires : tie.Need-links-out-requires
-links-out-requires c κs = search needs
-
-slice-aggregate-line-3 : tie.Need-slice-aggregate-line-3
-slice-aggregate-line-3 c = search needs
-
-line-requires-3 : tie.Need-line-requires-3
-line-requires-3 c κs = search needs
-
-links-in-requires : tie.Need-links-in-requires
-links-in-requires c κs = search needs
-
 returns : tie.Need-returns
 returns c = search needs
 
@@ -72,10 +54,4 @@ show-spec =
     line-requires
     label-part-requires
     pairs-requires
-    slice-aggregate-line-2
-    line-requires-2
-    links-out-requires
-    slice-aggregate-line-3
-    line-requires-3
-    links-in-requires
     returns)

@@ -20,8 +20,10 @@ slice-aggregate-write-numbers c = search needs
 
 write-numbers-requires : tie.Need-write-numbers-requires
 write-numbers-requires c κs =
-    let long : length (c .before .before .before .before .before .before .before .args .r .code) ≡ 256 = search needs in
-    omega (arith, c .before .before .before .before .before .before .before .pre _ (c .before .before .before .before .answer .given .1))
+    let after-answer = c .before .before .before .before in
+    let start = after-answer .before .before .before in
+    let long : length (start .args .r .code) ≡ 256 = search needs in
+    omega (arith, start .pre _ (after-answer .answer .given .1))
 
 enum-known-answer-2 : tie.Need-enum-known-answer-2
 enum-known-answer-2 c = search needs

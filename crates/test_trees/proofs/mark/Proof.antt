@@ -8,7 +8,7 @@ use lib.ListN.{length}
 use Rattle.k2.specs.Bits.{bitAt}
 use Rattle.bits.specs.BitSets.{none, put}
 use Rattle.test_trees.specs.Terms.{below}
-use Rattle.test_trees.proofs.Marks.{below-none, below-more}
+use Rattle.test_trees.proofs.MarkLaws.{below-none, below-more}
 use Rattle.test_trees.proofs.mark.Statement.{statement}
 use Rattle.test_trees.proofs.mark.Tie as tie
 
@@ -22,7 +22,9 @@ loop-holds : tie.Need-loop-holds Inv-loop μ-loop
 loop-holds c = (omega arith, refl, λ e. e ∙ below-none)
 
 set-bit-requires : tie.Need-set-bit-requires Inv-loop μ-loop
-set-bit-requires c κs = omega (arith, c .before .before .loop .inv .1, c .before .before .before .before .pre .0, c .before .before .before .before .pre .1)
+set-bit-requires c κs =
+    let start = c .before .before .before .before in
+    omega (arith, c .before .before .loop .inv .1, start .pre .0, start .pre .1)
 
 add-i : tie.Need-add-i Inv-loop μ-loop
 add-i c = omega arith

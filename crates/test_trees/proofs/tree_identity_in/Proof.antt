@@ -4,7 +4,7 @@ use native.Mathlib.Omega.{arith}
 use borrow.Author.Needs.{needs}
 use lib.ListN.{length}
 use Rattle.bits.specs.BitSetLaws.{bits-none}
-use Rattle.test_trees.proofs.Marks.{identity-made}
+use Rattle.test_trees.proofs.MarkLaws.{identity-made}
 use Rattle.test_trees.proofs.tree_identity_in.Statement.{statement}
 use Rattle.test_trees.proofs.tree_identity_in.Tie as tie
 

@@ -16,7 +16,11 @@ same-length : tie.Need-same-length
 same-length c = search needs
 
 returns : tie.Need-returns
-returns c = rw (← c .before .before .before .before .before .sense-of .ensures, ← c .before .before .before .before .sense-of2 .ensures) (c .before .before .on-two .ensures)
+returns c =
+    rw (
+      ← c .before .before .before .before .before .sense-of .ensures,
+      ← c .before .before .before .before .sense-of2 .ensures,
+    ) (c .before .before .on-two .ensures)
 
 pub tree-product-in-spec : {M : Type 1} → statement M
 tree-product-in-spec =

@@ -28,9 +28,11 @@ same-length-2 c = search needs
 
 returns-2 : tie.Need-returns-2
 returns-2 c =
-    let number = c .before .before .before .before .before .before .before .before .before .number-of in
-    let accepted : c .before .before .before .before .before .before .before .before .before .number-of .result ≡ 0 = omega arith in
-    preview-asked (c .before .before .before .before .before .before .before .before .before .before .apply .ensures) _ _ _ _ (number .ensures) accepted (c .before .before .before .before .pairs .ensures)
+    let after-pairs = c .before .before .before .before in
+    let after-number-of = after-pairs .before .before .before .before .before in
+    let number = after-number-of .number-of in
+    let accepted : after-number-of .number-of .result ≡ 0 = omega arith in
+    preview-asked (after-number-of .before .apply .ensures) _ _ _ _ (number .ensures) accepted (after-pairs .pairs .ensures)
 
 pub preview-spec : {M : Type 1} → statement M
 preview-spec =

@@ -1,17 +1,18 @@
 -- `visit` looks at the records from which links lead to y, and then knows the depth of y. The loop's invariant: y is entered, and the links passed lead from
 -- records that are done and no deeper than was seen (`Looking`). The measure of the calls is how many records are new, that of the loop the place in
 -- the index. It rests on `looking-more`, `visited-loop` and `visited-done`. Assumes nothing.
-use mathlib.Core.Path.{_≡_, refl, sym, ap, _∙_, subst}
-use Prim.Native.Nat.{ℕ, _<_, _≤_, _-_, _/_, _%_}
+use mathlib.Core.Path.{_≡_, refl, _∙_, subst}
+use Prim.Native.Nat.{ℕ, _<_, _-_, _/_, _%_}
 use native.Mathlib.Omega.{arith}
 use borrow.Author.Needs.{needs}
 use borrow.Fn.Kinds.{In}
 use borrow.Fn.PlainCycle.{Measures, is, falls, and}
-use lib.ListN.{length, getD, set, length-set}
+use lib.ListN.{getD, set, length-set}
 use Rattle.arcs.specs.Arcs.{arcFrom}
 use Rattle.arcs.specs.IndexLaws.{next-falls}
 use Rattle.generations.specs.Inner.{newCount}
-use Rattle.generations.proofs.DepthLaws.{done-most, Looking, visited-known, looking-begins, visited-loop, looking-more, visited-done, looking-back, back-looking}
+use Rattle.generations.proofs.DepthLaws.{done-most, Looking, visited-known, looking-begins, visited-loop, looking-more, visited-done, looking-back}
+use Rattle.generations.proofs.DepthLaws.{back-looking}
 use Rattle.generations.proofs.depths.visit.Reads as visit
 use Rattle.generations.proofs.depths.visit.Kinds as visit-kinds
 use Rattle.generations.proofs.depths.+visit.Lts-visit as visit-lts
@@ -49,14 +50,18 @@ abbrev visit-μ-loop : visit-lts.MeasureT-loop
 visit-μ-loop links index y depths₀ known depth₀ cursor₀ depths depth cursor = cursor
 
 -- the invariant, of the depths at entry
-looked : (t : ℕ) (c : visit-lts.At-loop (visit-calls t) (visit-at t) visit.Post visit-Inv-loop visit-μ-loop) → Looking (c .before .before .before .before .before .before .before .args .links .now) (c .before .before .before .before .before .before .before .args .y) (c .before .before .before .before .before .before .before .args .depths .now) (c .loop .depths) (c .loop .depth) (c .loop .cursor)
+looked : (t : ℕ) (c : visit-lts.At-loop (visit-calls t) (visit-at t) visit.Post visit-Inv-loop visit-μ-loop)
+    → let start = c .before .before .before .before .before .before .before in
+    Looking (start .args .links .now) (start .args .y) (start .args .depths .now) (c .loop .depths) (c .loop .depth) (c .loop .cursor)
 looked t c = looking-back (c .before .before .if1 .left) (c .loop .inv)
 
 visit-mul-known : (t : ℕ) → visit-lts.Need-mul-known (visit-calls t) (visit-at t) visit.Post visit-Inv-loop visit-μ-loop
 visit-mul-known t c = search needs
 
 visit-slice-read-known : (t : ℕ) → visit-lts.Need-slice-read-known (visit-calls t) (visit-at t) visit.Post visit-Inv-loop visit-μ-loop
-visit-slice-read-known t c = omega (arith, c .before .before .before .before .pre .1 .2, c .before .before .before .before .pre .1 .3)
+visit-slice-read-known t c =
+    let start = c .before .before .before .before in
+    omega (arith, start .pre .1 .2, start .pre .1 .3)
 
 visit-returns : (t : ℕ) → visit-lts.Need-returns (visit-calls t) (visit-at t) visit.Post visit-Inv-loop visit-μ-loop
 visit-returns t c = visited-known refl (c .if1 .taken) (c .before .before .before .before .before .pre .1 .5)
@@ -65,15 +70,18 @@ visit-mul-depths : (t : ℕ) → visit-lts.Need-mul-depths (visit-calls t) (visi
 visit-mul-depths t c = search needs
 
 visit-slice-write-depths : (t : ℕ) → visit-lts.Need-slice-write-depths (visit-calls t) (visit-at t) visit.Post visit-Inv-loop visit-μ-loop
-visit-slice-write-depths t c = omega (arith, c .before .before .before .before .before .pre .1 .2, c .before .before .before .before .before .pre .1 .3)
+visit-slice-write-depths t c =
+    let start = c .before .before .before .before .before in
+    omega (arith, start .pre .1 .2, start .pre .1 .3)
 
 visit-first-arc-requires : (t : ℕ) → visit-lts.Need-first-arc-requires (visit-calls t) (visit-at t) visit.Post visit-Inv-loop visit-μ-loop
 visit-first-arc-requires t c κs = let w = c .before .before .before .before .before .pre .1 in (w .1, w .2)
 
 visit-loop-holds : (t : ℕ) → visit-lts.Need-loop-holds (visit-calls t) (visit-at t) visit.Post visit-Inv-loop visit-μ-loop
 visit-loop-holds t c =
-    let w = c .before .before .before .before .before .before .pre .1 in
-    let a = c .before .before .before .before .before .before .args in
+    let start = c .before .before .before .before .before .before in
+    let w = start .pre .1 in
+    let a = start .args in
     let e = c .before .if1 .left in
     rw (c .first-arc .ensures) (back-looking e (looking-begins (a .links .now) (a .index .now) (w .4) (a .y) (a .depths .now) (w .2) (w .3) e (w .5)))
 
@@ -91,29 +99,42 @@ visit-cast-from t c = omega arith
 
 visit-visit-requires : (t : ℕ) → visit-lts.Need-visit-requires (visit-calls t) (visit-at t) visit.Post visit-Inv-loop visit-μ-loop
 visit-visit-requires t c κs =
-    let w = c .before .before .before .before .before .before .before .before .before .before .pre .1 in
-    let L = looked t (c .before .before .before) in (
-      subst (λ (k : ℕ). newCount (c .before .before .before .loop .depths) < k) (c .before .before .before .before .before .before .before .before .before .before .pre .0) (L .fewer),
+    let at-loop = c .before .before .before in
+    let start = at-loop .before .before .before .before .before .before .before in
+    let w = start .pre .1 in
+    let L = looked t at-loop in (
+      subst (λ (k : ℕ). newCount (at-loop .loop .depths) < k) (start .pre .0) (L .fewer),
       (w .0, w .1, omega arith, L .long ∙ w .3, w .4, L .bounded),
     )
 
 -- y and what was found at a record from which a link leads to it
 visit-same-length : (t : ℕ) → visit-lts.Need-same-length (visit-calls t) (visit-at t) visit.Post visit-Inv-loop visit-μ-loop
-visit-same-length t c = let L = looked t (c .before .before .before .before .before .before .before) in c .before .before .before .visit .kept .1 .1 .1 .0 ∙ L .long
+visit-same-length t c =
+    let after-visit = c .before .before .before in
+    let earlier = after-visit .before .before .before .before in
+    let L = looked t earlier in after-visit .visit .kept .1 .1 .1 .0 ∙ L .long
 
 visit-returns-2 : (t : ℕ) → visit-lts.Need-returns-2 (visit-calls t) (visit-at t) visit.Post visit-Inv-loop visit-μ-loop
 unfolding arcFrom
 visit-returns-2 t c =
-    let w = c .before .before .before .before .before .before .before .before .before .before .before .before .before .before .pre .1 in
-    let a = c .before .before .before .before .before .before .before .before .before .before .before .before .before .before .args in
-    visited-loop (a .links .now) (a .index .now) (w .4) (a .y) (a .depths .now) (w .2) (w .3) (c .before .before .before .before .before .before .before .before .before .if1 .left) (looked t (c .before .before .before .before .before .before .before)) (omega (arith, c .before .before .before .before .before .before .loop-test .taken))
-    (c .before .before .before .visit .ensures) (c .if2 .taken)
+    let after-visit = c .before .before .before in
+    let in-loop = after-visit .before .before .before in
+    let else1 = in-loop .before .before .before in
+    let start = else1 .before .before .before .before .before in
+    let w = start .pre .1 in
+    let a = start .args in
+    visited-loop (a .links .now) (a .index .now) (w .4) (a .y) (a .depths .now) (w .2) (w .3)
+    (else1 .if1 .left) (looked t (in-loop .before)) (omega (arith, in-loop .loop-test .taken))
+    (after-visit .visit .ensures) (c .if2 .taken)
 
 visit-deeper-requires : (t : ℕ) → visit-lts.Need-deeper-requires (visit-calls t) (visit-at t) visit.Post visit-Inv-loop visit-μ-loop
 visit-deeper-requires t c κs =
-    let v = c .before .before .before .visit .ensures in
-    let b = v .bounded (getD (c .before .before .before .before .before .before .before .before .before .before .before .before .before .before .args .links .now) (c .before .before .before .before .before .before .before .loop .cursor - 1) 0 / 1024 % 1024) in
-    let m = done-most (c .before .before .before .visit .last .1 .1 .1 .0) in
+    let after-visit = c .before .before .before in
+    let at-loop = after-visit .before .before .before .before in
+    let start = at-loop .before .before .before .before .before .before .before in
+    let v = after-visit .visit .ensures in
+    let b = v .bounded (getD (start .args .links .now) (at-loop .loop .cursor - 1) 0 / 1024 % 1024) in
+    let m = done-most (after-visit .visit .last .1 .1 .1 .0) in
     omega (arith, v .depth)
 
 visit-next-arc-requires : (t : ℕ) → visit-lts.Need-next-arc-requires (visit-calls t) (visit-at t) visit.Post visit-Inv-loop visit-μ-loop
@@ -124,36 +145,49 @@ visit-next-arc-requires t c κs =
 
 visit-loop-less : (t : ℕ) → visit-lts.Need-loop-less (visit-calls t) (visit-at t) visit.Post visit-Inv-loop visit-μ-loop
 visit-loop-less t c =
-    let w = c .before .before .before .before .before .before .before .before .before .before .before .before .before .before .before .before .pre .1 in
-    let L = looked t (c .before .before .before .before .before .before .before .before .before) in
-    let h : 0 < c .before .before .before .before .before .before .before .before .before .loop .cursor = omega (arith, c .before .before .before .before .before .before .before .before .loop-test .taken) in
+    let in-loop = c .before .before .before .before .before .before .before .before in
+    let start = in-loop .before .before .before .before .before .before .before .before in
+    let w = start .pre .1 in
+    let L = looked t (in-loop .before) in
+    let h : 0 < in-loop .before .loop .cursor = omega (arith, in-loop .loop-test .taken) in
     omega (arith, next-falls (w .4) (L .cursor) h, c .next-arc .ensures)
 
 visit-loop-again : (t : ℕ) → visit-lts.Need-loop-again (visit-calls t) (visit-at t) visit.Post visit-Inv-loop visit-μ-loop
 unfolding arcFrom
 visit-loop-again t c =
-    let w = c .before .before .before .before .before .before .before .before .before .before .before .before .before .before .before .before .pre .1 in
-    let a = c .before .before .before .before .before .before .before .before .before .before .before .before .before .before .before .before .args in
-    let e = c .before .before .before .before .before .before .before .before .before .before .before .if1 .left in
-    let m = looking-more (a .links .now) (a .index .now) (w .4) (a .y) (a .depths .now) (w .2) (w .3) e (looked t (c .before .before .before .before .before .before .before .before .before)) (omega (arith, c .before .before .before .before .before .before .before .before .loop-test .taken))
-    (c .before .before .before .before .before .visit .ensures) (c .before .before .if2 .left) (c .before .before .before .before .before .visit .kept .1 .1 .1 .0) in
+    let after-visit = c .before .before .before .before .before in
+    let in-loop = after-visit .before .before .before in
+    let else1 = in-loop .before .before .before in
+    let start = else1 .before .before .before .before .before in
+    let w = start .pre .1 in
+    let a = start .args in
+    let e = else1 .if1 .left in
+    let m = looking-more (a .links .now) (a .index .now) (w .4) (a .y) (a .depths .now)
+    (w .2) (w .3) e (looked t (in-loop .before)) (omega (arith, in-loop .loop-test .taken))
+    (after-visit .visit .ensures) (c .before .before .if2 .left) (after-visit .visit .kept .1 .1 .1 .0) in
     rw (c .next-arc .ensures, c .before .deeper .ensures) (back-looking e m)
 
 visit-mul-depths-2 : (t : ℕ) → visit-lts.Need-mul-depths-2 (visit-calls t) (visit-at t) visit.Post visit-Inv-loop visit-μ-loop
 visit-mul-depths-2 t c = omega (arith, c .before .before .before .before .before .before .before .before .pre .1 .2)
 
 visit-slice-write-depths-2 : (t : ℕ) → visit-lts.Need-slice-write-depths-2 (visit-calls t) (visit-at t) visit.Post visit-Inv-loop visit-μ-loop
-visit-slice-write-depths-2 t c = let L = looked t (c .before) in omega (arith, L .long, c .before .before .before .before .before .before .before .before .pre .1 .2, c .before .before .before .before .before .before .before .before .pre .1 .3)
+visit-slice-write-depths-2 t c =
+    let start = c .before .before .before .before .before .before .before .before in
+    let L = looked t (c .before) in omega (arith, L .long, start .pre .1 .2, start .pre .1 .3)
 
 visit-same-length-2 : (t : ℕ) → visit-lts.Need-same-length-2 (visit-calls t) (visit-at t) visit.Post visit-Inv-loop visit-μ-loop
-visit-same-length-2 t c = let L = looked t (c .before) in length-set (c .before .loop .depths) (c .before .before .before .before .before .before .before .before .args .y) (c .before .loop .depth) ∙ L .long
+visit-same-length-2 t c =
+    let start = c .before .before .before .before .before .before .before .before in
+    let L = looked t (c .before) in length-set (c .before .loop .depths) (start .args .y) (c .before .loop .depth) ∙ L .long
 
 visit-returns-3 : (t : ℕ) → visit-lts.Need-returns-3 (visit-calls t) (visit-at t) visit.Post visit-Inv-loop visit-μ-loop
 visit-returns-3 t c =
-    let w = c .before .before .before .before .before .before .before .before .pre .1 in
-    let a = c .before .before .before .before .before .before .before .before .args in
+    let else1 = c .before .before .before in
+    let start = else1 .before .before .before .before .before in
+    let w = start .pre .1 in
+    let a = start .args in
     let z : c .before .loop .cursor ≡ 0 = omega (arith, c .loop-test .left) in
-    visited-done (a .links .now) (a .index .now) (w .4) (a .y) (a .depths .now) (w .2) (w .3) (c .before .before .before .if1 .left)
+    visited-done (a .links .now) (a .index .now) (w .4) (a .y) (a .depths .now) (w .2) (w .3) (else1 .if1 .left)
     (subst (λ (p : ℕ). Looking (a .links .now) (a .y) (a .depths .now) (c .before .loop .depths) (c .before .loop .depth) p) z (looked t (c .before)))
 
 pub +visit-spec : {M : Type 1} → statement M

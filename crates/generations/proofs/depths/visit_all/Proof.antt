@@ -1,6 +1,6 @@
--- `visit_all` looks at the records below n in turn. The loop's invariant: those passed are done, and none is entered (`Settled`). The measure is how many are left.
--- It rests on `settled-more` and `settled-loop`. Assumes nothing.
-use mathlib.Core.Path.{_≡_, refl, sym, ap, _∙_, subst}
+-- `visit_all` looks at the records below n in turn. The loop's invariant: those passed are done, and none is entered (`Settled`). The measure is how many are
+-- left. It rests on `settled-more` and `settled-loop`. Assumes nothing.
+use mathlib.Core.Path.{_≡_, sym, ap, _∙_}
 use mathlib.Core.Bool.{true≢false, false≢true}
 use Prim.Native.Nat.{ℕ, _≤_, _-_}
 use native.Mathlib.Omega.{arith}
@@ -9,10 +9,6 @@ use lib.ListN.{length, length-replicate}
 use Rattle.generations.proofs.DepthLaws.{Settled, settled-none, settled-more, settled-loop}
 use Rattle.generations.proofs.depths.visit_all.Statement.{statement}
 use Rattle.generations.proofs.depths.visit_all.Tie as tie
-use Rattle.generations.proofs.depths.visit_all.Reads as reads
-use Rattle.generations.proofs.depths.visit_all.Lts as lts
-use Rattle.arcs.proofs.index_by_reached.Reads as index-by-reached-reads
-use Rattle.generations.proofs.depths.visit.Reads as visit-reads
 
 abbrev Inv-loop : tie.InvT-loop
 Inv-loop links n depths₀ index y₀ depths y = (y ≤ n) × (length depths ≡ 1024) × Settled links depths y
@@ -24,21 +20,38 @@ index-by-reached-requires : tie.Need-index-by-reached-requires Inv-loop μ-loop
 index-by-reached-requires c κs = omega (arith, c .before .before .pre .0)
 
 loop-holds : tie.Need-loop-holds Inv-loop μ-loop
-loop-holds c = (omega arith, ap length (c .before .before .before .pre .2) ∙ length-replicate {A = ℕ} 1024 0, settled-none 1024 (c .before .before .before .pre .2))
+loop-holds c =
+    let start = c .before .before .before in
+    (omega arith, ap length (start .pre .2) ∙ length-replicate {A = ℕ} 1024 0, settled-none 1024 (start .pre .2))
 
 slice-aggregate-visit : tie.Need-slice-aggregate-visit Inv-loop μ-loop
 slice-aggregate-visit c = search needs
 
 visit-requires : tie.Need-visit-requires Inv-loop μ-loop
 visit-requires c κs =
-    let l = c .before .before .before .loop in
-    (c .before .before .before .before .before .before .before .pre .0, search needs, omega (arith, c .before .before .before .before .before .before .before .pre .1, c .before .before .loop-test .taken), l .inv .1, c .before .before .before .before .index-by-reached .ensures, l .inv .2 .bounded)
+    let at-loop = c .before .before .before in
+    let start = at-loop .before .before .before .before in
+    let l = at-loop .loop in (
+      start .pre .0,
+      search needs,
+      omega (arith, start .pre .1, c .before .before .loop-test .taken),
+      l .inv .1,
+      at-loop .before .index-by-reached .ensures,
+      l .inv .2 .bounded,
+    )
 
 same-length : tie.Need-same-length Inv-loop μ-loop
-same-length c = c .before .before .before .visit .kept .1 .1 .1 .0 ∙ c .before .before .before .before .before .before .before .loop .inv .1 ∙ sym (ap length (c .before .before .before .before .before .before .before .before .before .before .before .pre .2) ∙ length-replicate {A = ℕ} 1024 0)
+same-length c =
+    let after-visit = c .before .before .before in
+    let at-loop = after-visit .before .before .before .before in
+    let start = at-loop .before .before .before .before in
+    after-visit .visit .kept .1 .1 .1 .0 ∙ at-loop .loop .inv .1 ∙ sym (ap length (start .pre .2) ∙ length-replicate {A = ℕ} 1024 0)
 
 returns : tie.Need-returns Inv-loop μ-loop
-returns c = (λ e. absurd (false≢true e), λ e. settled-loop (c .before .before .before .before .before .before .before .loop .inv .2) (c .before .before .before .visit .ensures) (c .if1 .taken))
+returns c =
+    let after-visit = c .before .before .before in
+    let at-loop = after-visit .before .before .before .before in
+    (λ e. absurd (false≢true e), λ e. settled-loop (at-loop .loop .inv .2) (after-visit .visit .ensures) (c .if1 .taken))
 
 add-y : tie.Need-add-y Inv-loop μ-loop
 add-y c = omega arith
@@ -47,7 +60,13 @@ loop-less : tie.Need-loop-less Inv-loop μ-loop
 loop-less c = omega arith
 
 loop-again : tie.Need-loop-again Inv-loop μ-loop
-loop-again c = (omega arith, c .before .before .before .visit .kept .1 .1 .1 .0 ∙ c .before .before .before .before .before .before .before .loop .inv .1, settled-more (c .before .before .before .before .before .before .before .loop .inv .2) (c .before .before .before .visit .ensures) (c .if1 .left))
+loop-again c =
+    let after-visit = c .before .before .before in
+    let at-loop = after-visit .before .before .before .before in (
+      omega arith,
+      after-visit .visit .kept .1 .1 .1 .0 ∙ at-loop .loop .inv .1,
+      settled-more (at-loop .loop .inv .2) (after-visit .visit .ensures) (c .if1 .left),
+    )
 
 same-length-2 : tie.Need-same-length-2 Inv-loop μ-loop
 same-length-2 c = c .before .loop .inv .1 ∙ sym (ap length (c .before .before .before .before .before .pre .2) ∙ length-replicate {A = ℕ} 1024 0)

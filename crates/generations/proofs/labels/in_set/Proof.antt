@@ -6,8 +6,6 @@ use Rattle.k2.specs.Bits.{digit}
 use Rattle.k2.specs.DigitLaws.{digit-big}
 use Rattle.generations.proofs.labels.in_set.Statement.{statement}
 use Rattle.generations.proofs.labels.in_set.Tie as tie
-use Rattle.generations.proofs.labels.in_set.Reads as reads
-use Rattle.generations.proofs.labels.in_set.Lts as lts
 
 returns : tie.Need-returns
 returns c = let a = c .before .args in rw (digit-big 32 (a .label) (a .set) (omega arith) (c .if1 .taken))

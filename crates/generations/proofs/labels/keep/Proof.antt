@@ -1,9 +1,8 @@
 -- `keep` looks at the words in turn. The loop's invariant: the words kept are those passed whose label is in the set (`labelled`). The measure is how many are
 -- left. It rests on `keep-yes` and `keep-no`. Assumes nothing.
-use mathlib.Core.Path.{_≡_, refl, sym, ap, _∙_, subst}
+use mathlib.Core.Path.{_≡_, refl, ap, _∙_}
 use mathlib.Core.Logic.{⊎-elim}
-use mathlib.Core.List.{List}
-use Prim.Native.Nat.{ℕ, _≤_, _-_}
+use Prim.Native.Nat.{_≤_, _-_}
 use native.Mathlib.Omega.{arith}
 use borrow.Author.Needs.{needs}
 use lib.ListN.{length, take, length-set}
@@ -12,12 +11,10 @@ use Rattle.rows.specs.Rows.{labelled}
 use Rattle.generations.proofs.LabelLaws.{keep-yes, keep-no}
 use Rattle.generations.proofs.labels.keep.Statement.{statement}
 use Rattle.generations.proofs.labels.keep.Tie as tie
-use Rattle.generations.proofs.labels.keep.Reads as reads
-use Rattle.generations.proofs.labels.keep.Lts as lts
-use Rattle.generations.proofs.labels.in_set.Reads as in-set-reads
 
 abbrev Inv-loop : tie.InvT-loop
-Inv-loop words set kept₀ count₀ i₀ kept count i = (i ≤ length words) × (count ≤ i) × (length kept ≡ length kept₀) × (take count kept ≡ labelled set (take i words))
+Inv-loop words set kept₀ count₀ i₀ kept count i =
+    (i ≤ length words) × (count ≤ i) × (length kept ≡ length kept₀) × (take count kept ≡ labelled set (take i words))
 
 abbrev μ-loop : tie.MeasureT-loop
 μ-loop words set kept₀ count₀ i₀ kept count i = length words - i
@@ -39,7 +36,10 @@ mul-kept : tie.Need-mul-kept Inv-loop μ-loop
 mul-kept c = omega arith
 
 slice-write-kept : tie.Need-slice-write-kept Inv-loop μ-loop
-slice-write-kept c = omega (arith, c .before .before .before .before .loop .inv .1, c .before .before .before .before .loop .inv .2, c .before .before .before .before .before .before .before .pre)
+slice-write-kept c =
+    let at-loop = c .before .before .before .before in
+    let start = at-loop .before .before .before in
+    omega (arith, at-loop .loop .inv .1, at-loop .loop .inv .2, start .pre)
 
 add-count : tie.Need-add-count Inv-loop μ-loop
 add-count c = omega arith
@@ -52,13 +52,26 @@ loop-less c = omega arith
 
 loop-again : tie.Need-loop-again Inv-loop μ-loop
 loop-again c =
-    let l = c .before .before .before .before .loop in
-    let a = c .before .before .before .before .before .before .before .args in
-    let h = c .before .before .before .loop-test .taken in
+    let in-loop = c .before .before .before in
+    let start = in-loop .before .before .before .before in
+    let l = in-loop .before .loop in
+    let a = start .args in
+    let h = in-loop .loop-test .taken in
     let e = c .before .in-set .ensures in
     ⊎-elim
-    (λ w. (omega arith, omega (arith, w .2), rw (w .1) (simp length-set (l .inv .2)), rw (w .1, w .2) (keep-yes (a .set) (a .words .now) (l .i) h (l .kept) (l .count) (omega (arith, l .inv .1, l .inv .2, c .before .before .before .before .before .before .before .pre)) e (w .0 .taken) (l .inv .3))))
-    (λ w. (omega arith, omega (arith, w .2), rw (w .1) (l .inv .2), rw (w .1, w .2) (keep-no (a .set) (a .words .now) (l .i) h (l .kept) (l .count) e (w .0 .left) (l .inv .3))))
+    (λ w. (
+      omega arith,
+      omega (arith, w .2),
+      rw (w .1) (simp length-set (l .inv .2)),
+      rw (w .1, w .2)
+          (keep-yes (a .set) (a .words .now) (l .i) h (l .kept) (l .count) (omega (arith, l .inv .1, l .inv .2, start .pre)) e (w .0 .taken) (l .inv .3)),
+    ))
+    (λ w. (
+      omega arith,
+      omega (arith, w .2),
+      rw (w .1) (l .inv .2),
+      rw (w .1, w .2) (keep-no (a .set) (a .words .now) (l .i) h (l .kept) (l .count) e (w .0 .left) (l .inv .3)),
+    ))
     (c .if1 .came)
 
 same-length : tie.Need-same-length Inv-loop μ-loop
@@ -66,9 +79,10 @@ same-length c = c .before .loop .inv .2
 
 returns : tie.Need-returns Inv-loop μ-loop
 returns c =
+    let start = c .before .before .before .before in
     let l = c .before .loop in
-    let a = c .before .before .before .before .args in
-    (omega (arith, l .inv .1, c .before .before .before .before .pre .0), l .inv .3 ∙ ap (labelled (a .set)) (take-all (l .i) (a .words .now) (omega (arith, c .loop-test .left))))
+    let a = start .args in
+    (omega (arith, l .inv .1, start .pre .0), l .inv .3 ∙ ap (labelled (a .set)) (take-all (l .i) (a .words .now) (omega (arith, c .loop-test .left))))
 
 pub keep-spec : {M : Type 1} → statement M
 keep-spec =

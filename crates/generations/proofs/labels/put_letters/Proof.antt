@@ -1,20 +1,14 @@
--- `put_letters` goes over the labels 0 to 25. The loop's invariant: the letters of the set below the label are in the text (`Laid`). The measure is how many labels
--- are left. It rests on `laid-yes` and `laid-no`. Assumes nothing.
-use mathlib.Core.Path.{_≡_, refl, sym, ap, _∙_, subst}
+-- `put_letters` goes over the labels 0 to 25. The loop's invariant: the letters of the set below the label are in the text (`Laid`). The measure is how many
+-- labels are left. It rests on `laid-yes` and `laid-no`. Assumes nothing.
+use mathlib.Core.Path.{_≡_, refl}
 use mathlib.Core.Logic.{⊎-elim}
-use Prim.Native.Nat.{ℕ, _≤_, _-_}
+use Prim.Native.Nat.{_≤_, _-_}
 use native.Mathlib.Omega.{arith}
 use borrow.Author.Needs.{needs}
 use lib.ListN.{length, length-set}
-use Rattle.k2.specs.Bits.{digit}
-use Rattle.rows.specs.Rows.{places}
 use Rattle.generations.proofs.LabelLaws.{Laid, laid-none, laid-yes, laid-no}
 use Rattle.generations.proofs.labels.put_letters.Statement.{statement}
 use Rattle.generations.proofs.labels.put_letters.Tie as tie
-use Rattle.generations.proofs.labels.put_letters.Reads as reads
-use Rattle.generations.proofs.labels.put_letters.Lts as lts
-use Rattle.generations.proofs.labels.in_set.Reads as in-set-reads
-use Rattle.generations.proofs.labels.separator.Reads as separator-reads
 
 abbrev Inv-loop : tie.InvT-loop
 Inv-loop set text₀ count₀ label₀ text count label = (label ≤ 26) × (length text ≡ length text₀) × Laid set label text count
@@ -32,7 +26,9 @@ separator-requires : tie.Need-separator-requires Inv-loop μ-loop
 separator-requires c κs = search needs
 
 slice-write-text : tie.Need-slice-write-text Inv-loop μ-loop
-slice-write-text c = omega (arith, c .before .before .before .before .loop .inv .1, c .before .before .before .before .loop .inv .2 .few, c .before .before .before .before .before .before .pre)
+slice-write-text c =
+    let at-loop = c .before .before .before .before in
+    omega (arith, at-loop .loop .inv .1, at-loop .loop .inv .2 .few, at-loop .before .before .pre)
 
 cast-text : tie.Need-cast-text Inv-loop μ-loop
 cast-text c = omega arith
@@ -45,8 +41,9 @@ add-text-2 c = omega (arith, c .before .before .before .before .loop .inv .2 .fe
 
 slice-write-text-2 : tie.Need-slice-write-text-2 Inv-loop μ-loop
 slice-write-text-2 c =
-    let e = length-set (c .before .before .before .before .loop .text) (c .before .before .before .before .loop .count) (c .separator .result) in
-    omega (arith, e, c .before .before .before .before .loop .inv .1, c .before .before .before .before .loop .inv .2 .few, c .before .before .before .before .before .before .pre)
+    let at-loop = c .before .before .before .before in
+    let e = length-set (at-loop .loop .text) (at-loop .loop .count) (c .separator .result) in
+    omega (arith, e, at-loop .loop .inv .1, at-loop .loop .inv .2 .few, at-loop .before .before .pre)
 
 add-count : tie.Need-add-count Inv-loop μ-loop
 add-count c = omega (arith, c .before .before .before .before .loop .inv .2 .few)
@@ -59,13 +56,19 @@ loop-less c = omega arith
 
 loop-again : tie.Need-loop-again Inv-loop μ-loop
 loop-again c =
-    let l = c .before .before .before .loop in
+    let at-loop = c .before .before .before in
+    let start = at-loop .before .before in
+    let l = at-loop .loop in
     let e = c .before .in-set .ensures in
     let h = c .before .before .loop-test .taken in
     let room = l .inv .1 in
     ⊎-elim
-    (λ w. (omega arith, rw (w .2) (simp (length-set, length-set) room), rw (w .2, w .3) (laid-yes (l .inv .2) (omega (arith, room, c .before .before .before .before .before .pre)) e (w .0 .taken) (w .1 .ensures))))
-    (λ w. (omega arith, rw (w .1) room, rw (w .1, w .2) (laid-no (l .inv .2) (omega (arith, room, c .before .before .before .before .before .pre)) e (w .0 .left))))
+    (λ w. (
+      omega arith,
+      rw (w .2) (simp (length-set, length-set) room),
+      rw (w .2, w .3) (laid-yes (l .inv .2) (omega (arith, room, start .pre)) e (w .0 .taken) (w .1 .ensures)),
+    ))
+    (λ w. (omega arith, rw (w .1) room, rw (w .1, w .2) (laid-no (l .inv .2) (omega (arith, room, start .pre)) e (w .0 .left))))
     (c .if1 .came)
 
 same-length : tie.Need-same-length Inv-loop μ-loop

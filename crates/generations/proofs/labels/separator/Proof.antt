@@ -3,8 +3,6 @@ use Rattle.generations.proofs.LabelLaws.{separator-bar}
 use borrow.Author.Needs.{needs}
 use Rattle.generations.proofs.labels.separator.Statement.{statement}
 use Rattle.generations.proofs.labels.separator.Tie as tie
-use Rattle.generations.proofs.labels.separator.Reads as reads
-use Rattle.generations.proofs.labels.separator.Lts as lts
 
 returns : tie.Need-returns
 returns c = search needs

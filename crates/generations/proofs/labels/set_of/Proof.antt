@@ -1,6 +1,6 @@
 -- `set_of` puts the labels in, one after another. The loop's invariant: the set has those passed (`Contains`). The measure is how many are left.
 -- It rests on `contains-more`. Assumes nothing.
-use mathlib.Core.Path.{_≡_, refl, sym, ap, _∙_, subst}
+use mathlib.Core.Path.{subst}
 use mathlib.Core.List.{List}
 use Prim.Native.Nat.{ℕ, _≤_, _-_}
 use native.Mathlib.Omega.{arith}
@@ -10,8 +10,6 @@ use Rattle.generations.specs.Inner.{Contains}
 use Rattle.generations.proofs.LabelLaws.{above-none, contains-none, contains-more}
 use Rattle.generations.proofs.labels.set_of.Statement.{statement}
 use Rattle.generations.proofs.labels.set_of.Tie as tie
-use Rattle.generations.proofs.labels.set_of.Reads as reads
-use Rattle.generations.proofs.labels.set_of.Lts as lts
 
 abbrev Inv-loop : tie.InvT-loop
 Inv-loop labels set₀ i₀ set i = (i ≤ length labels) × Contains set (take i labels)
@@ -26,10 +24,14 @@ shared-slice-read-set : tie.Need-shared-slice-read-set Inv-loop μ-loop
 shared-slice-read-set c = omega arith
 
 cast-set : tie.Need-cast-set Inv-loop μ-loop
-cast-set c = omega (arith, above-none (c .before .before .before .args .labels .now) (c .before .before .before .pre) (c .before .before .loop .i) (c .before .loop-test .taken))
+cast-set c =
+    let start = c .before .before .before in
+    omega (arith, above-none (start .args .labels .now) (start .pre) (c .before .before .loop .i) (c .before .loop-test .taken))
 
 shl-set : tie.Need-shl-set Inv-loop μ-loop
-shl-set c = omega (arith, above-none (c .before .before .before .args .labels .now) (c .before .before .before .pre) (c .before .before .loop .i) (c .before .loop-test .taken))
+shl-set c =
+    let start = c .before .before .before in
+    omega (arith, above-none (start .args .labels .now) (start .pre) (c .before .before .loop .i) (c .before .loop-test .taken))
 
 add-i : tie.Need-add-i Inv-loop μ-loop
 add-i c = omega arith
@@ -39,13 +41,16 @@ loop-less c = omega arith
 
 loop-again : tie.Need-loop-again Inv-loop μ-loop
 loop-again c =
-    let l : List ℕ = c .before .before .before .args .labels .now in
-    let i = c .before .before .loop .i in
+    let at-loop = c .before .before in
+    let l : List ℕ = at-loop .before .args .labels .now in
+    let i = at-loop .loop .i in
     let h = c .before .loop-test .taken in
-    (omega arith, contains-more (c .before .before .loop .set) l i h (above-none l (c .before .before .before .pre) i h) (c .before .before .loop .inv .1))
+    (omega arith, contains-more (at-loop .loop .set) l i h (above-none l (at-loop .before .pre) i h) (at-loop .loop .inv .1))
 
 returns : tie.Need-returns Inv-loop μ-loop
-returns c = subst (λ (l : List ℕ). Contains (c .before .loop .set) l) (take-all (c .before .loop .i) (c .before .before .args .labels .now) (omega (arith, c .loop-test .left))) (c .before .loop .inv .1)
+returns c =
+    subst (λ (l : List ℕ). Contains (c .before .loop .set) l)
+    (take-all (c .before .loop .i) (c .before .before .args .labels .now) (omega (arith, c .loop-test .left))) (c .before .loop .inv .1)
 
 pub set-of-spec : {M : Type 1} → statement M
 set-of-spec =

@@ -1,18 +1,20 @@
 -- `compose` goes row by row. The loop's invariant: the rows below x are those of the product, and of the two relations nothing else has changed
 -- (`Through`). The measure is the rows left. It rests on `compose-more` and `compose-skip`. Assumes nothing.
-use Prim.Native.Nat.{ℕ, _<_, _≤_, _+_, _*_, _-_}
-use Rattle.grid.proofs.Grids.{unit-fits, row-inside, Through, through-none, through-all}
-use Rattle.grid.proofs.Products.{composed, compose-more, compose-skip, within-product}
+use Prim.Native.Nat.{_<_, _≤_, _+_, _*_, _-_}
+use Rattle.grid.proofs.RelationLaws.{unit-fits, row-inside, Through, through-none, through-all}
+use Rattle.grid.proofs.ProductLaws.{composed, compose-more, compose-skip, within-product}
 use borrow.Author.Needs.{needs}
-use lib.ListN.{length, getD}
+use lib.ListN.{length}
 use mathlib.Core.Logic.{⊎-elim}
-use mathlib.Core.Path.{_≡_, refl, sym, ap, _∙_}
+use mathlib.Core.Path.{_≡_, refl, _∙_}
 use native.Mathlib.Omega.{arith}
 use Rattle.grid.proofs.algebra.compose.Statement.{statement}
 use Rattle.grid.proofs.algebra.compose.Tie as tie
 
 abbrev Inv-loop : tie.InvT-loop
-Inv-loop cells₀ masks₀ n w x₀ b₀ cells masks x b = (x ≤ n) × (b ≡ x * w) × (length cells ≡ length cells₀) × (length masks ≡ length masks₀) × Through n w x (composed n w cells₀ masks₀) cells₀ masks₀ cells masks
+Inv-loop cells₀ masks₀ n w x₀ b₀ cells masks x b =
+    (x ≤ n) × (b ≡ x * w) × (length cells ≡ length cells₀) × (length masks ≡ length masks₀)
+    × Through n w x (composed n w cells₀ masks₀) cells₀ masks₀ cells masks
 
 abbrev μ-loop : tie.MeasureT-loop
 μ-loop cells₀ masks₀ n w x₀ b₀ cells masks x b = n - x
@@ -56,14 +58,16 @@ loop-again c =
       e,
       rw (v .8) (v .3 .kept .0 ∙ l .inv .2),
       rw (v .9) (v .3 .kept .1 .0 ∙ l .inv .3),
-      rw (v .8, v .9) (compose-more (a .n) (a .w) (l .x) (l .b) (a .cells .now) (a .masks .now) (l .cells) (l .masks) nl xl (l .inv .1) (l .inv .4) _ _ (v .3 .ensures)),
+      rw (v .8, v .9)
+          (compose-more (a .n) (a .w) (l .x) (l .b) (a .cells .now) (a .masks .now) (l .cells) (l .masks) nl xl (l .inv .1) (l .inv .4) _ _ (v .3 .ensures)),
     ))
     (λ v. (
       omega arith,
       e,
       rw (v .1) (l .inv .2),
       rw (v .2) (l .inv .3),
-      rw (v .1, v .2) (compose-skip (a .n) (a .w) (l .x) (l .b) (a .cells .now) (a .masks .now) (l .cells) (l .masks) nl xl (l .inv .1) (l .inv .4) (v .0 .left)),
+      rw (v .1, v .2)
+          (compose-skip (a .n) (a .w) (l .x) (l .b) (a .cells .now) (a .masks .now) (l .cells) (l .masks) nl xl (l .inv .1) (l .inv .4) (v .0 .left)),
     ))
     (c .if1 .came)
 
@@ -78,7 +82,8 @@ returns c =
     let a = c .before .before .before .before .args in
     let l = c .before .loop in
     let e : l .x ≡ a .n = omega arith in
-    through-all (a .n) (a .w) _ (a .cells .now) (a .masks .now) (l .cells) (l .masks) (omega arith) (rw e at (l .inv .4)) ∙ within-product (a .n) (a .w) (a .cells .now) (a .masks .now)
+    through-all (a .n) (a .w) _ (a .cells .now) (a .masks .now) (l .cells) (l .masks) (omega arith) (rw e at (l .inv .4))
+    ∙ within-product (a .n) (a .w) (a .cells .now) (a .masks .now)
 
 pub compose-spec : {M : Type 1} → statement M
 compose-spec =

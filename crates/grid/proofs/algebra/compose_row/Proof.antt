@@ -1,18 +1,20 @@
 -- `compose_row` makes the row and stores it (`row-replaced`). Assumes nothing.
-use Prim.Native.Nat.{ℕ, _<_, _≤_, _+_, _*_, _-_}
-use Rattle.grid.proofs.Grids.{unit-fits, row-inside}
-use Rattle.grid.proofs.Products.{row-replaced}
+use Prim.Native.Nat.{_+_}
+use Rattle.grid.proofs.RelationLaws.{unit-fits, row-inside}
+use Rattle.grid.proofs.ProductLaws.{row-replaced}
 use borrow.Author.Needs.{needs}
-use lib.ListN.{length, getD, set, length-set}
+use lib.ListN.{length, set, length-set}
 use mathlib.Core.Logic.{inl}
-use mathlib.Core.Path.{_≡_, refl, sym, ap, _∙_}
+use mathlib.Core.Path.{_≡_, _∙_}
 use native.Mathlib.Omega.{arith}
 use Rattle.grid.proofs.algebra.compose_row.Statement.{statement}
 use Rattle.grid.proofs.algebra.compose_row.Tie as tie
 
 -- the mask set and the row made leave the lengths
 long : (c : tie.After-product-row) → length (c .product-row .last .1 .0) ≡ length (c .before .before .before .before .before .args .masks .now)
-long c = c .product-row .kept .1 .0 ∙ length-set (c .before .before .before .before .before .args .masks .now) (c .before .before .before .before .before .args .n + c .before .before .before .before .before .args .n) 0
+long c =
+    let start = c .before .before .before .before .before in
+    c .product-row .kept .1 .0 ∙ length-set (start .args .masks .now) (start .args .n + start .args .n) 0
 
 add-masks : tie.Need-add-masks
 add-masks c = search needs
@@ -45,30 +47,43 @@ slice-read-source : tie.Need-slice-read-source
 slice-read-source c = simp length-set (omega (arith, long (c .before .before .before .before .before)))
 
 mul-unit : tie.Need-mul-unit
-mul-unit c = omega (arith, unit-fits (c .before .before .before .before .before .before .before .before .before .before .args .n) (c .before .before .before .before .before .before .before .before .before .before .args .w) (omega arith) (omega arith))
+mul-unit c =
+    let start = c .before .before .before .before .before .before .before .before .before .before in
+    omega (arith, unit-fits (start .args .n) (start .args .w) (omega arith) (omega arith))
 
 add-merge : tie.Need-add-merge
-add-merge c = omega (arith, unit-fits (c .before .before .before .before .before .before .before .before .before .before .before .before .args .n) (c .before .before .before .before .before .before .before .before .before .before .before .before .args .w) (omega arith) (omega arith))
+add-merge c =
+    let start = c .before .before .before .before .before .before .before .before .before .before .before .before in
+    omega (arith, unit-fits (start .args .n) (start .args .w) (omega arith) (omega arith))
 
 merge-requires : tie.Need-merge-requires
 merge-requires c κs =
-    let a = c .before .before .before .before .before .before .before .before .before .before .before .before .args in
+    let after-product-row = c .before .before .before .before .before .before .before in
+    let a = after-product-row .before .before .before .before .before .args in
     let z = row-inside (a .x) (a .n) (a .w) (a .b) (omega arith) (omega arith) in
-    let k : length (c .before .before .before .before .before .before .before .product-row .last .0) ≡ length (a .cells .now) = c .before .before .before .before .before .before .before .product-row .kept .0 in
-    (simp length-set (omega (arith, long (c .before .before .before .before .before .before .before))), omega arith, omega (arith, k, z), omega (arith, k))
+    let k : length (after-product-row .product-row .last .0) ≡ length (a .cells .now) = after-product-row .product-row .kept .0 in
+    (simp length-set (omega (arith, long after-product-row)), omega arith, omega (arith, k, z), omega (arith, k))
 
 same-length : tie.Need-same-length
 same-length c = search needs
 
 same-length-2 : tie.Need-same-length-2
-same-length-2 c = c .before .before .before .before .merge .kept .1 .0 ∙ length-set (c .before .before .before .before .before .before .before .before .before .before .before .before .product-row .last .1 .0) (c .before .before .before .before .before .before .before .before .before .before .before .before .before .before .before .before .before .args .x) 0 ∙ long (c .before .before .before .before .before .before .before .before .before .before .before .before)
+same-length-2 c =
+    let after-merge = c .before .before .before .before in
+    let after-product-row = after-merge .before .before .before .before .before .before .before .before in
+    let start = after-product-row .before .before .before .before .before in
+    after-merge .merge .kept .1 .0 ∙ length-set (after-product-row .product-row .last .1 .0) (start .args .x) 0 ∙ long after-product-row
 
 returns : tie.Need-returns
 returns c =
-    let a = c .before .before .before .before .before .before .before .before .before .before .before .before .before .before .before .before .before .args in
-    let p = c .before .before .before .before .before .before .before .before .before .before .before .before .product-row in
+    let after-merge = c .before .before .before .before in
+    let after-product-row = after-merge .before .before .before .before .before .before .before .before in
+    let start = after-product-row .before .before .before .before .before in
+    let a = start .args in
+    let p = after-product-row .product-row in
     let z = row-inside (a .x) (a .n) (a .w) (a .b) (omega arith) (omega arith) in
-    row-replaced (a .n) (a .w) (a .x) (a .cells .now) (a .masks .now) (omega arith) (omega arith) (a .b) _ _ _ _ (omega arith) (omega arith) (long (c .before .before .before .before .before .before .before .before .before .before .before .before)) (p .ensures) (c .before .before .before .before .merge .ensures (inl (omega (arith, z))))
+    row-replaced (a .n) (a .w) (a .x) (a .cells .now) (a .masks .now) (omega arith) (omega arith) (a .b) _ _ _ _
+    (omega arith) (omega arith) (long after-product-row) (p .ensures) (after-merge .merge .ensures (inl (omega (arith, z))))
 
 pub compose-row-spec : {M : Type 1} → statement M
 compose-row-spec =

@@ -1,13 +1,13 @@
 -- `product_row` goes over the columns of row x. The loop's invariant: the rows of the middle records below z are gathered (`Gathered`), and z is a
 -- column of row x or past them all. The measure is the columns left. Assumes nothing.
-use Prim.Native.Nat.{ℕ, _<_, _≤_, _+_, _*_, _-_}
-use Rattle.grid.proofs.Grids.{rows-apart, unit-fits}
-use Rattle.grid.proofs.Products.{Gathered, gathered-none, lowest-kept, gathered-more, gathered-all}
+use Prim.Native.Nat.{_<_, _≤_, _+_, _*_, _-_}
+use Rattle.grid.proofs.RelationLaws.{rows-apart, unit-fits}
+use Rattle.grid.proofs.ProductLaws.{Gathered, gathered-none, lowest-kept, gathered-more, gathered-all}
 use Rattle.grid.specs.Grid.{firstRows}
 use borrow.Author.Needs.{needs}
-use lib.ListN.{length, getD}
+use lib.ListN.{length}
 use mathlib.Core.Logic.{inr}
-use mathlib.Core.Path.{_≡_, refl, sym, ap, _∙_}
+use mathlib.Core.Path.{_≡_, refl, _∙_}
 use native.Mathlib.Omega.{arith}
 use Rattle.grid.proofs.algebra.product_row.Statement.{statement}
 use Rattle.grid.proofs.algebra.product_row.Tie as tie
@@ -24,7 +24,12 @@ mul-unit : tie.Need-mul-unit Inv-loop μ-loop
 mul-unit c = omega (arith, unit-fits (c .before .before .args .n) (c .before .before .args .w) (omega arith) (omega arith))
 
 mul-b : tie.Need-mul-b Inv-loop μ-loop
-mul-b c = omega (arith, unit-fits (c .before .before .args .n) (c .before .before .args .w) (omega arith) (omega arith), rows-apart (c .before .before .args .x) (c .before .before .args .n) (c .before .before .args .w) (omega arith))
+mul-b c =
+    omega (
+      arith,
+      unit-fits (c .before .before .args .n) (c .before .before .args .w) (omega arith) (omega arith),
+      rows-apart (c .before .before .args .x) (c .before .before .args .n) (c .before .before .args .w) (omega arith),
+    )
 
 mul-mask : tie.Need-mul-mask Inv-loop μ-loop
 mul-mask c = omega arith
@@ -61,13 +66,29 @@ add-merge : tie.Need-add-merge Inv-loop μ-loop
 add-merge c = omega arith
 
 add-merge-2 : tie.Need-add-merge-2 Inv-loop μ-loop
-add-merge-2 c = omega (arith, unit-fits (c .before .before .before .before .before .before .before .before .before .before .args .n) (c .before .before .before .before .before .before .before .before .before .before .args .w) (omega arith) (omega arith))
+add-merge-2 c =
+    let start = c .before .before .before .before .before .before .before .before .before .before in
+    omega (arith, unit-fits (start .args .n) (start .args .w) (omega arith) (omega arith))
 
 mul-merge : tie.Need-mul-merge Inv-loop μ-loop
-mul-merge c = omega (arith, unit-fits (c .before .before .before .before .before .before .before .before .before .before .args .n) (c .before .before .before .before .before .before .before .before .before .before .args .w) (omega arith) (omega arith), rows-apart (c .before .before .before .before .loop .z) (c .before .before .before .before .before .before .before .before .before .before .args .n) (c .before .before .before .before .before .before .before .before .before .before .args .w) (omega arith))
+mul-merge c =
+    let at-loop = c .before .before .before .before in
+    let start = at-loop .before .before .before .before .before .before in
+    omega (
+      arith,
+      unit-fits (start .args .n) (start .args .w) (omega arith) (omega arith),
+      rows-apart (at-loop .loop .z) (start .args .n) (start .args .w) (omega arith),
+    )
 
 add-merge-3 : tie.Need-add-merge-3 Inv-loop μ-loop
-add-merge-3 c = omega (arith, unit-fits (c .before .before .before .before .before .before .before .before .before .before .args .n) (c .before .before .before .before .before .before .before .before .before .before .args .w) (omega arith) (omega arith), rows-apart (c .before .before .before .before .loop .z) (c .before .before .before .before .before .before .before .before .before .before .args .n) (c .before .before .before .before .before .before .before .before .before .before .args .w) (omega arith))
+add-merge-3 c =
+    let at-loop = c .before .before .before .before in
+    let start = at-loop .before .before .before .before .before .before in
+    omega (
+      arith,
+      unit-fits (start .args .n) (start .args .w) (omega arith) (omega arith),
+      rows-apart (at-loop .loop .z) (start .args .n) (start .args .w) (omega arith),
+    )
 
 merge-requires : tie.Need-merge-requires Inv-loop μ-loop
 merge-requires c κs =
@@ -81,9 +102,12 @@ add-next c = omega arith
 
 next-requires-2 : tie.Need-next-requires-2 Inv-loop μ-loop
 next-requires-2 c κs =
-    let a = c .before .before .before .before .before .before .before .before .before .before .before .before .before .before .before .before .args in
-    let l = c .before .before .before .before .before .before .before .before .before .before .loop in
-    let k : length (c .before .before .before .before .before .merge .last .0) ≡ length (l .cells) = c .before .before .before .before .before .merge .kept .0 in
+    let after-merge = c .before .before .before .before .before in
+    let at-loop = after-merge .before .before .before .before .before in
+    let start = at-loop .before .before .before .before .before .before in
+    let a = start .args in
+    let l = at-loop .loop in
+    let k : length (after-merge .merge .last .0) ≡ length (l .cells) = after-merge .merge .kept .0 in
     (omega arith, omega (arith, k, rows-apart (a .x) (a .n) (a .w) (omega arith)), omega arith)
 
 loop-less : tie.Need-loop-less Inv-loop μ-loop
@@ -91,21 +115,26 @@ loop-less c = omega (arith, c .next2 .ensures .1 .low)
 
 loop-again : tie.Need-loop-again Inv-loop μ-loop
 loop-again c =
-    let a = c .before .before .before .before .before .before .before .before .before .before .before .before .before .before .before .before .before .args in
-    let l = c .before .before .before .before .before .before .before .before .before .before .before .loop in
-    let m = c .before .before .before .before .before .before .merge in
+    let after-merge = c .before .before .before .before .before .before in
+    let at-loop = after-merge .before .before .before .before .before in
+    let start = at-loop .before .before .before .before .before .before in
+    let a = start .args in
+    let l = at-loop .loop in
+    let m = after-merge .merge in
     let L = c .next2 .ensures in
     let nl : a .n ≤ a .w * 64 = omega arith in
     let xl : a .x < a .n = omega arith in
     let zl : l .z < a .n = omega arith in
     let s = rows-apart (l .z) (a .n) (a .w) zl in
     let N = m .ensures (inr (omega (arith, s))) in
-    let P = lowest-kept (a .n) (a .w) (a .x) (a .cells .now) (a .masks .now) nl xl _ (λ k h. N .below k (omega arith) ∙ l .inv .4 .below k (omega arith)) (l .z + 1) (c .next2 .result) (L .0) (L .1) in (
+    let P = lowest-kept (a .n) (a .w) (a .x) (a .cells .now) (a .masks .now) nl xl _
+    (λ k h. N .below k (omega arith) ∙ l .inv .4 .below k (omega arith)) (l .z + 1) (c .next2 .result) (L .0) (L .1) in (
       L .0,
       P .hit,
       m .kept .0 ∙ l .inv .2,
       m .kept .1 .0 ∙ l .inv .3,
-      gathered-more (a .n) (a .w) (a .x) (a .cells .now) (a .masks .now) nl xl (l .z) (l .cells) (l .masks) (l .inv .4) (c .next2 .result) _ _ zl (l .inv .1 (omega arith)) P N,
+      gathered-more (a .n) (a .w) (a .x) (a .cells .now) (a .masks .now) nl xl (l .z)
+          (l .cells) (l .masks) (l .inv .4) (c .next2 .result) _ _ zl (l .inv .1 (omega arith)) P N,
     )
 
 same-length : tie.Need-same-length Inv-loop μ-loop

@@ -1,11 +1,11 @@
 -- `start_second` goes mask by mask. The loop's invariant: those of the second relation's rows below x are 0. The measure is the rows left. Assumes nothing.
-use mathlib.Core.Path.{_≡_, refl, sym, ap, _∙_}
+use mathlib.Core.Path.{_≡_, refl, _∙_}
 use Prim.Native.Nat.{ℕ, _+_, _-_, _≤_, _<_}
 use native.Mathlib.Omega.{arith}
 use borrow.Author.Needs.{needs}
 use lib.ListN.{length, getD, length-set}
 use lib.Seq.{getD-set-other}
-use Rattle.grid.proofs.Turns.{second-zero}
+use Rattle.grid.proofs.TransposeLaws.{second-zero}
 use Rattle.grid.proofs.algebra.start_second.Statement.{statement}
 use Rattle.grid.proofs.algebra.start_second.Tie as tie
 

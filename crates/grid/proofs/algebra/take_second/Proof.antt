@@ -1,13 +1,13 @@
 -- `take_second` goes row by row. The loop's invariant: the rows below x are those of the second relation, and nothing else has changed (`Through`).
 -- The measure is the rows left. Assumes nothing.
-use mathlib.Core.Path.{_≡_, refl, sym, ap, _∙_}
-use Prim.Native.Nat.{ℕ, _+_, _*_, _-_, _≤_, _<_}
+use mathlib.Core.Path.{_≡_, refl, _∙_}
+use Prim.Native.Nat.{_*_, _-_, _≤_}
 use native.Mathlib.Omega.{arith}
 use borrow.Author.Needs.{needs}
 use lib.ListN.{length}
 use Rattle.grid.specs.Grid.{secondRows}
-use Rattle.grid.proofs.Grids.{unit-fits, row-inside, Through, through-none, through-all}
-use Rattle.grid.proofs.Turns.{taken-more}
+use Rattle.grid.proofs.RelationLaws.{unit-fits, row-inside, Through, through-none, through-all}
+use Rattle.grid.proofs.TransposeLaws.{taken-more}
 use Rattle.grid.proofs.algebra.take_second.Statement.{statement}
 use Rattle.grid.proofs.algebra.take_second.Tie as tie
 
@@ -39,9 +39,12 @@ loop-less c = omega arith
 
 loop-again : tie.Need-loop-again Inv-loop μ-loop
 loop-again c =
-    let a = c .before .before .before .before .before .before .before .before .before .before .before .args in
-    let l = c .before .before .before .before .before .before .before .before .loop in
-    let m = c .before .before .before .before .take-row in (
+    let after-take-row = c .before .before .before .before in
+    let at-loop = after-take-row .before .before .before .before in
+    let start = at-loop .before .before .before in
+    let a = start .args in
+    let l = at-loop .loop in
+    let m = after-take-row .take-row in (
       omega arith,
       omega (arith, l .inv .1),
       m .kept .0 ∙ l .inv .2,

@@ -1,12 +1,11 @@
 -- `transpose` empties the second relation, turns row after row into it and takes it over. The loop's invariant: the rows below x are turned (`Turning`).
 -- The measure is the rows left. Assumes nothing.
-use mathlib.Core.Path.{_≡_, refl, sym, ap, _∙_}
-use Prim.Native.Nat.{ℕ, _+_, _*_, _-_, _≤_, _<_}
+use mathlib.Core.Path.{_≡_, refl, ap, _∙_}
+use Prim.Native.Nat.{_-_, _≤_}
 use native.Mathlib.Omega.{arith}
-use borrow.Author.Needs.{needs}
 use lib.ListN.{length}
 use Rattle.k2.specs.PairSets.{transpose}
-use Rattle.grid.proofs.Turns.{Turning, turning-none, turning-more, turning-all, first-same}
+use Rattle.grid.proofs.TransposeLaws.{Turning, turning-none, turning-more, turning-all, first-same}
 use Rattle.grid.proofs.algebra.transpose.Statement.{statement}
 use Rattle.grid.proofs.algebra.transpose.Tie as tie
 
@@ -41,9 +40,12 @@ loop-less c = omega arith
 
 loop-again : tie.Need-loop-again Inv-loop μ-loop
 loop-again c =
-    let a = c .before .before .before .before .before .before .before .before .before .before .before .before .before .before .before .args in
-    let l = c .before .before .before .before .before .before .before .before .loop in
-    let m = c .before .before .before .before .turn-row in (
+    let after-turn-row = c .before .before .before .before in
+    let at-loop = after-turn-row .before .before .before .before in
+    let start = at-loop .before .before .before .before .before .before .before in
+    let a = start .args in
+    let l = at-loop .loop in
+    let m = after-turn-row .turn-row in (
       omega arith,
       m .kept .0 ∙ l .inv .1,
       m .kept .1 .0 ∙ l .inv .2,
@@ -57,15 +59,23 @@ same-length : tie.Need-same-length Inv-loop μ-loop
 same-length c = c .before .before .before .before .take-second .kept .0 ∙ c .before .before .before .before .before .before .before .before .loop .inv .1
 
 same-length-2 : tie.Need-same-length-2 Inv-loop μ-loop
-same-length-2 c = c .before .before .before .before .take-second .kept .1 .0 ∙ c .before .before .before .before .before .before .before .before .loop .inv .2 ∙ long (c .before .before .before .before .before .before .before .before .before .before .before)
+same-length-2 c =
+    let after-take-second = c .before .before .before .before in
+    let at-loop = after-take-second .before .before .before .before in
+    let after-start-second = at-loop .before .before .before in
+    after-take-second .take-second .kept .1 .0 ∙ at-loop .loop .inv .2 ∙ long after-start-second
 
 returns : tie.Need-returns Inv-loop μ-loop
 returns c =
-    let a = c .before .before .before .before .before .before .before .before .before .before .before .before .before .before .before .args in
-    let l = c .before .before .before .before .before .before .before .before .loop in
+    let after-take-second = c .before .before .before .before in
+    let at-loop = after-take-second .before .before .before .before in
+    let after-start-second = at-loop .before .before .before in
+    let start = after-start-second .before .before .before .before in
+    let a = start .args in
+    let l = at-loop .loop in
     let e : l .x ≡ a .n = omega arith in
-    c .before .before .before .before .take-second .ensures ∙ turning-all (a .n) (a .w) (a .cells .now) _ (l .cells) (l .masks) (rw e at (l .inv .3))
-    ∙ ap transpose (first-same (a .n) (a .w) (a .cells .now) (a .masks .now) _ (c .before .before .before .before .before .before .before .before .before .before .before .start-second .ensures .0))
+    after-take-second .take-second .ensures ∙ turning-all (a .n) (a .w) (a .cells .now) _ (l .cells) (l .masks) (rw e at (l .inv .3))
+    ∙ ap transpose (first-same (a .n) (a .w) (a .cells .now) (a .masks .now) _ (after-start-second .start-second .ensures .0))
 
 pub transpose-spec : {M : Type 1} → statement M
 transpose-spec =

@@ -1,16 +1,16 @@
 -- `turn_row` goes over the columns of row x. The loop's invariant: those below y are put in exchanged (`Turned`), and y is a column or past them all.
 -- The measure is the columns left. It rests on `turned-more`. Assumes nothing.
-use mathlib.Core.Path.{_≡_, refl, sym, ap, _∙_}
-use Prim.Native.Nat.{ℕ, _+_, _*_, _-_, _/_, _%_, _≤_, _<_}
+use mathlib.Core.Path.{_≡_, refl, _∙_}
+use Prim.Native.Nat.{_+_, _*_, _-_, _%_, _≤_, _<_}
 use native.Mathlib.Omega.{arith}
 use borrow.Author.Needs.{needs}
-use lib.ListN.{length, getD}
+use lib.ListN.{length}
 use Rattle.k2.specs.DigitLaws.{one-shl}
 use Rattle.grid.specs.Grid.{firstRows}
 use Rattle.grid.specs.Steps.{onlyRow, Turned}
-use Rattle.grid.proofs.Grids.{rows-apart, unit-fits}
-use Rattle.grid.proofs.Products.{lowest-kept}
-use Rattle.grid.proofs.Turns.{turned-none, turned-more, turned-all}
+use Rattle.grid.proofs.RelationLaws.{rows-apart, unit-fits}
+use Rattle.grid.proofs.ProductLaws.{lowest-kept}
+use Rattle.grid.proofs.TransposeLaws.{turned-none, turned-more, turned-all}
 use Rattle.grid.proofs.algebra.turn_row.Statement.{statement}
 use Rattle.grid.proofs.algebra.turn_row.Tie as tie
 
@@ -78,8 +78,11 @@ add-next c = omega arith
 
 next-requires-2 : tie.Need-next-requires-2 Inv-loop μ-loop
 next-requires-2 c κs =
-    let a = c .before .before .before .before .before .before .before .before .before .before .before .before .before .before .before .args in
-    let k : length (c .before .before .before .before .before .put .last .0) ≡ length (c .before .before .before .before .before .before .before .before .before .loop .cells) = c .before .before .before .before .before .put .kept .0 in
+    let after-put = c .before .before .before .before .before in
+    let at-loop = after-put .before .before .before .before in
+    let start = at-loop .before .before .before .before .before .before in
+    let a = start .args in
+    let k : length (after-put .put .last .0) ≡ length (at-loop .loop .cells) = after-put .put .kept .0 in
     (omega arith, omega (arith, k, rows-apart (a .x) (a .n) (a .w) (omega arith)), omega arith)
 
 loop-less : tie.Need-loop-less Inv-loop μ-loop
@@ -87,21 +90,26 @@ loop-less c = omega (arith, c .next2 .ensures .1 .low)
 
 loop-again : tie.Need-loop-again Inv-loop μ-loop
 loop-again c =
-    let a = c .before .before .before .before .before .before .before .before .before .before .before .before .before .before .before .before .args in
-    let l = c .before .before .before .before .before .before .before .before .before .before .loop in
-    let m = c .before .before .before .before .before .before .put in
+    let after-put = c .before .before .before .before .before .before in
+    let at-loop = after-put .before .before .before .before in
+    let start = at-loop .before .before .before .before .before .before in
+    let a = start .args in
+    let l = at-loop .loop in
+    let m = after-put .put in
     let L = c .next2 .ensures in
     let nl : a .n ≤ a .w * 64 = omega arith in
     let xl : a .x < a .n = omega arith in
     let yl : l .y < a .n = omega arith in
     let s = rows-apart (l .y) (a .n) (a .w) yl in
     let N = rw (one-shl (a .x % 64) (omega arith)) at (m .ensures (a .w) (omega arith)) in
-    let P = lowest-kept (a .n) (a .w) (a .x) (a .cells .now) (a .masks .now) nl xl _ (λ k h. N .below k (omega arith) ∙ l .inv .4 .words k h) (l .y + 1) (c .next2 .result) (L .0) (L .1) in (
+    let P = lowest-kept (a .n) (a .w) (a .x) (a .cells .now) (a .masks .now) nl xl _
+    (λ k h. N .below k (omega arith) ∙ l .inv .4 .words k h) (l .y + 1) (c .next2 .result) (L .0) (L .1) in (
       L .0,
       P .hit,
       m .kept .0 ∙ l .inv .2,
       m .kept .1 .0 ∙ l .inv .3,
-      turned-more (a .n) (a .w) (a .x) (a .cells .now) (a .masks .now) (l .y) (c .next2 .result) (l .cells) (l .masks) _ _ nl xl yl (l .inv .1 (omega arith)) P (l .inv .4) N,
+      turned-more (a .n) (a .w) (a .x) (a .cells .now) (a .masks .now) (l .y) (c .next2 .result)
+          (l .cells) (l .masks) _ _ nl xl yl (l .inv .1 (omega arith)) P (l .inv .4) N,
     )
 
 same-length : tie.Need-same-length Inv-loop μ-loop

@@ -1,13 +1,13 @@
 -- `unite` merges row by row. The loop's invariant: the rows below x are united, and nothing else has changed (`Through`). The measure is the rows
 -- left. Assumes nothing.
-use Prim.Native.Nat.{ℕ, _<_, _≤_, _+_, _*_, _-_, max}
-use Rattle.grid.proofs.Grids.{unit-fits, row-inside, Through, through-none, through-merge, unite-row, through-all, within-union}
+use Prim.Native.Nat.{_≤_, _*_, _-_, max}
+use Rattle.grid.proofs.RelationLaws.{unit-fits, row-inside, Through, through-none, through-merge, unite-row, through-all, within-union}
 use Rattle.grid.specs.Grid.{firstRows, secondRows}
 use Rattle.k2.specs.PairSets.{union}
 use borrow.Author.Needs.{needs}
-use lib.ListN.{length, getD}
+use lib.ListN.{length}
 use mathlib.Core.Logic.{inl}
-use mathlib.Core.Path.{_≡_, refl, sym, ap, _∙_}
+use mathlib.Core.Path.{_≡_, refl, ap, _∙_}
 use native.Mathlib.Omega.{arith}
 use Rattle.grid.proofs.algebra.unite.Statement.{statement}
 use Rattle.grid.proofs.algebra.unite.Tie as tie
@@ -37,19 +37,33 @@ slice-read-source c = omega arith
 
 add-merge : tie.Need-add-merge Inv-loop μ-loop
 add-merge c =
-    let l = c .before .before .before .before .loop in
-    omega (arith, unit-fits (c .before .before .before .before .before .before .before .args .n) (c .before .before .before .before .before .before .before .args .w) (omega arith) (omega arith), row-inside (l .x) (c .before .before .before .before .before .before .before .args .n) (c .before .before .before .before .before .before .before .args .w) (l .b) (omega arith) (l .inv .1))
+    let at-loop = c .before .before .before .before in
+    let start = at-loop .before .before .before in
+    let l = at-loop .loop in
+    omega (
+      arith,
+      unit-fits (start .args .n) (start .args .w) (omega arith) (omega arith),
+      row-inside (l .x) (start .args .n) (start .args .w) (l .b) (omega arith) (l .inv .1),
+    )
 
 merge-requires : tie.Need-merge-requires Inv-loop μ-loop
 merge-requires c κs =
-    let l = c .before .before .before .before .loop in
-    let z = row-inside (l .x) (c .before .before .before .before .before .before .before .args .n) (c .before .before .before .before .before .before .before .args .w) (l .b) (omega arith) (l .inv .1) in
+    let at-loop = c .before .before .before .before in
+    let start = at-loop .before .before .before in
+    let l = at-loop .loop in
+    let z = row-inside (l .x) (start .args .n) (start .args .w) (l .b) (omega arith) (l .inv .1) in
     (omega arith, omega arith, omega (arith, z), omega (arith, z))
 
 add-b : tie.Need-add-b Inv-loop μ-loop
 add-b c =
-    let l = c .before .before .before .before .before .before .before .before .before .loop in
-    omega (arith, unit-fits (c .before .before .before .before .before .before .before .before .before .before .before .before .args .n) (c .before .before .before .before .before .before .before .before .before .before .before .before .args .w) (omega arith) (omega arith), row-inside (l .x) (c .before .before .before .before .before .before .before .before .before .before .before .before .args .n) (c .before .before .before .before .before .before .before .before .before .before .before .before .args .w) (l .b) (omega arith) (l .inv .1))
+    let at-loop = c .before .before .before .before .before .before .before .before .before in
+    let start = at-loop .before .before .before in
+    let l = at-loop .loop in
+    omega (
+      arith,
+      unit-fits (start .args .n) (start .args .w) (omega arith) (omega arith),
+      row-inside (l .x) (start .args .n) (start .args .w) (l .b) (omega arith) (l .inv .1),
+    )
 
 add-x : tie.Need-add-x Inv-loop μ-loop
 add-x c = omega arith
@@ -59,17 +73,23 @@ loop-less c = omega arith
 
 loop-again : tie.Need-loop-again Inv-loop μ-loop
 loop-again c =
-    let a = c .before .before .before .before .before .before .before .before .before .before .before .before .args in
-    let l = c .before .before .before .before .before .before .before .before .before .loop in
-    let m = c .before .before .before .before .merge in
+    let after-merge = c .before .before .before .before in
+    let at-loop = after-merge .before .before .before .before .before in
+    let start = at-loop .before .before .before in
+    let a = start .args in
+    let l = at-loop .loop in
+    let m = after-merge .merge in
     let z = row-inside (l .x) (a .n) (a .w) (l .b) (omega arith) (l .inv .1) in
     let T = l .inv .4 in (
       omega arith,
       omega (arith, l .inv .1),
       m .kept .0 ∙ l .inv .2,
       m .kept .1 .0 ∙ l .inv .3,
-      through-merge (a .n) (a .w) (l .x) (l .b) _ (a .cells .now) (a .masks .now) (l .cells) (l .masks) (omega arith) (l .inv .1) T _ _ _ (m .ensures (inl (omega (arith, z))))
-          (λ y h. unfold union in (ap (max (firstRows (a .w) (a .cells .now) (a .masks .now) (l .x) y)) (unite-row (a .n) (a .w) (l .x) (l .b) _ (a .cells .now) (a .masks .now) (l .cells) (l .masks) (omega arith) (l .inv .1) T y h))),
+      through-merge (a .n) (a .w) (l .x) (l .b) _ (a .cells .now) (a .masks .now) (l .cells)
+          (l .masks) (omega arith) (l .inv .1) T _ _ _ (m .ensures (inl (omega (arith, z))))
+          (λ y h. unfold union in
+          (ap (max (firstRows (a .w) (a .cells .now) (a .masks .now) (l .x) y))
+          (unite-row (a .n) (a .w) (l .x) (l .b) _ (a .cells .now) (a .masks .now) (l .cells) (l .masks) (omega arith) (l .inv .1) T y h))),
     )
 
 same-length : tie.Need-same-length Inv-loop μ-loop

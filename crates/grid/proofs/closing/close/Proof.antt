@@ -1,18 +1,18 @@
 -- `close` goes record by record. The loop's invariant: the rows of the records below x are closed, and each row is closed or as it was (`Half`). The
 -- measure is the records left. Assumes nothing.
-use mathlib.Core.Path.{_≡_, refl, sym, ap, _∙_}
-use Prim.Native.Nat.{ℕ, _+_, _*_, _-_, _≤_, _<_}
+use mathlib.Core.Path.{_≡_, refl, ap, _∙_}
+use Prim.Native.Nat.{ℕ, _-_, _≤_, _<_}
 use native.Mathlib.Omega.{arith}
 use borrow.Author.Needs.{needs}
-use lib.ListN.{length, set, length-set}
+use lib.ListN.{length}
 use Rattle.k2.specs.Bits.{bitAt}
-use Rattle.k2.specs.PairSets.{Cells, IsSet}
+use Rattle.k2.specs.PairSets.{Cells}
 use Rattle.grid.specs.Grid.{first, firstRows}
 use Rattle.grid.specs.Steps.{Half}
 use Rattle.bits.specs.BitSets.{none}
 use Rattle.bits.specs.BitSetLaws.{bits-none}
 use Rattle.grid.specs.GridLaws.{first-set}
-use Rattle.grid.proofs.Closures.{half-none, half-all, all-next}
+use Rattle.grid.proofs.ClosureLaws.{half-none, half-all, all-next}
 use Rattle.grid.proofs.closing.close.Statement.{statement}
 use Rattle.grid.proofs.closing.close.Tie as tie
 
@@ -44,9 +44,11 @@ slice-aggregate-close-from-2 c = omega arith
 
 close-from-requires : tie.Need-close-from-requires Inv-loop μ-loop
 close-from-requires c κs =
-    let p = c .before .before .before .before .before .before .before .before .pre in
-    let l = c .before .before .before .before .before .loop .inv in
-    let t : c .before .before .before .before .before .loop .x < c .before .before .before .before .before .before .before .before .args .n = omega arith in
+    let at-loop = c .before .before .before .before .before in
+    let start = at-loop .before .before .before in
+    let p = start .pre in
+    let l = at-loop .loop .inv in
+    let t : at-loop .loop .x < start .args .n = omega arith in
     omega (arith, p, l .1, l .2, l .3, l .4, t)
 
 slice-aggregate-close-once : tie.Need-slice-aggregate-close-once Inv-loop μ-loop
@@ -54,12 +56,15 @@ slice-aggregate-close-once c = omega arith
 
 close-once-requires : tie.Need-close-once-requires Inv-loop μ-loop
 close-once-requires c κs =
-    let p = c .before .before .before .before .before .before .before .before .before .before .before .before .before .before .before .before .before .before .pre in
-    let l = c .before .before .before .before .before .before .before .before .before .before .before .before .before .before .before .loop .inv in
-    let f = c .before .before .before .before .before .before .before .before .before .close-from in
-    let q : length (f .last .0) ≡ length (c .before .before .before .before .before .before .before .before .before .before .before .before .before .before .before .loop .cells) = f .kept .0 in
-    let r : length (f .last .1 .0) ≡ length (c .before .before .before .before .before .before .before .before .before .before .before .before .before .before .before .loop .masks) = f .kept .1 .0 in
-    let s : length (f .last .1 .1 .1 .1 .1 .0) ≡ length (c .before .before .before .before .before .before .before .before .before .before .before .before .before .before .before .loop .marks) = f .kept .1 .1 .1 .1 .1 .0 in
+    let after-close-from = c .before .before .before .before .before .before .before .before .before in
+    let at-loop = after-close-from .before .before .before .before .before .before in
+    let start = at-loop .before .before .before in
+    let p = start .pre in
+    let l = at-loop .loop .inv in
+    let f = after-close-from .close-from in
+    let q : length (f .last .0) ≡ length (at-loop .loop .cells) = f .kept .0 in
+    let r : length (f .last .1 .0) ≡ length (at-loop .loop .masks) = f .kept .1 .0 in
+    let s : length (f .last .1 .1 .1 .1 .1 .0) ≡ length (at-loop .loop .marks) = f .kept .1 .1 .1 .1 .1 .0 in
     omega (arith, p, l .1, l .2, l .3, q, r, s)
 
 add-x : tie.Need-add-x Inv-loop μ-loop
@@ -70,8 +75,10 @@ loop-less c = omega arith
 
 loop-again : tie.Need-loop-again Inv-loop μ-loop
 loop-again c =
-    let a = c .before .before .before .before .before .before .before .before .before .before .before .before .before .before .before .before .before .before .before .before .before .before .before .before .args in
-    let l = c .before .before .before .before .before .before .before .before .before .before .before .before .before .before .before .before .before .before .before .before .before .loop in
+    let a = (let earlier = c .before .before .before .before .before .before .before .before .before .before .before .before in
+    earlier .before .before .before .before .before .before .before .before .before .before .before .before) .args in
+    let l = (let earlier = c .before .before .before .before .before .before .before .before .before .before in
+    earlier .before .before .before .before .before .before .before .before .before .before .before) .loop in
     let f = c .before .before .before .before .before .before .before .before .before .before .before .before .before .before .before .close-from in
     let m = c .before .before .before .before .before .close-once in
     let F : Cells = first (a .n) (a .w) (a .cells .now) (a .masks .now) in

@@ -1,11 +1,11 @@
 -- `close_from` marks x as seen, beyond the records (`half-beyond`), and searches on from it. Assumes nothing.
-use mathlib.Core.Path.{_≡_, refl, sym, ap, _∙_}
+use mathlib.Core.Path.{_≡_, ap, _∙_}
 use Prim.Native.Nat.{ℕ, _+_}
 use native.Mathlib.Omega.{arith}
 use borrow.Author.Needs.{needs}
 use lib.ListN.{length, set, length-set}
 use Rattle.k2.specs.Bits.{bitAt}
-use Rattle.grid.proofs.Closures.{half-beyond, put-keeps}
+use Rattle.grid.proofs.ClosureLaws.{half-beyond, put-keeps}
 use Rattle.grid.proofs.closing.close_from.Statement.{statement}
 use Rattle.grid.proofs.closing.close_from.Tie as tie
 
@@ -35,9 +35,11 @@ slice-write-stack c = search needs
 
 search-on-requires : tie.Need-search-on-requires
 search-on-requires c κs =
-    let a = c .before .before .before .before .before .before .before .before .before .before .before .before .before .before .before .args in
-    let p = c .before .before .before .before .before .before .before .before .before .before .before .before .before .before .before .pre in
-    let s = c .before .before .before .before .before .before .set-bit in
+    let after-set-bit = c .before .before .before .before .before .before in
+    let start = after-set-bit .before .before .before .before .before .before .before .before .before in
+    let a = start .args in
+    let p = start .pre in
+    let s = after-set-bit .set-bit in
     let q : length (s .last .0) ≡ length (a .marks .now) = s .kept .0 in
     let r : length (set (a .stack .now) 0 (a .x)) ≡ length (a .stack .now) = length-set (a .stack .now) 0 (a .x) in
     (p .0, p .1, p .2, p .3, p .4, q ∙ p .5, r ∙ p .6)
@@ -53,15 +55,21 @@ same-length-4 c = search needs
 
 same-length-5 : tie.Need-same-length-5
 same-length-5 c =
-    let a = c .before .before .before .before .before .before .before .before .before .before .before .before .before .before .before .before .before .before .before .before .before .before .before .before .args in
-    c .before .before .before .before .before .before .before .before .search-on .kept .1 .1 .1 .1 .1 .0 ∙ length-set (a .stack .now) 0 (a .x)
+    let after-search-on = c .before .before .before .before .before .before .before .before in
+    let earlier = after-search-on .before .before .before .before .before .before .before .before in
+    let start = earlier .before .before .before .before .before .before .before .before in
+    let a = start .args in
+    after-search-on .search-on .kept .1 .1 .1 .1 .1 .0 ∙ length-set (a .stack .now) 0 (a .x)
 
 returns-2 : tie.Need-returns-2
 returns-2 c =
-    let a = c .before .before .before .before .before .before .before .before .before .before .before .before .before .before .before .before .before .before .before .before .before .before .before .before .args in
-    let s = c .before .before .before .before .before .before .before .before .before .before .before .before .before .before .before .set-bit .ensures in
-    let m = c .before .before .before .before .before .before .before .before .search-on .ensures in
-    let l = c .before .before .before .before .before .before .before .before .before .before .before .before .before .before .before .before .before .before .before .before .before .before .before .before .pre .0 in (
+    let after-search-on = c .before .before .before .before .before .before .before .before in
+    let after-set-bit = after-search-on .before .before .before .before .before .before .before in
+    let start = after-set-bit .before .before .before .before .before .before .before .before .before in
+    let a = start .args in
+    let s = after-set-bit .set-bit .ensures in
+    let m = after-search-on .search-on .ensures in
+    let l = start .pre .0 in (
       λ b A H. m .0 b A (half-beyond (a .n) b (bitAt (a .marks .now)) _ (1024 + a .x) _ (omega (arith, l)) s H),
       λ u h. m .1 u (ap (λ (f : ℕ → ℕ). f u) s ∙ put-keeps (bitAt (a .marks .now)) (1024 + a .x) u h),
     )

@@ -1,14 +1,12 @@
 -- `close_once` closes the row and notes it (`half-more`). Assumes nothing.
-use mathlib.Core.Path.{_≡_, refl, sym, ap, ap₂, subst, _∙_}
-use Prim.Native.Nat.{ℕ, _+_, _*_, _-_, _/_, _%_, _^_, _≤_, _<_, min, max}
+use mathlib.Core.Path.{_≡_, sym, ap, _∙_}
+use Prim.Native.Nat.{ℕ}
 use native.Mathlib.Omega.{arith}
 use borrow.Author.Needs.{needs}
 use Rattle.k2.specs.Bits.{bitAt}
 use Rattle.k2.specs.BitLaws.{bit-lt}
-use Rattle.bits.specs.BitSets.{put}
 use Rattle.bits.specs.BitSetLaws.{put-at}
-use Rattle.k2.specs.PairSets.{Cells}
-use Rattle.grid.proofs.Closures.{half-next, put-keeps}
+use Rattle.grid.proofs.ClosureLaws.{half-next, put-keeps}
 use Rattle.grid.proofs.closing.close_once.Statement.{statement}
 use Rattle.grid.proofs.closing.close_once.Tie as tie
 
@@ -41,10 +39,13 @@ same-length-4 c = search needs
 
 returns-3 : tie.Need-returns-3
 returns-3 c =
-    let a = c .before .before .before .before .before .before .before .before .before .before .before .before .before .before .before .before .before .before .before .args in
-    let r = c .before .before .before .before .before .before .before .before .close-row .ensures in
+    let after-close-row = c .before .before .before .before .before .before .before .before in
+    let else2 = after-close-row .before .before .before .before in
+    let start = else2 .before .before .before .before .before .before .before in
+    let a = start .args in
+    let r = after-close-row .close-row .ensures in
     let s = c .before .before .set-bit .ensures in
-    let none : bitAt (a .closed .now) (a .x) ≡ 0 = omega (arith, c .before .before .before .before .before .before .before .before .before .before .before .before .before .bit .ensures, c .before .before .before .before .before .before .before .before .before .before .before .before .if2 .left, bit-lt (a .closed .now) (a .x)) in (
+    let none : bitAt (a .closed .now) (a .x) ≡ 0 = omega (arith, else2 .before .bit .ensures, else2 .if2 .left, bit-lt (a .closed .now) (a .x)) in (
       λ b A H. half-next (a .n) b (bitAt (a .closed .now)) _ (a .x) _ _ s (r .0) (r .1 b A H none) H,
       λ u h. ap (λ (f : ℕ → ℕ). f u) s ∙ put-keeps (bitAt (a .closed .now)) (a .x) u h,
       λ h. ap (λ (f : ℕ → ℕ). f (a .x)) s ∙ put-at (a .x) 1 (bitAt (a .closed .now)),

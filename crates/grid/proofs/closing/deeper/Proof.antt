@@ -1,11 +1,11 @@
 -- `deeper` marks what it finds, beyond the records (`half-beyond`), or closes the row. Assumes nothing.
-use mathlib.Core.Path.{_≡_, refl, sym, ap, _∙_}
-use Prim.Native.Nat.{ℕ, _+_, _*_, _≤_, _<_}
+use mathlib.Core.Path.{ap, _∙_}
+use Prim.Native.Nat.{ℕ, _+_}
 use native.Mathlib.Omega.{arith}
 use borrow.Author.Needs.{needs}
 use Rattle.k2.specs.Bits.{bitAt}
-use Rattle.grid.proofs.Grids.{rows-apart, unit-fits}
-use Rattle.grid.proofs.Closures.{half-beyond, put-keeps}
+use Rattle.grid.proofs.RelationLaws.{rows-apart, unit-fits}
+use Rattle.grid.proofs.ClosureLaws.{half-beyond, put-keeps}
 use Rattle.grid.proofs.closing.deeper.Statement.{statement}
 use Rattle.grid.proofs.closing.deeper.Tie as tie
 

@@ -1,9 +1,9 @@
 -- `found_or` has no loop: each of its returns is one of the cases. Assumes nothing.
-use mathlib.Core.Path.{_≡_, refl}
-use mathlib.Core.Logic.{_⊎_, inl, inr}
+use mathlib.Core.Path.{refl}
+use mathlib.Core.Logic.{inl, inr}
 use Prim.Native.Nat.{_<_}
 use native.Mathlib.Omega.{arith}
-use Rattle.grid.proofs.Columns.{lowest-some}
+use Rattle.grid.proofs.ColumnLaws.{lowest-some}
 use Rattle.grid.proofs.closing.found_or.Statement.{statement}
 use Rattle.grid.proofs.closing.found_or.Tie as tie
 

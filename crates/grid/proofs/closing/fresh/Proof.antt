@@ -1,16 +1,16 @@
 -- `fresh` goes over the words in the mask. The loop's invariant: c is one of them or past them all, and `found` is a column that is not seen, or those of
 -- the words before c are (`LookedTo`). The measure is the words left. It rests on `fresh-found` and `looked-word`. Assumes nothing.
-use mathlib.Core.Path.{_≡_, _∙_}
-use Prim.Native.Nat.{ℕ, _+_, _*_, _-_, _<_, min}
+use mathlib.Core.Path.{_≡_}
+use Prim.Native.Nat.{ℕ, _+_, _*_, _-_, _<_}
 use native.Mathlib.Omega.{arith}
 use lib.Bits.{bitAnd, and-le-l}
 use lib.ListN.{getD}
 use Rattle.k2.specs.Bits.{digit}
 use Rattle.k2.specs.DigitLaws.{digit-lt, digit-and}
 use Rattle.grid.specs.Grid.{rowOf}
-use Rattle.grid.proofs.Grids.{unit-fits}
-use Rattle.grid.proofs.Columns.{lowest-some}
-use Rattle.grid.proofs.Closures.{LookedTo, looked-gap, looked-word, fresh-found}
+use Rattle.grid.proofs.RelationLaws.{unit-fits}
+use Rattle.grid.proofs.ColumnLaws.{lowest-some}
+use Rattle.grid.proofs.ClosureLaws.{LookedTo, looked-gap, looked-word, fresh-found}
 use Rattle.grid.proofs.closing.fresh.Statement.{statement}
 use Rattle.grid.proofs.closing.fresh.Tie as tie
 
@@ -30,9 +30,11 @@ lowest-requires c κs = tt
 loop-holds : tie.Need-loop-holds Inv-loop μ-loop
 loop-holds c =
     let a = c .before .before .before .args in
-    let L = c .lowest .ensures in
-    (L .hit, looked-gap (a .n) (a .b) (a .n * a .w) (a .mask) (a .seen) (a .cells .now) 0 (c .lowest .result) (a .n) (L .gap)
-    (record { found = λ h. absurd (omega arith); all = λ h y l o e. absurd (omega arith) }))
+    let L = c .lowest .ensures in (
+      L .hit,
+      looked-gap (a .n) (a .b) (a .n * a .w) (a .mask) (a .seen) (a .cells .now) 0 (c .lowest .result) (a .n) (L .gap)
+          (record { found = λ h. absurd (omega arith); all = λ h y l o e. absurd (omega arith) }),
+    )
 
 add-lacking : tie.Need-add-lacking Inv-loop μ-loop
 add-lacking c = let a = c .before .before .before .before .before .args in omega (arith, unit-fits (a .n) (a .w) (omega arith) (omega arith))
@@ -72,7 +74,11 @@ lowest-requires-2 c κs = tt
 
 inside : (c : tie.After-lowest2 Inv-loop μ-loop) → c .lowest2 .result < 64
 inside c =
-    lowest-some _ _ (omega (arith, and-le-l (c .before .before .before .cut .result) (getD (c .before .before .before .before .before .before .before .before .before .before .before .before .args .closed .now) (c .before .before .before .before .before .before .before .before .loop .c) 0))) (c .before .if1 .taken) (c .lowest2 .ensures)
+    let after-cut = c .before .before .before in
+    let at-loop = after-cut .before .before .before .before .before in
+    let start = at-loop .before .before .before .before in
+    lowest-some _ _ (omega (arith, and-le-l (after-cut .cut .result) (getD (start .args .closed .now) (at-loop .loop .c) 0)))
+    (c .before .if1 .taken) (c .lowest2 .ensures)
 
 add-result : tie.Need-add-result Inv-loop μ-loop
 add-result c = omega (arith, inside c)
@@ -83,10 +89,13 @@ part v u k e = omega (arith, e, digit-and v u k, digit-lt v k)
 
 returns : tie.Need-returns Inv-loop μ-loop
 returns c =
-    let a = c .before .before .before .before .before .before .before .before .before .before .before .before .args in
-    let l = c .before .before .before .before .before .before .before .before .loop in
-    fresh-found (a .n) (a .b) (a .n * a .w) (a .mask) (a .seen) (a .cells .now) (l .c) _ _ (l .inv .0 (omega arith)) (c .before .before .before .before .lacking .ensures)
-    (c .before .before .before .cut .ensures) _ (inside c) (part _ _ _ (c .lowest2 .ensures .hit (inside c)))
+    let after-cut = c .before .before .before in
+    let at-loop = after-cut .before .before .before .before .before in
+    let start = at-loop .before .before .before .before in
+    let a = start .args in
+    let l = at-loop .loop in
+    fresh-found (a .n) (a .b) (a .n * a .w) (a .mask) (a .seen) (a .cells .now) (l .c) _ _ (l .inv .0 (omega arith)) (after-cut .before .lacking .ensures)
+    (after-cut .cut .ensures) _ (inside c) (part _ _ _ (c .lowest2 .ensures .hit (inside c)))
 
 found-or-requires : tie.Need-found-or-requires Inv-loop μ-loop
 found-or-requires c κs = omega arith
@@ -99,13 +108,17 @@ loop-less c = omega (arith, c .above .ensures .low)
 
 loop-again : tie.Need-loop-again Inv-loop μ-loop
 loop-again c =
-    let a = c .before .before .before .before .before .before .before .before .before .before .before .before .before .args in
-    let l = c .before .before .before .before .before .before .before .before .before .loop in
+    let after-cut = c .before .before .before .before in
+    let at-loop = after-cut .before .before .before .before .before in
+    let start = at-loop .before .before .before .before in
+    let a = start .args in
+    let l = at-loop .loop in
     let L = c .above .ensures in (
       L .hit,
       looked-gap (a .n) (a .b) (a .n * a .w) (a .mask) (a .seen) (a .cells .now) (l .c + 1) (c .above .result) _ (L .gap)
-          (looked-word (a .n) (a .b) (a .n * a .w) (a .mask) (a .seen) (a .cells .now) (l .c) _ _ (l .inv .0 (omega arith)) (c .before .before .before .before .before .lacking .ensures)
-          (c .before .before .before .before .cut .ensures) (l .found) _ (c .before .found-or .ensures) (l .inv .1)),
+          (looked-word (a .n) (a .b) (a .n * a .w) (a .mask) (a .seen) (a .cells .now)
+          (l .c) _ _ (l .inv .0 (omega arith)) (after-cut .before .lacking .ensures)
+          (after-cut .cut .ensures) (l .found) _ (c .before .found-or .ensures) (l .inv .1)),
     )
 
 returns-2 : tie.Need-returns-2 Inv-loop μ-loop

@@ -1,21 +1,20 @@
 -- `lead_on` merges row z into row x, unless they are one. Assumes nothing.
-use mathlib.Core.Path.{_≡_, refl, sym, ap, ap₂, subst, _∙_}
-use mathlib.Core.Logic.{_⊎_, inl, inr, ⊎-elim}
-use Prim.Native.Nat.{ℕ, _+_, _*_, _-_, _/_, _%_, _^_, _≤_, _<_, min, max}
+use mathlib.Core.Path.{subst}
+use Prim.Native.Nat.{ℕ, _*_}
 use native.Mathlib.Omega.{arith}
 use borrow.Author.Needs.{needs}
-use lib.ListN.{getD}
-use Rattle.grid.specs.Grid.{rowOf, firstRows}
+use Rattle.grid.specs.Grid.{firstRows}
 use Rattle.grid.specs.Steps.{Merged}
-use Rattle.grid.proofs.Grids.{rows-apart, unit-fits}
-use Rattle.grid.proofs.Closures.{merged-self, rows-other}
+use Rattle.grid.proofs.RelationLaws.{rows-apart, unit-fits}
+use Rattle.grid.proofs.ClosureLaws.{merged-self, rows-other}
 use Rattle.grid.proofs.closing.lead_on.Statement.{statement}
 use Rattle.grid.proofs.closing.lead_on.Tie as tie
 
 returns : tie.Need-returns
 returns c =
     let a = c .before .before .before .args in
-    subst (λ (k : ℕ). Merged (a .w) (a .x) (a .x * a .w) (firstRows (a .w) (a .cells .now) (a .masks .now) k) (a .cells .now) (a .masks .now) (a .cells .now) (a .masks .now))
+    subst (λ (k : ℕ). Merged (a .w) (a .x) (a .x * a .w) (firstRows (a .w) (a .cells .now) (a .masks .now) k)
+    (a .cells .now) (a .masks .now) (a .cells .now) (a .masks .now))
     (c .if1 .taken) (merged-self (a .w) (a .x) (a .cells .now) (a .masks .now))
 
 mul-source : tie.Need-mul-source
@@ -47,8 +46,11 @@ same-length-2 c = search needs
 
 returns-2 : tie.Need-returns-2
 returns-2 c =
-    let a = c .before .before .before .before .before .before .before .before .before .before .before .args in
-    unfold firstRows in (c .before .before .before .before .merge .ensures (rows-other (a .x) (a .z) (a .w) (c .before .before .before .before .before .before .before .before .if1 .left)))
+    let after-merge = c .before .before .before .before in
+    let else1 = after-merge .before .before .before .before in
+    let start = else1 .before .before .before in
+    let a = start .args in
+    unfold firstRows in (after-merge .merge .ensures (rows-other (a .x) (a .z) (a .w) (else1 .if1 .left)))
 
 pub lead-on-spec : {M : Type 1} → statement M
 lead-on-spec =

@@ -1,7 +1,7 @@
 -- `mark` merges row z into the row of what is seen, if row z is whole, and puts in z itself. Assumes nothing.
-use mathlib.Core.Path.{_≡_, refl, sym, ap, ap₂, _∙_}
-use mathlib.Core.Logic.{_⊎_, inl, inr, ⊎-elim}
-use Prim.Native.Nat.{ℕ, _+_, _*_, _-_, _/_, _%_, _^_, _≤_, _<_, min, max}
+use mathlib.Core.Path.{_≡_, refl, sym, _∙_}
+use mathlib.Core.Logic.{inr, ⊎-elim}
+use Prim.Native.Nat.{_*_, _%_}
 use native.Mathlib.Omega.{arith}
 use borrow.Author.Needs.{needs}
 use lib.Dec.{eqb}
@@ -9,10 +9,10 @@ use lib.ListN.{length}
 use borrow.Author.Tests.{eq-eqb, ne-eqb}
 use Rattle.book.specs.Basics.{pick}
 use Rattle.k2.specs.DigitLaws.{one-shl}
-use Rattle.grid.specs.Grid.{rowOf, firstRows}
-use Rattle.grid.specs.Steps.{wordAt, Merged}
-use Rattle.grid.proofs.Rows.{merged-none, merged-more, merged-to}
-use Rattle.grid.proofs.Grids.{rows-apart, unit-fits}
+use Rattle.grid.specs.Grid.{firstRows}
+use Rattle.grid.specs.Steps.{Merged}
+use Rattle.grid.proofs.RowLaws.{merged-none, merged-more, merged-to}
+use Rattle.grid.proofs.RelationLaws.{rows-apart, unit-fits}
 use Rattle.grid.proofs.closing.mark.Statement.{statement}
 use Rattle.grid.proofs.closing.mark.Tie as tie
 
@@ -38,7 +38,8 @@ merge-requires c κs =
 -- all that row z leads to is seen, if it is whole
 whole : (c : tie.Joined1) → let a = c .before .before .before .args in
     (length (c .if1 .cells) ≡ length (a .cells .now)) × (length (c .if1 .masks) ≡ length (a .masks .now))
-    × Merged (a .w) (a .n) (a .n * a .w) (λ y. pick (eqb (a .whole) 1) (firstRows (a .w) (a .cells .now) (a .masks .now) (a .z) y) 0) (a .cells .now) (a .masks .now) (c .if1 .cells) (c .if1 .masks)
+    × Merged (a .w) (a .n) (a .n * a .w) (λ y. pick (eqb (a .whole) 1) (firstRows (a .w) (a .cells .now) (a .masks .now) (a .z) y) 0)
+    (a .cells .now) (a .masks .now) (c .if1 .cells) (c .if1 .masks)
 whole c =
     let a = c .before .before .before .args in
     ⊎-elim
@@ -72,8 +73,11 @@ same-length-2 c = c .before .before .before .before .put .kept .1 .0 ∙ whole (
 
 returns : tie.Need-returns
 returns c =
-    let a = c .before .before .before .before .before .before .before .before .before .before .args in
-    merged-more (whole (c .before .before .before .before .before .before .before) .2) (rw (one-shl (a .z % 64) (omega arith)) at (c .before .before .before .before .put .ensures (a .w) (omega arith))) _ (λ y h. refl)
+    let after-put = c .before .before .before .before in
+    let joined1 = after-put .before .before .before in
+    let start = joined1 .before .before .before in
+    let a = start .args in
+    merged-more (whole joined1 .2) (rw (one-shl (a .z % 64) (omega arith)) at (after-put .put .ensures (a .w) (omega arith))) _ (λ y h. refl)
 
 pub mark-spec : {M : Type 1} → statement M
 mark-spec =

@@ -1,9 +1,8 @@
 -- `search_on` takes steps of the search in depth. The loop's invariant: each row is closed or as it was, as the marks say (`Half`), and the depth is at
 -- most the steps taken and one. The measure is the steps left. Assumes nothing.
-use mathlib.Core.Path.{_≡_, refl, sym, ap, _∙_}
-use Prim.Native.Nat.{ℕ, _+_, _*_, _-_, _≤_, _<_}
+use mathlib.Core.Path.{_≡_, refl, _∙_}
+use Prim.Native.Nat.{ℕ, _+_, _-_, _≤_}
 use native.Mathlib.Omega.{arith}
-use borrow.Author.Needs.{needs}
 use lib.ListN.{length}
 use Rattle.k2.specs.Bits.{bitAt}
 use Rattle.k2.specs.PairSets.{Cells, IsSet}
@@ -40,7 +39,10 @@ returns : tie.Need-returns Inv-loop μ-loop
 returns c = (c .before .before .loop .inv .5, c .before .before .loop .inv .6)
 
 advance-requires : tie.Need-advance-requires Inv-loop μ-loop
-advance-requires c κs = let p = c .before .before .before .before .before .before .before .before .before .before .before .pre in let l = c .before .before .before .before .before .before .loop .inv in omega (arith, p, l .0, l .1, l .2, l .3, l .4)
+advance-requires c κs =
+    let at-loop = c .before .before .before .before .before .before in
+    let start = at-loop .before .before .before .before .before in
+    let p = start .pre in let l = at-loop .loop .inv in omega (arith, p, l .0, l .1, l .2, l .3, l .4)
 
 add-step : tie.Need-add-step Inv-loop μ-loop
 add-step c = omega arith

@@ -1,10 +1,8 @@
 -- `unseen` goes over the words in the mask, each read within its slice; that it ends is all that is claimed, and the bound. The measure is the words
 -- left. Assumes nothing.
-use mathlib.Core.Path.{_≡_, refl, sym, ap, _∙_}
-use Prim.Native.Nat.{ℕ, _+_, _*_, _-_, _≤_, _<_}
+use Prim.Native.Nat.{_-_, _≤_, _<_}
 use native.Mathlib.Omega.{arith}
-use borrow.Author.Needs.{needs}
-use Rattle.grid.proofs.Columns.{lowest-some}
+use Rattle.grid.proofs.ColumnLaws.{lowest-some}
 use Rattle.grid.proofs.closing.unseen.Statement.{statement}
 use Rattle.grid.proofs.closing.unseen.Tie as tie
 

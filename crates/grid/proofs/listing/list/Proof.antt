@@ -1,14 +1,14 @@
 -- `list` goes row by row. The loop's invariant: the pairs of the rows below x are written, and t is their number. The measure is the rows left. It
 -- rests on `rows-next`. Assumes nothing.
-use mathlib.Core.Path.{_≡_, refl, sym, ap, _∙_}
-use Prim.Native.Nat.{_*_, _-_, _≤_, _<_}
+use mathlib.Core.Path.{_≡_, refl, _∙_}
+use Prim.Native.Nat.{_*_, _-_, _≤_}
 use native.Mathlib.Omega.{arith}
 use borrow.Author.Needs.{needs}
 use lib.ListN.{length}
 use Rattle.k2.specs.PairSets.{Cells, rowsPairs}
 use Rattle.grid.specs.Grid.{first}
 use Rattle.grid.specs.Steps.{Grown}
-use Rattle.grid.proofs.Lists.{rows-none, rows-next, rows-all, grown-none, grown-more, grown-to, grown-all}
+use Rattle.grid.proofs.ListingLaws.{rows-none, rows-next, rows-all, grown-none, grown-more, grown-to, grown-all}
 use Rattle.grid.proofs.listing.list.Statement.{statement}
 use Rattle.grid.proofs.listing.list.Tie as tie
 

@@ -1,6 +1,6 @@
 -- `list_row` goes over the words in the mask. The loop's invariant: c is one of them or past them all, and the columns of the words before it are
 -- written. The measure is the words left. It rests on `cut-word` and `cut-gap`. Assumes nothing.
-use mathlib.Core.Path.{_≡_, refl, sym, ap, _∙_}
+use mathlib.Core.Path.{_≡_, refl, ap, _∙_}
 use Prim.Native.Nat.{ℕ, _+_, _-_, _*_, _≤_, _<_, min}
 use native.Mathlib.Omega.{arith}
 use borrow.Author.Needs.{needs}
@@ -8,8 +8,8 @@ use lib.ListN.{length}
 use Rattle.k2.specs.Bits.{digit}
 use Rattle.grid.specs.Grid.{rowOf}
 use Rattle.grid.specs.Steps.{cutRow, columns, Grown}
-use Rattle.grid.proofs.Grids.{rows-apart, unit-fits}
-use Rattle.grid.proofs.Lists.{columns-none, columns-gap, cut-gap, cut-word, cut-all, grown-none, grown-more, grown-to}
+use Rattle.grid.proofs.RelationLaws.{rows-apart, unit-fits}
+use Rattle.grid.proofs.ListingLaws.{columns-none, columns-gap, cut-gap, cut-word, cut-all, grown-none, grown-more, grown-to}
 use Rattle.grid.proofs.listing.list_row.Statement.{statement}
 use Rattle.grid.proofs.listing.list_row.Tie as tie
 
@@ -77,11 +77,15 @@ loop-less c = omega (arith, c .above .ensures .low)
 
 loop-again : tie.Need-loop-again Inv-loop μ-loop
 loop-again c =
-    let a = c .before .before .before .before .before .before .before .before .before .before .before .before .args in
-    let l = c .before .before .before .before .before .before .before .before .loop in
+    let after-list-word = c .before .before .before in
+    let after-cut = after-list-word .before .before in
+    let at-loop = after-cut .before .before .before in
+    let start = at-loop .before .before .before .before in
+    let a = start .args in
+    let l = at-loop .loop in
     let L = c .above .ensures in
     let k = c .above .result in
-    let W = c .before .before .before .list-word in
+    let W = after-list-word .list-word in
     let f : ℕ → ℕ = cutRow (a .n) (rowOf (a .cells .now) (a .x * a .w) (a .mask)) in
     let cl : l .c < a .w = omega arith in
     let at : (l .c + 1) * 64 ≡ l .c * 64 + 64 = omega arith in (
@@ -89,9 +93,11 @@ loop-again c =
       omega (arith, L .low, l .inv .1, W .ensures .0),
       W .kept .1 .1 .0 ∙ l .inv .2,
       grown-more (a .t) (l .s) (W .result) _ _ _ (a .out .now) (l .out) _ (l .inv .2) (l .inv .3) (W .ensures .1)
-          (columns-gap f (a .x * 1024) ((l .c + 1) * 64) (k * 64) (omega (arith, L .low)) (cut-gap (a .n) (a .w) (a .x * a .w) (a .mask) (a .x) (a .cells .now) (l .c + 1) k (L .gap))
+          (columns-gap f (a .x * 1024) ((l .c + 1) * 64) (k * 64) (omega (arith, L .low))
+          (cut-gap (a .n) (a .w) (a .x * a .w) (a .mask) (a .x) (a .cells .now) (l .c + 1) k (L .gap))
           ∙ ap (columns f (a .x * 1024)) at
-          ∙ cut-word (a .n) (a .w) (a .x * a .w) (a .mask) (a .x) (a .cells .now) (l .c) (c .before .before .before .before .before .cut .result) (l .inv .0 (omega arith)) (c .before .before .before .before .before .cut .ensures) (a .x * 1024)),
+          ∙ cut-word (a .n) (a .w) (a .x * a .w) (a .mask) (a .x) (a .cells .now) (l .c)
+          (after-cut .cut .result) (l .inv .0 (omega arith)) (after-cut .cut .ensures) (a .x * 1024)),
     )
 
 same-length : tie.Need-same-length Inv-loop μ-loop

@@ -10,7 +10,7 @@ use lib.ListN.{length}
 use lib.Pow.{shr-le}
 use Rattle.k2.specs.Bits.{digit}
 use Rattle.grid.specs.Steps.{columns, Grown}
-use Rattle.grid.proofs.Lists.{columns-none, grown-none, grown-more, grown-to, word-inside, word-found, word-rest, word-done}
+use Rattle.grid.proofs.ListingLaws.{columns-none, grown-none, grown-more, grown-to, word-inside, word-found, word-rest, word-done}
 use Rattle.grid.proofs.listing.list_word.Statement.{statement}
 use Rattle.grid.proofs.listing.list_word.Tie as tie
 
@@ -25,20 +25,29 @@ abbrev μ-loop : tie.MeasureT-loop
 loop-holds : tie.Need-loop-holds Inv-loop μ-loop
 loop-holds c =
     let a = c .before .args in
-    let z : a .at - a .at ≡ 0 = omega arith in
-    (omega arith, omega arith, sym (rw z (div-one (a .word))), omega arith, refl, grown-none (a .t) _ (a .out .now) (ap (columns (digit (a .word)) (a .at)) z ∙ columns-none (digit (a .word)) (a .at)))
+    let z : a .at - a .at ≡ 0 = omega arith in (
+      omega arith,
+      omega arith,
+      sym (rw z (div-one (a .word))),
+      omega arith,
+      refl,
+      grown-none (a .t) _ (a .out .now) (ap (columns (digit (a .word)) (a .at)) z ∙ columns-none (digit (a .word)) (a .at)),
+    )
 
 lowest-requires : tie.Need-lowest-requires Inv-loop μ-loop
 lowest-requires c κs = tt
 
 small : (c : tie.After-lowest Inv-loop μ-loop) → c .before .before .loop .rest < 2 ^ 64
-small c = let a = c .before .before .before .before .args in rw (c .before .before .loop .inv .2) (lt-of-le-of-lt (shr-le (a .word) (c .before .before .loop .p - a .at)) (omega arith))
+small c =
+    let a = c .before .before .before .before .args in
+    rw (c .before .before .loop .inv .2) (lt-of-le-of-lt (shr-le (a .word) (c .before .before .loop .p - a .at)) (omega arith))
 
 inside : (c : tie.After-lowest Inv-loop μ-loop) → c .before .before .loop .p - c .before .before .before .before .args .at + c .lowest .result < 64
 inside c =
     let a = c .before .before .before .before .args in
     let l = c .before .before .loop in
-    word-inside (a .word) (l .p - a .at) (l .rest) (c .lowest .result) (a .at) (omega arith) (l .inv .2) (small c) (c .before .loop-test .taken) (c .lowest .ensures)
+    word-inside (a .word) (l .p - a .at) (l .rest) (c .lowest .result) (a .at)
+    (omega arith) (l .inv .2) (small c) (c .before .loop-test .taken) (c .lowest .ensures)
 
 add-p : tie.Need-add-p Inv-loop μ-loop
 add-p c = omega (arith, inside c)
@@ -63,23 +72,26 @@ loop-less c = omega (arith, inside (c .before .before .before .before))
 
 loop-again : tie.Need-loop-again Inv-loop μ-loop
 loop-again c =
-    let a = c .before .before .before .before .before .before .before .before .args in
-    let l = c .before .before .before .before .before .before .loop in
-    let k = c .before .before .before .before .lowest .result in
-    let i = inside (c .before .before .before .before) in
+    let after-write = c .before .before in
+    let after-lowest = after-write .before .before in
+    let start = after-lowest .before .before .before .before in
+    let a = start .args in
+    let l = after-lowest .before .before .loop in
+    let k = after-lowest .lowest .result in
+    let i = inside after-lowest in
     let m : ℕ = l .p - a .at in
-    let t = c .before .before .before .before .before .loop-test .taken in
-    let L = c .before .before .before .before .lowest .ensures in
-    let f = word-found (a .word) m (l .rest) k (a .at) (omega arith) (l .inv .2) (small (c .before .before .before .before)) t L in
-    let r = word-rest (a .word) m (l .rest) k (a .at) (omega arith) (l .inv .2) (small (c .before .before .before .before)) t L in
+    let t = after-lowest .before .loop-test .taken in
+    let L = after-lowest .lowest .ensures in
+    let f = word-found (a .word) m (l .rest) k (a .at) (omega arith) (l .inv .2) (small after-lowest) t L in
+    let r = word-rest (a .word) m (l .rest) k (a .at) (omega arith) (l .inv .2) (small after-lowest) t L in
     let g : m + k + 1 ≡ l .p + k + 1 - a .at = omega (arith, l .inv .0) in
     let p : a .at + (m + k) ≡ l .p + k = omega (arith, l .inv .0) in
-    let W = c .before .before .write in (
+    let W = after-write .write in (
       omega (arith, l .inv .0),
       omega (arith, i),
       r ∙ ap (λ (x : ℕ). a .word / 2 ^ x) g,
       omega (arith, l .inv .3, l .inv .0),
-      c .before .before .write .kept .0 ∙ l .inv .4,
+      after-write .write .kept .0 ∙ l .inv .4,
       grown-more (a .t) (l .s) (l .s + 1) _ _ _ (a .out .now) (l .out) _ (l .inv .4) (l .inv .5) (W .ensures)
           (ap (columns (digit (a .word)) (a .at)) (sym g) ∙ f ∙ ap (λ (x : ℕ). columns (digit (a .word)) (a .at) m ++ (x ∷ [])) p),
     )

@@ -1,13 +1,13 @@
 -- `write` stores the word if the list has a place for it (`shown-in`), and else leaves the list, which shows all that it takes (`shown-out`).
 -- Assumes nothing.
-use mathlib.Core.Path.{_≡_, refl, sym, ap, subst, _∙_}
-use mathlib.Core.List.{List, [], _∷_, _++_}
+use mathlib.Core.Path.{sym, ap, subst, _∙_}
+use mathlib.Core.List.{[], _∷_, _++_}
 use Prim.Native.Nat.{ℕ, _+_}
 use native.Mathlib.Omega.{arith}
 use borrow.Author.Needs.{needs}
-use lib.ListN.{length, set, length-append}
+use lib.ListN.{set, length-append}
 use Rattle.grid.specs.Steps.{Shown}
-use Rattle.grid.proofs.Lists.{shown-in, shown-out}
+use Rattle.grid.proofs.ListingLaws.{shown-in, shown-out}
 use Rattle.grid.proofs.listing.write.Statement.{statement}
 use Rattle.grid.proofs.listing.write.Tie as tie
 

@@ -1,7 +1,7 @@
 -- `put_diagonal` goes record by record. The loop's invariant: the records below x are joined to themselves. The measure is the records left.
 -- Assumes nothing.
-use Prim.Native.Nat.{ℕ, _<_, _≤_, _+_, _-_}
-use Rattle.grid.proofs.Pairs.{put-more, union-empty, diagonal-none, diagonal-more, diagonal-skip, within-twice}
+use Prim.Native.Nat.{ℕ, _≤_, _-_}
+use Rattle.grid.proofs.PairLaws.{put-more, union-empty, diagonal-none, diagonal-more, diagonal-skip, within-twice}
 use Rattle.grid.specs.Grid.{first, within}
 use Rattle.grid.specs.Steps.{onePair}
 use Rattle.k2.specs.BitLaws.{bit-lt}
@@ -59,7 +59,8 @@ loop-again c =
       omega arith,
       rw (v .1) (l .inv .1),
       rw (v .2) (l .inv .2),
-      rw (v .1, v .2) (l .inv .3 ∙ ap (λ (s : Cells). union A (within (a .n) s)) (diagonal-skip f (l .x) (omega (arith, r .ensures, v .0 .left, bit-lt (a .used .now) (l .x))))),
+      rw (v .1, v .2) (l .inv .3 ∙ ap (λ (s : Cells). union A (within (a .n) s))
+          (diagonal-skip f (l .x) (omega (arith, r .ensures, v .0 .left, bit-lt (a .used .now) (l .x))))),
     ))
     (c .if1 .came)
 

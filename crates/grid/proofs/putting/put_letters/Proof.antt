@@ -1,6 +1,6 @@
 -- `put_letters` goes over the words. The loop's invariant: the pairs of the first i words are in. The measure is the words left. It rests on
 -- `put-more` and `crossed-next`. Assumes nothing.
-use mathlib.Core.Path.{_≡_, refl, sym, ap, _∙_}
+use mathlib.Core.Path.{_≡_, refl, ap, _∙_}
 use mathlib.Core.List.{[], _∷_}
 use Prim.Native.Nat.{_≤_, _<_, _-_}
 use native.Mathlib.Omega.{arith}
@@ -9,7 +9,7 @@ use lib.ListN.{length, getD, take}
 use Rattle.k2.specs.PairSets.{Cells, union}
 use Rattle.rows.specs.Rows.{crossedWords}
 use Rattle.grid.specs.Grid.{first, within}
-use Rattle.grid.proofs.Pairs.{union-empty, put-more, crossed-start, crossed-next, crossed-all}
+use Rattle.grid.proofs.PairLaws.{union-empty, put-more, crossed-start, crossed-next, crossed-all}
 use Rattle.grid.proofs.putting.put_letters.Statement.{statement}
 use Rattle.grid.proofs.putting.put_letters.Tie as tie
 
@@ -43,9 +43,12 @@ loop-less c = omega arith
 
 loop-again : tie.Need-loop-again Inv-loop μ-loop
 loop-again c =
-    let a = c .before .before .before .before .before .before .before .before .before .before .before .before .before .args in
-    let l = c .before .before .before .before .before .before .before .before .before .loop in
-    let p = c .before .before .before .before .put-word in
+    let after-put-word = c .before .before .before .before in
+    let at-loop = after-put-word .before .before .before .before .before in
+    let start = at-loop .before .before .before .before in
+    let a = start .args in
+    let l = at-loop .loop in
+    let p = after-put-word .put-word in
     let ws = a .words .now in
     let il : l .i < length ws = omega arith in
     let A : Cells = first (a .n) (a .w) (a .cells .now) (a .masks .now) in (

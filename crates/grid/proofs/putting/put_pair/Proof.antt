@@ -1,12 +1,11 @@
 -- `put_pair` puts a word of one bit (`pair-put`), unless the pair is not below n (`pair-outside`). Assumes nothing.
-use mathlib.Core.Path.{_≡_}
 use mathlib.Core.Logic.{inl, inr}
-use Prim.Native.Nat.{_%_, _/_}
+use Prim.Native.Nat.{_%_}
 use native.Mathlib.Omega.{arith}
 use borrow.Author.Needs.{needs}
 use Rattle.k2.specs.DigitLaws.{one-shl}
-use Rattle.grid.proofs.Grids.{rows-apart, unit-fits}
-use Rattle.grid.proofs.Pairs.{pair-put, pair-outside}
+use Rattle.grid.proofs.RelationLaws.{rows-apart, unit-fits}
+use Rattle.grid.proofs.PairLaws.{pair-put, pair-outside}
 use Rattle.grid.proofs.putting.put_pair.Statement.{statement}
 use Rattle.grid.proofs.putting.put_pair.Tie as tie
 

@@ -1,17 +1,16 @@
 -- `put_word` puts the pair of a link in forward, if its label is there, and then exchanged (`put-more`, `crossed-one`). Assumes nothing.
 use mathlib.Core.Path.{_≡_, refl, sym, ap, _∙_}
 use mathlib.Core.Logic.{⊎-elim}
-use mathlib.Core.List.{List}
 use Prim.Native.Nat.{ℕ, _%_, _/_}
 use native.Mathlib.Omega.{arith}
 use borrow.Author.Needs.{needs}
 use lib.ListN.{length}
 use Rattle.k2.specs.PairSets.{Cells, union, transpose}
-use Rattle.rows.specs.Rows.{linkPair, crossedWords}
+use Rattle.rows.specs.Rows.{linkPair}
 use Rattle.rows.specs.RowLaws.{transpose-none, union-right}
 use Rattle.grid.specs.Grid.{first, within}
 use Rattle.grid.specs.Steps.{onePair}
-use Rattle.grid.proofs.Pairs.{letter, letter-in, letter-out, one-turned, put-more, put-none, crossed-one}
+use Rattle.grid.proofs.PairLaws.{letter, letter-in, letter-out, one-turned, put-more, put-none, crossed-one}
 use Rattle.grid.proofs.putting.put_word.Statement.{statement}
 use Rattle.grid.proofs.putting.put_word.Tie as tie
 
@@ -30,7 +29,8 @@ has-label-requires-2 c κs = search needs
 -- the link is in forward
 forward : (c : tie.Joined1) → let a = c .before .before .before .before .args in
     (length (c .if1 .cells) ≡ length (a .cells .now)) × (length (c .if1 .masks) ≡ length (a .masks .now))
-    × (first (a .n) (a .w) (c .if1 .cells) (c .if1 .masks) ≡ union (first (a .n) (a .w) (a .cells .now) (a .masks .now)) (within (a .n) (letter (a .forward) (a .word))))
+    × (first (a .n) (a .w) (c .if1 .cells) (c .if1 .masks) ≡ union
+    (first (a .n) (a .w) (a .cells .now) (a .masks .now)) (within (a .n) (letter (a .forward) (a .word))))
 unfolding linkPair
 forward c =
     let a = c .before .before .before .before .args in
@@ -56,19 +56,25 @@ same-length : tie.Need-same-length
 same-length c = c .before .before .before .before .put-pair2 .kept .0 ∙ forward (c .before .before .before .before .before .before .before .before .before) .0
 
 same-length-2 : tie.Need-same-length-2
-same-length-2 c = c .before .before .before .before .put-pair2 .kept .1 .0 ∙ forward (c .before .before .before .before .before .before .before .before .before) .1
+same-length-2 c =
+    let after-put-pair2 = c .before .before .before .before in
+    let joined1 = after-put-pair2 .before .before .before .before .before in
+    after-put-pair2 .put-pair2 .kept .1 .0 ∙ forward joined1 .1
 
 returns : tie.Need-returns
 unfolding linkPair
 returns c =
-    let a = c .before .before .before .before .before .before .before .before .before .before .before .before .before .args in
+    let after-put-pair2 = c .before .before .before .before in
+    let then2 = after-put-pair2 .before .before .before in
+    let start = then2 .before .before .before .before .before .before in
+    let a = start .args in
     let A : Cells = first (a .n) (a .w) (a .cells .now) (a .masks .now) in
-    let r = c .before .before .before .before .before .before .before .before .has-label2 .ensures in
+    let r = then2 .before .has-label2 .ensures in
     let p : ℕ = a .word % 1048576 in
     let e : onePair (p % 1024) (p / 1024) ≡ transpose (letter (a .against) (a .word))
-    = sym (ap transpose (letter-in (a .against) (a .word) (sym r ∙ c .before .before .before .before .before .before .before .if2 .taken)) ∙ one-turned (p / 1024) (p % 1024)) in
-    c .before .before .before .before .put-pair2 .ensures
-    ∙ ap (λ (s : Cells). union s (within (a .n) (onePair (p % 1024) (p / 1024)))) (forward (c .before .before .before .before .before .before .before .before .before) .2)
+    = sym (ap transpose (letter-in (a .against) (a .word) (sym r ∙ then2 .if2 .taken)) ∙ one-turned (p / 1024) (p % 1024)) in
+    after-put-pair2 .put-pair2 .ensures
+    ∙ ap (λ (s : Cells). union s (within (a .n) (onePair (p % 1024) (p / 1024)))) (forward (then2 .before .before) .2)
     ∙ put-more (a .n) A (letter (a .forward) (a .word)) (onePair (p % 1024) (p / 1024))
     ∙ ap (λ (s : Cells). union A (within (a .n) (union (letter (a .forward) (a .word)) s))) e
     ∙ ap (λ (s : Cells). union A (within (a .n) s)) (sym (crossed-one (a .word) (a .forward) (a .against)))

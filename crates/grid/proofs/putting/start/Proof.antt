@@ -1,10 +1,9 @@
 -- `start` makes the masks 0. The loop's invariant: those below x are. The measure is the masks left. Assumes nothing.
 use Prim.Native.Nat.{ℕ, _<_, _≤_, _-_}
-use Rattle.grid.proofs.Pairs.{none-left, zero-more}
+use Rattle.grid.proofs.PairLaws.{none-left, zero-more}
 use borrow.Author.Needs.{needs}
 use lib.ListN.{length, getD, length-set}
 use mathlib.Core.Path.{_≡_, refl}
-use native.Mathlib.Decide.{ℕ-discrete}
 use native.Mathlib.Omega.{arith}
 use Rattle.grid.proofs.putting.start.Statement.{statement}
 use Rattle.grid.proofs.putting.start.Tie as tie

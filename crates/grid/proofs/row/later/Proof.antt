@@ -1,13 +1,11 @@
 -- `later` goes over the words in the mask. The loop's invariant: k is one of them or past them all, and no column is passed. The measure is the
 -- words left. Assumes nothing.
-use Prim.Native.Nat.{_<_, _≤_, _+_, _-_, _*_, _/_, _^_}
+use Prim.Native.Nat.{_<_, _+_, _-_, _*_}
 use Rattle.bits.specs.BitSets.{Gap}
-use Rattle.grid.proofs.Columns.{lowest-some, gap-words, gap-on, gap-zero, found-whole, lowest-end}
+use Rattle.grid.proofs.ColumnLaws.{lowest-some, gap-words, gap-on, gap-zero, found-whole, lowest-end}
 use Rattle.grid.specs.Grid.{rowOf}
 use Rattle.k2.specs.Bits.{digit}
-use lib.ListN.{getD}
-use mathlib.Core.Path.{_≡_, _∙_, ap, sym}
-use native.Mathlib.Nat.{div-one}
+use mathlib.Core.Path.{_≡_}
 use native.Mathlib.Omega.{arith}
 use Rattle.grid.proofs.row.later.Statement.{statement}
 use Rattle.grid.proofs.row.later.Tie as tie
@@ -55,7 +53,8 @@ returns c =
     let l = c .before .before .before .before .loop in
     let f = c .before .before .shared-slice-known2 .given (a .b + l .k) .fits in
     let h = lowest-some _ _ f (c .before .if1 .taken) (c .lowest .ensures) in
-    found-whole (a .cells .now) (a .b) (a .mask) (a .c * 64 + 64) (a .w) (l .k) (c .lowest .result) (omega (arith, l .inv .0)) (omega arith) (l .inv .1 (omega arith)) f (l .inv .2) (c .lowest .ensures) h
+    found-whole (a .cells .now) (a .b) (a .mask) (a .c * 64 + 64) (a .w) (l .k) (c .lowest .result)
+    (omega (arith, l .inv .0)) (omega arith) (l .inv .1 (omega arith)) f (l .inv .2) (c .lowest .ensures) h
 
 above-requires-2 : tie.Need-above-requires-2 Inv-loop μ-loop
 above-requires-2 c κs = omega arith
@@ -70,7 +69,10 @@ loop-again c =
     let L = c .above2 .ensures in (
       omega (arith, L .low, l .inv .0),
       L .hit,
-      gap-on (a .cells .now) (a .b) (a .mask) _ _ _ (l .inv .2) (gap-on (a .cells .now) (a .b) (a .mask) (l .k * 64) (l .k * 64 + 64) _ (gap-zero (a .cells .now) (a .b) (a .mask) (l .k) (l .inv .1 (omega arith)) (c .before .if1 .left)) (gap-words (a .cells .now) (a .b) (a .mask) (l .k) (c .above2 .result) L)),
+      gap-on (a .cells .now) (a .b) (a .mask) _ _ _ (l .inv .2)
+          (gap-on (a .cells .now) (a .b) (a .mask) (l .k * 64) (l .k * 64 + 64) _
+          (gap-zero (a .cells .now) (a .b) (a .mask) (l .k) (l .inv .1 (omega arith)) (c .before .if1 .left))
+          (gap-words (a .cells .now) (a .b) (a .mask) (l .k) (c .above2 .result) L)),
     )
 
 mul-result-2 : tie.Need-mul-result-2 Inv-loop μ-loop

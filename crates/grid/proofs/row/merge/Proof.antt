@@ -1,17 +1,18 @@
 -- `merge` joins the words in the mask of the source. The loop's invariant: those below c are joined (`Joined`), and c is one of them or past them
 -- all. The measure is the words left. Assumes nothing.
-use Prim.Native.Nat.{_<_, _≤_, _+_, _-_}
-use Rattle.grid.proofs.Rows.{Apart, Joined, joined-none, joined-more, joined-all}
+use Prim.Native.Nat.{_<_, _-_}
+use Rattle.grid.proofs.RowLaws.{Apart, Joined, joined-none, joined-more, joined-all}
 use Rattle.k2.specs.Bits.{digit}
 use borrow.Author.Needs.{needs}
-use lib.ListN.{length, getD, length-set}
-use mathlib.Core.Path.{_≡_, refl, sym, ap, _∙_}
+use lib.ListN.{length, length-set}
+use mathlib.Core.Path.{_≡_, refl}
 use native.Mathlib.Omega.{arith}
 use Rattle.grid.proofs.row.merge.Statement.{statement}
 use Rattle.grid.proofs.row.merge.Tie as tie
 
 abbrev Inv-loop : tie.InvT-loop
-Inv-loop cells₀ masks w t b source f mask words c₀ cells c = (length cells ≡ length cells₀) × (c < 64 → digit source c ≡ 1) × (Apart w b f → Joined w b f c mask source cells₀ cells)
+Inv-loop cells₀ masks w t b source f mask words c₀ cells c =
+    (length cells ≡ length cells₀) × (c < 64 → digit source c ≡ 1) × (Apart w b f → Joined w b f c mask source cells₀ cells)
 
 abbrev μ-loop : tie.MeasureT-loop
 μ-loop cells₀ masks w t b source f mask words c₀ cells c = w - c
@@ -75,7 +76,8 @@ loop-again c =
     let J = c .before .join in (
       simp length-set (l .inv .0),
       L .hit,
-      λ z. joined-more (a .w) (a .b) (a .f) (l .c) _ (a .source) (J .result) (a .cells .now) (l .cells) (omega arith) (omega (arith, l .inv .0)) (l .inv .1 (omega arith)) (c .above .result) L z (l .inv .2 z) (J .ensures),
+      λ z. joined-more (a .w) (a .b) (a .f) (l .c) _ (a .source) (J .result) (a .cells .now) (l .cells) (omega arith)
+          (omega (arith, l .inv .0)) (l .inv .1 (omega arith)) (c .above .result) L z (l .inv .2 z) (J .ensures),
     )
 
 mul-masks : tie.Need-mul-masks Inv-loop μ-loop

@@ -1,12 +1,11 @@
 -- `next` looks in what is left of the word of column y, and then in the words after it. Assumes nothing.
-use Prim.Native.Nat.{_<_, _≤_, _+_, _*_, _/_, _%_, _^_}
-use Rattle.grid.proofs.Columns.{lowest-some, gap-left, found, lowest-end, lowest-after}
+use Prim.Native.Nat.{_+_, _*_, _/_, _%_}
+use Rattle.grid.proofs.ColumnLaws.{lowest-some, gap-left, found, lowest-end, lowest-after}
 use Rattle.k2.specs.Bits.{digit}
 use borrow.Author.Needs.{needs}
-use lib.ListN.{getD}
 use lib.Pow.{shr-le}
-use mathlib.Core.Logic.{_⊎_, inl, inr, ⊎-elim}
-use mathlib.Core.Path.{_≡_, refl}
+use mathlib.Core.Logic.{inl, inr, ⊎-elim}
+use mathlib.Core.Path.{refl}
 use native.Mathlib.Nat.{lt-of-le-of-lt}
 use native.Mathlib.Omega.{arith}
 use Rattle.grid.proofs.row.next.Statement.{statement}
@@ -54,7 +53,8 @@ returns-2 c =
     let a = c .before .before .before .before .before .before .args in
     let f = c .before .before .shared-slice-known2 .given (a .b + a .y / 64) .fits in
     let h = lowest-some _ _ (lt-of-le-of-lt (shr-le _ (a .y % 64)) f) (c .before .if3 .taken) (c .lowest .ensures) in
-    found (a .cells .now) (a .b) (a .mask) (a .y) (a .w) (a .y / 64) (a .y) (c .lowest .result) (omega arith) refl (omega arith) (omega arith) f (λ j p q. absurd (omega arith)) (c .lowest .ensures) h
+    found (a .cells .now) (a .b) (a .mask) (a .y) (a .w) (a .y / 64) (a .y) (c .lowest .result)
+    (omega arith) refl (omega arith) (omega arith) f (λ j p q. absurd (omega arith)) (c .lowest .ensures) h
 
 later-requires : tie.Need-later-requires
 later-requires c κs = search needs
@@ -66,7 +66,8 @@ returns-3 c =
     let L = c .later .ensures in (
       L .0,
       lowest-after (a .cells .now) (a .b) (a .mask) (a .y) (a .y / 64 * 64 + 64) (a .w * 64) (c .later .result) (omega arith)
-          (gap-left (a .cells .now) (a .b) (a .mask) (a .y / 64) (a .y) refl (⊎-elim (λ w. inr (omega (arith, w .0 .taken), w .2 .left)) (λ w. inl (omega (arith, w .left))) (c .before .if2 .came))) (L .1),
+          (gap-left (a .cells .now) (a .b) (a .mask) (a .y / 64) (a .y) refl
+          (⊎-elim (λ w. inr (omega (arith, w .0 .taken), w .2 .left)) (λ w. inl (omega (arith, w .left))) (c .before .if2 .came))) (L .1),
     )
 
 pub next-spec : {M : Type 1} → statement M

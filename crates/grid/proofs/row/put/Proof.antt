@@ -1,5 +1,5 @@
 -- `put` stores the word joined, and puts it into the mask (`put-is`). Assumes nothing.
-use Rattle.grid.proofs.Rows.{one-mask, put-is}
+use Rattle.grid.proofs.RowLaws.{one-mask, put-is}
 use borrow.Author.Needs.{needs}
 use mathlib.Core.Path.{refl}
 use native.Mathlib.Omega.{arith}
@@ -54,7 +54,8 @@ same-length-2 c = search needs
 returns : tie.Need-returns
 returns c =
     let a = c .before .before .before .before .before .args in
-    λ w l. rw (one-mask (a .c) (omega arith)) (put-is w (a .t) (a .b) (a .c) (a .v) _ _ (a .cells .now) (a .masks .now) l (omega arith) (omega arith) refl (c .join .ensures))
+    λ w l. rw (one-mask (a .c) (omega arith))
+    (put-is w (a .t) (a .b) (a .c) (a .v) _ _ (a .cells .now) (a .masks .now) l (omega arith) (omega arith) refl (c .join .ensures))
 
 pub put-spec : {M : Type 1} → statement M
 put-spec =

@@ -2,7 +2,7 @@
 use Prim.Native.Nat.{_/_, _^_}
 use native.Mathlib.Omega.{arith}
 use lib.Count.{trailing-le}
-use Rattle.grid.proofs.Scan.{above-is}
+use Rattle.grid.proofs.ScanLaws.{above-is}
 use Rattle.grid.proofs.words.above.Statement.{statement}
 use Rattle.grid.proofs.words.above.Tie as tie
 

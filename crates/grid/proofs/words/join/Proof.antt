@@ -1,8 +1,7 @@
 -- `join` takes the old word only if the mask has it. Assumes nothing.
-use Rattle.grid.proofs.Rows.{join-in, join-new}
+use Rattle.grid.proofs.RowLaws.{join-in, join-new}
 use Rattle.k2.specs.Bits.{digit}
 use borrow.Author.Needs.{needs}
-use borrow.Author.Tests.{eqb-true, eqb-false}
 use native.Mathlib.Omega.{arith}
 use Rattle.grid.proofs.words.join.Statement.{statement}
 use Rattle.grid.proofs.words.join.Tie as tie

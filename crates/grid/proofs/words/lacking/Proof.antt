@@ -1,6 +1,6 @@
 -- `lacking` reads a digit of the mask. Assumes nothing.
-use mathlib.Core.Path.{_≡_, refl, sym, ap, ap₂, subst, _∙_}
-use Prim.Native.Nat.{ℕ, _+_, _*_, _-_, _/_, _%_, _^_, _≤_, _<_, min, max}
+use mathlib.Core.Path.{_≡_, sym, ap, _∙_}
+use Prim.Native.Nat.{ℕ, _-_, _<_, min}
 use native.Mathlib.Omega.{arith}
 use borrow.Author.Needs.{needs}
 use Rattle.k2.specs.Bits.{digit}
@@ -21,7 +21,8 @@ returns : tie.Need-returns
 returns c j h =
     let a = c .before .args in
     let d : digit (a .mask) (a .c) ≡ 1 = unfold digit in (omega arith) in
-    digit-and _ _ j ∙ ap (min (digit (a .word) j)) (digit-not 64 j (a .old) (omega arith) h ∙ ap (λ (v : ℕ). 1 - v) (sym (one-and (digit (a .mask) (a .c)) (digit (a .old) j) d (digit-lt (a .old) j))))
+    digit-and _ _ j ∙ ap (min (digit (a .word) j))
+    (digit-not 64 j (a .old) (omega arith) h ∙ ap (λ (v : ℕ). 1 - v) (sym (one-and (digit (a .mask) (a .c)) (digit (a .old) j) d (digit-lt (a .old) j))))
 
 returns-2 : tie.Need-returns-2
 returns-2 c j h =

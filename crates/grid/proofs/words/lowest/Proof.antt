@@ -1,7 +1,7 @@
 -- `lowest` is the trailing zeros. Assumes nothing.
 use native.Mathlib.Omega.{arith}
 use lib.Count.{trailing-le}
-use Rattle.grid.proofs.Scan.{lowest-is}
+use Rattle.grid.proofs.ScanLaws.{lowest-is}
 use Rattle.grid.proofs.words.lowest.Statement.{statement}
 use Rattle.grid.proofs.words.lowest.Tie as tie
 

@@ -1,6 +1,6 @@
 -- `host::closing::dating_close_up` carries the promise of `engine::close_up` over to words. Assumes nothing.
 use Rattle.book.specs.Causes.{number}
-use Rattle.host.proofs.Carrying.{load-none, load-some, close-foreign, close-kept}
+use Rattle.host.proofs.CarryLaws.{load-none, load-some, close-foreign, close-kept}
 use borrow.Author.Needs.{needs}
 use Rattle.host.proofs.closing.dating_close_up.Statement.{statement}
 use Rattle.host.proofs.closing.dating_close_up.Tie as tie
@@ -32,7 +32,10 @@ same-length-3 c = search needs
 
 returns-2 : tie.Need-returns-2
 returns-2 c =
-    close-kept (load-some (c .before .before .before .before .before .before .before .before .before .before .before .load .ensures) (c .before .before .before .before .before .before .before .before .before .before .number-of .ensures) (c .before .before .before .before .before .before .before .before .before .if1 .left)) (c .before .before .before .before .before .before .close-up .ensures) (c .before .before .keep .ensures)
+    let after-close-up = c .before .before .before .before .before .before in
+    let else1 = after-close-up .before .before .before in
+    close-kept (load-some (else1 .before .before .load .ensures) (else1 .before .number-of .ensures) (else1 .if1 .left))
+    (after-close-up .close-up .ensures) (c .before .before .keep .ensures)
 
 pub dating-close-up-spec : {M : Type 1} → statement M
 dating-close-up-spec =

@@ -2,7 +2,7 @@
 use mathlib.Core.Path.{sym, _∙_}
 use borrow.Author.Tests.{not-true, not-false}
 use Rattle.book.specs.Causes.{number}
-use Rattle.host.proofs.Carrying.{fresh-refused, fresh-short, fresh-made}
+use Rattle.host.proofs.CarryLaws.{fresh-refused, fresh-short, fresh-made}
 use borrow.Author.Needs.{needs}
 use Rattle.host.proofs.edits.dating_fresh.Statement.{statement}
 use Rattle.host.proofs.edits.dating_fresh.Tie as tie
@@ -24,13 +24,21 @@ same-length c = search needs
 
 returns-2 : tie.Need-returns-2
 unfolding number
-returns-2 c = fresh-short (c .before .before .before .before .before .before .before .before .open .ensures) _ (sym (c .before .before .before .before .before .before .before .number-of .ensures) ∙ c .before .before .before .before .before .before .if1 .left) _ _ (c .before .before .before .store .ensures) (not-true _ (c .if2 .taken))
+returns-2 c =
+    let after-store = c .before .before .before in
+    let else1 = after-store .before .before .before in
+    fresh-short (else1 .before .before .open .ensures) _ (sym (else1 .before .number-of .ensures) ∙ else1 .if1 .left)
+    _ _ (after-store .store .ensures) (not-true _ (c .if2 .taken))
 
 same-length-2 : tie.Need-same-length-2
 same-length-2 c = search needs
 
 returns-3 : tie.Need-returns-3
-returns-3 c = fresh-made (c .before .before .before .before .before .before .before .before .open .ensures) _ (sym (c .before .before .before .before .before .before .before .number-of .ensures) ∙ c .before .before .before .before .before .before .if1 .left) _ _ (c .before .before .before .store .kept .1 .0) (c .before .before .before .store .ensures) (not-false _ (c .if2 .left))
+returns-3 c =
+    let after-store = c .before .before .before in
+    let else1 = after-store .before .before .before in
+    fresh-made (else1 .before .before .open .ensures) _ (sym (else1 .before .number-of .ensures) ∙ else1 .if1 .left)
+    _ _ (after-store .store .kept .1 .0) (after-store .store .ensures) (not-false _ (c .if2 .left))
 
 pub dating-fresh-spec : {M : Type 1} → statement M
 dating-fresh-spec =

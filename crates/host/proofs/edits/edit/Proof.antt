@@ -1,6 +1,6 @@
 -- `host::edits::edit` carries the promise of `engine::apply` over to words. Assumes nothing.
 use Rattle.book.specs.Causes.{number}
-use Rattle.host.proofs.Carrying.{load-none, load-some, edit-foreign, edit-kept}
+use Rattle.host.proofs.CarryLaws.{load-none, load-some, edit-foreign, edit-kept}
 use borrow.Author.Needs.{needs}
 use Rattle.host.proofs.edits.edit.Statement.{statement}
 use Rattle.host.proofs.edits.edit.Tie as tie
@@ -28,7 +28,11 @@ same-length-2 : tie.Need-same-length-2
 same-length-2 c = search needs
 
 returns-2 : tie.Need-returns-2
-returns-2 c = edit-kept (load-some (c .before .before .before .before .before .before .before .before .load .ensures) (c .before .before .before .before .before .before .before .number-of .ensures) (c .before .before .before .before .before .before .if1 .left)) (c .before .before .before .before .apply .ensures) (c .before .before .keep .ensures)
+returns-2 c =
+    let after-apply = c .before .before .before .before in
+    let after-number-of = after-apply .before .before .before in
+    edit-kept (load-some (after-number-of .before .load .ensures) (after-number-of .number-of .ensures) (after-apply .before .before .if1 .left))
+    (after-apply .apply .ensures) (c .before .before .keep .ensures)
 
 pub edit-spec : {M : Type 1} → statement M
 edit-spec =

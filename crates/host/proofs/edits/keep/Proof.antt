@@ -4,7 +4,7 @@ use borrow.Author.Tests.{not-true, not-false}
 use Rattle.book.specs.Causes.{number}
 use Rattle.register.specs.Calls.{answerNumber}
 use Rattle.host.specs.Inner.{refused, kept, lost}
-use Rattle.host.proofs.Carrying.{refused-done}
+use Rattle.host.proofs.CarryLaws.{refused-done}
 use borrow.Author.Needs.{needs}
 use Rattle.host.proofs.edits.keep.Statement.{statement}
 use Rattle.host.proofs.edits.keep.Tie as tie

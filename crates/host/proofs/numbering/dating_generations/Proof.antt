@@ -2,17 +2,10 @@
 use mathlib.Core.Path.{refl}
 use native.Mathlib.Omega.{arith}
 use Rattle.book.specs.Causes.{number}
-use Rattle.host.proofs.Carrying.{load-none, load-some, asked-foreign, asked}
+use Rattle.host.proofs.CarryLaws.{load-none, load-some, asked-foreign, asked}
 use borrow.Author.Needs.{needs}
 use Rattle.host.proofs.numbering.dating_generations.Statement.{statement}
 use Rattle.host.proofs.numbering.dating_generations.Tie as tie
-use Rattle.host.proofs.numbering.dating_generations.Reads as reads
-use Rattle.host.proofs.numbering.dating_generations.Lts as lts
-use Rattle.generations.proofs.generations.Reads as generations-reads
-use Rattle.host.proofs.numbering.told_generations.Reads as told-generations-reads
-use Rattle.host.proofs.told.told_refusal.Reads as told-refusal-reads
-use Rattle.register.proofs.Register.load.Reads as load-reads
-use Rattle.register.proofs.number_of.Reads as number-of-reads
 
 load-requires : tie.Need-load-requires
 load-requires c κs = search needs
@@ -25,7 +18,9 @@ told-refusal-requires c κs = search needs
 
 returns : tie.Need-returns
 unfolding number
-returns c = asked-foreign (load-none (c .before .before .before .load .ensures) (c .before .before .number-of .ensures) (c .before .if1 .taken)) (c .told-refusal .ensures) refl
+returns c =
+    asked-foreign (load-none (c .before .before .before .load .ensures) (c .before .before .number-of .ensures) (c .before .if1 .taken))
+    (c .told-refusal .ensures) refl
 
 generations-requires : tie.Need-generations-requires
 generations-requires c κs = search needs
@@ -40,7 +35,11 @@ same-length-2 : tie.Need-same-length-2
 same-length-2 c = search needs
 
 returns-2 : tie.Need-returns-2
-returns-2 c = asked (load-some (c .before .before .before .before .before .before .before .before .before .before .load .ensures) (c .before .before .before .before .before .before .before .before .before .number-of .ensures) (c .before .before .before .before .before .before .before .before .if1 .left)) (c .before .before .before .before .before .generations .result) (c .before .before .before .before .before .generations .ensures) (c .told-generations .ensures)
+returns-2 c =
+    let after-generations = c .before .before .before .before .before in
+    let else1 = after-generations .before .before .before in
+    asked (load-some (else1 .before .before .load .ensures) (else1 .before .number-of .ensures) (else1 .if1 .left))
+    (after-generations .generations .result) (after-generations .generations .ensures) (c .told-generations .ensures)
 
 pub dating-generations-spec : {M : Type 1} → statement M
 dating-generations-spec =

@@ -1,5 +1,5 @@
 -- `told_generations` tells each answer by its number; a loop's is past every count. Assumes nothing.
-use mathlib.Core.Path.{_≡_, refl, sym, ap, _∙_, subst}
+use mathlib.Core.Path.{sym, ap, _∙_, subst}
 use Prim.Native.Nat.{_^_, _≤_}
 use native.Mathlib.Omega.{arith}
 use Rattle.generations.specs.Generating.{answerLength}
@@ -8,9 +8,6 @@ use Rattle.host.specs.Generations.{toldGenerations}
 use borrow.Author.Needs.{needs}
 use Rattle.host.proofs.numbering.told_generations.Statement.{statement}
 use Rattle.host.proofs.numbering.told_generations.Tie as tie
-use Rattle.host.proofs.numbering.told_generations.Reads as reads
-use Rattle.host.proofs.numbering.told_generations.Lts as lts
-use Rattle.host.proofs.told.told_refusal.Reads as told-refusal-reads
 
 enum-known-answer : tie.Need-enum-known-answer
 enum-known-answer c = search needs

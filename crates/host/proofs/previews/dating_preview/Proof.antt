@@ -29,7 +29,10 @@ same-length-2 : tie.Need-same-length-2
 same-length-2 c = search needs
 
 returns : tie.Need-returns
-returns c = previewed-call (entry-call (c .before .before .before .before .before .before .before .before .before .before .entry-of .ensures) (c .before .before .before .before .before .before .before .before .entry .given .1)) (c .before .before .before .before .preview .ensures)
+returns c =
+    let after-preview = c .before .before .before .before in
+    let after-entry = after-preview .before .before .before .before in
+    previewed-call (entry-call (after-entry .before .before .entry-of .ensures) (after-entry .entry .given .1)) (after-preview .preview .ensures)
 
 returns-2 : tie.Need-returns-2
 unfolding number

@@ -1,7 +1,7 @@
 -- `host::previews::preview` carries the promise of `engine::preview` over to words. Assumes nothing.
 use mathlib.Core.Path.{refl}
 use Rattle.book.specs.Causes.{number}
-use Rattle.host.proofs.Carrying.{load-none, load-some, asked-foreign, asked}
+use Rattle.host.proofs.CarryLaws.{load-none, load-some, asked-foreign, asked}
 use borrow.Author.Needs.{needs}
 use Rattle.host.proofs.previews.preview.Statement.{statement}
 use Rattle.host.proofs.previews.preview.Tie as tie
@@ -17,7 +17,9 @@ told-refusal-requires c κs = search needs
 
 returns : tie.Need-returns
 unfolding number
-returns c = asked-foreign (load-none (c .before .before .before .load .ensures) (c .before .before .number-of .ensures) (c .before .if1 .taken)) (c .told-refusal .ensures) refl
+returns c =
+    asked-foreign (load-none (c .before .before .before .load .ensures) (c .before .before .number-of .ensures) (c .before .if1 .taken))
+    (c .told-refusal .ensures) refl
 
 preview-requires : tie.Need-preview-requires
 preview-requires c κs = search needs
@@ -32,7 +34,11 @@ same-length-2 : tie.Need-same-length-2
 same-length-2 c = search needs
 
 returns-2 : tie.Need-returns-2
-returns-2 c = asked (load-some (c .before .before .before .before .before .before .before .before .before .before .before .load .ensures) (c .before .before .before .before .before .before .before .before .before .before .number-of .ensures) (c .before .before .before .before .before .before .before .before .before .if1 .left)) (c .before .before .before .before .before .preview .result) (c .before .before .before .before .before .preview .ensures) (c .told-pairs .ensures)
+returns-2 c =
+    let after-preview = c .before .before .before .before .before in
+    let else1 = after-preview .before .before .before .before in
+    asked (load-some (else1 .before .before .load .ensures) (else1 .before .number-of .ensures) (else1 .if1 .left))
+    (after-preview .preview .result) (after-preview .preview .ensures) (c .told-pairs .ensures)
 
 pub preview-spec : {M : Type 1} → statement M
 preview-spec =

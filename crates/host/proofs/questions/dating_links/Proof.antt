@@ -6,7 +6,7 @@ use native.Mathlib.Omega.{arith}
 use lib.ListN.{length, take}
 use lib.Seq.{length-take-le, take-take}
 use Rattle.book.specs.Causes.{number}
-use Rattle.host.proofs.Carrying.{load-none, load-some, asked-foreign, links-handed}
+use Rattle.host.proofs.CarryLaws.{load-none, load-some, asked-foreign, links-handed}
 use borrow.Author.Needs.{needs}
 use Rattle.host.proofs.questions.dating_links.Statement.{statement}
 use Rattle.host.proofs.questions.dating_links.Tie as tie
@@ -25,7 +25,9 @@ told-refusal-requires c κs = search needs
 
 returns : tie.Need-returns
 unfolding number
-returns c = asked-foreign (load-none (c .before .before .before .load .ensures) (c .before .before .number-of .ensures) (c .before .if1 .taken)) (c .told-refusal .ensures) refl
+returns c =
+    asked-foreign (load-none (c .before .before .before .load .ensures) (c .before .before .number-of .ensures) (c .before .if1 .taken))
+    (c .told-refusal .ensures) refl
 
 links-requires : tie.Need-links-requires
 links-requires c κs = search needs
@@ -60,13 +62,19 @@ same-length c = search needs
 
 returns-2 : tie.Need-returns-2
 returns-2 c =
-    let ls = c .before .before .before .before .before .before .before .before .links in
-    let f = c .before .before .before .before .before .fitting in
+    let after-fitting = c .before .before .before .before .before in
+    let after-links = after-fitting .before .before .before in
+    let after-number-of = after-links .before .before .before in
+    let start = after-number-of .before .before .before .before in
+    let ls = after-links .links in
+    let f = after-fitting .fitting in
     let xs : List ℕ = take (f .result) (ls .result .words) in
-    let room : ℕ = length (c .before .before .before .before .before .before .before .before .before .before .before .before .before .before .before .args .list .now) in
-    let q : xs ≡ take room (take (ls .result .count) (ls .result .words)) = sym (take-take (f .result) (ls .result .count) (ls .result .words) (few (c .before .before .before .before .before))) ∙ f .ensures .2 in
-    let h : length xs ≤ room = omega (arith, long (c .before .before .before .before .before), f .ensures .1) in
-    links-handed (load-some (c .before .before .before .before .before .before .before .before .before .before .before .before .load .ensures) (c .before .before .before .before .before .before .before .before .before .before .before .number-of .ensures) (c .before .before .before .before .before .before .before .before .before .before .if1 .left)) (ls .result) (ls .ensures) xs (c .before .before .copy .ensures) h q (sym (counted (c .before .before .before .before .before .before .before .before)))
+    let room : ℕ = length (start .args .list .now) in
+    let q : xs ≡ take room (take (ls .result .count) (ls .result .words)) =
+    sym (take-take (f .result) (ls .result .count) (ls .result .words) (few after-fitting)) ∙ f .ensures .2 in
+    let h : length xs ≤ room = omega (arith, long after-fitting, f .ensures .1) in
+    links-handed (load-some (after-number-of .before .load .ensures) (after-number-of .number-of .ensures) (after-links .before .before .if1 .left))
+    (ls .result) (ls .ensures) xs (c .before .before .copy .ensures) h q (sym (counted after-links))
 
 pub dating-links-spec : {M : Type 1} → statement M
 dating-links-spec =

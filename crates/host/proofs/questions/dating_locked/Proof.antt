@@ -1,5 +1,5 @@
 -- `host::questions::dating_locked` carries the promise of `engine::is_locked` over to words. Assumes nothing.
-use Rattle.host.proofs.Carrying.{load-none, load-some, lock-foreign, locked-word}
+use Rattle.host.proofs.CarryLaws.{load-none, load-some, lock-foreign, locked-word}
 use borrow.Author.Needs.{needs}
 use Rattle.host.proofs.questions.dating_locked.Statement.{statement}
 use Rattle.host.proofs.questions.dating_locked.Tie as tie
@@ -20,7 +20,10 @@ cast-result : tie.Need-cast-result
 cast-result c = search needs
 
 returns-2 : tie.Need-returns-2
-returns-2 c = locked-word (c .is-locked .result) (load-some (c .before .before .before .before .load .ensures) (c .before .before .before .number-of .ensures) (c .before .before .if1 .left)) (c .is-locked .ensures)
+returns-2 c =
+    locked-word (c .is-locked .result)
+    (load-some (c .before .before .before .before .load .ensures) (c .before .before .before .number-of .ensures) (c .before .before .if1 .left))
+    (c .is-locked .ensures)
 
 pub dating-locked-spec : {M : Type 1} → statement M
 dating-locked-spec =

@@ -1,5 +1,5 @@
 -- `host::questions::dating_size` carries the promise of `engine::size` over to words. Assumes nothing.
-use Rattle.host.proofs.Carrying.{load-none, load-some, size-foreign, sized}
+use Rattle.host.proofs.CarryLaws.{load-none, load-some, size-foreign, sized}
 use borrow.Author.Needs.{needs}
 use Rattle.host.proofs.questions.dating_size.Statement.{statement}
 use Rattle.host.proofs.questions.dating_size.Tie as tie
@@ -23,7 +23,10 @@ cast-result : tie.Need-cast-result
 cast-result c = search needs
 
 returns-3 : tie.Need-returns-3
-returns-3 c = sized (load-some (c .before .before .before .before .before .load .ensures) (c .before .before .before .before .number-of .ensures) (c .before .before .before .if1 .left)) (c .before .size .ensures)
+returns-3 c =
+    sized
+    (load-some (c .before .before .before .before .before .load .ensures)
+    (c .before .before .before .before .number-of .ensures) (c .before .before .before .if1 .left)) (c .before .size .ensures)
 
 pub dating-size-spec : {M : Type 1} → statement M
 dating-size-spec =

@@ -1,6 +1,6 @@
 -- `host::questions::dating_total` carries the promise of `engine::total` over to words. Assumes nothing.
 use Rattle.book.specs.Causes.{number}
-use Rattle.host.proofs.Carrying.{load-none, load-some, total-foreign, totalled}
+use Rattle.host.proofs.CarryLaws.{load-none, load-some, total-foreign, totalled}
 use borrow.Author.Needs.{needs}
 use Rattle.host.proofs.questions.dating_total.Statement.{statement}
 use Rattle.host.proofs.questions.dating_total.Tie as tie
@@ -16,7 +16,9 @@ told-refusal-requires c κs = search needs
 
 returns : tie.Need-returns
 unfolding number
-returns c = total-foreign (load-none (c .before .before .before .load .ensures) (c .before .before .number-of .ensures) (c .before .if1 .taken)) (c .told-refusal .ensures)
+returns c =
+    total-foreign (load-none (c .before .before .before .load .ensures) (c .before .before .number-of .ensures) (c .before .if1 .taken))
+    (c .told-refusal .ensures)
 
 total-requires : tie.Need-total-requires
 total-requires c κs = search needs
@@ -26,7 +28,9 @@ told-total-requires c κs = search needs
 
 returns-2 : tie.Need-returns-2
 returns-2 c =
-    totalled (load-some (c .before .before .before .before .before .load .ensures) (c .before .before .before .before .number-of .ensures) (c .before .before .before .if1 .left))
+    totalled
+    (load-some (c .before .before .before .before .before .load .ensures)
+    (c .before .before .before .before .number-of .ensures) (c .before .before .before .if1 .left))
     (c .before .total .result) (c .before .total .ensures) (c .told-total .ensures)
 
 pub dating-total-spec : {M : Type 1} → statement M

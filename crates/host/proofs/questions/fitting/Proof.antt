@@ -6,7 +6,6 @@ use native.Mathlib.Omega.{arith}
 use denote.Ref.{now}
 use lib.ListN.{length, take}
 use lib.Seq.{take-all}
-use borrow.Author.Needs.{needs}
 use Rattle.host.proofs.questions.fitting.Statement.{statement}
 use Rattle.host.proofs.questions.fitting.Tie as tie
 

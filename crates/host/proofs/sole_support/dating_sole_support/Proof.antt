@@ -1,7 +1,7 @@
 -- `host::sole_support::dating_sole_support` carries the promise of the question over to words. Assumes nothing.
 use mathlib.Core.Path.{refl}
 use Rattle.book.specs.Causes.{number}
-use Rattle.host.proofs.Carrying.{load-none, load-some, asked-foreign, asked}
+use Rattle.host.proofs.CarryLaws.{load-none, load-some, asked-foreign, asked}
 use borrow.Author.Needs.{needs}
 use Rattle.host.proofs.sole_support.dating_sole_support.Statement.{statement}
 use Rattle.host.proofs.sole_support.dating_sole_support.Tie as tie
@@ -17,7 +17,9 @@ told-refusal-requires c κs = search needs
 
 returns : tie.Need-returns
 unfolding number
-returns c = asked-foreign (load-none (c .before .before .before .load .ensures) (c .before .before .number-of .ensures) (c .before .if1 .taken)) (c .told-refusal .ensures) refl
+returns c =
+    asked-foreign (load-none (c .before .before .before .load .ensures) (c .before .before .number-of .ensures) (c .before .if1 .taken))
+    (c .told-refusal .ensures) refl
 
 sole-support-requires : tie.Need-sole-support-requires
 sole-support-requires c κs = search needs
@@ -32,7 +34,11 @@ same-length-2 : tie.Need-same-length-2
 same-length-2 c = search needs
 
 returns-2 : tie.Need-returns-2
-returns-2 c = asked (load-some (c .before .before .before .before .before .before .before .before .before .before .load .ensures) (c .before .before .before .before .before .before .before .before .before .number-of .ensures) (c .before .before .before .before .before .before .before .before .if1 .left)) (c .before .before .before .before .before .sole-support .result) (c .before .before .before .before .before .sole-support .ensures) (c .told-support .ensures)
+returns-2 c =
+    let after-sole-support = c .before .before .before .before .before in
+    let else1 = after-sole-support .before .before .before in
+    asked (load-some (else1 .before .before .load .ensures) (else1 .before .number-of .ensures) (else1 .if1 .left))
+    (after-sole-support .sole-support .result) (after-sole-support .sole-support .ensures) (c .told-support .ensures)
 
 pub dating-sole-support-spec : {M : Type 1} → statement M
 dating-sole-support-spec =

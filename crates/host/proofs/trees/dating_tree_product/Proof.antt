@@ -23,9 +23,11 @@ same-length-2 c = search needs
 
 returns : tie.Need-returns
 returns c =
-    let s = c .before .before .before .before .before .before .before .before .before .sense-of .ensures in
-    let t = c .before .before .before .before .before .before .before .before .sense-of2 .ensures in
-    (c .before .before .before .before .before .tree-product .result, rw (← s, ← t) (c .before .before .before .before .before .tree-product .ensures), c .told-tree .ensures)
+    let after-tree-product = c .before .before .before .before .before in
+    let after-sense-of2 = after-tree-product .before .before .before in
+    let s = after-sense-of2 .before .sense-of .ensures in
+    let t = after-sense-of2 .sense-of2 .ensures in
+    (after-tree-product .tree-product .result, rw (← s, ← t) (after-tree-product .tree-product .ensures), c .told-tree .ensures)
 
 pub dating-tree-product-spec : {M : Type 1} → statement M
 dating-tree-product-spec =

@@ -36,9 +36,12 @@ same-length c = search needs
 
 returns : tie.Need-returns
 returns c =
-    let p = c .before .before .before .before .before .before .before .before .before .before .put-text in
-    let q = c .before .before .before .before .before .before .put-text2 in
-    wrote-as (frame-parts (c .before .before .before .before .before .before .before .before .before .before .before .before .before .before .before .before .args .kind) (now (c .before .before .before .before .before .before .before .before .before .before .before .before .before .before .before .before .args .head)) (now (c .before .before .before .before .before .before .before .before .before .before .before .before .before .before .before .before .args .text)) (omega arith))
+    let after-put-text2 = c .before .before .before .before .before .before in
+    let after-put-text = after-put-text2 .before .before .before .before in
+    let start = after-put-text .before .before .before .before .before .before in
+    let p = after-put-text .put-text in
+    let q = after-put-text2 .put-text2 in
+    wrote-as (frame-parts (start .args .kind) (now (start .args .head)) (now (start .args .text)) (omega arith))
     (wrote-then (wrote-then (p .ensures) (q .ensures)) (c .before .before .put-text3 .ensures))
 
 pub put-frame-spec : {M : Type 1} → statement M

@@ -18,7 +18,10 @@ same-length : tie.Need-same-length
 same-length c = search needs
 
 returns : tie.Need-returns
-returns c = wrote-as (ap sent (sym (typed-long (now (c .before .before .before .before .before .before .before .args .line)) (c .before .before .before .before .if1 .taken)))) (c .before .before .broken .ensures)
+returns c =
+    let then1 = c .before .before .before .before in
+    let start = then1 .before .before .before in
+    wrote-as (ap sent (sym (typed-long (now (start .args .line)) (then1 .if1 .taken)))) (c .before .before .broken .ensures)
 
 skip-requires : tie.Need-skip-requires
 skip-requires c κs = search needs
@@ -62,16 +65,19 @@ same-length-2 c = search needs
 
 returns-4 : tie.Need-returns-4
 returns-4 c =
-    let k = c .before .before .before .before .before .before .before .before .before in
+    let after-rest = c .before .before .before .before in
+    let else2 = after-rest .before .before .before .before in
+    let k = else2 .before in
     let e = k .before in
     let a = e .before .before .before .args in
     let line = now (a .line) in
     let t = now (k .skip .result) in
     let from-word : typed line ≡ begun t = typed-short line (e .if1 .left) ∙ ap begun (sym (k .skip .ensures)) in
-    let w = c .before .before .before .before .before .word in
-    let r = c .before .before .before .before .rest in
+    let w = after-rest .before .word in
+    let r = after-rest .rest in
     let parts : requested (word t) (rest t) ≡ requested (now (w .result)) (now (r .result)) = rw (w .ensures, r .ensures) in
-    wrote-as (ap sent (sym (from-word ∙ begun-request t (c .before .before .before .before .before .before .before .before .if2 .left) (c .before .before .before .before .before .before .if3 .left) ∙ parts))) (c .before .before .request .ensures)
+    wrote-as (ap sent (sym (from-word ∙ begun-request t (else2 .if2 .left) (after-rest .before .before .if3 .left) ∙ parts)))
+    (c .before .before .request .ensures)
 
 pub frame-spec : {M : Type 1} → statement M
 frame-spec =

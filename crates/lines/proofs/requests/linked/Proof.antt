@@ -45,7 +45,8 @@ returns c =
     let t = l .before in
     let x = t .before in
     let s = now (x .before .before .before .args .s) in
-    λ f g. wrote-as (ap sent (sym (linked-not-from s (x .number .ensures) (t .rest .ensures) (l .label .ensures) (u .rest2 .ensures) (y .number2 .ensures) (v .rest3 .ensures) f
+    λ f g. wrote-as
+    (ap sent (sym (linked-not-from s (x .number .ensures) (t .rest .ensures) (l .label .ensures) (u .rest2 .ensures) (y .number2 .ensures) (v .rest3 .ensures) f
     (c .before .before .before .before .if1 .taken))))
     (c .before .before .broken .ensures)
 
@@ -64,7 +65,9 @@ returns-2 c =
     let t = l .before in
     let x = t .before in
     let s = now (x .before .before .before .args .s) in
-    λ f g. wrote-as (ap sent (sym (linked-not-label s (x .number .ensures) (t .rest .ensures) (l .label .ensures) (u .rest2 .ensures) (y .number2 .ensures) (v .rest3 .ensures) f
+    λ f g. wrote-as
+    (ap sent
+    (sym (linked-not-label s (x .number .ensures) (t .rest .ensures) (l .label .ensures) (u .rest2 .ensures) (y .number2 .ensures) (v .rest3 .ensures) f
     (c .before .before .before .before .before .if1 .left) (c .before .before .before .before .if2 .taken))))
     (c .before .before .broken2 .ensures)
 
@@ -76,15 +79,18 @@ same-length-3 c = search needs
 
 returns-3 : tie.Need-returns-3
 returns-3 c =
-    let v = c .before .before .before .before .before .before .before in
+    let then3 = c .before .before .before .before in
+    let earlier = then3 .before .before .before in
+    let v = earlier in
     let y = v .before in
     let u = y .before in
     let l = u .before in
     let t = l .before in
     let x = t .before in
     let s = now (x .before .before .before .args .s) in
-    λ f g. wrote-as (ap sent (sym (linked-not-to s (x .number .ensures) (t .rest .ensures) (l .label .ensures) (u .rest2 .ensures) (y .number2 .ensures) (v .rest3 .ensures) f
-    (c .before .before .before .before .before .before .if1 .left) (c .before .before .before .before .before .if2 .left) (c .before .before .before .before .if3 .taken))))
+    λ f g. wrote-as
+    (ap sent (sym (linked-not-to s (x .number .ensures) (t .rest .ensures) (l .label .ensures) (u .rest2 .ensures) (y .number2 .ensures) (v .rest3 .ensures) f
+    (then3 .before .before .if1 .left) (then3 .before .if2 .left) (then3 .if3 .taken))))
     (c .before .before .broken3 .ensures)
 
 broken-requires-4 : tie.Need-broken-requires-4
@@ -95,15 +101,18 @@ same-length-4 c = search needs
 
 returns-4 : tie.Need-returns-4
 returns-4 c =
-    let v = c .before .before .before .before .before .before .before .before in
+    let then4 = c .before .before .before .before in
+    let else1 = then4 .before .before .before in
+    let v = else1 .before in
     let y = v .before in
     let u = y .before in
     let l = u .before in
     let t = l .before in
     let x = t .before in
     let s = now (x .before .before .before .args .s) in
-    λ f g. wrote-as (ap sent (sym (linked-more s (x .number .ensures) (t .rest .ensures) (l .label .ensures) (u .rest2 .ensures) (y .number2 .ensures) (v .rest3 .ensures) f
-    (c .before .before .before .before .before .before .before .if1 .left) (c .before .before .before .before .before .before .if2 .left) (c .before .before .before .before .before .if3 .left) (c .before .before .before .before .if4 .taken))))
+    λ f g. wrote-as
+    (ap sent (sym (linked-more s (x .number .ensures) (t .rest .ensures) (l .label .ensures) (u .rest2 .ensures) (y .number2 .ensures) (v .rest3 .ensures) f
+    (else1 .if1 .left) (then4 .before .before .if2 .left) (then4 .before .if3 .left) (then4 .if4 .taken))))
     (c .before .before .broken4 .ensures)
 
 cast-put-link : tie.Need-cast-put-link
@@ -126,7 +135,9 @@ same-length-5 c = search needs
 returns-5 : tie.Need-returns-5
 unfolding sent linkBytes
 returns-5 c =
-    let v = c .before .before .before .before .before .before .before .before in
+    let else4 = c .before .before .before .before in
+    let else1 = else4 .before .before .before in
+    let v = else1 .before in
     let y = v .before in
     let u = y .before in
     let l = u .before in
@@ -134,8 +145,10 @@ returns-5 c =
     let x = t .before in
     let s = now (x .before .before .before .args .s) in
     let k : Link = record { from = x .number .result; label = l .label .result; to = y .number2 .result } in
-    λ f g. wrote-as (sym (g k) ∙ ap sent (sym (linked-is s (x .number .ensures) (t .rest .ensures) (l .label .ensures) (u .rest2 .ensures) (y .number2 .ensures) (v .rest3 .ensures) f
-    (c .before .before .before .before .before .before .before .if1 .left) (c .before .before .before .before .before .before .if2 .left) (c .before .before .before .before .before .if3 .left) (c .before .before .before .before .if4 .left))))
+    λ f g. wrote-as
+    (sym (g k)
+    ∙ ap sent (sym (linked-is s (x .number .ensures) (t .rest .ensures) (l .label .ensures) (u .rest2 .ensures) (y .number2 .ensures) (v .rest3 .ensures) f
+    (else1 .if1 .left) (else4 .before .before .if2 .left) (else4 .before .if3 .left) (else4 .if4 .left))))
     (c .before .before .put-link .ensures)
 
 pub linked-spec : {M : Type 1} → statement M

@@ -25,7 +25,8 @@ returns c =
     let u = c .before .before .before .before .before in
     let n = u .before in
     let s = now (n .before .before .before .args .s) in
-    λ f g. wrote-as (ap sent (sym (numbered-not s (n .number .ensures) (u .rest .ensures) f (c .before .before .before .before .if1 .taken)))) (c .before .before .broken .ensures)
+    λ f g. wrote-as (ap sent (sym (numbered-not s (n .number .ensures) (u .rest .ensures) f (c .before .before .before .before .if1 .taken))))
+    (c .before .before .broken .ensures)
 
 broken-requires-2 : tie.Need-broken-requires-2
 broken-requires-2 c κs = search needs
@@ -38,7 +39,8 @@ returns-2 c =
     let u = c .before .before .before .before .before .before in
     let n = u .before in
     let s = now (n .before .before .before .args .s) in
-    λ f g. wrote-as (ap sent (sym (numbered-more s (n .number .ensures) (u .rest .ensures) f (c .before .before .before .before .if2 .taken)))) (c .before .before .broken2 .ensures)
+    λ f g. wrote-as (ap sent (sym (numbered-more s (n .number .ensures) (u .rest .ensures) f (c .before .before .before .before .if2 .taken))))
+    (c .before .before .broken2 .ensures)
 
 cast-put-number : tie.Need-cast-put-number
 cast-put-number c = search needs
@@ -55,7 +57,12 @@ returns-3 c =
     let u = c .before .before .before .before .before .before in
     let n = u .before in
     let s = now (n .before .before .before .args .s) in
-    λ f g. wrote-as (sym (g (n .number .result)) ∙ ap sent (sym (numbered-is s (n .number .ensures) (u .rest .ensures) f (c .before .before .before .before .before .if1 .left) (c .before .before .before .before .if2 .left)))) (c .before .before .put-number .ensures)
+    λ f g. wrote-as
+    (sym (g (n .number .result))
+    ∙ ap sent
+    (sym
+    (numbered-is s (n .number .ensures) (u .rest .ensures) f (c .before .before .before .before .before .if1 .left)
+    (c .before .before .before .before .if2 .left)))) (c .before .before .put-number .ensures)
 
 pub numbered-spec : {M : Type 1} → statement M
 numbered-spec =

@@ -16,7 +16,8 @@ text-requires : tie.Need-text-requires
 text-requires c κs = search needs
 
 put-frame-requires : tie.Need-put-frame-requires
-put-frame-requires c κs = (omega (arith, ap length (c .before .text .ensures), length-text (now (c .before .before .before .before .before .args .s))), search needs)
+put-frame-requires c κs =
+    (omega (arith, ap length (c .before .text .ensures), length-text (now (c .before .before .before .before .before .args .s))), search needs)
 
 same-length : tie.Need-same-length
 same-length c = search needs

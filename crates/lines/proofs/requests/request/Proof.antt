@@ -1,7 +1,6 @@
 -- `lines::requests::request` meets its contract: a word that is a request's says what that one says (`requested-as`), any other nothing known
 -- (`requested-none`). Assumes nothing.
-use mathlib.Core.Path.{_≡_, refl, sym, ap, _∙_}
-use mathlib.Core.Bool.{true, false}
+use mathlib.Core.Path.{refl, sym, ap, _∙_}
 use native.Mathlib.Omega.{arith}
 use denote.Ref.{now}
 use Rattle.book.specs.Causes.{number}
@@ -128,7 +127,8 @@ returns-4 c =
     let t = c .before .before .before .before in
     let a = (start3 (t .before .before .before)) .args in
     let yes = sym (t .before .same4 .ensures) ∙ t .if4 .taken in
-    wrote-as (ap sent (sym (requested-as (bytes "lock") (now (a .word)) (now (a .s)) yes))) (c .before .before .numbered2 .ensures (λ x. call (edit (lock x))) (λ n. refl))
+    wrote-as (ap sent (sym (requested-as (bytes "lock") (now (a .word)) (now (a .s)) yes)))
+    (c .before .before .numbered2 .ensures (λ x. call (edit (lock x))) (λ n. refl))
 
 slice-aggregate-same-5 : tie.Need-slice-aggregate-same-5
 slice-aggregate-same-5 c = search needs
@@ -148,7 +148,8 @@ returns-5 c =
     let t = c .before .before .before .before in
     let a = (start4 (t .before .before .before)) .args in
     let yes = sym (t .before .same5 .ensures) ∙ t .if5 .taken in
-    wrote-as (ap sent (sym (requested-as (bytes "unlock") (now (a .word)) (now (a .s)) yes))) (c .before .before .numbered3 .ensures (λ x. call (edit (unlock x))) (λ n. refl))
+    wrote-as (ap sent (sym (requested-as (bytes "unlock") (now (a .word)) (now (a .s)) yes)))
+    (c .before .before .numbered3 .ensures (λ x. call (edit (unlock x))) (λ n. refl))
 
 slice-aggregate-same-6 : tie.Need-slice-aggregate-same-6
 slice-aggregate-same-6 c = search needs
@@ -248,7 +249,8 @@ returns-10 c =
     let t = c .before .before .before .before in
     let a = (start9 (t .before .before .before)) .args in
     let yes = sym (t .before .same10 .ensures) ∙ t .if10 .taken in
-    wrote-as (ap sent (sym (requested-as (bytes "withdraw") (now (a .word)) (now (a .s)) yes))) (c .before .before .numbered4 .ensures (λ x. call (edit (withdraw x))) (λ n. refl))
+    wrote-as (ap sent (sym (requested-as (bytes "withdraw") (now (a .word)) (now (a .s)) yes)))
+    (c .before .before .numbered4 .ensures (λ x. call (edit (withdraw x))) (λ n. refl))
 
 slice-aggregate-same-11 : tie.Need-slice-aggregate-same-11
 slice-aggregate-same-11 c = search needs
@@ -268,7 +270,8 @@ returns-11 c =
     let t = c .before .before .before .before in
     let a = (start10 (t .before .before .before)) .args in
     let yes = sym (t .before .same11 .ensures) ∙ t .if11 .taken in
-    wrote-as (ap sent (sym (requested-as (bytes "reinstate") (now (a .word)) (now (a .s)) yes))) (c .before .before .numbered5 .ensures (λ x. call (edit (reinstate x))) (λ n. refl))
+    wrote-as (ap sent (sym (requested-as (bytes "reinstate") (now (a .word)) (now (a .s)) yes)))
+    (c .before .before .numbered5 .ensures (λ x. call (edit (reinstate x))) (λ n. refl))
 
 slice-aggregate-put-frame : tie.Need-slice-aggregate-put-frame
 slice-aggregate-put-frame c = search needs

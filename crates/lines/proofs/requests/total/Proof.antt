@@ -1,5 +1,5 @@
 -- `lines::requests::total` meets its contract, case by case (`lettered-not`, `lettered-more`, `lettered-is`). Assumes nothing.
-use mathlib.Core.Path.{sym, ap, _∙_}
+use mathlib.Core.Path.{sym, ap}
 use native.Mathlib.Omega.{arith}
 use denote.Ref.{now}
 use Rattle.report.specs.WrittenLaws.{wrote-as}
@@ -23,8 +23,11 @@ same-length c = search needs
 
 returns : tie.Need-returns
 returns c =
-    let s = now (c .before .before .before .before .before .before .before .before .before .args .s) in
-    wrote-as (ap sent (sym (lettered-not s (c .before .before .before .before .before .before .label .ensures) (c .before .before .before .before .before .rest .ensures) (c .before .before .before .before .if1 .taken)))) (c .before .before .broken .ensures)
+    let then1 = c .before .before .before .before in
+    let start = then1 .before .before .before .before .before in
+    let s = now (start .args .s) in
+    wrote-as (ap sent (sym (lettered-not s (then1 .before .before .label .ensures) (then1 .before .rest .ensures) (then1 .if1 .taken))))
+    (c .before .before .broken .ensures)
 
 broken-requires-2 : tie.Need-broken-requires-2
 broken-requires-2 c κs = search needs
@@ -34,8 +37,12 @@ same-length-2 c = search needs
 
 returns-2 : tie.Need-returns-2
 returns-2 c =
-    let s = now (c .before .before .before .before .before .before .before .before .before .before .args .s) in
-    wrote-as (ap sent (sym (lettered-more s (c .before .before .before .before .before .before .before .label .ensures) (c .before .before .before .before .before .before .rest .ensures) (c .before .before .before .before .if2 .taken)))) (c .before .before .broken2 .ensures)
+    let then2 = c .before .before .before .before in
+    let after-label = then2 .before .before .before in
+    let start = after-label .before .before .before in
+    let s = now (start .args .s) in
+    wrote-as (ap sent (sym (lettered-more s (after-label .label .ensures) (then2 .before .before .rest .ensures) (then2 .if2 .taken))))
+    (c .before .before .broken2 .ensures)
 
 cast-t13 : tie.Need-cast-t13
 cast-t13 c = omega (arith, label-under _ _ (c .before .before .before .label .ensures) (c .before .if1 .left))
@@ -55,8 +62,12 @@ same-length-3 c = search needs
 returns-3 : tie.Need-returns-3
 unfolding sent frameFor kindOf bodyOf
 returns-3 c =
-    let s = now (c .before .before .before .before .before .before .before .before .before .before .before .before .args .s) in
-    wrote-as (ap sent (sym (lettered-is s (c .before .before .before .before .before .before .before .before .before .label .ensures) (c .before .before .before .before .before .before .before .before .rest .ensures) (c .before .before .before .before .before .before .before .if1 .left) (c .before .before .before .before .before .before .if2 .left)))) (c .before .before .put-frame .ensures)
+    let else2 = c .before .before .before .before .before .before in
+    let after-label = else2 .before .before .before in
+    let start = after-label .before .before .before in
+    let s = now (start .args .s) in
+    wrote-as (ap sent (sym (lettered-is s (after-label .label .ensures) (else2 .before .before .rest .ensures) (else2 .before .if1 .left) (else2 .if2 .left))))
+    (c .before .before .put-frame .ensures)
 
 pub total-spec : {M : Type 1} → statement M
 total-spec =

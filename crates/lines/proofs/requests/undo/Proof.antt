@@ -1,6 +1,5 @@
 -- `lines::requests::undo` meets its contract (`alone-more`, `alone-is`). Assumes nothing.
 use mathlib.Core.Path.{sym, ap}
-use native.Mathlib.Omega.{arith}
 use denote.Ref.{now}
 use Rattle.book.specs.Book.{undo}
 use Rattle.session.specs.Program.{call}

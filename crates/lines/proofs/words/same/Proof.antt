@@ -48,8 +48,9 @@ loop-again c =
 
 returns-3 : tie.Need-returns-3 Inv-loop μ-loop
 returns-3 c =
+    let start = c .before .before .before in
     let l = c .before .loop in
-    sym (same-none (now (c .before .before .before .args .a)) (now (c .before .before .before .args .b)) (l .i) (omega arith) (omega arith)) ∙ l .inv .1
+    sym (same-none (now (start .args .a)) (now (start .args .b)) (l .i) (omega arith) (omega arith)) ∙ l .inv .1
 
 pub same-spec : {M : Type 1} → statement M
 same-spec =

@@ -29,9 +29,10 @@ is-blank-requires c κs = search needs
 
 returns : tie.Need-returns Inv-loop μ-loop
 returns c =
-    let t = now (c .before .before .before .before .loop .t) in
+    let at-loop = c .before .before .before .before in
+    let t = now (at-loop .loop .t) in
     let b : blank (getD t 0 0) ≡ false = sym (c .before .is-blank .ensures) ∙ not-true _ (c .if1 .taken) in
-    sym (skip-at t b) ∙ c .before .before .before .before .loop .inv
+    sym (skip-at t b) ∙ at-loop .loop .inv
 
 sub-t : tie.Need-sub-t Inv-loop μ-loop
 sub-t c = omega arith
@@ -49,9 +50,10 @@ loop-less c =
 
 loop-again : tie.Need-loop-again Inv-loop μ-loop
 loop-again c =
-    let t = now (c .before .before .before .before .before .loop .t) in
+    let at-loop = c .before .before .before .before .before in
+    let t = now (at-loop .loop .t) in
     let b : blank (getD t 0 0) ≡ true = sym (c .before .before .is-blank .ensures) ∙ not-false _ (c .before .if1 .left) in
-    ap skip (part-from t 1) ∙ skip-on t (omega arith) b ∙ c .before .before .before .before .before .loop .inv
+    ap skip (part-from t 1) ∙ skip-on t (omega arith) b ∙ at-loop .loop .inv
 
 returns-2 : tie.Need-returns-2 Inv-loop μ-loop
 returns-2 c = sym (skip-none (now (c .before .loop .t)) (omega arith)) ∙ c .before .loop .inv

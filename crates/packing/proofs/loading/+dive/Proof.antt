@@ -12,7 +12,7 @@ use Rattle.k2.specs.Bits.{bitAt}
 use Rattle.k2.specs.PairSets.{Cells, union}
 use Rattle.rows.specs.Rows.{flat}
 use Rattle.packing.specs.Reading.{Reads, squareBit, squareRow, squareColumn, squaresTo, Fits, ReadAll}
-use Rattle.packing.proofs.Lists.{squares-none, squares-more, all-from}
+use Rattle.packing.proofs.SquareLaws.{squares-none, squares-more, all-from}
 use Rattle.packing.proofs.loading.dive.Reads as dive
 use Rattle.packing.proofs.loading.dive.Kinds as dive-kinds
 use Rattle.packing.proofs.loading.+dive.Lts-dive as dive-lts
@@ -52,7 +52,9 @@ abbrev dive-μ-loop : dive-lts.MeasureT-loop
 dive-μ-loop tree before h list sense rows₀ next m i₀ rows i = m - i
 
 dive-leaves-requires : (t : ℕ) → dive-lts.Need-leaves-requires (dive-calls t) (dive-at t) dive.Post dive-Inv-loop dive-μ-loop
-dive-leaves-requires t c κs = let w = c .before .before .before .before .before .before .pre .1 in (w .6, w .7, w .2, w .8, rw (c .before .if1 .taken) at (w .9))
+dive-leaves-requires t c κs =
+    let start = c .before .before .before .before .before .before in
+    let w = start .pre .1 in (w .6, w .7, w .2, w .8, rw (c .before .if1 .taken) at (w .9))
 
 dive-same-length : (t : ℕ) → dive-lts.Need-same-length (dive-calls t) (dive-at t) dive.Post dive-Inv-loop dive-μ-loop
 dive-same-length t c = search needs
@@ -86,9 +88,11 @@ dive-slice-aggregate-dive t c = search needs
 
 dive-dive-requires : (t : ℕ) → dive-lts.Need-dive-requires (dive-calls t) (dive-at t) dive.Post dive-Inv-loop dive-μ-loop
 dive-dive-requires t c κs =
-    let w = c .before .before .before .before .before .before .before .before .before .before .before .before .before .pre .1 in
-    let l = c .before .before .before .before .loop in
-    let p = c .before .before .before .before .before .before .spread in
+    let at-loop = c .before .before .before .before in
+    let start = at-loop .before .before .before .before .before .before .before .before .before in
+    let w = start .pre .1 in
+    let l = at-loop .loop in
+    let p = at-loop .before .before .spread in
     let k = c .before .before .taken in
     let N : List ℕ = p .last .1 .1 .1 .1 .1 .1 .0 in
     let f : length N ≡ 64 = p .kept .1 .1 .1 .1 .1 .1 .0 in
@@ -104,7 +108,7 @@ dive-dive-requires t c κs =
         g,
         k .ensures .1,
         l .inv .1 ∙ w .8,
-        all-from (Fits (c .before .before .before .before .before .before .before .before .before .before .before .before .before .args .h - 1)) N (p .result) (l .i) (k .result) (k .ensures .2) (p .ensures .1),
+        all-from (Fits (start .args .h - 1)) N (p .result) (l .i) (k .result) (k .ensures .2) (p .ensures .1),
       ),
     )
 
@@ -116,17 +120,21 @@ dive-loop-less t c = omega arith
 
 dive-loop-again : (t : ℕ) → dive-lts.Need-loop-again (dive-calls t) (dive-at t) dive.Post dive-Inv-loop dive-μ-loop
 dive-loop-again t c =
-    let a = c .before .before .before .before .before .before .before .before .before .before .before .before .before .before .before .before .args in
-    let l = c .before .before .before .before .before .before .before .loop in
-    let p = c .before .before .before .before .before .before .before .before .before .spread in
-    let k = c .before .before .before .before .before .taken in
+    let after-taken = c .before .before .before .before .before in
+    let after-spread = after-taken .before .before .before .before in
+    let start = after-spread .before .before .before .before .before .before .before in
+    let a = start .args in
+    let l = after-taken .before .before .loop in
+    let p = after-spread .spread in
+    let k = after-taken .taken in
     let d = c .before .before .dive in
     let N : List ℕ = p .last .1 .1 .1 .1 .1 .1 .0 in (
       k .ensures .2,
       d .kept .1 .1 .1 .1 .1 .1 .0 ∙ l .inv .1,
       λ s u e n.
           d .ensures (union s (squaresTo (l .i) (a .h - 1) N 0 u)) u (l .inv .2 s u e n)
-          (all-from (λ (w : ℕ). Reads (a .sense) (a .tree .now) (a .h - 1) (squareBit w) (squareRow w) (squareColumn w) u) N (p .result) (l .i) (k .result) (k .ensures .2) n)
+          (all-from (λ (w : ℕ). Reads (a .sense) (a .tree .now) (a .h - 1) (squareBit w) (squareRow w) (squareColumn w) u)
+          N (p .result) (l .i) (k .result) (k .ensures .2) n)
           ∙ ap flat (squares-more (l .i) (k .result) (a .h - 1) N u s),
     )
 
@@ -135,10 +143,11 @@ dive-same-length-2 t c = c .before .loop .inv .1
 
 dive-returns-2 : (t : ℕ) → dive-lts.Need-returns-2 (dive-calls t) (dive-at t) dive.Post dive-Inv-loop dive-μ-loop
 dive-returns-2 t c =
+    let after-spread = c .before .before .before in
     let l = c .before .loop in
-    let a = c .before .before .before .before .before .before .before .before .before .before .args in
-    let z : l .i ≡ c .before .before .before .spread .result = omega arith in
-    λ s u e n. l .inv .2 s u e (c .before .before .before .spread .ensures .2 u n .0) ∙ rw z (ap (λ (g : Cells). flat (union s g)) (c .before .before .before .spread .ensures .2 u n .1))
+    let a = after-spread .before .before .before .before .before .before .before .args in
+    let z : l .i ≡ after-spread .spread .result = omega arith in
+    λ s u e n. l .inv .2 s u e (after-spread .spread .ensures .2 u n .0) ∙ rw z (ap (λ (g : Cells). flat (union s g)) (after-spread .spread .ensures .2 u n .1))
 
 pub +dive-spec : {M : Type 1} → statement M
 +dive-spec =

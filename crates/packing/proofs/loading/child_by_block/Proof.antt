@@ -9,7 +9,7 @@ use Rattle.k2.specs.Bits.{bitAt, onesBelow}
 use Rattle.k2.specs.BitLaws.{bit-lt, ones-word}
 use Rattle.k2.specs.BitLaws as laws
 use Rattle.k2.specs.Trees.{childPlace}
-use Rattle.packing.proofs.Loads.{child-count}
+use Rattle.packing.proofs.LoadLaws.{child-count}
 use Rattle.packing.proofs.loading.child_by_block.Statement.{statement}
 use Rattle.packing.proofs.loading.child_by_block.Tie as tie
 
@@ -64,8 +64,11 @@ loop-less c = omega arith
 loop-again : tie.Need-loop-again Inv-loop μ-loop
 loop-again c =
     let a = c .before .before .before .before .args in
-    let l = c .before .before .loop in
-    (omega arith, omega arith, ap (λ (x : ℕ). x + ones (getD (a .tree .now) (l .i) 0)) (l .inv .2) ∙ sym (ones-word (a .tree .now) (l .i) (c .shared-slice-known2 .given (l .i) .fits)))
+    let l = c .before .before .loop in (
+      omega arith,
+      omega arith,
+      ap (λ (x : ℕ). x + ones (getD (a .tree .now) (l .i) 0)) (l .inv .2) ∙ sym (ones-word (a .tree .now) (l .i) (c .shared-slice-known2 .given (l .i) .fits)),
+    )
 
 mul-result : tie.Need-mul-result Inv-loop μ-loop
 mul-result c = omega arith

@@ -6,7 +6,7 @@ use borrow.Author.Needs.{needs}
 use Rattle.k2.specs.Bits.{bitAt}
 use Rattle.k2.specs.BitLaws.{bit-lt, ones-le}
 use Rattle.k2.specs.Trees.{childPlace}
-use Rattle.packing.proofs.Loads.{child-count}
+use Rattle.packing.proofs.LoadLaws.{child-count}
 use Rattle.packing.proofs.loading.child_by_word.Statement.{statement}
 use Rattle.packing.proofs.loading.child_by_word.Tie as tie
 
@@ -19,7 +19,11 @@ shared-slice-read-result c = search needs
 cast-result : tie.Need-cast-result
 cast-result c =
     let a = c .before .args in
-    omega (arith, child-count (a .tree .now) (a .p) _ (c .before .pre .3 (a .p / 64) (c .before .pre .0)), ones-le (bitAt (a .tree .now)) (bit-lt (a .tree .now)) (a .p + 1))
+    omega (
+      arith,
+      child-count (a .tree .now) (a .p) _ (c .before .pre .3 (a .p / 64) (c .before .pre .0)),
+      ones-le (bitAt (a .tree .now)) (bit-lt (a .tree .now)) (a .p + 1),
+    )
 
 mul-result-2 : tie.Need-mul-result-2
 mul-result-2 c = search needs
@@ -36,17 +40,29 @@ shl-result c = search needs
 cast-result-2 : tie.Need-cast-result-2
 cast-result-2 c =
     let a = c .before .before .args in
-    omega (arith, child-count (a .tree .now) (a .p) _ (c .before .before .pre .3 (a .p / 64) (c .before .before .pre .0)), ones-le (bitAt (a .tree .now)) (bit-lt (a .tree .now)) (a .p + 1))
+    omega (
+      arith,
+      child-count (a .tree .now) (a .p) _ (c .before .before .pre .3 (a .p / 64) (c .before .before .pre .0)),
+      ones-le (bitAt (a .tree .now)) (bit-lt (a .tree .now)) (a .p + 1),
+    )
 
 add-result : tie.Need-add-result
 add-result c =
     let a = c .before .before .args in
-    omega (arith, child-count (a .tree .now) (a .p) _ (c .before .before .pre .3 (a .p / 64) (c .before .before .pre .0)), ones-le (bitAt (a .tree .now)) (bit-lt (a .tree .now)) (a .p + 1))
+    omega (
+      arith,
+      child-count (a .tree .now) (a .p) _ (c .before .before .pre .3 (a .p / 64) (c .before .before .pre .0)),
+      ones-le (bitAt (a .tree .now)) (bit-lt (a .tree .now)) (a .p + 1),
+    )
 
 mul-result-3 : tie.Need-mul-result-3
 mul-result-3 c =
     let a = c .before .before .args in
-    omega (arith, child-count (a .tree .now) (a .p) _ (c .before .before .pre .3 (a .p / 64) (c .before .before .pre .0)), ones-le (bitAt (a .tree .now)) (bit-lt (a .tree .now)) (a .p + 1))
+    omega (
+      arith,
+      child-count (a .tree .now) (a .p) _ (c .before .before .pre .3 (a .p / 64) (c .before .before .pre .0)),
+      ones-le (bitAt (a .tree .now)) (bit-lt (a .tree .now)) (a .p + 1),
+    )
 
 returns : tie.Need-returns
 unfolding childPlace

@@ -11,9 +11,9 @@ use Rattle.k2.specs.Bits.{digit, bitAt}
 use Rattle.k2.specs.BitLaws.{bit-within}
 use Rattle.k2.specs.PairSets.{Cells, union}
 use Rattle.k2.specs.Trees.{childPlace}
-use Rattle.packing.specs.Reading.{turned, inside, quartersTo, Reads, squareBit, squareRow, squareColumn, squaresTo, Fits, FitAll, ReadAll}
-use Rattle.packing.proofs.Loads.{one-le, quarters-none, quarters-more, quarter-in, quarter-even, dive-child, dive-gap, dive-all}
-use Rattle.packing.proofs.Lists.{all-set, squares-set}
+use Rattle.packing.specs.Reading.{turned, quartersTo, Reads, squareBit, squareRow, squareColumn, squaresTo, Fits, FitAll, ReadAll}
+use Rattle.packing.proofs.LoadLaws.{one-le, quarters-none, quarters-more, quarter-in, quarter-even, dive-child, dive-gap, dive-all}
+use Rattle.packing.proofs.SquareLaws.{all-set, squares-set}
 use Rattle.packing.proofs.loading.children.Statement.{statement}
 use Rattle.packing.proofs.loading.children.Tie as tie
 
@@ -27,28 +27,34 @@ abbrev μ-loop : tie.MeasureT-loop
 μ-loop tree before h sense next₀ m b x y v s k₀ q₀ next k q = 4 - q
 
 square-requires : tie.Need-square-requires Inv-loop μ-loop
-square-requires c κs = (c .before .before .before .pre .2, c .before .before .before .pre .7)
+square-requires c κs =
+    let start = c .before .before .before in
+    (start .pre .2, start .pre .7)
 
 half-requires : tie.Need-half-requires Inv-loop μ-loop
-half-requires c κs = (c .before .before .before .before .pre .0, c .before .before .before .before .pre .1)
+half-requires c κs =
+    let start = c .before .before .before .before in
+    (start .pre .0, start .pre .1)
 
 next-one-requires : tie.Need-next-one-requires Inv-loop μ-loop
 next-one-requires c κs = (c .before .square .ensures .0, omega arith)
 
 loop-holds : tie.Need-loop-holds Inv-loop μ-loop
 loop-holds c =
-    let a = c .before .before .before .before .before .before .args in
+    let start = c .before .before .before .before .before .before in
+    let a = start .args in
     let f = c .next-one .ensures in
     let v = c .before .before .square .ensures .1 in (
       f .1,
       f .3,
       omega arith,
       refl,
-      c .before .before .before .before .before .before .pre .12,
+      start .pre .12,
       λ u n r. (
         r,
         quarters-none (a .h - 1) (a .at .row) (a .at .column) u (squaresTo (a .m) (a .h - 1) (a .next .now) 0 u)
-            ∙ dive-gap (a .sense) (a .tree .now) (a .h) (a .at .bit) (a .at .row) (a .at .column) u (squaresTo (a .m) (a .h - 1) (a .next .now) 0 u) (one-le (c .before .before .before .before .before .before .pre .0)) n 0 (c .next-one .result) (f .0) (f .1) (λ j l m. sym (v j (lt-of-lt-of-le m (f .1))) ∙ f .2 j l m),
+            ∙ dive-gap (a .sense) (a .tree .now) (a .h) (a .at .bit) (a .at .row) (a .at .column) u (squaresTo (a .m) (a .h - 1) (a .next .now) 0 u)
+            (one-le (start .pre .0)) n 0 (c .next-one .result) (f .0) (f .1) (λ j l m. sym (v j (lt-of-lt-of-le m (f .1))) ∙ f .2 j l m),
       ),
     )
 
@@ -60,22 +66,30 @@ add-child c = omega arith
 
 child-requires : tie.Need-child-requires Inv-loop μ-loop
 child-requires c κs =
-    let w = c .before .before .before .before .before .before .before .before .before .pre in
-    let a = c .before .before .before .before .before .before .before .before .before .args in
+    let after-square = c .before .before .before .before .before in
+    let start = after-square .before .before .before .before in
+    let w = start .pre in
+    let a = start .args in
     let l = c .before .before .loop in
     let u = c .turn in
-    let o : bitAt (a .tree .now) (a .at .bit + u .result) ≡ 1 = rw (u .ensures .0) (sym (c .before .before .before .before .before .square .ensures .1 (l .q) (c .before .loop-test .taken)) ∙ l .inv .1 (c .before .loop-test .taken)) in
+    let o : bitAt (a .tree .now) (a .at .bit + u .result) ≡ 1 =
+    rw (u .ensures .0) (sym (after-square .square .ensures .1 (l .q) (c .before .loop-test .taken)) ∙ l .inv .1 (c .before .loop-test .taken)) in
     (bit-within (a .tree .now) (a .at .bit + u .result) (λ z. omega arith), w .8, w .9, w .10)
 
 -- the quarter is in the rows
 fits : (c : tie.After-child Inv-loop μ-loop)
-    → (c .before .before .before .before .before .before .before .before .before .before .args .at .row + c .before .before .before .loop .q / 2 * c .before .before .before .before .before .half .result + c .before .before .before .before .before .half .result ≤ 1024)
-    × (c .before .before .before .before .before .before .before .before .before .before .args .at .column + c .before .before .before .loop .q % 2 * c .before .before .before .before .before .half .result + c .before .before .before .before .before .half .result ≤ 1024)
+    → let at-loop = c .before .before .before in
+    let after-half = at-loop .before .before in
+    let start = after-half .before .before .before .before .before in
+    (start .args .at .row + at-loop .loop .q / 2 * after-half .half .result + after-half .half .result ≤ 1024)
+    × (start .args .at .column + at-loop .loop .q % 2 * after-half .half .result + after-half .half .result ≤ 1024)
 fits c =
-    let l = c .before .before .before .loop in
-    let s = c .before .before .before .before .before .half in
-    let a = c .before .before .before .before .before .before .before .before .before .before .args in
-    quarter-in (l .q) (s .result) (2 ^ a .h) (a .at .row) (a .at .column) (c .before .before .loop-test .taken) (s .ensures .1) (c .before .before .before .before .before .before .before .before .before .before .pre .4) (c .before .before .before .before .before .before .before .before .before .before .pre .5)
+    let at-loop = c .before .before .before in
+    let start = at-loop .before .before .before .before .before .before .before in
+    let l = at-loop .loop in
+    let s = at-loop .before .before .half in
+    let a = start .args in
+    quarter-in (l .q) (s .result) (2 ^ a .h) (a .at .row) (a .at .column) (c .before .before .loop-test .taken) (s .ensures .1) (start .pre .4) (start .pre .5)
 
 mul-square-number : tie.Need-mul-square-number Inv-loop μ-loop
 mul-square-number c = let f = fits (c) in omega arith
@@ -116,17 +130,21 @@ loop-less c = omega arith
 
 loop-again : tie.Need-loop-again Inv-loop μ-loop
 loop-again c =
-    let l = c .before .before .before .before .before .loop in
-    let a = c .before .before .before .before .before .before .before .before .before .before .before .before .args in
-    let s = c .before .before .before .before .before .before .before .half in
-    let ql = c .before .before .before .before .loop-test .taken in
-    let hp = one-le (c .before .before .before .before .before .before .before .before .before .before .before .before .pre .0) in
-    let v = c .before .before .before .before .before .before .before .before .square .ensures .1 in
+    let after-child = c .before .before in
+    let at-loop = after-child .before .before .before in
+    let after-square = at-loop .before .before .before in
+    let start = after-square .before .before .before .before in
+    let l = at-loop .loop in
+    let a = start .args in
+    let s = at-loop .before .before .half in
+    let ql = after-child .before .before .loop-test .taken in
+    let hp = one-le (start .pre .0) in
+    let v = after-square .square .ensures .1 in
     let f = c .next-one2 .ensures in
-    let d = c .before .before .child in
+    let d = after-child .child in
     let w = c .before .square-number in
     let g : l .k < length (l .next) = omega arith in
-    let z = fits (c .before .before) in
+    let z = fits after-child in
     let x : squareRow (w .result) ≡ a .at .row + l .q / 2 * 2 ^ (a .h - 1) = rw (← s .ensures .0) (w .ensures .1) in
     let y : squareColumn (w .result) ≡ a .at .column + l .q % 2 * 2 ^ (a .h - 1) = rw (← s .ensures .0) (w .ensures .2) in
     let F : Fits (a .h - 1) (w .result) = rw (w .ensures .0, w .ensures .1, w .ensures .2, ← s .ensures .0) (
@@ -134,7 +152,7 @@ loop-again c =
       d .ensures .1,
       z .0,
       z .1,
-      quarter-even (l .q % 2) (s .result) (a .at .column) (omega arith) (s .ensures .2) (c .before .before .before .before .before .before .before .before .before .before .before .before .pre .6),
+      quarter-even (l .q % 2) (s .result) (a .at .column) (omega arith) (s .ensures .2) (start .pre .6),
     ) in (
       f .1,
       f .3,
@@ -145,12 +163,15 @@ loop-again c =
           let R = l .inv .5 u n r in
           let o : bitAt (a .tree .now) (a .at .bit + turned (a .sense) (l .q)) ≡ 1 = sym (v (l .q) ql) ∙ l .inv .1 ql in
           let D : Reads (a .sense) (a .tree .now) (a .h - 1) (squareBit (w .result)) (squareRow (w .result)) (squareColumn (w .result)) u =
-          rw (w .ensures .0, x, y, d .ensures .0, c .before .before .before .turn .ensures .0) (dive-child (a .sense) (a .tree .now) (a .h) (a .at .bit) (a .at .row) (a .at .column) u hp n (l .q) ql o) in
+          rw (w .ensures .0, x, y, d .ensures .0, after-child .before .turn .ensures .0)
+          (dive-child (a .sense) (a .tree .now) (a .h) (a .at .bit) (a .at .row) (a .at .column) u hp n (l .q) ql o) in
           let S : Cells = squaresTo (a .m) (a .h - 1) (a .next .now) 0 u in (
-            all-set (λ (i : ℕ). Reads (a .sense) (a .tree .now) (a .h - 1) (squareBit i) (squareRow i) (squareColumn i) u) (l .next) (l .k) (w .result) g (R .0) D,
+            all-set (λ (i : ℕ). Reads (a .sense) (a .tree .now) (a .h - 1) (squareBit i) (squareRow i) (squareColumn i) u)
+                (l .next) (l .k) (w .result) g (R .0) D,
             squares-set (l .k) (a .h - 1) (l .next) (w .result) u g
                 ∙ rw (x, y, R .1) (quarters-more (l .q) (a .h - 1) (a .at .row) (a .at .column) u S)
-                ∙ dive-gap (a .sense) (a .tree .now) (a .h) (a .at .bit) (a .at .row) (a .at .column) u S hp n (l .q + 1) (c .next-one2 .result) (f .0) (f .1) (λ j p q. sym (v j (lt-of-lt-of-le q (f .1))) ∙ f .2 j p q),
+                ∙ dive-gap (a .sense) (a .tree .now) (a .h) (a .at .bit) (a .at .row) (a .at .column) u S hp n (l .q + 1)
+                (c .next-one2 .result) (f .0) (f .1) (λ j p q. sym (v j (lt-of-lt-of-le q (f .1))) ∙ f .2 j p q),
           ),
     )
 
@@ -159,12 +180,16 @@ same-length c = c .before .loop .inv .3
 
 returns : tie.Need-returns Inv-loop μ-loop
 returns c =
+    let start = c .before .before .before .before .before .before .before .before in
     let l = c .before .loop in
-    let a = c .before .before .before .before .before .before .before .before .args in
+    let a = start .args in
     let z : l .q ≡ 4 = omega arith in (
       omega arith,
       l .inv .4,
-      λ u n r. let R = l .inv .5 u n r in (R .0, R .1 ∙ rw z (ap (union (squaresTo (a .m) (a .h - 1) (a .next .now) 0 u)) (dive-all (a .h) (a .at .row) (a .at .column) u (one-le (c .before .before .before .before .before .before .before .before .pre .0))))),
+      λ u n r. let R = l .inv .5 u n r in (
+        R .0,
+        R .1 ∙ rw z (ap (union (squaresTo (a .m) (a .h - 1) (a .next .now) 0 u)) (dive-all (a .h) (a .at .row) (a .at .column) u (one-le (start .pre .0)))),
+      ),
     )
 
 pub children-spec : {M : Type 1} → statement M

@@ -10,12 +10,14 @@ use lib.ListN.{length, getD, length-set}
 use Rattle.k2.specs.Bits.{bitAt, onesBelow}
 use Rattle.k2.specs.BitLaws.{bit-lt, ones-word}
 use Rattle.k2.specs.BitLaws as laws
-use Rattle.packing.proofs.Loads.{count-begun, count-in}
+use Rattle.packing.proofs.LoadLaws.{count-begun, count-in}
 use Rattle.packing.proofs.loading.count_blocks.Statement.{statement}
 use Rattle.packing.proofs.loading.count_blocks.Tie as tie
 
 abbrev Inv-loop : tie.InvT-loop
-Inv-loop tree before₀ n₀ i₀ before n i = (i ≤ length tree) × (length before ≡ length before₀) × (n ≡ onesBelow (bitAt tree) (i * 64)) × ((k : ℕ) → 4 * k < i → getD before k 0 ≡ onesBelow (bitAt tree) (k * 256))
+Inv-loop tree before₀ n₀ i₀ before n i =
+    (i ≤ length tree) × (length before ≡ length before₀) × (n ≡ onesBelow (bitAt tree) (i * 64))
+    × ((k : ℕ) → 4 * k < i → getD before k 0 ≡ onesBelow (bitAt tree) (k * 256))
 
 abbrev μ-loop : tie.MeasureT-loop
 μ-loop tree before₀ n₀ i₀ before n i = length tree - i

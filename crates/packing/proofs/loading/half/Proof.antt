@@ -4,7 +4,7 @@ use Prim.Native.Nat.{_-_, _*_, _%_, _^_}
 use native.Mathlib.Omega.{arith}
 use borrow.Author.Needs.{needs}
 use Rattle.k2.specs.DigitLaws.{one-shl}
-use Rattle.packing.proofs.Loads.{half-law}
+use Rattle.packing.proofs.LoadLaws.{half-law}
 use Rattle.packing.proofs.loading.half.Statement.{statement}
 use Rattle.packing.proofs.loading.half.Tie as tie
 

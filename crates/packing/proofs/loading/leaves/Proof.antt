@@ -1,15 +1,15 @@
 -- `leaves` puts the cells of one square of side 2 after another. The loop's invariant: the cells of the squares passed are in the rows. The measure is
 -- the squares left. It rests on `reads-cell`. Assumes nothing.
 use mathlib.Core.Path.{_≡_, refl, sym, ap, _∙_}
-use Prim.Native.Nat.{ℕ, _+_, _-_, _*_, _/_, _%_, _^_, _≤_, _<_}
+use Prim.Native.Nat.{ℕ, _+_, _-_, _≤_}
 use native.Mathlib.Omega.{arith}
 use lib.ListN.{length, getD}
 use Rattle.k2.specs.Bits.{bitAt}
 use Rattle.k2.specs.PairSets.{Cells, union}
 use Rattle.rows.specs.Rows.{flat}
 use Rattle.packing.specs.Reading.{inside, squareBit, squareRow, squareColumn, squaresTo, ReadAll}
-use Rattle.packing.proofs.Loads.{reads-cell}
-use Rattle.packing.proofs.Lists.{squares-none, squares-next, union-next}
+use Rattle.packing.proofs.LoadLaws.{reads-cell}
+use Rattle.packing.proofs.SquareLaws.{squares-none, squares-next, union-next}
 use Rattle.packing.proofs.loading.leaves.Statement.{statement}
 use Rattle.packing.proofs.loading.leaves.Tie as tie
 
@@ -38,8 +38,10 @@ square-requires c κs = let f = c .before .before .before .before .before .befor
 
 put-cells-requires : tie.Need-put-cells-requires Inv-loop μ-loop
 put-cells-requires c κs =
-    let f = c .before .before .before .before .before .before .before .before .pre .4 (c .before .before .before .before .loop .i) (omega arith) in
-    (f .2, f .3, f .4, c .before .square .ensures .0, c .before .before .before .before .loop .inv .1 ∙ c .before .before .before .before .before .before .before .before .pre .3)
+    let at-loop = c .before .before .before .before in
+    let start = at-loop .before .before .before .before in
+    let f = start .pre .4 (at-loop .loop .i) (omega arith) in
+    (f .2, f .3, f .4, c .before .square .ensures .0, at-loop .loop .inv .1 ∙ start .pre .3)
 
 add-i : tie.Need-add-i Inv-loop μ-loop
 add-i c = omega arith
@@ -49,16 +51,21 @@ loop-less c = omega arith
 
 loop-again : tie.Need-loop-again Inv-loop μ-loop
 loop-again c =
-    let l = c .before .before .before .before .before .before .before .loop in
-    let a = c .before .before .before .before .before .before .before .before .before .before .before .args in
+    let after-square = c .before .before .before .before in
+    let at-loop = after-square .before .before .before in
+    let start = at-loop .before .before .before .before in
+    let l = at-loop .loop in
+    let a = start .args in
     let p = c .before .before .put-cells in
     let w : ℕ = getD (a .list .now) (a .part .from + l .i) 0 in (
       omega arith,
       p .kept .0 ∙ l .inv .1,
       λ s u e n.
           p .ensures (union s (squaresTo (l .i) 1 (a .list .now) (a .part .from) u)) u (l .inv .2 s u e n)
-          (λ q g. c .before .before .before .before .square .ensures .1 q g ∙ reads-cell (a .sense) (a .tree .now) (squareBit w) (squareRow w) (squareColumn w) u (n (l .i) (omega arith)) q g)
-          ∙ ap flat (union-next s (squaresTo (l .i) 1 (a .list .now) (a .part .from) u) (inside 1 (squareRow w) (squareColumn w) u) ∙ ap (union s) (sym (squares-next (l .i) 1 (a .list .now) (a .part .from) u))),
+          (λ q g. after-square .square .ensures .1 q g
+          ∙ reads-cell (a .sense) (a .tree .now) (squareBit w) (squareRow w) (squareColumn w) u (n (l .i) (omega arith)) q g)
+          ∙ ap flat (union-next s (squaresTo (l .i) 1 (a .list .now) (a .part .from) u) (inside 1 (squareRow w) (squareColumn w) u)
+          ∙ ap (union s) (sym (squares-next (l .i) 1 (a .list .now) (a .part .from) u))),
     )
 
 same-length : tie.Need-same-length Inv-loop μ-loop

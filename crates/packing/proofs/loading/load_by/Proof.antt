@@ -1,6 +1,5 @@
 -- `load_by` counts the ones before each word and reads the tree from its first square on (`reads-tree`). Assumes nothing.
-use mathlib.Core.Path.{refl, ap, _∙_}
-use Prim.Native.Nat.{_^_, _≤_}
+use mathlib.Core.Path.{ap, _∙_}
 use native.Mathlib.Omega.{arith}
 use borrow.Author.Needs.{needs}
 use lib.Pow.{pow-mono}
@@ -8,8 +7,8 @@ use Rattle.k2.specs.PairSets.{Cells, union}
 use Rattle.rows.specs.Rows.{flat}
 use Rattle.packing.specs.Reading.{turnedBy}
 use Rattle.packing.specs.ReadingLaws.{turnedBy-set}
-use Rattle.packing.proofs.Loads.{reads-tree, inside-all}
-use Rattle.packing.proofs.Lists.{root-fits, root-reads, root-squares}
+use Rattle.packing.proofs.LoadLaws.{reads-tree, inside-all}
+use Rattle.packing.proofs.SquareLaws.{root-fits, root-reads, root-squares}
 use Rattle.packing.proofs.loading.load_by.Statement.{statement}
 use Rattle.packing.proofs.loading.load_by.Tie as tie
 
@@ -31,8 +30,18 @@ slice-aggregate-dive-2 c = search needs
 dive-requires : tie.Need-dive-requires
 dive-requires c κs =
     let h = c .before .before .height .ensures in
-    let p = c .before .before .before .before .before .before .before .before .before .pre in
-    (h .1, h .2, p .2, p .1, search needs, c .before .before .before .before .before .count .ensures, omega arith, omega arith, p .3, root-fits (c .before .before .height .result) (pow-mono {j = 10} (h .2)))
+    let p = c .before .before .before .before .before .before .before .before .before .pre in (
+      h .1,
+      h .2,
+      p .2,
+      p .1,
+      search needs,
+      c .before .before .before .before .before .count .ensures,
+      omega arith,
+      omega arith,
+      p .3,
+      root-fits (c .before .before .height .result) (pow-mono {j = 10} (h .2)),
+    )
 
 same-length : tie.Need-same-length
 same-length c = search needs
@@ -43,7 +52,8 @@ returns c =
     let g = c .before .before .before .before .before .before .before .before .before .before .before .before .args in
     λ a x is e r.
     let t : Cells = turnedBy (g .sense) a in
-    c .before .before .dive .ensures x t r (root-reads (g .sense) (g .tree .now) (h .result) t (reads-tree (g .sense) (g .n) (h .result) (g .tree .now) a (h .ensures .0) is e))
+    c .before .before .dive .ensures x t r
+    (root-reads (g .sense) (g .tree .now) (h .result) t (reads-tree (g .sense) (g .n) (h .result) (g .tree .now) a (h .ensures .0) is e))
     ∙ ap (λ (s : Cells). flat (union x s)) (root-squares (h .result) t ∙ inside-all (g .n) (h .result) t (h .ensures .3) (turnedBy-set (g .sense) (g .n) a is))
 
 pub load-by-spec : {M : Type 1} → statement M

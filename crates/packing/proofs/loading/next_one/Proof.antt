@@ -1,8 +1,7 @@
 -- `next_one` counts the zeros below the lowest one of v + 16, moved down by q places (`next-le`, `next-clear`, `next-set`). Assumes nothing.
-use mathlib.Core.Path.{_≡_}
 use native.Mathlib.Omega.{arith}
 use borrow.Author.Needs.{needs}
-use Rattle.packing.proofs.Loads.{next-le, next-clear, next-set}
+use Rattle.packing.proofs.LoadLaws.{next-le, next-clear, next-set}
 use Rattle.packing.proofs.loading.next_one.Statement.{statement}
 use Rattle.packing.proofs.loading.next_one.Tie as tie
 

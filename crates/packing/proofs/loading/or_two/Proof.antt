@@ -1,7 +1,7 @@
 -- `or_two` puts in digits that stand in one word (`or-short`). Assumes nothing.
 use native.Mathlib.Omega.{arith}
 use borrow.Author.Needs.{needs}
-use Rattle.packing.proofs.Stores.{or-short}
+use Rattle.packing.proofs.StoreLaws.{or-short}
 use Rattle.packing.proofs.loading.or_two.Statement.{statement}
 use Rattle.packing.proofs.loading.or_two.Tie as tie
 

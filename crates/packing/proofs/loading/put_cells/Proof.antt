@@ -6,7 +6,7 @@ use borrow.Author.Needs.{needs}
 use lib.ListN.{length}
 use Rattle.k2.specs.DigitLaws.{shifted}
 use Rattle.bits.specs.BitSets.{either}
-use Rattle.packing.proofs.Loads.{four-cells}
+use Rattle.packing.proofs.LoadLaws.{four-cells}
 use Rattle.packing.proofs.loading.put_cells.Statement.{statement}
 use Rattle.packing.proofs.loading.put_cells.Tie as tie
 
@@ -29,18 +29,24 @@ add-or-two-3 : tie.Need-add-or-two-3
 add-or-two-3 c = search needs
 
 or-two-requires-2 : tie.Need-or-two-requires-2
-or-two-requires-2 c κs = let k : length (c .before .before .before .or-two .last .0) ≡ length (c .before .before .before .before .before .before .args .rows .now) = c .before .before .before .or-two .kept .0 in (omega arith, omega arith, omega arith)
+or-two-requires-2 c κs =
+    let after-or-two = c .before .before .before in
+    let start = after-or-two .before .before .before in
+    let k : length (after-or-two .or-two .last .0) ≡ length (start .args .rows .now) = after-or-two .or-two .kept .0 in (omega arith, omega arith, omega arith)
 
 same-length : tie.Need-same-length
 same-length c = search needs
 
 returns : tie.Need-returns
 returns c =
-    let a = c .before .before .before .before .before .before .before .before .before .args in
-    let p = c .before .before .before .before .before .before .before .before .before .pre in
+    let after-or-two = c .before .before .before .before .before .before in
+    let start = after-or-two .before .before .before in
+    let a = start .args in
+    let p = start .pre in
     λ s t e d.
     c .before .before .or-two2 .ensures
-    ∙ ap (λ (f : ℕ → ℕ). either f (shifted ((a .x + 1) * 1024 + a .y) (a .v / 4))) (c .before .before .before .before .before .before .or-two .ensures ∙ ap (λ (f : ℕ → ℕ). either f (shifted (a .x * 1024 + a .y) (a .v % 4))) e)
+    ∙ ap (λ (f : ℕ → ℕ). either f (shifted ((a .x + 1) * 1024 + a .y) (a .v / 4)))
+    (after-or-two .or-two .ensures ∙ ap (λ (f : ℕ → ℕ). either f (shifted (a .x * 1024 + a .y) (a .v % 4))) e)
     ∙ four-cells s (a .x) (a .y) (a .v) t (p .1) (p .3) d
 
 pub put-cells-spec : {M : Type 1} → statement M

@@ -1,19 +1,20 @@
 -- `spread` writes the quarters of one square after another. The loop's invariant: those of the squares passed are at the front of `next`. The measure is the
 -- squares left. Assumes nothing.
 use mathlib.Core.Path.{_≡_, refl, sym, ap, _∙_}
-use Prim.Native.Nat.{ℕ, _+_, _-_, _*_, _/_, _%_, _^_, _≤_, _<_}
+use Prim.Native.Nat.{ℕ, _+_, _-_, _*_, _≤_}
 use native.Mathlib.Omega.{arith}
 use lib.ListN.{length, getD}
 use Rattle.k2.specs.PairSets.{Cells, union}
 use Rattle.packing.specs.Reading.{inside, squareRow, squareColumn, squaresTo, FitAll, ReadAll}
-use Rattle.packing.proofs.Lists.{squares-next}
+use Rattle.packing.proofs.SquareLaws.{squares-next}
 use Rattle.packing.proofs.loading.spread.Statement.{statement}
 use Rattle.packing.proofs.loading.spread.Tie as tie
 
 abbrev Inv-loop : tie.InvT-loop
 Inv-loop tree before h list sense next₀ from count m₀ i₀ next m i =
     (i ≤ count) × (m ≤ 4 * i) × (length next ≡ length next₀) × FitAll (h - 1) next 0 m
-    × ((t : Cells) → ReadAll sense tree h list from count t → ReadAll sense tree (h - 1) next 0 m t × (squaresTo m (h - 1) next 0 t ≡ squaresTo i h list from t))
+    × ((t : Cells) → ReadAll sense tree h list from count t
+    → ReadAll sense tree (h - 1) next 0 m t × (squaresTo m (h - 1) next 0 t ≡ squaresTo i h list from t))
 
 abbrev μ-loop : tie.MeasureT-loop
 μ-loop tree before h list sense next₀ from count m₀ i₀ next m i = count - i
@@ -56,8 +57,11 @@ loop-again c =
       p .ensures .1,
       λ u n.
           let R = l .inv .4 u n in
-          let C = p .ensures .2 u (n (l .i) (omega arith)) (R .0) in
-          (C .0, C .1 ∙ ap (λ (s : Cells). union s (inside (a .h) (squareRow w) (squareColumn w) u)) (R .1) ∙ sym (squares-next (l .i) (a .h) (a .list .now) (a .part .from) u)),
+          let C = p .ensures .2 u (n (l .i) (omega arith)) (R .0) in (
+            C .0,
+            C .1 ∙ ap (λ (s : Cells). union s (inside (a .h) (squareRow w) (squareColumn w) u)) (R .1)
+                ∙ sym (squares-next (l .i) (a .h) (a .list .now) (a .part .from) u),
+          ),
     )
 
 same-length : tie.Need-same-length Inv-loop μ-loop

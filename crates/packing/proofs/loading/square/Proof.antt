@@ -3,7 +3,7 @@ use native.Mathlib.Omega.{arith}
 use borrow.Author.Needs.{needs}
 use Rattle.k2.specs.Bits.{bitAt}
 use Rattle.k2.specs.BitLaws.{bit-lt}
-use Rattle.packing.proofs.Loads.{square-plain, square-turned}
+use Rattle.packing.proofs.LoadLaws.{square-plain, square-turned}
 use Rattle.packing.proofs.loading.square.Statement.{statement}
 use Rattle.packing.proofs.loading.square.Tie as tie
 

@@ -3,7 +3,7 @@
 use mathlib.Core.Path.{_≡_}
 use Prim.Native.Nat.{_-_, _≤_}
 use native.Mathlib.Omega.{arith}
-use Rattle.packing.proofs.Stores.{Bytes, bytes-none, bytes-more, bytes-all}
+use Rattle.packing.proofs.StoreLaws.{Bytes, bytes-none, bytes-more, bytes-all}
 use Rattle.packing.proofs.making.block.Statement.{statement}
 use Rattle.packing.proofs.making.block.Tie as tie
 

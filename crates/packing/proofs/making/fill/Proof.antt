@@ -13,18 +13,23 @@ use Rattle.k2.specs.PairSets.{Cells, IsSet}
 use Rattle.k2.specs.Heap.{cells}
 use Rattle.rows.specs.Rows.{flat}
 use Rattle.packing.specs.Image.{raised, blocksTo}
-use Rattle.packing.proofs.Blocks.{to-none, to-row, to-all}
+use Rattle.packing.proofs.BlockLaws.{to-none, to-row, to-all}
 use Rattle.packing.proofs.making.fill.Statement.{statement}
 use Rattle.packing.proofs.making.fill.Tie as tie
 
 abbrev Inv-loop2 : tie.InvT-loop2
-Inv-loop2 rows g base heap₀ side r c₀ heap c = (c ≤ 128) × (c % 8 ≡ 0) × (length heap ≡ length heap₀) × ((a : Cells) → IsSet (2 ^ (g + 3)) a → bitAt rows ≡ flat a → bitAt heap₀ ≡ raised base (cells (g + 3) (blocksTo (r * 128) a)) → bitAt heap ≡ raised base (cells (g + 3) (blocksTo (r * 128 + c) a)))
+Inv-loop2 rows g base heap₀ side r c₀ heap c =
+    (c ≤ 128) × (c % 8 ≡ 0) × (length heap ≡ length heap₀)
+    × ((a : Cells) → IsSet (2 ^ (g + 3)) a → bitAt rows ≡ flat a → bitAt heap₀ ≡ raised base (cells (g + 3) (blocksTo (r * 128) a))
+    → bitAt heap ≡ raised base (cells (g + 3) (blocksTo (r * 128 + c) a)))
 
 abbrev μ-loop2 : tie.MeasureT-loop2
 μ-loop2 rows g base heap₀ side r c₀ heap c = 128 - c
 
 abbrev Inv-loop : tie.InvT-loop
-Inv-loop rows g base heap₀ side r₀ heap r = (r ≤ side) × (length heap ≡ length heap₀) × ((a : Cells) → IsSet (2 ^ (g + 3)) a → bitAt rows ≡ flat a → bitAt heap₀ ≡ none → bitAt heap ≡ raised base (cells (g + 3) (blocksTo (r * 128) a)))
+Inv-loop rows g base heap₀ side r₀ heap r =
+    (r ≤ side) × (length heap ≡ length heap₀)
+    × ((a : Cells) → IsSet (2 ^ (g + 3)) a → bitAt rows ≡ flat a → bitAt heap₀ ≡ none → bitAt heap ≡ raised base (cells (g + 3) (blocksTo (r * 128) a)))
 
 abbrev μ-loop : tie.MeasureT-loop
 μ-loop rows g base heap₀ side r₀ heap r = side - r
@@ -50,9 +55,18 @@ loop2-holds c =
 
 fill-eight-requires : tie.Need-fill-eight-requires Inv-loop2 μ-loop2 Inv-loop μ-loop
 fill-eight-requires c κs =
-    let p = c .before .before .before .before .before .before .before .pre in
-    let e = side (c .before .before .before .before .before .before .before) in
-    (p .0, rw e at (c .before .before .before .loop-test .taken), omega (arith, few (c .before .before .before .before .before .before .before)), c .before .before .loop2 .inv .1, p .1, p .2, omega (arith, c .before .before .loop2 .inv .2, c .before .before .before .before .loop .inv .1))
+    let at-loop2 = c .before .before in
+    let start = at-loop2 .before .before .before .before .before in
+    let p = start .pre in
+    let e = side start in (
+      p .0,
+      rw e at (at-loop2 .before .loop-test .taken),
+      omega (arith, few start),
+      at-loop2 .loop2 .inv .1,
+      p .1,
+      p .2,
+      omega (arith, at-loop2 .loop2 .inv .2, at-loop2 .before .before .loop .inv .1),
+    )
 
 add-c : tie.Need-add-c Inv-loop2 μ-loop2 Inv-loop μ-loop
 add-c c = omega arith
@@ -62,14 +76,17 @@ loop2-less c = omega (arith, few (c .before .before .before .before .before .bef
 
 loop2-again : tie.Need-loop2-again Inv-loop2 μ-loop2 Inv-loop μ-loop
 loop2-again c =
-    let l = c .before .before .before .before .before .loop2 in
+    let at-loop2 = c .before .before .before .before .before in
+    let at-loop = at-loop2 .before .before in
+    let start = at-loop .before .before .before in
+    let l = at-loop2 .loop2 in
     let f = c .before .before .fill-eight in (
-      omega (arith, few (c .before .before .before .before .before .before .before .before .before .before)),
+      omega (arith, few start),
       omega arith,
       f .kept .1 .1 .1 .1 .1 .0 ∙ l .inv .2,
       λ s is e h.
-          let a = c .before .before .before .before .before .before .before .before .before .before .args in
-          let x : c .before .before .before .before .before .before .before .loop .r * 128 + l .c + 8 ≡ c .before .before .before .before .before .before .before .loop .r * 128 + (l .c + 8) = omega arith in
+          let a = start .args in
+          let x : at-loop .loop .r * 128 + l .c + 8 ≡ at-loop .loop .r * 128 + (l .c + 8) = omega arith in
           rw x at (f .ensures s is e (l .inv .3 s is e h)),
     )
 
@@ -81,15 +98,18 @@ loop-less c = omega arith
 
 loop-again : tie.Need-loop-again Inv-loop2 μ-loop2 Inv-loop μ-loop
 loop-again c =
-    let l = c .before .before .before .loop in
+    let at-loop = c .before .before .before in
+    let start = at-loop .before .before .before in
+    let l = at-loop .loop in
     let k = c .before .loop2 in
-    let a = c .before .before .before .before .before .before .args in
-    let p = c .before .before .before .before .before .before .pre in (
+    let a = start .args in
+    let p = start .pre in (
       omega arith,
       k .inv .2 ∙ l .inv .1,
       λ s is e h.
           k .inv .3 s is e (l .inv .2 s is e h)
-          ∙ ap (λ (t : Cells). raised (a .base) (cells (a .g + 3) t)) (to-row (a .g) (p .0) s is (l .r) (k .c) (rw (side (c .before .before .before .before .before .before)) at (c .loop2-test .left)) (k .inv .0)),
+          ∙ ap (λ (t : Cells). raised (a .base) (cells (a .g + 3) t))
+          (to-row (a .g) (p .0) s is (l .r) (k .c) (rw (side start) at (c .loop2-test .left)) (k .inv .0)),
     )
 
 same-length : tie.Need-same-length Inv-loop2 μ-loop2 Inv-loop μ-loop
@@ -97,10 +117,11 @@ same-length c = search needs
 
 returns : tie.Need-returns Inv-loop2 μ-loop2 Inv-loop μ-loop
 returns c =
+    let start = c .before .before .before .before in
     let l = c .before .loop in
-    let a = c .before .before .before .before .args in
-    let x : l .r ≡ 2 ^ a .g = omega (arith, side (c .before .before .before .before)) in
-    λ s is e h. l .inv .2 s is e h ∙ rw x (ap (λ (t : Cells). raised (a .base) (cells (a .g + 3) t)) (to-all (a .g) (c .before .before .before .before .pre .0) s is))
+    let a = start .args in
+    let x : l .r ≡ 2 ^ a .g = omega (arith, side start) in
+    λ s is e h. l .inv .2 s is e h ∙ rw x (ap (λ (t : Cells). raised (a .base) (cells (a .g + 3) t)) (to-all (a .g) (start .pre .0) s is))
 
 pub fill-spec : {M : Type 1} → statement M
 fill-spec =

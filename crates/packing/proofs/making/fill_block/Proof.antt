@@ -7,7 +7,7 @@ use borrow.Author.Needs.{needs}
 use lib.Pow.{pow-mono}
 use Rattle.k2.specs.Bits.{bitAt}
 use Rattle.k2.specs.SizeLaws.{four-most}
-use Rattle.packing.proofs.Blocks.{byte-none, turn-none, turn-some}
+use Rattle.packing.proofs.BlockLaws.{byte-none, turn-none, turn-some}
 use Rattle.packing.proofs.making.fill_block.Statement.{statement}
 use Rattle.packing.proofs.making.fill_block.Tie as tie
 
@@ -25,10 +25,12 @@ shr-if1 c = omega arith
 
 returns : tie.Need-returns
 returns c =
-    let a = c .before .before .before .args in
-    let p = c .before .before .before .pre in
+    let start = c .before .before .before in
+    let a = start .args in
+    let p = start .pre in
     λ s is e h.
-    turn-none (a .rows .now) s e (a .r) (a .c) (omega arith) (a .g) (p .0) is (p .1) (a .base) 0 (omega arith) (byte-none (a .rows .now) s e (a .r) (a .c) (omega arith) (a .seen) (p .6) (c .if1 .taken)) (bitAt (a .heap .now)) h refl
+    turn-none (a .rows .now) s e (a .r) (a .c) (omega arith) (a .g) (p .0) is (p .1) (a .base) 0 (omega arith)
+    (byte-none (a .rows .now) s e (a .r) (a .c) (omega arith) (a .seen) (p .6) (c .if1 .taken)) (bitAt (a .heap .now)) h refl
 
 mul-block : tie.Need-mul-block
 mul-block c = omega (arith, few (c .before .before .before))
@@ -59,19 +61,23 @@ same-length c = search needs
 
 returns-2 : tie.Need-returns-2
 returns-2 c =
-    let a = c .before .before .before .before .before .before .before .before .before .before .before .args in
-    let p = c .before .before .before .before .before .before .before .before .before .before .before .pre in
-    let v = c .before .before .before .before .before .before .before .block in
-    let w = c .before .before .before .shuffle in
-    let z = c .before .before .before .before .before .place in
+    let after-shuffle = c .before .before .before in
+    let then2 = after-shuffle .before .before .before in
+    let start = then2 .before .before .before .before .before in
+    let a = start .args in
+    let p = start .pre in
+    let v = then2 .before .block in
+    let w = after-shuffle .shuffle in
+    let z = after-shuffle .before .before .place in
     λ s is e h.
     turn-some (a .rows .now) s e (a .r) (a .c) (omega arith) (a .g) (p .0) is (p .1) (a .base) (v .result) (omega arith) (v .ensures) (bitAt (a .heap .now)) h
-    (c .before .before .before .before .before .before .if2 .taken) (w .result) (z .result) (omega arith) (w .ensures) (z .ensures .0) _ (c .before .before .or-word .ensures)
+    (then2 .if2 .taken) (w .result) (z .result) (omega arith) (w .ensures) (z .ensures .0) _ (c .before .before .or-word .ensures)
 
 returns-3 : tie.Need-returns-3
 returns-3 c =
-    let a = c .before .before .before .before .before .args in
-    let p = c .before .before .before .before .before .pre in
+    let start = c .before .before .before .before .before in
+    let a = start .args in
+    let p = start .pre in
     let v = c .before .block in
     λ s is e h.
     turn-none (a .rows .now) s e (a .r) (a .c) (omega arith) (a .g) (p .0) is (p .1) (a .base) (v .result) (omega arith) (v .ensures) (bitAt (a .heap .now)) h

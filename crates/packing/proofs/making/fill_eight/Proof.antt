@@ -11,12 +11,15 @@ use Rattle.k2.specs.PairSets.{Cells, IsSet}
 use Rattle.k2.specs.Heap.{cells}
 use Rattle.rows.specs.Rows.{flat}
 use Rattle.packing.specs.Image.{raised, blocksTo}
-use Rattle.packing.proofs.Blocks.{eight-none}
+use Rattle.packing.proofs.BlockLaws.{eight-none}
 use Rattle.packing.proofs.making.fill_eight.Statement.{statement}
 use Rattle.packing.proofs.making.fill_eight.Tie as tie
 
 abbrev Inv-loop : tie.InvT-loop
-Inv-loop rows r c g base heap₀ seen k₀ heap k = (k ≤ 8) × (length heap ≡ length heap₀) × ((a : Cells) → IsSet (2 ^ (g + 3)) a → bitAt rows ≡ flat a → bitAt heap₀ ≡ raised base (cells (g + 3) (blocksTo (r * 128 + c) a)) → bitAt heap ≡ raised base (cells (g + 3) (blocksTo (r * 128 + c + k) a)))
+Inv-loop rows r c g base heap₀ seen k₀ heap k =
+    (k ≤ 8) × (length heap ≡ length heap₀)
+    × ((a : Cells) → IsSet (2 ^ (g + 3)) a → bitAt rows ≡ flat a → bitAt heap₀ ≡ raised base (cells (g + 3) (blocksTo (r * 128 + c) a))
+    → bitAt heap ≡ raised base (cells (g + 3) (blocksTo (r * 128 + c + k) a)))
 
 abbrev μ-loop : tie.MeasureT-loop
 μ-loop rows r c g base heap₀ seen k₀ heap k = 8 - k
@@ -43,11 +46,13 @@ add-fill-block c = omega arith
 
 fill-block-requires : tie.Need-fill-block-requires Inv-loop μ-loop
 fill-block-requires c κs =
-    let a = c .before .before .before .before .before .before .before .args in
-    let p = c .before .before .before .before .before .before .before .pre in
+    let after-together = c .before .before .before .before in
+    let start = after-together .before .before .before in
+    let a = start .args in
+    let p = start .pre in
     let l = c .before .before .loop in
     let z : (a .c + l .k) / 8 ≡ a .c / 8 = omega arith in
-    (p .0, p .1, omega arith, p .4, p .5, omega (arith, l .inv .1), rw z (c .before .before .before .before .together .ensures .1))
+    (p .0, p .1, omega arith, p .4, p .5, omega (arith, l .inv .1), rw z (after-together .together .ensures .1))
 
 add-k : tie.Need-add-k Inv-loop μ-loop
 add-k c = omega arith
@@ -76,10 +81,12 @@ returns c = let l = c .before .loop in let e : l .k ≡ 8 = omega arith in λ s 
 
 returns-2 : tie.Need-returns-2 Inv-loop μ-loop
 returns-2 c =
-    let a = c .before .before .before .before .args in
-    let p = c .before .before .before .before .pre in
+    let start = c .before .before .before .before in
+    let a = start .args in
+    let p = start .pre in
     λ s is e h.
-    h ∙ ap (λ (t : Cells). raised (a .base) (cells (a .g + 3) t)) (eight-none (a .rows .now) s e (a .r) (a .c) (a .g) (p .2) (p .3) (p .0) is (c .before .together .ensures .0 (c .if1 .left)))
+    h ∙ ap (λ (t : Cells). raised (a .base) (cells (a .g + 3) t))
+    (eight-none (a .rows .now) s e (a .r) (a .c) (a .g) (p .2) (p .3) (p .0) is (c .before .together .ensures .0 (c .if1 .left)))
 
 pub fill-eight-spec : {M : Type 1} → statement M
 fill-eight-spec =

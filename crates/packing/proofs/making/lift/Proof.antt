@@ -8,12 +8,14 @@ use lib.ListN.{length}
 use Rattle.k2.specs.Bits.{bitAt}
 use Rattle.k2.specs.BitLaws.{bit-zero}
 use Rattle.packing.specs.Image.{above, Heaped}
-use Rattle.packing.proofs.Lifts.{lift-gap}
+use Rattle.packing.proofs.LiftLaws.{lift-gap}
 use Rattle.packing.proofs.making.lift.Statement.{statement}
 use Rattle.packing.proofs.making.lift.Tie as tie
 
 abbrev Inv-loop : tie.InvT-loop
-Inv-loop heap₀ i₀ heap i = (1 ≤ i) × (i ≤ length heap₀) × (length heap ≡ length heap₀) × ((b : ℕ) (f : ℕ → ℕ) → Heaped b f → 4 * b + 4 ≤ 64 * length heap₀ → bitAt heap₀ ≡ above b f → bitAt heap ≡ above (min b (16 * i - 1)) f)
+Inv-loop heap₀ i₀ heap i =
+    (1 ≤ i) × (i ≤ length heap₀) × (length heap ≡ length heap₀)
+    × ((b : ℕ) (f : ℕ → ℕ) → Heaped b f → 4 * b + 4 ≤ 64 * length heap₀ → bitAt heap₀ ≡ above b f → bitAt heap ≡ above (min b (16 * i - 1)) f)
 
 abbrev μ-loop : tie.MeasureT-loop
 μ-loop heap₀ i₀ heap i = i

@@ -8,12 +8,13 @@ use borrow.Author.Needs.{needs}
 use lib.ListN.{length}
 use Rattle.k2.specs.Bits.{bitAt}
 use Rattle.packing.specs.Image.{above, Heaped}
-use Rattle.packing.proofs.Lifts.{lift-some, lift-none, above-all}
+use Rattle.packing.proofs.LiftLaws.{lift-some, lift-none, above-all}
 use Rattle.packing.proofs.making.lift_first.Statement.{statement}
 use Rattle.packing.proofs.making.lift_first.Tie as tie
 
 abbrev Inv-loop : tie.InvT-loop
-Inv-loop heap₀ q₀ heap q = (q ≤ 15) × (length heap ≡ length heap₀) × ((b : ℕ) (f : ℕ → ℕ) → Heaped b f → bitAt heap₀ ≡ above (min b 15) f → bitAt heap ≡ above (min b q) f)
+Inv-loop heap₀ q₀ heap q =
+    (q ≤ 15) × (length heap ≡ length heap₀) × ((b : ℕ) (f : ℕ → ℕ) → Heaped b f → bitAt heap₀ ≡ above (min b 15) f → bitAt heap ≡ above (min b q) f)
 
 abbrev μ-loop : tie.MeasureT-loop
 μ-loop heap₀ q₀ heap q = q

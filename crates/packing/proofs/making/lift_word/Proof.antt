@@ -5,7 +5,7 @@ use native.Mathlib.Omega.{arith}
 use borrow.Author.Needs.{needs}
 use Rattle.k2.specs.Bits.{bitAt}
 use Rattle.k2.specs.BitLaws.{bit-zero}
-use Rattle.packing.proofs.Lifts.{lift-word, lift-gap}
+use Rattle.packing.proofs.LiftLaws.{lift-word, lift-gap}
 use Rattle.packing.proofs.making.lift_word.Statement.{statement}
 use Rattle.packing.proofs.making.lift_word.Tie as tie
 
@@ -32,10 +32,13 @@ same-length c = search needs
 
 returns : tie.Need-returns
 returns c =
-    let a = c .before .before .before .before .before .before .before .before .args in
+    let after-summary = c .before .before .before in
+    let known2 = after-summary .before .before .before in
+    let a = known2 .before .before .args in
     λ b f h e.
     c .before .before .or-word .ensures
-    ∙ lift-word b f h (a .heap .now) (a .i) (16 * a .i - 1) (c .before .before .before .summary .result) (omega arith) (omega arith) (omega (arith, c .before .before .before .before .before .before .slice-known2 .given (a .i))) (c .before .before .before .summary .ensures) e
+    ∙ lift-word b f h (a .heap .now) (a .i) (16 * a .i - 1) (after-summary .summary .result) (omega arith)
+    (omega arith) (omega (arith, known2 .slice-known2 .given (a .i))) (after-summary .summary .ensures) e
 
 returns-2 : tie.Need-returns-2
 returns-2 c =

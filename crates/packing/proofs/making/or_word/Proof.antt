@@ -1,7 +1,7 @@
 -- `or_word` puts the lower digits into one word and the others into the next: `or-word`. Assumes nothing.
 use borrow.Author.Needs.{needs}
 use native.Mathlib.Omega.{arith}
-use Rattle.packing.proofs.Stores.{or-word}
+use Rattle.packing.proofs.StoreLaws.{or-word}
 use Rattle.packing.proofs.making.or_word.Statement.{statement}
 use Rattle.packing.proofs.making.or_word.Tie as tie
 

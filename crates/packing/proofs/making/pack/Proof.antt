@@ -6,7 +6,7 @@ use borrow.Author.Needs.{needs}
 use lib.ListN.{length, take, length-take}
 use Rattle.k2.specs.Heap.{fullSize}
 use Rattle.k2.specs.SizeLaws.{treeUnit-size}
-use Rattle.packing.proofs.Packs.{packed-tree}
+use Rattle.packing.proofs.PackLaws.{packed-tree}
 use Rattle.packing.proofs.making.pack.Statement.{statement}
 use Rattle.packing.proofs.making.pack.Tie as tie
 
@@ -27,22 +27,27 @@ slice-aggregate-pack-part c = rw length-take (omega (arith, c .before .tree-unit
 
 pack-part-requires : tie.Need-pack-part-requires
 pack-part-requires c κs =
+    let start = c .before .before .before .before .before in
     let h = c .before .before .height in
     let u = c .before .tree-unit in
-    let s : u .result ≡ (fullSize (h .result) 1 + 63) / 64 = u .ensures .0 ∙ treeUnit-size (c .before .before .before .before .before .args .n) ∙ ap (λ (x : ℕ). (fullSize x 1 + 63) / 64) (sym (h .ensures .0)) in
-    (c .before .before .before .before .before .pre .0, h .ensures .1, h .ensures .2, rw length-take (omega arith))
+    let s : u .result ≡ (fullSize (h .result) 1 + 63) / 64 =
+    u .ensures .0 ∙ treeUnit-size (start .args .n) ∙ ap (λ (x : ℕ). (fullSize x 1 + 63) / 64) (sym (h .ensures .0)) in
+    (start .pre .0, h .ensures .1, h .ensures .2, rw length-take (omega arith))
 
 same-length : tie.Need-same-length
 same-length c = search needs
 
 returns : tie.Need-returns
 returns c =
-    let h = c .before .before .before .before .before .height in
+    let after-tree-unit = c .before .before .before .before in
+    let start = after-tree-unit .before .before .before .before in
+    let h = after-tree-unit .before .height in
     let p = c .before .before .pack-part in
-    let k : length (p .last .1 .1 .0) ≡ length (take (c .before .before .before .before .tree-unit .result + 1) (c .before .before .before .before .before .before .before .before .args .out .now)) = p .kept .1 .1 .0 in (
-      omega (arith, p .ensures .0, length-take (c .before .before .before .before .tree-unit .result + 1) (c .before .before .before .before .before .before .before .before .args .out .now)),
+    let k : length (p .last .1 .1 .0) ≡ length (take (after-tree-unit .tree-unit .result + 1) (start .args .out .now)) = p .kept .1 .1 .0 in (
+      omega (arith, p .ensures .0, length-take (after-tree-unit .tree-unit .result + 1) (start .args .out .now)),
       λ a is e.
-          packed-tree (c .before .before .before .before .before .before .before .before .args .n) (h .result) (p .result) a (p .last .1 .1 .0) _ (h .ensures .0) (h .ensures .3) is (omega (arith, p .ensures .0)) (λ s. p .ensures .1 a s e),
+          packed-tree (start .args .n) (h .result) (p .result) a (p .last .1 .1 .0) _ (h .ensures .0)
+          (h .ensures .3) is (omega (arith, p .ensures .0)) (λ s. p .ensures .1 a s e),
     )
 
 pub pack-spec : {M : Type 1} → statement M

@@ -4,18 +4,18 @@ use Prim.Native.Nat.{_+_, _-_, _*_}
 use native.Mathlib.Omega.{arith}
 use borrow.Author.Needs.{needs}
 use borrow.Author.Tests.{eqb-true}
-use Rattle.packing.proofs.Stores.{off}
+use Rattle.packing.proofs.StoreLaws.{false-absurd}
 use Rattle.packing.proofs.making.quiet.Statement.{statement}
 use Rattle.packing.proofs.making.quiet.Tie as tie
 
 returns : tie.Need-returns
-returns c = λ e. off e
+returns c = λ e. false-absurd e
 
 sub-if2 : tie.Need-sub-if2
 sub-if2 c = search needs
 
 returns-2 : tie.Need-returns-2
-returns-2 c = λ e. off e
+returns-2 c = λ e. false-absurd e
 
 together-requires : tie.Need-together-requires
 together-requires c κs = λ k l. omega arith

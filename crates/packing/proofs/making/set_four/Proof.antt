@@ -1,6 +1,6 @@
 -- `set_four` clears four digits of a word and puts others in: `set-four`. Assumes nothing.
 use borrow.Author.Needs.{needs}
-use Rattle.packing.proofs.Stores.{set-four}
+use Rattle.packing.proofs.StoreLaws.{set-four}
 use Rattle.packing.proofs.making.set_four.Statement.{statement}
 use Rattle.packing.proofs.making.set_four.Tie as tie
 

@@ -7,7 +7,7 @@ use borrow.Author.Needs.{needs}
 use lib.ListN.{length}
 use Rattle.k2.specs.Bits.{bitAt}
 use Rattle.packing.specs.Image.{Squeezing}
-use Rattle.packing.proofs.Squeezes.{squeeze-start, squeeze-quiet, squeeze-end}
+use Rattle.packing.proofs.SqueezeLaws.{squeeze-start, squeeze-quiet, squeeze-end}
 use Rattle.packing.proofs.making.squeeze.Statement.{statement}
 use Rattle.packing.proofs.making.squeeze.Tie as tie
 
@@ -31,9 +31,14 @@ loop-less c = let q = c .before .quiet .ensures (c .if1 .taken) in omega (arith,
 
 loop-again : tie.Need-loop-again Inv-loop μ-loop
 loop-again c =
-    let l = c .before .before .before .before .loop in
-    let q = c .before .quiet .ensures (c .if1 .taken) in
-    (omega (arith, l .inv .2), omega arith, l .inv .2, squeeze-quiet (bitAt (c .before .before .before .before .before .before .args .heap .now)) (l .i) (l .g) (l .heap) (q .1) (l .inv .3))
+    let at-loop = c .before .before .before .before in
+    let l = at-loop .loop in
+    let q = c .before .quiet .ensures (c .if1 .taken) in (
+      omega (arith, l .inv .2),
+      omega arith,
+      l .inv .2,
+      squeeze-quiet (bitAt (at-loop .before .before .args .heap .now)) (l .i) (l .g) (l .heap) (q .1) (l .inv .3),
+    )
 
 squeeze-word-requires : tie.Need-squeeze-word-requires Inv-loop μ-loop
 squeeze-word-requires c κs = (omega arith, omega arith)
@@ -46,9 +51,10 @@ loop-less-2 c = omega (arith, c .before .before .before .before .before .before 
 
 loop-again-2 : tie.Need-loop-again-2 Inv-loop μ-loop
 loop-again-2 c =
-    let l = c .before .before .before .before .before .before .before .before .loop in
+    let at-loop = c .before .before .before .before .before .before .before .before in
+    let l = at-loop .loop in
     let s = c .before .before .squeeze-word in
-    (omega (arith, l .inv .2), s .ensures .0, s .kept .0 ∙ l .inv .2, s .ensures .1 (bitAt (c .before .before .before .before .before .before .before .before .before .before .args .heap .now)) (l .inv .3))
+    (omega (arith, l .inv .2), s .ensures .0, s .kept .0 ∙ l .inv .2, s .ensures .1 (bitAt (at-loop .before .before .args .heap .now)) (l .inv .3))
 
 trim-requires : tie.Need-trim-requires Inv-loop μ-loop
 trim-requires c κs = omega (arith, c .before .before .loop .inv .2)
@@ -64,8 +70,11 @@ returns c =
     let l = c .before .before .before .before .before .loop in
     let h = c .before .before .before .before .before .before .before .args .heap .now in
     let t = c .before .before .trim in
-    let e : l .i ≡ length h = omega (arith, l .inv .2) in
-    (omega arith, squeeze-end (bitAt h) (16 * length h) (l .g) (l .heap) (t .last .0) (rw e at (l .inv .3)) (λ i. omega (arith, c .slice-known3 .given i)) (omega (arith, t .kept .0, l .inv .2)) (t .ensures .0) (t .ensures .1))
+    let e : l .i ≡ length h = omega (arith, l .inv .2) in (
+      omega arith,
+      squeeze-end (bitAt h) (16 * length h) (l .g) (l .heap) (t .last .0) (rw e at (l .inv .3))
+          (λ i. omega (arith, c .slice-known3 .given i)) (omega (arith, t .kept .0, l .inv .2)) (t .ensures .0) (t .ensures .1),
+    )
 
 pub squeeze-spec : {M : Type 1} → statement M
 squeeze-spec =

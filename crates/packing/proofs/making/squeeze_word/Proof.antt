@@ -10,12 +10,13 @@ use lib.Pow.{pow-mono, shr-le}
 use native.Mathlib.Nat.{lt-of-lt-of-le}
 use Rattle.k2.specs.WordLaws.{trailing-lt}
 use Rattle.packing.specs.Image.{Squeezing}
-use Rattle.packing.proofs.Squeezes.{Left, left-start, left-more, left-end, turns-less, turns-left}
+use Rattle.packing.proofs.SqueezeLaws.{Left, left-start, left-more, left-end, turns-less, turns-left}
 use Rattle.packing.proofs.making.squeeze_word.Statement.{statement}
 use Rattle.packing.proofs.making.squeeze_word.Tie as tie
 
 abbrev Inv-loop : tie.InvT-loop
-Inv-loop heap₀ i g r₀ w₀ heap r w = (g ≤ r) × (r ≤ g + 16) × (w < 2 ^ (4 * (g + 16 - r))) × (length heap ≡ length heap₀) × ((f : ℕ → ℕ) → Squeezing f (16 * i) g heap₀ → Left f i r w heap)
+Inv-loop heap₀ i g r₀ w₀ heap r w =
+    (g ≤ r) × (r ≤ g + 16) × (w < 2 ^ (4 * (g + 16 - r))) × (length heap ≡ length heap₀) × ((f : ℕ → ℕ) → Squeezing f (16 * i) g heap₀ → Left f i r w heap)
 
 abbrev μ-loop : tie.MeasureT-loop
 μ-loop heap₀ i g r₀ w₀ heap r w = w
@@ -69,17 +70,19 @@ loop-less c = let w = c .before .before .before .before .before .loop .w in omeg
 
 loop-again : tie.Need-loop-again Inv-loop μ-loop
 loop-again c =
-    let a = c .before .before .before .before .before .before .before .before .args in
-    let l = c .before .before .before .before .before .loop in
-    let d = some (c .before .before .before .before) in
+    let after-set-four = c .before .before in
+    let in-loop = after-set-four .before .before in
+    let a = in-loop .before .before .before .before .args in
+    let l = in-loop .before .loop in
+    let d = some in-loop in
     let k : ℕ = trailingZeros 64 (l .w) / 4 * 4 in
     let e : a .g + 16 - (l .r + 1) ≡ a .g + 16 - l .r - 1 = omega arith in (
       omega arith,
       omega arith,
       rw e (turns-less (l .w) k (a .g + 16 - l .r) d (l .inv .2)),
-      c .before .before .set-four .kept .0 ∙ l .inv .3,
+      after-set-four .set-four .kept .0 ∙ l .inv .3,
       λ f s.
-          left-more f (a .i) (l .r) (l .w) (l .heap) (fits (c .before .before .before .before)) (omega arith) (l .inv .4 f s) _ (c .before .before .set-four .ensures),
+          left-more f (a .i) (l .r) (l .w) (l .heap) (fits in-loop) (omega arith) (l .inv .4 f s) _ (after-set-four .set-four .ensures),
     )
 
 same-length : tie.Need-same-length Inv-loop μ-loop

@@ -1,7 +1,7 @@
 -- `summary` brings a bit for each group of four to the lowest sixteen places: `summary-law`, whose five steps are each shown by a table.
 -- Assumes nothing.
 use native.Mathlib.Omega.{arith}
-use Rattle.packing.proofs.Words.{summary-law}
+use Rattle.packing.proofs.WordLaws.{summary-law}
 use Rattle.packing.proofs.making.summary.Statement.{statement}
 use Rattle.packing.proofs.making.summary.Tie as tie
 

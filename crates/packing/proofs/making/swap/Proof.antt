@@ -1,7 +1,7 @@
 -- `swap` exchanges two sets of bits: `swap-law`. Assumes nothing.
 use borrow.Author.Needs.{needs}
 use native.Mathlib.Omega.{arith}
-use Rattle.packing.proofs.Words.{swap-law}
+use Rattle.packing.proofs.WordLaws.{swap-law}
 use Rattle.packing.proofs.making.swap.Statement.{statement}
 use Rattle.packing.proofs.making.swap.Tie as tie
 

@@ -5,7 +5,7 @@ use Prim.Native.Nat.{ℕ, _+_, _-_, _*_, _≤_, _<_}
 use native.Mathlib.Omega.{arith}
 use lib.ListN.{getD}
 use Rattle.packing.specs.Image.{Together}
-use Rattle.packing.proofs.Stores.{or-more, or-digits}
+use Rattle.packing.proofs.StoreLaws.{or-more, or-digits}
 use Rattle.packing.proofs.making.together.Statement.{statement}
 use Rattle.packing.proofs.making.together.Tie as tie
 

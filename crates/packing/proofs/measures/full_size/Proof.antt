@@ -5,7 +5,7 @@ use Prim.Native.Nat.{_-_, _^_, _≤_}
 use native.Mathlib.Omega.{arith}
 use Rattle.k2.specs.Heap.{fullSize}
 use Rattle.k2.specs.SizeLaws.{four-most, fullSize-most}
-use Rattle.packing.proofs.Sizes.{size-turn}
+use Rattle.packing.proofs.SizeLaws.{size-turn}
 use Rattle.packing.proofs.measures.full_size.Statement.{statement}
 use Rattle.packing.proofs.measures.full_size.Tie as tie
 

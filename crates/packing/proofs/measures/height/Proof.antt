@@ -5,7 +5,7 @@ use Prim.Native.Nat.{_-_, _^_, _≤_, _<_}
 use native.Mathlib.Nat.{pow-suc}
 use native.Mathlib.Numerals.{add-one}
 use native.Mathlib.Omega.{arith}
-use Rattle.packing.proofs.Sizes.{Low, low-more, low-small, height-found}
+use Rattle.packing.proofs.SizeLaws.{Low, low-more, low-small, height-found}
 use Rattle.packing.proofs.measures.height.Statement.{statement}
 use Rattle.packing.proofs.measures.height.Tie as tie
 

@@ -5,7 +5,7 @@ use native.Mathlib.Omega.{arith}
 use borrow.Author.Needs.{needs}
 use Rattle.k2.specs.Heap.{fullSize}
 use Rattle.k2.specs.SizeLaws.{treeUnit-size}
-use Rattle.packing.proofs.Sizes.{size-some}
+use Rattle.packing.proofs.SizeLaws.{size-some}
 use Rattle.packing.proofs.measures.tree_unit.Statement.{statement}
 use Rattle.packing.proofs.measures.tree_unit.Tie as tie
 
@@ -23,8 +23,11 @@ returns c =
     let n = c .before .before .args .n in
     let h = c .before .height in
     let s = c .full-size in
-    let e : s .result ≡ fullSize (h .result) 1 = s .ensures .0 in
-    (ap (λ (x : ℕ). (x + 63) / 64) (e ∙ ap (λ (x : ℕ). fullSize x 1) (h .ensures .0)) ∙ sym (treeUnit-size n), omega (arith, size-some (h .result) (h .ensures .1)), omega arith)
+    let e : s .result ≡ fullSize (h .result) 1 = s .ensures .0 in (
+      ap (λ (x : ℕ). (x + 63) / 64) (e ∙ ap (λ (x : ℕ). fullSize x 1) (h .ensures .0)) ∙ sym (treeUnit-size n),
+      omega (arith, size-some (h .result) (h .ensures .1)),
+      omega arith,
+    )
 
 pub tree-unit-spec : {M : Type 1} → statement M
 tree-unit-spec = tie.close (tie.spec height-requires full-size-requires add-result returns)

@@ -6,7 +6,7 @@ use borrow.Author.Count.{below-more}
 use lib.ListN.{length, getD, take, length-take}
 use mathlib.Core.List.{List}
 use lib.Seq.{ext-getD, getD-take}
-use Rattle.packing.proofs.Stores.{off}
+use Rattle.packing.proofs.StoreLaws.{false-absurd}
 use Rattle.packing.proofs.testing.same.Statement.{statement}
 use Rattle.packing.proofs.testing.same.Tie as tie
 
@@ -17,7 +17,7 @@ abbrev μ-loop : tie.MeasureT-loop
 μ-loop a b len i₀ i = len - i
 
 returns : tie.Need-returns Inv-loop μ-loop
-returns c = (λ e. off e, λ e. absurd (c .if1 .taken (ap length e ∙ rw length-take (omega arith))))
+returns c = (λ e. false-absurd e, λ e. absurd (c .if1 .taken (ap length e ∙ rw length-take (omega arith))))
 
 loop-holds : tie.Need-loop-holds Inv-loop μ-loop
 loop-holds c = (omega arith, λ k l. absurd (omega arith))
@@ -38,7 +38,7 @@ returns-2 : tie.Need-returns-2 Inv-loop μ-loop
 returns-2 c =
     let l = c .before .before .before .before .loop in
     let a = c .before .before .before .before .before .before .args in
-    (λ e. off e, λ e. absurd (c .if2 .taken (ap (λ (w : List ℕ). getD w (l .i) 0) e ∙ getD-take (a .len) (a .b .now) (l .i) 0 (omega arith))))
+    (λ e. false-absurd e, λ e. absurd (c .if2 .taken (ap (λ (w : List ℕ). getD w (l .i) 0) e ∙ getD-take (a .len) (a .b .now) (l .i) 0 (omega arith))))
 
 add-i : tie.Need-add-i Inv-loop μ-loop
 add-i c = omega arith
@@ -53,8 +53,11 @@ returns-3 : tie.Need-returns-3 Inv-loop μ-loop
 returns-3 c =
     let l = c .before .loop in
     let a = c .before .before .before .args in
-    let n : length (take (a .len) (a .b .now)) ≡ length (a .a .now) = rw length-take (omega arith) in
-    (λ e. ext-getD 0 (a .a .now) (take (a .len) (a .b .now)) (sym n) (λ k h. l .inv .1 k (omega arith) ∙ sym (getD-take (a .len) (a .b .now) k 0 (omega arith))), λ e. refl)
+    let n : length (take (a .len) (a .b .now)) ≡ length (a .a .now) = rw length-take (omega arith) in (
+      λ e. ext-getD 0 (a .a .now) (take (a .len) (a .b .now)) (sym n)
+          (λ k h. l .inv .1 k (omega arith) ∙ sym (getD-take (a .len) (a .b .now) k 0 (omega arith))),
+      λ e. refl,
+    )
 
 pub same-spec : {M : Type 1} → statement M
 same-spec =

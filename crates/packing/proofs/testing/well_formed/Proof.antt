@@ -11,12 +11,14 @@ use Rattle.k2.specs.SizeLaws.{treeWords-most}
 use Rattle.bits.specs.BitSetLaws.{bits-none}
 use Rattle.rows.specs.Rows.{flat, noPairs}
 use Rattle.rows.specs.RowLaws.{flat-none, union-none}
-use Rattle.packing.proofs.Stores.{off, nil-of}
+use Rattle.packing.proofs.StoreLaws.{false-absurd, nil-of}
 use Rattle.packing.proofs.testing.well_formed.Statement.{statement}
 use Rattle.packing.proofs.testing.well_formed.Tie as tie
 
 -- the rows of a tree that is well formed
-loaded : (c : tie.After-load) → (w : WellFormed (c .before .before .before .before .before .before .args .n) (c .before .before .before .before .before .before .args .tree .now)) → bitAt (c .load .last .1 .1 .1 .0) ≡ flat (w .set)
+loaded : (c : tie.After-load)
+    → let start = c .before .before .before .before .before .before in
+    (w : WellFormed (start .args .n) (start .args .tree .now)) → bitAt (c .load .last .1 .1 .1 .0) ≡ flat (w .set)
 loaded c w = c .load .ensures (w .set) noPairs (w .is-set) (w .tree) (bits-none 16384 ∙ sym flat-none) ∙ ap flat (union-none (w .set))
 
 returns : tie.Need-returns
@@ -30,7 +32,7 @@ tree-unit-requires c κs = search needs
 returns-2 : tie.Need-returns-2
 returns-2 c =
     let n = c .before .before .before .before .args .n in
-    (λ e. off e, λ w. absurd (let k = ap length (w .tree) in omega (arith, treeWords-most n (w .set))))
+    (λ e. false-absurd e, λ w. absurd (let k = ap length (w .tree) in omega (arith, treeWords-most n (w .set))))
 
 slice-aggregate-load : tie.Need-slice-aggregate-load
 slice-aggregate-load c = search needs
@@ -46,8 +48,11 @@ within-requires c κs = search needs
 
 returns-3 : tie.Need-returns-3
 returns-3 c =
-    let x = c .before .within in
-    (λ e. off e, λ w. sym (not-true (x .result) (c .if3 .taken)) ∙ x .ensures .1 (record { set = w .set; is-set = w .is-set; rows = loaded (c .before .before .before .before) w }))
+    let x = c .before .within in (
+      λ e. false-absurd e,
+      λ w. sym (not-true (x .result) (c .if3 .taken))
+          ∙ x .ensures .1 (record { set = w .set; is-set = w .is-set; rows = loaded (c .before .before .before .before) w }),
+    )
 
 slice-aggregate-pack : tie.Need-slice-aggregate-pack
 slice-aggregate-pack c = search needs
@@ -66,11 +71,14 @@ same-requires c κs = search needs
 
 returns-4 : tie.Need-returns-4
 returns-4 c =
-    let x = c .before .before .before .before .before .before .before .within in
-    let r = x .ensures .0 (not-false (x .result) (c .before .before .before .before .before .before .if3 .left)) in
-    let p = c .before .before .before .pack .ensures .1 in (
+    let after-pack = c .before .before .before in
+    let else3 = after-pack .before .before .before in
+    let after-load = else3 .before .before .before .before in
+    let x = else3 .before .within in
+    let r = x .ensures .0 (not-false (x .result) (else3 .if3 .left)) in
+    let p = after-pack .pack .ensures .1 in (
       λ e. record { set = r .set; is-set = r .is-set; tree = c .same .ensures .0 e ∙ p (r .set) (r .is-set) (r .rows) .0 },
-      λ w. c .same .ensures .1 (w .tree ∙ sym (p (w .set) (w .is-set) (loaded (c .before .before .before .before .before .before .before .before .before .before) w) .0)),
+      λ w. c .same .ensures .1 (w .tree ∙ sym (p (w .set) (w .is-set) (loaded after-load w) .0)),
     )
 
 pub well-formed-spec : {M : Type 1} → statement M

@@ -7,7 +7,7 @@ use borrow.Author.Needs.{needs}
 use Rattle.paths.specs.Grammar.{open-group}
 use Rattle.paths.specs.Descent.{firstByte, readAtom}
 use Rattle.reader.specs.Progress.{Stands}
-use Rattle.reader.proofs.Steps.{there, group-is, read-as, asks-next-byte, fits-after, room-for-symbol}
+use Rattle.reader.proofs.StepLaws.{there, group-is, read-as, asks-next-byte, fits-after, room-for-symbol}
 use Rattle.reader.proofs.+alternatives+atom+part+sequence.Proof.Ranks.{atom-at, alternatives-below}
 use Rattle.reader.proofs.alternatives.Reads as alternatives
 use Rattle.reader.proofs.atom.Reads as atom
@@ -18,7 +18,18 @@ use Rattle.reader.proofs.written.Reads as written
 use Rattle.reader.proofs.+alternatives+atom+part+sequence.Lts-atom as atom-lts
 
 abbrev pub calls : ℕ → atom-lts.Claims
-calls t = (peek.Asked, peek.Learnt, alternatives-below t, alternatives.Post, closed.Asked, closed.Learnt, symbol-at.Asked, symbol-at.Learnt, written.Asked, written.Learnt)
+calls t = (
+  peek.Asked,
+  peek.Learnt,
+  alternatives-below t,
+  alternatives.Post,
+  closed.Asked,
+  closed.Learnt,
+  symbol-at.Asked,
+  symbol-at.Learnt,
+  written.Asked,
+  written.Learnt,
+)
 
 module _ (t : ℕ) where
   -- the places of the code that a need looks back to, and the way to each: the start; where a ( comes; a symbol where none does
@@ -45,7 +56,8 @@ module _ (t : ℕ) where
   inside c = there (start c .args .s .now) (start c .args .at) open-group (is-open c) (omega arith)
 
   -- a symbol where no ( comes
-  stands : (c : Symbol) → Stands (start-symbol c .args .s .now) (start-symbol c .args .at) (readAtom (drop (start-symbol c .args .at) (start-symbol c .args .s .now))) (c .symbol-at .result)
+  stands : (c : Symbol) → Stands (start-symbol c .args .s .now) (start-symbol c .args .at)
+      (readAtom (drop (start-symbol c .args .at) (start-symbol c .args .s .now))) (c .symbol-at .result)
   stands c = c .symbol-at .ensures (λ e. c .before .if1 .left (c .before .before .peek .ensures ∙ e))
 
   pub peek-requires : atom-lts.Need-peek-requires (calls t) (atom-at t) atom.Post
@@ -66,7 +78,8 @@ module _ (t : ℕ) where
   pub returns : atom-lts.Need-returns (calls t) (atom-at t) atom.Post
   returns c =
       let group = c .before .before .before .before .before in
-      read-as (group-is (start group .args .s .now) (start group .args .at) (is-open group)) (c .closed .ensures _ _ _ _ _ (c .before .before .before .alternatives .ensures))
+      read-as (group-is (start group .args .s .now) (start group .args .at) (is-open group))
+      (c .closed .ensures _ _ _ _ _ (c .before .before .before .alternatives .ensures))
 
   pub symbol-at-requires : atom-lts.Need-symbol-at-requires (calls t) (atom-at t) atom.Post
   symbol-at-requires c κs = search needs

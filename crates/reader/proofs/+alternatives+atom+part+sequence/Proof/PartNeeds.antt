@@ -7,7 +7,7 @@ use borrow.Author.Needs.{needs}
 use Rattle.paths.specs.Grammar.{hat}
 use Rattle.paths.specs.Descent.{got, firstByte, then, readMark, readAtom}
 use Rattle.reader.specs.Progress.{Done}
-use Rattle.reader.proofs.Steps.{there, hat-is, plain-is, read-as, marks, inverts, asks-next-byte, room-for-mark, room-for-hat}
+use Rattle.reader.proofs.StepLaws.{there, hat-is, plain-is, read-as, marks, inverts, asks-next-byte, room-for-mark, room-for-hat}
 use Rattle.reader.proofs.+alternatives+atom+part+sequence.Proof.Ranks.{part-at, atom-below}
 use Rattle.reader.proofs.part.Reads as part
 use Rattle.reader.proofs.atom.Reads as atom
@@ -73,7 +73,8 @@ module _ (t : ℕ) where
   kept-plain c = c .atom2 .kept .1 .1 .0
 
   -- the atom after the ^, with its mark
-  marked : (c : Marked) → Done got (entry c .args .s .now) (entry c .args .at + 1) (entry c .args .n) (entry c .args .code .now) (c .wrapped .last .0) (then (readAtom (drop (entry c .args .at + 1) (entry c .args .s .now))) readMark) (c .wrapped .result)
+  marked : (c : Marked) → Done got (entry c .args .s .now) (entry c .args .at + 1) (entry c .args .n) (entry c .args .code .now)
+      (c .wrapped .last .0) (then (readAtom (drop (entry c .args .at + 1) (entry c .args .s .now))) readMark) (c .wrapped .result)
   marked c = marks (c .before .before .mark-after .ensures) (c .wrapped .ensures) (operand c .atom .ensures)
 
   pub peek-requires : part-lts.Need-peek-requires (calls t) (part-at t) part.Post
@@ -121,7 +122,8 @@ module _ (t : ℕ) where
   pub returns : part-lts.Need-returns (calls t) (part-at t) part.Post
   returns c =
       let read = c .before .before .before .before .before .before in
-      read-as (hat-is (entry read .args .s .now) (entry read .args .at) (is-hat (hat-of (operand read)))) (inverts (c .before .before .wrapped2 .ensures) (marked read))
+      read-as (hat-is (entry read .args .s .now) (entry read .args .at) (is-hat (hat-of (operand read))))
+      (inverts (c .before .before .wrapped2 .ensures) (marked read))
 
   pub same-length-2 : part-lts.Need-same-length-2 (calls t) (part-at t) part.Post
   same-length-2 c = c .before .before .wrapped3 .kept .0 ∙ kept-plain (c .before .before .before .before .before .before .before)
@@ -129,4 +131,5 @@ module _ (t : ℕ) where
   pub returns-2 : part-lts.Need-returns-2 (calls t) (part-at t) part.Post
   returns-2 c =
       let read = c .before .before .before .before .before .before .before in
-      read-as (plain-is (start-plain read .args .s .now) (start-plain read .args .at) (no-hat read)) (marks (c .before .before .before .before .mark-after2 .ensures) (c .before .before .wrapped3 .ensures) (read .atom2 .ensures))
+      read-as (plain-is (start-plain read .args .s .now) (start-plain read .args .at) (no-hat read))
+      (marks (c .before .before .before .before .mark-after2 .ensures) (c .before .before .wrapped3 .ensures) (read .atom2 .ensures))

@@ -25,7 +25,9 @@ shl-result c = search needs
 
 returns-3 : tie.Need-returns-3
 returns-3 c =
-    one-shl-32 _ (omega (arith, c .if2 .left)) ∙ sym (label-letter (c .before .before .peek .result) (omega (arith, c .before .if1 .left)) (omega (arith, c .if2 .left))) ∙ ap labelAt (c .before .before .peek .ensures)
+    one-shl-32 _ (omega (arith, c .if2 .left))
+    ∙ sym (label-letter (c .before .before .peek .result) (omega (arith, c .before .if1 .left)) (omega (arith, c .if2 .left)))
+    ∙ ap labelAt (c .before .before .peek .ensures)
 
 pub label-at-spec : {M : Type 1} → statement M
 label-at-spec = tie.close (tie.spec peek-requires returns returns-2 cast-result shl-result returns-3)

@@ -6,7 +6,7 @@ use lib.ListN.{length, drop}
 use borrow.Author.Needs.{needs}
 use Rattle.paths.specs.Grammar.{bang}
 use Rattle.paths.specs.Descent.{firstByte}
-use Rattle.reader.proofs.Steps.{there}
+use Rattle.reader.proofs.StepLaws.{there}
 use Rattle.reader.proofs.SymbolLaws.{symbol-letter, symbol-none, symbol-negated}
 use Rattle.reader.proofs.symbols.symbol_at.Statement.{statement}
 use Rattle.reader.proofs.symbols.symbol_at.Tie as tie
@@ -18,10 +18,14 @@ add-negated : tie.Need-add-negated
 add-negated c = search needs
 
 -- the ! stands inside the text
-is-bang : (c : tie.Then1) → firstByte (drop (c .before .before .before .args .at) (c .before .before .before .args .s .now)) ≡ bang
+is-bang : (c : tie.Then1)
+    → let start = c .before .before .before in
+    firstByte (drop (start .args .at) (start .args .s .now)) ≡ bang
 is-bang c = sym (c .before .peek .ensures) ∙ c .if1 .taken
 
-inside : (c : tie.Then1) → c .before .before .before .args .at < length (c .before .before .before .args .s .now)
+inside : (c : tie.Then1)
+    → let start = c .before .before .before in
+    start .args .at < length (start .args .s .now)
 inside c = there _ _ bang (is-bang c) (omega arith)
 
 negated-requires : tie.Need-negated-requires
@@ -34,7 +38,8 @@ label-at-requires : tie.Need-label-at-requires
 label-at-requires c κs = search needs
 
 returns-2 : tie.Need-returns-2
-returns-2 c = λ n. symbol-none n (λ e. c .before .before .if1 .left (c .before .before .before .peek .ensures ∙ e)) (sym (c .before .label-at .ensures) ∙ c .if2 .taken)
+returns-2 c =
+    λ n. symbol-none n (λ e. c .before .before .if1 .left (c .before .before .before .peek .ensures ∙ e)) (sym (c .before .label-at .ensures) ∙ c .if2 .taken)
 
 add-t7 : tie.Need-add-t7
 add-t7 c = search needs

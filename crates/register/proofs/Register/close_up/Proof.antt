@@ -10,8 +10,8 @@ use Rattle.book.specs.Book.{rank}
 use Rattle.book.specs.RankLaws.{rank-le}
 use Rattle.register.specs.Counters.{InRange}
 use Rattle.register.specs.Closing.{inUse, Small}
-use Rattle.register.proofs.Stepping.{outside, inside}
-use Rattle.register.proofs.Renumbering.{ranked-small, links-closed, close-none, close-short, closes-refused, closes-foreign, closes-accepted}
+use Rattle.register.proofs.StepLaws.{outside, inside}
+use Rattle.register.proofs.ClosingLaws.{ranked-small, links-closed, close-none, close-short, closes-refused, closes-foreign, closes-accepted}
 use Rattle.register.proofs.Register.close_up.Statement.{statement}
 use Rattle.register.proofs.Register.close_up.Tie as tie
 
@@ -19,7 +19,9 @@ ranged-requires : tie.Need-ranged-requires
 ranged-requires c κs = search needs
 
 returns : tie.Need-returns
-returns c = closes-foreign (c .before .before .before .args .t1) (c .before .before .before .args .numbers .now) (outside (c .before .before .before .args .t1) _ (c .before .ranged .ensures) (c .if1 .taken))
+returns c =
+    let start = c .before .before .before in
+    closes-foreign (start .args .t1) (start .args .numbers .now) (outside (start .args .t1) _ (c .before .ranged .ensures) (c .if1 .taken))
 
 cast-n : tie.Need-cast-n
 cast-n c = search needs
@@ -34,7 +36,9 @@ in-range : (c : tie.Else1) → InRange (c .before .before .before .args .t1)
 in-range c = inside (c .before .before .before .args .t1) (c .before .ranged .result) (c .before .ranged .ensures) (c .if1 .left)
 
 -- what the ranks say of all records
-left-is : (c : tie.After-ranks) → getD (c .ranks .result) (c .before .before .before .before .before .before .before .args .t1 .n) 0 ≡ rank (inUse (c .before .before .before .before .before .before .before .args .t1 .marks)) (c .before .before .before .before .before .before .before .args .t1 .n)
+left-is : (c : tie.After-ranks)
+    → let start = c .before .before .before .before .before .before .before in
+    getD (c .ranks .result) (start .args .t1 .n) 0 ≡ rank (inUse (start .args .t1 .marks)) (start .args .t1 .n)
 left-is c = c .ranks .ensures (c .before .before .before .before .before .before .before .args .t1 .n) (in-range (c .before .before .before .before) .size)
 
 ranks-long : (c : tie.After-ranks) → 1024 ≤ length (c .ranks .result)
@@ -43,7 +47,9 @@ ranks-long c = search needs
 ranks-small : (c : tie.After-ranks) → Small (c .ranks .result)
 ranks-small c = ranked-small (c .before .before .before .before .before .before .before .args .t1 .marks) (c .ranks .result) (ranks-long c) (c .ranks .ensures)
 
-some : (c : tie.Else2) → rank (inUse (c .before .before .before .before .before .before .before .before .args .t1 .marks)) (c .before .before .before .before .before .before .before .before .args .t1 .n) ≡ 0 → ⊥
+some : (c : tie.Else2)
+    → let start = c .before .before .before .before .before .before .before .before in
+    rank (inUse (start .args .t1 .marks)) (start .args .t1 .n) ≡ 0 → ⊥
 some c z = c .if2 .left (left-is (c .before) ∙ z)
 
 marks-long : (c : tie.Start) → length (c .args .t1 .marks) ≡ 1024
@@ -57,17 +63,29 @@ array-read-left c = omega (arith, in-range (c .before .before .before .before) .
 
 returns-2 : tie.Need-returns-2
 unfolding number
-returns-2 c = closes-refused (c .before .before .before .before .before .before .before .before .args .t1) 20 (c .before .before .before .before .before .before .before .before .args .numbers .now) (in-range (c .before .before .before .before .before)) (none-in-use, refl) (λ b h. close-none h _ (sym (left-is (c .before)) ∙ c .if2 .taken))
+returns-2 c =
+    let else1 = c .before .before .before .before .before in
+    let start = else1 .before .before .before in
+    closes-refused (start .args .t1) 20 (start .args .numbers .now) (in-range else1)
+    (none-in-use, refl) (λ b h. close-none h _ (sym (left-is (c .before)) ∙ c .if2 .taken))
 
 returns-3 : tie.Need-returns-3
 unfolding number
-returns-3 c = closes-refused (c .before .before .before .before .before .before .before .before .before .args .t1) 12 (c .before .before .before .before .before .before .before .before .before .args .numbers .now) (in-range (c .before .before .before .before .before .before)) (short-list, refl) (λ b h. close-short h _ (some (c .before)) (c .if3 .taken))
+returns-3 c =
+    let else1 = c .before .before .before .before .before .before in
+    let start = else1 .before .before .before in
+    closes-refused (start .args .t1) 12 (start .args .numbers .now) (in-range else1)
+    (short-list, refl) (λ b h. close-short h _ (some (c .before)) (c .if3 .taken))
 
 slice-aggregate-tell : tie.Need-slice-aggregate-tell
 slice-aggregate-tell c = search needs
 
 tell-requires : tie.Need-tell-requires
-tell-requires c κs = (marks-long (c .before .before .before .before .before .before .before .before .before .before .before .before .before .before), c .before .before .before .before .before .before .before .ranks .ensures, omega arith, in-range (c .before .before .before .before .before .before .before .before .before .before .before) .size, c .before .before .before .before .before .if3 .left)
+tell-requires c κs =
+    let else3 = c .before .before .before .before .before in
+    let else1 = else3 .before .before .before .before .before .before in
+    let start = else1 .before .before .before in
+    (marks-long start, else3 .before .before .ranks .ensures, omega arith, in-range else1 .size, else3 .if3 .left)
 
 slice-aggregate-rename : tie.Need-slice-aggregate-rename
 slice-aggregate-rename c = search needs
@@ -76,35 +94,57 @@ slice-aggregate-rename-2 : tie.Need-slice-aggregate-rename-2
 slice-aggregate-rename-2 c = search needs
 
 rename-requires : tie.Need-rename-requires
-rename-requires c κs = (omega (arith, links-long (c .before .before .before .before .before .before .before .before .before .before .before .before .before .before .before .before .before .before .before .before), in-range (c .before .before .before .before .before .before .before .before .before .before .before .before .before .before .before .before .before) .count), ranks-small (c .before .before .before .before .before .before .before .before .before .before .before .before .before))
+rename-requires c κs =
+    let after-ranks = c .before .before .before .before .before .before .before .before .before .before .before .before .before in
+    let else1 = after-ranks .before .before .before .before in
+    let start = else1 .before .before .before in
+    (omega (arith, links-long start, in-range else1 .count), ranks-small after-ranks)
 
 cast-t9 : tie.Need-cast-t9
-cast-t9 c = omega (arith, left-is (c .before .before .before .before .before .before .before .before .before .before .before .before .before .before .before), rank-le (inUse (c .before .before .before .before .before .before .before .before .before .before .before .before .before .before .before .before .before .before .before .before .before .before .args .t1 .marks)) (c .before .before .before .before .before .before .before .before .before .before .before .before .before .before .before .before .before .before .before .before .before .before .args .t1 .n), in-range (c .before .before .before .before .before .before .before .before .before .before .before .before .before .before .before .before .before .before .before) .size)
+cast-t9 c =
+    let earlier = c .before .before .before .before .before .before .before in
+    let after-ranks = earlier .before .before .before .before .before .before .before .before in
+    let else1 = after-ranks .before .before .before .before in
+    let start = else1 .before .before .before in
+    omega (arith, left-is after-ranks, rank-le (inUse (start .args .t1 .marks)) (start .args .t1 .n), in-range else1 .size)
 
 slice-aggregate-moved : tie.Need-slice-aggregate-moved
 slice-aggregate-moved c = search needs
 
 moved-requires : tie.Need-moved-requires
-moved-requires c κs = (omega (arith, marks-long (c .before .before .before .before .before .before .before .before .before .before .before .before .before .before .before .before .before .before .before .before .before .before .before .before .before .before), in-range (c .before .before .before .before .before .before .before .before .before .before .before .before .before .before .before .before .before .before .before .before .before .before .before) .size), in-range (c .before .before .before .before .before .before .before .before .before .before .before .before .before .before .before .before .before .before .before .before .before .before .before) .size, ranks-small (c .before .before .before .before .before .before .before .before .before .before .before .before .before .before .before .before .before .before .before))
+moved-requires c κs =
+    let earlier = c .before .before .before .before .before .before .before .before .before in
+    let after-ranks = earlier .before .before .before .before .before .before .before .before .before .before in
+    let else1 = after-ranks .before .before .before .before in
+    let start = else1 .before .before .before in
+    (omega (arith, marks-long start, in-range else1 .size), in-range else1 .size, ranks-small after-ranks)
 
 same-length : tie.Need-same-length
 same-length c = search needs
 
 returns-4 : tie.Need-returns-4
 returns-4 c =
-    let s = c .before .before .before .before .before .before .before .before .before .before .before .before .before .before .before .before .before .before .before .before .before .before .before .before .before .before .before .before .args .t1 in
-    let rs = c .before .before .before .before .before .before .before .before .before .before .before .before .before .before .before .before .before .before .before .before .before .ranks in
-    closes-accepted s _ (c .before .before .before .before .before .before .before .before .before .before .before .before .before .before .before .before .before .before .before .before .before .before .before .before .before .before .before .before .args .numbers .now) _ (in-range (c .before .before .before .before .before .before .before .before .before .before .before .before .before .before .before .before .before .before .before .before .before .before .before .before .before)) (some (c .before .before .before .before .before .before .before .before .before .before .before .before .before .before .before .before .before .before .before .before)) (c .before .before .before .before .before .before .before .before .before .before .before .before .before .before .before .before .before .before .before .if3 .left)
+    let after-rename = c .before .before .before .before .before .before .before in
+    let after-tell = after-rename .before .before .before .before .before .before in
+    let else3 = after-tell .before .before .before .before .before .before in
+    let after-ranks = else3 .before .before in
+    let else1 = after-ranks .before .before .before .before in
+    let start = else1 .before .before .before in
+    let s = start .args .t1 in
+    let rs = after-ranks .ranks in
+    closes-accepted s _ (start .args .numbers .now) _ (in-range else1) (some (else3 .before)) (else3 .if3 .left)
     (record {
-      n = left-is (c .before .before .before .before .before .before .before .before .before .before .before .before .before .before .before .before .before .before .before .before .before);
+      n = left-is after-ranks;
       count = refl;
-      links = links-closed (s .marks) (rs .result) (s .links) _ (s .count) (rs .ensures) (omega (arith, links-long (c .before .before .before .before .before .before .before .before .before .before .before .before .before .before .before .before .before .before .before .before .before .before .before .before .before .before .before .before), in-range (c .before .before .before .before .before .before .before .before .before .before .before .before .before .before .before .before .before .before .before .before .before .before .before .before .before) .count)) (c .before .before .before .before .before .before .before .rename .ensures);
+      links =
+          links-closed (s .marks) (rs .result) (s .links) _ (s .count) (rs .ensures)
+          (omega (arith, links-long start, in-range else1 .count)) (after-rename .rename .ensures);
       marks = (rs .result, rs .ensures, c .before .moved .ensures);
       top = refl;
       held = refl;
       totals = refl;
     })
-    (c .before .before .before .before .before .before .before .before .before .before .before .before .before .tell .ensures)
+    (after-tell .tell .ensures)
 
 pub close-up-spec : {M : Type 1} → statement M
 close-up-spec =

@@ -3,7 +3,7 @@ use borrow.Author.Needs.{needs}
 use borrow.Author.Tests.{lt-ltb, le-ltb}
 use Rattle.book.specs.Causes.{number, firstNumber}
 use Rattle.book.specs.Book.{freshAnswer}
-use Rattle.register.proofs.Stepping.{opens, not-opens}
+use Rattle.register.proofs.StepLaws.{opens, not-opens}
 use Rattle.register.proofs.Register.fresh.Statement.{statement}
 use Rattle.register.proofs.Register.fresh.Tie as tie
 
@@ -19,14 +19,16 @@ empty-requires-2 c κs = search needs
 
 returns-2 : tie.Need-returns-2
 unfolding freshAnswer firstNumber number
-returns-2 c = not-opens (c .before .before .before .args .n) (rw (le-ltb _ 1 (c .before .before .if1 .left), lt-ltb 1024 _ (c .before .if2 .taken))) (c .empty2 .ensures)
+returns-2 c =
+    not-opens (c .before .before .before .args .n) (rw (le-ltb _ 1 (c .before .before .if1 .left), lt-ltb 1024 _ (c .before .if2 .taken))) (c .empty2 .ensures)
 
 empty-requires-3 : tie.Need-empty-requires-3
 empty-requires-3 c κs = search needs
 
 returns-3 : tie.Need-returns-3
 unfolding freshAnswer firstNumber number
-returns-3 c = opens (c .before .before .before .args .n) (rw (le-ltb _ 1 (c .before .before .if1 .left), le-ltb 1024 _ (c .before .if2 .left))) (c .empty3 .ensures)
+returns-3 c =
+    opens (c .before .before .before .args .n) (rw (le-ltb _ 1 (c .before .before .if1 .left), le-ltb 1024 _ (c .before .if2 .left))) (c .empty3 .ensures)
 
 pub fresh-spec : {M : Type 1} → statement M
 fresh-spec =

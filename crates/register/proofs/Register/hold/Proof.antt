@@ -6,7 +6,7 @@ use native.Mathlib.Omega.{arith}
 use borrow.Author.Needs.{needs}
 use lib.ListN.{length}
 use Rattle.register.specs.Representation.{previous}
-use Rattle.register.proofs.Ring.{previous-next, hold-more, hold-full}
+use Rattle.register.proofs.RingLaws.{previous-next, hold-more, hold-full}
 use Rattle.register.proofs.Register.hold.Statement.{statement}
 use Rattle.register.proofs.Register.hold.Tie as tie
 

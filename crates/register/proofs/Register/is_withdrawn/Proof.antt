@@ -8,7 +8,7 @@ use borrow.Author.Needs.{needs}
 use Rattle.register.specs.Marks.{freeMark, withdrawnMark}
 use Rattle.register.specs.MarkLaws.{shows-withdrawn}
 use Rattle.register.specs.Counters.{InRange}
-use Rattle.register.proofs.Stepping.{outside, inside}
+use Rattle.register.proofs.StepLaws.{outside, inside}
 use Rattle.register.proofs.Register.is_withdrawn.Statement.{statement}
 use Rattle.register.proofs.Register.is_withdrawn.Tie as tie
 
@@ -28,8 +28,9 @@ long c = search needs
 
 returns-2 : tie.Need-returns-2
 returns-2 c =
-    let a = c .before .before .before .args in
-    let none = List·getD-eq-default (a .t1 .marks) freeMark {n = a .«record»} (omega (arith, long (c .before .before .before))) in
+    let start = c .before .before .before in
+    let a = start .args in
+    let none = List·getD-eq-default (a .t1 .marks) freeMark {n = a .«record»} (omega (arith, long start)) in
     record { foreign = λ _. refl; withdrawn = λ b h. ap (λ (m : ℕ). eqb m withdrawnMark) (sym none) ∙ shows-withdrawn (h .sheet) _ }
 
 mul-result : tie.Need-mul-result

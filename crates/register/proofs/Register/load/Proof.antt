@@ -5,7 +5,7 @@ use native.Mathlib.Omega.{arith}
 use lib.ListN.{take, drop, replicate, length-replicate}
 use borrow.Author.Tests.{not-true, not-false}
 use Rattle.register.specs.Inner.{Formed}
-use Rattle.register.proofs.Keeping.{copied-over, load-refused, load-made}
+use Rattle.register.proofs.KeepLaws.{copied-over, load-refused, load-made}
 use Rattle.register.specs.WordLaws.{part-long, loaded}
 use borrow.Author.Needs.{needs}
 use Rattle.register.proofs.Register.load.Statement.{statement}
@@ -21,7 +21,9 @@ empty-requires : tie.Need-empty-requires
 empty-requires c κs = search needs
 
 returns : tie.Need-returns
-returns c = load-refused (c .before .before .before .before .args .words .now) _ (c .before .before .is-register .ensures) (not-true _ (c .before .if1 .taken)) (c .empty .ensures)
+returns c =
+    load-refused (c .before .before .before .before .args .words .now) _
+    (c .before .before .is-register .ensures) (not-true _ (c .before .if1 .taken)) (c .empty .ensures)
 
 sub-copy : tie.Need-sub-copy
 sub-copy c = search needs
@@ -84,25 +86,40 @@ copy-requires-4 : tie.Need-copy-requires-4
 copy-requires-4 c κs = search needs
 
 shared-slice-read-t32 : tie.Need-shared-slice-read-t32
-shared-slice-read-t32 c = omega (arith, made (c .before .before .before .before .before .before .before .before .before .before .before .before .before .before .before .before .before) .long)
+shared-slice-read-t32 c =
+    let earlier = c .before .before .before .before .before .before .before .before in
+    let else1 = earlier .before .before .before .before .before .before .before .before .before in
+    omega (arith, made else1 .long)
 
 cast-t33 : tie.Need-cast-t33
-cast-t33 c = omega (arith, made (c .before .before .before .before .before .before .before .before .before .before .before .before .before .before .before .before .before) .ranged .size)
+cast-t33 c =
+    let earlier = c .before .before .before .before .before .before .before .before in
+    let else1 = earlier .before .before .before .before .before .before .before .before .before in
+    omega (arith, made else1 .ranged .size)
 
 shared-slice-read-t35 : tie.Need-shared-slice-read-t35
-shared-slice-read-t35 c = omega (arith, made (c .before .before .before .before .before .before .before .before .before .before .before .before .before .before .before .before .before .before) .long)
+shared-slice-read-t35 c =
+    let earlier = c .before .before .before .before .before .before .before .before .before in
+    let else1 = earlier .before .before .before .before .before .before .before .before .before in
+    omega (arith, made else1 .long)
 
 cast-t11 : tie.Need-cast-t11
 cast-t11 c = omega (arith, c .shared-slice-known3 .given 1)
 
 shared-slice-read-t40 : tie.Need-shared-slice-read-t40
-shared-slice-read-t40 c = omega (arith, made (c .before .before .before .before .before .before .before .before .before .before .before .before .before .before .before .before .before .before .before) .long)
+shared-slice-read-t40 c =
+    let earlier = c .before .before .before .before .before .before .before .before .before in
+    let else1 = earlier .before .before .before .before .before .before .before .before .before .before in
+    omega (arith, made else1 .long)
 
 cast-t41 : tie.Need-cast-t41
 cast-t41 c = omega (arith, c .shared-slice-known4 .given 2)
 
 shared-slice-read-t43 : tie.Need-shared-slice-read-t43
-shared-slice-read-t43 c = omega (arith, made (c .before .before .before .before .before .before .before .before .before .before .before .before .before .before .before .before .before .before .before .before) .long)
+shared-slice-read-t43 c =
+    let earlier = c .before .before .before .before .before .before .before .before .before .before in
+    let else1 = earlier .before .before .before .before .before .before .before .before .before .before in
+    omega (arith, made else1 .long)
 
 cast-t44 : tie.Need-cast-t44
 cast-t44 c = omega (arith, c .shared-slice-known5 .given 3)
@@ -113,29 +130,49 @@ links-read c =
     copied-over (take 4096 (drop 4 ws)) (replicate 4096 0) (c .copy .last .1 .0) (c .copy .result)
     (part-long ws 4 4096 (omega (arith, made (c .before .before .before) .long)) ∙ sym (length-replicate {A = ℕ} 4096 0)) (c .copy .ensures)
 
-ring-read : (c : tie.After-copy2) → c .copy2 .last .1 .0 ≡ take 256 (drop 4100 (c .before .before .before .before .before .before .before .before .before .before .args .words .now))
+ring-read : (c : tie.After-copy2)
+    → let start = c .before .before .before .before .before .before .before .before .before .before in
+    c .copy2 .last .1 .0 ≡ take 256 (drop 4100 (start .args .words .now))
 ring-read c =
-    let ws = c .before .before .before .before .before .before .before .before .before .before .args .words .now in
+    let else1 = c .before .before .before .before .before .before .before in
+    let ws = else1 .before .before .before .args .words .now in
     copied-over (take 256 (drop 4100 ws)) (replicate 256 0) (c .copy2 .last .1 .0) (c .copy2 .result)
-    (part-long ws 4100 256 (omega (arith, made (c .before .before .before .before .before .before .before) .long)) ∙ sym (length-replicate {A = ℕ} 256 0)) (c .copy2 .ensures)
+    (part-long ws 4100 256 (omega (arith, made else1 .long)) ∙ sym (length-replicate {A = ℕ} 256 0)) (c .copy2 .ensures)
 
-marks-read : (c : tie.After-copy3) → c .copy3 .last .1 .0 ≡ take 1024 (drop 4356 (c .before .before .before .before .before .before .before .before .before .before .before .before .before .before .args .words .now))
+marks-read : (c : tie.After-copy3)
+    → let start = c .before .before .before .before .before .before .before .before .before .before .before .before .before .before in
+    c .copy3 .last .1 .0 ≡ take 1024 (drop 4356 (start .args .words .now))
 marks-read c =
-    let ws = c .before .before .before .before .before .before .before .before .before .before .before .before .before .before .args .words .now in
+    let else1 = c .before .before .before .before .before .before .before .before .before .before .before in
+    let start = else1 .before .before .before in
+    let ws = start .args .words .now in
     copied-over (take 1024 (drop 4356 ws)) (replicate 1024 0) (c .copy3 .last .1 .0) (c .copy3 .result)
-    (part-long ws 4356 1024 (omega (arith, made (c .before .before .before .before .before .before .before .before .before .before .before) .long)) ∙ sym (length-replicate {A = ℕ} 1024 0)) (c .copy3 .ensures)
+    (part-long ws 4356 1024 (omega (arith, made else1 .long)) ∙ sym (length-replicate {A = ℕ} 1024 0)) (c .copy3 .ensures)
 
-totals-read : (c : tie.After-copy4) → c .copy4 .last .1 .0 ≡ take 26 (drop 5380 (c .before .before .before .before .before .before .before .before .before .before .before .before .before .before .before .before .before .before .args .words .now))
+totals-read : (c : tie.After-copy4)
+    → let earlier = c .before .before .before .before .before .before .before .before .before in
+    let start = earlier .before .before .before .before .before .before .before .before .before in
+    c .copy4 .last .1 .0 ≡ take 26 (drop 5380 (start .args .words .now))
 totals-read c =
-    let ws = c .before .before .before .before .before .before .before .before .before .before .before .before .before .before .before .before .before .before .args .words .now in
+    let earlier = c .before .before .before .before .before .before .before in
+    let else1 = earlier .before .before .before .before .before .before .before .before in
+    let start = else1 .before .before .before in
+    let ws = start .args .words .now in
     copied-over (take 26 (drop 5380 ws)) (replicate 26 0) (c .copy4 .last .1 .0) (c .copy4 .result)
-    (part-long ws 5380 26 (omega (arith, made (c .before .before .before .before .before .before .before .before .before .before .before .before .before .before .before) .long)) ∙ sym (length-replicate {A = ℕ} 26 0)) (c .copy4 .ensures)
+    (part-long ws 5380 26 (omega (arith, made else1 .long)) ∙ sym (length-replicate {A = ℕ} 26 0)) (c .copy4 .ensures)
 
 returns-2 : tie.Need-returns-2
 returns-2 c =
+    let after-copy4 = c .before .before .before .before .before in
+    let after-copy3 = after-copy4 .before .before .before .before in
+    let after-copy2 = after-copy3 .before .before .before .before in
+    let after-copy = after-copy2 .before .before .before .before in
+    let else1 = after-copy .before .before .before in
+    let start = else1 .before .before .before in
     load-made (
-    loaded (c .before .before .before .before .before .before .before .before .before .before .before .before .before .before .before .before .before .before .before .before .before .before .before .args .words .now) (c .before .before .before .before .before .before .before .before .before .before .before .before .before .before .before .before .before .copy .last .1 .0) (c .before .before .before .before .before .before .before .before .before .before .before .before .before .copy2 .last .1 .0) (c .before .before .before .before .before .before .before .before .before .copy3 .last .1 .0) (c .before .before .before .before .before .copy4 .last .1 .0) (made (c .before .before .before .before .before .before .before .before .before .before .before .before .before .before .before .before .before .before .before .before))
-    (links-read (c .before .before .before .before .before .before .before .before .before .before .before .before .before .before .before .before .before)) (ring-read (c .before .before .before .before .before .before .before .before .before .before .before .before .before)) (marks-read (c .before .before .before .before .before .before .before .before .before)) (totals-read (c .before .before .before .before .before)))
+    loaded (start .args .words .now) (after-copy .copy .last .1 .0) (after-copy2 .copy2 .last .1 .0)
+    (after-copy3 .copy3 .last .1 .0) (after-copy4 .copy4 .last .1 .0) (made else1)
+    (links-read after-copy) (ring-read after-copy2) (marks-read after-copy3) (totals-read after-copy4))
 
 pub load-spec : {M : Type 1} → statement M
 load-spec =

@@ -5,7 +5,7 @@ use lib.ListN.{length-replicate}
 use Rattle.book.specs.Causes.{maxRecords}
 use Rattle.register.specs.Marks.{freeMark}
 use Rattle.register.specs.MarkLaws.{shows-locked, shows-withdrawn}
-use Rattle.register.proofs.Stepping.{outside, inside}
+use Rattle.register.proofs.StepLaws.{outside, inside}
 use Rattle.register.proofs.Register.marks.Statement.{statement}
 use Rattle.register.proofs.Register.marks.Tie as tie
 
@@ -15,7 +15,12 @@ ranged-requires c κs = search needs
 returns : tie.Need-returns
 returns c =
     let none = outside (c .before .before .args .self) _ (c .before .ranged .ensures) (c .if1 .taken) in
-    record { long = length-replicate maxRecords freeMark; foreign = λ _. refl; locked = λ b h. absurd (none (h .ranged)); withdrawn = λ b h. absurd (none (h .ranged)) }
+    record {
+      long = length-replicate maxRecords freeMark;
+      foreign = λ _. refl;
+      locked = λ b h. absurd (none (h .ranged));
+      withdrawn = λ b h. absurd (none (h .ranged));
+    }
 
 returns-2 : tie.Need-returns-2
 returns-2 c =

@@ -24,7 +24,9 @@ returns-2 c =
     let k : length (s .t1 .marks) ≡ 1024 = search needs in
     record {
       kept = record { n = refl; ring = refl; top = refl; held = refl; count = c .before .pre };
-      sheet = λ _. ap (λ (m : List ℕ). record { links = take (s .t1 .count) (s .t1 .links); marks = m }) (sym (set-out (s .t1 .marks) (s .x) (s .mark) (omega arith)));
+      sheet =
+          λ _. ap (λ (m : List ℕ). record { links = take (s .t1 .count) (s .t1 .links); marks = m })
+          (sym (set-out (s .t1 .marks) (s .x) (s .mark) (omega arith)));
       counted = λ _ t. t;
     }
 

@@ -2,7 +2,7 @@
 use mathlib.Core.Path.{refl}
 use native.Mathlib.Omega.{arith}
 use borrow.Author.Needs.{needs}
-use Rattle.register.proofs.Stepping.{outside, inside}
+use Rattle.register.proofs.StepLaws.{outside, inside}
 use Rattle.register.proofs.Register.size.Statement.{statement}
 use Rattle.register.proofs.Register.size.Tie as tie
 

@@ -8,7 +8,7 @@ use borrow.Author.Tests.{eq-eqb, ne-eqb}
 use Rattle.book.specs.Causes.{number}
 use Rattle.register.specs.History.{wordCall}
 use Rattle.register.specs.EntryLaws.{entry-call, entry-none}
-use Rattle.register.proofs.Replaying.{entry-closes, called, uncalled}
+use Rattle.register.proofs.ReplayLaws.{entry-closes, called, uncalled}
 use Rattle.register.proofs.Register.step.Statement.{statement}
 use Rattle.register.proofs.Register.step.Tie as tie
 
@@ -19,7 +19,8 @@ slice-relend-prefix-close-up : tie.Need-slice-relend-prefix-close-up
 slice-relend-prefix-close-up c = c .room-for .ensures .within
 
 slice-aggregate-close-up : tie.Need-slice-aggregate-close-up
-slice-aggregate-close-up c = sym (length-take-le (c .before .room-for .result) (c .before .before .before .before .args .numbers .now) (c .before .room-for .ensures .within))
+slice-aggregate-close-up c =
+    sym (length-take-le (c .before .room-for .result) (c .before .before .before .before .args .numbers .now) (c .before .room-for .ensures .within))
 
 close-up-requires : tie.Need-close-up-requires
 close-up-requires c κs = search needs
@@ -61,7 +62,9 @@ enum-told c = search needs
 
 returns-2 : tie.Need-returns-2
 unfolding wordCall
-returns-2 c = rw (ne-eqb _ _ (c .before .before .before .before .before .if1 .left)) (called _ _ _ _ (entry-call (c .before .before .before .before .entry-of .ensures) (c .before .before .entry .given .1)) (c .apply .ensures))
+returns-2 c =
+    rw (ne-eqb _ _ (c .before .before .before .before .before .if1 .left))
+    (called _ _ _ _ (entry-call (c .before .before .before .before .entry-of .ensures) (c .before .before .entry .given .1)) (c .apply .ensures))
 
 returns-3 : tie.Need-returns-3
 unfolding wordCall number

@@ -6,8 +6,8 @@ use native.Mathlib.Omega.{arith}
 use borrow.Author.Tests.{not-true, not-false}
 use Rattle.register.specs.Marks.{Marked}
 use Rattle.register.specs.Counters.{InRange}
-use Rattle.register.proofs.Stepping.{outside, inside}
-use Rattle.register.proofs.Keeping.{stored, store-refused}
+use Rattle.register.proofs.StepLaws.{outside, inside}
+use Rattle.register.proofs.KeepLaws.{stored, store-refused}
 use borrow.Author.Needs.{needs}
 use Rattle.register.proofs.Register.store.Statement.{statement}
 use Rattle.register.proofs.Register.store.Tie as tie
@@ -80,29 +80,37 @@ same-length c = search needs
 
 returns-4 : tie.Need-returns-4
 returns-4 c =
-    let r = c .before .before .before .before .before .before .before .before .before .before .before .before .before .before .before .before .before .before .before .before .before .before .before .before .before .before .before .before .before .before .before .before .before .before .before .before .before .before .before .before .before .before .args .t1 in
-    let w₀ = c .before .before .before .before .before .before .before .before .before .before .before .before .before .before .before .before .before .before .before .before .before .before .before .before .before .before .before .before .before .before .before .before .before .before .before .before .before .before .before .before .before .before .args .words .now in
-    let w₁ = c .before .before .before .before .before .before .before .before .before .before .before .before .before .before .before .before .before .before .before .before .before .before .before .before .before .before .before .before .before .before .copy .last .1 .0 in
-    let w₂ = c .before .before .before .before .before .before .before .before .before .before .before .before .before .before .before .before .before .before .before .before .before .before .before .copy2 .last .1 .0 in
-    let w₃ = c .before .before .before .before .before .before .before .before .before .before .before .before .before .before .before .before .copy3 .last .1 .0 in
-    let w₄ = c .before .before .before .before .before .before .before .before .before .copy4 .last .1 .0 in
-    let w₅ = c .before .before .copy5 .last .1 .0 in
-    let k₀ : 5406 ≤ length w₀ = omega (arith, c .before .before .before .before .before .before .before .before .before .before .before .before .before .before .before .before .before .before .before .before .before .before .before .before .before .before .before .before .before .before .before .before .before .before .before .before .before .before .before .before .if1 .left) in
-    let k₁ : length w₁ ≡ length w₀ = c .before .before .before .before .before .before .before .before .before .before .before .before .before .before .before .before .before .before .before .before .before .before .before .before .before .before .before .before .before .before .copy .kept .1 .0 in
-    let k₂ : length w₂ ≡ length w₁ = c .before .before .before .before .before .before .before .before .before .before .before .before .before .before .before .before .before .before .before .before .before .before .before .copy2 .kept .1 .0 in
-    let k₃ : length w₃ ≡ length w₂ = c .before .before .before .before .before .before .before .before .before .before .before .before .before .before .before .before .copy3 .kept .1 .0 in
-    let k₄ : length w₄ ≡ length w₃ = c .before .before .before .before .before .before .before .before .before .copy4 .kept .1 .0 in
-    let ls = links-long (c .before .before .before .before .before .before .before .before .before .before .before .before .before .before .before .before .before .before .before .before .before .before .before .before .before .before .before .before .before .before .before .before .before .before .before .before .before .before .before .before .before .before) in
-    let rs = ring-long (c .before .before .before .before .before .before .before .before .before .before .before .before .before .before .before .before .before .before .before .before .before .before .before .before .before .before .before .before .before .before .before .before .before .before .before .before .before .before .before .before .before .before) in
-    let ms = marks-long (c .before .before .before .before .before .before .before .before .before .before .before .before .before .before .before .before .before .before .before .before .before .before .before .before .before .before .before .before .before .before .before .before .before .before .before .before .before .before .before .before .before .before) in
-    let ts = totals-long (c .before .before .before .before .before .before .before .before .before .before .before .before .before .before .before .before .before .before .before .before .before .before .before .before .before .before .before .before .before .before .before .before .before .before .before .before .before .before .before .before .before .before) in
-    stored r w₀ w₁ w₂ w₃ w₄ w₅ (in-range (c .before .before .before .before .before .before .before .before .before .before .before .before .before .before .before .before .before .before .before .before .before .before .before .before .before .before .before .before .before .before .before .before .before .before .before .before .before .before)) (marks-right (c .before .before .before .before .before .before .before .before .before .before .before .before .before .before .before .before .before .before .before .before .before .before .before .before .before .before .before .before .before .before .before .before .before)) ls rs ms ts
+    let after-copy5 = c .before .before in
+    let after-copy4 = after-copy5 .before .before .before .before .before .before .before in
+    let after-copy3 = after-copy4 .before .before .before .before .before .before .before in
+    let after-copy2 = after-copy3 .before .before .before .before .before .before .before in
+    let after-copy = after-copy2 .before .before .before .before .before .before .before in
+    let else3 = after-copy .before .before .before in
+    let else2 = else3 .before .before .before .before .before in
+    let start = else2 .before .before .before .before in
+    let r = start .args .t1 in
+    let w₀ = start .args .words .now in
+    let w₁ = after-copy .copy .last .1 .0 in
+    let w₂ = after-copy2 .copy2 .last .1 .0 in
+    let w₃ = after-copy3 .copy3 .last .1 .0 in
+    let w₄ = after-copy4 .copy4 .last .1 .0 in
+    let w₅ = after-copy5 .copy5 .last .1 .0 in
+    let k₀ : 5406 ≤ length w₀ = omega (arith, else2 .before .before .if1 .left) in
+    let k₁ : length w₁ ≡ length w₀ = after-copy .copy .kept .1 .0 in
+    let k₂ : length w₂ ≡ length w₁ = after-copy2 .copy2 .kept .1 .0 in
+    let k₃ : length w₃ ≡ length w₂ = after-copy3 .copy3 .kept .1 .0 in
+    let k₄ : length w₄ ≡ length w₃ = after-copy4 .copy4 .kept .1 .0 in
+    let ls = links-long start in
+    let rs = ring-long start in
+    let ms = marks-long start in
+    let ts = totals-long start in
+    stored r w₀ w₁ w₂ w₃ w₄ w₅ (in-range else2) (marks-right else3) ls rs ms ts
     k₀ (omega (arith, k₀, k₁)) (omega (arith, k₀, k₁, k₂)) (omega (arith, k₀, k₁, k₂, k₃)) (omega (arith, k₀, k₁, k₂, k₃, k₄))
-    (c .before .before .before .before .before .before .before .before .before .before .before .before .before .before .before .before .before .before .before .before .before .before .before .before .before .before .before .before .before .before .copy .ensures .fits (omega (arith, k₀)) .1)
-    (c .before .before .before .before .before .before .before .before .before .before .before .before .before .before .before .before .before .before .before .before .before .before .before .copy2 .ensures .fits (omega (arith, k₀, k₁, ls)) .1)
-    (c .before .before .before .before .before .before .before .before .before .before .before .before .before .before .before .before .copy3 .ensures .fits (omega (arith, k₀, k₁, k₂, rs)) .1)
-    (c .before .before .before .before .before .before .before .before .before .copy4 .ensures .fits (omega (arith, k₀, k₁, k₂, k₃, ms)) .1)
-    (c .before .before .copy5 .ensures .fits (omega (arith, k₀, k₁, k₂, k₃, k₄, ts)) .1)
+    (after-copy .copy .ensures .fits (omega (arith, k₀)) .1)
+    (after-copy2 .copy2 .ensures .fits (omega (arith, k₀, k₁, ls)) .1)
+    (after-copy3 .copy3 .ensures .fits (omega (arith, k₀, k₁, k₂, rs)) .1)
+    (after-copy4 .copy4 .ensures .fits (omega (arith, k₀, k₁, k₂, k₃, ms)) .1)
+    (after-copy5 .copy5 .ensures .fits (omega (arith, k₀, k₁, k₂, k₃, k₄, ts)) .1)
 
 pub store-spec : {M : Type 1} → statement M
 store-spec =

@@ -6,8 +6,8 @@ use lib.ListN.{length, take}
 use lib.Seq.{length-take-le}
 use Rattle.register.specs.Packed.{takeBackKind}
 use Rattle.register.specs.Representation.{packedOf}
-use Rattle.register.proofs.Ascending.{length-insert}
-use Rattle.register.proofs.Stepping.{back-rest}
+use Rattle.register.proofs.AscendingLaws.{length-insert}
+use Rattle.register.proofs.StepLaws.{back-rest}
 use Rattle.register.proofs.Register.taken_back.Statement.{statement}
 use Rattle.register.proofs.Register.taken_back.Tie as tie
 
@@ -18,11 +18,12 @@ take-out-requires c κs = search needs
 returns : tie.Need-returns
 unfolding takeBackKind
 returns c =
-    let s = c .before .before .before .args in
+    let start = c .before .before .before in
+    let s = start .args in
     let k : length (s .self .links) ≡ 4096 = search needs in
     let h : length (take (s .self .count) (s .self .links)) ≡ s .self .count = length-take-le (s .self .count) (s .self .links) (omega arith) in
     record {
-      kept = record { n = refl; ring = refl; top = refl; held = refl; count = c .before .before .before .pre };
+      kept = record { n = refl; ring = refl; top = refl; held = refl; count = start .pre };
       sheet = rw (c .before .before .match .keys2) (λ _ f. absurd (omega (arith, length-insert (s .x) (take (s .self .count) (s .self .links)))));
       counted = λ _ t. t;
     }
@@ -48,7 +49,9 @@ returns-2 c = let o = c .take-out .ensures in record { kept = o .kept; sheet = r
 
 returns-3 : tie.Need-returns-3
 unfolding takeBackKind
-returns-3 c = let o = c .put-in .ensures in record { kept = o .kept; sheet = rw (c .before .before .before .match .keys2) (λ r _. o .sheet r); counted = o .counted }
+returns-3 c =
+    let o = c .put-in .ensures in
+    record { kept = o .kept; sheet = rw (c .before .before .before .match .keys2) (λ r _. o .sheet r); counted = o .counted }
 
 returns-4 : tie.Need-returns-4
 unfolding takeBackKind

@@ -10,7 +10,7 @@ use Rattle.book.specs.TotalLaws.{total-told, total-refused}
 use Rattle.register.specs.Counters.{InRange}
 use Rattle.register.specs.Questions.{totalOf}
 use Rattle.register.specs.declared.TotalAnswer.the-variants.{Total}
-use Rattle.register.proofs.Stepping.{outside, inside}
+use Rattle.register.proofs.StepLaws.{outside, inside}
 use Rattle.register.proofs.Register.total.Statement.{statement}
 use Rattle.register.proofs.Register.total.Tie as tie
 

@@ -1,4 +1,5 @@
--- `register::Register::undo` meets its contract: the latest word stands in the place before top, and what it takes back is the top of the pile. Assumes nothing.
+-- `register::Register::undo` meets its contract: the latest word stands in the place before top, and what it takes back is the top
+-- of the pile. Assumes nothing.
 use Prim.Native.Nat.{_<_}
 use mathlib.Core.Path.{_≡_, ap, sym, _∙_}
 use mathlib.Core.Logic.{⊎-elim}
@@ -7,8 +8,8 @@ use borrow.Author.Needs.{needs}
 use lib.ListN.{getD}
 use Rattle.register.specs.Counters.{InRange}
 use Rattle.register.specs.Representation.{previous}
-use Rattle.register.proofs.Ring.{latest-step, latest-none, previous-less}
-use Rattle.register.proofs.Stepping.{outside, inside, refuse-foreign, refuse-undo, accept-undo}
+use Rattle.register.proofs.RingLaws.{latest-step, latest-none, previous-less}
+use Rattle.register.proofs.StepLaws.{outside, inside, refuse-foreign, refuse-undo, accept-undo}
 use Rattle.register.proofs.Register.undo.Statement.{statement}
 use Rattle.register.proofs.Register.undo.Tie as tie
 
@@ -50,15 +51,17 @@ taken-back-requires c κs = in-range (c .before .before .before .before) .count
 
 returns-3 : tie.Need-returns-3
 returns-3 c =
-    let s = c .before .before .before .before .before .before .before .args .t1 in
-    let h = in-range (c .before .before .before .before .before) in
+    let joined3 = c .before .before .before in
+    let start = joined3 .before .before .before .before in
+    let s = start .args .t1 in
+    let h = in-range (joined3 .before .before) in
     let o = c .taken-back .ensures in
     let k = o .kept in
-    let p = latest-place (c .before .before .before) in
-    accept-undo s h (getD (s .ring) (c .before .before .before .if3 .at) 0) (c .taken-back .result) (record {
+    let p = latest-place joined3 in
+    accept-undo s h (getD (s .ring) (joined3 .if3 .at) 0) (c .taken-back .result) (record {
       n = k .n;
       ranged = record { size = omega (arith, k .n, h .size); count = k .count; top = omega (arith, k .top, p .1); held = omega (arith, k .held, h .held) };
-      words = latest-step (s .ring) (s .top) (s .held) (c .before .before .before .before .if2 .left) ∙ rw (← p .0, k .ring, k .top, k .held);
+      words = latest-step (s .ring) (s .top) (s .held) (joined3 .before .if2 .left) ∙ rw (← p .0, k .ring, k .top, k .held);
       sheet = o .sheet;
       counted = o .counted;
     })

@@ -4,12 +4,11 @@ use mathlib.Core.Path.{_≡_, refl, sym, ap, subst, _∙_}
 use mathlib.Core.Logic.{⊎-elim}
 use Prim.Native.Nat.{ℕ, _+_, _-_, _≤_, _<_}
 use native.Mathlib.Omega.{arith}
-use borrow.Author.Needs.{needs}
 use lib.ListN.{length, getD, replicate, length-set, getD-replicate, List·getD-eq-default}
 use native.Mathlib.Decide.{decLt}
 use Rattle.register.specs.Marks.{freeMark}
 use Rattle.register.specs.Closing.{Moved}
-use Rattle.register.proofs.Renumbering.{moved-none, moved-other, moved-lock}
+use Rattle.register.proofs.ClosingLaws.{moved-none, moved-other, moved-lock}
 use Rattle.register.proofs.closing.moved.Statement.{statement}
 use Rattle.register.proofs.closing.moved.Tie as tie
 
@@ -40,7 +39,8 @@ mul-moved : tie.Need-mul-moved Inv-loop μ-loop
 mul-moved c = omega arith
 
 -- the rank of a record is below 1,024
-small : (c : tie.After-shared-slice-known2 Inv-loop μ-loop) → getD (c .before .before .before .before .before .args .ranks .now) (c .before .before .before .before .loop .i) 0 < 1024
+small : (c : tie.After-shared-slice-known2 Inv-loop μ-loop)
+    → getD (c .before .before .before .before .before .args .ranks .now) (c .before .before .before .before .loop .i) 0 < 1024
 small c = let p = c .before .before .before .before .before .pre in p .2 .below (c .before .before .before .before .loop .i) (omega (arith, p .1))
 
 shared-slice-read-moved : tie.Need-shared-slice-read-moved Inv-loop μ-loop
@@ -63,20 +63,23 @@ loop-less c = omega arith
 
 loop-again : tie.Need-loop-again Inv-loop μ-loop
 loop-again c =
-    let l = c .before .before .before .loop in
-    let a = c .before .before .before .before .args in
-    let p = c .before .before .before .before .pre in
+    let at-loop = c .before .before .before in
+    let l = at-loop .loop in
+    let a = at-loop .before .args in
+    let p = at-loop .before .pre in
     ⊎-elim
     (λ w. (
       omega arith,
       ap length (w .2) ∙ simp length-set (l .inv .1),
       subst (Moved (a .marks .now) (a .ranks .now) (l .i + 1)) (sym (w .2))
-          (moved-lock (a .marks .now) (a .ranks .now) (l .moved) (l .i) (l .inv .2) (w .0 .taken) (omega (arith, l .inv .1, p .2 .below (l .i) (omega (arith, p .1))))),
+          (moved-lock (a .marks .now) (a .ranks .now) (l .moved) (l .i) (l .inv .2)
+          (w .0 .taken) (omega (arith, l .inv .1, p .2 .below (l .i) (omega (arith, p .1))))),
     ))
     (λ w. (
       omega arith,
       ap length (w .1) ∙ l .inv .1,
-      subst (Moved (a .marks .now) (a .ranks .now) (l .i + 1)) (sym (w .1)) (moved-other (a .marks .now) (a .ranks .now) (l .moved) (l .i) (l .inv .2) (w .0 .left)),
+      subst (Moved (a .marks .now) (a .ranks .now) (l .i + 1)) (sym (w .1))
+          (moved-other (a .marks .now) (a .ranks .now) (l .moved) (l .i) (l .inv .2) (w .0 .left)),
     ))
     (c .if1 .came)
 

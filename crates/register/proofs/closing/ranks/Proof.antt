@@ -3,13 +3,11 @@ use mathlib.Core.Path.{_≡_, refl, sym, ap, _∙_}
 use mathlib.Core.Logic.{⊎-elim}
 use Prim.Native.Nat.{ℕ, suc, _-_, _≤_}
 use native.Mathlib.Omega.{arith}
-use native.Mathlib.Numerals.{add-one}
-use borrow.Author.Needs.{needs}
 use lib.ListN.{length, length-set, replicate}
 use Rattle.book.specs.Book.{rank}
 use Rattle.book.specs.RankLaws.{rank-le}
 use Rattle.register.specs.Closing.{inUse, newOf}
-use Rattle.register.proofs.Renumbering.{ranked-more, rank-in-use, rank-withdrawn}
+use Rattle.register.proofs.ClosingLaws.{ranked-more, rank-in-use, rank-withdrawn}
 use Rattle.register.proofs.closing.ranks.Statement.{statement}
 use Rattle.register.proofs.closing.ranks.Tie as tie
 
@@ -36,7 +34,14 @@ shared-slice-read-if1 : tie.Need-shared-slice-read-if1 Inv-loop μ-loop
 shared-slice-read-if1 c = omega arith
 
 add-next : tie.Need-add-next Inv-loop μ-loop
-add-next c = omega (arith, c .before .before .before .before .pre, c .before .before .before .loop .inv .2 (c .before .before .before .loop .i) (omega arith), rank-le (inUse (c .before .before .before .before .args .marks .now)) (c .before .before .before .loop .i))
+add-next c =
+    let at-loop = c .before .before .before in
+    omega (
+      arith,
+      at-loop .before .pre,
+      at-loop .loop .inv .2 (at-loop .loop .i) (omega arith),
+      rank-le (inUse (at-loop .before .args .marks .now)) (at-loop .loop .i),
+    )
 
 add-ranks : tie.Need-add-ranks Inv-loop μ-loop
 add-ranks c = omega arith
@@ -55,15 +60,16 @@ loop-less c = omega arith
 
 loop-again : tie.Need-loop-again Inv-loop μ-loop
 loop-again c =
-    let l = c .before .before .before .loop in
-    let ms = c .before .before .before .before .args .marks .now in
+    let at-loop = c .before .before .before in
+    let l = at-loop .loop in
+    let ms = at-loop .before .args .marks .now in
     let e : newOf (l .ranks) (l .i) ≡ rank (inUse ms) (l .i) = l .inv .2 (l .i) (omega arith) in
     let n : c .if1 .next ≡ rank (inUse ms) (suc (l .i)) =
     ⊎-elim
     (λ w. w .1 ∙ omega (arith, e, rank-in-use ms (l .i) (w .0 .taken)))
     (λ w. w .1 ∙ e ∙ sym (rank-withdrawn ms (l .i) (w .0 .left)))
     (c .if1 .came) in
-    (omega arith, simp length-set (l .inv .1), ranked-more ms (l .ranks) (l .i) (c .if1 .next) (omega (arith, l .inv .1, c .before .before .before .before .pre)) n (l .inv .2))
+    (omega arith, simp length-set (l .inv .1), ranked-more ms (l .ranks) (l .i) (c .if1 .next) (omega (arith, l .inv .1, at-loop .before .pre)) n (l .inv .2))
 
 returns : tie.Need-returns Inv-loop μ-loop
 returns c = let l = c .before .loop in λ x h. l .inv .2 x (omega (arith, c .before .before .pre))

@@ -6,7 +6,6 @@ use mathlib.Core.List.{_++_}
 use mathlib.Core.Bool.{Bool, not}
 use Prim.Native.Nat.{ℕ, _-_, _≤_}
 use native.Mathlib.Omega.{arith}
-use borrow.Author.Needs.{needs}
 use lib.ListN.{length, drop, getD, length-set}
 use borrow.Author.Tests.{eq-eqb, ne-eqb}
 use Rattle.book.specs.Basics.{pick}
@@ -14,7 +13,7 @@ use Rattle.book.specs.Book.{rank, noNumber, newNumbers}
 use Rattle.book.specs.RankLaws.{rank-le}
 use Rattle.register.specs.Marks.{withdrawnMark}
 use Rattle.register.specs.Closing.{inUse}
-use Rattle.register.proofs.Renumbering.{told-more, told-all}
+use Rattle.register.proofs.ClosingLaws.{told-more, told-all}
 use Rattle.register.proofs.closing.tell.Statement.{statement}
 use Rattle.register.proofs.closing.tell.Tie as tie
 
@@ -42,9 +41,10 @@ shared-slice-read-number c = omega arith
 
 cast-number : tie.Need-cast-number Inv-loop μ-loop
 cast-number c =
-    let a = c .before .before .before .before .before .args in
-    let i = c .before .before .before .before .loop .i in
-    let p = c .before .before .before .before .before .pre in
+    let at-loop = c .before .before .before .before in
+    let a = at-loop .before .args in
+    let i = at-loop .loop .i in
+    let p = at-loop .before .pre in
     omega (arith, p .1 i (omega (arith, p .3)), rank-le (inUse (a .marks .now)) i, p .3)
 
 mul-numbers : tie.Need-mul-numbers Inv-loop μ-loop
@@ -61,13 +61,15 @@ loop-less c = omega arith
 
 loop-again : tie.Need-loop-again Inv-loop μ-loop
 loop-again c =
-    let l = c .before .before .before .loop in
-    let a = c .before .before .before .before .args in
-    let p = c .before .before .before .before .pre in
+    let at-loop = c .before .before .before in
+    let l = at-loop .loop in
+    let a = at-loop .before .args in
+    let p = at-loop .before .pre in
     let ms = a .marks .now in
     let n : c .if1 .number ≡ pick (inUse ms (l .i)) (rank (inUse ms) (l .i)) noNumber =
     ⊎-elim
-    (λ w. w .2 ∙ p .1 (l .i) (omega (arith, p .3)) ∙ ap (λ (t : Bool). pick (not t) (rank (inUse ms) (l .i)) noNumber) (sym (ne-eqb (getD ms (l .i) 0) withdrawnMark (w .0 .taken))))
+    (λ w. w .2 ∙ p .1 (l .i) (omega (arith, p .3))
+    ∙ ap (λ (t : Bool). pick (not t) (rank (inUse ms) (l .i)) noNumber) (sym (ne-eqb (getD ms (l .i) 0) withdrawnMark (w .0 .taken))))
     (λ w. w .1 ∙ ap (λ (t : Bool). pick (not t) (rank (inUse ms) (l .i)) noNumber) (sym (eq-eqb (getD ms (l .i) 0) withdrawnMark (w .0 .left))))
     (c .if1 .came) in
     (omega arith, simp length-set (l .inv .1), told-more ms (a .numbers .now) (l .numbers) (l .i) (c .if1 .number) (l .inv .2) (omega (arith, p .4)) n)

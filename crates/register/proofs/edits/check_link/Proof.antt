@@ -1,4 +1,5 @@
--- `register::edits::check_link` meets its contract: out of range the number is that of no register, and in range the causes of the ends and the label decide. Assumes nothing.
+-- `register::edits::check_link` meets its contract: out of range the number is that of no register, and in range the causes of the
+-- ends and the label decide. Assumes nothing.
 use mathlib.Core.Path.{_≡_, refl, sym, _∙_}
 use native.Mathlib.Omega.{arith}
 use borrow.Author.Needs.{needs}
@@ -8,7 +9,7 @@ use Rattle.book.specs.BookLaws.{first-caused}
 use Rattle.book.specs.Book.{Link}
 use Rattle.register.specs.Counters.{Ranged}
 use Rattle.register.specs.Inner.{linkCauses}
-use Rattle.register.proofs.Stepping.{link-proper}
+use Rattle.register.proofs.StepLaws.{link-proper}
 use Rattle.register.proofs.edits.check_link.Statement.{statement}
 use Rattle.register.proofs.edits.check_link.Tie as tie
 
@@ -19,20 +20,25 @@ returns : tie.Need-returns
 unfolding number
 returns c = ((not-open, refl), (λ h. absurd (c .before .ranged .ensures .none (not-true _ (c .if1 .taken)) h)), λ _. refl)
 
-in-range : (c : tie.Else1) → Ranged (c .before .before .before .args .n) (c .before .before .before .args .count) (c .before .before .before .args .top) (c .before .before .before .args .held)
+in-range : (c : tie.Else1)
+    → let start = c .before .before .before in
+    Ranged (start .args .n) (start .args .count) (start .args .top) (start .args .held)
 in-range c = c .before .ranged .ensures .sure (not-false _ (c .if1 .left))
 
 link-cause-requires : tie.Need-link-cause-requires
 link-cause-requires c κs = omega (arith, in-range (c) .size, c .before .before .before .pre)
 
 returns-2 : tie.Need-returns-2
-returns-2 c = (first-caused _ (c .before .link-cause .ensures) (c .if2 .taken), (λ _. c .before .link-cause .ensures), λ o. absurd (o (in-range (c .before .before))))
+returns-2 c =
+    (first-caused _ (c .before .link-cause .ensures) (c .if2 .taken), (λ _. c .before .link-cause .ensures), λ o. absurd (o (in-range (c .before .before))))
 
 abbrev link : (c : tie.Start) → Link
 link c = record { from = c .args .link .from; label = c .args .link .label; to = c .args .link .to }
 
 -- no cause in the ends and the label
-free : (c : tie.Else2) → firstNumber (linkCauses (c .before .before .before .before .before .args .n) (c .before .before .before .before .before .args .marks .now) (link (c .before .before .before .before .before))) ≡ 0
+free : (c : tie.Else2)
+    → let start = c .before .before .before .before .before in
+    firstNumber (linkCauses (start .args .n) (start .args .marks .now) (link start)) ≡ 0
 free c = sym (c .before .link-cause .ensures) ∙ c .if2 .left
 
 link-word-requires : tie.Need-link-word-requires

@@ -2,7 +2,7 @@
 use Rattle.register.specs.Calls.{callOf}
 use Rattle.register.specs.History.{kindCall}
 use Rattle.register.specs.Entries.{entryOf}
-use Rattle.register.proofs.Replaying.{kind-none}
+use Rattle.register.proofs.ReplayLaws.{kind-none}
 use Rattle.register.proofs.history.entry_of.Statement.{statement}
 use Rattle.register.proofs.history.entry_of.Tie as tie
 

@@ -3,7 +3,7 @@ use Prim.Native.Nat.{_/_, _%_}
 use borrow.Author.Tests.{eq-eqb, ne-eqb}
 use Rattle.book.specs.Basics.{tally}
 use Rattle.register.specs.History.{closeKind, wordCall, entryCalls, isClose}
-use Rattle.register.proofs.Replaying.{kind-open}
+use Rattle.register.proofs.ReplayLaws.{kind-open}
 use Rattle.register.proofs.history.list_words.Statement.{statement}
 use Rattle.register.proofs.history.list_words.Tie as tie
 

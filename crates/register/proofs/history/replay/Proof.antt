@@ -1,6 +1,6 @@
--- `register::history::replay` meets its contract. The loop's invariant: after i words the register represents the book after their calls, the one list has the numbers
--- told to them and then what stood there, and the other has the lists of the closings up among them, each in its 1,024 words. The measure is the words left.
--- Assumes nothing.
+-- `register::history::replay` meets its contract. The loop's invariant: after i words the register represents the book after their calls, the
+-- one list has the numbers told to them and then what stood there, and the other has the lists of the closings up among them, each in its 1,024
+-- words. The measure is the words left. Assumes nothing.
 use Prim.Native.Nat.{ℕ, _+_, _*_, _-_, _≤_, _<_}
 use mathlib.Core.Path.{_≡_, refl, sym, ap, _∙_}
 use mathlib.Core.List.{List, _++_}
@@ -19,7 +19,8 @@ use Rattle.register.specs.Calls.{answerOf, answerNumber}
 use Rattle.register.specs.History.{Lent, wordCall, entryNumber, wordAnswers, entryCalls, callsOf, closings, laid}
 use Rattle.register.specs.HistoryLaws.{number-answer, represents-sound}
 use Rattle.register.specs.LaidLaws.{entry-answers, entry-follows, entry-given}
-use Rattle.register.proofs.Replaying.{replay-size, replay-short, replay-few, replay-free, replay-refused, after-turn, told-turn, closings-turn, closings-part, rest-whole, numbers-turn}
+use Rattle.register.proofs.ReplayLaws.{replay-size, replay-short, replay-few, replay-free, replay-refused, after-turn, told-turn, closings-turn}
+use Rattle.register.proofs.ReplayLaws.{closings-part, rest-whole, numbers-turn}
 use Rattle.register.proofs.history.replay.Statement.{statement}
 use Rattle.register.proofs.history.replay.Tie as tie
 
@@ -42,7 +43,9 @@ number-of-requires c κs = search needs
 
 -- the number that opening told
 opened : (c : tie.After-number-of Inv-loop μ-loop) → c .number-of .result ≡ freshAnswer (c .before .before .before .before .before .before .args .n)
-opened c = c .number-of .ensures ∙ ap answerNumber (c .before .before .fresh .ensures .answers) ∙ number-answer (freshAnswer (c .before .before .before .before .before .before .args .n))
+opened c =
+    let start = c .before .before .before .before .before .before in
+    c .number-of .ensures ∙ ap answerNumber (c .before .before .fresh .ensures .answers) ∙ number-answer (freshAnswer (start .args .n))
 
 returns : tie.Need-returns Inv-loop μ-loop
 returns c =
@@ -70,16 +73,21 @@ lists-fit-requires c κs = search needs
 empty-requires-2 : tie.Need-empty-requires-2 Inv-loop μ-loop
 empty-requires-2 c κs = search needs
 
-few : (c : tie.Then3 Inv-loop μ-loop) → length (c .before .before .before .before .before .before .before .before .before .before .args .numbers .now) < maxRecords * closings (callsOf (c .before .before .before .before .before .before .before .before .before .before .args .words .now))
+few : (c : tie.Then3 Inv-loop μ-loop)
+    → let start = c .before .before .before .before .before .before .before .before .before .before in
+    length (start .args .numbers .now) < maxRecords * closings (callsOf (start .args .words .now))
 few c = leb-false _ _ (sym (c .before .lists-fit .ensures) ∙ not-true _ (c .if3 .taken))
 
-room : (c : tie.Else3 Inv-loop μ-loop) → maxRecords * closings (callsOf (c .before .before .before .before .before .before .before .before .before .before .args .words .now)) ≤ length (c .before .before .before .before .before .before .before .before .before .before .args .numbers .now)
+room : (c : tie.Else3 Inv-loop μ-loop)
+    → let start = c .before .before .before .before .before .before .before .before .before .before in
+    maxRecords * closings (callsOf (start .args .words .now)) ≤ length (start .args .numbers .now)
 room c = leb-true _ _ (sym (c .before .lists-fit .ensures) ∙ not-false _ (c .if3 .left))
 
 returns-3 : tie.Need-returns-3 Inv-loop μ-loop
 returns-3 c =
     let s = c .before .before .before .before .before .before .before .before .before .before .before .args in
-    let e = replay-few (s .n) (s .words .now) (s .told .now) (s .numbers .now) (made (c .before .before .before .before)) (c .before .before .before .if2 .left) (few (c .before)) in
+    let e = replay-few (s .n) (s .words .now) (s .told .now) (s .numbers .now)
+    (made (c .before .before .before .before)) (c .before .before .before .if2 .left) (few (c .before)) in
     replay-refused (s .n) (s .words .now) (s .told .now) (s .numbers .now) 11 e (c .empty2 .ensures)
 
 loop-holds : tie.Need-loop-holds Inv-loop μ-loop
@@ -111,7 +119,9 @@ shared-slice-read-word c = omega arith
 
 -- the list of a word lies within the numbers, and so does all that is before it
 place : (c : tie.In-loop Inv-loop μ-loop)
-    → c .before .loop .at + maxRecords * closings (entryCalls (wordCall (getD (c .before .before .before .before .before .before .before .before .before .before .before .before .args .words .now) (c .before .loop .i) 0))) ≤ length (c .before .loop .numbers)
+    → let start = c .before .before .before .before .before .before .before .before .before .before .before .before in
+    c .before .loop .at + maxRecords * closings (entryCalls (wordCall (getD (start .args .words .now) (c .before .loop .i) 0)))
+    ≤ length (c .before .loop .numbers)
 place c =
     let ws = c .before .before .before .before .before .before .before .before .before .before .before .before .args .words .now in
     let l = c .before .loop in
@@ -136,19 +146,32 @@ number-of-requires-2 : tie.Need-number-of-requires-2 Inv-loop μ-loop
 number-of-requires-2 c κs = search needs
 
 mul-told : tie.Need-mul-told Inv-loop μ-loop
-mul-told c = omega (arith, told-fit (c .before .before .before .before .before .before .before .before .before .before .before .before .before .before .before .before .before .before), c .before .before .before .before .before .before .loop-test .taken, c .before .before .before .before .before .before .before .loop .inv .1, c .before .before .before .before .before .before .before .before .before .before .if2 .left)
+mul-told c =
+    let in-loop = c .before .before .before .before .before .before in
+    let else2 = in-loop .before .before .before .before in
+    let start = else2 .before .before .before .before .before .before .before .before in
+    omega (arith, told-fit start, in-loop .loop-test .taken, in-loop .before .loop .inv .1, else2 .if2 .left)
 
 slice-write-told : tie.Need-slice-write-told Inv-loop μ-loop
-slice-write-told c = omega (arith, c .before .before .before .before .before .before .loop-test .taken, c .before .before .before .before .before .before .before .loop .inv .1, c .before .before .before .before .before .before .before .before .before .before .if2 .left)
+slice-write-told c =
+    let in-loop = c .before .before .before .before .before .before in
+    let else2 = in-loop .before .before .before .before in
+    omega (arith, in-loop .loop-test .taken, in-loop .before .loop .inv .1, else2 .if2 .left)
 
 list-words-requires : tie.Need-list-words-requires Inv-loop μ-loop
 list-words-requires c κs = search needs
 
 add-at : tie.Need-add-at Inv-loop μ-loop
-add-at c = omega (arith, place (c .before .before .before .before .before .before .before .before), c .list-words .ensures, numbers-fit (c .before .before .before .before .before .before .before .before .before .before .before .before .before .before .before .before .before .before .before .before), c .before .before .before .before .before .before .before .before .before .loop .inv .2)
+add-at c =
+    let in-loop = c .before .before .before .before .before .before .before .before in
+    let start = in-loop .before .before .before .before .before .before .before .before .before .before .before .before in
+    omega (arith, place in-loop, c .list-words .ensures, numbers-fit start, in-loop .before .loop .inv .2)
 
 add-i : tie.Need-add-i Inv-loop μ-loop
-add-i c = omega (arith, words-fit (c .before .before .before .before .before .before .before .before .before .before .before .before .before .before .before .before .before .before .before .before), c .before .before .before .before .before .before .before .before .loop-test .taken)
+add-i c =
+    let in-loop = c .before .before .before .before .before .before .before .before in
+    let start = in-loop .before .before .before .before .before .before .before .before .before .before .before .before in
+    omega (arith, words-fit start, in-loop .loop-test .taken)
 
 loop-less : tie.Need-loop-less Inv-loop μ-loop
 loop-less c = omega (arith, c .before .before .before .before .before .before .before .before .loop-test .taken)
@@ -158,28 +181,34 @@ sound c = represents-sound (c .before .before .before .fresh .ensures .made (mad
 
 loop-again : tie.Need-loop-again Inv-loop μ-loop
 loop-again c =
-    let s = c .before .before .before .before .before .before .before .before .before .before .before .before .before .before .before .before .before .before .before .before .args in
+    let after-step = c .before .before .before .before .before in
+    let in-loop = after-step .before .before .before in
+    let else2 = in-loop .before .before .before .before in
+    let start = else2 .before .before .before .before .before .before .before .before in
+    let s = start .args in
     let ws = s .words .now in
-    let k = c .before .before .before .before .before .before .before .before .before .loop in
+    let k = in-loop .before .loop in
     let b = after (fresh (s .n)) (callsOf (take (k .i) ws)) in
     let e = wordCall (getD ws (k .i) 0) in
-    let h : k .i < length ws = c .before .before .before .before .before .before .before .before .loop-test .taken in
-    let t : k .i < length (s .told .now) = omega (arith, c .before .before .before .before .before .before .before .before .before .before .before .before .if2 .left) in
-    let o = c .before .before .before .before .before .step in
+    let h : k .i < length ws = in-loop .loop-test .taken in
+    let t : k .i < length (s .told .now) = omega (arith, else2 .if2 .left) in
+    let o = after-step .step in
     let a = c .before .before .number-of2 in
     let l : Lent = record { before = take (length (k .numbers) - k .at) (drop (k .at) (k .numbers)); after = o .last .1 .1 .0 } in
     let whole : l .before ≡ drop (k .at) (k .numbers) = rest-whole (k .numbers) (k .at) in
-    let enough : maxRecords * closings (entryCalls e) ≤ length (l .before) = omega (arith, ap length whole, length-drop (k .at) (k .numbers), place (c .before .before .before .before .before .before .before .before)) in
+    let enough : maxRecords * closings (entryCalls e) ≤ length (l .before) = omega (arith, ap length whole, length-drop (k .at) (k .numbers), place in-loop) in
     let same : length (o .last .1 .1 .0) ≡ length (l .before) = o .kept .1 .1 .0 in
     let given = entry-given (k .register) l (o .result) b (k .inv .4) e (o .ensures) enough ∙ ap (laid (givens b (entryCalls e))) whole in
-    let said : a .result ≡ entryNumber b e = a .ensures ∙ ap answerNumber (entry-answers (k .register) l (o .result) b (k .inv .4) e (o .ensures) enough) ∙ number-answer (entryNumber b e) in (
+    let said : a .result ≡ entryNumber b e =
+    a .ensures ∙ ap answerNumber (entry-answers (k .register) l (o .result) b (k .inv .4) e (o .ensures) enough) ∙ number-answer (entryNumber b e) in (
       omega arith,
       simp length-set (k .inv .1),
       same-len-mid (k .at) (length (k .numbers) - k .at) (k .numbers) (o .last .1 .1 .0) same ∙ k .inv .2,
       omega (arith, k .inv .3, c .list-words .ensures, closings-turn ws (k .i) h),
       rw (after-turn (fresh (s .n)) ws (k .i) h) (entry-follows (k .register) l (o .result) b (k .inv .4) e (o .ensures) enough),
       ap (λ (x : List ℕ). set x (k .i) (a .result)) (k .inv .5) ∙ told-turn (fresh (s .n)) ws (k .i) h (s .told .now) (a .result) t said,
-      numbers-turn (fresh (s .n)) ws (k .i) h (sound (c .before .before .before .before .before .before .before .before .before .before .before .before .before)) (s .numbers .now) (k .numbers) (o .last .1 .1 .0) (k .at) (k .inv .6) (k .inv .3) (omega (arith, place (c .before .before .before .before .before .before .before .before), k .inv .2)) (k .inv .2) given,
+      numbers-turn (fresh (s .n)) ws (k .i) h (sound (else2 .before)) (s .numbers .now) (k .numbers)
+          (o .last .1 .1 .0) (k .at) (k .inv .6) (k .inv .3) (omega (arith, place in-loop, k .inv .2)) (k .inv .2) given,
     )
 
 same-length : tie.Need-same-length Inv-loop μ-loop
@@ -195,7 +224,8 @@ returns-4 c =
     let k = c .before .loop in
     let i : k .i ≡ length ws = omega arith in
     let a : take (k .i) ws ≡ ws = take-all (k .i) ws (omega arith) in
-    let e = replay-free (s .n) ws (s .told .now) (s .numbers .now) (made (c .before .before .before .before .before)) (c .before .before .before .before .if2 .left) (room (c .before .before)) in
+    let e = replay-free (s .n) ws (s .told .now) (s .numbers .now) (made (c .before .before .before .before .before))
+    (c .before .before .before .before .if2 .left) (room (c .before .before)) in
     record {
       answer = ap answerOf (sym e);
       refused = λ z. absurd (z e);

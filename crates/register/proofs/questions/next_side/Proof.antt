@@ -7,7 +7,7 @@ use borrow.Author.Tests.{eq-eqb, ne-eqb}
 use lib.ListN.{length}
 use Rattle.register.specs.Inner.{hasAt}
 use Rattle.register.specs.Lookups.{nextPlace}
-use Rattle.register.proofs.Asking.{next-here, next-on, next-end}
+use Rattle.register.proofs.LookupLaws.{next-here, next-on, next-end}
 use Rattle.register.proofs.questions.next_side.Statement.{statement}
 use Rattle.register.proofs.questions.next_side.Tie as tie
 

@@ -3,7 +3,7 @@ use mathlib.Core.Path.{sym}
 use borrow.Author.Needs.{needs}
 use lib.ListN.{take}
 use lib.Seq.{length-take-le}
-use Rattle.register.proofs.Asking.{touched-from, touched-second}
+use Rattle.register.proofs.LookupLaws.{touched-from, touched-second}
 use Rattle.register.proofs.questions.touched.Statement.{statement}
 use Rattle.register.proofs.questions.touched.Tie as tie
 
@@ -24,7 +24,8 @@ next-side-requires-2 c κs = search needs
 returns-2 : tie.Need-returns-2
 returns-2 c =
     let s = c .before .before .before .before .before .args in
-    touched-second (take (s .count) (s .words .now)) (s .«record») (rw (c .before .before .next-side .ensures) at (c .before .if1 .left)) (c .next-side2 .result) (c .next-side2 .ensures)
+    touched-second (take (s .count) (s .words .now)) (s .«record»)
+    (rw (c .before .before .next-side .ensures) at (c .before .if1 .left)) (c .next-side2 .result) (c .next-side2 .ensures)
 
 pub touched-spec : {M : Type 1} → statement M
 touched-spec =

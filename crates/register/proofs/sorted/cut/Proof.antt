@@ -5,7 +5,7 @@ use mathlib.Core.Path.{_≡_, refl, _∙_}
 use native.Mathlib.Omega.{arith}
 use lib.ListN.{length, take, length-set}
 use Rattle.register.specs.Inner.{cutAt}
-use Rattle.register.proofs.Shift.{cut-turn, cut-last}
+use Rattle.register.proofs.ShiftLaws.{cut-turn, cut-last}
 use Rattle.register.proofs.sorted.cut.Statement.{statement}
 use Rattle.register.proofs.sorted.cut.Tie as tie
 
@@ -46,7 +46,8 @@ loop-again : tie.Need-loop-again Inv-loop μ-loop
 loop-again c = (
   omega arith,
   simp length-set (c .before .before .loop .inv .1),
-  cut-turn (c .before .before .loop .a) (c .before .before .before .args .count) (c .before .before .loop .j) (omega arith) (omega arith) ∙ c .before .before .loop .inv .2,
+  cut-turn (c .before .before .loop .a) (c .before .before .before .args .count) (c .before .before .loop .j) (omega arith) (omega arith)
+      ∙ c .before .before .loop .inv .2,
 )
 
 returns : tie.Need-returns Inv-loop μ-loop

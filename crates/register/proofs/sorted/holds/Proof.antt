@@ -1,7 +1,8 @@
--- `register::sorted::holds` meets its contract: among ascending words there is one place for x, and x is there exactly if it stands at that place. Assumes nothing.
+-- `register::sorted::holds` meets its contract: among ascending words there is one place for x, and x is there exactly if it stands
+-- at that place. Assumes nothing.
 use mathlib.Core.Path.{_∙_}
 use borrow.Author.Needs.{needs}
-use Rattle.register.proofs.Ascending.{seam-has}
+use Rattle.register.proofs.AscendingLaws.{seam-has}
 use Rattle.register.proofs.sorted.holds.Statement.{statement}
 use Rattle.register.proofs.sorted.holds.Tie as tie
 
@@ -12,7 +13,9 @@ stands-requires : tie.Need-stands-requires
 stands-requires c κs = search needs
 
 returns : tie.Need-returns
-returns c = λ r. let s = c .before .before .before in c .stands .ensures ∙ seam-has (s .args .x) (s .args .words .now) (s .args .count) (c .before .place .result) (s .pre) r (c .before .place .ensures)
+returns c =
+    λ r. let s = c .before .before .before in
+    c .stands .ensures ∙ seam-has (s .args .x) (s .args .words .now) (s .args .count) (c .before .place .result) (s .pre) r (c .before .place .ensures)
 
 pub holds-spec : {M : Type 1} → statement M
 holds-spec = tie.close (tie.spec place-requires stands-requires returns)

@@ -1,11 +1,11 @@
--- `register::sorted::put` meets its contract. The loop's invariant: the words so far, with the carried one put at j, are the first words with x put at its place.
--- The measure is what is left of count. Assumes nothing.
+-- `register::sorted::put` meets its contract. The loop's invariant: the words so far, with the carried one put at j, are the first words with x put at its
+-- place. The measure is what is left of count. Assumes nothing.
 use Prim.Native.Nat.{_≤_, _-_}
 use mathlib.Core.Path.{_≡_, refl, _∙_}
 use native.Mathlib.Omega.{arith}
 use lib.ListN.{length, take, length-set}
 use Rattle.register.specs.Inner.{putAt}
-use Rattle.register.proofs.Shift.{put-turn, put-last}
+use Rattle.register.proofs.ShiftLaws.{put-turn, put-last}
 use Rattle.register.proofs.sorted.put.Statement.{statement}
 use Rattle.register.proofs.sorted.put.Tie as tie
 
@@ -40,7 +40,8 @@ loop-again : tie.Need-loop-again Inv-loop μ-loop
 loop-again c = (
   omega arith,
   simp length-set (c .before .before .loop .inv .1),
-  put-turn (c .before .before .loop .a) (c .before .before .before .args .count) (c .before .before .loop .j) (c .before .before .loop .carried) (omega arith) (omega arith) ∙ c .before .before .loop .inv .2,
+  put-turn (c .before .before .loop .a) (c .before .before .before .args .count) (c .before .before .loop .j)
+      (c .before .before .loop .carried) (omega arith) (omega arith) ∙ c .before .before .loop .inv .2,
 )
 
 mul-a-2 : tie.Need-mul-a-2 Inv-loop μ-loop

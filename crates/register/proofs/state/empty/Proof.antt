@@ -9,7 +9,7 @@ use Rattle.book.specs.ListLaws.{in-none}
 use Rattle.register.specs.Links.{wordTotal}
 use Rattle.register.specs.Packed.{Piled}
 use Rattle.register.specs.Representation.{latest}
-use Rattle.register.proofs.Showing.{replicate-at}
+use Rattle.register.proofs.SheetLaws.{replicate-at}
 use Rattle.register.proofs.state.empty.Statement.{statement}
 use Rattle.register.proofs.state.empty.Tie as tie
 

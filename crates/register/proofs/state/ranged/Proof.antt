@@ -1,7 +1,7 @@
 -- `register::state::ranged` meets its contract: each refusal by the test that led to it, and the answer true by all four. Assumes nothing.
 use mathlib.Core.Bool.{true≢false}
 use native.Mathlib.Omega.{arith}
-use Rattle.register.proofs.Stepping.{guard-none}
+use Rattle.register.proofs.StepLaws.{guard-none}
 use Rattle.register.proofs.state.ranged.Statement.{statement}
 use Rattle.register.proofs.state.ranged.Tie as tie
 

@@ -1,8 +1,8 @@
 -- `register::totals::lower` meets its contract: past the labels, or with no room, nothing is written, and no total has to move; else one does. Assumes nothing.
-use mathlib.Core.Path.{_≡_, refl}
+use mathlib.Core.Path.{refl}
 use native.Mathlib.Omega.{arith}
 use borrow.Author.Needs.{needs}
-use Rattle.register.proofs.Counting.{lowered, lowered-set}
+use Rattle.register.proofs.TotalLaws.{lowered, lowered-set}
 use Rattle.register.proofs.totals.lower.Statement.{statement}
 use Rattle.register.proofs.totals.lower.Tie as tie
 

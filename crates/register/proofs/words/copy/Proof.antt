@@ -1,6 +1,7 @@
--- `register::words::copy` writes word by word. The loop's invariant: the first i words are pasted into what was lent. The measure is the words left. Assumes nothing.
+-- `register::words::copy` writes word by word. The loop's invariant: the first i words are pasted into what was lent. The measure
+-- is the words left. Assumes nothing.
 use lib.Seq.{paste, paste-zero}
-use Rattle.register.proofs.Keeping.{copied-none, copied-more, copied-all}
+use Rattle.register.proofs.KeepLaws.{copied-none, copied-more, copied-all}
 use mathlib.Core.Path.{_≡_, refl}
 use Prim.Native.Nat.{_+_, _-_, _≤_}
 use native.Mathlib.Omega.{arith}
@@ -51,8 +52,12 @@ loop-less c = omega arith
 loop-again : tie.Need-loop-again Inv-loop μ-loop
 loop-again c =
     let a = c .before .before .before .before .before .args in
-    let l = c .before .before .loop in
-    (omega arith, simp length-set (l .inv .1), l .inv .2, copied-more (a .from .now) (a .at) (a .to .now) (l .to) (l .i) (l .inv .3) (omega arith) (omega (arith, l .inv .2)))
+    let l = c .before .before .loop in (
+      omega arith,
+      simp length-set (l .inv .1),
+      l .inv .2,
+      copied-more (a .from .now) (a .at) (a .to .now) (l .to) (l .i) (l .inv .3) (omega arith) (omega (arith, l .inv .2)),
+    )
 
 same-length : tie.Need-same-length Inv-loop μ-loop
 same-length c = search needs

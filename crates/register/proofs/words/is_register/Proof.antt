@@ -1,8 +1,7 @@
 -- `register::words::is_register` looks at the length, the counters and the marks in turn. Assumes nothing.
-use Prim.Native.Nat.{_≤_}
 use native.Mathlib.Omega.{arith}
 use borrow.Author.Tests.{not-true, not-false}
-use Rattle.register.proofs.Keeping.{tested-not, formed-by}
+use Rattle.register.proofs.KeepLaws.{tested-not, formed-by}
 use borrow.Author.Needs.{needs}
 use Rattle.register.proofs.words.is_register.Statement.{statement}
 use Rattle.register.proofs.words.is_register.Tie as tie
@@ -60,8 +59,10 @@ marked-requires c κs = search needs
 
 returns-4 : tie.Need-returns-4
 returns-4 c =
-    let ws = c .before .before .before .before .before .before .before .before .before .before .before .before .args .words .now in
-    formed-by ws (c .marked .result) (c .before .before .before .before .before .before .before .before .before .before .if1 .left) (c .before .before .before .ranged .ensures .sure (not-false _ (c .before .before .if3 .left))) (c .marked .ensures)
+    let after-ranged = c .before .before .before in
+    let else1 = after-ranged .before .before .before .before .before .before .before in
+    let ws = else1 .before .before .args .words .now in
+    formed-by ws (c .marked .result) (else1 .if1 .left) (after-ranged .ranged .ensures .sure (not-false _ (c .before .before .if3 .left))) (c .marked .ensures)
 
 pub is-register-spec : {M : Type 1} → statement M
 is-register-spec =

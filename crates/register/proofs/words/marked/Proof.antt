@@ -1,6 +1,6 @@
 -- `register::words::marked` looks at each word. The loop's invariant: the words before i are marks. The measure is the words left. Assumes nothing.
 use borrow.Author.Count.{below-more}
-use Rattle.register.proofs.Keeping.{tested, tested-not, marked-all}
+use Rattle.register.proofs.KeepLaws.{tested, tested-not, marked-all}
 use Prim.Native.Nat.{ℕ, _-_, _≤_, _<_}
 use native.Mathlib.Omega.{arith}
 use lib.ListN.{length, getD}

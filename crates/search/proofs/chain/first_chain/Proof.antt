@@ -35,13 +35,19 @@ part-backward-end : tie.Need-part-backward-end
 part-backward-end c = omega (arith, long (c .before .before), c .before .before .arcs-of .ensures .0)
 
 backward-requires : tie.Need-backward-requires
-backward-requires c κs = let p = c .before .before .before .before .before .before .before .before .before .before .before .before .pre in (omega (arith, part-long (c .before .before .before .before), c .before .before .before .before .arcs-of .ensures .0), p .1, p .3, p .4, p .5, p .6, p .7)
+backward-requires c κs =
+    let after-arcs-of = c .before .before .before .before in
+    let start = after-arcs-of .before .before .before .before .before .before .before .before in
+    let p = start .pre in (omega (arith, part-long after-arcs-of, after-arcs-of .arcs-of .ensures .0), p .1, p .3, p .4, p .5, p .6, p .7)
 
 same-length : tie.Need-same-length
 same-length c = search needs
 
 -- those that count, alone, are the crossings
-crossed : (c : tie.After-arcs-of) → Crossings (c .before .before .before .before .before .before .before .before .args .links .now) (c .before .before .before .before .before .before .before .before .args .enter .now) (2 * length (c .before .before .before .before .before .before .before .before .args .links .now)) (take (c .arcs-of .result - 0) (c .arcs-of .last .1 .1 .0)) (length (take (c .arcs-of .result - 0) (c .arcs-of .last .1 .1 .0)))
+crossed : (c : tie.After-arcs-of)
+    → let start = c .before .before .before .before .before .before .before .before in
+    Crossings (start .args .links .now) (start .args .enter .now) (2 * length (start .args .links .now))
+    (take (c .arcs-of .result - 0) (c .arcs-of .last .1 .1 .0)) (length (take (c .arcs-of .result - 0) (c .arcs-of .last .1 .1 .0)))
 crossed c =
     let a = c .arcs-of in
     let part : a .result - 0 ≡ a .result = omega arith in
@@ -49,11 +55,14 @@ crossed c =
 
 returns : tie.Need-returns
 returns c =
-    let p = c .before .before .before .before .before .before .before .before .before .before .before .before .before .before .before .before .pre in (
+    let after-backward = c .before .before .before in
+    let after-arcs-of = after-backward .before .before .before .before .before in
+    let start = after-arcs-of .before .before .before .before .before .before .before .before in
+    let p = start .pre in (
       none refl,
       λ g e size I S T ux uy.
-          let Q = setting size I (p .1) S (crossed (c .before .before .before .before .before .before .before .before)) T (p .3) in
-          answered-none g e (c .before .before .before .backward .ensures g _ _ Q) (c .if1 .taken),
+          let Q = setting size I (p .1) S (crossed after-arcs-of) T (p .3) in
+          answered-none g e (after-backward .backward .ensures g _ _ Q) (c .if1 .taken),
     )
 
 sub-steps : tie.Need-sub-steps
@@ -64,11 +73,14 @@ same-length-2 c = search needs
 
 returns-2 : tie.Need-returns-2
 returns-2 c =
-    let p = c .before .before .before .before .before .before .before .before .before .before .before .before .before .before .before .before .before .pre in (
+    let after-backward = c .before .before .before .before in
+    let after-arcs-of = after-backward .before .before .before .before .before in
+    let start = after-arcs-of .before .before .before .before .before .before .before .before in
+    let p = start .pre in (
       too-long refl,
       λ g e size I S T ux uy.
-          let Q = setting size I (p .1) S (crossed (c .before .before .before .before .before .before .before .before .before)) T (p .3) in
-          answered-short g e _ (reached g e (c .before .before .before .before .backward .ensures g _ _ Q) (c .before .if1 .left)) (p .5) ux uy (c .if2 .taken),
+          let Q = setting size I (p .1) S (crossed after-arcs-of) T (p .3) in
+          answered-short g e _ (reached g e (after-backward .backward .ensures g _ _ Q) (c .before .if1 .left)) (p .5) ux uy (c .if2 .taken),
     )
 
 sub-forward : tie.Need-sub-forward
@@ -78,12 +90,29 @@ part-forward-start : tie.Need-part-forward-start
 part-forward-start c = search needs
 
 part-forward-end : tie.Need-part-forward-end
-part-forward-end c = omega (arith, long (c .before .before .before .before .before .before .before .before .before .before), c .before .before .before .before .before .before .before .before .before .before .arcs-of .ensures .0)
+part-forward-end c =
+    let after-arcs-of = c .before .before .before .before .before .before .before .before .before .before in
+    omega (arith, long after-arcs-of, after-arcs-of .arcs-of .ensures .0)
 
 forward-requires : tie.Need-forward-requires
 forward-requires c κs =
-    let p = c .before .before .before .before .before .before .before .before .before .before .before .before .before .before .before .before .before .before .before .before .before .before .before .before .pre in
-    (omega (arith, part-long (c .before .before .before .before .before .before .before .before .before .before .before .before .before .before .before .before), c .before .before .before .before .before .before .before .before .before .before .before .before .before .before .before .before .arcs-of .ensures .0), p .2, p .4, search needs, search needs, p .1, p .5, search needs)
+    let p = (let earlier = c .before .before .before .before .before .before .before .before .before .before .before .before in
+    earlier .before .before .before .before .before .before .before .before .before .before .before .before) .pre in (
+      omega (
+        arith,
+        part-long (let earlier = c .before .before .before .before .before .before .before .before in
+            earlier .before .before .before .before .before .before .before .before),
+        (let earlier = c .before .before .before .before .before .before .before .before in
+            earlier .before .before .before .before .before .before .before .before) .arcs-of .ensures .0,
+      ),
+      p .2,
+      p .4,
+      search needs,
+      search needs,
+      p .1,
+      p .5,
+      search needs,
+    )
 
 same-length-3 : tie.Need-same-length-3
 same-length-3 c = search needs
@@ -93,12 +122,16 @@ same-length-4 c = search needs
 
 returns-3 : tie.Need-returns-3
 returns-3 c =
-    let p = c .before .before .before .before .before .before .before .before .before .before .before .before .before .before .before .before .before .before .before .before .before .before .before .before .before .before .before .pre in
+    let else2 = c .before .before .before .before .before .before .before .before .before .before in
+    let after-backward = else2 .before .before .before .before in
+    let after-arcs-of = after-backward .before .before .before .before .before in
+    let start = after-arcs-of .before .before .before .before .before .before .before .before in
+    let p = start .pre in
     let f = c .before .before .forward .ensures in (
-      written (c .before .before .before .before .before .before .before .before .before .before .if2 .left) (f .rest),
+      written (else2 .if2 .left) (f .rest),
       λ g e size I S T ux uy.
-          let Q = setting size I (p .1) S (crossed (c .before .before .before .before .before .before .before .before .before .before .before .before .before .before .before .before .before .before .before)) T (p .3) in
-          answered-first g e _ (reached g e (c .before .before .before .before .before .before .before .before .before .before .before .before .before .before .backward .ensures g _ _ Q) (c .before .before .before .before .before .before .before .before .before .before .before .if1 .left)) (p .5) ux uy Q f,
+          let Q = setting size I (p .1) S (crossed after-arcs-of) T (p .3) in
+          answered-first g e _ (reached g e (after-backward .backward .ensures g _ _ Q) (else2 .before .if1 .left)) (p .5) ux uy Q f,
     )
 
 pub first-chain-spec : {M : Type 1} → statement M

@@ -16,9 +16,11 @@ state c = some-digit 64 (c .before .before .args .entry .states) (omega arith) (
 
 room : (c : tie.Else3) → c .before .before .before .before .before .before .before .args .entry .listed < 1024
 room c =
-    let s = c .before .before .before .before .before .before .before .args in
-    let p = c .before .before .before .before .before .before .before .pre in
-    list-room (p .4) (s .entry .at) (s .entry .states) (p .3) (omega arith) (state (c .before .before .before .before .before)) (p .1) (c .if3 .left)
+    let else1 = c .before .before .before .before .before in
+    let start = else1 .before .before in
+    let s = start .args in
+    let p = start .pre in
+    list-room (p .4) (s .entry .at) (s .entry .states) (p .3) (omega arith) (state else1) (p .1) (c .if3 .left)
 
 returns : tie.Need-returns
 returns c = (c .before .before .pre .4, added-zero _ _ _ _ (c .if1 .taken))
@@ -43,9 +45,13 @@ same-length c = search needs
 
 returns-3 : tie.Need-returns-3
 returns-3 c =
-    let s = c .before .before .before .before .before .before .before .args in
-    let p = c .before .before .before .before .before .before .before .pre in
-    (listed-old (p .4) (s .entry .at) (s .entry .states) (p .3) (omega arith) (state (c .before .before .before .before .before)) (p .1) (omega arith), added-more _ _ _ _ (omega arith) (omega arith))
+    let else1 = c .before .before .before .before .before in
+    let start = else1 .before .before in
+    let s = start .args in
+    let p = start .pre in (
+      listed-old (p .4) (s .entry .at) (s .entry .states) (p .3) (omega arith) (state else1) (p .1) (omega arith),
+      added-more _ _ _ _ (omega arith) (omega arith),
+    )
 
 cast-list : tie.Need-cast-list
 cast-list c = search needs
@@ -67,9 +73,13 @@ same-length-3 c = search needs
 
 returns-4 : tie.Need-returns-4
 returns-4 c =
-    let s = c .before .before .before .before .before .before .before .args in
-    let p = c .before .before .before .before .before .before .before .pre in
-    (listed-new (p .4) (s .entry .at) (s .entry .states) (p .3) (omega arith) (state (c .before .before .before .before .before)) (p .1) (c .if3 .left) (p .2), added-more _ _ _ _ (omega arith) (omega arith))
+    let else1 = c .before .before .before .before .before in
+    let start = else1 .before .before in
+    let s = start .args in
+    let p = start .pre in (
+      listed-new (p .4) (s .entry .at) (s .entry .states) (p .3) (omega arith) (state else1) (p .1) (c .if3 .left) (p .2),
+      added-more _ _ _ _ (omega arith) (omega arith),
+    )
 
 pub add-states-spec : {M : Type 1} → statement M
 add-states-spec =

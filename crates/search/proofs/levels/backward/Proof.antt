@@ -1,8 +1,8 @@
 -- `backward` makes level after level. The outer loop's invariant: whatever graph and automaton the arcs and tables are of, the numbers are known after so many
 -- levels (`Level`); the records and words held are those of the current level (`Frontier`); and at least as many states have been seen. The measure is the
 -- number of states not seen, which each level that is not empty lessens (`level-falls`). It rests on `level-next`, and where a level is empty on `level-empty`.
--- The inner loop goes over the records of the current level. Its invariant: the list has the records of the words (`Listed`), and the arcs passed are those into
--- the first i records (`Levelling`). The measure is what is left of the records. It rests on `levelling-all`. Assumes nothing.
+-- The inner loop goes over the records of the current level. Its invariant: the list has the records of the words (`Listed`), and the arcs passed are those
+-- into the first i records (`Levelling`). The measure is what is left of the records. It rests on `levelling-all`. Assumes nothing.
 use mathlib.Core.Path.{_≡_, refl, sym, _∙_, subst}
 use mathlib.Core.List.{List}
 use Prim.Native.Nat.{ℕ, suc, _+_, _*_, _-_, _≤_, _<_}
@@ -34,7 +34,8 @@ abbrev μ-loop2 : tie.MeasureT-loop2
 μ-loop2 arcs predecessors enter accepting work n start end index seen next₀ list₀ records masks count level listed₀ i₀ next list listed i = count - i
 
 abbrev Inv-loop : tie.InvT-loop
-Inv-loop arcs predecessors enter accepting work₀ n start end index seen₀ next₀ list₀ records₀ masks₀ count₀ level₀ work seen next list records masks count level =
+Inv-loop arcs predecessors enter accepting work₀ n start end index seen₀ next₀
+    list₀ records₀ masks₀ count₀ level₀ work seen next list records masks count level =
     (length work ≡ length work₀) × (length seen ≡ 1024) × (length next ≡ 1024) × (length list ≡ 1024) × (length records ≡ 1024) × (length masks ≡ 1024)
     × (count ≤ 1024) × (level ≤ onesBelow (bitAt seen) (n * 64)) × Zero next
     × (cur : List ℕ) × Frontier records masks count cur
@@ -75,7 +76,8 @@ loop-holds c =
       zero-at 1024,
       cur,
       frontier-start 1024 (s .ends .to) (s .accepting) (omega arith) (omega arith),
-      λ g M fs S. level-start S (c .before .before .stamp .ensures) cur (mask-here 1024 (s .ends .to) (s .accepting) (omega arith)) (mask-off 1024 (s .ends .to) (s .accepting)),
+      λ g M fs S. level-start S (c .before .before .stamp .ensures) cur
+          (mask-here 1024 (s .ends .to) (s .accepting) (omega arith)) (mask-off 1024 (s .ends .to) (s .accepting)),
     )
 
 mul-loop : tie.Need-mul-loop Inv-loop2 μ-loop2 Inv-loop μ-loop
@@ -120,11 +122,15 @@ slice-aggregate-into-4 c = sym (c .before .before .before .before .before .loop2
 
 into-requires : tie.Need-into-requires Inv-loop2 μ-loop2 Inv-loop μ-loop
 into-requires c κs =
-    let p = c .before .before .before .before .before .before .before .before .before .before .before .before .before .before .before .before .before .pre in
-    let l = c .before .before .before .before .before .loop2 .inv in
-    let X = c .before .before .before .before .before .before .before .before .before .before .before .before .index-by-reached in
+    let in-loop2 = c .before .before .before .before in
+    let at-loop = in-loop2 .before .before .before in
+    let after-index-by-reached = at-loop .before .before .before .before .before in
+    let start = after-index-by-reached .before .before .before .before .before in
+    let p = start .pre in
+    let l = in-loop2 .before .loop2 .inv in
+    let X = after-index-by-reached .index-by-reached in
     let long : length (X .result) ≡ 9216 = search needs in
-    (p .0, long, p .2, p .3, inside (c .before .before .before .before), c .before .before .before .before .before .before .before .loop .inv .1, p .1, l .1, l .2, X .ensures, l .3)
+    (p .0, long, p .2, p .3, inside in-loop2, at-loop .loop .inv .1, p .1, l .1, l .2, X .ensures, l .3)
 
 add-i : tie.Need-add-i Inv-loop2 μ-loop2 Inv-loop μ-loop
 add-i c = omega arith
@@ -135,20 +141,32 @@ loop2-less c = omega arith
 loop2-again : tie.Need-loop2-again Inv-loop2 μ-loop2 Inv-loop μ-loop
 loop2-again c =
     let l = c .before .before .before .before .before .before .before .before .loop2 in
-    let P = c .before .before .into in
-    (omega arith, _∙_ {b = length (l .next)} (P .kept .1 .1 .1 .1 .1 .0) (l .inv .1), _∙_ {b = length (l .list)} (P .kept .1 .1 .1 .1 .1 .1 .0) (l .inv .2), P .ensures .0, λ cur F. P .ensures .1 cur _ (l .i) refl (F .at (l .i) (omega arith)) (l .inv .4 cur F))
+    let P = c .before .before .into in (
+      omega arith,
+      _∙_ {b = length (l .next)} (P .kept .1 .1 .1 .1 .1 .0) (l .inv .1),
+      _∙_ {b = length (l .list)} (P .kept .1 .1 .1 .1 .1 .1 .0) (l .inv .2),
+      P .ensures .0,
+      λ cur F. P .ensures .1 cur _ (l .i) refl (F .at (l .i) (omega arith)) (l .inv .4 cur F),
+    )
 
 -- the level is made
-made : (c : tie.After-loop2 Inv-loop2 μ-loop2 Inv-loop μ-loop) → (cur : List ℕ) → Frontier (c .before .before .before .loop .records) (c .before .before .before .loop .masks) (c .before .before .before .loop .count) cur
-    → Levelled (c .before .before .before .before .before .before .before .before .before .before .before .before .before .args .arcs .now) (c .before .before .before .before .before .before .before .before .before .before .before .before .before .args .predecessors .now) (c .before .before .before .before .before .before .before .before .before .before .before .before .before .args .enter .now) cur (c .before .before .before .loop .seen) (c .before .before .before .before .before .before .before .before .before .before .before .before .before .args .ends .n) (length (c .before .before .before .before .before .before .before .before .before .before .before .before .before .args .arcs .now)) (c .before .loop2 .next)
+made : (c : tie.After-loop2 Inv-loop2 μ-loop2 Inv-loop μ-loop)
+    → let at-loop = c .before .before .before in
+    let start = at-loop .before .before .before .before .before .before .before .before .before .before in
+    (cur : List ℕ) → Frontier (at-loop .loop .records) (at-loop .loop .masks) (at-loop .loop .count) cur
+    → Levelled (start .args .arcs .now) (start .args .predecessors .now) (start .args .enter .now) cur
+    (at-loop .loop .seen) (start .args .ends .n) (length (start .args .arcs .now)) (c .before .loop2 .next)
 made c cur F = let l = c .before .loop2 in let e : l .i ≡ c .before .before .before .loop .count = omega arith in levelling-all (rw e at (l .inv .4 cur F)) F
 
 -- the records listed, as they are lent
-part-long : (c : tie.After-loop2 Inv-loop2 μ-loop2 Inv-loop μ-loop) → length (take (c .before .loop2 .listed - 0) (c .before .loop2 .list)) ≡ c .before .loop2 .listed - 0
+part-long : (c : tie.After-loop2 Inv-loop2 μ-loop2 Inv-loop μ-loop)
+    → length (take (c .before .loop2 .listed - 0) (c .before .loop2 .list)) ≡ c .before .loop2 .listed - 0
 part-long c = let l = c .before .loop2 in let h = listed-fits (l .inv .3) in length-take-le (l .listed - 0) (l .list) (omega (arith, l .inv .2))
 
 listed-part : (c : tie.After-loop2 Inv-loop2 μ-loop2 Inv-loop μ-loop)
-    → Listed (take (c .before .loop2 .listed - 0) (c .before .loop2 .list)) (length (take (c .before .loop2 .listed - 0) (c .before .loop2 .list))) (c .before .before .before .before .before .before .before .before .before .before .before .before .before .args .ends .n) (c .before .loop2 .next)
+    → let start = c .before .before .before .before .before .before .before .before .before .before .before .before .before in
+    Listed (take (c .before .loop2 .listed - 0) (c .before .loop2 .list))
+    (length (take (c .before .loop2 .listed - 0) (c .before .loop2 .list))) (start .args .ends .n) (c .before .loop2 .next)
 listed-part c =
     let l = c .before .loop2 in
     let h = listed-fits (l .inv .3) in
@@ -160,10 +178,13 @@ same-length c = c .before .before .before .before .loop .inv .0 ∙ c .before .b
 
 returns : tie.Need-returns Inv-loop2 μ-loop2 Inv-loop μ-loop
 returns c =
-    let i = c .before .before .before .before .loop .inv in
+    let in-loop = c .before .before .before in
+    let start = in-loop .before .before .before .before .before .before .before .before .before .before .before in
+    let i = in-loop .before .loop .inv in
     let none = none-listed (c .before .before .loop2 .inv .3) (c .if1 .taken) in
-    let unseen = digit-zero _ ∙ c .before .before .before .loop-test .taken in
-    λ g M fs S. nowhere (level-empty S (i .11 g M fs S) (made (c .before) (i .9) (i .10)) (commit-zero _ _ _ _ _ none) (c .before .before .before .before .before .before .before .before .before .before .before .before .before .before .args .ends .from) (c .before .before .before .before .before .before .before .before .before .before .before .before .before .before .pre .4) unseen none)
+    let unseen = digit-zero _ ∙ in-loop .loop-test .taken in
+    λ g M fs S. nowhere
+    (level-empty S (i .11 g M fs S) (made (c .before) (i .9) (i .10)) (commit-zero _ _ _ _ _ none) (start .args .ends .from) (start .pre .4) unseen none)
 
 slice-aggregate-commit : tie.Need-slice-aggregate-commit Inv-loop2 μ-loop2 Inv-loop μ-loop
 slice-aggregate-commit c = sym (c .before .before .before .before .before .before .loop .inv .1)
@@ -178,10 +199,15 @@ part-commit-start : tie.Need-part-commit-start Inv-loop2 μ-loop2 Inv-loop μ-lo
 part-commit-start c = omega arith
 
 part-commit-end : tie.Need-part-commit-end Inv-loop2 μ-loop2 Inv-loop μ-loop
-part-commit-end c = let h = listed-fits (c .before .before .before .before .before .before .loop2 .inv .3) in omega (arith, c .before .before .before .before .before .before .loop2 .inv .2)
+part-commit-end c =
+    let at-loop2 = c .before .before .before .before .before .before in
+    let h = listed-fits (at-loop2 .loop2 .inv .3) in omega (arith, at-loop2 .loop2 .inv .2)
 
 add-commit : tie.Need-add-commit Inv-loop2 μ-loop2 Inv-loop μ-loop
-add-commit c = omega (arith, ones-most (c .before .before .before .before .before .before .before .before .before .loop .seen) (c .before .before .before .before .before .before .before .before .before .before .before .before .before .before .before .before .before .before .before .args .ends .n * 64))
+add-commit c =
+    let at-loop = c .before .before .before .before .before .before .before .before .before in
+    let start = at-loop .before .before .before .before .before .before .before .before .before .before in
+    omega (arith, ones-most (at-loop .loop .seen) (start .args .ends .n * 64))
 
 slice-aggregate-commit-3 : tie.Need-slice-aggregate-commit-3 Inv-loop2 μ-loop2 Inv-loop μ-loop
 slice-aggregate-commit-3 c = sym (c .before .before .before .before .before .before .before .before .before .before .loop .inv .4)
@@ -191,38 +217,58 @@ slice-aggregate-commit-4 c = sym (c .before .before .before .before .before .bef
 
 commit-requires : tie.Need-commit-requires Inv-loop2 μ-loop2 Inv-loop μ-loop
 commit-requires c κs =
-    let k : length (c .before .before .before .before .before .before .before .before .before .before .before .before .before .before .stamp .last .0) ≡ length (c .before .before .before .before .before .before .before .before .before .before .before .before .before .before .before .before .before .before .before .before .before .args .work .now) = c .before .before .before .before .before .before .before .before .before .before .before .before .before .before .stamp .kept .0 in
-    let p = c .before .before .before .before .before .before .before .before .before .before .before .before .before .before .before .before .before .before .before .before .before .pre in
-    let i = c .before .before .before .before .before .before .before .before .before .before .before .loop .inv in
-    let l = c .before .before .before .before .before .before .before .before .before .loop2 .inv in
+    let after-loop2 = c .before .before .before .before .before .before .before .before in
+    let at-loop = after-loop2 .before .before .before in
+    let after-stamp = at-loop .before .before .before in
+    let start = after-stamp .before .before .before .before .before .before .before in
+    let k : length (after-stamp .stamp .last .0) ≡ length (start .args .work .now) = after-stamp .stamp .kept .0 in
+    let p = start .pre in
+    let i = at-loop .loop .inv in
+    let l = after-loop2 .before .loop2 .inv in
     let h = listed-fits (l .3) in
-    (l .1, i .4, i .5, omega (arith, part-long (c .before .before .before .before .before .before .before .before)), (c .before .before .before .before .before .before .before .before .before .before .before .before .before .before .before .before .before .before .before .before .before .args .ends .n, p .1, omega arith, omega arith, listed-part (c .before .before .before .before .before .before .before .before)))
+    (l .1, i .4, i .5, omega (arith, part-long after-loop2), (start .args .ends .n, p .1, omega arith, omega arith, listed-part after-loop2))
 
 -- the level is not empty, so that more states are seen
-grows : (c : tie.After-commit Inv-loop2 μ-loop2 Inv-loop μ-loop) → onesBelow (bitAt (c .before .before .before .before .before .before .before .before .before .before .before .before .loop .seen)) (c .before .before .before .before .before .before .before .before .before .before .before .before .before .before .before .before .before .before .before .before .before .before .args .ends .n * 64) < onesBelow (bitAt (c .commit .last .1 .0)) (c .before .before .before .before .before .before .before .before .before .before .before .before .before .before .before .before .before .before .before .before .before .before .args .ends .n * 64)
+grows : (c : tie.After-commit Inv-loop2 μ-loop2 Inv-loop μ-loop)
+    → let at-loop = c .before .before .before .before .before .before .before .before .before .before .before .before in
+    let start = at-loop .before .before .before .before .before .before .before .before .before .before in
+    onesBelow (bitAt (at-loop .loop .seen)) (start .args .ends .n * 64) < onesBelow (bitAt (c .commit .last .1 .0)) (start .args .ends .n * 64)
 grows c =
-    let i = c .before .before .before .before .before .before .before .before .before .before .before .before .loop .inv in
-    let listed = c .before .before .before .before .before .before .before .before .before .before .loop2 .inv .3 in
-    let some = c .before .before .before .before .before .before .before .before .if1 .left in
+    let else1 = c .before .before .before .before .before .before .before .before in
+    let at-loop = else1 .before .before .before .before in
+    let i = at-loop .loop .inv in
+    let listed = else1 .before .before .loop2 .inv .3 in
+    let some = else1 .if1 .left in
     let state = listed .some 0 (omega arith) in
-    level-falls (made (c .before .before .before .before .before .before .before .before .before) (i .9) (i .10)) (c .commit .ensures .2 _ (listed-part (c .before .before .before .before .before .before .before .before .before))) (listed .small 0 (omega arith)) (state .1) (state .2)
+    level-falls (made (else1 .before) (i .9) (i .10)) (c .commit .ensures .2 _ (listed-part (else1 .before)))
+    (listed .small 0 (omega arith)) (state .1) (state .2)
 
 add-level : tie.Need-add-level Inv-loop2 μ-loop2 Inv-loop μ-loop
 add-level c =
-    let h = c .before .before .before .before .before .before .before .before .before .before .before .before .before .before .before .before .before .before .before .before .before .before .before .before .before .before .before .before .pre .1 in
-    let i = c .before .before .before .before .before .before .before .before .before .before .before .before .before .before .before .before .before .before .loop .inv .7 in
-    omega (arith, ones-most (c .before .before .before .before .before .before .before .before .before .before .before .before .before .before .before .before .before .before .loop .seen) (c .before .before .before .before .before .before .before .before .before .before .before .before .before .before .before .before .before .before .before .before .before .before .before .before .before .before .before .before .args .ends .n * 64))
+    let earlier = c .before .before .before .before .before .before .before .before .before in
+    let at-loop = earlier .before .before .before .before .before .before .before .before .before in
+    let start = at-loop .before .before .before .before .before .before .before .before .before .before in
+    let h = start .pre .1 in
+    let i = at-loop .loop .inv .7 in
+    omega (arith, ones-most (at-loop .loop .seen) (start .args .ends .n * 64))
 
 loop-less : tie.Need-loop-less Inv-loop2 μ-loop2 Inv-loop μ-loop
-loop-less c = omega (arith, grows (c .before .before .before .before .before .before), ones-most (c .before .before .before .before .before .before .commit .last .1 .0) (c .before .before .before .before .before .before .before .before .before .before .before .before .before .before .before .before .before .before .before .before .before .before .before .before .before .before .before .before .args .ends .n * 64))
+loop-less c =
+    let after-commit = c .before .before .before .before .before .before in
+    let earlier = after-commit .before .before .before .before .before .before .before .before .before .before .before in
+    let start = earlier .before .before .before .before .before .before .before .before .before .before .before in
+    omega (arith, grows after-commit, ones-most (after-commit .commit .last .1 .0) (start .args .ends .n * 64))
 
 loop-again : tie.Need-loop-again Inv-loop2 μ-loop2 Inv-loop μ-loop
 loop-again c =
-    let l = c .before .before .before .before .before .before .before .before .before .before .before .before .before .before .before .before .before .before .loop in
-    let m = c .before .before .before .before .before .before .before .before .before .before .before .before .before .before .before .before .loop2 in
-    let done = c .before .before .before .before .before .before .commit in
+    let after-commit = c .before .before .before .before .before .before in
+    let after-loop2 = after-commit .before .before .before .before .before .before .before .before .before in
+    let at-loop = after-loop2 .before .before .before in
+    let l = at-loop .loop in
+    let m = after-loop2 .before .loop2 in
+    let done = after-commit .commit in
     let two : l .level + 2 ≡ suc (suc (l .level)) = omega arith in
-    let long : length (take (m .listed - 0) (m .list)) ≡ m .listed = (let e = part-long (c .before .before .before .before .before .before .before .before .before .before .before .before .before .before .before) in omega arith) in (
+    let long : length (take (m .listed - 0) (m .list)) ≡ m .listed = (let e = part-long after-loop2 in omega arith) in (
       done .kept .0 ∙ l .inv .0,
       done .kept .1 .0 ∙ l .inv .1,
       done .kept .1 .1 .0 ∙ m .inv .1,
@@ -230,11 +276,12 @@ loop-again c =
       done .kept .1 .1 .1 .1 .1 .0 ∙ l .inv .4,
       done .kept .1 .1 .1 .1 .1 .1 .0 ∙ l .inv .5,
       listed-fits (m .inv .3),
-      omega (arith, grows (c .before .before .before .before .before .before)),
+      omega (arith, grows after-commit),
       done .ensures .0,
       m .next,
       subst (λ (k : ℕ). Frontier (done .last .1 .1 .1 .1 .1 .0) (done .last .1 .1 .1 .1 .1 .1 .0) k (m .next)) long (done .ensures .1),
-      λ g M fs S. rw add-one (level-next S (l .inv .11 g M fs S) (made (c .before .before .before .before .before .before .before .before .before .before .before .before .before .before .before) (l .inv .9) (l .inv .10)) (rw two at (done .ensures .2 _ (listed-part (c .before .before .before .before .before .before .before .before .before .before .before .before .before .before .before))))),
+      λ g M fs S. rw add-one
+          (level-next S (l .inv .11 g M fs S) (made after-loop2 (l .inv .9) (l .inv .10)) (rw two at (done .ensures .2 _ (listed-part after-loop2)))),
     )
 
 mul-t27 : tie.Need-mul-t27 Inv-loop2 μ-loop2 Inv-loop μ-loop
@@ -245,7 +292,9 @@ mul-t70 c = omega arith
 
 slice-read-t72 : tie.Need-slice-read-t72 Inv-loop2 μ-loop2 Inv-loop μ-loop
 slice-read-t72 c =
-    let k : length (c .before .before .before .before .before .stamp .last .0) ≡ length (c .before .before .before .before .before .before .before .before .before .before .before .before .args .work .now) = c .before .before .before .before .before .stamp .kept .0 in
+    let after-stamp = c .before .before .before .before .before in
+    let start = after-stamp .before .before .before .before .before .before .before in
+    let k : length (after-stamp .stamp .last .0) ≡ length (start .args .work .now) = after-stamp .stamp .kept .0 in
     let i = c .before .before .loop .inv .0 in
     omega arith
 
@@ -255,10 +304,12 @@ same-length-2 c = c .before .before .loop .inv .0 ∙ c .before .before .before 
 returns-2 : tie.Need-returns-2 Inv-loop2 μ-loop2 Inv-loop μ-loop
 unfolding numberAt
 returns-2 c =
-    let s = c .before .before .before .before .before .before .before .before .before .before .before .before .args .ends in
+    let start = c .before .before .before .before .before .before .before .before .before .before .before .before in
+    let s = start .args .ends in
     let l = c .before .before .loop in
     let z : s .from * 64 + 0 ≡ s .from * 64 = omega arith in
-    λ g M fs S. rw z at (sought (s .from) (c .before .before .before .before .before .before .before .before .before .before .before .before .pre .4) (l .inv .11 g M fs S) (rw (digit-zero (getD (l .seen) (s .from) 0)) (let h = c .before .loop-test .left in omega arith)))
+    λ g M fs S. rw z at (sought (s .from) (start .pre .4) (l .inv .11 g M fs S) (rw (digit-zero (getD (l .seen) (s .from) 0)) (let h =
+    c .before .loop-test .left in omega arith)))
 
 pub backward-spec : {M : Type 1} → statement M
 backward-spec =

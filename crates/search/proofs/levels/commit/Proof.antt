@@ -4,13 +4,14 @@ use mathlib.Core.Path.{_≡_, refl, _∙_}
 use Prim.Native.Nat.{_-_, _≤_, _<_}
 use native.Mathlib.Omega.{arith}
 use lib.ListN.{length, getD, length-set}
-use Rattle.search.proofs.CommitLaws.{Committing, committing-none, committing-more, committed, cleared, held}
+use Rattle.search.proofs.CommitLaws.{Committing, committing-none, committing-more, level-committed, level-cleared, level-held}
 use Rattle.search.proofs.levels.commit.Statement.{statement}
 use Rattle.search.proofs.levels.commit.Tie as tie
 
 abbrev Inv-loop : tie.InvT-loop
 Inv-loop work₀ seen₀ next₀ list mark records₀ masks₀ i₀ work seen next records masks i =
-    (i ≤ length list) × (length work ≡ length work₀) × (length seen ≡ length seen₀) × (length next ≡ length next₀) × (length records ≡ length records₀) × (length masks ≡ length masks₀) × Committing work₀ seen₀ next₀ mark list i work seen next records masks
+    (i ≤ length list) × (length work ≡ length work₀) × (length seen ≡ length seen₀) × (length next ≡ length next₀)
+    × (length records ≡ length records₀) × (length masks ≡ length masks₀) × Committing work₀ seen₀ next₀ mark list i work seen next records masks
 
 abbrev μ-loop : tie.MeasureT-loop
 μ-loop work₀ seen₀ next₀ list mark records₀ masks₀ i₀ work seen next records masks i = length list - i
@@ -19,7 +20,9 @@ loop-holds : tie.Need-loop-holds Inv-loop μ-loop
 loop-holds c = (omega arith, refl, refl, refl, refl, refl, committing-none _ _ _ _ _ _ _)
 
 -- the record at i
-inside : (c : tie.In-loop Inv-loop μ-loop) → getD (c .before .before .before .before .before .before .before .before .args .list .now) (c .before .loop .i) 0 < c .before .before .before .before .before .before .before .before .pre .4 .0
+inside : (c : tie.In-loop Inv-loop μ-loop)
+    → let start = c .before .before .before .before .before .before .before .before in
+    getD (start .args .list .now) (c .before .loop .i) 0 < start .pre .4 .0
 inside c = c .before .before .before .before .before .before .before .before .pre .4 .4 .small (c .before .loop .i) (omega arith)
 
 mul-at : tie.Need-mul-at Inv-loop μ-loop
@@ -84,10 +87,20 @@ loop-less c = omega arith
 
 loop-again : tie.Need-loop-again Inv-loop μ-loop
 loop-again c =
-    let l = c .before .before .before .before .before .before .before .before .before .loop in
-    let T = c .before .before .before .before .stamp in
-    let z = inside (c .before .before .before .before .before .before .before .before) in
-    (omega arith, T .kept .0 ∙ l .inv .1, simp length-set (l .inv .2), simp length-set (l .inv .3), simp length-set (l .inv .4), simp length-set (l .inv .5), committing-more (l .inv .6) (c .before .before .before .before .before .before .before .before .before .before .before .before .before .before .before .before .pre .4 .4) (omega arith) (T .ensures) (omega arith) (omega arith) (omega arith) (omega arith))
+    let after-stamp = c .before .before .before .before in
+    let in-loop = after-stamp .before .before .before .before in
+    let start = in-loop .before .before .before .before .before .before .before .before in
+    let l = in-loop .before .loop in
+    let T = after-stamp .stamp in
+    let z = inside in-loop in (
+      omega arith,
+      T .kept .0 ∙ l .inv .1,
+      simp length-set (l .inv .2),
+      simp length-set (l .inv .3),
+      simp length-set (l .inv .4),
+      simp length-set (l .inv .5),
+      committing-more (l .inv .6) (start .pre .4 .4) (omega arith) (T .ensures) (omega arith) (omega arith) (omega arith) (omega arith),
+    )
 
 same-length : tie.Need-same-length Inv-loop μ-loop
 same-length c = c .before .loop .inv .1
@@ -106,11 +119,12 @@ same-length-5 c = c .before .loop .inv .5
 
 returns : tie.Need-returns Inv-loop μ-loop
 returns c =
+    let start = c .before .before .before .before .before .before .before .before in
     let l = c .before .loop in
-    let p = c .before .before .before .before .before .before .before .before .pre in
-    let e : l .i ≡ length (c .before .before .before .before .before .before .before .before .args .list .now) = omega arith in
+    let p = start .pre in
+    let e : l .i ≡ length (start .args .list .now) = omega arith in
     let I = rw e at (l .inv .6) in
-    (cleared I (p .4 .4), held I (p .4 .4) (p .4 .1), λ n L. committed I L)
+    (level-cleared I (p .4 .4), level-held I (p .4 .4) (p .4 .1), λ n L. level-committed I L)
 
 pub commit-spec : {M : Type 1} → statement M
 commit-spec =

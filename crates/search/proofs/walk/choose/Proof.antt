@@ -1,5 +1,5 @@
--- `choose` goes over the arcs out of the record. The loop's invariant: the cursor stands at one of them (`Cursor`), and the choice is that of the arcs from it on (`Chosen`).
--- The measure is the cursor, which falls (`next-falls`). It rests on `chosen-more`. Assumes nothing.
+-- `choose` goes over the arcs out of the record. The loop's invariant: the cursor stands at one of them (`Cursor`), and the choice is that of the arcs from it
+-- on (`Chosen`). The measure is the cursor, which falls (`next-falls`). It rests on `chosen-more`. Assumes nothing.
 use mathlib.Core.Path.{_≡_}
 use Prim.Native.Nat.{_-_, _<_, _≤_}
 use lib.ListN.{length}
@@ -15,13 +15,16 @@ use Rattle.search.proofs.walk.choose.Tie as tie
 
 abbrev Inv-loop : tie.InvT-loop
 Inv-loop arcs index enter work seen aim n distance best₀ cursor₀ best cursor =
-    Cursor (arcFrom arcs) (length arcs) (aim .at) cursor × Chosen arcs enter work seen (aim .n) (aim .at) (aim .follows) (aim .distance) (length arcs) cursor (best .word) (best .states)
+    Cursor (arcFrom arcs) (length arcs) (aim .at) cursor
+    × Chosen arcs enter work seen (aim .n) (aim .at) (aim .follows) (aim .distance) (length arcs) cursor (best .word) (best .states)
 
 abbrev μ-loop : tie.MeasureT-loop
 μ-loop arcs index enter work seen aim n distance best₀ cursor₀ best cursor = cursor
 
 first-arc-requires : tie.Need-first-arc-requires Inv-loop μ-loop
-first-arc-requires c κs = (c .before .before .before .before .before .pre .1, c .before .before .before .before .before .pre .6)
+first-arc-requires c κs =
+    let start = c .before .before .before .before .before in
+    (start .pre .1, start .pre .6)
 
 loop-holds : tie.Need-loop-holds Inv-loop μ-loop
 loop-holds c =
@@ -30,7 +33,9 @@ loop-holds c =
     rw (c .first-arc .ensures) (T, chosen-first (chosen-none _ _ _ _ _ _ _ _ _) (T .0) (before-first (p .7)))
 
 -- the arc at which the cursor stands
-stands : (c : tie.In-loop Inv-loop μ-loop) → (0 < c .before .loop .cursor) × (c .before .loop .cursor ≤ length (c .before .before .before .before .before .before .before .before .args .arcs .now))
+stands : (c : tie.In-loop Inv-loop μ-loop)
+    → let start = c .before .before .before .before .before .before .before .before in
+    (0 < c .before .loop .cursor) × (c .before .loop .cursor ≤ length (start .args .arcs .now))
 stands c = (omega arith, c .before .loop .inv .0 .0)
 
 sub-j : tie.Need-sub-j Inv-loop μ-loop
@@ -73,19 +78,32 @@ better-requires : tie.Need-better-requires Inv-loop μ-loop
 better-requires c κs = search needs
 
 next-arc-requires : tie.Need-next-arc-requires Inv-loop μ-loop
-next-arc-requires c κs = (c .before .before .before .before .before .before .before .before .before .before .before .before .before .before .pre .1, omega (arith, stands (c .before .before .before .before .before .before)))
+next-arc-requires c κs =
+    let in-loop = c .before .before .before .before .before .before in
+    let start = in-loop .before .before .before .before .before .before .before .before in
+    (start .pre .1, omega (arith, stands in-loop))
 
 loop-less : tie.Need-loop-less Inv-loop μ-loop
-loop-less c = omega (arith, c .next-arc .ensures, stands (c .before .before .before .before .before .before .before), next-falls (c .before .before .before .before .before .before .before .before .before .before .before .before .before .before .before .pre .7) (c .before .before .before .before .before .before .before .before .loop .inv .0) (stands (c .before .before .before .before .before .before .before) .0))
+loop-less c =
+    let in-loop = c .before .before .before .before .before .before .before in
+    let start = in-loop .before .before .before .before .before .before .before .before in
+    omega (arith, c .next-arc .ensures, stands in-loop, next-falls (start .pre .7) (in-loop .before .loop .inv .0) (stands in-loop .0))
 
 loop-again : tie.Need-loop-again Inv-loop μ-loop
 unfolding arcFrom arcTo arcLetter
 loop-again c =
-    let l = c .before .before .before .before .before .before .before .before .loop in
-    let X = c .before .before .before .before .before .before .before .before .before .before .before .before .before .before .before .pre .7 in
+    let after-kept = c .before .before in
+    let in-loop = after-kept .before .before .before .before .before in
+    let start = in-loop .before .before .before .before .before .before .before .before in
+    let l = in-loop .before .loop in
+    let X = start .pre .7 in
     let C = l .inv .0 in
-    let z = stands (c .before .before .before .before .before .before .before) in
-    rw (c .next-arc .ensures) (cursor-next X C (z .0), chosen-more (l .inv .1) (omega arith) (omega arith) (next-falls X C (z .0)) (only-arc X C (z .0)) (c .before .before .kept .result) (C .1 (z .0)) (c .before .before .kept .ensures) (c .before .better .ensures))
+    let z = stands in-loop in
+    rw (c .next-arc .ensures) (
+      cursor-next X C (z .0),
+      chosen-more (l .inv .1) (omega arith) (omega arith) (next-falls X C (z .0)) (only-arc X C (z .0))
+          (after-kept .kept .result) (C .1 (z .0)) (after-kept .kept .ensures) (c .before .better .ensures),
+    )
 
 returns : tie.Need-returns Inv-loop μ-loop
 returns c = let l = c .before .loop in let z : l .cursor ≡ 0 = omega arith in rw z at (l .inv .1)

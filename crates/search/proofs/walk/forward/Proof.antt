@@ -17,7 +17,9 @@ use Rattle.search.proofs.walk.forward.Tie as tie
 
 abbrev Inv-loop : tie.InvT-loop
 Inv-loop arcs follow enter work seen out₀ n steps index at₀ states₀ t₀ out at states t =
-    (t ≤ steps) × (length out ≡ length out₀) × (drop steps out ≡ drop steps out₀) × (at < 1024) × ((g : Graph) (M : Automaton) (ps : List ℕ) (f y l : ℕ) → Setting g M follow ps enter f n arcs (length arcs) → Known g M y n l (distance work seen) → distance work seen at₀ 0 ≡ suc steps → Going g M y n work seen at₀ steps t at states out)
+    (t ≤ steps) × (length out ≡ length out₀) × (drop steps out ≡ drop steps out₀) × (at < 1024)
+    × ((g : Graph) (M : Automaton) (ps : List ℕ) (f y l : ℕ) → Setting g M follow ps enter f n arcs (length arcs)
+    → Known g M y n l (distance work seen) → distance work seen at₀ 0 ≡ suc steps → Going g M y n work seen at₀ steps t at states out)
 
 abbrev μ-loop : tie.MeasureT-loop
 μ-loop arcs follow enter work seen out₀ n steps index at₀ states₀ t₀ out at states t = steps - t
@@ -26,7 +28,9 @@ index-by-left-requires : tie.Need-index-by-left-requires Inv-loop μ-loop
 index-by-left-requires c κs = search needs
 
 loop-holds : tie.Need-loop-holds Inv-loop μ-loop
-loop-holds c = (omega arith, refl, refl, omega arith, λ g M ps f y l S K e. going-start g M y _ _ _ _ _ _ (c .before .before .before .before .before .before .before .pre .6) e)
+loop-holds c =
+    let start = c .before .before .before .before .before .before .before in
+    (omega arith, refl, refl, omega arith, λ g M ps f y l S K e. going-start g M y _ _ _ _ _ _ (start .pre .6) e)
 
 spread-requires : tie.Need-spread-requires Inv-loop μ-loop
 spread-requires c κs = omega arith
@@ -39,9 +43,10 @@ slice-aggregate-choose c = search needs
 
 choose-requires : tie.Need-choose-requires Inv-loop μ-loop
 choose-requires c κs =
-    let p = c .before .before .before .before .before .before .before .before .before .before .before .pre in
-    let long : length (c .before .before .before .before .index-by-left .result) ≡ 9216 = search needs in
-    (p .0, long, p .2, p .3, p .4, p .5, c .before .before .before .loop .inv .3, c .before .before .before .before .index-by-left .ensures)
+    let at-loop = c .before .before .before in
+    let p = at-loop .before .before .before .before .before .before .before .before .pre in
+    let long : length (at-loop .before .index-by-left .result) ≡ 9216 = search needs in
+    (p .0, long, p .2, p .3, p .4, p .5, at-loop .loop .inv .3, at-loop .before .index-by-left .ensures)
 
 mul-out : tie.Need-mul-out Inv-loop μ-loop
 mul-out c = omega arith
@@ -60,14 +65,17 @@ loop-less c = omega arith
 
 loop-again : tie.Need-loop-again Inv-loop μ-loop
 loop-again c =
-    let s = c .before .before .before .before .before .before .before .before .before .before .before .before .before .args in
-    let l = c .before .before .before .before .before .loop in
+    let after-spread = c .before .before .before in
+    let start = after-spread .before .before .before .before .before .before .before .before .before .before in
+    let s = start .args in
+    let l = after-spread .before .before .loop in
     let e : s .route .steps - l .t ≡ suc (s .route .steps - l .t - 1) = omega arith in (
       omega arith,
       simp length-set (l .inv .1),
       rw (drop-set-lt (s .route .steps) (l .out) (l .t) (c .before .choose .result .word) (omega arith)) (l .inv .2),
       omega arith,
-      λ g M ps f y v S K d. going-more S (c .before .before .before .before .before .before .before .before .before .before .before .before .before .pre .5) K (l .inv .4 g M ps f y v S K d) (s .route .steps - l .t - 1) e (c .before .before .before .spread .result) _ _ (c .before .before .before .spread .ensures) (rw e at (c .before .choose .ensures)) (omega arith),
+      λ g M ps f y v S K d. going-more S (start .pre .5) K (l .inv .4 g M ps f y v S K d) (s .route .steps - l .t - 1) e
+          (after-spread .spread .result) _ _ (after-spread .spread .ensures) (rw e at (c .before .choose .ensures)) (omega arith),
     )
 
 same-length : tie.Need-same-length Inv-loop μ-loop
@@ -75,10 +83,11 @@ same-length c = c .before .loop .inv .1
 
 returns : tie.Need-returns Inv-loop μ-loop
 returns c =
-    let s = c .before .before .before .before .before .before .before .before .before .args in
+    let start = c .before .before .before .before .before .before .before .before .before in
+    let s = start .args in
     let l = c .before .loop in
     let e : s .route .steps ≡ l .t = omega arith in
-    record { best = λ g M ps f y v S K d. rw (← e) at (going-ends S (c .before .before .before .before .before .before .before .before .before .pre .5) K (l .inv .4 g M ps f y v S K d) e); rest = l .inv .2 }
+    record { best = λ g M ps f y v S K d. rw (← e) at (going-ends S (start .pre .5) K (l .inv .4 g M ps f y v S K d) e); rest = l .inv .2 }
 
 pub forward-spec : {M : Type 1} → statement M
 forward-spec =

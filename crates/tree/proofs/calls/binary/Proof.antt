@@ -14,15 +14,18 @@ use Rattle.tree.specs.declared.operations.Operand.{Operand}
 use Rattle.tree.specs.declared.operations.Term.{Term}
 use Rattle.tree.specs.Inner.{outcome}
 use Rattle.tree.specs.Calls.{treeOfTwo}
-use Rattle.tree.proofs.Answers.{refuse, accept, met, formed-most}
-use Rattle.tree.proofs.Copies.{copied-two}
-use Rattle.tree.proofs.Ops.{two-lent, two-set}
+use Rattle.tree.proofs.AnswerLaws.{refuse, accept, met, formed-most}
+use Rattle.tree.proofs.CopyLaws.{copied-two}
+use Rattle.tree.proofs.OperationLaws.{two-lent, two-set}
 use Rattle.tree.proofs.calls.binary.Statement.{statement}
 use Rattle.tree.proofs.calls.binary.Tie as tie
 
 -- no cause was found
-met-all : (c : tie.Else1) → (1 ≤ c .before .before .before .before .before .before .before .args .n) × (c .before .before .before .before .before .before .before .args .n ≤ 1024) × PairsBelow (c .before .before .before .before .before .before .before .args .n) []
-    × (WellFormed (c .before .before .before .before .before .before .before .args .n) (c .before .before .before .before .before .before .before .args .a .now) × WellFormed (c .before .before .before .before .before .before .before .args .n) (c .before .before .before .before .before .before .before .args .b .now)) × (32 * treeUnit (c .before .before .before .before .before .before .before .args .n) ≤ length (c .before .before .before .before .before .before .before .args .work .now))
+met-all : (c : tie.Else1)
+    → let start = c .before .before .before .before .before .before .before in
+    (1 ≤ start .args .n) × (start .args .n ≤ 1024) × PairsBelow (start .args .n) []
+    × (WellFormed (start .args .n) (start .args .a .now) × WellFormed (start .args .n) (start .args .b .now))
+    × (32 * treeUnit (start .args .n) ≤ length (start .args .work .now))
 met-all c = met _ _ _ _ _ (c .before .refusal .ensures) (c .if1 .left)
 
 array-share-prefix-no-links : tie.Need-array-share-prefix-no-links
@@ -37,7 +40,9 @@ refusal-requires c κs = search needs
 returns : tie.Need-returns
 returns c =
     let a = c .before .before .before .before .before .before .before .args in
-    refuse (a .n) [] (a .a .now ∷ a .b .now ∷ []) (length (a .work .now)) (treeOfTwo (λ x y. outcome (a .operation) (a .n) none (sensed (a .a-sense) x) (sensed (a .b-sense) y)) (a .n) (a .a .now) (a .b .now)) (a .out .now) (a .out .now) _
+    refuse (a .n) [] (a .a .now ∷ a .b .now ∷ []) (length (a .work .now))
+    (treeOfTwo (λ x y. outcome (a .operation) (a .n) none (sensed (a .a-sense) x) (sensed (a .b-sense) y)) (a .n) (a .a .now) (a .b .now))
+    (a .out .now) (a .out .now) _
     (c .before .refusal .ensures) (c .if1 .taken) refl
 
 copy-requires : tie.Need-copy-requires
@@ -47,8 +52,10 @@ copy-requires c κs =
 
 copy-requires-2 : tie.Need-copy-requires-2
 copy-requires-2 c κs =
-    let m = met-all (c .before .before .before .before .before) in
-    let k : length (c .before .before .before .copy .last .1 .0) ≡ length (c .before .before .before .before .before .before .before .before .before .before .before .before .args .work .now) = c .before .before .before .copy .kept .1 .0 in
+    let after-copy = c .before .before .before in
+    let start = after-copy .before .before .before .before .before .before .before .before .before in
+    let m = met-all (after-copy .before .before) in
+    let k : length (after-copy .copy .last .1 .0) ≡ length (start .args .work .now) = after-copy .copy .kept .1 .0 in
     omega (arith, k, formed-most (m .3 .0), formed-most (m .3 .1), m .4)
 
 tree-of-requires : tie.Need-tree-of-requires
@@ -65,18 +72,24 @@ slice-aggregate-made c = search needs
 
 made-requires : tie.Need-made-requires
 made-requires c κs =
-    let a = c .before .before .before .before .before .before .before .before .before .before .before .before .before .before .before .before .before .before .before .args in
-    let m = met-all (c .before .before .before .before .before .before .before .before .before .before .before .before) in
-    let k : length (c .before .before .before .before .before .before .before .before .before .before .copy .last .1 .0) ≡ length (a .work .now) = c .before .before .before .before .before .before .before .before .before .before .copy .kept .1 .0 in
-    let l : length (c .before .before .before .before .before .before .copy2 .last .1 .0) ≡ length (c .before .before .before .before .before .before .before .before .before .before .copy .last .1 .0) = c .before .before .before .before .before .before .copy2 .kept .1 .0 in
-    let f = ap (λ (o : Operand). o .size) (c .before .before .before .tree-of .ensures) in
+    let after-tree-of = c .before .before .before in
+    let after-copy2 = after-tree-of .before .before .before in
+    let after-copy = after-copy2 .before .before .before .before in
+    let start = after-copy .before .before .before .before .before .before .before .before .before in
+    let a = start .args in
+    let m = met-all (after-copy .before .before) in
+    let k : length (after-copy .copy .last .1 .0) ≡ length (a .work .now) = after-copy .copy .kept .1 .0 in
+    let l : length (after-copy2 .copy2 .last .1 .0) ≡ length (after-copy .copy .last .1 .0) = after-copy2 .copy2 .kept .1 .0 in
+    let f = ap (λ (o : Operand). o .size) (after-tree-of .tree-of .ensures) in
     let s = ap (λ (o : Operand). o .size) (c .before .before .tree-of2 .ensures) in
     record { size = m .1; first = omega (arith, f, formed-most (m .3 .0)); second = omega (arith, s, formed-most (m .3 .1)); work = omega (arith, k, l, m .4) }
 
 settle-requires : tie.Need-settle-requires
 settle-requires c κs =
-    let k : length (c .before .before .before .before .made .last .1 .0) ≡ length (c .before .before .before .before .before .before .before .before .before .before .before .copy2 .last .1 .0) = c .before .before .before .before .made .kept .1 .0 in
-    omega (arith, k, c .before .before .before .before .made .ensures .0)
+    let after-made = c .before .before .before .before in
+    let after-copy2 = after-made .before .before .before .before .before .before .before in
+    let k : length (after-made .made .last .1 .0) ≡ length (after-copy2 .copy2 .last .1 .0) = after-made .made .kept .1 .0 in
+    omega (arith, k, after-made .made .ensures .0)
 
 same-length : tie.Need-same-length
 same-length c = search needs
@@ -86,18 +99,26 @@ same-length-2 c = search needs
 
 returns-2 : tie.Need-returns-2
 returns-2 c =
-    let a = c .before .before .before .before .before .before .before .before .before .before .before .before .before .before .before .before .before .before .before .before .before .before .before .before .before .before .before .args in
-    let m = met-all (c .before .before .before .before .before .before .before .before .before .before .before .before .before .before .before .before .before .before .before .before) in
+    let after-made = c .before .before .before .before .before .before .before in
+    let after-tree-of2 = after-made .before .before .before in
+    let after-copy2 = after-tree-of2 .before .before .before .before in
+    let after-copy = after-copy2 .before .before .before .before in
+    let else1 = after-copy .before .before in
+    let start = else1 .before .before .before .before .before .before .before in
+    let a = start .args in
+    let m = met-all else1 in
     let v = m .3 .0 in
     let w = m .3 .1 in
-    let p = c .before .before .before .before .before .before .before .before .before .before .before .tree-of .ensures in
-    let q = c .before .before .before .before .before .before .before .before .before .before .tree-of2 .ensures in
-    let t : Term = record { operation = a .operation; first = c .before .before .before .before .before .before .before .before .before .before .before .tree-of .result; second = c .before .before .before .before .before .before .before .before .before .before .tree-of2 .result } in
-    let two = copied-two (a .a .now) (a .b .now) (a .work .now) _ _ (c .before .before .before .before .before .before .before .before .before .before .before .before .before .before .before .before .before .before .copy .ensures) (c .before .before .before .before .before .before .before .before .before .before .before .before .before .before .copy2 .ensures) in
+    let p = after-tree-of2 .before .tree-of .ensures in
+    let q = after-tree-of2 .tree-of2 .ensures in
+    let t : Term = record { operation = a .operation; first = after-tree-of2 .before .tree-of .result; second = after-tree-of2 .tree-of2 .result } in
+    let two = copied-two (a .a .now) (a .b .now) (a .work .now) _ _ (after-copy .copy .ensures) (after-copy2 .copy2 .ensures) in
     let l = two-lent t (a .n) [] _ (a .a .now) (a .b .now) (ap (λ (o : Operand). o .size) p) (ap (λ (o : Operand). o .size) q) two v w (m .2) in
-    accept (a .n) [] (a .a .now ∷ a .b .now ∷ []) (length (a .work .now)) (treeOfTwo (λ x y. outcome (a .operation) (a .n) none (sensed (a .a-sense) x) (sensed (a .b-sense) y)) (a .n) (a .a .now) (a .b .now)) (a .out .now) _
-    (c .before .before .before .before .before .before .before .before .before .before .before .before .before .before .before .before .before .before .before .before .before .refusal .ensures) (c .before .before .before .before .before .before .before .before .before .before .before .before .before .before .before .before .before .before .before .before .if1 .left)
-    _ (c .before .before .before .before .before .before .before .made .ensures .1 (v .set) (w .set) l .words ∙ two-set t (a .n) [] [] _ _ (a .a-sense) (a .b-sense) (a .a .now) (a .b .now) p q v w) (c .before .before .settle .ensures)
+    accept (a .n) [] (a .a .now ∷ a .b .now ∷ []) (length (a .work .now))
+    (treeOfTwo (λ x y. outcome (a .operation) (a .n) none (sensed (a .a-sense) x) (sensed (a .b-sense) y)) (a .n) (a .a .now) (a .b .now)) (a .out .now) _
+    (else1 .before .refusal .ensures) (else1 .if1 .left)
+    _ (after-made .made .ensures .1 (v .set) (w .set) l .words ∙ two-set t (a .n) [] [] _ _ (a .a-sense) (a .b-sense) (a .a .now) (a .b .now) p q v w)
+    (c .before .before .settle .ensures)
 
 pub binary-spec : {M : Type 1} → statement M
 binary-spec =

@@ -5,7 +5,7 @@ use Rattle.k2.specs.PairSets.{closure}
 use Rattle.k2.specs.Trees.{treeWords}
 use Rattle.k2.specs.TreeSets.{setIn}
 use Rattle.rows.specs.RowLaws.{union-none}
-use Rattle.tree.proofs.Answers.{answer-as}
+use Rattle.tree.proofs.AnswerLaws.{answer-as}
 use Rattle.tree.proofs.calls.closure.Statement.{statement}
 use Rattle.tree.proofs.calls.closure.Tie as tie
 

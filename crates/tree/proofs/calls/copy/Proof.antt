@@ -5,7 +5,7 @@ use Prim.Native.Nat.{_+_, _-_, _≤_}
 use native.Mathlib.Omega.{arith}
 use borrow.Author.Needs.{needs}
 use lib.ListN.{length, length-set}
-use Rattle.tree.proofs.Copies.{Copied, copy-none, copy-more, copy-all}
+use Rattle.tree.proofs.CopyLaws.{Copied, copy-none, copy-more, copy-all}
 use Rattle.tree.proofs.calls.copy.Statement.{statement}
 use Rattle.tree.proofs.calls.copy.Tie as tie
 

@@ -11,13 +11,15 @@ use Rattle.k2.specs.TreeSetLaws.{formed-set}
 use Rattle.k2.specs.SizeLaws.{treeUnit-most}
 use Rattle.tree.specs.Calls.{listOf}
 use Rattle.tree.specs.CallLaws.{one-more}
-use Rattle.tree.proofs.Answers.{as-good, refuse-list, accept-list, met, formed-most}
+use Rattle.tree.proofs.AnswerLaws.{as-good, refuse-list, accept-list, met, formed-most}
 use Rattle.tree.proofs.calls.list.Statement.{statement}
 use Rattle.tree.proofs.calls.list.Tie as tie
 
 -- no cause was found
-none : (c : tie.Else1) → (1 ≤ c .before .before .before .before .before .before .before .args .n) × (c .before .before .before .before .before .before .before .args .n ≤ 1024) × PairsBelow (c .before .before .before .before .before .before .before .args .n) []
-    × (WellFormed (c .before .before .before .before .before .before .before .args .n) (c .before .before .before .before .before .before .before .args .a .now) × WellFormed (c .before .before .before .before .before .before .before .args .n) []) × (32 * treeUnit (c .before .before .before .before .before .before .before .args .n) ≤ length (c .before .before .before .before .before .before .before .args .work .now))
+none : (c : tie.Else1)
+    → let start = c .before .before .before .before .before .before .before in
+    (1 ≤ start .args .n) × (start .args .n ≤ 1024) × PairsBelow (start .args .n) []
+    × (WellFormed (start .args .n) (start .args .a .now) × WellFormed (start .args .n) []) × (32 * treeUnit (start .args .n) ≤ length (start .args .work .now))
 none c = met _ _ _ _ _ (c .before .refusal .ensures) (c .if1 .left)
 
 array-share-prefix-none : tie.Need-array-share-prefix-none
@@ -39,17 +41,20 @@ returns c =
     (c .before .refusal .ensures ∙ as-good (a .n) [] _ _ (length (a .work .now)) (one-more (a .n) (a .a .now))) (c .if1 .taken) refl
 
 list-pairs-requires : tie.Need-list-pairs-requires
-list-pairs-requires c κs = let m = none (c .before) in (m .1, omega (arith, formed-most (m .3 .0), treeUnit-most (c .before .before .before .before .before .before .before .before .args .n) (m .1)))
+list-pairs-requires c κs =
+    let start = c .before .before .before .before .before .before .before .before in
+    let m = none (c .before) in (m .1, omega (arith, formed-most (m .3 .0), treeUnit-most (start .args .n) (m .1)))
 
 same-length : tie.Need-same-length
 same-length c = search needs
 
 returns-2 : tie.Need-returns-2
 returns-2 c =
-    let a = c .before .before .before .before .before .before .before .before .before .before .before .args in
-    let v = none (c .before .before .before .before) .3 .0 in
+    let else1 = c .before .before .before .before in
+    let a = else1 .before .before .before .before .before .before .before .args in
+    let v = none else1 .3 .0 in
     accept-list (a .n) (a .a .now ∷ []) (length (a .work .now)) (listOf (a .n) (a .a .now)) (a .out .now) _
-    (c .before .before .before .before .before .refusal .ensures ∙ as-good (a .n) [] _ _ (length (a .work .now)) (one-more (a .n) (a .a .now))) (c .before .before .before .before .if1 .left)
+    (else1 .before .refusal .ensures ∙ as-good (a .n) [] _ _ (length (a .work .now)) (one-more (a .n) (a .a .now))) (else1 .if1 .left)
     _ (ap (listed (a .n)) (sym (formed-set v))) (c .before .before .list-pairs .ensures (v .set) (v .is-set) (v .tree))
 
 pub list-spec : {M : Type 1} → statement M

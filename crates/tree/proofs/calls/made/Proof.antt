@@ -3,7 +3,7 @@ use mathlib.Core.Path.{refl}
 use borrow.Author.Needs.{needs}
 use lib.ListN.{length}
 use Rattle.tree.specs.Inner.{Room}
-use Rattle.tree.proofs.Ops.{none-lent, none-tree-at}
+use Rattle.tree.proofs.OperationLaws.{none-lent, none-tree-at}
 use Rattle.tree.proofs.calls.made.Statement.{statement}
 use Rattle.tree.proofs.calls.made.Tie as tie
 
@@ -21,9 +21,11 @@ same-length c = search needs
 
 returns : tie.Need-returns
 returns c =
-    let g = c .before .before .before .before .before .before .before .before .before .args in
-    let o = c .before .before .before .operate in
-    let r : Room (g .n) (g .term) (length (g .work .now)) 16 16384 = record { trees = c .before .before .before .before .before .before .before .before .before .pre; records = refl; bits = refl } in (
+    let after-operate = c .before .before .before in
+    let start = after-operate .before .before .before .before .before .before in
+    let g = start .args in
+    let o = after-operate .operate in
+    let r : Room (g .n) (g .term) (length (g .work .now)) 16 16384 = record { trees = start .pre; records = refl; bits = refl } in (
       o .ensures .most,
       λ a b l. none-tree-at (g .term) (g .n) (g .links .now) (g .work .now) a b _ _
           (o .ensures .tree r a b (none-lent (g .term) (g .n) (g .links .now) (g .work .now) a b l)),

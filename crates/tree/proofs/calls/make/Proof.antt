@@ -16,14 +16,16 @@ use Rattle.tree.specs.declared.operations.Term.{Term}
 use Rattle.tree.specs.Inner.{LinksBelow}
 use Rattle.tree.specs.Calls.{treeOf}
 use Rattle.tree.specs.CallLaws.{none-more}
-use Rattle.tree.proofs.Answers.{as-good, refuse, accept, met}
-use Rattle.tree.proofs.Ops.{one-lent, one-set}
+use Rattle.tree.proofs.AnswerLaws.{as-good, refuse, accept, met}
+use Rattle.tree.proofs.OperationLaws.{one-lent, one-set}
 use Rattle.tree.proofs.calls.make.Statement.{statement}
 use Rattle.tree.proofs.calls.make.Tie as tie
 
 -- no cause was found
-met-all : (c : tie.Else1) → (1 ≤ c .before .before .before .before .before .before .args .n) × (c .before .before .before .before .before .before .args .n ≤ 1024) × PairsBelow (c .before .before .before .before .before .before .args .n) (c .before .before .before .before .before .before .args .pairs .now)
-    × (WellFormed (c .before .before .before .before .before .before .args .n) [] × WellFormed (c .before .before .before .before .before .before .args .n) []) × (32 * treeUnit (c .before .before .before .before .before .before .args .n) ≤ length (c .before .before .before .before .before .before .args .work .now))
+met-all : (c : tie.Else1)
+    → let start = c .before .before .before .before .before .before in
+    (1 ≤ start .args .n) × (start .args .n ≤ 1024) × PairsBelow (start .args .n) (start .args .pairs .now)
+    × (WellFormed (start .args .n) [] × WellFormed (start .args .n) []) × (32 * treeUnit (start .args .n) ≤ length (start .args .work .now))
 met-all c = met _ _ _ _ _ (c .before .refusal .ensures) (c .if1 .left)
 
 array-share-prefix-none : tie.Need-array-share-prefix-none
@@ -52,8 +54,10 @@ made-requires c κs =
 
 settle-requires : tie.Need-settle-requires
 settle-requires c κs =
-    let k : length (c .before .before .before .before .made .last .1 .0) ≡ length (c .before .before .before .before .before .before .before .before .before .before .before .before .before .args .work .now) = c .before .before .before .before .made .kept .1 .0 in
-    omega (arith, k, c .before .before .before .before .made .ensures .0)
+    let after-made = c .before .before .before .before in
+    let start = after-made .before .before .before .before .before .before .before .before .before in
+    let k : length (after-made .made .last .1 .0) ≡ length (start .args .work .now) = after-made .made .kept .1 .0 in
+    omega (arith, k, after-made .made .ensures .0)
 
 same-length : tie.Need-same-length
 same-length c = search needs
@@ -63,18 +67,23 @@ same-length-2 c = search needs
 
 returns-2 : tie.Need-returns-2
 returns-2 c =
-    let a = c .before .before .before .before .before .before .before .before .before .before .before .before .before .before .before .before .args in
-    let m = met-all (c .before .before .before .before .before .before .before .before .before .before) in
+    let after-made = c .before .before .before .before .before .before .before in
+    let after-no-operand = after-made .before .before in
+    let start = after-no-operand .before .before .before .before .before .before .before in
+    let a = start .args in
+    let m = met-all (after-no-operand .before) in
     let ps = a .pairs .now in
-    let e = c .before .before .before .before .before .before .before .before .before .no-operand .ensures in
+    let e = after-no-operand .no-operand .ensures in
     let b : PairsBelow 1024 ps = λ w i. (omega (arith, m .2 w i .0, m .1), omega arith) in
     let i : LinksBelow (a .n) ps = rw (pair-links ps b) (m .2) in
-    let t : Term = record { operation = Union; first = c .before .before .before .before .before .before .before .before .before .no-operand .result; second = record { size = 0; sense = Plain; forward = 1; against = 0 } } in
+    let t : Term =
+    record { operation = Union; first = after-no-operand .no-operand .result; second = record { size = 0; sense = Plain; forward = 1; against = 0 } } in
     let l = one-lent t (a .n) ps _ noPairs e (none-set (a .n)) (none-tree (a .n)) i in
     let y = one-set t (a .n) ps [] noPairs (setOf ps) e (union-none _ ∙ crossed-pairs ps b) ∙ ap (treeWords (a .n)) (union-none (setOf ps)) in
     accept (a .n) ps [] (length (a .work .now)) (treeOf (a .n) ps) (a .out .now) _
-    (c .before .before .before .before .before .before .before .before .before .before .before .refusal .ensures ∙ as-good (a .n) ps _ _ (length (a .work .now)) (none-more (a .n))) (c .before .before .before .before .before .before .before .before .before .before .if1 .left)
-    _ (c .before .before .before .before .before .before .before .made .ensures .1 noPairs noPairs l .words ∙ y) (c .before .before .settle .ensures)
+    (after-no-operand .before .before .refusal .ensures ∙ as-good (a .n) ps _ _ (length (a .work .now)) (none-more (a .n)))
+    (after-no-operand .before .if1 .left)
+    _ (after-made .made .ensures .1 noPairs noPairs l .words ∙ y) (c .before .before .settle .ensures)
 
 pub make-spec : {M : Type 1} → statement M
 make-spec =

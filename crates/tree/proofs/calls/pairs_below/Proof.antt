@@ -5,7 +5,7 @@ use Prim.Native.Nat.{ℕ, _-_, _/_, _%_, _≤_, _<_}
 use native.Mathlib.Omega.{arith}
 use borrow.Author.Count.{below-more}
 use lib.ListN.{length, getD}
-use Rattle.tree.proofs.Copies.{below-all, below-at, off}
+use Rattle.tree.proofs.CopyLaws.{below-all, below-at, false-absurd}
 use Rattle.tree.proofs.calls.pairs_below.Statement.{statement}
 use Rattle.tree.proofs.calls.pairs_below.Tie as tie
 
@@ -31,7 +31,7 @@ returns : tie.Need-returns Inv-loop μ-loop
 returns c =
     let a = c .before .before .before .before .args in
     let i = c .before .before .before .loop .i in
-    (λ e. off e, λ b. absurd (omega (arith, below-at (a .n) (a .pairs .now) b i (omega arith) .0)))
+    (λ e. false-absurd e, λ b. absurd (omega (arith, below-at (a .n) (a .pairs .now) b i (omega arith) .0)))
 
 cast-if2 : tie.Need-cast-if2 Inv-loop μ-loop
 cast-if2 c = omega (arith, c .before .shared-slice-known .given (c .before .before .before .loop .i))
@@ -40,7 +40,7 @@ returns-2 : tie.Need-returns-2 Inv-loop μ-loop
 returns-2 c =
     let a = c .before .before .before .before .before .args in
     let i = c .before .before .before .before .loop .i in
-    (λ e. off e, λ b. absurd (omega (arith, below-at (a .n) (a .pairs .now) b i (omega arith) .1)))
+    (λ e. false-absurd e, λ b. absurd (omega (arith, below-at (a .n) (a .pairs .now) b i (omega arith) .1)))
 
 add-i : tie.Need-add-i Inv-loop μ-loop
 add-i c = omega arith
@@ -51,8 +51,10 @@ loop-less c = omega arith
 loop-again : tie.Need-loop-again Inv-loop μ-loop
 loop-again c =
     let a = c .before .before .before .before .before .args in
-    let l = c .before .before .before .before .loop in
-    (omega arith, below-more (λ (k : ℕ). (getD (a .pairs .now) k 0 / 1024 < a .n) × (getD (a .pairs .now) k 0 % 1024 < a .n)) (l .i) (l .inv .1) (omega arith, omega arith))
+    let l = c .before .before .before .before .loop in (
+      omega arith,
+      below-more (λ (k : ℕ). (getD (a .pairs .now) k 0 / 1024 < a .n) × (getD (a .pairs .now) k 0 % 1024 < a .n)) (l .i) (l .inv .1) (omega arith, omega arith),
+    )
 
 returns-3 : tie.Need-returns-3 Inv-loop μ-loop
 returns-3 c =

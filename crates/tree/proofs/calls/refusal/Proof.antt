@@ -8,25 +8,33 @@ use Rattle.book.specs.Causes.{maxRecords}
 use Rattle.k2.specs.TreeSets.{formed}
 use Rattle.tree.specs.Calls.{allBelow}
 use Rattle.tree.specs.CallLaws.{lent-size, lent-pairs, lent-trees, lent-work, lent-none}
-use Rattle.tree.proofs.Answers.{below-test, formed-test, first-bad, second-bad, both-good}
+use Rattle.tree.proofs.AnswerLaws.{below-test, formed-test, first-bad, second-bad, both-good}
 use Rattle.tree.proofs.calls.refusal.Statement.{statement}
 use Rattle.tree.proofs.calls.refusal.Tie as tie
 
 -- the tests that are passed
-below : (c : tie.Else3) → allBelow (c .before .before .before .before .before .before .before .args .n) (c .before .before .before .before .before .before .before .args .pairs .now) ≡ true
+below : (c : tie.Else3)
+    → let start = c .before .before .before .before .before .before .before in
+    allBelow (start .args .n) (start .args .pairs .now) ≡ true
 below c = sym (below-test _ _ _ (c .before .pairs-below .ensures)) ∙ not-false (c .before .pairs-below .result) (c .if3 .left)
 
-first : (c : tie.Else4) → formed (c .before .before .before .before .before .before .before .before .before .args .n) (c .before .before .before .before .before .before .before .before .before .args .a .now) ≡ true
+first : (c : tie.Else4)
+    → let start = c .before .before .before .before .before .before .before .before .before in
+    formed (start .args .n) (start .args .a .now) ≡ true
 first c = sym (formed-test _ _ _ (c .before .well-formed .ensures)) ∙ not-false (c .before .well-formed .result) (c .if4 .left)
 
-second : (c : tie.Else5) → formed (c .before .before .before .before .before .before .before .before .before .before .before .args .n) (c .before .before .before .before .before .before .before .before .before .before .before .args .b .now) ≡ true
+second : (c : tie.Else5)
+    → let start = c .before .before .before .before .before .before .before .before .before .before .before in
+    formed (start .args .n) (start .args .b .now) ≡ true
 second c = sym (formed-test _ _ _ (c .before .well-formed2 .ensures)) ∙ not-false (c .before .well-formed2 .result) (c .if5 .left)
 
 returns : tie.Need-returns
 returns c = let a = c .before .before .before .before .args in sym (lent-size (a .n) _ _ _ (rw (lt-ltb (a .n) 1 (omega arith)) refl))
 
 returns-2 : tie.Need-returns-2
-returns-2 c = let a = c .before .before .before .before .before .args in sym (lent-size (a .n) _ _ _ (rw (le-ltb (a .n) 1 (omega arith), lt-ltb maxRecords (a .n) (omega arith)) refl))
+returns-2 c =
+    let a = c .before .before .before .before .before .args in
+    sym (lent-size (a .n) _ _ _ (rw (le-ltb (a .n) 1 (omega arith), lt-ltb maxRecords (a .n) (omega arith)) refl))
 
 pairs-below-requires : tie.Need-pairs-below-requires
 pairs-below-requires c κs = search needs
@@ -34,7 +42,8 @@ pairs-below-requires c κs = search needs
 returns-3 : tie.Need-returns-3
 returns-3 c =
     let a = c .before .before .before .before .before .before .before .args in
-    sym (lent-pairs (a .n) _ _ _ (omega arith) (omega arith) (sym (below-test _ _ _ (c .before .pairs-below .ensures)) ∙ not-true (c .before .pairs-below .result) (c .if3 .taken)))
+    sym (lent-pairs (a .n) _ _ _ (omega arith) (omega arith) (sym (below-test _ _ _ (c .before .pairs-below .ensures))
+    ∙ not-true (c .before .pairs-below .result) (c .if3 .taken)))
 
 well-formed-requires : tie.Need-well-formed-requires
 well-formed-requires c κs = search needs
@@ -43,7 +52,8 @@ returns-4 : tie.Need-returns-4
 returns-4 c =
     let a = c .before .before .before .before .before .before .before .before .before .args in
     sym (lent-trees (a .n) _ _ _ (omega arith) (omega arith) (below (c .before .before))
-    (first-bad (a .n) (a .a .now) (a .b .now) (sym (formed-test _ _ _ (c .before .well-formed .ensures)) ∙ not-true (c .before .well-formed .result) (c .if4 .taken))))
+    (first-bad (a .n) (a .a .now) (a .b .now) (sym (formed-test _ _ _ (c .before .well-formed .ensures))
+    ∙ not-true (c .before .well-formed .result) (c .if4 .taken))))
 
 well-formed-requires-2 : tie.Need-well-formed-requires-2
 well-formed-requires-2 c κs = search needs
@@ -63,14 +73,20 @@ mul-if6 c = omega (arith, c .tree-unit .ensures .2)
 
 returns-6 : tie.Need-returns-6
 returns-6 c =
-    let a = c .before .before .before .before .before .before .before .before .before .before .before .before .before .args in
-    sym (lent-work (a .n) _ _ _ (omega arith) (omega arith) (below (c .before .before .before .before .before .before)) (both-good (a .n) (a .a .now) (a .b .now) (first (c .before .before .before .before)) (second (c .before .before)))
+    let else4 = c .before .before .before .before in
+    let start = else4 .before .before .before .before .before .before .before .before .before in
+    let a = start .args in
+    sym (lent-work (a .n) _ _ _ (omega arith) (omega arith) (below (else4 .before .before))
+    (both-good (a .n) (a .a .now) (a .b .now) (first else4) (second (c .before .before)))
     (omega (arith, c .before .tree-unit .ensures .0)))
 
 returns-7 : tie.Need-returns-7
 returns-7 c =
-    let a = c .before .before .before .before .before .before .before .before .before .before .before .before .before .args in
-    sym (lent-none (a .n) _ _ _ (omega arith) (omega arith) (below (c .before .before .before .before .before .before)) (both-good (a .n) (a .a .now) (a .b .now) (first (c .before .before .before .before)) (second (c .before .before)))
+    let else4 = c .before .before .before .before in
+    let start = else4 .before .before .before .before .before .before .before .before .before in
+    let a = start .args in
+    sym (lent-none (a .n) _ _ _ (omega arith) (omega arith) (below (else4 .before .before))
+    (both-good (a .n) (a .a .now) (a .b .now) (first else4) (second (c .before .before)))
     (omega (arith, c .before .tree-unit .ensures .0)))
 
 pub refusal-spec : {M : Type 1} → statement M

@@ -5,7 +5,7 @@ use borrow.Author.Needs.{needs}
 use lib.ListN.{length-take}
 use Rattle.book.specs.Causes.{number}
 use Rattle.tree.specs.Settling.{too-long}
-use Rattle.tree.proofs.Copies.{settled}
+use Rattle.tree.proofs.CopyLaws.{settled}
 use Rattle.tree.proofs.calls.settle.Statement.{statement}
 use Rattle.tree.proofs.calls.settle.Tie as tie
 
@@ -24,8 +24,9 @@ same-length c = search needs
 
 returns-2 : tie.Need-returns-2
 returns-2 c =
-    let a = c .before .before .before .before .before .before .before .before .args in
-    settled (a .work .now) (a .len) (a .out .now) _ (c .before .before .before .before .before .before .before .before .pre) (omega arith) (c .before .before .copy .ensures)
+    let start = c .before .before .before .before .before .before .before .before in
+    let a = start .args in
+    settled (a .work .now) (a .len) (a .out .now) _ (start .pre) (omega arith) (c .before .before .copy .ensures)
 
 pub settle-spec : {M : Type 1} → statement M
 settle-spec = tie.close (tie.spec returns slice-aggregate-copy copy-requires same-length returns-2)

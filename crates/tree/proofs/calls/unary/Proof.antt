@@ -18,15 +18,17 @@ use Rattle.tree.specs.Inner.{valued, outcome}
 use Rattle.tree.specs.InnerLaws.{valued-alone}
 use Rattle.tree.specs.Calls.{treeOfOne}
 use Rattle.tree.specs.CallLaws.{one-more}
-use Rattle.tree.proofs.Answers.{as-good, refuse, accept, met, formed-most}
-use Rattle.tree.proofs.Copies.{copied-one}
-use Rattle.tree.proofs.Ops.{one-lent, one-set}
+use Rattle.tree.proofs.AnswerLaws.{as-good, refuse, accept, met, formed-most}
+use Rattle.tree.proofs.CopyLaws.{copied-one}
+use Rattle.tree.proofs.OperationLaws.{one-lent, one-set}
 use Rattle.tree.proofs.calls.unary.Statement.{statement}
 use Rattle.tree.proofs.calls.unary.Tie as tie
 
 -- no cause was found
-met-all : (c : tie.Else1) → (1 ≤ c .before .before .before .before .before .before .before .args .n) × (c .before .before .before .before .before .before .before .args .n ≤ 1024) × PairsBelow (c .before .before .before .before .before .before .before .args .n) []
-    × (WellFormed (c .before .before .before .before .before .before .before .args .n) (c .before .before .before .before .before .before .before .args .a .now) × WellFormed (c .before .before .before .before .before .before .before .args .n) []) × (32 * treeUnit (c .before .before .before .before .before .before .before .args .n) ≤ length (c .before .before .before .before .before .before .before .args .work .now))
+met-all : (c : tie.Else1)
+    → let start = c .before .before .before .before .before .before .before in
+    (1 ≤ start .args .n) × (start .args .n ≤ 1024) × PairsBelow (start .args .n) []
+    × (WellFormed (start .args .n) (start .args .a .now) × WellFormed (start .args .n) []) × (32 * treeUnit (start .args .n) ≤ length (start .args .work .now))
 met-all c = met _ _ _ _ _ (c .before .refusal .ensures) (c .if1 .left)
 
 array-share-prefix-no-links : tie.Need-array-share-prefix-no-links
@@ -44,7 +46,8 @@ refusal-requires c κs = search needs
 returns : tie.Need-returns
 returns c =
     let a = c .before .before .before .before .before .before .before .args in
-    refuse (a .n) [] (a .a .now ∷ []) (length (a .work .now)) (treeOfOne (λ x. outcome (a .operation) (a .n) none noPairs (sensed (a .sense) x)) (a .n) (a .a .now)) (a .out .now) (a .out .now) _
+    refuse (a .n) [] (a .a .now ∷ []) (length (a .work .now))
+    (treeOfOne (λ x. outcome (a .operation) (a .n) none noPairs (sensed (a .sense) x)) (a .n) (a .a .now)) (a .out .now) (a .out .now) _
     (c .before .refusal .ensures ∙ as-good (a .n) [] _ _ (length (a .work .now)) (one-more (a .n) (a .a .now))) (c .if1 .taken) refl
 
 copy-requires : tie.Need-copy-requires
@@ -66,17 +69,22 @@ slice-aggregate-made c = search needs
 
 made-requires : tie.Need-made-requires
 made-requires c κs =
-    let a = c .before .before .before .before .before .before .before .before .before .before .before .before .before .before .before .args in
-    let m = met-all (c .before .before .before .before .before .before .before .before) in
-    let k : length (c .before .before .before .before .before .before .copy .last .1 .0) ≡ length (a .work .now) = c .before .before .before .before .before .before .copy .kept .1 .0 in
-    let f = ap (λ (o : Operand). o .size) (c .before .before .before .no-operand .ensures) in
+    let after-no-operand = c .before .before .before in
+    let after-copy = after-no-operand .before .before .before in
+    let start = after-copy .before .before .before .before .before .before .before .before .before in
+    let a = start .args in
+    let m = met-all (after-copy .before .before) in
+    let k : length (after-copy .copy .last .1 .0) ≡ length (a .work .now) = after-copy .copy .kept .1 .0 in
+    let f = ap (λ (o : Operand). o .size) (after-no-operand .no-operand .ensures) in
     let s = ap (λ (o : Operand). o .size) (c .before .before .tree-of .ensures) in
     record { size = m .1; first = omega (arith, f); second = omega (arith, s, formed-most (m .3 .0)); work = omega (arith, k, m .4) }
 
 settle-requires : tie.Need-settle-requires
 settle-requires c κs =
-    let k : length (c .before .before .before .before .made .last .1 .0) ≡ length (c .before .before .before .before .before .before .before .before .before .before .before .copy .last .1 .0) = c .before .before .before .before .made .kept .1 .0 in
-    omega (arith, k, c .before .before .before .before .made .ensures .0)
+    let after-made = c .before .before .before .before in
+    let after-copy = after-made .before .before .before .before .before .before .before in
+    let k : length (after-made .made .last .1 .0) ≡ length (after-copy .copy .last .1 .0) = after-made .made .kept .1 .0 in
+    omega (arith, k, after-made .made .ensures .0)
 
 same-length : tie.Need-same-length
 same-length c = search needs
@@ -86,19 +94,26 @@ same-length-2 c = search needs
 
 returns-2 : tie.Need-returns-2
 returns-2 c =
-    let a = c .before .before .before .before .before .before .before .before .before .before .before .before .before .before .before .before .before .before .before .before .before .before .before .args in
-    let m = met-all (c .before .before .before .before .before .before .before .before .before .before .before .before .before .before .before .before) in
+    let after-made = c .before .before .before .before .before .before .before in
+    let after-tree-of = after-made .before .before .before in
+    let after-copy = after-tree-of .before .before .before .before in
+    let else1 = after-copy .before .before in
+    let start = else1 .before .before .before .before .before .before .before in
+    let a = start .args in
+    let m = met-all else1 in
     let v = m .3 .0 in
-    let e = c .before .before .before .before .before .before .before .before .before .before .before .no-operand .ensures in
-    let q = c .before .before .before .before .before .before .before .before .before .before .tree-of .ensures in
-    let t : Term = record { operation = a .operation; first = c .before .before .before .before .before .before .before .before .before .before .before .no-operand .result; second = c .before .before .before .before .before .before .before .before .before .before .tree-of .result } in
-    let l = one-lent t (a .n) [] (c .before .before .before .before .before .before .before .before .before .before .before .before .before .before .copy .last .1 .0) (v .set) e (v .is-set) (rw q (copied-one (a .a .now) (a .work .now) _ (c .before .before .before .before .before .before .before .before .before .before .before .before .before .before .copy .ensures) ∙ v .tree)) (m .2) in
+    let e = after-tree-of .before .no-operand .ensures in
+    let q = after-tree-of .tree-of .ensures in
+    let t : Term = record { operation = a .operation; first = after-tree-of .before .no-operand .result; second = after-tree-of .tree-of .result } in
+    let l = one-lent t (a .n) [] (after-copy .copy .last .1 .0) (v .set) e (v .is-set)
+    (rw q (copied-one (a .a .now) (a .work .now) _ (after-copy .copy .ensures) ∙ v .tree)) (m .2) in
     let x : Cells = sensed (a .sense) (setIn (a .n) (a .a .now)) in
     let y : valued [] (t .second) (v .set) ≡ x =
     ap (λ (o : Operand). valued [] o (v .set)) q ∙ valued-alone [] (length (a .a .now)) (a .sense) (v .set) ∙ ap (sensed (a .sense)) (sym (formed-set v)) in
-    accept (a .n) [] (a .a .now ∷ []) (length (a .work .now)) (treeOfOne (λ x. outcome (a .operation) (a .n) none noPairs (sensed (a .sense) x)) (a .n) (a .a .now)) (a .out .now) _
-    (c .before .before .before .before .before .before .before .before .before .before .before .before .before .before .before .before .before .refusal .ensures ∙ as-good (a .n) [] _ _ (length (a .work .now)) (one-more (a .n) (a .a .now))) (c .before .before .before .before .before .before .before .before .before .before .before .before .before .before .before .before .if1 .left)
-    _ (c .before .before .before .before .before .before .before .made .ensures .1 noPairs (v .set) l .words ∙ one-set t (a .n) [] [] (v .set) x e y) (c .before .before .settle .ensures)
+    accept (a .n) [] (a .a .now ∷ []) (length (a .work .now))
+    (treeOfOne (λ x. outcome (a .operation) (a .n) none noPairs (sensed (a .sense) x)) (a .n) (a .a .now)) (a .out .now) _
+    (else1 .before .refusal .ensures ∙ as-good (a .n) [] _ _ (length (a .work .now)) (one-more (a .n) (a .a .now))) (else1 .if1 .left)
+    _ (after-made .made .ensures .1 noPairs (v .set) l .words ∙ one-set t (a .n) [] [] (v .set) x e y) (c .before .before .settle .ensures)
 
 pub unary-spec : {M : Type 1} → statement M
 unary-spec =

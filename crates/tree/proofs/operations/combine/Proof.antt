@@ -18,19 +18,25 @@ enum-told-2 : tie.Need-enum-told-2
 enum-told-2 c = search needs
 
 with-second-requires : tie.Need-with-second-requires
-with-second-requires c κs = (c .before .before .before .before .before .before .before .before .before .pre .0, rw (c .before .enum-told2 .given .1) intersects, c .before .before .before .before .before .before .before .before .before .pre .2)
+with-second-requires c κs =
+    let start = c .before .before .before .before .before .before .before .before .before in
+    (start .pre .0, rw (c .before .enum-told2 .given .1) intersects, start .pre .2)
 
 enum-told-3 : tie.Need-enum-told-3
 enum-told-3 c = search needs
 
 with-second-requires-2 : tie.Need-with-second-requires-2
-with-second-requires-2 c κs = (c .before .before .before .before .before .before .before .before .before .pre .0, rw (c .before .enum-told3 .given .1) differs, c .before .before .before .before .before .before .before .before .before .pre .2)
+with-second-requires-2 c κs =
+    let start = c .before .before .before .before .before .before .before .before .before in
+    (start .pre .0, rw (c .before .enum-told3 .given .1) differs, start .pre .2)
 
 enum-told-4 : tie.Need-enum-told-4
 enum-told-4 c = search needs
 
 with-second-requires-3 : tie.Need-with-second-requires-3
-with-second-requires-3 c κs = (c .before .before .before .before .before .before .before .before .before .pre .0, rw (c .before .enum-told4 .given .1) multiplies, c .before .before .before .before .before .before .before .before .before .pre .2)
+with-second-requires-3 c κs =
+    let start = c .before .before .before .before .before .before .before .before .before in
+    (start .pre .0, rw (c .before .enum-told4 .given .1) multiplies, start .pre .2)
 
 enum-told-5 : tie.Need-enum-told-5
 enum-told-5 c = search needs
@@ -72,52 +78,65 @@ same-length-2 : tie.Need-same-length-2
 same-length-2 c = search needs
 
 returns-2 : tie.Need-returns-2
-returns-2 c = λ a b ia ib e l ra. c .before .before .with-second .ensures a b (bitAt (c .before .before .before .before .before .before .before .before .before .before .before .before .args .used .now)) ia ib e l ra
+returns-2 c =
+    let start = c .before .before .before .before .before .before .before .before .before .before .before .before in
+    λ a b ia ib e l ra. c .before .before .with-second .ensures a b (bitAt (start .args .used .now)) ia ib e l ra
 
 same-length-3 : tie.Need-same-length-3
 same-length-3 c = search needs
 
 returns-3 : tie.Need-returns-3
-returns-3 c = λ a b ia ib e l ra. c .before .before .with-second2 .ensures a b (bitAt (c .before .before .before .before .before .before .before .before .before .before .before .before .args .used .now)) ia ib e l ra
+returns-3 c =
+    let start = c .before .before .before .before .before .before .before .before .before .before .before .before in
+    λ a b ia ib e l ra. c .before .before .with-second2 .ensures a b (bitAt (start .args .used .now)) ia ib e l ra
 
 same-length-4 : tie.Need-same-length-4
 same-length-4 c = search needs
 
 returns-4 : tie.Need-returns-4
-returns-4 c = λ a b ia ib e l ra. c .before .before .with-second3 .ensures a b (bitAt (c .before .before .before .before .before .before .before .before .before .before .before .before .args .used .now)) ia ib e l ra
+returns-4 c =
+    let start = c .before .before .before .before .before .before .before .before .before .before .before .before in
+    λ a b ia ib e l ra. c .before .before .with-second3 .ensures a b (bitAt (start .args .used .now)) ia ib e l ra
 
 same-length-5 : tie.Need-same-length-5
 same-length-5 c = search needs
 
 returns-5 : tie.Need-returns-5
 returns-5 c =
-    let g = c .before .before .before .before .before .before .before .before .before .before .before .before .before .before .before .before .args in
+    let after-load2 = c .before .before .before .before .before .before in
+    let start = after-load2 .before .before .before .before .before .before .before .before .before .before in
+    let g = start .args in
     λ a b ia ib e l ra.
     let s : Cells = valued (g .links .now) (g .term .second) b in
-    let i = union-set (g .n) a s ia (valued-set (g .n) (g .links .now) (g .term .second) b (c .before .before .before .before .before .before .before .before .before .before .before .before .before .before .before .before .pre .0 .size) ib l) in
-    rw (c .before .before .before .before .before .before .before .before .enum-told5 .given .1) (c .before .before .close .ensures (union a s) i (c .before .before .before .before .before .before .load2 .ensures b a ib e ra))
+    let i = union-set (g .n) a s ia (valued-set (g .n) (g .links .now) (g .term .second) b (start .pre .0 .size) ib l) in
+    rw (after-load2 .before .before .enum-told5 .given .1) (c .before .before .close .ensures (union a s) i (after-load2 .load2 .ensures b a ib e ra))
 
 same-length-6 : tie.Need-same-length-6
 same-length-6 c = search needs
 
 returns-6 : tie.Need-returns-6
 returns-6 c =
-    let g = c .before .before .before .before .before .before .before .before .before .before .before .before .before .before .before .before .args in
+    let after-load3 = c .before .before .before .before .before .before in
+    let start = after-load3 .before .before .before .before .before .before .before .before .before .before in
+    let g = start .args in
     λ a b ia ib e l ra.
     let s : Cells = valued (g .links .now) (g .term .second) b in
-    rw (c .before .before .before .before .before .before .before .before .enum-told6 .given .1) (c .before .before .set-diagonal .ensures (union a s) (c .before .before .before .before .before .before .load3 .ensures b a ib e ra))
+    rw (after-load3 .before .before .enum-told6 .given .1) (c .before .before .set-diagonal .ensures (union a s) (after-load3 .load3 .ensures b a ib e ra))
 
 same-length-7 : tie.Need-same-length-7
 same-length-7 c = search needs
 
 returns-7 : tie.Need-returns-7
 returns-7 c =
-    let g = c .before .before .before .before .before .before .before .before .before .before .before .before .before .before .before .before .before .before .before .before .args in
+    let after-close2 = c .before .before .before .before .before .before in
+    let after-load4 = after-close2 .before .before .before .before in
+    let start = after-load4 .before .before .before .before .before .before .before .before .before .before in
+    let g = start .args in
     λ a b ia ib e l ra.
     let s : Cells = valued (g .links .now) (g .term .second) b in
-    let i = union-set (g .n) a s ia (valued-set (g .n) (g .links .now) (g .term .second) b (c .before .before .before .before .before .before .before .before .before .before .before .before .before .before .before .before .before .before .before .before .pre .0 .size) ib l) in
-    let r = c .before .before .before .before .before .before .close2 .ensures (union a s) i (c .before .before .before .before .before .before .before .before .before .before .load4 .ensures b a ib e ra) in
-    rw (c .before .before .before .before .before .before .before .before .before .before .before .before .enum-told7 .given .1) (c .before .before .set-diagonal2 .ensures (closure (g .n) (union a s)) r)
+    let i = union-set (g .n) a s ia (valued-set (g .n) (g .links .now) (g .term .second) b (start .pre .0 .size) ib l) in
+    let r = after-close2 .close2 .ensures (union a s) i (after-load4 .load4 .ensures b a ib e ra) in
+    rw (after-load4 .before .before .enum-told7 .given .1) (c .before .before .set-diagonal2 .ensures (closure (g .n) (union a s)) r)
 
 pub combine-spec : {M : Type 1} → statement M
 combine-spec =

@@ -4,7 +4,7 @@ use borrow.Author.Needs.{needs}
 use Rattle.k2.specs.PairSets.{union}
 use Rattle.rows.specs.Rows.{flat}
 use Rattle.packing.specs.Senses.{sensed}
-use Rattle.tree.proofs.Ops.{both-loaded}
+use Rattle.tree.proofs.OperationLaws.{both-loaded}
 use Rattle.tree.proofs.operations.load.Statement.{statement}
 use Rattle.tree.proofs.operations.load.Tie as tie
 
@@ -19,8 +19,9 @@ same-length c = search needs
 
 returns : tie.Need-returns
 returns c =
-    let g = c .before .before .before .before .before .before .before .before .before .before .before .args in
-    λ a x is e r. c .before .before .put-links .ensures (union x (sensed (g .operand .sense) a)) (c .before .before .before .before .before .before .load-tree .ensures a x is e r)
+    let after-load-tree = c .before .before .before .before .before .before in
+    let g = after-load-tree .before .before .before .before .before .args in
+    λ a x is e r. c .before .before .put-links .ensures (union x (sensed (g .operand .sense) a)) (after-load-tree .load-tree .ensures a x is e r)
     ∙ ap flat (both-loaded (g .links .now) (g .operand) a x)
 
 pub load-spec : {M : Type 1} → statement M

@@ -8,8 +8,8 @@ use Rattle.k2.specs.BitLaws.{bit-lt}
 use Rattle.k2.specs.PairSets.{Cells}
 use Rattle.tree.specs.Inner.{Room, termSet}
 use Rattle.tree.specs.InnerLaws.{term-set}
-use Rattle.tree.proofs.Copies.{wrong}
-use Rattle.tree.proofs.Ops.{told-room, tree-at, pack-room}
+use Rattle.tree.proofs.CopyLaws.{both-absurd}
+use Rattle.tree.proofs.OperationLaws.{told-room, tree-at, pack-room}
 use Rattle.tree.proofs.operations.operate.Statement.{statement}
 use Rattle.tree.proofs.operations.operate.Tie as tie
 
@@ -17,14 +17,18 @@ outcome-rows-requires : tie.Need-outcome-rows-requires
 outcome-rows-requires c κs = search needs
 
 -- there was room
-roomy : (c : tie.Then1) → Room (c .before .before .before .before .before .before .before .before .before .before .args .n) (c .before .before .before .before .before .before .before .before .before .before .args .term) (length (c .before .before .before .before .before .before .before .before .before .before .args .work .now)) (length (c .before .before .before .before .before .before .before .before .before .before .args .used .now)) (length (c .before .before .before .before .before .before .before .before .before .before .args .rows .now))
+roomy : (c : tie.Then1)
+    → let start = c .before .before .before .before .before .before .before .before .before .before in
+    Room (start .args .n) (start .args .term) (length (start .args .work .now)) (length (start .args .used .now)) (length (start .args .rows .now))
 roomy c = told-room (c .before .before .before .outcome-rows .ensures) (c .if1 .taken)
 
 pack-requires : tie.Need-pack-requires
 pack-requires c κs =
-    let g = c .before .before .before .before .before .before .before .before .before .before .before .before .args in
+    let after-outcome-rows = c .before .before .before .before .before in
+    let g = after-outcome-rows .before .before .before .before .before .before .before .args in
     let p = roomy (c .before .before) in
-    let k : length (c .before .before .before .before .before .outcome-rows .last .1 .1 .1 .1 .1 .0) ≡ length (g .rows .now) = c .before .before .before .before .before .outcome-rows .kept .1 .1 .1 .1 .1 .0 in
+    let k : length (after-outcome-rows .outcome-rows .last .1 .1 .1 .1 .1 .0) ≡ length (g .rows .now) =
+    after-outcome-rows .outcome-rows .kept .1 .1 .1 .1 .1 .0 in
     (k ∙ p .bits, p .trees .size, pack-room (g .n) (g .term) (length (g .work .now)) (p .trees))
 
 same-length : tie.Need-same-length
@@ -35,15 +39,18 @@ same-length-2 c = search needs
 
 returns : tie.Need-returns
 returns c =
-    let g = c .before .before .before .before .before .before .before .before .before .before .before .before .before .before .before .args in
-    let p = roomy (c .before .before .before .before .before) in
+    let then1 = c .before .before .before .before .before in
+    let after-outcome-rows = then1 .before .before .before in
+    let start = after-outcome-rows .before .before .before .before .before .before .before in
+    let g = start .args in
+    let p = roomy then1 in
     let k = c .before .before .pack in
     record {
       most = k .ensures .0;
       tree = λ r a b l.
           let o : Cells = termSet (g .term) (g .n) (g .links .now) (bitAt (g .used .now)) a b in
           let i = term-set (g .term) (g .n) (g .links .now) (bitAt (g .used .now)) (g .work .now) a b (p .trees .size) (bit-lt (g .used .now)) l in
-          tree-at (g .n) (k .result) o _ (k .ensures .1 o i (c .before .before .before .before .before .before .before .before .outcome-rows .ensures .rows r a b l));
+          tree-at (g .n) (k .result) o _ (k .ensures .1 o i (after-outcome-rows .outcome-rows .ensures .rows r a b l));
       left = λ f. absurd (f p);
     }
 
@@ -55,7 +62,7 @@ same-length-4 c = search needs
 
 returns-2 : tie.Need-returns-2
 returns-2 c =
-    let f : (Room _ _ _ _ _ → ⊥) = λ r. wrong (c .if1 .left) (c .before .before .before .outcome-rows .ensures .done r) in
+    let f : (Room _ _ _ _ _ → ⊥) = λ r. both-absurd (c .if1 .left) (c .before .before .before .outcome-rows .ensures .done r) in
     record { most = omega arith; tree = λ r. absurd (f r); left = λ g. (refl, refl) }
 
 pub operate-spec : {M : Type 1} → statement M

@@ -8,8 +8,8 @@ use Rattle.k2.specs.PairSets.{Cells}
 use Rattle.rows.specs.Rows.{noPairs}
 use Rattle.tree.specs.Inner.{valued, Room}
 use Rattle.tree.specs.InnerLaws.{valued-set}
-use Rattle.tree.proofs.Copies.{wrong}
-use Rattle.tree.proofs.Ops.{from-none}
+use Rattle.tree.proofs.CopyLaws.{both-absurd}
+use Rattle.tree.proofs.OperationLaws.{from-none}
 use Rattle.tree.proofs.operations.outcome_rows.Statement.{statement}
 use Rattle.tree.proofs.operations.outcome_rows.Tie as tie
 
@@ -18,11 +18,13 @@ room-requires c κs = search needs
 
 returns : tie.Need-returns
 returns c =
-    let f : (Room _ _ _ _ _ → ⊥) = λ r. wrong (not-true (c .before .room .result) (c .if1 .taken)) (c .before .room .ensures .1 r) in
+    let f : (Room _ _ _ _ _ → ⊥) = λ r. both-absurd (not-true (c .before .room .result) (c .if1 .taken)) (c .before .room .ensures .1 r) in
     record { done = λ r. absurd (f r); rows = λ r. absurd (f r); left = λ g. (refl, refl) }
 
 -- there is room
-roomy : (c : tie.Else1) → Room (c .before .before .before .before .before .before .args .n) (c .before .before .before .before .before .before .args .term) (length (c .before .before .before .before .before .before .args .work .now)) (length (c .before .before .before .before .before .before .args .used .now)) (length (c .before .before .before .before .before .before .args .rows .now))
+roomy : (c : tie.Else1)
+    → let start = c .before .before .before .before .before .before in
+    Room (start .args .n) (start .args .term) (length (start .args .work .now)) (length (start .args .used .now)) (length (start .args .rows .now))
 roomy c = c .before .room .ensures .0 (not-false (c .before .room .result) (c .if1 .left))
 
 clear-requires : tie.Need-clear-requires
@@ -30,15 +32,20 @@ clear-requires c κs = roomy (c .before) .bits
 
 load-requires : tie.Need-load-requires
 load-requires c κs =
-    let p = roomy (c .before .before .before .before .before .before) in
-    let k : length (c .before .before .before .before .clear .last .0) ≡ length (c .before .before .before .before .before .before .before .before .before .before .before .before .args .rows .now) = c .before .before .before .before .clear .kept .0 in
+    let after-clear = c .before .before .before .before in
+    let start = after-clear .before .before .before .before .before .before .before .before in
+    let p = roomy (after-clear .before .before) in
+    let k : length (after-clear .clear .last .0) ≡ length (start .args .rows .now) = after-clear .clear .kept .0 in
     (p .trees .size, p .trees .first, omega (arith, p .trees .first, p .trees .work), k ∙ p .bits)
 
 combine-requires : tie.Need-combine-requires
 combine-requires c κs =
-    let p = roomy (c .before .before .before .before .before .before .before .before .before .before) in
-    let k : length (c .before .before .before .before .before .before .before .before .clear .last .0) ≡ length (c .before .before .before .before .before .before .before .before .before .before .before .before .before .before .before .before .args .rows .now) = c .before .before .before .before .before .before .before .before .clear .kept .0 in
-    let l : length (c .before .before .before .load .last .1 .1 .1 .1 .1 .0) ≡ length (c .before .before .before .before .before .before .before .before .clear .last .0) = c .before .before .before .load .kept .1 .1 .1 .1 .1 .0 in
+    let after-load = c .before .before .before in
+    let after-clear = after-load .before .before .before .before .before in
+    let start = after-clear .before .before .before .before .before .before .before .before in
+    let p = roomy (after-clear .before .before) in
+    let k : length (after-clear .clear .last .0) ≡ length (start .args .rows .now) = after-clear .clear .kept .0 in
+    let l : length (after-load .load .last .1 .1 .1 .1 .1 .0) ≡ length (after-clear .clear .last .0) = after-load .load .kept .1 .1 .1 .1 .1 .0 in
     (p .trees, p .records, l ∙ k ∙ p .bits)
 
 same-length : tie.Need-same-length
@@ -46,15 +53,18 @@ same-length c = search needs
 
 returns-2 : tie.Need-returns-2
 returns-2 c =
-    let g = c .before .before .before .before .before .before .before .before .before .before .before .before .before .before .before .before .before .before .before .args in
-    let p = roomy (c .before .before .before .before .before .before .before .before .before .before .before .before .before) in
+    let after-load = c .before .before .before .before .before .before in
+    let after-clear = after-load .before .before .before .before .before in
+    let start = after-clear .before .before .before .before .before .before .before .before in
+    let g = start .args in
+    let p = roomy (after-clear .before .before) in
     record {
       done = λ r. refl;
       rows = λ r a b l.
           let x : Cells = valued (g .links .now) (g .term .first) a in
           let i = valued-set (g .n) (g .links .now) (g .term .first) a (p .trees .size) (l .first) (l .links) in
           c .before .before .combine .ensures x b i (l .second) (l .behind) (l .links)
-          (from-none x _ (c .before .before .before .before .before .before .load .ensures a noPairs (l .first) (l .front) (c .before .before .before .before .before .before .before .before .before .before .before .clear .ensures)));
+          (from-none x _ (after-load .load .ensures a noPairs (l .first) (l .front) (after-clear .clear .ensures)));
       left = λ f. absurd (f p);
     }
 

@@ -4,14 +4,15 @@ use borrow.Author.Needs.{needs}
 use Rattle.k2.specs.PairSets.{Cells, union}
 use Rattle.rows.specs.Rows.{flat}
 use Rattle.rows.specs.RowLaws.{crossed-turned}
-use Rattle.tree.proofs.Ops.{no-letters}
+use Rattle.tree.proofs.OperationLaws.{no-letters}
 use Rattle.tree.proofs.operations.put_links.Statement.{statement}
 use Rattle.tree.proofs.operations.put_links.Tie as tie
 
 returns : tie.Need-returns
 returns c =
     let a = c .before .before .before .before .before .before .args in
-    λ x r. r ∙ ap flat (no-letters (a .operand .sense) (a .links .now) (a .operand .forward) (a .operand .against) x (c .before .before .if1 .taken) (c .if2 .taken))
+    λ x r. r
+    ∙ ap flat (no-letters (a .operand .sense) (a .links .now) (a .operand .forward) (a .operand .against) x (c .before .before .if1 .taken) (c .if2 .taken))
 
 enum-told : tie.Need-enum-told
 enum-told c = search needs
@@ -38,7 +39,8 @@ returns-3 : tie.Need-returns-3
 returns-3 c =
     let a = c .before .before .before .before .before .before .before .before .before .before .args in
     λ x r. rw (c .before .before .before .before .enum-told2 .given .1)
-    (c .before .before .put-letters2 .ensures x r ∙ ap (λ (t : Cells). flat (union x t)) (sym (crossed-turned (a .links .now) (a .operand .forward) (a .operand .against))))
+    (c .before .before .put-letters2 .ensures x r
+    ∙ ap (λ (t : Cells). flat (union x t)) (sym (crossed-turned (a .links .now) (a .operand .forward) (a .operand .against))))
 
 pub put-links-spec : {M : Type 1} → statement M
 put-links-spec =

@@ -3,18 +3,18 @@ use Prim.Native.Nat.{_*_}
 use native.Mathlib.Omega.{arith}
 use borrow.Author.Needs.{needs}
 use borrow.Author.Tests.{leb-true, le-leb}
-use Rattle.tree.proofs.Copies.{off}
+use Rattle.tree.proofs.CopyLaws.{false-absurd}
 use Rattle.tree.proofs.operations.room.Statement.{statement}
 use Rattle.tree.proofs.operations.room.Tie as tie
 
 returns : tie.Need-returns
-returns c = (λ e. off e, λ r. absurd (omega (arith, r .trees .size)))
+returns c = (λ e. false-absurd e, λ r. absurd (omega (arith, r .trees .size)))
 
 returns-2 : tie.Need-returns-2
-returns-2 c = (λ e. off e, λ r. absurd (omega (arith, r .records)))
+returns-2 c = (λ e. false-absurd e, λ r. absurd (omega (arith, r .records)))
 
 returns-3 : tie.Need-returns-3
-returns-3 c = (λ e. off e, λ r. absurd (omega (arith, r .bits)))
+returns-3 c = (λ e. false-absurd e, λ r. absurd (omega (arith, r .bits)))
 
 tree-unit-requires : tie.Need-tree-unit-requires
 tree-unit-requires c κs = search needs
@@ -22,12 +22,12 @@ tree-unit-requires c κs = search needs
 returns-4 : tie.Need-returns-4
 returns-4 c =
     let u = c .before .before .before .before .tree-unit in
-    (λ e. off e, λ r. absurd (omega (arith, r .trees .first, u .ensures .0)))
+    (λ e. false-absurd e, λ r. absurd (omega (arith, r .trees .first, u .ensures .0)))
 
 returns-5 : tie.Need-returns-5
 returns-5 c =
     let u = c .before .before .before .before .before .before .tree-unit in
-    (λ e. off e, λ r. absurd (omega (arith, r .trees .second, u .ensures .0)))
+    (λ e. false-absurd e, λ r. absurd (omega (arith, r .trees .second, u .ensures .0)))
 
 mul-result : tie.Need-mul-result
 mul-result c = omega (arith, c .before .before .before .before .before .before .tree-unit .ensures .2)

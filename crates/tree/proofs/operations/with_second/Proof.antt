@@ -8,7 +8,7 @@ use Rattle.tree.specs.declared.operations.Operand.{Operand}
 use Rattle.tree.specs.declared.operations.Operation.the-variants.{Union, Closure, Optional, Star}
 use Rattle.tree.specs.Inner.{valued}
 use Rattle.tree.specs.InnerLaws.{valued-flipped, valued-set}
-use Rattle.tree.proofs.Ops.{rows-none, from-none, not-apart}
+use Rattle.tree.proofs.OperationLaws.{rows-none, from-none, not-apart}
 use Rattle.tree.proofs.operations.with_second.Statement.{statement}
 use Rattle.tree.proofs.operations.with_second.Tie as tie
 
@@ -84,29 +84,36 @@ same-length c = search needs
 
 returns : tie.Need-returns
 returns c =
+    let after-load = c .before .before .before .before .before .before in
     λ a b u ia ib e l ra.
-    rw (c .before .before .before .before .before .before .before .before .enum-told .given .1) (c .before .before .intersect .ensures a _ ra (from-none _ _ (c .before .before .before .before .before .before .load .ensures b noPairs ib e rows-none)))
+    rw (after-load .before .before .enum-told .given .1)
+    (c .before .before .intersect .ensures a _ ra (from-none _ _ (after-load .load .ensures b noPairs ib e rows-none)))
 
 same-length-2 : tie.Need-same-length-2
 same-length-2 c = search needs
 
 returns-2 : tie.Need-returns-2
 returns-2 c =
+    let after-load2 = c .before .before .before .before .before .before in
     λ a b u ia ib e l ra.
-    rw (c .before .before .before .before .before .before .before .before .enum-told2 .given .1) (c .before .before .minus .ensures a _ ra (from-none _ _ (c .before .before .before .before .before .before .load2 .ensures b noPairs ib e rows-none)))
+    rw (after-load2 .before .before .enum-told2 .given .1)
+    (c .before .before .minus .ensures a _ ra (from-none _ _ (after-load2 .load2 .ensures b noPairs ib e rows-none)))
 
 same-length-3 : tie.Need-same-length-3
 same-length-3 c = search needs
 
 returns-3 : tie.Need-returns-3
 returns-3 c =
-    let g = c .before .before .before .before .before .before .before .before .before .before .before .before .before .before .before .before .args in
-    let q = c .before .before .before .before .before .before .before .before .inverted .ensures in
+    let after-load3 = c .before .before .before .before .before .before in
+    let after-inverted = after-load3 .before .before in
+    let start = after-inverted .before .before .before .before .before .before .before .before in
+    let g = start .args in
+    let q = after-inverted .inverted .ensures in
     λ a b u ia ib e l ra.
     let s : Cells = valued (g .links .now) (g .term .second) b in
-    let k = from-none _ _ (c .before .before .before .before .before .before .load3 .ensures b noPairs ib (rw (as-long (c .before .before .before .before .before .before .before .before)) e) rows-none) in
-    rw (c .before .before .before .before .before .before .before .before .before .enum-told3 .given .1)
-    (c .before .before .compose .ensures a s ia (valued-set (g .n) (g .links .now) (g .term .second) b (c .before .before .before .before .before .before .before .before .before .before .before .before .before .before .before .before .pre .0 .size) ib l) ra
+    let k = from-none _ _ (after-load3 .load3 .ensures b noPairs ib (rw (as-long after-inverted) e) rows-none) in
+    rw (after-inverted .before .enum-told3 .given .1)
+    (c .before .before .compose .ensures a s ia (valued-set (g .n) (g .links .now) (g .term .second) b (start .pre .0 .size) ib l) ra
     (k ∙ ap flat (ap (λ (o : Operand). valued (g .links .now) o b) q ∙ valued-flipped (g .links .now) (g .term .second) b)))
 
 returns-4 : tie.Need-returns-4

@@ -1,0 +1,260 @@
+-- Laws by which a promise of the engine is carried over to words: words have one register (`keeps-same`), so what holds of the one that was loaded holds of
+-- every register whose words they are.
+--   refused-done          a refused call is not accepted
+--   load-none, load-some  by the number of the answer: the words are no register's, or those of the register that was loaded
+--   edit-foreign, edit-kept
+--                         an edit over words that are no register's, and over a register's
+--   close-foreign, close-kept
+--                         closing up, in the same way
+--   size-first, room-short, room-enough
+--                         the number of asking for a fresh register: by its size first, then by the room
+--   fresh-refused, fresh-short, fresh-made
+--                         what asking for one promises, in each case
+--   asked-foreign, asked  a question over words that are no register's, and over a register's
+--   links-handed          the links, copied to the front of a list
+--   size-foreign, sized, total-foreign, totalled
+--                         the number of records, and the total of a label
+--   lock-foreign, locked-word, withdrawn-foreign, withdrawn-word
+--                         whether a record is locked, or withdrawn
+-- Assumes nothing.
+use mathlib.Core.Path.{_≡_, refl, sym, ap, subst, _∙_}
+use mathlib.Core.Bool.{Bool, true, false, _||_}
+use mathlib.Core.List.{List, _++_}
+use Prim.Native.Nat.{ℕ, _+_, _≤_, _<_}
+use native.Mathlib.Decide.{decLt}
+use native.Mathlib.Omega.{arith}
+use mir.Val.{boolByte}
+use lib.Dec.{ltb}
+use lib.ListN.{length, take, drop}
+use borrow.Author.Tests.{lt-ltb, le-ltb}
+use Rattle.book.specs.Basics.{pick, bit}
+use Rattle.book.specs.Causes.{short-work, not-open, number, firstNumber, maxRecords}
+use Rattle.book.specs.Book.{Book, Call, close, freshAnswer}
+use Rattle.register.specs.Representation.{Represents}
+use Rattle.register.specs.Marks.{Marked}
+use Rattle.register.specs.Counters.{InRange}
+use Rattle.register.specs.Calls.{answerOf, answerNumber, Opens, Steps, Closes}
+use Rattle.register.specs.HistoryLaws.{number-answer}
+use Rattle.register.specs.Questions.{Sized, Listing, Locking, Withdrawal, Totals}
+use Rattle.register.specs.declared.TotalAnswer.{TotalAnswer}
+use Rattle.register.specs.Words.{stateWords, Keeps, Foreign, Copies, Loads, Stores}
+use Rattle.register.specs.MarkLaws.{represents-marked}
+use Rattle.register.specs.WordLaws.{keeps-long, keeps-same, load-done}
+use Rattle.register.specs.declared.Register.{Register}
+use Rattle.register.specs.declared.Outcome.{Outcome}
+use Rattle.register.specs.declared.Links.{Links}
+use Rattle.register.specs.declared.Answer.{Answer}
+use Rattle.register.specs.declared.Answer.the-variants.{Done, Refused}
+use Rattle.pairs.specs.Asking.{handed}
+use Rattle.pairs.specs.declared.PairsAnswer.the-variants.{Pairs}
+use Rattle.host.specs.Host.{freshNumber, Freshens, Edits, refusal, toldPairs, toldTotal, Told, Asked, Lists, Sizes, TellsLock, TellsWithdrawn, TellsTotal}
+use Rattle.host.specs.Histories.{Renumbers}
+use Rattle.host.specs.Inner.{Finishes, refused, kept, lost}
+
+-- a refused call is not accepted
+pub refused-done : {k : ℕ} → Refused k ≡ Done → ⊥
+refused-done e = let z : _≡_ {A = ℕ} 0 1 = cc in omega arith
+
+-- ---- what was loaded, by the number of the answer
+module _ {ws : List ℕ} {o : Outcome} {k : ℕ} (l : Loads ws o) (e : k ≡ answerNumber (o .answer)) where
+  pub load-none : (k ≡ 0 → ⊥) → Foreign ws
+  load-none z = l .refused (λ d. z (e ∙ ap answerNumber d)) .1
+
+  pub load-some : k ≡ 0 → Keeps ws (o .register)
+  load-some z = l .loaded (load-done l (sym e ∙ z))
+
+-- ---- edits
+pub edit-foreign : (c : Call) (ws : List ℕ) → Foreign ws → Edits c ws ws (number not-open)
+edit-foreign c ws f = record { refused = λ _. refl; past = refl; foreign = λ _. refl; steps = λ r k. absurd (f r k) }
+
+abbrev Stepped : Call → List ℕ → ℕ → Register → Type 0
+Stepped c after k s = (o : Outcome) × Steps s c o × (k ≡ answerNumber (o .answer)) × Keeps after (o .register)
+
+module _ {c : Call} {before after : List ℕ} {k : ℕ} {r : Register} (w : Keeps before r) where
+  stepped : ((k ≡ 0 → ⊥) → after ≡ before) → drop stateWords after ≡ drop stateWords before → Stepped c after k r → Edits c before after k
+  stepped e p t = record { refused = e; past = p; foreign = λ f. absurd (f r w); steps = λ s v. subst (Stepped c after k) (keeps-same w v) t }
+
+  pub edit-kept : {o : Outcome} → Steps r c o → Finishes o before after k → Edits c before after k
+  unfolding number
+  edit-kept {o} t (refused n e a) =
+      stepped (λ _. a) (ap (drop stateWords) a) (o, t, e, subst (λ (ws : List ℕ). Keeps ws (o .register)) (sym a) (subst (Keeps before) (sym (t .refused n)) w))
+  edit-kept {o} t (kept n e v p) = stepped (λ z. absurd (z e)) p (o, t, e ∙ sym (ap answerNumber n), v)
+  edit-kept {o} t (lost e a g) =
+      stepped (λ _. a) (ap (drop stateWords) a) (
+        record { register = r; answer = answerOf (number not-open) },
+        unmet,
+        told e,
+        subst (λ (ws : List ℕ). Keeps ws r) (sym a) w,
+      )
+    where
+      none : (b : Book) → Represents r b → ⊥
+      none b h = g (keeps-long w) (t .follows b h .ranged) (represents-marked (t .follows b h))
+
+      told : {j : ℕ} → j ≡ number not-open → j ≡ answerNumber (answerOf (number not-open))
+      told q = q ∙ sym (number-answer (number not-open))
+
+      told-as : {j : ℕ} → answerOf (number not-open) ≡ Refused j → number not-open ≡ j
+      told-as q = cc
+
+      unmet : Steps r c (record { register = r; answer = answerOf (number not-open) })
+      unmet =
+          record {
+            caused = λ j q. (not-open, sym (told-as q));
+            refused = λ _. refl;
+            foreign = λ _. refl;
+            answers = λ b h. absurd (none b h);
+            follows = λ b h. absurd (none b h);
+          }
+
+-- ---- closing up
+pub close-foreign : (ws list : List ℕ) → Foreign ws → Renumbers (record { before = ws; after = ws }) (record { before = list; after = list }) (number not-open)
+close-foreign ws list f =
+    record { edits = edit-foreign (close (length list)) ws f; refused = λ _. refl; past = λ r k. refl; given = λ b h. absurd (f (h .0) (h .1)) }
+
+-- what a closing up hands back has words, accepted or not
+formed : {before list list′ : List ℕ} {r : Register} {o : Outcome} → Keeps before r → Closes r list list′ o → (a : Answer) → o .answer ≡ a
+    → InRange (o .register) × Marked (o .register .marks)
+formed w c Done e = c .formed e
+formed w c (Refused j) e =
+    let s = c .steps .refused (λ d. refused-done (sym e ∙ d)) in
+    (subst InRange (sym s) (w .ranged), subst (λ (q : Register). Marked (q .marks)) (sym s) (w .marked))
+
+list-left : {before after list list′ : List ℕ} {k : ℕ} {r : Register} {o : Outcome} → Keeps before r → Closes r list list′ o → Finishes o before after k
+    → (k ≡ 0 → ⊥) → list′ ≡ list
+list-left w c (refused n e a) z = c .refused n
+list-left w c (kept n e v p) z = absurd (z e)
+list-left {o = o} w c (lost e a g) z = let m = formed w c (o .answer) refl in absurd (g (keeps-long w) (m .0) (m .1))
+
+pub close-kept : {before after list list′ : List ℕ} {k : ℕ} {r : Register} {o : Outcome} → Keeps before r → Closes r list list′ o → Finishes o before after k
+    → Renumbers (record { before = before; after = after }) (record { before = list; after = list′ }) k
+close-kept {list = list} {list′} w c f = record {
+  edits = edit-kept w (c .steps) f;
+  refused = list-left w c f;
+  past = λ s v. subst (λ (q : Register). drop (q .n) list′ ≡ drop (q .n) list) (keeps-same w v) (c .past);
+  given = λ b h. c .given b (subst (λ (q : Register). Represents q b) (sym (keeps-same w (h .1))) (h .2));
+}
+
+-- ---- a fresh register
+-- the number of asking for one: by its size first, then by the room
+module _ (n room : ℕ) where
+  pub size-first : (freshAnswer n ≡ 0 → ⊥) → freshNumber n room ≡ freshAnswer n
+  unfolding freshAnswer freshNumber firstNumber number
+  size-first z = go (ltb n 1 || ltb maxRecords n) z
+    where
+      go : (t : Bool) → (_≡_ {A = ℕ} (pick t 1 0) 0 → ⊥) → _≡_ {A = ℕ} (pick t 1 (pick (ltb room stateWords) 12 0)) (pick t 1 0)
+      go true z = refl
+      go false z = absurd (z refl)
+
+  by-room : freshAnswer n ≡ 0 → freshNumber n room ≡ pick (ltb room stateWords) (number short-work) 0
+  unfolding freshAnswer freshNumber firstNumber number
+  by-room z = go (ltb n 1 || ltb maxRecords n) z
+    where
+      go : (t : Bool) → _≡_ {A = ℕ} (pick t 1 0) 0 → _≡_ {A = ℕ} (pick t 1 (pick (ltb room stateWords) 12 0)) (pick (ltb room stateWords) 12 0)
+      go true z = absurd (omega arith)
+      go false z = refl
+
+  pub room-short : freshAnswer n ≡ 0 → room < stateWords → freshNumber n room ≡ number short-work
+  room-short z l = by-room z ∙ ap (λ (t : Bool). pick t (number short-work) 0) (lt-ltb room stateWords l)
+
+  pub room-enough : freshAnswer n ≡ 0 → stateWords ≤ room → freshNumber n room ≡ 0
+  room-enough z l = by-room z ∙ ap (λ (t : Bool). pick t (number short-work) 0) (le-ltb room stateWords l)
+
+module _ {n : ℕ} {o : Outcome} (p : Opens n o) (before : List ℕ) where
+  answered : {k : ℕ} → k ≡ answerNumber (o .answer) → k ≡ freshAnswer n
+  answered e = e ∙ ap answerNumber (p .answers) ∙ number-answer (freshAnswer n)
+
+  pub fresh-refused : {k : ℕ} → k ≡ answerNumber (o .answer) → (k ≡ 0 → ⊥) → Freshens n before before k
+  fresh-refused {k} e z = record {
+    number = answered e ∙ sym (size-first n (length before) (λ y. z (answered e ∙ y)));
+    refused = λ _. refl;
+    made = λ y. absurd (z y);
+    past = refl;
+  }
+
+  pub fresh-short : answerNumber (o .answer) ≡ 0 → (after : List ℕ) (ok : Bool)
+      → Stores (o .register) before after ok → ok ≡ false → Freshens n before after (number short-work)
+  unfolding number
+  fresh-short e after ok s f = go (decLt (length before) stateWords)
+    where
+      z : freshAnswer n ≡ 0
+      z = sym (answered (sym e))
+
+      go : Dec (length before < stateWords) → Freshens n before after (number short-work)
+      go (yes l) = record {
+        number = sym (room-short n (length before) z l);
+        refused = λ _. s .refused f .0;
+        made = λ y. absurd (let w : _≡_ {A = ℕ} 12 0 = y in omega arith);
+        past = ap (drop stateWords) (s .refused f .0);
+      }
+      go (no l) = absurd (s .refused f .1 (omega (arith, l)) (p .made z .ranged) (represents-marked (p .made z)))
+
+  pub fresh-made : answerNumber (o .answer) ≡ 0 → (after : List ℕ) (ok : Bool) → length after ≡ length before
+      → Stores (o .register) before after ok → ok ≡ true → Freshens n before after 0
+  fresh-made e after ok l s f =
+      let z : freshAnswer n ≡ 0 = sym (answered (sym e)) in
+      let w = s .done f in
+      record {
+        number = sym (room-enough n (length before) z (omega (arith, l, keeps-long (w .0))));
+        refused = λ y. absurd (y refl);
+        made = λ _. (o .register, w .0, p .made z);
+        past = w .1;
+      }
+
+-- ---- questions
+module _ {A : Type 0} {ws : List ℕ} {P : Register → A → Type 0} {f : A → ℕ} {before after : List ℕ} {k : ℕ} where
+  pub asked-foreign : Foreign ws → k ≡ refusal (number not-open) → after ≡ before → Asked ws P f before after k
+  asked-foreign g e a = record { answers = λ r w. absurd (g r w); foreign = λ _. (e, a) }
+
+  pub asked : {r : Register} → Keeps ws r → (a : A) → P r a → k ≡ f a → Asked ws P f before after k
+  asked {r} w a p e = record { answers = λ s v. subst (λ (t : Register). Told (P t) f k) (keeps-same w v) (a, p, e); foreign = λ g. absurd (g r w) }
+
+-- the links: the first words of an array copied to the front of a list
+abbrev front : Links → List ℕ
+front ls = take (ls .count) (ls .words)
+
+pub links-handed : {ws before after : List ℕ} {r : Register} → Keeps ws r → (ls : Links)
+    → Listing r ls → (xs : List ℕ) {ok : Bool} → Copies xs 0 before after ok → length xs ≤ length before
+    → xs ≡ take (length before) (front ls) → {k : ℕ} → k ≡ length (front ls) → Asked ws (Lists before after) toldPairs before after k
+links-handed {before = before} w ls g xs c h q e =
+    let z : 0 + length xs ≡ length xs = omega arith in
+    asked w (Pairs (length (front ls))) (
+      ls,
+      g,
+      handed (c .fits (omega (arith, h)) .1 ∙ ap (λ (j : ℕ). xs ++ drop j before) z ∙ ap (λ (l : List ℕ). l ++ drop (length l) before) q),
+    ) e
+
+byte : (l : Bool) → boolByte l ≡ bit l
+byte true = refl
+byte false = refl
+
+module _ {ws : List ℕ} where
+  pub size-foreign : Foreign ws → Sizes ws 0
+  size-foreign g = record { size = λ r w. absurd (g r w); foreign = λ _. refl }
+
+  pub sized : {r : Register} {k : ℕ} → Keeps ws r → Sized r k → Sizes ws k
+  sized {r} {k} w z = record { size = λ s v. subst (λ (t : Register). Sized t k) (keeps-same w v) z; foreign = λ g. absurd (g r w) }
+
+  pub total-foreign : {l k : ℕ} → Foreign ws → k ≡ refusal (number not-open) → TellsTotal ws l k
+  total-foreign g e = record { total = λ r w. absurd (g r w); foreign = λ _. e }
+
+  pub totalled : {r : Register} {l k : ℕ} → Keeps ws r → (a : TotalAnswer) → Totals r l a → k ≡ toldTotal a → TellsTotal ws l k
+  totalled {r} {l} {k} w a p e =
+      record { total = λ s v. subst (λ (t : Register). Told (Totals t l) toldTotal k) (keeps-same w v) (a, p, e); foreign = λ g. absurd (g r w) }
+
+  pub lock-foreign : (x : ℕ) → Foreign ws → TellsLock ws x 0
+  lock-foreign x g = record { locked = λ b h. absurd (g (h .0) (h .1)); foreign = λ _. refl }
+
+  pub locked-word : {r : Register} {x : ℕ} (l : Bool) → Keeps ws r → Locking r x l → TellsLock ws x (boolByte l)
+  locked-word {r} {x} l w z = record {
+    locked = λ b h. byte l ∙ ap bit (subst (λ (t : Register). Locking t x l) (keeps-same w (h .1)) z .locked b (h .2));
+    foreign = λ g. absurd (g r w);
+  }
+
+  pub withdrawn-foreign : (x : ℕ) → Foreign ws → TellsWithdrawn ws x 0
+  withdrawn-foreign x g = record { withdrawn = λ b h. absurd (g (h .0) (h .1)); foreign = λ _. refl }
+
+  pub withdrawn-word : {r : Register} {x : ℕ} (l : Bool) → Keeps ws r → Withdrawal r x l → TellsWithdrawn ws x (boolByte l)
+  withdrawn-word {r} {x} l w z = record {
+    withdrawn = λ b h. byte l ∙ ap bit (subst (λ (t : Register). Withdrawal t x l) (keeps-same w (h .1)) z .withdrawn b (h .2));
+    foreign = λ g. absurd (g r w);
+  }

@@ -1,0 +1,115 @@
+-- The answer to a pair question by rows, in plain variables.
+--   faulty-text, little-work
+--                  refused: by the text, for the work
+--   listed-value   the pairs of the value handed over are the answer
+--   alone-asks     so are those of a letter alone
+--   same-verdict   the same of an equal verdict
+-- Assumes nothing.
+use mathlib.Core.Path.{_≡_, refl, sym, ap, ap₂, _∙_, subst}
+use mathlib.Core.List.{List, _++_, map}
+use Prim.Native.Nat.{ℕ, _*_, _≤_, _<_}
+use lib.ListN.{length, take, drop}
+use Rattle.book.specs.Basics.{bit}
+use Rattle.book.specs.Causes.{short-work, number, Caused, maxRecords}
+use Rattle.book.specs.Book.{Book}
+use Rattle.k2.specs.Bits.{bitAt}
+use Rattle.k2.specs.PairSets.{listed}
+use Rattle.paths.specs.Expressions.{Expr}
+use Rattle.paths.specs.Grammar.{Verdict, accepted}
+use Rattle.paths.specs.Chains.{asked}
+use Rattle.paths.specs.Relations.{pairs}
+use Rattle.paths.specs.Questions.{refused, listAfter}
+use Rattle.reader.specs.Reads.{readAnswer}
+use Rattle.reader.specs.declared.Answer.the-variants.{Refused as Faulty}
+use Rattle.register.specs.Links.{Linked}
+use Rattle.register.specs.Representation.{Represents}
+use Rattle.register.specs.declared.Register.{Register}
+use Rattle.grid.specs.Grid.{first}
+use Rattle.tree.specs.CallLaws.{first-over}
+use Rattle.pairs.specs.declared.PairsAnswer.{PairsAnswer}
+use Rattle.pairs.specs.declared.PairsAnswer.the-variants.{Pairs, Refused}
+use Rattle.pairs.specs.Asking.{pairsLength, told-number, Handed, handed}
+use Rattle.pairs.specs.AskingLaws.{faulty-caused, handed-past, handed-some}
+use Rattle.pairs.specs.Steps.{Lettered, Coded}
+use Rattle.rowpairs.specs.Asking.{rowWidth, rowsWork, rowsAnswer, AsksRowsFor}
+use Rattle.rowpairs.specs.AskingLaws.{rows-refused, rows-short, rows-handed}
+use Rattle.rows.specs.Rows.{linkPair}
+use Rattle.rowpairs.specs.Labels.{Alone, LetterListed}
+use Rattle.rowpairs.specs.Evaluation.{ValueFirst}
+use Rattle.rowpairs.proofs.LoneLetterLaws.{some-used, letter-listed}
+
+-- ---- refused
+declines : (r : Register) (v : Verdict) (work k : ℕ) (before : List ℕ) → Caused k
+    → ((b : Book) → Represents r b → rowsAnswer b v work (length before) ≡ refused k)
+    → AsksRowsFor r v work before before (Refused k)
+unfolding pairsLength listAfter
+declines r v work k before z f = record {
+  past = refl;
+  unchanged = λ j e. refl;
+  caused = λ j e. let q : k ≡ j = cc in subst Caused q z;
+  book = λ b R. let o = f b R in record { tells = rw o told-number; list = rw o refl };
+}
+
+pub faulty-text : (r : Register) (v : Verdict) (work k : ℕ) (before : List ℕ) → readAnswer v ≡ Faulty k → AsksRowsFor r v work before before (Refused k)
+faulty-text r v work k before e = declines r v work k before (faulty-caused v k e) (λ b R. rows-refused b work (length before) v k e)
+
+module _ (r : Register) (e : Expr) (n work : ℕ) (before : List ℕ) (size : (b : Book) → Represents r b → n ≡ b .n) where
+  pub little-work : {w : ℕ} → w ≡ rowWidth n → work < 32 * (n * w) → AsksRowsFor r (accepted e) work before before (Refused 12)
+  unfolding number
+  little-work q h =
+      declines r (accepted e) work 12 before (short-work, refl)
+      (λ b R. rows-short b work (length before) e (subst (λ (i : ℕ). work < rowsWork i) (size b R) (subst (λ (w : ℕ). work < 32 * (n * w)) q h)))
+
+  -- ---- the pairs of the value handed over
+  pub listed-value : (s links used code ws ms after : List ℕ) (t w : ℕ) → w ≡ rowWidth n → n ≤ maxRecords → 32 * (n * w) ≤ work
+      → ((b : Book) → Represents r b → Linked links (b .sheet))
+      → ((b : Book) → Represents r b → n ≡ b .n → bitAt used ≡ (λ x. bit (asked b .inUse x))) → Coded s e code
+      → ValueFirst n links used code ws ms
+      → t ≡ length (listed n (first n w ws ms))
+      → after ≡ take (length before) (listed n (first n w ws ms)) ++ drop (length (listed n (first n w ws ms))) before
+      → AsksRowsFor r (accepted e) work before after (Pairs t)
+  unfolding pairs asked
+  listed-value s links used code ws ms after t w width small h linked bits C made total written =
+      let H : Handed (listed n (first n w ws ms)) before after (Pairs t) =
+      subst (λ (k : ℕ). Handed (listed n (first n w ws ms)) before after (Pairs k))
+      (sym total) (handed (written ∙ first-over (listed n (first n w ws ms)) before)) in
+      record {
+        past = handed-past H;
+        unchanged = λ k q. handed-some H k q;
+        caused = λ k q. handed-some H k q;
+        book =
+            λ b R. rows-handed b e work (subst (λ (i : ℕ). rowsWork i ≤ work) (size b R) (subst (λ (v : ℕ). 32 * (n * v) ≤ work) width h))
+            (subst (λ (l : List ℕ). Handed l before after (Pairs t)) (value b R) H);
+      }
+    where
+      value : (b : Book) → Represents r b → listed n (first n w ws ms) ≡ pairs (asked b) e
+      value b R =
+          let z : n ≡ b .n = size b R in
+          let L : Lettered b n links used =
+          record { size = z; small = subst (λ (i : ℕ). i ≤ maxRecords) z small; fit = R .sheet .fit; linked = linked b R; in-use = bits b R z } in
+          ap₂ (λ (i v : ℕ). listed i (first n v ws ms)) z width ∙ ap (listed (b .n)) (made .value b L s e C)
+
+  -- ---- a letter alone
+  pub alone-asks : (l : ℕ) (s links code after : List ℕ) (t w : ℕ) → w ≡ rowWidth n → n ≤ maxRecords → 32 * (n * w) ≤ work
+      → ((b : Book) → Represents r b → Linked links (b .sheet)) → Coded s e code → Alone l code
+      → LetterListed links l before after t → AsksRowsFor r (accepted e) work before after (Pairs t)
+  alone-asks l s links code after t w width small h linked C A T =
+      let ps : List ℕ = map linkPair (T .part) in
+      let H : Handed ps before after (Pairs t) =
+      subst (λ (k : ℕ). Handed ps before after (Pairs k)) (sym (T .total)) (handed (T .written ∙ first-over ps before)) in
+      record {
+        past = handed-past H;
+        unchanged = λ k q. handed-some H k q;
+        caused = λ k q. handed-some H k q;
+        book = λ b R.
+            let z : n ≡ b .n = size b R in
+            let few : b .n ≤ maxRecords = subst (λ (i : ℕ). i ≤ maxRecords) z small in
+            let u = some-used b few in
+            let L : Lettered b n links (u .0) = record { size = z; small = few; fit = R .sheet .fit; linked = linked b R; in-use = u .1 } in
+            rows-handed b e work (subst (λ (i : ℕ). rowsWork i ≤ work) z (subst (λ (v : ℕ). 32 * (n * v) ≤ work) width h))
+            (subst (λ (x : List ℕ). Handed x before after (Pairs t)) (letter-listed b n links (u .0) L l (T .part) (T .of-label) s e code C A) H);
+      }
+
+pub same-verdict : (r : Register) (v : Verdict) (e : Expr) (work : ℕ) (before after : List ℕ) (a : PairsAnswer)
+    → v ≡ accepted e → AsksRowsFor r (accepted e) work before after a → AsksRowsFor r v work before after a
+same-verdict r v e work before after a d A = subst (λ (w : Verdict). AsksRowsFor r w work before after a) (sym d) A

@@ -1,0 +1,205 @@
+-- One number of the code, in plain variables: where relations lie in the work, and what an item does to those that wait.
+--   width-le, unit-le  a row has at most 16 words, a relation at most 16,384
+--   start-le, mark-le, space, list-space
+--                      what an item and the list are lent: at most 18 relations stand before, and there is room
+--   rest, part-length  the part that is lent is the rest, and its length
+--   goes-step          what the operation left at the front of the parts is the relation at the place of its first operand, and those below stay as they were
+--   lent-space, goes-part
+--                      the same with the words of a row as a number, and the parts as they are lent
+-- Assumes nothing.
+use mathlib.Core.Path.{_≡_, refl, sym, ap, ap₂, _∙_, subst}
+use mathlib.Core.List.{List, _∷_, _++_, append-nil}
+use Prim.Native.Nat.{ℕ, zero, suc, _+_, _-_, _*_, _/_, _%_, _<_, _≤_, min}
+use native.Mathlib.Nat.{mul-le-mul, mul-le-mul-right, suc-mul}
+use native.Mathlib.Omega.{arith}
+use lib.ListN.{length, take, drop, getD, length-drop}
+use lib.Seq.{drop-at, drop-drop, length-take-le, drop-length, take-all, getD-take, getD-drop}
+use borrow.Rule.Slice.PartMut.{putMid, take-put, mid-len}
+use Rattle.book.specs.Book.{Book}
+use Rattle.book.specs.Causes.{maxRecords}
+use Rattle.k2.specs.Bits.{digit}
+use Rattle.k2.specs.PairSets.{Cells}
+use Rattle.paths.specs.Chains.{Graph, asked}
+use Rattle.reader.specs.declared.items.Item.{Item}
+use Rattle.reader.specs.declared.items.Item.the-variants.{Letters, Inverse, Star, Plus, Optional, Alternative, Sequence}
+use Rattle.reader.specs.Code.{does}
+use Rattle.reader.specs.Running.{operands}
+use Rattle.grid.specs.Grid.{rowOf, firstRows, first, second}
+use Rattle.grid.specs.GridLaws.{within-same, second-part}
+use Rattle.pairs.specs.Evaluation.{relations}
+use Rattle.pairs.specs.Steps.{Lettered}
+use Rattle.rowpairs.specs.Asking.{rowWidth}
+use Rattle.rowpairs.specs.Evaluation.{Space, Lent, outcomeOf, Operates, relationAt, lying, Goes}
+
+-- ---- sizes
+product-le : (k m d : ℕ) → k ≤ m → k * d ≤ m * d
+product-le k m d h = mul-le-mul-right d h
+
+next-le : (k m d : ℕ) → k < m → k * d + d ≤ m * d
+next-le k m d h = omega (arith, suc-mul k d, product-le (suc k) m d h)
+
+pub width-le : (n : ℕ) → n ≤ maxRecords → rowWidth n ≤ 16
+width-le n h = omega arith
+
+width-wide : (n : ℕ) → n ≤ rowWidth n * 64
+width-wide n = omega arith
+
+-- a relation has a row's words at least, and 16,384 at most
+width-unit : (n : ℕ) → rowWidth n ≤ n * rowWidth n
+width-unit zero = omega arith
+width-unit (suc n) = omega (arith, suc-mul n (rowWidth (suc n)))
+
+pub unit-le : (n : ℕ) → n ≤ maxRecords → n * rowWidth n ≤ 16384
+unit-le n h = mul-le-mul {n₂ = 1024} {m₂ = 16} h (width-le n h)
+
+-- ---- what an item is lent: the part that begins with its operands, of which 18 relations at most stand before
+module _ (n k cells masks : ℕ) (L : Lent n cells masks) (early : k ≤ 18) where
+  pub start-le : k * (n * rowWidth n) ≤ 18 * (n * rowWidth n)
+  start-le = product-le k 18 (n * rowWidth n) early
+
+  pub mark-le : k * n ≤ 18 * n
+  mark-le = product-le k 18 n early
+
+  pub space : Space n (rowWidth n) (cells - k * (n * rowWidth n)) (masks - k * n)
+  space = record {
+    small = L .small;
+    narrow = width-le n (L .small);
+    wide = width-wide n;
+    words = omega (arith, start-le, L .words, width-unit n);
+    marks = omega (arith, mark-le, L .marks);
+  }
+
+-- what the list is lent
+pub list-space : (n w cells masks : ℕ) → w ≡ rowWidth n → n ≤ maxRecords → 32 * (n * w) ≤ cells → 20 * n < masks
+    → (n ≤ 1024) × (w ≤ 16) × (n ≤ w * 64) × (n * w ≤ cells) × (n ≤ masks)
+list-space n w cells masks e h l m = (h, rw e (width-le n h), rw e (width-wide n), omega arith, omega arith)
+
+-- ---- a slice with a part of it, from a place on, changed
+module _ (xs part : List ℕ) (start : ℕ) (h : start ≤ length xs) where
+  abbrev changed : List ℕ
+  changed = putMid start (length xs - start) xs part
+
+  front : (i : ℕ) → i < start → getD changed i 0 ≡ getD xs i 0
+  front i l = sym (getD-take start changed i 0 l) ∙ ap (λ (l : List ℕ). getD l i 0) (take-put start (length xs - start) xs part h) ∙ getD-take start xs i 0 l
+
+  back : drop start changed ≡ part
+  back =
+      drop-at (take start xs) (part ++ drop (length xs - start) (drop start xs)) start (length-take-le start xs h)
+      ∙ ap (λ (l : List ℕ). part ++ l) (drop-drop (length xs - start) start xs ∙ ap (λ (k : ℕ). drop k xs) (let e : start + (length xs - start) ≡ length xs =
+      omega arith in e) ∙ drop-length xs)
+      ∙ append-nil part
+
+-- the part that is lent is the rest
+pub rest : (xs : List ℕ) (start : ℕ) → take (length xs - start) (drop start xs) ≡ drop start xs
+rest xs start = take-all (length xs - start) (drop start xs) (rw (length-drop start xs) (omega arith))
+
+-- its length
+pub part-length : (xs : List ℕ) (start : ℕ) → length (take (length xs - start) (drop start xs)) ≡ length xs - start
+part-length xs start = mid-len start (length xs) xs (omega arith)
+
+-- ---- relations that lie below what has changed are as they were
+module _ (n : ℕ) (ws ws′ ms ms′ : List ℕ) (k : ℕ) (same : (i : ℕ) → i < k * (n * rowWidth n) → getD ws′ i 0 ≡ getD ws i 0)
+    (marks : (i : ℕ) → i < k * n → getD ms′ i 0 ≡ getD ms i 0) where
+  relation-kept : (j : ℕ) → j < k → relationAt n ws′ ms′ j ≡ relationAt n ws ms j
+  unfolding relationAt firstRows rowOf
+  relation-kept j h = within-same n (rows ws′ ms′) (rows ws ms) cell
+    where
+      rows : List ℕ → List ℕ → Cells
+      rows l m = firstRows (rowWidth n) (drop (j * (n * rowWidth n)) l) (drop (j * n) m)
+
+      cell : (x y : ℕ) → x < n → y < n → rows ws′ ms′ x y ≡ rows ws ms x y
+      cell x y a b =
+          let c : y / 64 < rowWidth n = omega (arith, width-wide n) in
+          let p : j * (n * rowWidth n) + (x * rowWidth n + y / 64) < k * (n * rowWidth n) =
+          omega (arith, next-le x n (rowWidth n) a, next-le j k (n * rowWidth n) h) in
+          let q : j * n + x < k * n = omega (arith, next-le j k n h) in
+          ap₂ (λ (d v : ℕ). min (digit d (y / 64)) (digit v (y % 64)))
+          (getD-drop (j * n) ms′ x 0 ∙ marks (j * n + x) q ∙ sym (getD-drop (j * n) ms x 0))
+          (getD-drop (j * (n * rowWidth n)) ws′ (x * rowWidth n + y / 64) 0 ∙ same _ p ∙ sym (getD-drop (j * (n * rowWidth n)) ws (x * rowWidth n + y / 64) 0))
+
+  lying-kept : (j : ℕ) → j ≤ k → lying n ws′ ms′ j ≡ lying n ws ms j
+  unfolding lying
+  lying-kept zero h = refl
+  lying-kept (suc j) h = ap₂ (λ (a : Cells) (st : List Cells). a ∷ st) (relation-kept j h) (lying-kept j (omega arith))
+
+-- ---- what an item does to the relations that lie in the work
+module _ (n : ℕ) (ws ms : List ℕ) (k : ℕ) where
+  -- the second operand is the relation at the next place
+  second-at : second n (rowWidth n) (drop (k * (n * rowWidth n)) ws) (drop (k * n) ms) ≡ relationAt n ws ms (suc k)
+  unfolding relationAt
+  second-at =
+      sym (second-part n (rowWidth n) (drop (k * (n * rowWidth n)) ws) (drop (k * n) ms))
+      ∙ ap₂ (λ (l m : List ℕ). first n (rowWidth n) l m)
+      (drop-drop (n * rowWidth n) (k * (n * rowWidth n)) ws ∙ ap (λ (i : ℕ). drop i ws) (sym (suc-mul k (n * rowWidth n))))
+      (drop-drop n (k * n) ms ∙ ap (λ (i : ℕ). drop i ms) (sym (suc-mul k n)))
+
+  does-lying : (g : Graph) (y : Item) (m : ℕ) → m ≡ k + operands y
+      → does (relations g) y (lying n ws ms m) ≡ outcomeOf g y (relationAt n ws ms k) (relationAt n ws ms (suc k)) ∷ lying n ws ms k
+  unfolding does relations outcomeOf lying
+  does-lying g (Letters forward against) m e = ap (λ (i : ℕ). does (relations g) (Letters forward against) (lying n ws ms i)) (let z : m ≡ k = omega arith in z)
+  does-lying g Inverse m e = ap (λ (i : ℕ). does (relations g) Inverse (lying n ws ms i)) (let z : m ≡ suc k = omega arith in z)
+  does-lying g Star m e = ap (λ (i : ℕ). does (relations g) Star (lying n ws ms i)) (let z : m ≡ suc k = omega arith in z)
+  does-lying g Plus m e = ap (λ (i : ℕ). does (relations g) Plus (lying n ws ms i)) (let z : m ≡ suc k = omega arith in z)
+  does-lying g Optional m e = ap (λ (i : ℕ). does (relations g) Optional (lying n ws ms i)) (let z : m ≡ suc k = omega arith in z)
+  does-lying g Alternative m e = ap (λ (i : ℕ). does (relations g) Alternative (lying n ws ms i)) (let z : m ≡ suc (suc k) = omega arith in z)
+  does-lying g Sequence m e = ap (λ (i : ℕ). does (relations g) Sequence (lying n ws ms i)) (let z : m ≡ suc (suc k) = omega arith in z)
+
+-- ---- one number: what the operation left at the front of the parts is the relation at the place of its first operand
+module _ (n : ℕ) (links used : List ℕ) (y : Item) (ws part ms marks : List ℕ) (m k : ℕ) (is : m ≡ k + operands y)
+    (a : k * (n * rowWidth n) ≤ length ws) (b : k * n ≤ length ms)
+    (made : (book : Book) → Lettered book n links used → first n (rowWidth n) part marks
+    ≡ outcomeOf (asked book) y (first n (rowWidth n) (drop (k * (n * rowWidth n)) ws) (drop (k * n) ms))
+    (second n (rowWidth n) (drop (k * (n * rowWidth n)) ws) (drop (k * n) ms))) where
+  abbrev ws′ : List ℕ
+  ws′ = changed ws part (k * (n * rowWidth n)) a
+
+  abbrev ms′ : List ℕ
+  ms′ = changed ms marks (k * n) b
+
+  at-place : relationAt n ws′ ms′ k ≡ first n (rowWidth n) part marks
+  unfolding relationAt
+  at-place = ap₂ (λ (l m : List ℕ). first n (rowWidth n) l m) (back ws part (k * (n * rowWidth n)) a) (back ms marks (k * n) b)
+
+  pub goes-step : Goes n links used y ws ws′ ms ms′ m (k + 1)
+  unfolding lying relationAt
+  goes-step = record {
+    count = omega arith;
+    value = λ book L.
+        let g : Graph = asked book in
+        let below : lying n ws′ ms′ k ≡ lying n ws ms k =
+        lying-kept n ws ws′ ms ms′ k (front ws part (k * (n * rowWidth n)) a) (front ms marks (k * n) b) k (omega arith) in
+        let top : relationAt n ws′ ms′ k ≡ outcomeOf g y (relationAt n ws ms k) (relationAt n ws ms (suc k)) =
+        at-place ∙ made book L ∙ ap (outcomeOf g y (relationAt n ws ms k)) (second-at n ws ms k) in
+        let more : k + 1 ≡ suc k = omega arith in
+        does-lying n ws ms k g y m is
+        ∙ ap₂ (λ (x : Cells) (st : List Cells). x ∷ st) (sym top) (sym below)
+        ∙ ap (λ (i : ℕ). lying n ws′ ms′ i) (sym more);
+  }
+
+-- ---- the same with the words of a row as a number, and the parts as they are lent
+pub lent-space : (n k w : ℕ) (ws ms : List ℕ) → w ≡ rowWidth n → Lent n (length ws) (length ms) → k ≤ 18
+    → Space n w (length (take (length ws - k * (n * w)) (drop (k * (n * w)) ws))) (length (take (length ms - k * n) (drop (k * n) ms)))
+lent-space n k w ws ms e L h =
+    subst (λ (v : ℕ). Space n v (length (take (length ws - k * (n * v)) (drop (k * (n * v)) ws))) (length (take (length ms - k * n) (drop (k * n) ms)))) (sym e)
+    (subst (λ (i : ℕ). Space n (rowWidth n) i (length (take (length ms - k * n) (drop (k * n) ms)))) (sym (part-length ws (k * (n * rowWidth n))))
+    (subst (λ (i : ℕ). Space n (rowWidth n) (length ws - k * (n * rowWidth n)) i) (sym (part-length ms (k * n))) (space n k (length ws) (length ms) L h)))
+
+pub goes-part : (n : ℕ) (links used : List ℕ) (y : Item) (ws part ms marks : List ℕ) (m k w : ℕ)
+    → w ≡ rowWidth n → m ≡ k + operands y → Lent n (length ws) (length ms) → k ≤ 18
+    → Operates n w links used y (take (length ws - k * (n * w)) (drop (k * (n * w)) ws)) part (take (length ms - k * n) (drop (k * n) ms)) marks
+    → Goes n links used y ws (putMid (k * (n * w)) (length ws - k * (n * w)) ws part) ms (putMid (k * n) (length ms - k * n) ms marks) m (k + 1)
+goes-part n links used y ws part ms marks m k w e is L h made =
+    subst (λ (v : ℕ). Operates n v links used y (take (length ws - k * (n * v)) (drop (k * (n * v)) ws)) part (take (length ms - k * n) (drop (k * n) ms)) marks
+    → Goes n links used y ws (putMid (k * (n * v)) (length ws - k * (n * v)) ws part)
+    ms (putMid (k * n) (length ms - k * n) ms marks) m (k + 1)) (sym e) whole made
+  where
+    whole : Operates n (rowWidth n) links used y (take (length ws - k * (n * rowWidth n)) (drop (k * (n * rowWidth n)) ws))
+        part (take (length ms - k * n) (drop (k * n) ms)) marks
+        → Goes n links used y ws (putMid (k * (n * rowWidth n)) (length ws - k * (n * rowWidth n)) ws part)
+        ms (putMid (k * n) (length ms - k * n) ms marks) m (k + 1)
+    whole o =
+        goes-step n links used y ws part ms marks m k is
+        (omega (arith, start-le n k (length ws) (length ms) L h, L .words)) (omega (arith, mark-le n k (length ws) (length ms) L h, L .marks))
+        (subst (λ (l : List ℕ). Operates n (rowWidth n) links used y (drop (k * (n * rowWidth n)) ws) part l marks) (rest ms (k * n))
+        (subst (λ (l : List ℕ). Operates n (rowWidth n) links used y l part (take (length ms - k * n) (drop (k * n) ms)) marks)
+        (rest ws (k * (n * rowWidth n))) o))
