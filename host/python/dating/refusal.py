@@ -55,7 +55,7 @@ _MEANINGS = {
     Cause.LIMITS: "the expression is over 256 bytes, 63 letters or 8 deep",
     Cause.TREE: "the tree is not well formed",
     Cause.WORK: "the work is shorter than stated",
-    Cause.LIST: "the chain, the loop, the tree, the numbers, the offsets or the pages are longer than the space for them",
+    Cause.LIST: "the chain, the loop, the tree, the numbers, the records, the offsets or the pages are longer than the space for them",
     Cause.FRAME: "the frame is broken, or the bytes are not the pages of the expression",
     Cause.KIND: "the kind is unknown",
     Cause.NOT_OPENED: "no register is opened: the words are not those of a register",
