@@ -1,4 +1,5 @@
 -- What `inquire` promises: a history and the questions after it, made by one function; and what any calls gave, of which demand 3 is a theorem.
+--   AskedBy d r q   the register r was asked the pair question q by the engine d
 --   Gave r t        the register r at the end of a history gave, read and asked, what the transcript t says (DemandLaws `demand-3`)
 --   linksShown r    the words of the links that an inquiry shows
 --   Unasked k heard lists p c r
@@ -28,16 +29,21 @@ use Rattle.register.specs.declared.Register.{Register}
 use Rattle.register.specs.declared.Links.{Links}
 use Rattle.pairs.specs.Asking.{BookPairs, AsksPairs}
 use Rattle.pairs.specs.declared.PairsAnswer.the-variants.{Refused}
+use Rattle.rowpairs.specs.Asking.{AsksRows}
 use Rattle.chains.specs.Replies.{BookReplies, Replies}
 use Rattle.chains.specs.declared.ChainAnswer.the-variants.{Refused as Unanswered}
-use Rattle.engine.specs.Demand.{PairsAsked, ChainAsked, Transcript, Demand}
+use Rattle.engine.specs.Demand.{Engine, by-trees, by-rows, PairsAsked, ChainAsked, Transcript, Demand}
 use Rattle.engine.specs.declared.Inquiry.{Inquiry}
+
+abbrev pub AskedBy : Engine → Register → PairsAsked → Type 0
+AskedBy by-trees r q = AsksPairs r (q .text) (q .work) (q .before) (q .after) (q .answer)
+AskedBy by-rows r q = AsksRows r (q .text) (q .work) (q .before) (q .after) (q .answer)
 
 pub record Gave (r : Register) (t : Transcript) : Type 0 where
   pub links : (ls : Links) × Listing r ls × (t .links ≡ take (ls .count) (ls .words))
   pub marks : MarkList r (t .marks)
   pub totals : TotalList r (t .totals)
-  pub pairs : AsksPairs r (t .pairs .text) (t .pairs .work) (t .pairs .before) (t .pairs .after) (t .pairs .answer)
+  pub pairs : AskedBy (t .pairs .engine) r (t .pairs)
   pub chain : Replies r (t .chain .from) (t .chain .to) (t .chain .text) (t .chain .work) (t .chain .before) (t .chain .after) (t .chain .answer)
 
 abbrev pub linksShown : Inquiry → List ℕ

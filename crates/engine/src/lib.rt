@@ -14,6 +14,7 @@ ghost use Rattle.register.specs.Questions.{Sized, Listing, Locking, Withdrawal,
 ghost use Rattle.pairs.specs.Asking.{AsksPairs, Relates};
 ghost use Rattle.rowpairs.specs.Asking.{AsksRows};
 ghost use Rattle.chains.specs.Replies.{Replies};
+ghost use Rattle.engine.specs.Demand.{by-trees};
 ghost use Rattle.engine.specs.Inquiries.{Inquires};
 use chains::ChainAnswer;
 use pairs::PairsAnswer;
@@ -284,7 +285,14 @@ pub fn inquire(
 ) -> Inquiry
     ensures { λ r. ⌜ Inquires n (now (calls .entry)) (record { before = now (told .entry); after = now (told .exit) })
         (record { before = now (numbers .entry); after = now (numbers .exit) })
-        (record { text = now (text .entry); work = length (now (work .entry)); before = now (list .entry); after = now (list .exit); answer = r .pairs })
+        (record {
+          engine = by-trees;
+          text = now (text .entry);
+          work = length (now (work .entry));
+          before = now (list .entry);
+          after = now (list .exit);
+          answer = r .pairs;
+        })
         (record {
           from = ends .from;
           to = ends .to;
