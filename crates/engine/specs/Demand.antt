@@ -3,7 +3,7 @@
 --   PairsAsked           a pair question: its engine, its text, how many words of work were lent, the list as it was and as it is then, and the answer
 --   ChainAsked           a chain question: from, to, and the same but for the engine
 --   Transcript           a history and the questions after it: n, the calls, the number told to each, the list that each closing up was lent, at the end the
---                        words of the links, the mark of each record (register `Marks`) and the total of each label, and the two questions asked then
+--                        number of records, the words of the links, the mark of each record (register `Marks`) and the total of each label, and the two questions asked then
 --   bookAfter i          the plain book after the calls of i, from a fresh one
 --   workFor d n          the words of work that the engine d needs for n records
 --   PairsAccepted b q e  the pair question q about the book b is accepted: its text is the expression e, and work is enough
@@ -15,7 +15,7 @@
 --                        is handed out with the number of its steps, if the list takes it; none is said exactly if there is no chain of any length
 --   FirstHanded b e q k  a chain of k steps is handed out: the first of all chains, in the list's first words, and past them what they were
 --   ChainClaim b q       so for every accepted chain question; and a chain that is handed out, whatever was lent, is the first one of the text's expression
---   Demand i             answers, the lists that closings up gave, links, locks, withdrawn records, totals and both questions are those of the plain book
+--   Demand i             answers, the lists that closings up gave, n, links, locks, withdrawn records, totals and both questions are those of the plain book
 -- Assumes nothing: these are definitions.
 use mathlib.Core.Path.{_≡_}
 use mathlib.Core.List.{List}
@@ -65,6 +65,7 @@ pub record Transcript : Type 0 where
   pub calls : List Call
   pub told : List ℕ
   pub lists : List Lent
+  pub size : ℕ
   pub links : List ℕ
   pub marks : List ℕ
   pub totals : List ℕ
@@ -118,6 +119,7 @@ pub record ChainClaim (b : Book) (q : ChainAsked) : Type 0 where
 pub record Demand (i : Transcript) : Type 0 where
   pub answers : i .told ≡ answers (fresh (i .n)) (i .calls)
   pub givens : Gives (givens (fresh (i .n)) (i .calls)) (i .lists)
+  pub size : i .size ≡ bookAfter i .n
   pub links : Linked (i .links) (bookAfter i .sheet)
   pub locks : (r : ℕ) → hasMark lockMark (i .marks) r ≡ isLocked (bookAfter i .sheet) r
   pub withdrawn : (r : ℕ) → hasMark withdrawnMark (i .marks) r ≡ isWithdrawn (bookAfter i .sheet) r

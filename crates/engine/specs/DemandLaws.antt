@@ -295,6 +295,7 @@ module _ {r : Register} (i : Transcript) (G : Gave r i) where
       record {
         answers = a;
         givens = g;
+        size = G .size .size (bookAfter i) R;
         links = subst (λ (ws : List ℕ). Linked ws (bookAfter i .sheet)) (sym (l .2)) (l .1 .linked (bookAfter i) R);
         locks = G .marks .locked (bookAfter i) R;
         withdrawn = G .marks .withdrawn (bookAfter i) R;

@@ -3,7 +3,7 @@
 --   Gave r t        the register r at the end of a history gave, read and asked, what the transcript t says (DemandLaws `demand-3`)
 --   linksShown r    the words of the links that an inquiry shows
 --   Unasked k heard lists p c r
---                   the history was refused with the number k, and no question asked: both are told that number, every list is as it was, and no link, no
+--                   the history was refused with the number k, and no question asked: both are told that number, every list is as it was, and no record, no link, no
 --                   lock, no withdrawn record and no total but 0 is shown
 --   Inquired n words heard lists p c r
 --                   the history was made: each word's number stands in the list `heard`, whose words past them are as they were; the list of each closing
@@ -24,7 +24,7 @@ use Rattle.paths.specs.Verdicts.{verdict}
 use Rattle.register.specs.Calls.{answerOf}
 use Rattle.register.specs.History.{Lent, wordAnswers, callsOf, toldCalls, closings, laid, parts, replayNumber}
 use Rattle.register.specs.Marks.{lockMark, withdrawnMark, hasMark}
-use Rattle.register.specs.Questions.{Listing, MarkList, TotalList}
+use Rattle.register.specs.Questions.{Sized, Listing, MarkList, TotalList}
 use Rattle.register.specs.declared.Register.{Register}
 use Rattle.register.specs.declared.Links.{Links}
 use Rattle.pairs.specs.Asking.{BookPairs, AsksPairs}
@@ -40,6 +40,7 @@ AskedBy by-trees r q = AsksPairs r (q .text) (q .work) (q .before) (q .after) (q
 AskedBy by-rows r q = AsksRows r (q .text) (q .work) (q .before) (q .after) (q .answer)
 
 pub record Gave (r : Register) (t : Transcript) : Type 0 where
+  pub size : Sized r (t .size)
   pub links : (ls : Links) × Listing r ls × (t .links ≡ take (ls .count) (ls .words))
   pub marks : MarkList r (t .marks)
   pub totals : TotalList r (t .totals)
@@ -56,6 +57,7 @@ pub record Unasked (k : ℕ) (heard lists : Lent) (p : PairsAsked) (c : ChainAsk
   pub given : lists .after ≡ lists .before
   pub list : p .after ≡ p .before
   pub steps : c .after ≡ c .before
+  pub size : r .size ≡ 0
   pub links : linksShown r ≡ []
   pub locks : (x : ℕ) → hasMark lockMark (r .marks) x ≡ false
   pub withdrawn : (x : ℕ) → hasMark withdrawnMark (r .marks) x ≡ false
@@ -71,6 +73,7 @@ pub record Inquired (n : ℕ) (words : List ℕ) (heard lists : Lent) (p : Pairs
     calls = callsOf words;
     told = toldCalls words (heard .after);
     lists = parts (closings (callsOf words)) lists;
+    size = r .size;
     links = linksShown r;
     marks = r .marks;
     totals = r .totals;

@@ -257,6 +257,7 @@ pub fn tree_closure(n: usize, a: &[u64], out: &mut [u64], work: &mut [u64]) -> t
 // What a history and the questions asked after it gave.
 pub struct Inquiry {
     pub answer: Answer,
+    pub size: usize,
     pub links: Links,
     pub marks: [u32; book::MAX_RECORDS],
     pub totals: [u32; book::LABELS],
@@ -309,12 +310,14 @@ pub fn inquire(
     let answer = opened.answer;
     let register = opened.register;
     let number = register::number_of(answer);
+    let size = register.size();
     let links = register.links();
     let marks = register.marks();
     let totals = register.totals();
     if number != 0 {
         return Inquiry {
             answer,
+            size,
             links,
             marks,
             totals,
@@ -326,6 +329,7 @@ pub fn inquire(
     let chain = chains::chain(register, from, to, text, work, steps);
     Inquiry {
         answer,
+        size,
         links,
         marks,
         totals,
