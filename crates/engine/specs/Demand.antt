@@ -3,7 +3,8 @@
 --   PairsAsked           a pair question: its engine, its text, how many words of work were lent, the list as it was and as it is then, and the answer
 --   ChainAsked           a chain question: from, to, and the same but for the engine
 --   Transcript           a history and the questions after it: n, the calls, the number told to each, the list that each closing up was lent, at the end the
---                        number of records, the words of the links, the mark of each record (register `Marks`) and the total of each label, and the two questions asked then
+--                        number of records, the words of the links, the mark of each record (register `Marks`) and the total of each label, and
+--                        the two questions asked then
 --   bookAfter i          the plain book after the calls of i, from a fresh one
 --   workFor d n          the words of work that the engine d needs for n records
 --   PairsAccepted b q e  the pair question q about the book b is accepted: its text is the expression e, and work is enough

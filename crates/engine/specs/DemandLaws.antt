@@ -1,6 +1,6 @@
 -- Demand 3: the theorem. It rests on what the calls promise and on nothing else of the engine.
---   pairs-claim, chain-claim
---                   what the questions promise gives what is claimed of them
+--   pairs-claim     what a pair question promises, of either engine, gives what is claimed of it
+--   chain-claim     what a chain question promises gives what is claimed of it
 --   claims          answers, lists given and register of the book are all that is needed
 --   demand-3        for every n from 1 to 1,024, every list of calls, and every question asked of the register at the end
 --   replayed-calls  what `replay` tells the calls among its words is what the book answers
@@ -268,7 +268,8 @@ chain-handed {r} {b} R q Q k p = go (some .0) refl (J .0) (subst (λ (v : Verdic
     go (chain ws) z e j c = ahead e j ws (came .1 ∙ sym z) (subst (ChainIs (asked b) e (q .from) (q .to)) (sym z) c)
         (written ∙ ap (λ (t : Reply). listAfter (replied t) (q .before)) (sym z))
       where
-        ahead : (e : Expr) → Judged (q .text) (accepted e) → (ws : List ℕ) → chain (take k (q .after)) ≡ chain ws → ChainIs (asked b) e (q .from) (q .to) (chain ws)
+        ahead : (e : Expr) → Judged (q .text) (accepted e) → (ws : List ℕ)
+            → chain (take k (q .after)) ≡ chain ws → ChainIs (asked b) e (q .from) (q .to) (chain ws)
             → q .after ≡ listAfter (replied (chain ws)) (q .before) → (e : Expr) × Judged (q .text) (accepted e) × FirstHanded b e q k
         ahead e j ws s (first-chain ss F) l =
             let t : take k (q .after) ≡ stepWords ss = cc in

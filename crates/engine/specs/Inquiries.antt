@@ -3,8 +3,8 @@
 --   Gave r t        the register r at the end of a history gave, read and asked, what the transcript t says (DemandLaws `demand-3`)
 --   linksShown r    the words of the links that an inquiry shows
 --   Unasked k heard lists p c r
---                   the history was refused with the number k, and no question asked: both are told that number, every list is as it was, and no record, no link, no
---                   lock, no withdrawn record and no total but 0 is shown
+--                   the history was refused with the number k, and no question asked: both are told that number, every list is as it was, and no record, no
+--                   link, no lock, no withdrawn record and no total but 0 is shown
 --   Inquired n words heard lists p c r
 --                   the history was made: each word's number stands in the list `heard`, whose words past them are as they were; the list of each closing
 --                   up in its 1,024 words of `lists`; both questions are answered as the plain book answers them, refusals too; and demand 3, of the
