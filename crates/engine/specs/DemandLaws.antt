@@ -1,6 +1,6 @@
 -- Demand 3: the theorem. It rests on what the calls promise and on nothing else of the engine.
---   pairs-claim, chain-claim
---                   what the questions promise gives what is claimed of them
+--   pairs-claim     what a pair question promises, of either engine, gives what is claimed of it
+--   chain-claim     what a chain question promises gives what is claimed of it
 --   claims          answers, lists given and register of the book are all that is needed
 --   demand-3        for every n from 1 to 1,024, every list of calls, and every question asked of the register at the end
 --   replayed-calls  what `replay` tells the calls among its words is what the book answers
@@ -8,23 +8,26 @@
 -- Assumes nothing.
 use mathlib.Core.Path.{_≡_, refl, sym, ap, _∙_, subst}
 use mathlib.Core.List.{List, [], _∷_, _++_}
-use mathlib.Core.Bool.{true, false}
+use mathlib.Core.Bool.{Bool, true, false, _||_}
 use Prim.Native.Nat.{ℕ, zero, suc, _+_, _*_, _≤_, _<_}
 use native.Mathlib.Omega.{arith}
 use lib.ListN.{length, take, drop, length-append, length-drop}
 use lib.Seq.{length-take-le}
-use borrow.Author.Tests.{lt-leb, le-ltb}
+use lib.Dec.{leb, ltb}
+use borrow.Author.Tests.{lt-leb, le-ltb, ltb-false}
 use Rattle.book.specs.Basics.{pick, bit, here, has}
-use Rattle.book.specs.Causes.{number, firstNumber, maxRecords}
+use Rattle.book.specs.Causes.{number, short-work, too-many-bytes, no-expression, too-large, firstNumber, maxRecords}
 use Rattle.book.specs.Book.{Book, fresh, answers, givens, freshAnswer}
 use Rattle.paths.specs.Expressions.{Expr}
-use Rattle.paths.specs.Grammar.{Verdict, accepted, Judged, verdictCause}
+use Rattle.paths.specs.Grammar.{Verdict, accepted, long, outside, large, Judged, verdictCause}
 use Rattle.paths.specs.Chains.{asked, Step, stepWords, Answers, First, Reply, none, chain, ChainIs, no-chain, first-chain}
 use Rattle.paths.specs.Relations.{pairs}
 use Rattle.paths.specs.PairLaws.{fit-inside, pairs-are, first-part}
 use Rattle.paths.specs.FirstChainLaws.{has-first}
-use Rattle.paths.specs.Verdicts.{verdict, verdict-only}
-use Rattle.paths.specs.Questions.{Outcome, paired, replied, unless, chainWork, ReplyTo, steps, chainCauses, chainAnswer, pairsAnswer, over, listAfter}
+use Rattle.paths.specs.GraphLaws.{some-reply}
+use Rattle.paths.specs.Verdicts.{verdict, verdict-right, verdict-only}
+use Rattle.paths.specs.Questions.{Outcome, refused, paired, replied, unless, pairsWork, chainWork, pairsOf, ReplyTo, steps, chainCauses, chainAnswer}
+use Rattle.paths.specs.Questions.{pairsCauses, pairsAnswer, over, listAfter}
 use Rattle.register.specs.Links.{Linked}
 use Rattle.register.specs.Representation.{Represents}
 use Rattle.register.specs.Calls.{Opens}
@@ -32,16 +35,17 @@ use Rattle.register.specs.History.{Gives, CallsMade, wordCall, wordAnswers, isC
 use Rattle.register.specs.HistoryLaws.{history, word-answers-length, told-calls}
 use Rattle.register.specs.declared.Register.{Register}
 use Rattle.register.specs.declared.Outcome.{Outcome as Told}
-use Rattle.pairs.specs.Asking.{Tells, told-number, told-pairs, AsksPairs}
-use Rattle.pairs.specs.AskingLaws.{asks-paired}
+use Rattle.pairs.specs.Asking.{Tells, told-number, told-pairs}
+use Rattle.rowpairs.specs.Asking.{rowsWork, rowsCauses, rowsAnswer}
 use Rattle.pairs.specs.declared.PairsAnswer.{PairsAnswer}
 use Rattle.pairs.specs.declared.PairsAnswer.the-variants.{Pairs}
 use Rattle.automaton.specs.WalkLaws.{length-stepWords}
 use Rattle.chains.specs.Replies.{outcomeOf, stepsLength, Replies}
 use Rattle.chains.specs.declared.ChainAnswer.{ChainAnswer}
 use Rattle.chains.specs.declared.ChainAnswer.the-variants.{Chain, NoChain, Refused as NotAnswered}
-use Rattle.engine.specs.Inquiries.{Gave}
-use Rattle.engine.specs.Demand.{PairsAsked, ChainAsked, Transcript, bookAfter, PairsClaim, ChainClaim, Demand}
+use Rattle.engine.specs.Inquiries.{AskedBy, Gave}
+use Rattle.engine.specs.Demand.{Engine, by-trees, by-rows, PairsAsked, ChainAsked, Transcript, bookAfter, workFor}
+use Rattle.engine.specs.Demand.{PairsSay, PairsClaim, FirstHanded, ChainClaim, Demand}
 
 -- what a register shows lies within its records
 small : {e : Register} {b : Book} → Represents e b → b .n ≤ 1024
@@ -52,22 +56,83 @@ told-as : {o : Outcome} {a : PairsAnswer} (total : ℕ) (ws : List ℕ) → Tell
 told-as total ws (told-number {k}) e = absurd (let z : _≡_ {A = ℕ} 0 1 = cc in omega arith)
 told-as total ws (told-pairs {total = k}) e = let z : k ≡ total = cc in ap Pairs z
 
-pub pairs-claim : {r : Register} {b : Book} → Represents r b → (q : PairsAsked)
-    → AsksPairs r (q .text) (q .work) (q .before) (q .after) (q .answer) → PairsClaim b q
-unfolding listAfter asked
-pairs-claim {r} {b} R q Q e A =
-    let v : accepted e ≡ verdict (q .text) = verdict-only (A .expression) in
-    let l = pairs (asked b) e in
-    let are = pairs-are (asked b) (fit-inside b (R .sheet .fit)) (small R) e in
-    let room = length (q .before) in
-    let o : pairsAnswer b (verdict (q .text)) (q .work) room ≡ paired (length l) (take room l) =
-    ap (λ (u : Verdict). pairsAnswer b u (q .work) room) (sym v) ∙ asks-paired b (q .work) room e (A .work) in (
-      l,
-      are,
-      told-as (length l) (take room l) (Q .book b R .tells) o,
-      Q .book b R .list ∙ ap (λ (u : Outcome). listAfter u (q .before)) o,
-      λ w v. first-part room w v l (are .ascending),
-    )
+not-told : {o : Outcome} {a : PairsAnswer} (c k : ℕ) → Tells o a → o ≡ refused c → a ≡ Pairs k → ⊥
+not-told c k told-number e p = let z : _≡_ {A = ℕ} 0 1 = cc in omega arith
+not-told c k told-pairs e p = let z : _≡_ {A = ℕ} 0 1 = cc in omega arith
+
+-- what either engine answers, by the words of work that it needs
+abbrev outcomeFor : Book → Verdict → ℕ → ℕ → ℕ → Outcome
+outcomeFor b v need work room =
+    unless (firstNumber (verdictCause v ++ ((short-work, ltb work need) ∷ []))) (paired (length (pairsOf b v)) (take room (pairsOf b v)))
+
+tree-outcome : (b : Book) (v : Verdict) (work room : ℕ) → pairsAnswer b v work room ≡ outcomeFor b v (pairsWork (b .n)) work room
+unfolding pairsAnswer pairsCauses
+tree-outcome b v work room = refl
+
+row-outcome : (b : Book) (v : Verdict) (work room : ℕ) → rowsAnswer b v work room ≡ outcomeFor b v (rowsWork (b .n)) work room
+unfolding rowsAnswer rowsCauses
+row-outcome b v work room = refl
+
+module _ {r : Register} {b : Book} (R : Represents r b) (q : PairsAsked) (need : ℕ)
+    (T : Tells (outcomeFor b (verdict (q .text)) need (q .work) (length (q .before))) (q .answer))
+    (L : q .after ≡ listAfter (outcomeFor b (verdict (q .text)) need (q .work) (length (q .before))) (q .before)) where
+  pairs-say : (e : Expr) → Judged (q .text) (accepted e) → need ≤ q .work → PairsSay b e q
+  unfolding listAfter asked verdictCause firstNumber number pairsOf
+  pairs-say e J h =
+      let v : accepted e ≡ verdict (q .text) = verdict-only J in
+      let l = pairs (asked b) e in
+      let are = pairs-are (asked b) (fit-inside b (R .sheet .fit)) (small R) e in
+      let room = length (q .before) in
+      let p : outcomeFor b (accepted e) need (q .work) room ≡ paired (length l) (take room l) = rw (le-ltb (q .work) need h) in
+      let o : outcomeFor b (verdict (q .text)) need (q .work) room ≡ paired (length l) (take room l) =
+      ap (λ (u : Verdict). outcomeFor b u need (q .work) room) (sym v) ∙ p in (
+        l,
+        are,
+        told-as (length l) (take room l) T o,
+        L ∙ ap (λ (u : Outcome). listAfter u (q .before)) o,
+        λ w v. first-part room w v l (are .ascending),
+      )
+
+  pairs-handed : (k : ℕ) → q .answer ≡ Pairs k → (e : Expr) × Judged (q .text) (accepted e) × PairsSay b e q
+  unfolding verdictCause firstNumber number
+  pairs-handed k p = go (verdict (q .text)) refl
+    where
+      enough : (e : Expr) → verdict (q .text) ≡ accepted e → (t : Bool) → ltb (q .work) need ≡ t → need ≤ q .work
+      enough e v true t = absurd (not-told (number short-work) k T (ap (λ (u : Verdict). outcomeFor b u need (q .work) (length (q .before))) v ∙ rw t) p)
+      enough e v false t = ltb-false (q .work) need t
+
+      refused-as : (c : ℕ) → outcomeFor b (verdict (q .text)) need (q .work) (length (q .before)) ≡ refused c → ⊥
+      refused-as c o = not-told c k T o p
+
+      at : (u : Verdict) → verdict (q .text) ≡ u
+          → outcomeFor b (verdict (q .text)) need (q .work) (length (q .before)) ≡ outcomeFor b u need (q .work) (length (q .before))
+      at u v = ap (λ (u : Verdict). outcomeFor b u need (q .work) (length (q .before))) v
+
+      go : (u : Verdict) → verdict (q .text) ≡ u → (e : Expr) × Judged (q .text) (accepted e) × PairsSay b e q
+      go (accepted e) v =
+          let J : Judged (q .text) (accepted e) = subst (Judged (q .text)) v (verdict-right (q .text)) in
+          (e, J, pairs-say e J (enough e v (ltb (q .work) need) refl))
+      go long v = absurd (refused-as (number too-many-bytes) (at long v))
+      go outside v = absurd (refused-as (number no-expression) (at outside v))
+      go large v = absurd (refused-as (number too-large) (at large v))
+
+pub pairs-claim : {r : Register} {b : Book} → Represents r b → (q : PairsAsked) → AskedBy (q .engine) r q → PairsClaim b q
+pairs-claim {r} {b} R q Q = go (q .engine) refl Q
+  where
+    made : (need : ℕ) → need ≡ workFor (q .engine) (b .n) → Tells (outcomeFor b (verdict (q .text)) need (q .work) (length (q .before))) (q .answer)
+        → q .after ≡ listAfter (outcomeFor b (verdict (q .text)) need (q .work) (length (q .before))) (q .before) → PairsClaim b q
+    made need n T L =
+        record { says = λ e A. pairs-say R q need T L e (A .expression) (subst (λ (j : ℕ). j ≤ q .work) (sym n) (A .work)); handed = pairs-handed R q need T L }
+
+    go : (d : Engine) → q .engine ≡ d → AskedBy d r q → PairsClaim b q
+    go by-trees d Q =
+        let o = tree-outcome b (verdict (q .text)) (q .work) (length (q .before)) in
+        made (pairsWork (b .n)) (ap (λ (d : Engine). workFor d (b .n)) (sym d)) (subst (λ (u : Outcome). Tells u (q .answer)) o (Q .book b R .tells))
+        (Q .book b R .list ∙ ap (λ (u : Outcome). listAfter u (q .before)) o)
+    go by-rows d Q =
+        let o = row-outcome b (verdict (q .text)) (q .work) (length (q .before)) in
+        made (rowsWork (b .n)) (ap (λ (d : Engine). workFor d (b .n)) (sym d)) (subst (λ (u : Outcome). Tells u (q .answer)) o (Q .book b R .tells))
+        (Q .book b R .list ∙ ap (λ (u : Outcome). listAfter u (q .before)) o)
 
 -- ---- chain questions
 module _ {e : Register} {b : Book} (R : Represents e b) (x y : ℕ) (text : List ℕ) (work : ℕ)
@@ -145,13 +210,82 @@ module _ {e : Register} {b : Book} (R : Represents e b) (x y : ℕ) (text : List
       → (ss : List Step) × First (asked b) f x y ss × (length ss ≤ length before → (a ≡ Chain (length ss)) × (after′ ≡ over (stepWords ss) before))
   first-of ts A = let F = has-first (asked b) (fit-inside b (R .sheet .fit)) f x y (ts, A) in (F .0, F .1, λ h. first-handed (F .0) (F .1) h)
 
+-- a reply that comes is the one there is, and no cause was found
+come : (c : ℕ) (t u : Reply) → replied u ≡ unless c (replied t) → (c ≡ 0) × (u ≡ t)
+come zero t u o = (refl, cc)
+come (suc c) t u o = absurd (let z : _≡_ {A = ℕ} 0 1 = cc in omega arith)
+
+past-flag : (f : Bool) (k : ℕ) → pick f 2 k ≡ 0 → k ≡ 0
+past-flag true k e = absurd (omega arith)
+past-flag false k e = e
+
+-- with no cause, the text is an expression
+no-cause-read : (b : Book) (x y : ℕ) (v : Verdict) (t : Reply) (work room : ℕ) → firstNumber (chainCauses b x y v t work room) ≡ 0
+    → (e : Expr) × (v ≡ accepted e)
+unfolding chainCauses verdictCause firstNumber number
+no-cause-read b x y (accepted e) t work room c = (e, refl)
+no-cause-read b x y long t work room c = absurd (let z = past-flag (leb (b .n) x || leb (b .n) y) 10 c in omega arith)
+no-cause-read b x y outside t work room c = absurd (let z = past-flag (leb (b .n) x || leb (b .n) y) 9 c in omega arith)
+no-cause-read b x y large t work room c = absurd (let z = past-flag (leb (b .n) x || leb (b .n) y) 10 c in omega arith)
+
+-- the list's first words are the reply's steps, so they are as many as are told
+steps-told : (k : ℕ) (ws before after′ : List ℕ) → k ≤ length before → take k after′ ≡ ws → after′ ≡ over ws before → k ≡ length ws
+steps-told k ws before after′ h t l =
+    let d = length-drop (length ws) before in
+    let n = ap length l ∙ length-append ws (drop (length ws) before) in
+    sym (length-take-le k after′ (omega (arith, n, d))) ∙ ap length t
+
+chain-handed : {r : Register} {b : Book} → Represents r b → (q : ChainAsked)
+    → Replies r (q .from) (q .to) (q .text) (q .work) (q .before) (q .after) (q .answer) → (k : ℕ) → q .answer ≡ Chain k
+    → (e : Expr) × Judged (q .text) (accepted e) × FirstHanded b e q k
+unfolding outcomeOf stepsLength chainAnswer listAfter steps
+chain-handed {r} {b} R q Q k p = go (some .0) refl (J .0) (subst (λ (v : Verdict). Judged (q .text) v) (J .1) (verdict-right (q .text))) (some .1 (J .0) (J .1))
+  where
+    some : (t : Reply) × ReplyTo (asked b) (verdict (q .text)) (q .from) (q .to) t
+    some = some-reply (asked b) (fit-inside b (R .sheet .fit)) (verdict (q .text)) (q .from) (q .to)
+
+    causes : ℕ
+    causes = firstNumber (chainCauses b (q .from) (q .to) (verdict (q .text)) (some .0) (q .work) (length (q .before)))
+
+    both : (replied (chain (take k (q .after))) ≡ unless causes (replied (some .0))) × (q .after ≡ listAfter (unless causes (replied (some .0))) (q .before))
+    both = let o = Q .answers b R (some .0) (some .1) in (sym (ap (λ (a : ChainAnswer). outcomeOf a (q .after)) p) ∙ o .0, o .1)
+
+    came : (causes ≡ 0) × (chain (take k (q .after)) ≡ some .0)
+    came = come causes (some .0) (chain (take k (q .after))) (both .0)
+
+    J : (e : Expr) × (verdict (q .text) ≡ accepted e)
+    J = no-cause-read b (q .from) (q .to) (verdict (q .text)) (some .0) (q .work) (length (q .before)) (came .0)
+
+    fits : k ≤ length (q .before)
+    fits = subst (λ (a : ChainAnswer). stepsLength a ≤ length (q .before)) p (Q .fits)
+
+    written : q .after ≡ listAfter (replied (some .0)) (q .before)
+    written = both .1 ∙ ap (λ (c : ℕ). listAfter (unless c (replied (some .0))) (q .before)) (came .0)
+
+    go : (t : Reply) → t ≡ some .0 → (e : Expr) → Judged (q .text) (accepted e) → ChainIs (asked b) e (q .from) (q .to) (some .0)
+        → (e : Expr) × Judged (q .text) (accepted e) × FirstHanded b e q k
+    go none z e j c = absurd (let y : _≡_ {A = ℕ} 0 1 = let s = came .1 in cc in omega arith)
+    go (chain ws) z e j c = ahead e j ws (came .1 ∙ sym z) (subst (ChainIs (asked b) e (q .from) (q .to)) (sym z) c)
+        (written ∙ ap (λ (t : Reply). listAfter (replied t) (q .before)) (sym z))
+      where
+        ahead : (e : Expr) → Judged (q .text) (accepted e) → (ws : List ℕ)
+            → chain (take k (q .after)) ≡ chain ws → ChainIs (asked b) e (q .from) (q .to) (chain ws)
+            → q .after ≡ listAfter (replied (chain ws)) (q .before) → (e : Expr) × Judged (q .text) (accepted e) × FirstHanded b e q k
+        ahead e j ws s (first-chain ss F) l =
+            let t : take k (q .after) ≡ stepWords ss = cc in
+            (e, j, (ss, F, steps-told k (stepWords ss) (q .before) (q .after) fits t l ∙ length-stepWords ss, l))
+
 pub chain-claim : {r : Register} {b : Book} → Represents r b → (q : ChainAsked)
     → Replies r (q .from) (q .to) (q .text) (q .work) (q .before) (q .after) (q .answer) → ChainClaim b q
-chain-claim {r} {b} R q Q e A =
+chain-claim {r} {b} R q Q =
     record {
-      first = first-of R (q .from) (q .to) (q .text) (q .work) (q .before) (q .after) (q .answer) Q e (A .expression) (A .from) (A .to) (A .work);
-      none = none-handed R (q .from) (q .to) (q .text) (q .work) (q .before) (q .after) (q .answer) Q e (A .expression) (A .from) (A .to) (A .work);
-      no-other = none-only R (q .from) (q .to) (q .text) (q .work) (q .before) (q .after) (q .answer) Q e (A .expression) (A .from) (A .to) (A .work);
+      says = λ e A.
+          record {
+            first = first-of R (q .from) (q .to) (q .text) (q .work) (q .before) (q .after) (q .answer) Q e (A .expression) (A .from) (A .to) (A .work);
+            none = none-handed R (q .from) (q .to) (q .text) (q .work) (q .before) (q .after) (q .answer) Q e (A .expression) (A .from) (A .to) (A .work);
+            no-other = none-only R (q .from) (q .to) (q .text) (q .work) (q .before) (q .after) (q .answer) Q e (A .expression) (A .from) (A .to) (A .work);
+          };
+      handed = chain-handed R q Q;
     }
 
 -- ---- the whole claim
@@ -162,6 +296,7 @@ module _ {r : Register} (i : Transcript) (G : Gave r i) where
       record {
         answers = a;
         givens = g;
+        size = G .size .size (bookAfter i) R;
         links = subst (λ (ws : List ℕ). Linked ws (bookAfter i .sheet)) (sym (l .2)) (l .1 .linked (bookAfter i) R);
         locks = G .marks .locked (bookAfter i) R;
         withdrawn = G .marks .withdrawn (bookAfter i) R;

@@ -1,9 +1,10 @@
 -- What `inquire` promises: a history and the questions after it, made by one function; and what any calls gave, of which demand 3 is a theorem.
+--   AskedBy d r q   the register r was asked the pair question q by the engine d
 --   Gave r t        the register r at the end of a history gave, read and asked, what the transcript t says (DemandLaws `demand-3`)
 --   linksShown r    the words of the links that an inquiry shows
 --   Unasked k heard lists p c r
---                   the history was refused with the number k, and no question asked: both are told that number, every list is as it was, and no link, no
---                   lock, no withdrawn record and no total but 0 is shown
+--                   the history was refused with the number k, and no question asked: both are told that number, every list is as it was, and no record, no
+--                   link, no lock, no withdrawn record and no total but 0 is shown
 --   Inquired n words heard lists p c r
 --                   the history was made: each word's number stands in the list `heard`, whose words past them are as they were; the list of each closing
 --                   up in its 1,024 words of `lists`; both questions are answered as the plain book answers them, refusals too; and demand 3, of the
@@ -23,21 +24,27 @@ use Rattle.paths.specs.Verdicts.{verdict}
 use Rattle.register.specs.Calls.{answerOf}
 use Rattle.register.specs.History.{Lent, wordAnswers, callsOf, toldCalls, closings, laid, parts, replayNumber}
 use Rattle.register.specs.Marks.{lockMark, withdrawnMark, hasMark}
-use Rattle.register.specs.Questions.{Listing, MarkList, TotalList}
+use Rattle.register.specs.Questions.{Sized, Listing, MarkList, TotalList}
 use Rattle.register.specs.declared.Register.{Register}
 use Rattle.register.specs.declared.Links.{Links}
 use Rattle.pairs.specs.Asking.{BookPairs, AsksPairs}
 use Rattle.pairs.specs.declared.PairsAnswer.the-variants.{Refused}
+use Rattle.rowpairs.specs.Asking.{AsksRows}
 use Rattle.chains.specs.Replies.{BookReplies, Replies}
 use Rattle.chains.specs.declared.ChainAnswer.the-variants.{Refused as Unanswered}
-use Rattle.engine.specs.Demand.{PairsAsked, ChainAsked, Transcript, Demand}
+use Rattle.engine.specs.Demand.{Engine, by-trees, by-rows, PairsAsked, ChainAsked, Transcript, Demand}
 use Rattle.engine.specs.declared.Inquiry.{Inquiry}
 
+abbrev pub AskedBy : Engine → Register → PairsAsked → Type 0
+AskedBy by-trees r q = AsksPairs r (q .text) (q .work) (q .before) (q .after) (q .answer)
+AskedBy by-rows r q = AsksRows r (q .text) (q .work) (q .before) (q .after) (q .answer)
+
 pub record Gave (r : Register) (t : Transcript) : Type 0 where
+  pub size : Sized r (t .size)
   pub links : (ls : Links) × Listing r ls × (t .links ≡ take (ls .count) (ls .words))
   pub marks : MarkList r (t .marks)
   pub totals : TotalList r (t .totals)
-  pub pairs : AsksPairs r (t .pairs .text) (t .pairs .work) (t .pairs .before) (t .pairs .after) (t .pairs .answer)
+  pub pairs : AskedBy (t .pairs .engine) r (t .pairs)
   pub chain : Replies r (t .chain .from) (t .chain .to) (t .chain .text) (t .chain .work) (t .chain .before) (t .chain .after) (t .chain .answer)
 
 abbrev pub linksShown : Inquiry → List ℕ
@@ -50,6 +57,7 @@ pub record Unasked (k : ℕ) (heard lists : Lent) (p : PairsAsked) (c : ChainAsk
   pub given : lists .after ≡ lists .before
   pub list : p .after ≡ p .before
   pub steps : c .after ≡ c .before
+  pub size : r .size ≡ 0
   pub links : linksShown r ≡ []
   pub locks : (x : ℕ) → hasMark lockMark (r .marks) x ≡ false
   pub withdrawn : (x : ℕ) → hasMark withdrawnMark (r .marks) x ≡ false
@@ -65,6 +73,7 @@ pub record Inquired (n : ℕ) (words : List ℕ) (heard lists : Lent) (p : Pairs
     calls = callsOf words;
     told = toldCalls words (heard .after);
     lists = parts (closings (callsOf words)) lists;
+    size = r .size;
     links = linksShown r;
     marks = r .marks;
     totals = r .totals;

@@ -6,4 +6,5 @@ pub mod Previews
 pub mod PreviewLaws
 pub mod TwoPeople
 pub mod TwoPeopleLaws
+pub mod Closing
 pub mod ClosingLaws

@@ -5,7 +5,7 @@
 --                        promise: d and then e gave o and o′, e and then d gave p and p′
 --   SameAnswers p q      whatever is read of the registers p and q, and whatever is asked of them, by calls that meet their promises, is the same: the number
 --                        of records, the words of the links, the locked and the withdrawn records, the totals; and for every text, records, work and list, the
---                        answer and the list of both questions, refusals too
+--                        answer and the list of both questions, of pairs by trees and by rows, refusals too
 --   NoAccount o o′ p p′  the order is of no account: if both edits are accepted in the one order they are in the other, and both ends give the same answers
 -- Assumes nothing: these are definitions.
 use mathlib.Core.Path.{_≡_}
@@ -24,6 +24,7 @@ use Rattle.register.specs.declared.Answer.the-variants.{Done}
 use Rattle.register.specs.declared.TotalAnswer.{TotalAnswer}
 use Rattle.pairs.specs.Asking.{AsksPairs}
 use Rattle.pairs.specs.declared.PairsAnswer.{PairsAnswer}
+use Rattle.rowpairs.specs.Asking.{AsksRows}
 use Rattle.chains.specs.Replies.{Replies}
 use Rattle.chains.specs.declared.ChainAnswer.{ChainAnswer}
 
@@ -44,6 +45,8 @@ pub record SameAnswers (p q : Register) : Type 0 where
   pub totals : (k l : List ℕ) → TotalList p k → TotalList q l → k ≡ l
   pub pairs : (text : List ℕ) (work : ℕ) (before after after′ : List ℕ) (a a′ : PairsAnswer)
       → AsksPairs p text work before after a → AsksPairs q text work before after′ a′ → (a ≡ a′) × (after ≡ after′)
+  pub rows : (text : List ℕ) (work : ℕ) (before after after′ : List ℕ) (a a′ : PairsAnswer)
+      → AsksRows p text work before after a → AsksRows q text work before after′ a′ → (a ≡ a′) × (after ≡ after′)
   pub chain : (x y : ℕ) (text : List ℕ) (work : ℕ) (before after after′ : List ℕ) (a a′ : ChainAnswer)
       → Replies p x y text work before after a → Replies q x y text work before after′ a′ → (a ≡ a′) × (after ≡ after′)
 

@@ -16,10 +16,10 @@ use Rattle.book.specs.Book.{Link, Sheet, Book, Edit, Call, edit, present, total
 use Rattle.book.specs.ListLaws.{rises-same}
 use Rattle.book.specs.Orders.{Single, linkIn, Alike}
 use Rattle.book.specs.OrderLaws.{exchange-free, exchange-same}
-use Rattle.paths.specs.Grammar.{Verdict}
+use Rattle.paths.specs.Grammar.{Verdict, accepted, long, outside, large}
 use Rattle.paths.specs.Verdicts.{verdict}
 use Rattle.paths.specs.Chains.{Graph, asked, chain}
-use Rattle.paths.specs.Questions.{Outcome as Question·Outcome, refused, paired, replied, steps, ReplyTo, chainAnswer, over, listAfter}
+use Rattle.paths.specs.Questions.{Outcome as Question·Outcome, refused, paired, replied, pairsOf, steps, ReplyTo, chainAnswer, over, listAfter}
 use Rattle.paths.specs.PairLaws.{fit-inside}
 use Rattle.paths.specs.GraphLaws.{same-graph, same-pairs, same-chain, some-reply}
 use Rattle.register.specs.Links.{Linked}
@@ -33,6 +33,7 @@ use Rattle.register.specs.declared.Outcome.{Outcome}
 use Rattle.register.specs.declared.Answer.the-variants.{Done}
 use Rattle.pairs.specs.Asking.{BookPairs}
 use Rattle.pairs.specs.declared.PairsAnswer.{PairsAnswer}
+use Rattle.rowpairs.specs.Asking.{rowsCauses, rowsAnswer, BookRows}
 use Rattle.chains.specs.Replies.{outcomeOf, stepsLength, Replies}
 use Rattle.chains.specs.declared.ChainAnswer.{ChainAnswer}
 use Rattle.chains.specs.declared.ChainAnswer.the-variants.{Chain, NoChain, Refused}
@@ -82,6 +83,19 @@ module _ {p q : Register} {b c : Book} (P : Represents p b) (Q : Represents q c)
       let o = same-pairs b c (A .size) graphs v work (length before) in
       (tells-only o (B .tells) (C .tells), B .list ∙ ap (λ (u : Question·Outcome). listAfter u before) o ∙ sym (C .list))
 
+  same-rows : (v : Verdict) (work room : ℕ) → rowsAnswer b v work room ≡ rowsAnswer c v work room
+  unfolding rowsAnswer rowsCauses pairsOf
+  same-rows (accepted e) work room = rw (graphs, A .size)
+  same-rows long work room = rw (A .size)
+  same-rows outside work room = rw (A .size)
+  same-rows large work room = rw (A .size)
+
+  rows-alike : (v : Verdict) (work : ℕ) (before after after′ : List ℕ) (a a′ : PairsAnswer) → BookRows b v work before after a
+      → BookRows c v work before after′ a′ → (a ≡ a′) × (after ≡ after′)
+  rows-alike v work before after after′ a a′ B C =
+      let o = same-rows v work (length before) in
+      (tells-only o (B .tells) (C .tells), B .list ∙ ap (λ (u : Question·Outcome). listAfter u before) o ∙ sym (C .list))
+
   chain-alike : (x y : ℕ) (text : List ℕ) (work : ℕ) (before after after′ : List ℕ) (a a′ : ChainAnswer) → Replies p x y text work before after a
       → Replies q x y text work before after′ a′ → (a ≡ a′) × (after ≡ after′)
   chain-alike x y text work before after after′ a a′ B C =
@@ -111,6 +125,7 @@ module _ {p q : Register} {b c : Book} (P : Represents p b) (Q : Represents q c)
         let h′ : i < labels = omega (arith, h, m) in
         s .totals b P i h′ ∙ A .totals i ∙ sym (t .totals c Q i h′));
     pairs = λ text work before after after′ a a′ s t. pairs-alike (verdict text) work before after after′ a a′ (s .book b P) (t .book c Q);
+    rows = λ text work before after after′ a a′ s t. rows-alike (verdict text) work before after after′ a a′ (s .book b P) (t .book c Q);
     chain = λ x y text work before after after′ a a′ s t. chain-alike x y text work before after after′ a a′ s t;
   }
 

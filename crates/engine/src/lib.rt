@@ -14,6 +14,7 @@ ghost use Rattle.register.specs.Questions.{Sized, Listing, Locking, Withdrawal,
 ghost use Rattle.pairs.specs.Asking.{AsksPairs, Relates};
 ghost use Rattle.rowpairs.specs.Asking.{AsksRows};
 ghost use Rattle.chains.specs.Replies.{Replies};
+ghost use Rattle.engine.specs.Demand.{by-trees};
 ghost use Rattle.engine.specs.Inquiries.{Inquires};
 use chains::ChainAnswer;
 use pairs::PairsAnswer;
@@ -256,6 +257,7 @@ pub fn tree_closure(n: usize, a: &[u64], out: &mut [u64], work: &mut [u64]) -> t
 // What a history and the questions asked after it gave.
 pub struct Inquiry {
     pub answer: Answer,
+    pub size: usize,
     pub links: Links,
     pub marks: [u32; book::MAX_RECORDS],
     pub totals: [u32; book::LABELS],
@@ -284,7 +286,14 @@ pub fn inquire(
 ) -> Inquiry
     ensures { λ r. ⌜ Inquires n (now (calls .entry)) (record { before = now (told .entry); after = now (told .exit) })
         (record { before = now (numbers .entry); after = now (numbers .exit) })
-        (record { text = now (text .entry); work = length (now (work .entry)); before = now (list .entry); after = now (list .exit); answer = r .pairs })
+        (record {
+          engine = by-trees;
+          text = now (text .entry);
+          work = length (now (work .entry));
+          before = now (list .entry);
+          after = now (list .exit);
+          answer = r .pairs;
+        })
         (record {
           from = ends .from;
           to = ends .to;
@@ -301,12 +310,14 @@ pub fn inquire(
     let answer = opened.answer;
     let register = opened.register;
     let number = register::number_of(answer);
+    let size = register.size();
     let links = register.links();
     let marks = register.marks();
     let totals = register.totals();
     if number != 0 {
         return Inquiry {
             answer,
+            size,
             links,
             marks,
             totals,
@@ -318,6 +329,7 @@ pub fn inquire(
     let chain = chains::chain(register, from, to, text, work, steps);
     Inquiry {
         answer,
+        size,
         links,
         marks,
         totals,

@@ -24,6 +24,9 @@ replay-requires c κs = search needs
 number-of-requires : tie.Need-number-of-requires
 number-of-requires c κs = search needs
 
+size-requires : tie.Need-size-requires
+size-requires c κs = search needs
+
 links-requires : tie.Need-links-requires
 links-requires c κs = search needs
 
@@ -43,7 +46,8 @@ returns : tie.Need-returns
 unfolding has fresh total tally
 returns c =
     let after-marks = c .before .before in
-    let after-number-of = after-marks .before .before in
+    let after-size = after-marks .before .before in
+    let after-number-of = after-size .before in
     let told = after-number-of .number-of .ensures in
     let p = after-number-of .before .before .before .before .before .before .replay .ensures in
     let k : after-number-of .number-of .result ≡ replayNumber _ _ _ _ = told ∙ ap answerNumber (p .answer) ∙ number-answer _ in
@@ -58,6 +62,7 @@ returns c =
             given = p .refused n .1;
             list = refl;
             steps = refl;
+            size = after-size .size .ensures .size (fresh 0) e;
             links = none-linked 0 _ (after-marks .before .links .ensures .linked (fresh 0) e);
             locks = after-marks .marks .ensures .locked (fresh 0) e;
             withdrawn = after-marks .marks .ensures .withdrawn (fresh 0) e;
@@ -97,13 +102,14 @@ returns-2 c =
     let after-pairs = after-chain .before .before .before .before .before .before .before in
     let else1 = after-pairs .before .before .before in
     let after-links = else1 .before .before .before in
-    let after-replay = after-links .before .before .before .before .before .before .before in
+    let after-number-of = after-links .before .before in
+    let after-replay = after-number-of .before .before .before .before .before .before in
     let replied = after-chain .chain .ensures in
     let long = after-pairs .pairs .kept .1 .1 .0 in
     let asked = after-pairs .pairs .ensures in
     let p = after-replay .replay .ensures in
     let zero : replayNumber _ _ _ _ ≡ 0 =
-    sym (number-answer _) ∙ sym (ap answerNumber (p .answer)) ∙ sym (after-links .before .number-of .ensures) ∙ else1 .if1 .left in
+    sym (number-answer _) ∙ sym (ap answerNumber (p .answer)) ∙ sym (after-number-of .number-of .ensures) ∙ else1 .if1 .left in
     record {
       answer = p .answer;
       refused = λ n. absurd (n zero);
@@ -115,6 +121,7 @@ returns-2 c =
         demand =
             claims _
             (record {
+              size = after-links .before .size .ensures;
               links = (_, after-links .links .ensures, refl);
               marks = else1 .before .before .marks .ensures;
               totals = else1 .before .totals .ensures;
@@ -131,6 +138,7 @@ inquire-spec =
     (tie.spec
     replay-requires
     number-of-requires
+    size-requires
     links-requires
     marks-requires
     totals-requires
