@@ -1,8 +1,8 @@
--- What `offsets_among` makes of judging, passes and handing over is what it promises.
+-- What `offsets` makes of judging, passes and handing over is what it promises.
 --   none-holds, some-holds
 --                  by the flag of the passes: no placing meets all ties, or one does
 --   limits-told    with a placing, the words told are the limits
---   calls-among    what `offsets_among` promises, from what the four calls ensure
+--   calls-among    of the records that the ties are judged by, from what `judge`, `begin`, `settle` and `hand_over` ensure
 --   calls-told     and of words that a caller keeps, from what all calls of `offsets` ensure
 -- Assumes nothing.
 use mathlib.Core.Path.{_≡_, refl, sym, ap, subst, _∙_, fun-ext}
@@ -168,6 +168,7 @@ module _ (g : Records) (base : ℕ) (ts : List Tie) (work₀ work₁ work₂ bef
       → HandsOver (p .cause) n on work₂ before after a → Among g base ts (length work₀) before after a
   unfolding toldWords
   calls-among a kept (inner.refused {k} e q) = record {
+    fits = omega arith;
     past = q;
     refused = λ j r. (ap Refused (sym e ∙ refused-is j r), q);
     caused = λ z j r. subst Caused (refused-tell r) (first-caused (offsetsCauses n w base ts (length work₀)) (sym e ∙ cause-is z) (λ b. no-number b));
@@ -177,6 +178,7 @@ module _ (g : Records) (base : ℕ) (ts : List Tie) (work₀ work₁ work₂ bef
       refused-tell : {i j : ℕ} → Refused i ≡ Refused j → i ≡ j
       refused-tell r = cc
   calls-among a kept (inner.cannot-hold e o q) = record {
+    fits = omega arith;
     past = q;
     refused = λ j r. no-number (sym (refused-is j r) ∙ e);
     caused = λ z j r. absurd (not-refused r);
@@ -186,6 +188,7 @@ module _ (g : Records) (base : ℕ) (ts : List Tie) (work₀ work₁ work₂ bef
       not-refused : {j : ℕ} → CannotHold ≡ Refused j → ⊥
       not-refused r = let z : _≡_ {A = ℕ} 0 1 = cc in let none′ : 1 ≤ 0 = omega (arith, z) in not-suc-le-zero none′
   calls-among a kept (inner.scant e h q) = record {
+    fits = omega arith;
     past = q;
     refused = λ j r. no-number (sym (refused-is j r) ∙ e);
     caused = λ z j r. subst Caused (refused-tell r) (short-work, refl);
@@ -195,6 +198,7 @@ module _ (g : Records) (base : ℕ) (ts : List Tie) (work₀ work₁ work₂ bef
       refused-tell : {i j : ℕ} → Refused i ≡ Refused j → i ≡ j
       refused-tell r = cc
   calls-among a kept (inner.short e o h q) = record {
+    fits = omega arith;
     past = q;
     refused = λ j r. no-number (sym (refused-is j r) ∙ e);
     caused = λ z j r. subst Caused (refused-tell r) (short-list, refl);
@@ -204,6 +208,7 @@ module _ (g : Records) (base : ℕ) (ts : List Tie) (work₀ work₁ work₂ bef
       refused-tell : {i j : ℕ} → Refused i ≡ Refused j → i ≡ j
       refused-tell r = cc
   calls-among a kept (inner.told e o h t q) = record {
+    fits = h;
     past = q;
     refused = λ j r. no-number (sym (refused-is j r) ∙ e);
     caused = λ z j r. absurd (not-refused r);
@@ -266,6 +271,7 @@ calls-told ws n base ts work₀ work₁ work₂ before after found cause rounds 
             a,
             (
               record {
+                fits = m .fits;
                 past = m .past;
                 caused = m .caused z;
                 book = λ b rep.

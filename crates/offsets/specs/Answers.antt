@@ -12,8 +12,9 @@
 --                   asked of those records, with so many words of work and a list that held `before`: the answer a, and the list, which holds `after`
 --   toldWords a     how many words of the list are the answer's
 --   AsksOffsets r base ts work before after a
---                   asked of the register r. Over any contents: the words past the answer are as they were, all of them with a refusal or "cannot all hold",
---                   and a refusal has the number of a cause. For every book that the register represents: answer and list are those of its records
+--                   asked of the register r. Over any contents: the answer fits the list, the words past it are as they were, all of them with a refusal or
+--                   "cannot all hold", and a refusal has the number of a cause. For every book that the register represents: answer and list are those of
+--                   its records
 --   refusal k, toldOffsets a
 --                   a refusal, and an answer, told as a number of 64 bits: the words written, 2^32 for "cannot all hold", 2^33 and the number for a refusal
 --   OffsetsTold ws base ts work before after k
@@ -79,6 +80,7 @@ toldWords CannotHold = 0
 toldWords (Refused k) = 0
 
 pub record AsksOffsets (r : Register) (base : ℕ) (ts : List Tie) (work : ℕ) (before after : List ℤ) (a : OffsetsAnswer) : Type 0 where
+  pub fits : toldWords a ≤ length before
   pub past : drop (toldWords a) after ≡ drop (toldWords a) before
   pub caused : (k : ℕ) → a ≡ Refused k → Caused k
   pub book : (b : Book) → Represents r b → OffsetsFor (b .n) (isWithdrawn (b .sheet)) base ts work before after a

@@ -13,7 +13,7 @@
 --   Filled n base l       the front of l is as the first pass finds it
 --   Plans, Begins         what `begin` promises: the number that comes before "cannot all hold", and if there is none, the work filled and n + 1 passes
 --   HandsOver, TellsOver  what `hand_over` promises: the answer, and that it is told
---   Among                 what `offsets_among` promises
+--   Among                 what `offsets` promises of the records that it judges the ties by
 -- Assumes nothing: these are definitions.
 use mathlib.Core.Path.{_≡_}
 use mathlib.Core.List.{List, [], _∷_, _++_}
@@ -111,6 +111,7 @@ abbrev pub TellsOver : ℕ → ℕ → Bool → List ℤ → List ℤ → List �
 TellsOver cause n on work before after k = (a : OffsetsAnswer) × (HandsOver cause n on work before after a × (k ≡ toldOffsets a))
 
 pub record Among (g : Records) (base : ℕ) (ts : List Tie) (work : ℕ) (before after : List ℤ) (a : OffsetsAnswer) : Type 0 where
+  pub fits : toldWords a ≤ length before
   pub past : drop (toldWords a) after ≡ drop (toldWords a) before
   pub refused : (k : ℕ) → g .refused ≡ suc k → (a ≡ Refused (suc k)) × (after ≡ before)
   pub caused : g .refused ≡ 0 → (k : ℕ) → a ≡ Refused k → Caused k

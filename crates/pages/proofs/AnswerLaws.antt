@@ -59,6 +59,7 @@ module _ (r : Register) (text : List ℕ) (work : ℕ) (none rows before : List 
   pub prints-refused : {k : ℕ} {q : PairsAnswer} → q ≡ Turned k → RelatesFor r (verdict text) work none rows q → Prints r text work before before (Refused k)
   unfolding bytesWritten spaceAfter
   prints-refused {k} {q} e A = record {
+    fits = omega arith;
     past = refl;
     unchanged = λ j d. refl;
     caused = λ j d. let z : k ≡ j = cc in A .caused j (e ∙ ap Turned z);
@@ -68,6 +69,11 @@ module _ (r : Register) (text : List ℕ) (work : ℕ) (none rows before : List 
         (tells-number e (subst (λ (i : ℕ). Tells (relationAnswer b (verdict text) work i) q) wide (A .book b R .tells))) in
         record { tells = rw o told-number; space = rw o refl };
   }
+
+  laid-fits : {ws after : List ℕ} {a : PagesAnswer} → LaidOut text ws before after a → bytesWritten a ≤ length before
+  unfolding bytesWritten
+  laid-fits (no-room h e) = omega arith
+  laid-fits (laid-out h e) = h
 
   laid-past : {ws after : List ℕ} {a : PagesAnswer} → LaidOut text ws before after a → drop (bytesWritten a) after ≡ drop (bytesWritten a) before
   unfolding bytesWritten
@@ -100,6 +106,7 @@ module _ (r : Register) (text : List ℕ) (work : ℕ) (none rows before : List 
       → q ≡ Told t → take rowWords rows ≡ rows → RelatesFor r (verdict text) work none rows q
       → LaidOut text (pairsIn 1024 rows) before after a → Prints r text work before after a
   prints-laid {t} {q} {after} {a} d whole A L = record {
+    fits = laid-fits L;
     past = laid-past L;
     unchanged = λ k e. laid-unchanged k L e;
     caused = λ k e. laid-caused k L e;

@@ -11,8 +11,8 @@
 --                       `after`, is that outcome's
 --   bytesWritten a      how many bytes of the space are the answer's
 --   Prints r text work before after a
---                       asked of the register r. Over any contents: the bytes past the pages are as they were, all of them with a refusal, whose number is a
---                       cause's. For every book that the register represents: answer and space are the book's
+--                       asked of the register r. Over any contents: the answer fits the space, the bytes past it are as they were, all of them with a refusal,
+--                       whose number is a cause's. For every book that the register represents: answer and space are the book's
 --   Content             what bytes hold: a list of pairs, or nothing that is one
 --   Holds text bytes c  c is what the bytes hold as pages of the text
 --   readOrder           the causes of reading, in the order in which they are looked for: 10 for bytes, 9, 10 for letters and depth, 14, 13
@@ -26,7 +26,7 @@
 use mathlib.Core.Path.{_≡_}
 use mathlib.Core.List.{List, [], _∷_, _++_}
 use mathlib.Core.Bool.{Bool, true, false}
-use Prim.Native.Nat.{ℕ, zero, suc}
+use Prim.Native.Nat.{ℕ, zero, suc, _≤_}
 use lib.Dec.{ltb}
 use lib.ListN.{length, drop}
 use Rattle.book.specs.Causes.{Cause, no-expression, too-many-bytes, too-large, broken-frame, short-list, Caused, firstNumber}
@@ -76,6 +76,7 @@ bytesWritten (Bytes k) = k
 bytesWritten (Refused k) = 0
 
 pub record Prints (r : Register) (text : List ℕ) (work : ℕ) (before after : List ℕ) (a : PagesAnswer) : Type 0 where
+  pub fits : bytesWritten a ≤ length before
   pub past : drop (bytesWritten a) after ≡ drop (bytesWritten a) before
   pub unchanged : (k : ℕ) → a ≡ Refused k → after ≡ before
   pub caused : (k : ℕ) → a ≡ Refused k → Caused k
