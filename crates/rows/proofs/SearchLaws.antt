@@ -1,9 +1,9 @@
 -- Laws of the search for a middle record: `most` over the squares, masks of squares, and the row of a product.
 --   most-more, most-hit, most-far
 --                  the largest of values: one more that is 0, one that is 1, many that are 0
---   meets-bits, meets-in, meets-word, meets-record, record-next, record-none, served-bit
---                  two rows, a square at a time: the bits in common, in words with none, at a record of the first row, at its next, after its last;
---                  whether there is one
+--   meets-bits, meets-in, meets-word, meets-before, meets-record, record-next, record-none, served-bit
+--                  two rows, a square at a time: the bits in common, in words with none, before the first of the second row, at a record of
+--                  the first row, at its next, after its last; whether there is one
 --   mask-set, mask-skip, mask-empty
 --                  the mask of a row's squares: a square more, an empty one, an empty row
 --   masks-common, masks-apart
@@ -28,7 +28,7 @@ use native.Mathlib.Numerals.{add-one}
 use native.Mathlib.Decide.{decLt, ℕ-discrete}
 use native.Mathlib.Omega.{arith}
 use lib.Bits.{bitAnd, bitOr}
-use lib.Count.{trailingZeros}
+use lib.Count.{trailingZeros, trailing-le}
 use lib.ListN.{getD}
 use lib.Pow.{shr-shr}
 use borrow.Author.Tests.{lt-ltb, le-ltb, eq-eqb, ne-eqb}
@@ -91,6 +91,15 @@ module _ (a b : List ℕ) (i j : ℕ) where
   meets-word s z k l h =
       let e : k ≡ s * 64 + (k - s * 64) = omega arith in
       rw e (meets-in s (k - s * 64) (omega arith) ∙ rw z (digit-none (k - s * 64)))
+
+  -- the records before the first of row j
+  pub meets-before : (s k : ℕ) → s * 64 ≤ k → k < s * 64 + trailingZeros 64 (getD b (j * 16 + s) 0) → meets (bitAt a) (bitAt b) i j k ≡ 0
+  meets-before s k l h =
+      let column = getD b (j * 16 + s) 0 in
+      let d : ℕ = k - s * 64 in
+      let e : k ≡ s * 64 + d = omega arith in
+      let z : digit column d ≡ 0 = trailing-clear 64 column d (omega arith) in
+      rw e (meets-in s d (omega (arith, trailing-le 64 column)) ∙ digit-and (getD a (i * 16 + s) 0) column d ∙ rw z (omega arith))
 
   -- a record of row i: as row j has it
   pub meets-record : (s k : ℕ) → k < 64 → digit (getD a (i * 16 + s) 0) k ≡ 1 → meets (bitAt a) (bitAt b) i j (s * 64 + k) ≡ digit (getD b (j * 16 + s) 0) k

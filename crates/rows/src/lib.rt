@@ -182,8 +182,8 @@ fn occupied(rows: &[u64], n: usize, list: &mut [u32]) -> usize
 }
 
 // 1 if some middle record serves, that is, row i of a and row j of b have a column in common, else 0. The search goes over the squares, from the
-// first to the last of those in common, and in each over the records of row i, lowest first, each tried in row j; it is left at the first that
-// serves. A square whose words have no bit in common is passed at once.
+// first to the last of those in common, and in each over the records of row i from the first of row j on, lowest first, each tried in row j; it is
+// left at the first that serves. A square whose words have no bit in common is passed at once.
 fn serves(a: &[u64], i: usize, b: &[u64], j: usize, common: u32) -> u64
     requires { ⌜ (length (now a) ≡ 16384) × (i < 1024) × (length (now b) ≡ 16384) × (j < 1024) × (0 < common) × (common < 65536) ⌝ }
     ensures { λ r. ⌜ (Common (bitAt (now (a .entry))) (bitAt (now (b .entry))) i j common
@@ -195,8 +195,8 @@ fn serves(a: &[u64], i: usize, b: &[u64], j: usize, common: u32) -> u64
         let row = a[i * 16 + s];
         let column = b[j * 16 + s];
         if row & column != 0 {
-            let mut k: u32 = 0;
-            let mut rest = row;
+            let mut k = u64::trailing_zeros(column);
+            let mut rest = row >> k;
             while rest != 0 {
                 let passed = u64::trailing_zeros(rest);
                 k += passed;

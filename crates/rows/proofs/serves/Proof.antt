@@ -1,18 +1,20 @@
--- `serves` searches the squares in common, and in a square the records of row i, by the trailing zeros of what is left of its word. Both
--- invariants: no record passed serves; inside a square, what is left is its word from place k on. The measures are the squares and the places left. It
--- rests on `record-next`, the next record of row i, and `meets-record`: it serves exactly if row j has it. Assumes nothing.
+-- `serves` searches the squares in common, and in a square the records of row i from the first of row j on (`meets-before`), by the trailing zeros of
+-- what is left of its word. Both invariants: no record passed serves; inside a square, what is left is its word from place k on. The measures are the
+-- squares and the places left. It rests on `record-next`, the next record of row i, and `meets-record`: it serves exactly if row j has it. Assumes
+-- nothing.
 use mathlib.Core.Path.{_≡_, refl, sym, _∙_}
 use mathlib.Core.Logic.{⊎-elim}
 use Prim.Native.Nat.{ℕ, _≤_, _<_, _+_, _-_, _*_, _/_, _^_}
-use native.Mathlib.Nat.{div-one}
 use native.Mathlib.Omega.{arith}
+use lib.Bits.{and-le-r}
 use lib.Count.{trailingZeros, trailing-le}
 use lib.ListN.{getD}
 use Rattle.k2.specs.Bits.{digit, bitAt}
+use Rattle.k2.specs.WordLaws.{trailing-lt}
 use Rattle.k2.specs.PairSets.{most}
 use Rattle.rows.specs.Steps.{meets, Common, served}
-use Rattle.rows.proofs.SearchLaws.{most-more, most-hit, most-far, meets-bits, meets-word, meets-record, record-next, record-none, first-square}
-use Rattle.rows.proofs.SearchLaws.{square-inside, common-first, common-last}
+use Rattle.rows.proofs.SearchLaws.{most-more, most-hit, most-far, meets-bits, meets-word, meets-before, meets-record, record-next}
+use Rattle.rows.proofs.SearchLaws.{record-none, first-square, square-inside, common-first, common-last}
 use Rattle.rows.proofs.serves.Statement.{statement}
 use Rattle.rows.proofs.serves.Tie as tie
 
@@ -74,12 +76,34 @@ mul-column-2 c = omega arith
 shared-slice-read-column : tie.Need-shared-slice-read-column Inv-loop μ-loop Inv-search μ-search
 shared-slice-read-column c = omega (arith, inside (c .before .before))
 
+-- row j has a record in the square
+column-first : (c : tie.Then1 Inv-loop μ-loop Inv-search μ-search)
+    → trailingZeros 64 (getD (c .before .before .before .before .before .args .b .now)
+    (c .before .before .before .before .before .args .j * 16 + c .before .before .before .before .search .s) 0) < 64
+column-first c =
+    let S = c .before .before .before .before .search in
+    let a = c .before .before .before .before .before .args in
+    let row = getD (a .a .now) (a .i * 16 + S .s) 0 in
+    let column = getD (a .b .now) (a .j * 16 + S .s) 0 in
+    let f = c .before .shared-slice-known2 .given (a .j * 16 + S .s) .fits in
+    trailing-lt 64 column (omega (arith, and-le-r row column, c .if1 .taken)) f
+
+shr-rest : tie.Need-shr-rest Inv-loop μ-loop Inv-search μ-search
+shr-rest c = omega (arith, column-first c)
+
+cast-rest : tie.Need-cast-rest Inv-loop μ-loop Inv-search μ-search
+cast-rest c = omega (arith, column-first c)
+
 loop-holds : tie.Need-loop-holds Inv-loop μ-loop Inv-search μ-search
 loop-holds c =
     let S = c .before .before .before .before .search in
     let a = c .before .before .before .before .before .args in
-    let e : S .s * 64 + 0 ≡ S .s * 64 = omega arith in
-    (omega arith, sym (div-one (getD (a .a .now) (a .i * 16 + S .s) 0)), S .inv .1, λ g. rw e (S .inv .2 g))
+    let column = getD (a .b .now) (a .j * 16 + S .s) 0 in (
+      trailing-le 64 column,
+      refl,
+      S .inv .1,
+      λ g. most-far (S .s * 64) (trailingZeros 64 column) _ (S .inv .2 g) (meets-before (a .a .now) (a .b .now) (a .i) (a .j) (S .s)),
+    )
 
 -- the next record of row i, and that those before it do not serve
 next : (c : tie.In-loop Inv-loop μ-loop Inv-search μ-search)
@@ -110,11 +134,11 @@ shr-if2 c = omega (arith, next c .0)
 add-k-2 : tie.Need-add-k-2 Inv-loop μ-loop Inv-search μ-search
 add-k-2 c = omega (arith, next (c .before) .0)
 
-cast-rest : tie.Need-cast-rest Inv-loop μ-loop Inv-search μ-search
-cast-rest c = omega (arith, next (c .before) .0)
+cast-rest-2 : tie.Need-cast-rest-2 Inv-loop μ-loop Inv-search μ-search
+cast-rest-2 c = omega (arith, next (c .before) .0)
 
-shr-rest : tie.Need-shr-rest Inv-loop μ-loop Inv-search μ-search
-shr-rest c = omega (arith, next (c .before) .0)
+shr-rest-2 : tie.Need-shr-rest-2 Inv-loop μ-loop Inv-search μ-search
+shr-rest-2 c = omega (arith, next (c .before) .0)
 
 loop-less : tie.Need-loop-less Inv-loop μ-loop Inv-search μ-search
 loop-less c = omega (arith, next (c .before) .0)
@@ -199,13 +223,15 @@ serves-spec =
     add-column
     mul-column-2
     shared-slice-read-column
+    cast-rest
+    shr-rest
     loop-holds
     add-k
     cast-if2
     shr-if2
     add-k-2
-    cast-rest
-    shr-rest
+    cast-rest-2
+    shr-rest-2
     loop-less
     loop-again
     add-s
