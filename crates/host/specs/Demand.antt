@@ -3,7 +3,7 @@
 --   Question             a question as it was put: its text, how many words of work were lent, its list as it was and as it is then, and the number told
 --   Dealings             a history over a caller's words and what was asked then: n, the calls, the number told to each, the list that each closing up was
 --                        lent; the words before they began fresh, and at the end; then the size told; a list lent for the links, and their count; a record
---                        (`node`), and whether it was told to be locked and to be withdrawn; a label, and its total; a pair question with its engine, and a
+--                        (`named`), and whether it was told to be locked and to be withdrawn; a label, and its total; a pair question with its engine, and a
 --                        chain question with its records
 --   bookThen i           the plain book after the calls of i, from a fresh one
 --   pairsHeard d q a, chainHeard x y q a
@@ -49,7 +49,7 @@ pub record Dealings : Type 0 where
   pub size : ℕ
   pub links : Lent
   pub count : ℕ
-  pub node : ℕ
+  pub named : ℕ
   pub locked : ℕ
   pub withdrawn : ℕ
   pub label : ℕ
@@ -86,8 +86,8 @@ pub record Kept (i : Dealings) : Type 0 where
   pub calls : Calls (i .calls) opened (i .state .after) (i .told) (i .lists)
   pub size : Sizes (i .state .after) (i .size)
   pub links : Asked (i .state .after) (Lists (i .links .before) (i .links .after)) toldPairs (i .links .before) (i .links .after) (i .count)
-  pub locked : TellsLock (i .state .after) (i .node) (i .locked)
-  pub withdrawn : TellsWithdrawn (i .state .after) (i .node) (i .withdrawn)
+  pub locked : TellsLock (i .state .after) (i .named) (i .locked)
+  pub withdrawn : TellsWithdrawn (i .state .after) (i .named) (i .withdrawn)
   pub total : TellsTotal (i .state .after) (i .label) (i .total)
   pub pairs : Asked (i .state .after) (λ r a. AskedBy (i .engine) r (pairsHeard (i .engine) (i .pairs) a)) toldPairs
       (i .pairs .list .before) (i .pairs .list .after) (i .pairs .told)
@@ -102,8 +102,8 @@ pub record ExportedDemand (i : Dealings) : Type 0 where
   pub around : drop stateWords (i .state .after) ≡ drop stateWords (i .state .before)
   pub size : i .size ≡ bookThen i .n
   pub links : LinksTold (bookThen i) (i .links) (i .count)
-  pub locked : i .locked ≡ bit (isLocked (bookThen i .sheet) (i .node))
-  pub withdrawn : i .withdrawn ≡ bit (isWithdrawn (bookThen i .sheet) (i .node))
+  pub locked : i .locked ≡ bit (isLocked (bookThen i .sheet) (i .named))
+  pub withdrawn : i .withdrawn ≡ bit (isWithdrawn (bookThen i .sheet) (i .named))
   pub total : i .total ≡ toldTotal (totalAnswer (bookThen i .sheet) (i .label))
   pub pairs : PairsTold (bookThen i) (i .engine) (i .pairs)
   pub chain : ChainTold (bookThen i) (i .from) (i .to) (i .chain)
