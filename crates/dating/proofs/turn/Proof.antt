@@ -43,7 +43,7 @@ same-length c = search needs
 returns : tie.Need-returns
 returns c =
     let w = c .before .before .before .before .before .before .before .before .step in
-    record { input = _; out = _; out′ = _; ran = w .result; advances = w .ensures; state = refl; goes-on = λ e. e }
+    record { input = _; out = _; out′ = _; ran = w .result; advances = w .ensures .advances; state = refl; goes-on = λ e. e }
 
 same-length-2 : tie.Need-same-length-2
 same-length-2 c = search needs
@@ -51,7 +51,7 @@ same-length-2 c = search needs
 returns-2 : tie.Need-returns-2
 returns-2 c =
     let w = c .before .before .before .before .before .before .before .before .step in
-    record { input = _; out = _; out′ = _; ran = w .result; advances = w .ensures; state = refl; goes-on = λ e. absurd (both-ways _ e (c .if1 .left)) }
+    record { input = _; out = _; out′ = _; ran = w .result; advances = w .ensures .advances; state = refl; goes-on = λ e. absurd (both-ways _ e (c .if1 .left)) }
 
 pub turn-spec : {M : Type 1} → statement M
 turn-spec =
