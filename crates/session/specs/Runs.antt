@@ -19,10 +19,8 @@
 --   RunsOn work st i l l′ out out′ r
 --                   r tells of a run: turns one after another, each over the rest of i and of out, until there is too little room, or no more to do
 --   Frames i n      the first n bytes of i are whole frames, one after another
---   Lends work st l l′ i o r
---                   r tells of a turn of the program: it lends i, at most one frame, and room enough, and prints o
---   Stepped work st l l′ st′ more
---                   such a turn led from the state st and the list l to the state st′ and the list l′, and said whether there is more to do
+--   Lends work st l l′ i out out′ r
+--                   r tells of a turn of the program: it lends i, at most one frame, and room enough
 --   End             how the program ends: at the end of its input or where no whole frame stands, at a write that failed, or after so many turns
 --   Loop work n st l i o st′ l′ e
 --                   the program's loop, of at most n turns, from the state st and the list l: it goes on while there is more to do and what was printed
@@ -89,21 +87,10 @@ pub data Frames : List ℕ → ℕ → Type 0 where
   frames : {i : List ℕ} {n : ℕ} → 0 < wholeFront i → Frames (drop (wholeFront i) i) n → Frames i (wholeFront i + n)
 
 -- ---- the program
-pub record Lends (work : ℕ) (st : State) (l l′ i o : List ℕ) (r : Ran) : Type 0 where
-  pub out : List ℕ
-  pub out′ : List ℕ
+pub record Lends (work : ℕ) (st : State) (l l′ i out out′ : List ℕ) (r : Ran) : Type 0 where
   pub turn : OneTurn st i work l l′ out out′ r
   pub enough : room (length l) ≤ length out
   pub one : length i ≤ following i + 2
-  pub prints : o ≡ take (r .written) out′
-
-pub record Stepped (work : ℕ) (st : State) (l l′ : List ℕ) (st′ : State) (more : Bool) : Type 0 where
-  pub input : List ℕ
-  pub output : List ℕ
-  pub ran : Ran
-  pub lends : Lends work st l l′ input output ran
-  pub state : ran .state ≡ st′
-  pub says : ran .more ≡ more
 
 pub data End : Type 0 where
   ended : End
@@ -112,10 +99,12 @@ pub data End : Type 0 where
 
 pub data Loop (work : ℕ) : ℕ → State → List ℕ → List ℕ → List ℕ → State → List ℕ → End → Type 0 where
   no-turns : {st : State} {l : List ℕ} → Loop work 0 st l [] [] st l spent
-  stops : {n : ℕ} {st : State} {l l′ i o : List ℕ} {r : Ran} → Lends work st l l′ i o r → r .more ≡ false → Loop work (suc n) st l i o (r .state) l′ ended
-  fails : {n : ℕ} {st : State} {l l′ i o : List ℕ} {r : Ran} → Lends work st l l′ i o r → Loop work (suc n) st l i o (r .state) l′ unsent
-  goes-on : {n : ℕ} {st st′ : State} {l l′ l″ i j o p : List ℕ} {r : Ran} {e : End} → Lends work st l l′ i o r → r .more ≡ true
-      → Loop work n (r .state) l′ j p st′ l″ e → Loop work (suc n) st l (i ++ j) (o ++ p) st′ l″ e
+  stops : {n : ℕ} {st : State} {l l′ i out out′ : List ℕ} {r : Ran} → Lends work st l l′ i out out′ r → r .more ≡ false
+      → Loop work (suc n) st l i (take (r .written) out′) (r .state) l′ ended
+  fails : {n : ℕ} {st : State} {l l′ i out out′ : List ℕ} {r : Ran} → Lends work st l l′ i out out′ r
+      → Loop work (suc n) st l i (take (r .written) out′) (r .state) l′ unsent
+  goes-on : {n : ℕ} {st st′ : State} {l l′ l″ i j p out out′ : List ℕ} {r : Ran} {e : End} → Lends work st l l′ i out out′ r → r .more ≡ true
+      → Loop work n (r .state) l′ j p st′ l″ e → Loop work (suc n) st l (i ++ j) (take (r .written) out′ ++ p) st′ l″ e
 
 abbrev pub allSent : End → Bool
 allSent ended = true

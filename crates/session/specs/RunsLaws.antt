@@ -3,6 +3,7 @@
 --                        what follows the length at the front, case by case: too few bytes, a length out of range, one in range
 --   following-some, following-most
 --                        where bytes follow, their number is the length, in range; and at most that of a frame in any case
+--   following-front      only the first two bytes tell: what is put after them changes nothing
 --   whole-unframed, whole-cut, whole-is, whole-some
 --                        the whole frame at the front: none where nothing follows or bytes are missing, else all of it
 --   whole-long           it has a length, a kind, and all its bytes
@@ -27,6 +28,15 @@
 --   prints-run           a run with no more to do has printed the one output that the definition of a run says, and left its one session and list
 --   lent-read            a turn of the program that has more to do has read all that it lent
 --   loop-runs            the program's loop that came to its end has printed the one output of what it lent, and left its session and list
+--   LoopsOn n st l m st′ l′
+--                        from the state st and the list l on a loop of at most n turns came to the state st′ and the list l′, with m turns left, so that any
+--                        loop on from there is a loop from the start: the invariant of the program
+--   Looped n st l e      a loop that ended by e, and what it left
+--   loops-start, loops-more
+--                        it holds before the first turn, and after one that has more to do
+--   loops-stop, loops-fail, loops-spent
+--                        a loop that ends: with no more to do, at a write that failed, with no turns left
+--   looped-answered      such a loop from the start is the program
 -- Assumes nothing.
 use mathlib.Core.Path.{_≡_, refl, sym, ap, subst, _∙_}
 use mathlib.Core.Logic.{inl, inr}
@@ -37,10 +47,10 @@ use native.Mathlib.Nat.{zero-add, add-assoc}
 use native.Mathlib.Decide.{decLt}
 use native.Mathlib.Omega.{arith}
 use lib.Dec.{leb, ltb}
-use lib.ListN.{length, take, drop, length-append, length-drop, drop-of-length-le}
-use lib.Seq.{take-all, take-at, take-append-le, drop-append-le, take-append-add, drop-append-add, drop-drop, length-take-le}
+use lib.ListN.{length, take, drop, replicate, length-append, length-drop, drop-of-length-le}
+use lib.Seq.{take-all, take-at, take-append-le, drop-append-le, take-append-add, drop-append-add, drop-drop, length-take-le, take-take}
 use borrow.Author.Tests.{leb-true, ltb-true, ltb-false, le-leb, lt-leb, le-ltb, lt-ltb}
-use borrow.Rule.Slice.PartMut.{putMid}
+use borrow.Rule.Slice.PartMut.{putMid, take-put}
 use Rattle.book.specs.Basics.{pick}
 use Rattle.book.specs.Causes.{broken-frame, number}
 use Rattle.paths.specs.Grammar.{Verdict}
@@ -49,14 +59,14 @@ use Rattle.register.specs.HistoryLaws.{represents-sound}
 use Rattle.report.specs.Report.{refusedText, outcomeText}
 use Rattle.report.specs.Written.{written, Wrote}
 use Rattle.report.specs.WrittenLaws.{length-written, wrote-as, wrote-none, wrote-then}
-use Rattle.session.specs.Program.{minFrame, maxFrame, number16, following, wholeFront, Frame, decode, Session, nextSession, Right, printed, listLeft}
-use Rattle.session.specs.Program.{Run, ended as ended-here, lone-byte, bad-length, cut}
+use Rattle.session.specs.Program.{programWords, minFrame, maxFrame, number16, following, wholeFront, Frame, decode, Session, unopened, nextSession, Right, printed}
+use Rattle.session.specs.Program.{listLeft, Run, ended as ended-here, lone-byte, bad-length, cut}
 use Rattle.session.specs.ProgramLaws.{Steady, right-exists}
 use Rattle.session.specs.RunLaws.{run-only, framed-as}
 use Rattle.session.specs.TurnLaws.{both-ways}
 use Rattle.session.specs.Turns.{StateOf, is-closed, is-open, room, Spares, as-it-was, answered, Turns}
 use Rattle.session.specs.Runs.{Ends, GoesOn, Advances, stayed, OneTurn, andThen, RunsOn, full, done, reads, Frames, no-frames, frames}
-use Rattle.session.specs.Runs.{Lends, End, ended, unsent, spent, Loop, no-turns, stops, fails, goes-on}
+use Rattle.session.specs.Runs.{Lends, End, ended, unsent, spent, Loop, no-turns, stops, fails, goes-on, allSent, mostTurns, Answered}
 use Rattle.session.specs.declared.State.{State}
 use Rattle.session.specs.declared.Framed.{Framed}
 use Rattle.session.specs.declared.Ran.{Ran}
@@ -97,6 +107,18 @@ following-most i = most (decLt 0 (following i))
     most : Dec (0 < following i) → following i ≤ maxFrame
     most (yes h) = let f = following-some i h in omega (arith, f)
     most (no h) = omega arith
+
+-- only the first two bytes tell
+following-two : (i : List ℕ) → following i ≡ following (take 2 i)
+unfolding following number16
+following-two [] = refl
+following-two (a ∷ []) = refl
+following-two (a ∷ b ∷ i) = rw (le-leb 2 (length (a ∷ b ∷ i)) (omega arith))
+
+-- so what is put after them changes nothing
+pub following-front : (b part : List ℕ) (n r : ℕ) → 2 ≤ length b → 2 ≤ r → following (take r (putMid 2 n b part)) ≡ following (take 2 b)
+following-front b part n r h k =
+    following-two (take r (putMid 2 n b part)) ∙ ap following (take-take 2 r (putMid 2 n b part) k ∙ take-put 2 n b part h)
 
 pub whole-unframed : (i : List ℕ) → following i ≡ 0 → 0 ≡ wholeFront i
 unfolding wholeFront
@@ -504,7 +526,7 @@ module _ (work : ℕ) where
       (wrote-as (same .0) (x .wrote), subst (λ (t : Session). StateOf (r .state) t) (same .1) (x .holds), same .2)
 
   -- a turn of the program that has more to do has read all that it lent
-  lent-read : {st : State} {l l′ i o : List ℕ} {r : Ran} → Lends work st l l′ i o r → r .more ≡ true → r .read ≡ length i
+  lent-read : {st : State} {l l′ i out out′ : List ℕ} {r : Ran} → Lends work st l l′ i out out′ r → r .more ≡ true → r .read ≡ length i
   lent-read {i = i} {r = r} t e =
       let x = t .turn .roomy (t .enough) in
       let w = whole-some i (ltb-true 0 (wholeFront i) (sym (x .1) ∙ e)) in
@@ -516,11 +538,68 @@ module _ (work : ℕ) where
   loop-runs (fails t) z s h = absurd (ends-apart unsent z tt)
   loop-runs (stops {l = l} {l′ = l′} {i = i} t e) z s h =
       let x = t .turn .advances .ends e s h in
-      (x .session, x .holds, subst (λ (d : List ℕ). Run work s l i d (x .session) l′) (sym (t .prints ∙ printed-is (x .wrote))) (x .runs))
+      (x .session, x .holds, subst (λ (d : List ℕ). Run work s l i d (x .session) l′) (sym (printed-is (x .wrote))) (x .runs))
   loop-runs (goes-on {l = l} {l′ = l′} {l″ = l″} {i = i} {j = j} {p = p} {r = r} t e on) z s h =
       let x = t .turn .advances .goes e s h in
       let y = loop-runs on z (x .session) (x .holds) in
       let none : drop (r .read) i ≡ [] = drop-of-length-le i {i = r .read} (omega (arith, lent-read t e)) in
       let run : Run work (x .session) l′ (drop (r .read) i ++ j) p (y .0) l″ =
       subst (λ (d : List ℕ). Run work (x .session) l′ (d ++ j) p (y .0) l″) (sym none) (y .2) in
-      (y .0, y .1, subst (λ (d : List ℕ). Run work s l (i ++ j) (d ++ p) (y .0) l″) (sym (t .prints ∙ printed-is (x .wrote))) (x .runs j p (y .0) l″ run))
+      (y .0, y .1, subst (λ (d : List ℕ). Run work s l (i ++ j) (d ++ p) (y .0) l″) (sym (printed-is (x .wrote))) (x .runs j p (y .0) l″ run))
+
+  -- ---- the program's loop
+  abbrev pub LoopsOn : ℕ → State → List ℕ → ℕ → State → List ℕ → Type 0
+  LoopsOn n st l m st′ l′ =
+      (i o l″ : List ℕ) (st″ : State) (e : End) → Loop work m st′ l′ i o st″ l″ e → (j : List ℕ) × (p : List ℕ) × Loop work n st l j p st″ l″ e
+
+  pub record Looped (n : ℕ) (st : State) (l : List ℕ) (e : End) : Type 0 where
+    pub input : List ℕ
+    pub output : List ℕ
+    pub state : State
+    pub list : List ℕ
+    pub loop : Loop work n st l input output state list e
+
+  pub loops-start : (n : ℕ) (st : State) (l : List ℕ) → LoopsOn n st l n st l
+  loops-start n st l i o l″ st″ e x = (i, o, x)
+
+  module _ (n : ℕ) (st : State) (l : List ℕ) where
+    pub loops-more : (m : ℕ) (st′ : State) (l′ l″ i out out′ : List ℕ) (r : Ran) → 0 < m → LoopsOn n st l m st′ l′ → Lends work st′ l′ l″ i out out′ r
+        → r .more ≡ true → LoopsOn n st l (m - 1) (r .state) l″
+    loops-more m st′ l′ l″ i out out′ r h f t more j o k s e x =
+        let one : suc (m - 1) ≡ m = omega arith in
+        f (i ++ j) (take (r .written) out′ ++ o) k s e
+        (subst (λ (q : ℕ). Loop work q st′ l′ (i ++ j) (take (r .written) out′ ++ o) s k e) one (goes-on t more x))
+
+    looped : (m : ℕ) (st′ : State) (l′ i o k : List ℕ) (s : State) (e : End) → 0 < m → LoopsOn n st l m st′ l′ → Loop work (suc (m - 1)) st′ l′ i o s k e
+        → Looped n st l e
+    looped m st′ l′ i o k s e h f x =
+        let one : suc (m - 1) ≡ m = omega arith in
+        let y = f i o k s e (subst (λ (j : ℕ). Loop work j st′ l′ i o s k e) one x) in
+        record { input = y .0; output = y .1; state = s; list = k; loop = y .2 }
+
+    pub loops-stop : (m : ℕ) (st′ : State) (l′ l″ i out out′ : List ℕ) (r : Ran) → 0 < m → LoopsOn n st l m st′ l′ → Lends work st′ l′ l″ i out out′ r
+        → r .more ≡ false → Looped n st l ended
+    loops-stop m st′ l′ l″ i out out′ r h f t more = looped m st′ l′ i (take (r .written) out′) l″ (r .state) ended h f (stops t more)
+
+    pub loops-fail : (m : ℕ) (st′ : State) (l′ l″ i out out′ : List ℕ) (r : Ran) → 0 < m → LoopsOn n st l m st′ l′ → Lends work st′ l′ l″ i out out′ r
+        → Looped n st l unsent
+    loops-fail m st′ l′ l″ i out out′ r h f t = looped m st′ l′ i (take (r .written) out′) l″ (r .state) unsent h f (fails t)
+
+    pub loops-spent : (m : ℕ) (st′ : State) (l′ : List ℕ) → m ≡ 0 → LoopsOn n st l m st′ l′ → Looped n st l spent
+    loops-spent m st′ l′ z f =
+        let y = f [] [] l′ st′ spent (subst (λ (j : ℕ). Loop work j st′ l′ [] [] st′ l′ spent) (sym z) no-turns) in
+        record { input = y .0; output = y .1; state = st′; list = l′; loop = y .2 }
+
+pub looped-answered : (st : State) (e : End) → StateOf st unopened → Looped programWords mostTurns st (replicate programWords 0) e → Answered (allSent e)
+looped-answered st e h x =
+    record {
+      start = st;
+      state = x .state;
+      list = x .list;
+      input = x .input;
+      output = x .output;
+      end = e;
+      begins = h;
+      loops = x .loop;
+      tells = refl;
+    }
