@@ -59,7 +59,8 @@ use Rattle.register.specs.HistoryLaws.{represents-sound}
 use Rattle.report.specs.Report.{refusedText, outcomeText}
 use Rattle.report.specs.Written.{written, Wrote}
 use Rattle.report.specs.WrittenLaws.{length-written, wrote-as, wrote-none, wrote-then}
-use Rattle.session.specs.Program.{programWords, minFrame, maxFrame, number16, following, wholeFront, Frame, decode, Session, unopened, nextSession, Right, printed}
+use Rattle.session.specs.Program.{programWords, minFrame, maxFrame, number16, following, wholeFront, Frame, decode, Session, unopened, nextSession, Right}
+use Rattle.session.specs.Program.{printed}
 use Rattle.session.specs.Program.{listLeft, Run, ended as ended-here, lone-byte, bad-length, cut}
 use Rattle.session.specs.ProgramLaws.{Steady, right-exists}
 use Rattle.session.specs.RunLaws.{run-only, framed-as}
@@ -280,7 +281,8 @@ module _ (work : ℕ) where
       right : Turns st (frontFrame i n) work l l′ out out′ f
       right = subst (λ (x : ℕ). Turns st (decode x (take (n - 4) (drop 4 i))) work l l′ out out′ f) kind turned
 
-      going : true ≡ true → (s : Session) → StateOf st s → GoesOn work s l l′ i out out′ (record { state = f .state; read = n; written = f .written; more = true })
+      going : true ≡ true → (s : Session) → StateOf st s
+          → GoesOn work s l l′ i out out′ (record { state = f .state; read = n; written = f .written; more = true })
       going e s h =
           let r = right-exists s (frontFrame i n) (state-steady h) in
           record {
@@ -416,7 +418,8 @@ module _ (work : ℕ) where
           ap (λ (n : ℕ). wholeFront (drop n i)) z ∙ omega (arith, none)
   runs-ends (reads {i = i} {r = r} {q = q} a h on) e = ap wholeFront (sym (drop-drop (q .read) (r .read) i)) ∙ runs-ends on e
 
-  pub runs-full : {st : State} {i l l′ out out′ : List ℕ} {r : Ran} → RunsOn work st i l l′ out out′ r → r .more ≡ true → length out < r .written + room (length l)
+  pub runs-full : {st : State} {i l l′ out out′ : List ℕ} {r : Ran}
+      → RunsOn work st i l l′ out out′ r → r .more ≡ true → length out < r .written + room (length l)
   runs-full (full h) e = omega arith
   runs-full (done a f) e = absurd (both-ways _ e f)
   runs-full (reads {out′ = m} {r = r} a h on) e =

@@ -95,7 +95,8 @@ module _ (st : State) (work : ℕ) (l l′ out out′ : List ℕ) (r : Framed) w
   -- a frame that says no request
   pub faulty-turns : (c : Cause) → r .state ≡ st → l′ ≡ l → Wrote 0 (refusedText (number c)) out out′ (r .written) → Turns st (faulty c) work l l′ out out′ r
   unfolding nextSession printed listLeft
-  faulty-turns c kept same w = record { within = w .fits; spares = as-it-was _ w same; next = λ s h. rw kept h; prints = λ s h v t q. w; list = λ s h v t q. same }
+  faulty-turns c kept same w =
+      record { within = w .fits; spares = as-it-was _ w same; next = λ s h. rw kept h; prints = λ s h v t q. w; list = λ s h v t q. same }
 
   -- any request but open while no register is opened
   pub closed-turns : (f : Frame) → nextSession unopened f ≡ unopened

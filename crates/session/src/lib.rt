@@ -455,11 +455,12 @@ pub fn step(state: State, input: &[u8], work: &mut [u64], list: &mut [u32], out:
     let framed = frame(state, kind, &input[4..read], work, list, out);
     let next = framed.state;
     let written = framed.written;
+    let more = true;
     Ran {
         state: next,
         read,
         written,
-        more: true,
+        more,
     }
 }
 

@@ -1,5 +1,5 @@
 -- `session::following` meets its contract: each test gives the law for its case. Assumes nothing.
-use mathlib.Core.Path.{sym, _∙_}
+use mathlib.Core.Path.{_∙_}
 use native.Mathlib.Omega.{arith}
 use denote.Ref.{now}
 use Rattle.session.specs.RunsLaws.{following-few, following-low, following-high, following-is}

@@ -1,9 +1,9 @@
 -- `session::front` meets its contract: no frame, one that is cut, or a whole one, by the law for each. Assumes nothing.
-use mathlib.Core.Path.{_≡_, sym, ap, _∙_}
-use Prim.Native.Nat.{ℕ, _+_, _≤_, _<_}
+use mathlib.Core.Path.{ap, _∙_}
+use Prim.Native.Nat.{ℕ, _+_, _≤_}
 use native.Mathlib.Omega.{arith}
 use denote.Ref.{now}
-use Rattle.session.specs.Program.{following, maxFrame}
+use Rattle.session.specs.Program.{maxFrame}
 use Rattle.session.specs.RunsLaws.{following-most, whole-unframed, whole-cut, whole-is}
 use borrow.Author.Needs.{needs}
 use Rattle.session.proofs.front.Statement.{statement}

@@ -1,7 +1,7 @@
 -- `session::run` meets its contract. The loop's invariant: any run on from here is a run from the start (`Leads`), what was read and printed is within
 -- input and out, and the lengths are as they were. The measure is what is left of the input. Assumes nothing.
-use mathlib.Core.Path.{_≡_, refl, ap, _∙_}
-use Prim.Native.Nat.{ℕ, _+_, _-_, _≤_}
+use mathlib.Core.Path.{_≡_, refl, _∙_}
+use Prim.Native.Nat.{_+_, _-_, _≤_}
 use denote.Ref.{now}
 use borrow.Author.Tests.{not-true, not-false}
 use borrow.Rule.Slice.PartMut.{putMid, same-len-mid}
@@ -46,29 +46,44 @@ step-requires c κs = tt
 
 -- the turn, over the rest of the input and of out
 turned : (c : tie.After-step Inv-loop μ-loop)
-    → let l = c .before .before .before .before .before .loop in let s = c .before .before .before .before .before .before .before .before .before .before .args in
+    → let at-loop = c .before .before .before .before .before in
+    let start = at-loop .before .before .before .before .before in
+    let l = at-loop .loop in let s = start .args in
     OneTurn (l .state) (drop (l .read) (now (s .input))) (length (now (s .work))) (l .list) (c .step .last .1 .1 .1 .0) (drop (l .written) (l .out))
     (c .step .last .1 .1 .1 .1 .0) (c .step .result)
 turned c =
-    let l = c .before .before .before .before .before .loop in let s = c .before .before .before .before .before .before .before .before .before .before .args in
+    let at-loop = c .before .before .before .before .before in
+    let start = at-loop .before .before .before .before .before in
+    let l = at-loop .loop in let s = start .args in
     part-turn (length (now (s .work))) (now (s .input)) (l .out) (l .read) (l .written) _ (l .inv .3) (c .step .ensures)
 
 -- it stays within them
-inside : (c : tie.After-step Inv-loop μ-loop) → c .before .before .before .before .before .loop .read + c .step .result .read ≤ length (now (c .before .before .before .before .before .before .before .before .before .before .args .input))
+inside : (c : tie.After-step Inv-loop μ-loop)
+    → let at-loop = c .before .before .before .before .before in
+    let start = at-loop .before .before .before .before .before in
+    at-loop .loop .read + c .step .result .read ≤ length (now (start .args .input))
 inside c =
-    let l = c .before .before .before .before .before .loop in
-    omega (arith, turned c .advances .inside, length-drop (l .read) (now (c .before .before .before .before .before .before .before .before .before .before .args .input)), l .inv .1)
+    let at-loop = c .before .before .before .before .before in
+    let start = at-loop .before .before .before .before .before in
+    let l = at-loop .loop in
+    omega (arith, turned c .advances .inside, length-drop (l .read) (now (start .args .input)), l .inv .1)
 
-within : (c : tie.After-step Inv-loop μ-loop) → c .before .before .before .before .before .loop .written + c .step .result .written ≤ length (c .before .before .before .before .before .loop .out)
+within : (c : tie.After-step Inv-loop μ-loop)
+    → let at-loop = c .before .before .before .before .before in
+    at-loop .loop .written + c .step .result .written ≤ length (at-loop .loop .out)
 within c =
     let l = c .before .before .before .before .before .loop in
     omega (arith, turned c .advances .within, length-drop (l .written) (l .out), l .inv .2)
 
 -- the lent slices keep their lengths
-works : (c : tie.After-step Inv-loop μ-loop) → length (c .step .last .1 .1 .0) ≡ length (now (c .before .before .before .before .before .before .before .before .before .before .args .work))
+works : (c : tie.After-step Inv-loop μ-loop)
+    → let start = c .before .before .before .before .before .before .before .before .before .before in
+    length (c .step .last .1 .1 .0) ≡ length (now (start .args .work))
 works c = c .step .kept .1 .1 .0 ∙ c .before .before .before .before .before .loop .inv .3
 
-lists : (c : tie.After-step Inv-loop μ-loop) → length (c .step .last .1 .1 .1 .0) ≡ length (now (c .before .before .before .before .before .before .before .before .before .before .args .list))
+lists : (c : tie.After-step Inv-loop μ-loop)
+    → let start = c .before .before .before .before .before .before .before .before .before .before in
+    length (c .step .last .1 .1 .1 .0) ≡ length (now (start .args .list))
 lists c = c .step .kept .1 .1 .1 .0 ∙ c .before .before .before .before .before .loop .inv .4
 
 whole : (c : tie.After-step Inv-loop μ-loop) → let l = c .before .before .before .before .before .loop in
@@ -77,15 +92,25 @@ whole c =
     let l = c .before .before .before .before .before .loop in
     same-len-mid (l .written) (length (l .out) - l .written) (l .out) (c .step .last .1 .1 .1 .1 .0) (c .step .kept .1 .1 .1 .1 .0)
 
-outs : (c : tie.After-step Inv-loop μ-loop) → let l = c .before .before .before .before .before .loop in
-    length (putMid (l .written) (length (l .out) - l .written) (l .out) (c .step .last .1 .1 .1 .1 .0)) ≡ length (now (c .before .before .before .before .before .before .before .before .before .before .args .out))
+outs : (c : tie.After-step Inv-loop μ-loop)
+    → let at-loop = c .before .before .before .before .before in
+    let start = at-loop .before .before .before .before .before in
+    let l = at-loop .loop in
+    length (putMid (l .written) (length (l .out) - l .written) (l .out) (c .step .last .1 .1 .1 .1 .0)) ≡ length (now (start .args .out))
 outs c = whole c ∙ c .before .before .before .before .before .loop .inv .5
 
 add-read : tie.Need-add-read Inv-loop μ-loop
-add-read c = let h = inside (c .before .before .before .before .before .before .before .before) in let g = c .before .before .before .before .before .before .before .before .before .before .before .before .before .before .before .before .before .before .good in omega (arith, h, g)
+add-read c =
+    let after-step = c .before .before .before .before .before .before .before .before in
+    let start = after-step .before .before .before .before .before .before .before .before .before .before in
+    let h = inside after-step in let g = start .good in omega (arith, h, g)
 
 add-written : tie.Need-add-written Inv-loop μ-loop
-add-written c = let h = within (c .before .before .before .before .before .before .before .before .before) in let g = c .before .before .before .before .before .before .before .before .before .before .before .before .before .before .before .before .before .before .before .good in let e = c .before .before .before .before .before .before .before .before .before .before .before .before .before .before .loop .inv .5 in omega (arith, h, g, e)
+add-written c =
+    let after-step = c .before .before .before .before .before .before .before .before .before in
+    let at-loop = after-step .before .before .before .before .before in
+    let start = at-loop .before .before .before .before .before in
+    let h = within after-step in let g = start .good in let e = at-loop .loop .inv .5 in omega (arith, h, g, e)
 
 same-length : tie.Need-same-length Inv-loop μ-loop
 same-length c = works (c .before .before .before .before .before .before .before .before .before .before .before)
@@ -98,8 +123,10 @@ same-length-3 c = outs (c .before .before .before .before .before .before .befor
 
 returns : tie.Need-returns Inv-loop μ-loop
 returns c =
-    let l = c .before .before .before .before .before .before .before .before .before .before .before .before .before .before .before .before .loop in
-    leads-done _ (l .out) (l .read) (l .written) (l .inv .0) (turned (c .before .before .before .before .before .before .before .before .before .before .before)) (l .inv .2) (not-true _ (c .if1 .taken))
+    let after-step = c .before .before .before .before .before .before .before .before .before .before .before in
+    let at-loop = after-step .before .before .before .before .before in
+    let l = at-loop .loop in
+    leads-done _ (l .out) (l .read) (l .written) (l .inv .0) (turned after-step) (l .inv .2) (not-true _ (c .if1 .taken))
 
 same-length-4 : tie.Need-same-length-4 Inv-loop μ-loop
 same-length-4 c = works (c .before .before .before .before .before .before .before .before .before .before .before .before .before)
@@ -112,19 +139,29 @@ same-length-6 c = outs (c .before .before .before .before .before .before .befor
 
 returns-2 : tie.Need-returns-2 Inv-loop μ-loop
 returns-2 c =
-    let l = c .before .before .before .before .before .before .before .before .before .before .before .before .before .before .before .before .before .before .loop in
-    leads-full _ (l .out) (l .read) (l .written) (l .inv .0) (turned (c .before .before .before .before .before .before .before .before .before .before .before .before .before)) (l .inv .2) (not-false _ (c .before .before .if1 .left)) (omega arith)
+    let after-step = c .before .before .before .before .before .before .before .before .before .before .before .before .before in
+    let at-loop = after-step .before .before .before .before .before in
+    let l = at-loop .loop in
+    leads-full _ (l .out) (l .read) (l .written) (l .inv .0) (turned after-step) (l .inv .2) (not-false _ (c .before .before .if1 .left)) (omega arith)
 
 loop-less : tie.Need-loop-less Inv-loop μ-loop
 loop-less c = let h = inside (c .before .before .before .before .before .before .before .before .before .before .before .before .before) in omega (arith, h)
 
 loop-again : tie.Need-loop-again Inv-loop μ-loop
 loop-again c =
-    let l = c .before .before .before .before .before .before .before .before .before .before .before .before .before .before .before .before .before .before .loop in
-    let turn = c .before .before .before .before .before .before .before .before .before .before .before .before .before in
+    let earlier = c .before .before .before .before .before .before .before .before .before in
+    let at-loop = earlier .before .before .before .before .before .before .before .before .before in
+    let l = at-loop .loop in
+    let turn = earlier .before .before .before .before in
     let h = within turn in
-    let e = whole turn in
-    (leads-more _ (l .out) (l .read) (l .written) (l .inv .0) (turned turn) (l .inv .2) (omega arith), inside turn, omega (arith, h, e), works turn, lists turn, outs turn)
+    let e = whole turn in (
+      leads-more _ (l .out) (l .read) (l .written) (l .inv .0) (turned turn) (l .inv .2) (omega arith),
+      inside turn,
+      omega (arith, h, e),
+      works turn,
+      lists turn,
+      outs turn,
+    )
 
 pub run-spec : {M : Type 1} → statement M
 run-spec =

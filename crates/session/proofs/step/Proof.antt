@@ -1,7 +1,6 @@
 -- `session::step` meets its contract: with too little room it stays (`stays`), else it is at the end of the input (`at-end`), at no frame (`no-frame`),
 -- or at one, which `frame` does (`one-frame`). Assumes nothing.
-use mathlib.Core.Path.{_≡_, sym}
-use Prim.Native.Nat.{ℕ, _+_, _≤_, _<_}
+use Prim.Native.Nat.{_≤_}
 use native.Mathlib.Omega.{arith}
 use denote.Ref.{now}
 use lib.ListN.{length}
@@ -43,8 +42,12 @@ returns-3 c =
     (whole-none (now (s .input)) (omega arith) (omega (arith, e)) _)
 
 -- a whole frame has a length, a kind, and all its bytes
-facts : (c : tie.Else3) → (4 ≤ c .before .front .result) × (c .before .front .result ≤ length (now (c .before .before .before .before .before .before .before .before .args .input)))
-facts c = whole-long (now (c .before .before .before .before .before .before .before .before .args .input)) (c .before .front .result) (c .before .front .ensures) (omega arith)
+facts : (c : tie.Else3)
+    → let start = c .before .before .before .before .before .before .before .before in
+    (4 ≤ c .before .front .result) × (c .before .front .result ≤ length (now (start .args .input)))
+facts c =
+    let start = c .before .before .before .before .before .before .before .before in
+    whole-long (now (start .args .input)) (c .before .front .result) (c .before .front .ensures) (omega arith)
 
 number16-requires : tie.Need-number16-requires
 number16-requires c κs = search needs
@@ -72,11 +75,16 @@ same-length-4 c = search needs
 
 returns-4 : tie.Need-returns-4
 returns-4 c =
-    let s = c .before .before .before .before .before .before .before .before .before .before .before .before .before .before .before .before .before .before .before .before .before .args in
-    let f = c .before .before .before .before .before .before .before .frame in
-    let enough : room (length (now (s .list))) ≤ length (now (s .out)) = omega (arith, c .before .before .before .before .before .before .before .before .before .before .before .before .before .before .before .before .if1 .left) in
-    one-frame _ (s .state) (now (s .input)) (now (s .list)) _ (now (s .out)) _ (c .before .before .before .before .before .before .before .before .before .before .before .before .before .before .front .result) _ (f .result)
-    enough (f .kept .1 .1 .1 .1 .0) (c .before .before .before .before .before .before .before .before .before .before .before .before .before .before .front .ensures) (omega (arith, facts (c .before .before .before .before .before .before .before .before .before .before .before .before .before))) (c .before .before .before .before .before .before .before .before .before .before .before .before .number16 .ensures) (f .ensures .turns enough)
+    let after-frame = c .before .before .before .before .before .before .before in
+    let after-number16 = after-frame .before .before .before .before .before in
+    let after-front = after-number16 .before .before in
+    let start = after-front .before .before .before .before .before .before .before in
+    let s = start .args in
+    let f = after-frame .frame in
+    let enough : room (length (now (s .list))) ≤ length (now (s .out)) = omega (arith, after-front .before .before .if1 .left) in
+    one-frame _ (s .state) (now (s .input)) (now (s .list)) _ (now (s .out)) _ (after-front .front .result) _ (f .result)
+    enough (f .kept .1 .1 .1 .1 .0) (after-front .front .ensures) (omega (arith, facts (after-number16 .before)))
+    (after-number16 .number16 .ensures) (f .ensures .turns enough)
 
 pub step-spec : {M : Type 1} → statement M
 step-spec =
