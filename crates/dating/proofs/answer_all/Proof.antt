@@ -24,8 +24,12 @@ unopened-requires : tie.Need-unopened-requires Inv-loop μ-loop
 unopened-requires c κs = tt
 
 loop-holds : tie.Need-loop-holds Inv-loop μ-loop
-loop-holds c =
-    (loops-start programWords mostTurns _ _, length-replicate {A = ℕ} (maxFrame + 2) 0, length-replicate {A = ℕ} programWords 0, length-replicate {A = ℕ} (room programWords) 0)
+loop-holds c = (
+  loops-start programWords mostTurns _ _,
+  length-replicate {A = ℕ} (maxFrame + 2) 0,
+  length-replicate {A = ℕ} programWords 0,
+  length-replicate {A = ℕ} (room programWords) 0,
+)
 
 slice-aggregate-turn : tie.Need-slice-aggregate-turn Inv-loop μ-loop
 slice-aggregate-turn c = sym (c .before .before .loop .inv .1)
@@ -47,17 +51,21 @@ some c = omega arith
 
 returns : tie.Need-returns Inv-loop μ-loop
 returns c =
-    let l = c .before .before .before .before .before .before .before .before .before .before .before .before .loop in
-    let t = c .before .before .before .before .before .before .before .turn in
-    looped-answered _ unsent (c .before .before .before .before .before .before .before .before .before .before .before .before .before .«unopened» .ensures)
-    (loops-fail programWords mostTurns _ _ (l .turns) (l .state) (l .list) (t .last .1 .1 .0) _ _ _ (t .result .ran) (some (c .before .before .before .before .before .before .before .before .before .before .before)) (l .inv .0) (t .ensures))
+    let after-turn = c .before .before .before .before .before .before .before in
+    let in-loop = after-turn .before .before .before .before in
+    let l = in-loop .before .loop in
+    let t = after-turn .turn in
+    looped-answered _ unsent (in-loop .before .before .«unopened» .ensures)
+    (loops-fail programWords mostTurns _ _ (l .turns) (l .state) (l .list) (t .last .1 .1 .0) _ _ _ (t .result .ran) (some in-loop) (l .inv .0) (t .ensures))
 
 returns-2 : tie.Need-returns-2 Inv-loop μ-loop
 returns-2 c =
-    let l = c .before .before .before .before .before .before .before .before .before .before .before .before .before .before .loop in
-    let t = c .before .before .before .before .before .before .before .before .before .turn in
-    looped-answered _ ended (c .before .before .before .before .before .before .before .before .before .before .before .before .before .before .before .«unopened» .ensures)
-    (loops-stop programWords mostTurns _ _ (l .turns) (l .state) (l .list) (t .last .1 .1 .0) _ _ _ (t .result .ran) (some (c .before .before .before .before .before .before .before .before .before .before .before .before .before)) (l .inv .0) (t .ensures)
+    let after-turn = c .before .before .before .before .before .before .before .before .before in
+    let in-loop = after-turn .before .before .before .before in
+    let l = in-loop .before .loop in
+    let t = after-turn .turn in
+    looped-answered _ ended (in-loop .before .before .«unopened» .ensures)
+    (loops-stop programWords mostTurns _ _ (l .turns) (l .state) (l .list) (t .last .1 .1 .0) _ _ _ (t .result .ran) (some in-loop) (l .inv .0) (t .ensures)
     (not-true _ (c .if2 .taken)))
 
 sub-turns : tie.Need-sub-turns Inv-loop μ-loop
@@ -68,10 +76,16 @@ loop-less c = omega arith
 
 loop-again : tie.Need-loop-again Inv-loop μ-loop
 loop-again c =
-    let l = c .before .before .before .before .before .before .before .before .before .before .before .before .before .before .loop in
-    let t = c .before .before .before .before .before .before .before .before .before .turn in
-    (loops-more programWords mostTurns _ _ (l .turns) (l .state) (l .list) (t .last .1 .1 .0) _ _ _ (t .result .ran) (some (c .before .before .before .before .before .before .before .before .before .before .before .before .before)) (l .inv .0) (t .ensures)
-    (not-false _ (c .if2 .left)), t .kept .1 .0 ∙ l .inv .1, t .kept .1 .1 .0 ∙ l .inv .2, t .kept .1 .1 .1 .0 ∙ l .inv .3)
+    let after-turn = c .before .before .before .before .before .before .before .before .before in
+    let in-loop = after-turn .before .before .before .before in
+    let l = in-loop .before .loop in
+    let t = after-turn .turn in (
+      loops-more programWords mostTurns _ _ (l .turns) (l .state) (l .list) (t .last .1 .1 .0) _ _ _ (t .result .ran) (some in-loop) (l .inv .0) (t .ensures)
+          (not-false _ (c .if2 .left)),
+      t .kept .1 .0 ∙ l .inv .1,
+      t .kept .1 .1 .0 ∙ l .inv .2,
+      t .kept .1 .1 .1 .0 ∙ l .inv .3,
+    )
 
 returns-3 : tie.Need-returns-3 Inv-loop μ-loop
 returns-3 c =

@@ -45,15 +45,19 @@ slice-reshare-prefix-following c = search needs
 
 slice-aggregate-following : tie.Need-slice-aggregate-following
 slice-aggregate-following c =
-    sym (length-take-le 2 (c .before .before .before .before .read-full .last .1 .0 ++ drop 2 (now (c .before .before .before .before .before .before .before .args .bytes))) (omega (arith, long (c .before .before .before .before))))
+    let after-read-full = c .before .before .before .before in
+    let start = after-read-full .before .before .before in
+    sym (length-take-le 2 (after-read-full .read-full .last .1 .0 ++ drop 2 (now (start .args .bytes))) (omega (arith, long after-read-full)))
 
 following-requires : tie.Need-following-requires
 following-requires c κs = search needs
 
 small : (c : tie.After-following) → c .following .result ≤ maxFrame
 small c =
+    let after-read-full = c .before .before .before .before .before in
+    let start = after-read-full .before .before .before in
     let e = c .following .ensures in
-    let bytes = c .before .before .before .before .before .read-full .last .1 .0 ++ drop 2 (now (c .before .before .before .before .before .before .before .before .args .bytes)) in
+    let bytes = after-read-full .read-full .last .1 .0 ++ drop 2 (now (start .args .bytes)) in
     omega (arith, e, following-most (take 2 bytes))
 
 add-read-full : tie.Need-add-read-full
@@ -74,26 +78,35 @@ read-full-requires-2 c κs = search needs
 -- and what comes after it at most as many as follow
 rest : (c : tie.After-read-full2) → c .read-full2 .result ≤ c .before .before .following .result
 rest c =
+    let after-read-full = c .before .before .before .before .before .before .before in
+    let start = after-read-full .before .before .before in
     let k = c .read-full2 .kept .1 .0 in
     let n = c .before .before .following .result in
-    omega (arith, c .read-full2 .ensures .0, k, length-take (n + 2 - 2) (drop 2 (c .before .before .before .before .before .before .before .read-full .last .1 .0 ++ drop 2 (now (c .before .before .before .before .before .before .before .before .before .before .args .bytes)))))
+    omega (arith, c .read-full2 .ensures .0, k, length-take (n + 2 - 2) (drop 2 (after-read-full .read-full .last .1 .0 ++ drop 2 (now (start .args .bytes)))))
 
 add-result : tie.Need-add-result
-add-result c = omega (arith, two (c .before .before .before .before .before .before .before .before .before), rest (c .before .before), small (c .before .before .before .before))
+add-result c =
+    let after-following = c .before .before .before .before in
+    let after-read-full = after-following .before .before .before .before .before in
+    omega (arith, two after-read-full, rest (c .before .before), small after-following)
 
 same-length-2 : tie.Need-same-length-2
 same-length-2 c = search needs
 
 returns-2 : tie.Need-returns-2
 returns-2 c =
-    let bytes = c .before .before .before .before .before .before .before .before .before .read-full .last .1 .0 ++ drop 2 (now (c .before .before .before .before .before .before .before .before .before .before .before .before .args .bytes)) in
-    let n = c .before .before .before .before .following .result in
-    let r = c .before .before .before .before .before .before .before .before .before .read-full .result + c .before .before .read-full2 .result in
-    let same = following-front bytes (c .before .before .read-full2 .last .1 .0) (n + 2 - 2) r (omega (arith, long (c .before .before .before .before .before .before .before .before .before))) (omega arith) in
-    let t = two (c .before .before .before .before .before .before .before .before .before) in
-    let f = rest (c .before .before) in
-    let e = c .before .before .before .before .following .ensures in
-    (omega (arith, t, f, small (c .before .before .before .before)), omega (arith, t, f, e, same))
+    let after-read-full2 = c .before .before in
+    let after-following = after-read-full2 .before .before in
+    let after-read-full = after-following .before .before .before .before .before in
+    let start = after-read-full .before .before .before in
+    let bytes = after-read-full .read-full .last .1 .0 ++ drop 2 (now (start .args .bytes)) in
+    let n = after-following .following .result in
+    let r = after-read-full .read-full .result + after-read-full2 .read-full2 .result in
+    let same = following-front bytes (after-read-full2 .read-full2 .last .1 .0) (n + 2 - 2) r (omega (arith, long after-read-full)) (omega arith) in
+    let t = two after-read-full in
+    let f = rest after-read-full2 in
+    let e = after-following .following .ensures in
+    (omega (arith, t, f, small after-following), omega (arith, t, f, e, same))
 
 pub read-frame-spec : {M : Type 1} → statement M
 read-frame-spec =

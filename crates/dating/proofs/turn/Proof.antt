@@ -41,11 +41,14 @@ same-length-3 c = search needs
 
 returns : tie.Need-returns
 returns c =
-    let size = slice-aggregate-step (c .before .before .before .before .before .before .before .before .before .before .before) in
+    let after-step = c .before .before .before .before .before .before .before in
+    let earlier = after-step .before .before .before .before in
+    let after-read-frame = earlier .before .before .before in
+    let size = slice-aggregate-step earlier in
     record {
-      turn = c .before .before .before .before .before .before .before .step .ensures;
+      turn = after-step .step .ensures;
       enough = omega arith;
-      one = omega (arith, size, c .before .before .before .before .before .before .before .before .before .before .before .before .before .before .read-frame .ensures .1);
+      one = omega (arith, size, after-read-frame .read-frame .ensures .1);
     }
 
 pub turn-spec : {M : Type 1} → statement M
