@@ -10,10 +10,8 @@ use mathlib.Core.List.{List}
 use Prim.Native.Nat.{ℕ, zero, suc, _+_, _*_, _/_, _≤_}
 use native.Mathlib.Nat.{mul-le-mul}
 use native.Mathlib.Omega.{arith}
-use borrow.Author.Tests.{le-ltb}
 use lib.ListN.{length}
-use Rattle.book.specs.Causes.{number, firstNumber, maxRecords}
-use Rattle.book.specs.Book.{Book, Call, close, used, closeAnswer, closed, answer, next, freshAnswer, fresh, after}
+use Rattle.book.specs.Book.{Book, Call, close, used, closeAnswer, closed, answer, next, fresh, after}
 use Rattle.book.specs.RankLaws.{rank-le}
 use Rattle.k2.specs.SizeLaws.{treeUnit-mono}
 use Rattle.paths.specs.Grammar.{Verdict}
@@ -25,9 +23,9 @@ use Rattle.paths.specs.GraphLaws.{some-reply}
 use Rattle.paths.specs.Renaming.{renamedReply, renamedOutcome, newNumber}
 use Rattle.paths.specs.ClosingLaws.{closing-pairs, closing-chain}
 use Rattle.register.specs.Representation.{Represents}
-use Rattle.register.specs.Calls.{answerNumber, Opens, Closes}
-use Rattle.register.specs.History.{Lent, CallsMade}
-use Rattle.register.specs.HistoryLaws.{represents-sound, number-answer, history}
+use Rattle.register.specs.Calls.{answerNumber, Closes}
+use Rattle.register.specs.HistoryLaws.{represents-sound, number-answer}
+use Rattle.register.specs.Made.{MadeBy}
 use Rattle.register.specs.declared.Register.{Register}
 use Rattle.register.specs.declared.Outcome.{Outcome}
 use Rattle.register.specs.declared.Answer.the-variants.{Done}
@@ -35,6 +33,7 @@ use Rattle.pairs.specs.Asking.{Tells, told-number, told-pairs}
 use Rattle.pairs.specs.declared.PairsAnswer.{PairsAnswer}
 use Rattle.rowpairs.specs.Asking.{rowsWork, rowsAnswer}
 use Rattle.rowpairs.specs.AskingLaws.{rows-outcome}
+use Rattle.engine.specs.BookLaws.{made-book}
 use Rattle.engine.specs.Closing.{PairsRenamed, RowsRenamed, ChainRenamed}
 
 -- an answer tells as much of the pairs renamed
@@ -104,13 +103,10 @@ module _ {r : Register} {before after : List ℕ} {out : Outcome} (c : Closes r 
       let o = e .1 ∙ ap (renamedOutcome (newNumber b)) (sym (p .answers b h t (s .1) .0)) in
       (n .0 ∙ o, n .1 ∙ ap (λ (z : Question·Outcome). listAfter z l) o)
 
--- of every register that calls made, from a fresh one of n records
-pub closing-made : (n : ℕ) → 1 ≤ n → n ≤ maxRecords → (opened : Outcome) → Opens n opened → (cs : List Call) (told : List ℕ) (ls : List Lent) (r : Register)
-    → CallsMade (opened .register) cs told ls r → (before before′ : List ℕ) (out : Outcome) → Closes r before before′ out → out .answer ≡ Done
-    → PairsRenamed (after (fresh n) cs) r (out .register) × RowsRenamed (after (fresh n) cs) r (out .register)
+-- of every register that calls made
+pub closing-made : {n : ℕ} {cs : List Call} {r : Register} → MadeBy n cs r → (before before′ : List ℕ) (out : Outcome) → Closes r before before′ out
+    → out .answer ≡ Done → PairsRenamed (after (fresh n) cs) r (out .register) × RowsRenamed (after (fresh n) cs) r (out .register)
     × ChainRenamed (after (fresh n) cs) r (out .register)
-unfolding freshAnswer firstNumber number
-closing-made n l h opened O cs told ls r run before before′ out c d =
-    let z : freshAnswer n ≡ 0 = rw (le-ltb n 1 l, le-ltb maxRecords n h) in
-    let R = history n (O .made z) run .2 in
+closing-made {n} {cs} M before before′ out c d =
+    let R = made-book M in
     (pairs-after c d (after (fresh n) cs) R, rows-after c d (after (fresh n) cs) R, chain-after c d (after (fresh n) cs) R)

@@ -16,6 +16,7 @@
 --                        is handed out with the number of its steps, if the list takes it; none is said exactly if there is no chain of any length
 --   FirstHanded b e q k  a chain of k steps is handed out: the first of all chains, in the list's first words, and past them what they were
 --   ChainClaim b q       so for every accepted chain question; and a chain that is handed out, whatever was lent, is the first one of the text's expression
+--                        (`handed`); and where none is said, whatever was lent, there is none of any length (`silent`)
 --   Demand i             answers, the lists that closings up gave, n, links, locks, withdrawn records, totals and both questions are those of the plain book
 -- Assumes nothing: these are definitions.
 use mathlib.Core.Path.{_≡_}
@@ -24,7 +25,7 @@ use Prim.Native.Nat.{ℕ, _≤_, _<_}
 use lib.ListN.{length, take, getD}
 use Rattle.book.specs.Basics.{In}
 use Rattle.book.specs.Causes.{labels}
-use Rattle.book.specs.Book.{Book, Call, isLocked, isWithdrawn, total, fresh, answers, after, givens}
+use Rattle.book.specs.Book.{Book, Call, total, fresh, answers, after, givens}
 use Rattle.paths.specs.Expressions.{Expr}
 use Rattle.paths.specs.Grammar.{accepted, Judged}
 use Rattle.paths.specs.Chains.{Graph, asked, Step, stepWords, Answers, First}
@@ -33,7 +34,7 @@ use Rattle.paths.specs.Questions.{pairsWork, chainWork, over}
 use Rattle.rowpairs.specs.Asking.{rowsWork}
 use Rattle.register.specs.History.{Lent, Gives}
 use Rattle.register.specs.Links.{Linked}
-use Rattle.register.specs.Marks.{lockMark, withdrawnMark, hasMark}
+use Rattle.register.specs.Marks.{freeMark, markOf}
 use Rattle.pairs.specs.declared.PairsAnswer.{PairsAnswer}
 use Rattle.pairs.specs.declared.PairsAnswer.the-variants.{Pairs}
 use Rattle.chains.specs.declared.ChainAnswer.{ChainAnswer}
@@ -115,6 +116,8 @@ FirstHanded b e q k =
 pub record ChainClaim (b : Book) (q : ChainAsked) : Type 0 where
   pub says : (e : Expr) → ChainAccepted b q e → ChainSays (asked b) e q
   pub handed : (k : ℕ) → q .answer ≡ Chain k → (e : Expr) × Judged (q .text) (accepted e) × FirstHanded b e q k
+  pub silent : q .answer ≡ NoChain → (e : Expr) × Judged (q .text) (accepted e)
+      × ((ss : List Step) → Answers (asked b) e (q .from) (q .to) ss → ⊥) × (q .after ≡ q .before)
 
 -- ---- the whole
 pub record Demand (i : Transcript) : Type 0 where
@@ -122,8 +125,7 @@ pub record Demand (i : Transcript) : Type 0 where
   pub givens : Gives (givens (fresh (i .n)) (i .calls)) (i .lists)
   pub size : i .size ≡ bookAfter i .n
   pub links : Linked (i .links) (bookAfter i .sheet)
-  pub locks : (r : ℕ) → hasMark lockMark (i .marks) r ≡ isLocked (bookAfter i .sheet) r
-  pub withdrawn : (r : ℕ) → hasMark withdrawnMark (i .marks) r ≡ isWithdrawn (bookAfter i .sheet) r
+  pub marks : (x : ℕ) → getD (i .marks) x freeMark ≡ markOf (bookAfter i .sheet) x
   pub totals : (l : ℕ) → l < labels → getD (i .totals) l 0 ≡ total (bookAfter i .sheet) l
   pub pairs : PairsClaim (bookAfter i) (i .pairs)
   pub chain : ChainClaim (bookAfter i) (i .chain)

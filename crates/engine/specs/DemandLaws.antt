@@ -275,6 +275,39 @@ chain-handed {r} {b} R q Q k p = go (some .0) refl (J .0) (subst (λ (v : Verdic
             let t : take k (q .after) ≡ stepWords ss = cc in
             (e, j, (ss, F, steps-told k (stepWords ss) (q .before) (q .after) fits t l ∙ length-stepWords ss, l))
 
+-- a question that is told there is no chain was accepted, and there is none of any length
+none-said : {r : Register} {b : Book} → Represents r b → (q : ChainAsked)
+    → Replies r (q .from) (q .to) (q .text) (q .work) (q .before) (q .after) (q .answer) → q .answer ≡ NoChain
+    → (e : Expr) × Judged (q .text) (accepted e) × ((ss : List Step) → Answers (asked b) e (q .from) (q .to) ss → ⊥) × (q .after ≡ q .before)
+unfolding outcomeOf chainAnswer listAfter steps
+none-said {r} {b} R q Q p = (
+  J .0,
+  subst (λ (v : Verdict). Judged (q .text) v) (J .1) (verdict-right (q .text)),
+  none-left (J .0) (subst (ChainIs (asked b) (J .0) (q .from) (q .to)) (sym (came .1)) (some .1 (J .0) (J .1))),
+  left,
+)
+  where
+    some : (t : Reply) × ReplyTo (asked b) (verdict (q .text)) (q .from) (q .to) t
+    some = some-reply (asked b) (fit-inside b (R .sheet .fit)) (verdict (q .text)) (q .from) (q .to)
+
+    causes : ℕ
+    causes = firstNumber (chainCauses b (q .from) (q .to) (verdict (q .text)) (some .0) (q .work) (length (q .before)))
+
+    both : (replied none ≡ unless causes (replied (some .0))) × (q .after ≡ listAfter (unless causes (replied (some .0))) (q .before))
+    both = let o = Q .answers b R (some .0) (some .1) in (sym (ap (λ (a : ChainAnswer). outcomeOf a (q .after)) p) ∙ o .0, o .1)
+
+    came : (causes ≡ 0) × (none ≡ some .0)
+    came = come causes (some .0) none (both .0)
+
+    J : (e : Expr) × (verdict (q .text) ≡ accepted e)
+    J = no-cause-read b (q .from) (q .to) (verdict (q .text)) (some .0) (q .work) (length (q .before)) (came .0)
+
+    left : q .after ≡ q .before
+    left = both .1 ∙ ap (λ (u : Outcome). listAfter u (q .before)) (sym (both .0))
+
+    none-left : (e : Expr) → ChainIs (asked b) e (q .from) (q .to) none → (ss : List Step) → Answers (asked b) e (q .from) (q .to) ss → ⊥
+    none-left e (no-chain n) = n
+
 pub chain-claim : {r : Register} {b : Book} → Represents r b → (q : ChainAsked)
     → Replies r (q .from) (q .to) (q .text) (q .work) (q .before) (q .after) (q .answer) → ChainClaim b q
 chain-claim {r} {b} R q Q =
@@ -286,6 +319,7 @@ chain-claim {r} {b} R q Q =
             no-other = none-only R (q .from) (q .to) (q .text) (q .work) (q .before) (q .after) (q .answer) Q e (A .expression) (A .from) (A .to) (A .work);
           };
       handed = chain-handed R q Q;
+      silent = none-said R q Q;
     }
 
 -- ---- the whole claim
@@ -298,8 +332,7 @@ module _ {r : Register} (i : Transcript) (G : Gave r i) where
         givens = g;
         size = G .size .size (bookAfter i) R;
         links = subst (λ (ws : List ℕ). Linked ws (bookAfter i .sheet)) (sym (l .2)) (l .1 .linked (bookAfter i) R);
-        locks = G .marks .locked (bookAfter i) R;
-        withdrawn = G .marks .withdrawn (bookAfter i) R;
+        marks = G .marks .marks (bookAfter i) R;
         totals = G .totals .totals (bookAfter i) R;
         pairs = pairs-claim R (i .pairs) (G .pairs);
         chain = chain-claim R (i .chain) (G .chain);

@@ -15,7 +15,6 @@
 -- Assumes nothing: these are definitions.
 use mathlib.Core.Path.{_≡_}
 use mathlib.Core.List.{List, [], _++_}
-use mathlib.Core.Bool.{false}
 use Prim.Native.Nat.{ℕ, _<_}
 use lib.ListN.{length, take, drop, getD}
 use Rattle.book.specs.Causes.{labels}
@@ -23,7 +22,7 @@ use Rattle.book.specs.Book.{fresh, after, givens}
 use Rattle.paths.specs.Verdicts.{verdict}
 use Rattle.register.specs.Calls.{answerOf}
 use Rattle.register.specs.History.{Lent, wordAnswers, callsOf, toldCalls, closings, laid, parts, replayNumber}
-use Rattle.register.specs.Marks.{lockMark, withdrawnMark, hasMark}
+use Rattle.register.specs.Marks.{freeMark}
 use Rattle.register.specs.Questions.{Sized, Listing, MarkList, TotalList}
 use Rattle.register.specs.declared.Register.{Register}
 use Rattle.register.specs.declared.Links.{Links}
@@ -59,8 +58,7 @@ pub record Unasked (k : ℕ) (heard lists : Lent) (p : PairsAsked) (c : ChainAsk
   pub steps : c .after ≡ c .before
   pub size : r .size ≡ 0
   pub links : linksShown r ≡ []
-  pub locks : (x : ℕ) → hasMark lockMark (r .marks) x ≡ false
-  pub withdrawn : (x : ℕ) → hasMark withdrawnMark (r .marks) x ≡ false
+  pub marks : (x : ℕ) → getD (r .marks) x freeMark ≡ freeMark
   pub totals : (l : ℕ) → l < labels → getD (r .totals) l 0 ≡ 0
 
 pub record Inquired (n : ℕ) (words : List ℕ) (heard lists : Lent) (p : PairsAsked) (c : ChainAsked) (r : Inquiry) : Type 0 where

@@ -5,20 +5,23 @@
 --   preview-asked    what the question gives on the register that an accepted call hands back is what a preview promises
 --   preview-same     a preview gives what the question gives on the register that the call hands back: of an accepted call the same answer and the same list;
 --                    of a refused one its number, and the list as it was
+--   preview-rows     of an accepted call also what the question by rows gives there, with work enough for either
+--   preview-made     of every register that calls made: what the book gives
 -- Assumes nothing.
 use mathlib.Core.Path.{_≡_, refl, sym, ap, _∙_}
 use mathlib.Core.List.{List}
-use Prim.Native.Nat.{ℕ, zero, suc, _<_}
+use Prim.Native.Nat.{ℕ, zero, suc, _≤_, _<_}
 use native.Mathlib.Omega.{arith}
 use lib.ListN.{length}
 use Rattle.book.specs.Causes.{Caused}
-use Rattle.book.specs.Book.{Book, Call, answer, next}
+use Rattle.book.specs.Book.{Book, Call, answer, next, fresh, after}
 use Rattle.book.specs.BookLaws.{caused-positive}
 use Rattle.paths.specs.Verdicts.{verdict}
-use Rattle.paths.specs.Questions.{refused, Outcome as Question·Outcome, unless, pairsAnswer, listAfter}
+use Rattle.paths.specs.Questions.{refused, Outcome as Question·Outcome, unless, pairsWork, pairsAnswer, listAfter}
 use Rattle.register.specs.Representation.{Represents}
 use Rattle.register.specs.Calls.{answerNumber, Steps}
 use Rattle.register.specs.HistoryLaws.{number-answer}
+use Rattle.register.specs.Made.{MadeBy}
 use Rattle.register.specs.declared.Register.{Register}
 use Rattle.register.specs.declared.Outcome.{Outcome}
 use Rattle.register.specs.declared.Answer.{Answer}
@@ -26,7 +29,10 @@ use Rattle.register.specs.declared.Answer.the-variants.{Done, Refused as Turned
 use Rattle.pairs.specs.Asking.{Tells, told-number, told-pairs, AsksPairs}
 use Rattle.pairs.specs.declared.PairsAnswer.{PairsAnswer}
 use Rattle.pairs.specs.declared.PairsAnswer.the-variants.{Pairs, Refused}
-use Rattle.engine.specs.Previews.{previewAnswer, Previews}
+use Rattle.rowpairs.specs.Asking.{rowsWork, AsksRows}
+use Rattle.rowpairs.specs.AskingLaws.{rows-outcome}
+use Rattle.engine.specs.BookLaws.{made-book}
+use Rattle.engine.specs.Previews.{previewAnswer, BookPreviews, Previews}
 
 pub tells-only : {o p : Question·Outcome} {a a′ : PairsAnswer} → o ≡ p → Tells o a → Tells p a′ → a ≡ a′
 tells-only e (told-number {k = j}) (told-number {k = k}) = let z : j ≡ k = cc in ap Refused z
@@ -106,3 +112,18 @@ module _ {r : Register} {c : Call} {o : Outcome} (s : Steps r c o) where
           let u = refused-outcome k e b R in
           (tells-only u (p .tells) told-number, p .list ∙ ap (λ (t : Question·Outcome). listAfter t before) u),
     )
+
+    -- and what the question by rows gives there, with work enough for either
+    pub preview-rows : {after : List ℕ} {a : PairsAnswer} → Previews r c text work before after a → (b : Book) → Represents r b
+        → o .answer ≡ Done → pairsWork (next b c .n) ≤ work → (rows : ℕ) → rowsWork (next b c .n) ≤ rows
+        → (after′ : List ℕ) (a′ : PairsAnswer) → AsksRows (o .register) text rows before after′ a′ → (a ≡ a′) × (after ≡ after′)
+    preview-rows P b R e h rows l after′ a′ Q =
+        let p = P .book b R in
+        let q = Q .book (next b c) (s .follows b R) in
+        let u = accepted-outcome e b R ∙ sym (rows-outcome (next b c) (verdict text) work rows (length before) h l) in
+        (tells-only u (p .tells) (q .tells), p .list ∙ ap (λ (t : Question·Outcome). listAfter t before) u ∙ sym (q .list))
+
+-- of every register that calls made
+pub preview-made : {n : ℕ} {cs : List Call} {r : Register} → MadeBy n cs r → (c : Call) (text : List ℕ) (work : ℕ) (before after′ : List ℕ) (a : PairsAnswer)
+    → Previews r c text work before after′ a → BookPreviews (after (fresh n) cs) c (verdict text) work before after′ a
+preview-made {n} {cs} M c text work before after′ a P = P .book (after (fresh n) cs) (made-book M)

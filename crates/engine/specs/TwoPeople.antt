@@ -14,7 +14,6 @@ use mathlib.Core.Bool.{Bool}
 use Prim.Native.Nat.{ℕ}
 use lib.ListN.{take}
 use Rattle.book.specs.Book.{Edit, edit}
-use Rattle.register.specs.Marks.{lockMark, withdrawnMark, hasMark}
 use Rattle.register.specs.Calls.{Steps}
 use Rattle.register.specs.Questions.{Sized, Listing, MarkList, Locking, Withdrawal, TotalList, Totals}
 use Rattle.register.specs.declared.Register.{Register}
@@ -39,8 +38,7 @@ pub record SameAnswers (p q : Register) : Type 0 where
   pub links : (k l : Links) → Listing p k → Listing q l → take (k .count) (k .words) ≡ take (l .count) (l .words)
   pub locked : (x : ℕ) (t u : Bool) → Locking p x t → Locking q x u → t ≡ u
   pub withdrawn : (x : ℕ) (t u : Bool) → Withdrawal p x t → Withdrawal q x u → t ≡ u
-  pub marks : (k l : List ℕ) → MarkList p k → MarkList q l → (x : ℕ)
-      → (hasMark lockMark k x ≡ hasMark lockMark l x) × (hasMark withdrawnMark k x ≡ hasMark withdrawnMark l x)
+  pub marks : (k l : List ℕ) → MarkList p k → MarkList q l → k ≡ l
   pub total : (l : ℕ) (t u : TotalAnswer) → Totals p l t → Totals q l u → t ≡ u
   pub totals : (k l : List ℕ) → TotalList p k → TotalList q l → k ≡ l
   pub pairs : (text : List ℕ) (work : ℕ) (before after after′ : List ℕ) (a a′ : PairsAnswer)

@@ -7,12 +7,11 @@ use mathlib.Core.Path.{_≡_, refl, sym, ap, _∙_, subst}
 use mathlib.Core.List.{List}
 use Prim.Native.Nat.{ℕ, _+_, _≤_, _<_}
 use native.Mathlib.Omega.{arith}
-use borrow.Author.Tests.{le-ltb}
 use lib.ListN.{length, take, drop, length-append, length-drop}
 use lib.Seq.{length-take-le, ext-getD}
 use Rattle.book.specs.Basics.{In}
-use Rattle.book.specs.Causes.{number, firstNumber, labels, maxLinks, maxRecords}
-use Rattle.book.specs.Book.{Link, Sheet, Book, Edit, Call, edit, present, total, totalNumber, answer, next, freshAnswer, fresh, after}
+use Rattle.book.specs.Causes.{labels, maxLinks}
+use Rattle.book.specs.Book.{Link, Sheet, Book, Edit, Call, edit, present, total, totalNumber, answer, next, fresh, after}
 use Rattle.book.specs.ListLaws.{rises-same}
 use Rattle.book.specs.Orders.{Single, linkIn, Alike}
 use Rattle.book.specs.OrderLaws.{exchange-free, exchange-same}
@@ -23,10 +22,10 @@ use Rattle.paths.specs.Questions.{Outcome as Question·Outcome, refused, paired
 use Rattle.paths.specs.PairLaws.{fit-inside}
 use Rattle.paths.specs.GraphLaws.{same-graph, same-pairs, same-chain, some-reply}
 use Rattle.register.specs.Links.{Linked}
+use Rattle.register.specs.Marks.{freeMark, markOf}
 use Rattle.register.specs.Representation.{Represents}
-use Rattle.register.specs.Calls.{answerOf, Opens, Steps}
-use Rattle.register.specs.History.{Lent, CallsMade}
-use Rattle.register.specs.HistoryLaws.{history}
+use Rattle.register.specs.Calls.{answerOf, Steps}
+use Rattle.register.specs.Made.{MadeBy}
 use Rattle.register.specs.Questions.{totalOf}
 use Rattle.register.specs.declared.Register.{Register}
 use Rattle.register.specs.declared.Outcome.{Outcome}
@@ -37,6 +36,7 @@ use Rattle.rowpairs.specs.Asking.{rowsCauses, rowsAnswer, BookRows}
 use Rattle.chains.specs.Replies.{outcomeOf, stepsLength, Replies}
 use Rattle.chains.specs.declared.ChainAnswer.{ChainAnswer}
 use Rattle.chains.specs.declared.ChainAnswer.the-variants.{Chain, NoChain, Refused}
+use Rattle.engine.specs.BookLaws.{made-book}
 use Rattle.engine.specs.PreviewLaws.{tells-only, accepted-as}
 use Rattle.engine.specs.TwoPeople.{Entered, SameAnswers, NoAccount}
 
@@ -111,13 +111,16 @@ module _ {p q : Register} {b c : Book} (P : Represents p b) (Q : Represents q c)
       let g = C .fits in
       (outcome-tell a a′ after (omega arith) (omega arith) (m .0 ∙ o ∙ sym (n .0) ∙ ap (outcomeOf a′) (sym l)), l)
 
+  marks-alike : (x : ℕ) → markOf (b .sheet) x ≡ markOf (c .sheet) x
+  marks-alike x = rw (A .withdrawn x, A .locks x)
+
   pub alike-answers : SameAnswers p q
   alike-answers = record {
     size = λ m n s t. s .size b P ∙ A .size ∙ sym (t .size c Q);
     links = λ k l s t. linked-same (s .linked b P) (t .linked c Q) (A .links);
     locked = λ x t u s r. s .locked b P ∙ A .locks x ∙ sym (r .locked c Q);
     withdrawn = λ x t u s r. s .withdrawn b P ∙ A .withdrawn x ∙ sym (r .withdrawn c Q);
-    marks = λ k l s t x. (s .locked b P x ∙ A .locks x ∙ sym (t .locked c Q x), s .withdrawn b P x ∙ A .withdrawn x ∙ sym (t .withdrawn c Q x));
+    marks = λ k l s t. ext-getD freeMark k l (s .long ∙ sym (t .long)) (λ x h. s .marks b P x ∙ marks-alike x ∙ sym (t .marks c Q x));
     total = λ l t u s r. s .told b P ∙ ap (totalOf (totalNumber l)) (A .totals l) ∙ sym (r .told c Q);
     totals = λ k l s t.
         let m = s .long in
@@ -162,11 +165,8 @@ two-people r b R short d e x y apart o o′ p p′ E =
     let room : length (b .sheet .links) < maxLinks = omega (arith, short) in
     record { accepted = λ f g. both-done b R room x y apart E f g; same = λ f g. ends-same b R room x y apart E f g }
 
--- of every register that calls made, from a fresh one of n records
-pub two-people-made : (n : ℕ) → 1 ≤ n → n ≤ maxRecords → (out : Outcome) → Opens n out → (cs : List Call) (told : List ℕ) (ls : List Lent) (r : Register)
-    → CallsMade (out .register) cs told ls r → length (after (fresh n) cs .sheet .links) + 2 ≤ maxLinks → (d e : Edit) (x : Single d) (y : Single e)
-    → (linkIn x ≡ linkIn y → ⊥) → (o o′ p p′ : Outcome) → Entered r d e o o′ p p′ → NoAccount o o′ p p′
-unfolding freshAnswer firstNumber number
-two-people-made n l h out O cs told ls r run short d e x y apart o o′ p p′ E =
-    let z : freshAnswer n ≡ 0 = rw (le-ltb n 1 l, le-ltb maxRecords n h) in
-    two-people r (after (fresh n) cs) (history n (O .made z) run .2) short d e x y apart o o′ p p′ E
+-- of every register that calls made
+pub two-people-made : {n : ℕ} {cs : List Call} {r : Register} → MadeBy n cs r → length (after (fresh n) cs .sheet .links) + 2 ≤ maxLinks
+    → (d e : Edit) (x : Single d) (y : Single e) → (linkIn x ≡ linkIn y → ⊥) → (o o′ p p′ : Outcome) → Entered r d e o o′ p p′ → NoAccount o o′ p p′
+two-people-made {n} {cs} {r} M short d e x y apart o o′ p p′ E =
+    two-people r (after (fresh n) cs) (made-book M) short d e x y apart o o′ p p′ E

@@ -38,6 +38,7 @@ use Rattle.k2.specs.PairSets.{IsSet}
 use Rattle.register.specs.declared.Register.{Register}
 use Rattle.register.specs.Links.{Linked}
 use Rattle.register.specs.Marks.{hasMark, withdrawnMark}
+use Rattle.register.specs.MarkLaws.{listed-withdrawn}
 use Rattle.register.specs.Representation.{Represents}
 use Rattle.register.specs.Questions.{Sized, MarkList}
 use Rattle.rows.specs.Rows.{labelled, places, crossedWords}
@@ -275,7 +276,7 @@ module _ {self : Register} {n : ℕ} (S : Sized self n) (b : Book) (R : Represen
   book-numbers ds A D ms M =
       let e = S .size b R in
       subst (λ (k : ℕ). GenerationsAre (asked b) ls (numbers (chosen ms ds k))) (sym e)
-      (numbers-are b (R .sheet .fit) few ws L m ls C ds A (λ y h. D y (omega arith)) ms (M .withdrawn b R))
+      (numbers-are b (R .sheet .fit) few ws L m ls C ds A (λ y h. D y (omega arith)) ms (listed-withdrawn M R))
 
   pub book-loop : {r : ℕ} → ((z : ℕ) × Leads (labelled m ws) z z) → (IsSet n (crossedWords ws m 0) → Smallest (Closed n (crossedWords ws m 0)) n r)
       → (ss : List Step) × FirstLoop (asked b) ls r ss × GenerationsAre (asked b) ls (loop (stepWords ss))

@@ -1,6 +1,8 @@
 -- What the call promises.
 --   outcomeOf r l   the outcome that the answer r says, with its words in the first of the list l
 --   answerLength r  how many words of the list are the answer's
+--   BookGenerates b ls work list list′ r
+--                   asked of the book b: the outcome is the book's, and so is the list
 --   Generates self ls work list list′ r
 --                   over any contents: the answer fits the list, the words past it are as they were, all of them with a refusal, and a refusal has the
 --                   number of a cause. For every book that the register represents: the outcome is the book's, and so is the list
@@ -33,6 +35,9 @@ unfoldable pub answerLength : GenerationsAnswer → ℕ
 answerLength (Numbers k) = k
 answerLength (Loop k) = k
 answerLength (Refused k) = 0
+
+abbrev pub BookGenerates : Book → List ℕ → ℕ → List ℕ → List ℕ → GenerationsAnswer → Type 0
+BookGenerates b ls work list list′ r = OutcomeIs b ls work (length list) (outcomeOf r list′) × (list′ ≡ listAfter (outcomeOf r list′) list)
 
 pub record Generates (self : Register) (ls : List ℕ) (work : ℕ) (list list′ : List ℕ) (r : GenerationsAnswer) : Type 0 where
   pub fits : answerLength r ≤ length list

@@ -4,3 +4,4 @@ pub mod Generating
 pub mod GenerationsLaws
 pub mod LoopLaws
 pub mod GenerationsCases
+pub mod MadeLaws

@@ -227,6 +227,10 @@ byte : (l : Bool) → boolByte l ≡ bit l
 byte true = refl
 byte false = refl
 
+byte-small : (l : Bool) → boolByte l ≤ 1
+byte-small true = omega arith
+byte-small false = omega arith
+
 module _ {ws : List ℕ} where
   pub size-foreign : Foreign ws → Sizes ws 0
   size-foreign g = record { size = λ r w. absurd (g r w); foreign = λ _. refl }
@@ -242,19 +246,21 @@ module _ {ws : List ℕ} where
       record { total = λ s v. subst (λ (t : Register). Told (Totals t l) toldTotal k) (keeps-same w v) (a, p, e); foreign = λ g. absurd (g r w) }
 
   pub lock-foreign : (x : ℕ) → Foreign ws → TellsLock ws x 0
-  lock-foreign x g = record { locked = λ b h. absurd (g (h .0) (h .1)); foreign = λ _. refl }
+  lock-foreign x g = record { small = omega arith; locked = λ b h. absurd (g (h .0) (h .1)); foreign = λ _. refl }
 
   pub locked-word : {r : Register} {x : ℕ} (l : Bool) → Keeps ws r → Locking r x l → TellsLock ws x (boolByte l)
   locked-word {r} {x} l w z = record {
+    small = byte-small l;
     locked = λ b h. byte l ∙ ap bit (subst (λ (t : Register). Locking t x l) (keeps-same w (h .1)) z .locked b (h .2));
     foreign = λ g. absurd (g r w);
   }
 
   pub withdrawn-foreign : (x : ℕ) → Foreign ws → TellsWithdrawn ws x 0
-  withdrawn-foreign x g = record { withdrawn = λ b h. absurd (g (h .0) (h .1)); foreign = λ _. refl }
+  withdrawn-foreign x g = record { small = omega arith; withdrawn = λ b h. absurd (g (h .0) (h .1)); foreign = λ _. refl }
 
   pub withdrawn-word : {r : Register} {x : ℕ} (l : Bool) → Keeps ws r → Withdrawal r x l → TellsWithdrawn ws x (boolByte l)
   withdrawn-word {r} {x} l w z = record {
+    small = byte-small l;
     withdrawn = λ b h. byte l ∙ ap bit (subst (λ (t : Register). Withdrawal t x l) (keeps-same w (h .1)) z .withdrawn b (h .2));
     foreign = λ g. absurd (g r w);
   }

@@ -7,17 +7,12 @@ use mathlib.Core.Path.{_≡_, ap}
 use mathlib.Core.List.{List}
 use Prim.Native.Nat.{ℕ, _+_, _<_}
 use native.Mathlib.Omega.{arith}
-use lib.ListN.{length}
 use Rattle.book.specs.Book.{Book}
-use Rattle.generations.specs.Generations.{OutcomeIs, listAfter}
-use Rattle.generations.specs.Generating.{outcomeOf, answerLength, Generates}
+use Rattle.generations.specs.Generating.{answerLength, BookGenerates, Generates}
 use Rattle.generations.specs.declared.GenerationsAnswer.{GenerationsAnswer}
 use Rattle.generations.specs.declared.GenerationsAnswer.the-variants.{Numbers, Loop, Refused}
 use Rattle.host.specs.Host.{KeepsBook, pastCounts, Told, Asked}
 use Rattle.host.specs.Generations.{toldGenerations}
-
-abbrev pub BookGenerates : Book → List ℕ → ℕ → List ℕ → List ℕ → GenerationsAnswer → Type 0
-BookGenerates b ls work before after a = OutcomeIs b ls work (length before) (outcomeOf a after) × (after ≡ listAfter (outcomeOf a after) before)
 
 pub generations-book : {ws before after : List ℕ} {k : ℕ} (ls : List ℕ) (work : ℕ) (b : Book) → KeepsBook ws b
     → Asked ws (λ r. Generates r ls work before after) toldGenerations before after k → Told (BookGenerates b ls work before after) toldGenerations k

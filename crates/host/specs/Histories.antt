@@ -6,6 +6,8 @@
 --   Calls cs ws vs ks ls
 --                   the calls cs, each given the words that the one before left, from the words ws on: the words vs at the end, the numbers ks, and the
 --                   lists ls that the closings up among them were lent
+--   WordsMade n cs vs
+--                   the exported calls cs, refused ones too, made the words vs, on words that asking for a fresh register of n records left
 -- Assumes nothing: these are definitions.
 use mathlib.Core.Path.{_≡_}
 use mathlib.Core.List.{List, [], _∷_}
@@ -16,7 +18,7 @@ use Rattle.book.specs.Book.{Book, Edit, Call, edit, undo, close, given}
 use Rattle.register.specs.History.{Lent}
 use Rattle.register.specs.Words.{Keeps}
 use Rattle.register.specs.declared.Register.{Register}
-use Rattle.host.specs.Host.{KeepsBook, Edits}
+use Rattle.host.specs.Host.{KeepsBook, Freshens, Edits}
 
 pub record Renumbers (state numbers : Lent) (k : ℕ) : Type 0 where
   pub edits : Edits (close (length (numbers .before))) (state .before) (state .after) k
@@ -32,3 +34,11 @@ pub data Calls : List Call → List ℕ → List ℕ → List ℕ → List Lent 
       → Calls (undo ∷ cs) ws vs (k ∷ ks) ls
   then-close : {cs : List Call} {ws us vs ks : List ℕ} {ls : List Lent} {k : ℕ} (l : Lent) → Renumbers (record { before = ws; after = us }) l k
       → Calls cs us vs ks ls → Calls (close (length (l .before)) ∷ cs) ws vs (k ∷ ks) (l ∷ ls)
+
+pub record WordsMade (n : ℕ) (cs : List Call) (vs : List ℕ) : Type 0 where
+  pub blank : List ℕ
+  pub opened : List ℕ
+  pub opens : Freshens n blank opened 0
+  pub told : List ℕ
+  pub lists : List Lent
+  pub calls : Calls cs opened vs told lists

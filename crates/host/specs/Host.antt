@@ -27,7 +27,7 @@
 use mathlib.Core.Path.{_≡_}
 use mathlib.Core.List.{List, [], _∷_}
 use mathlib.Core.Bool.{_||_}
-use Prim.Native.Nat.{ℕ, _+_, _*_}
+use Prim.Native.Nat.{ℕ, _+_, _*_, _≤_}
 use lib.ListN.{length, take, drop}
 use lib.Dec.{ltb}
 use Rattle.book.specs.Basics.{bit}
@@ -106,10 +106,12 @@ pub record Sizes (ws : List ℕ) (k : ℕ) : Type 0 where
   pub foreign : Foreign ws → k ≡ 0
 
 pub record TellsLock (ws : List ℕ) (x k : ℕ) : Type 0 where
+  pub small : k ≤ 1
   pub locked : (b : Book) → KeepsBook ws b → k ≡ bit (isLocked (b .sheet) x)
   pub foreign : Foreign ws → k ≡ 0
 
 pub record TellsWithdrawn (ws : List ℕ) (x k : ℕ) : Type 0 where
+  pub small : k ≤ 1
   pub withdrawn : (b : Book) → KeepsBook ws b → k ≡ bit (isWithdrawn (b .sheet) x)
   pub foreign : Foreign ws → k ≡ 0
 

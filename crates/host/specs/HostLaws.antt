@@ -1,6 +1,8 @@
 -- What the promises over words say of the plain book. Assumes nothing.
 --   edits-book      the number is the book's answer, and the words then keep the next book
 --   calls-book      so for a whole history of calls, each given the words that the call before left, with the lists that its closings up give
+--   words-made      so from a fresh register on
+--   calls-past      and the words past a register's are as they were
 --   pairs-book, chain-book
 --                   a question asked of words that keep a book: the number tells the book's answer, and the list is as that answer leaves it
 --   total-book      the total asked of words that keep a book
@@ -10,12 +12,14 @@ use mathlib.Core.Path.{_≡_, refl, ap, _∙_}
 use mathlib.Core.List.{List, _∷_}
 use Prim.Native.Nat.{ℕ, _*_, _<_}
 use native.Mathlib.Omega.{arith}
-use Rattle.book.specs.Book.{Book, Call, answer, next, answers, after, givens}
+use lib.ListN.{drop}
+use Rattle.book.specs.Book.{Book, Call, answer, next, fresh, answers, after, givens}
 use Rattle.paths.specs.Verdicts.{verdict}
 use Rattle.register.specs.Calls.{answerNumber}
 use Rattle.register.specs.History.{Lent, Gives, none-given, more-given}
 use Rattle.register.specs.HistoryLaws.{number-answer}
 use Rattle.register.specs.Questions.{totalAnswer}
+use Rattle.register.specs.Words.{stateWords}
 use Rattle.register.specs.declared.TotalAnswer.{TotalAnswer}
 use Rattle.register.specs.declared.TotalAnswer.the-variants.{Total, Refused as Untotalled}
 use Rattle.pairs.specs.Asking.{BookPairs, AsksPairs}
@@ -26,7 +30,7 @@ use Rattle.chains.specs.declared.ChainAnswer.{ChainAnswer}
 use Rattle.chains.specs.declared.ChainAnswer.the-variants.{Chain, NoChain, Refused as Unchained}
 use Rattle.tree.specs.declared.listing.Answer.{Answer}
 use Rattle.tree.specs.declared.listing.Answer.the-variants.{Done, Refused as Untreed}
-use Rattle.host.specs.Histories.{Calls, none, then-edit, then-undo, then-close}
+use Rattle.host.specs.Histories.{Calls, none, then-edit, then-undo, then-close, WordsMade}
 use Rattle.host.specs.Host.{KeepsBook, Edits, pastCounts, toldPairs, toldChain, toldTotal, toldTree, Told, Asked, TellsTotal}
 
 pub edits-book : {c : Call} {ws vs : List ℕ} {k : ℕ} → Edits c ws vs k → (b : Book) → KeepsBook ws b → (k ≡ answer b c) × KeepsBook vs (next b c)
@@ -50,6 +54,18 @@ calls-book (then-close l e r) b h =
     let f = edits-book (e .edits) b h in
     let g = calls-book r (next b _) (f .1) in
     ((λ i. f .0 i ∷ g .0 i), more-given (e .given b h) (g .1), g .2)
+
+-- from a fresh register on: each number and list is the book's, and the words at the end keep the book after the calls
+pub words-made : {n : ℕ} {cs : List Call} {vs : List ℕ} (M : WordsMade n cs vs)
+    → (M .told ≡ answers (fresh n) cs) × Gives (givens (fresh n) cs) (M .lists) × KeepsBook vs (after (fresh n) cs)
+words-made {n} M = calls-book (M .calls) (fresh n) (M .opens .made refl)
+
+-- and no call touches the words past a register's
+pub calls-past : {cs : List Call} {ws vs ks : List ℕ} {ls : List Lent} → Calls cs ws vs ks ls → drop stateWords vs ≡ drop stateWords ws
+calls-past none = refl
+calls-past (then-edit e r) = calls-past r ∙ e .past
+calls-past (then-undo e r) = calls-past r ∙ e .past
+calls-past (then-close l e r) = calls-past r ∙ e .edits .past
 
 module _ {ws before after′ : List ℕ} {k : ℕ} (text : List ℕ) (work : ℕ) (b : Book) (h : KeepsBook ws b) where
   pub pairs-book : Asked ws (λ r. AsksPairs r text work before after′) toldPairs before after′ k

@@ -2,6 +2,8 @@ pub mod Host
 pub mod Histories
 pub mod Inner
 pub mod HostLaws
+pub mod Demand
+pub mod DemandLaws
 pub mod Previews
 pub mod PreviewLaws
 pub mod Generations
@@ -12,3 +14,4 @@ pub mod OffsetsLaws
 pub mod PageHost
 pub mod PageHostLaws
 pub mod RowQuestionLaws
+pub mod MadeLaws

@@ -13,20 +13,25 @@
 --   TypedRun w s k ls o s′ k′
 --                       a typed session: from the session s and the list k on, the lines ls are answered by the bytes o, line by line, and leave the session s′
 --                       and the list k′
+--   Sends n ls o e      the program's loop, of at most n turns: it reads the lines ls, writes the frame of each, in all o, and ends by e
+--   SentAll all         the program: such a loop, which tells whether all that it wrote could be written
 -- Assumes nothing: these are definitions.
 use mathlib.Core.Path.{_≡_}
 use mathlib.Core.List.{List, [], _∷_, _++_}
-use Prim.Native.Nat.{ℕ, _+_, _-_}
+use mathlib.Core.Bool.{Bool}
+use Prim.Native.Nat.{ℕ, suc, _+_, _-_}
 use lib.Dec.{eqb}
-use lib.ListN.{length}
+use lib.ListN.{length, take}
 use Rattle.book.specs.Basics.{pick}
 use Rattle.book.specs.Causes.{number, unknown-kind}
 use Rattle.book.specs.Book.{Link, Edit, edit, undo, close, add, remove, lock, unlock, withdraw, reinstate}
 use Rattle.paths.specs.Grammar.{Verdict}
 use Rattle.paths.specs.Chains.{Reply}
 use Rattle.register.specs.History.{addKind, removeKind, lockKind, unlockKind, undoKind, withdrawKind, reinstateKind}
+use Rattle.report.specs.Written.{Wrote}
 use Rattle.session.specs.Program.{twoBytes, frameOf, openKind, pairsKind, chainKind, totalKind, Request, Frame, asks, faulty, opening, call, pairs, chain}
 use Rattle.session.specs.Program.{totalling, Session, nextSession, Right, printed, listLeft, minFrame, maxFrame}
+use Rattle.session.specs.Runs.{End, ended, unsent, spent, allSent, mostTurns}
 use Rattle.lines.specs.Typed.{Typed, nothing, saying, typed}
 
 unfoldable pub linkBytes : Link → List ℕ
@@ -108,3 +113,18 @@ pub data TypedRun (work : ℕ) : Session → List ℕ → List (List ℕ) → Li
   next-line : {s s′ : Session} {k k′ : List ℕ} {ls : List (List ℕ)} {o : List ℕ} (l : List ℕ) (v : Verdict) (u : Reply) → RightTyped s (typed l) v u
       → TypedRun work (afterTyped s (typed l)) (leftTyped work k s (typed l) v u) ls o s′ k′
       → TypedRun work s k (l ∷ ls) (printedTyped work (length k) s (typed l) v u ++ o) s′ k′
+
+-- ---- the program's loop
+pub data Sends : ℕ → List (List ℕ) → List ℕ → End → Type 0 where
+  no-turns : Sends 0 [] [] spent
+  last-line : {n w : ℕ} {l out out′ : List ℕ} → Wrote 0 (sent (typed l)) out out′ w → Sends (suc n) (l ∷ []) (take w out′) ended
+  not-sent : {n w : ℕ} {l out out′ : List ℕ} → Wrote 0 (sent (typed l)) out out′ w → Sends (suc n) (l ∷ []) (take w out′) unsent
+  one-more : {n w : ℕ} {l o out out′ : List ℕ} {ls : List (List ℕ)} {e : End} → Wrote 0 (sent (typed l)) out out′ w
+      → Sends n ls o e → Sends (suc n) (l ∷ ls) (take w out′ ++ o) e
+
+pub record SentAll (all : Bool) : Type 0 where
+  pub lines : List (List ℕ)
+  pub output : List ℕ
+  pub end : End
+  pub sends : Sends mostTurns lines output end
+  pub tells : all ≡ allSent end

@@ -6,3 +6,4 @@ pub mod TypedCases
 pub mod SaidLaws
 pub mod Encoding
 pub mod EncodingLaws
+pub mod LoopLaws

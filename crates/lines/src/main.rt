@@ -17,19 +17,28 @@ mod frames;
 mod requests;
 mod words;
 
+use libc::STDERR_FILENO;
 use libc::STDIN_FILENO;
 use libc::STDOUT_FILENO;
-ghost use Prim.Native.Nat.{_≤_};
-ghost use lib.ListN.{length};
+ghost use mathlib.Core.Path.{_≡_};
+ghost use Prim.Native.Nat.{_≤_, _<_};
+ghost use lib.ListN.{length, take};
+ghost use Rattle.report.specs.Written.{Wrote};
+ghost use Rattle.lines.specs.Typed.{maxLine, typed};
+ghost use Rattle.lines.specs.Encoding.{sent, frameRoom, SentAll};
 
 // The next byte of standard input, or 256 at its end.
-fn read_byte() -> u32 {
+fn read_byte() -> u32
+    ensures { λ r. ⌜ r ≤ 256 ⌝ }
+{
     let mut one = [0u8; 1];
     let got = io::read_full(STDIN_FILENO, &mut one);
     if got == 0 { 256 } else { wide(one[0]) }
 }
 
-fn wide(b: u8) -> u32 {
+fn wide(b: u8) -> u32
+    ensures { λ r. ⌜ (r ≡ b) × (r < 256) ⌝ }
+{
     b as u32
 }
 
@@ -62,19 +71,54 @@ fn read_line(line: &mut [u8]) -> Line
     Line { len, more: false }
 }
 
-// Reads a line, writes its frame, and answers whether to go on.
-fn turn() -> bool {
-    let mut buffer = [0u8; 2048];
-    let mut out = [0u8; 1026];
-    let line = read_line(&mut buffer);
-    let len = line.len;
-    let written = requests::frame(&buffer[..len], &mut out);
-    io::write_all(STDOUT_FILENO, &out[..written]) && line.more
+// How many bytes of a line were read and how many its frame has, whether they could be written, and whether more lines may follow.
+struct Turned {
+    len: usize,
+    written: usize,
+    sent: bool,
+    more: bool,
+}
+
+// Reads a line and writes its frame, with out for its bytes.
+fn turn(line: &mut [u8], out: &mut [u8]) -> Turned
+    requires { ⌜ maxLine < length (now line) ⌝ }
+    requires { ⌜ frameRoom ≤ length (now out) ⌝ }
+    ensures { λ r. ⌜ Wrote 0 (sent (typed (take (r .len) (now (line .exit))))) (now (out .entry)) (now (out .exit)) (r .written) ⌝ }
+{
+    let read = read_line(line);
+    let len = read.len;
+    let written = requests::frame(&line[..len], out);
+    let sent = io::write_all(STDOUT_FILENO, &out[..written]);
+    Turned {
+        len,
+        written,
+        sent,
+        more: read.more,
+    }
+}
+
+// Reads lines and writes their frames, as long as more may follow and they can be written, and tells whether all of them were.
+fn send_all() -> bool
+    ensures { λ r. ⌜ SentAll r ⌝ }
+{
+    let mut line = [0u8; requests::LINE_BYTES];
+    let mut out = [0u8; session::FRAME_BYTES];
+    let mut lines = u64::MAX;
+    while lines > 0 {
+        let turned = turn(&mut line, &mut out);
+        if !turned.sent {
+            return false;
+        }
+        if !turned.more {
+            return true;
+        }
+        lines -= 1;
+    }
+    true
 }
 
 fn main() {
-    let mut turns = u64::MAX;
-    while turns > 0 && turn() {
-        turns -= 1;
+    if !send_all() {
+        io::write_all(STDERR_FILENO, b"lines: cannot write\n");
     }
 }

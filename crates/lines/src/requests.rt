@@ -39,6 +39,9 @@ const NO_KIND: u8 = 0;
 // The most bytes of a line.
 const MOST_LINE: usize = 2047;
 
+// What a line is read into: a byte more, so that a longer one is told.
+pub const LINE_BYTES: usize = MOST_LINE + 1;
+
 // Arguments that do not fit.
 fn broken(out: &mut [u8]) -> usize
     requires { ⌜ frameRoom ≤ length (now out) ⌝ }

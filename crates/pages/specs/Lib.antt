@@ -6,3 +6,4 @@ pub mod ReadLaws
 pub mod PageCallLaws
 pub mod RoundTripLaws
 pub mod PageCases
+pub mod MadeLaws

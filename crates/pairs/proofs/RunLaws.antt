@@ -34,6 +34,7 @@ use Rattle.rows.specs.Rows.{flat}
 use Rattle.reader.specs.declared.items.Item.{Item}
 use Rattle.reader.specs.Code.{itemOf, does, run}
 use Rattle.register.specs.Marks.{withdrawnMark, hasMark}
+use Rattle.register.specs.MarkLaws.{listed-withdrawn}
 use Rattle.register.specs.Questions.{MarkList}
 use Rattle.register.specs.Representation.{Represents}
 use Rattle.register.specs.declared.Register.{Register}
@@ -180,4 +181,4 @@ module _ (ms : List ℕ) (i : ℕ) where
 -- of a register's marks they are those of its book
 pub used-asked : {r : Register} (ms : List ℕ) → MarkList r ms → (n : ℕ) (b : Book) → Represents r b → n ≡ b .n → usedBelow n ms ≡ (λ x. bit (asked b .inUse x))
 unfolding usedBelow asked
-used-asked ms M n b R e = fun-ext (λ x. rw (e, M .withdrawn b R x))
+used-asked ms M n b R e = fun-ext (λ x. rw (e, listed-withdrawn M R x))

@@ -305,7 +305,8 @@ pub fn read_at(src: &[u8], at: usize) -> Reading
     }
 }
 
-// The caller's bytes and a place in them. Its functions are thin: the work is done by `read_at`, on the slice and the number.
+// The caller's bytes and the place in them from which on they are read. Its functions are thin: the work is done by `read_at`, on the slice and the
+// number.
 pub struct Reader<'a> {
     pub src: &'a [u8],
     pub at: usize,
@@ -317,13 +318,6 @@ impl<'a> Reader<'a> {
         ensures { λ r. ⌜ (r .src ≡ src .entry) × (r .at ≡ 0) ⌝ }
     {
         Reader { src, at: 0 }
-    }
-
-    // The same bytes, at another place.
-    pub fn moved(self, at: usize) -> Reader<'a>
-        ensures { λ r. ⌜ (r .src ≡ self .entry .src) × (r .at ≡ at) ⌝ }
-    {
-        Reader { src: self.src, at }
     }
 
     // The expression that starts at the place, which may be in the middle of the slice, and ends with it.

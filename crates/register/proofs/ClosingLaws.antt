@@ -40,9 +40,9 @@ use Rattle.book.specs.CloseLaws.{link-used, closed-fit, closed-locked, closed-t
 use Rattle.book.specs.GivenLaws.{length-numbers, numbers-same}
 use Rattle.register.specs.Links.{linkWord, linkOf, labelUnit, wordTotal, Linked}
 use Rattle.register.specs.LinkLaws.{word-link}
-use Rattle.register.specs.Marks.{freeMark, lockMark, withdrawnMark, Marked}
+use Rattle.register.specs.Marks.{freeMark, lockMark, withdrawnMark, markOf, Marked}
 use Rattle.register.specs.MarkLaws.{shows-locked, shows-withdrawn, mark-by}
-use Rattle.register.specs.Packed.{markOf, Shows, Piled}
+use Rattle.register.specs.Packed.{Shows, Piled}
 use Rattle.register.specs.Counters.{InRange}
 use Rattle.register.specs.Representation.{latest, packedOf, Represents}
 use Rattle.register.specs.Calls.{answerOf, Steps, Closes}

@@ -1,6 +1,5 @@
 -- Laws of what the questions are given.
---   part-pairs, label-part
---                  the part of an ascending list between two numbers: the links of a label
+--   label-part     the part of words between two places: of ascending words, those of a label
 --   next-here, next-on, next-end
 --                  the next place whose word passes a test: here, further on, none
 --   touched-from, touched-second
@@ -14,19 +13,19 @@ use Prim.Native.Nat.{ℕ, zero, suc, _+_, _*_, _-_, _/_, _%_, _≤_, _<_, min}
 use native.Mathlib.Numerals.{add-one}
 use native.Mathlib.Omega.{arith}
 use native.Mathlib.Decide.{decLt}
-use lib.Dec.{ltb}
+use lib.Dec.{ltb, eqb}
 use lib.ListN.{length, take, drop, getD, length-drop, drop-of-length-le}
 use lib.Seq.{drop-cons, getD-drop}
-use borrow.Author.Tests.{ltb-true, ltb-false, lt-ltb, le-ltb, eqb-true, eq-eqb}
+use borrow.Author.Tests.{ltb-true, ltb-false, lt-ltb, le-ltb, eqb-true, eq-eqb, ne-eqb}
 use Rattle.book.specs.Basics.{pick, In, here, there, Rises, ended, rises}
 use Rattle.book.specs.Causes.{maxRecords}
 use Rattle.book.specs.Book.{Link, Sheet, present, touched}
-use Rattle.book.specs.ListLaws.{in-front, in-none, in-at, at-in, map-in, in-map, rises-least}
+use Rattle.book.specs.ListLaws.{in-front, in-none, in-at, at-in, map-in, in-map, rises-from}
 use Rattle.book.specs.Sheets.{Fit}
 use Rattle.book.specs.BookLaws.{touched-end, end-touched}
 use Rattle.register.specs.Links.{linkWord, linkOf, Linked}
 use Rattle.register.specs.Inner.{Seam, hasAt}
-use Rattle.register.specs.Lookups.{pairOf, PairsOf, LabelPart, firstPlace, nextPlace}
+use Rattle.register.specs.Lookups.{pairOf, PairsOf, ofLabel, LabelPart, firstPlace, nextPlace}
 use Rattle.register.proofs.AscendingLaws.{below, seam-list}
 
 -- ---- the part between two numbers
@@ -39,47 +38,72 @@ rises-drop a (rises {w = y} {l = ys} h r) = go (ltb y a) refl (rises-drop a r)
     go true e ih = ih
     go false e ih = rises (ltb-false y a e) r
 
-rises-take : {m : ℕ} (k : ℕ) {l : List ℕ} → Rises m l → Rises m (take k l)
-rises-take zero r = ended
-rises-take (suc k) ended = ended
-rises-take (suc k) (rises h r) = rises h (rises-take k r)
+-- ---- the words of a label
+of-label-none : {m : ℕ} (l : ℕ) {ws : List ℕ} → Rises m ws → l * 1048576 + 1048576 ≤ m → ofLabel l ws ≡ []
+unfolding ofLabel
+of-label-none l ended h = refl
+of-label-none l (rises {w = y} g r) h =
+    let z : (y / 1048576 ≡ l → ⊥) = λ e. omega (arith, g, h) in
+    rw (ne-eqb (y / 1048576) l z) (of-label-none l r (omega (arith, g)))
 
-in-drop : {w : ℕ} (k : ℕ) (l : List ℕ) → In w (drop k l) → In w l
-in-drop zero l h = h
-in-drop (suc k) [] h = h
-in-drop (suc k) (x ∷ l) h = there (in-drop k l h)
-
-in-take : {w : ℕ} (k : ℕ) (l : List ℕ) → In w (take k l) → In w l
-in-take zero l h = absurd (in-none h refl)
-in-take (suc k) [] h = h
-in-take (suc k) (x ∷ l) h = ⊎-elim (λ e. subst (λ (v : ℕ). In v (x ∷ l)) (sym e) here) (λ i. there (in-take k l i)) (in-front h refl)
-
-drop-in : {w m : ℕ} (a : ℕ) {l : List ℕ} → Rises m l → In w l → a ≤ w → In w (drop (below a l) l)
-unfolding below
-drop-in a ended h p = h
-drop-in {w} a (rises {w = y} {l = ys} g r) h p = go (ltb y a) refl (drop-in a r)
+-- the words before its first have another label
+of-label-drop : {m : ℕ} (l : ℕ) {ws : List ℕ} → Rises m ws → ofLabel l (drop (below (l * 1048576) ws) ws) ≡ ofLabel l ws
+unfolding below ofLabel
+of-label-drop l ended = refl
+of-label-drop l (rises {w = y} {l = ys} g r) = go (ltb y (l * 1048576)) refl (of-label-drop l r)
   where
-    go : (t : Bool) → ltb y a ≡ t → (In w ys → a ≤ w → In w (drop (below a ys) ys)) → In w (drop (pick t (suc (below a ys)) 0) (y ∷ ys))
-    go true e ih = ⊎-elim (λ q. absurd (omega (arith, ltb-true y a e))) (λ i. ih i p) (in-front h refl)
-    go false e ih = h
+    go : (t : Bool) → ltb y (l * 1048576) ≡ t → ofLabel l (drop (below (l * 1048576) ys) ys) ≡ ofLabel l ys
+        → ofLabel l (drop (pick t (suc (below (l * 1048576) ys)) 0) (y ∷ ys)) ≡ pick (eqb (y / 1048576) l) (y ∷ ofLabel l ys) (ofLabel l ys)
+    go true e ih = let z : (y / 1048576 ≡ l → ⊥) = λ q. omega (arith, ltb-true y (l * 1048576) e) in rw (ne-eqb (y / 1048576) l z) ih
+    go false e ih = refl
 
-take-below : {w m : ℕ} (b : ℕ) {l : List ℕ} → Rises m l → In w (take (below b l) l) → w < b
-unfolding below
-take-below b ended h = absurd (in-none h refl)
-take-below {w} b (rises {w = y} {l = ys} g r) h = go (ltb y b) refl h (take-below b r)
+-- from its first on, those up to the next label's first have it, and no other
+of-label-take : {m : ℕ} (l : ℕ) {ws : List ℕ} → Rises m ws → l * 1048576 ≤ m → take (below (l * 1048576 + 1048576) ws) ws ≡ ofLabel l ws
+unfolding below ofLabel
+of-label-take l ended h = refl
+of-label-take l (rises {w = y} {l = ys} g r) h = go (ltb y (l * 1048576 + 1048576)) refl (of-label-take l r (omega (arith, g, h)))
   where
-    go : (t : Bool) → ltb y b ≡ t → In w (take (pick t (suc (below b ys)) 0) (y ∷ ys)) → (In w (take (below b ys) ys) → w < b) → w < b
-    go true e h ih = ⊎-elim (λ q. omega (arith, ltb-true y b e)) ih (in-front h refl)
-    go false e h ih = absurd (in-none h refl)
+    go : (t : Bool) → ltb y (l * 1048576 + 1048576) ≡ t → take (below (l * 1048576 + 1048576) ys) ys ≡ ofLabel l ys
+        → take (pick t (suc (below (l * 1048576 + 1048576) ys)) 0) (y ∷ ys) ≡ pick (eqb (y / 1048576) l) (y ∷ ofLabel l ys) (ofLabel l ys)
+    go true e ih =
+        let z : y / 1048576 ≡ l = omega (arith, g, h, ltb-true y (l * 1048576 + 1048576) e) in
+        rw (eq-eqb (y / 1048576) l z) (ap (λ (t : List ℕ). y ∷ t) ih)
+    go false e ih =
+        let f : l * 1048576 + 1048576 ≤ y = ltb-false y (l * 1048576 + 1048576) e in
+        let z : (y / 1048576 ≡ l → ⊥) = λ q. omega (arith, f) in
+        rw (ne-eqb (y / 1048576) l z) (sym (of-label-none l r (omega (arith, f))))
 
-take-in : {w m : ℕ} (b : ℕ) {l : List ℕ} → Rises m l → In w l → w < b → In w (take (below b l) l)
-unfolding below
-take-in b ended h p = h
-take-in {w} b (rises {w = y} {l = ys} g r) h p = go (ltb y b) refl (take-in b r)
+of-label-rises : {m : ℕ} (l : ℕ) {ws : List ℕ} → Rises m ws → Rises m (ofLabel l ws)
+unfolding ofLabel
+of-label-rises l ended = ended
+of-label-rises {m} l (rises {w = y} {l = ys} g r) = go (eqb (y / 1048576) l) (of-label-rises l r)
   where
-    go : (t : Bool) → ltb y b ≡ t → (In w ys → w < b → In w (take (below b ys) ys)) → In w (take (pick t (suc (below b ys)) 0) (y ∷ ys))
-    go true e ih = ⊎-elim (λ q. subst (λ (v : ℕ). In w (v ∷ take (below b ys) ys)) q here) (λ i. there (ih i p)) (in-front h refl)
-    go false e ih = ⊎-elim (λ q. absurd (omega (arith, ltb-false y b e))) (λ i. absurd (omega (arith, ltb-false y b e, rises-least r i))) (in-front h refl)
+    go : (t : Bool) → Rises (suc y) (ofLabel l ys) → Rises m (pick t (y ∷ ofLabel l ys) (ofLabel l ys))
+    go true ih = rises g ih
+    go false ih = rises-from (omega arith) ih
+
+of-label-in : {w : ℕ} (l : ℕ) (ws : List ℕ) → In w (ofLabel l ws) → In w ws × (w / 1048576 ≡ l)
+unfolding ofLabel
+of-label-in l [] h = absurd (in-none h refl)
+of-label-in {w} l (y ∷ ys) h = go (eqb (y / 1048576) l) refl h (of-label-in l ys)
+  where
+    go : (t : Bool) → eqb (y / 1048576) l ≡ t → In w (pick t (y ∷ ofLabel l ys) (ofLabel l ys))
+        → (In w (ofLabel l ys) → In w ys × (w / 1048576 ≡ l)) → In w (y ∷ ys) × (w / 1048576 ≡ l)
+    go true e h ih =
+        ⊎-elim
+        (λ q. (subst (λ (v : ℕ). In v (y ∷ ys)) (sym q) here, ap (λ (v : ℕ). v / 1048576) q ∙ eqb-true (y / 1048576) l e))
+        (λ i. let r = ih i in (there (r .0), r .1))
+        (in-front h refl)
+    go false e h ih = let r = ih h in (there (r .0), r .1)
+
+in-of-label : {w : ℕ} (l : ℕ) {ws : List ℕ} → In w ws → w / 1048576 ≡ l → In w (ofLabel l ws)
+unfolding ofLabel
+in-of-label {w} l (here {l = ys}) e = rw (eq-eqb (w / 1048576) l e) here
+in-of-label {w} l (there {v = y} {l = ys} h) e = go (eqb (y / 1048576) l) (in-of-label l h e)
+  where
+    go : (t : Bool) → In w (ofLabel l ys) → In w (pick t (y ∷ ofLabel l ys) (ofLabel l ys))
+    go true i = there i
+    go false i = i
 
 rises-pairs : {m : ℕ} (label : ℕ) {l : List ℕ} → Rises m l → label * 1048576 ≤ m
     → ((w : ℕ) → In w l → w < label * 1048576 + 1048576) → Rises (m - label * 1048576) (map pairOf l)
@@ -91,51 +115,51 @@ rises-pairs {m} label (rises {w = w} {l = l} g r) h f =
     rises {m = m - label * 1048576} {w = w % 1048576} (omega arith)
     (subst (λ (v : ℕ). Rises v (map pairOf l)) t (rises-pairs label r (omega arith) (λ v i. f v (there i))))
 
-module _ (ws : List ℕ) (label i k : ℕ) (first : Seam (label * 1048576) ws (length ws) i)
-    (second : Seam (label * 1048576 + 1048576) (drop i ws) (length (drop i ws)) k)
-    {n : ℕ} (small : n ≤ maxRecords) {s : Sheet} (fit : Fit n s) (linked : Linked ws s) where
-  rest-rises : Rises (label * 1048576) (drop i ws)
-  rest-rises = rw (seam-list (label * 1048576) ws i (linked .ascending) first) (rises-drop (label * 1048576) (linked .ascending))
+-- the part between the places of a label's first word and of the next label's
+part-words : (ws : List ℕ) (label i k : ℕ) → Seam (label * 1048576) ws (length ws) i
+    → Seam (label * 1048576 + 1048576) (drop i ws) (length (drop i ws)) k → Rises 0 ws → take k (drop i ws) ≡ ofLabel label ws
+part-words ws label i k first second up =
+    let e = seam-list (label * 1048576) ws i up first in
+    let r : Rises (label * 1048576) (drop i ws) = rw e (rises-drop (label * 1048576) up) in
+    ap (λ (m : ℕ). take m (drop i ws)) (seam-list _ (drop i ws) k r second) ∙ of-label-take label r (omega arith)
+    ∙ ap (λ (m : ℕ). ofLabel label (drop m ws)) e ∙ of-label-drop label up
 
-  in-part : {w : ℕ} → In w (take k (drop i ws)) → In w ws × (label * 1048576 ≤ w) × (w < label * 1048576 + 1048576)
-  in-part {w} h =
-      let r = in-take k (drop i ws) h in
-      (in-drop i ws r, rises-least rest-rises r, take-below (label * 1048576 + 1048576) rest-rises (rw (seam-list _ (drop i ws) k rest-rises second) at h))
-
-  part-in : {w : ℕ} → In w ws → label * 1048576 ≤ w → w < label * 1048576 + 1048576 → In w (take k (drop i ws))
-  part-in {w} h p q =
-      let e = seam-list (label * 1048576) ws i (linked .ascending) first in
-      let r : In w (drop i ws) = rw e (drop-in (label * 1048576) (linked .ascending) h p) in
-      rw (seam-list _ (drop i ws) k rest-rises second) (take-in (label * 1048576 + 1048576) rest-rises r q)
-
-  -- the pairs of the part are those of the label's links
-  pub part-pairs : PairsOf s label (map pairOf (take k (drop i ws)))
-  part-pairs = record {
+-- the pairs of the words of a label are those of its links
+module _ (ws : List ℕ) (label : ℕ) {n : ℕ} (small : n ≤ maxRecords) {s : Sheet} (fit : Fit n s) (linked : Linked ws s) where
+  label-pairs : PairsOf s label (map pairOf (ofLabel label ws))
+  label-pairs = record {
     ascending =
         let e : label * 1048576 - label * 1048576 ≡ 0 = omega arith in
-        rw e at (rises-pairs label (rises-take k rest-rises) (omega arith) (λ w h. in-part h .2));
+        let r : Rises (label * 1048576) (ofLabel label ws) =
+        subst (Rises (label * 1048576)) (of-label-drop label (linked .ascending))
+        (of-label-rises label (rises-drop (label * 1048576) (linked .ascending))) in
+        rw e at (rises-pairs label r (omega arith) (λ w h. let q = of-label-in label ws h .1 in omega arith));
     sound = λ _ h.
-        let r = in-map pairOf (take k (drop i ws)) h in
-        let q = in-part (r .1) in
+        let r = in-map pairOf (ofLabel label ws) h in
+        let q = of-label-in label ws (r .1) in
         let o = linked .sound (r .0) (q .0) in
         let p = fit .links (o .0) (o .2) in
-        let l : o .0 .label ≡ label = omega (arith, o .1, q .1, q .2, p .from, p .to) in
+        let l : o .0 .label ≡ label = omega (arith, o .1, q .1, p .from, p .to) in
         let v : r .0 % 1048576 ≡ o .0 .from * 1024 + o .0 .to = omega (arith, o .1, p .from, p .to) in
         (o .0 .from, o .0 .to, r .2 ∙ v, subst (λ (m : ℕ). present s (record { from = o .0 .from; label = m; to = o .0 .to }) ≡ true) l (o .2));
     whole = λ x y e.
         let p = fit .links _ e in
         let w : ℕ = linkWord (record { from = x; label = label; to = y }) in
         let v : w % 1048576 ≡ x * 1024 + y = omega (arith, p .from, p .to) in
-        subst (λ (u : ℕ). In u (map pairOf (take k (drop i ws)))) v (map-in pairOf (part-in (linked .whole _ e) (omega arith) (omega (arith, p .from, p .to))));
+        subst (λ (u : ℕ). In u (map pairOf (ofLabel label ws))) v (map-in pairOf (in-of-label label (linked .whole _ e) (omega (arith, p .from, p .to))));
   }
 
 pub label-part : (ws rest : List ℕ) (label i k : ℕ) → rest ≡ drop i ws
     → Seam (label * 1048576) ws (length ws) i → Seam (label * 1048576 + 1048576) rest (length rest) k →
     LabelPart ws label (take k rest)
-label-part ws rest label i k e first second = rw e (record {
-  inside = (i, k, refl);
-  pairs = λ n s small fit linked. part-pairs ws label i k first (rw e at second) small fit linked;
-})
+label-part ws rest label i k e first second =
+    let f : Rises 0 ws → take k (drop i ws) ≡ ofLabel label ws = part-words ws label i k first (rw e at second) in
+    rw e (record {
+      inside = (i, k, refl);
+      words = f;
+      pairs = λ n s small fit linked.
+          subst (λ (ps : List ℕ). PairsOf s label (map pairOf ps)) (sym (f (linked .ascending))) (label-pairs ws label small fit linked);
+    })
 
 -- ---- the next place whose word passes a test
 first-le : (test : ℕ → Bool) (l : List ℕ) → firstPlace test l ≤ length l

@@ -5,6 +5,7 @@
 --   answered, kept, given-lent
 --                     of calls made one after the other: the numbers told, the register at the end and the lists lent are the book's
 --   history           so of a history of any length from a fresh register
+--   made-history      so of every register that calls made
 --   Members e b       what the register e and the book b have in common, as sets: the links, each once, the totals, and the locks
 --   members, history-members
 --                     so of a register that represents the book, at the end of a history
@@ -22,11 +23,12 @@ use mathlib.Core.List.{List, [], _∷_, _++_, append-assoc}
 use Prim.Native.Nat.{ℕ, zero, suc, _+_, _*_, _/_, _%_, _<_}
 use native.Mathlib.Omega.{arith}
 use lib.Dec.{eqb}
+use borrow.Author.Tests.{le-ltb}
 use lib.ListN.{length, take, getD}
 use Rattle.book.specs.Basics.{pick, All, all-none, all-more}
-use Rattle.book.specs.Causes.{labels}
+use Rattle.book.specs.Causes.{labels, number, firstNumber, maxRecords}
 use Rattle.book.specs.Book.{sameLink, Sheet, Book, add, remove, lock, unlock, withdraw, reinstate, Call, edit, undo, close, isLocked, isWithdrawn, total}
-use Rattle.book.specs.Book.{answer, next, fresh, answers, after, givens}
+use Rattle.book.specs.Book.{answer, next, freshAnswer, fresh, answers, after, givens}
 use Rattle.book.specs.Sheets.{Distinct, Fit, Sound}
 use Rattle.register.specs.Links.{Linked}
 use Rattle.register.specs.Marks.{lockMark, withdrawnMark, hasMark}
@@ -38,6 +40,7 @@ use Rattle.register.specs.History.{Lent, CallsMade, done, more-edit, mor
 use Rattle.register.specs.History.{addKind, removeKind, lockKind, unlockKind, undoKind, withdrawKind, reinstateKind, closeKind, kindCall, wordCall}
 use Rattle.register.specs.History.{Entry, is-call, no-call, entryNumber, entryNext, entryCalls, isCall}
 use Rattle.register.specs.History.{wordAnswers, callsOf, toldCalls}
+use Rattle.register.specs.Made.{MadeBy}
 use Rattle.register.specs.declared.Register.{Register}
 use Rattle.register.specs.declared.Answer.{Answer}
 use Rattle.register.specs.declared.Answer.the-variants.{Done}
@@ -83,6 +86,14 @@ module _ {e : Register} where
 pub history : (n : ℕ) {r e : Register} {cs : List Call} {told : List ℕ} {ls : List Lent} → Represents r (fresh n) → CallsMade r cs told ls e
     → (told ≡ answers (fresh n) cs) × Gives (givens (fresh n) cs) ls × Represents e (after (fresh n) cs)
 history n h run = (answered run (fresh n) h, given-lent run (fresh n) h, kept run (fresh n) h)
+
+-- of every register that calls made
+pub made-history : {n : ℕ} {cs : List Call} {r : Register} (M : MadeBy n cs r)
+    → (M .told ≡ answers (fresh n) cs) × Gives (givens (fresh n) cs) (M .lists) × Represents r (after (fresh n) cs)
+unfolding freshAnswer firstNumber number
+made-history {n} M =
+    let z : freshAnswer n ≡ 0 = rw (le-ltb n 1 (M .some), le-ltb maxRecords n (M .few)) in
+    history n (M .opens .made z) (M .calls)
 
 -- ---- what the register at the end shows
 pub record Members (e : Register) (b : Book) : Type 0 where

@@ -6,6 +6,7 @@ pub mod Representation
 pub mod Calls
 pub mod Entries
 pub mod History
+pub mod Made
 pub mod Questions
 pub mod Lookups
 pub mod Words

@@ -10,8 +10,9 @@ use lib.Seq.{getD-set-same, getD-set-other, set-set, set-getD}
 use borrow.Author.Tests.{eqb-true, eqb-false}
 use Rattle.book.specs.Basics.{pick}
 use Rattle.book.specs.Book.{Sheet, Book, isLocked, isWithdrawn}
-use Rattle.register.specs.Marks.{freeMark, lockMark, withdrawnMark, hasMark, Marked}
-use Rattle.register.specs.Packed.{Packed, markOf, Shows}
+use Rattle.register.specs.Marks.{freeMark, lockMark, withdrawnMark, markOf, hasMark, Marked}
+use Rattle.register.specs.Packed.{Packed, Shows}
+use Rattle.register.specs.Questions.{MarkList}
 use Rattle.register.specs.Representation.{Represents}
 use Rattle.register.specs.declared.Register.{Register}
 
@@ -59,6 +60,11 @@ module _ {n : ℕ} {p : Packed} {s : Sheet} (h : Shows n p s) where
 
 pub represents-marked : {r : Register} {b : Book} → Represents r b → Marked (r .marks)
 represents-marked h = shows-marked (h .sheet)
+
+-- what `marks` hands out says of each record whether it is withdrawn
+pub listed-withdrawn : {r : Register} {b : Book} {ms : List ℕ} → MarkList r ms → Represents r b → (x : ℕ)
+    → hasMark withdrawnMark ms x ≡ isWithdrawn (b .sheet) x
+listed-withdrawn {b = b} M R x = ap (λ (m : ℕ). eqb m withdrawnMark) (M .marks b R x) ∙ mark-withdrawn (b .sheet) x
 
 -- ---- a mark set
 mark-set : (ms : List ℕ) (r j m : ℕ) → r < length ms → getD (set ms r m) j freeMark ≡ pick (eqb r j) m (getD ms j freeMark)

@@ -1,6 +1,5 @@
 -- A sheet as the register keeps it, and what a held edit takes back: the means by which a register is related to a book.
 --   Packed           the links' words, and the mark of each record
---   markOf s r       the mark of the record r in the sheet s
 --   insert x l       x put in before the first number of l that is not below it
 --   kindUnit         a held word is its kind times this, plus the link's word or the record
 --   heldWord e       the word that is held for an edit
@@ -15,17 +14,14 @@ use Prim.Native.Nat.{ℕ, zero, suc, _+_, _*_, _/_, _%_}
 use lib.ListN.{length, getD, set}
 use lib.Dec.{eqb, ltb}
 use Rattle.book.specs.Basics.{pick, without}
-use Rattle.book.specs.Book.{Sheet, Edit, add, remove, lock, unlock, withdraw, reinstate, isLocked, isWithdrawn, total}
+use Rattle.book.specs.Book.{Sheet, Edit, add, remove, lock, unlock, withdraw, reinstate, total}
 use Rattle.book.specs.Sheets.{Fit}
 use Rattle.register.specs.Links.{linkWord, wordTotal, Linked}
-use Rattle.register.specs.Marks.{freeMark, lockMark, withdrawnMark}
+use Rattle.register.specs.Marks.{freeMark, lockMark, withdrawnMark, markOf}
 
 pub record Packed : Type 0 where
   pub links : List ℕ
   pub marks : List ℕ
-
-abbrev pub markOf : Sheet → ℕ → ℕ
-markOf s r = pick (isWithdrawn s r) withdrawnMark (pick (isLocked s r) lockMark freeMark)
 
 unfoldable pub insert : ℕ → List ℕ → List ℕ
 insert x [] = x ∷ []

@@ -2,7 +2,7 @@
 -- read of them.
 --   Sized self n         what `size` promises: at most 1,024, and the number of records of every book that the register represents
 --   Listing self r       what `links` promises: at most 4,096 words, and for every book that the register represents, the words of its links
---   MarkList self r      what `marks` promises: for every book that the register represents, whether each record is locked, and whether it is withdrawn
+--   MarkList self r      what `marks` promises: for every book that the register represents, the mark of each record
 --   Locking self k r     what `is_locked` promises: whether the record k is locked
 --   Withdrawal self k r  what `is_withdrawn` promises: whether it is withdrawn
 --   TotalList self r     what `totals` promises: for every book that the register represents, the total of each label
@@ -19,7 +19,7 @@ use lib.ListN.{length, take, getD, replicate}
 use Rattle.book.specs.Causes.{bad-label, not-open, number, labels, maxRecords, maxLinks}
 use Rattle.book.specs.Book.{Sheet, Book, isLocked, isWithdrawn, total, totalNumber}
 use Rattle.register.specs.Links.{Linked}
-use Rattle.register.specs.Marks.{freeMark, lockMark, withdrawnMark, hasMark}
+use Rattle.register.specs.Marks.{freeMark, markOf}
 use Rattle.register.specs.Counters.{InRange}
 use Rattle.register.specs.Representation.{Represents}
 use Rattle.register.specs.declared.Register.{Register}
@@ -41,8 +41,7 @@ pub record Listing (self : Register) (r : Links) : Type 0 where
 pub record MarkList (self : Register) (r : List ℕ) : Type 0 where
   pub long : length r ≡ maxRecords
   pub foreign : (InRange self → ⊥) → r ≡ replicate maxRecords freeMark
-  pub locked : (b : Book) → Represents self b → (k : ℕ) → hasMark lockMark r k ≡ isLocked (b .sheet) k
-  pub withdrawn : (b : Book) → Represents self b → (k : ℕ) → hasMark withdrawnMark r k ≡ isWithdrawn (b .sheet) k
+  pub marks : (b : Book) → Represents self b → (x : ℕ) → getD r x freeMark ≡ markOf (b .sheet) x
 
 pub record Locking (self : Register) (k : ℕ) (r : Bool) : Type 0 where
   pub foreign : (InRange self → ⊥) → r ≡ false

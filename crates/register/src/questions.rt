@@ -107,7 +107,7 @@ impl Register {
     }
 }
 
-// The part of the words of a register's links that have one label.
+// The part of the words of links that have one label: of ascending words exactly those, in order; of others some part of them.
 pub fn label_part<'a>(words: &'a [u32], label: u8) -> &'a [u32]
     ensures { λ r. ⌜ LabelPart (now (words .entry)) label (now r) ⌝ }
 {

@@ -1,8 +1,9 @@
 -- Laws of the search for a middle record: `most` over the squares, masks of squares, and the row of a product.
 --   most-more, most-hit, most-far
 --                  the largest of values: one more that is 0, one that is 1, many that are 0
---   meets-bits, meets-in, meets-word, meets-passed, served-bit
---                  two rows, a square at a time: the bits in common, in words with none, before the first; whether there is one
+--   meets-bits, meets-in, meets-word, meets-before, meets-record, record-next, record-none, served-bit
+--                  two rows, a square at a time: the bits in common, in words with none, before the first of the second row, at a record of
+--                  the first row, at its next, after its last; whether there is one
 --   mask-set, mask-skip, mask-empty
 --                  the mask of a row's squares: a square more, an empty one, an empty row
 --   masks-common, masks-apart
@@ -29,15 +30,17 @@ use native.Mathlib.Omega.{arith}
 use lib.Bits.{bitAnd, bitOr}
 use lib.Count.{trailingZeros, trailing-le}
 use lib.ListN.{getD}
+use lib.Pow.{shr-shr}
 use borrow.Author.Tests.{lt-ltb, le-ltb, eq-eqb, ne-eqb}
 use Rattle.k2.specs.Bits.{digit, bitAt}
 use Rattle.k2.specs.WordLaws.{trailing-set, trailing-clear}
-use Rattle.k2.specs.DigitLaws.{digit-and, digit-none, digit-add, digit-big}
+use Rattle.k2.specs.DigitLaws.{digit-lt, digit-and, digit-none, digit-add, digit-big}
 use Rattle.k2.specs.BitLaws.{Bits, bit-lt, bit-in, bit-zero}
 use Rattle.k2.specs.PairSets.{Cells, IsSet, transpose, most, serves, product}
 use Rattle.k2.specs.PairSetLaws.{most-bit, most-none, some-most, product-set}
 use Rattle.bits.specs.BitSets.{put, none}
 use Rattle.bits.specs.BitSetLaws.{put-at, put-off, digit-or-pow}
+use Rattle.bits.specs.ScanLaws.{rest-set, rest-inside}
 use Rattle.rows.specs.Rows.{flat}
 use Rattle.rows.specs.RowLaws.{flat-at}
 use Rattle.rows.specs.Steps.{EmptyRow, Masked, Occupied, meets, Common, served, below, withRow, rowsTo}
@@ -89,13 +92,49 @@ module _ (a b : List ℕ) (i j : ℕ) where
       let e : k ≡ s * 64 + (k - s * 64) = omega arith in
       rw e (meets-in s (k - s * 64) (omega arith) ∙ rw z (digit-none (k - s * 64)))
 
-  -- nor do the records before the first bit in common
-  pub meets-passed : (s k : ℕ) → s * 64 ≤ k → k < s * 64 + trailingZeros 64 (bitAnd (getD a (i * 16 + s) 0) (getD b (j * 16 + s) 0))
-      → meets (bitAt a) (bitAt b) i j k ≡ 0
-  meets-passed s k l h =
-      let both = bitAnd (getD a (i * 16 + s) 0) (getD b (j * 16 + s) 0) in
-      let e : k ≡ s * 64 + (k - s * 64) = omega arith in
-      rw e (meets-in s (k - s * 64) (omega (arith, trailing-le 64 both)) ∙ trailing-clear 64 both (k - s * 64) (omega arith))
+  -- the records before the first of row j
+  pub meets-before : (s k : ℕ) → s * 64 ≤ k → k < s * 64 + trailingZeros 64 (getD b (j * 16 + s) 0) → meets (bitAt a) (bitAt b) i j k ≡ 0
+  meets-before s k l h =
+      let column = getD b (j * 16 + s) 0 in
+      let d : ℕ = k - s * 64 in
+      let e : k ≡ s * 64 + d = omega arith in
+      let z : digit column d ≡ 0 = trailing-clear 64 column d (omega arith) in
+      rw e (meets-in s d (omega (arith, trailing-le 64 column)) ∙ digit-and (getD a (i * 16 + s) 0) column d ∙ rw z (omega arith))
+
+  -- a record of row i: as row j has it
+  pub meets-record : (s k : ℕ) → k < 64 → digit (getD a (i * 16 + s) 0) k ≡ 1 → meets (bitAt a) (bitAt b) i j (s * 64 + k) ≡ digit (getD b (j * 16 + s) 0) k
+  meets-record s k h e =
+      meets-in s k h ∙ digit-and (getD a (i * 16 + s) 0) (getD b (j * 16 + s) 0) k ∙ rw e (omega (arith, digit-lt (getD b (j * 16 + s) 0) k))
+
+  -- no record of row i
+  meets-clear : (s k : ℕ) → k < 64 → digit (getD a (i * 16 + s) 0) k ≡ 0 → meets (bitAt a) (bitAt b) i j (s * 64 + k) ≡ 0
+  meets-clear s k h e = meets-in s k h ∙ digit-and (getD a (i * 16 + s) 0) (getD b (j * 16 + s) 0) k ∙ rw e (omega arith)
+
+  -- the records of row i in square s, lowest first: r is what is left of its word from place k on
+  module _ (s k r : ℕ) (e : r ≡ getD a (i * 16 + s) 0 / 2 ^ k) where
+    pub record-next : getD a (i * 16 + s) 0 < 2 ^ 64 → 0 < r
+        → (k + trailingZeros 64 r < 64) × (digit (getD a (i * 16 + s) 0) (k + trailingZeros 64 r) ≡ 1)
+        × ((m : ℕ) → s * 64 + k ≤ m → m < s * 64 + k + trailingZeros 64 r → meets (bitAt a) (bitAt b) i j m ≡ 0)
+        × (r / 2 ^ trailingZeros 64 r / 2 ≡ getD a (i * 16 + s) 0 / 2 ^ (k + trailingZeros 64 r + 1))
+    record-next fits h =
+        let word = getD a (i * 16 + s) 0 in
+        let t = trailingZeros 64 r in
+        let some : 0 < word / 2 ^ k = rw e at h in
+        let inside : k + t < 64 = rw e (rest-inside a (i * 16 + s) k fits some) in (
+          inside,
+          rw e (rest-set a (i * 16 + s) k fits some),
+          λ m l g.
+              let d : ℕ = m - (s * 64 + k) in
+              let z : m ≡ s * 64 + (k + d) = omega arith in
+              rw z (meets-clear s (k + d) (omega arith) (digit-add word k d ∙ ap (λ (v : ℕ). digit v d) (sym e) ∙ trailing-clear 64 r d (omega arith))),
+          ap (λ (v : ℕ). v / 2 ^ t / 2) e ∙ ap (λ (v : ℕ). v / 2) (shr-shr word k t) ∙ shr-shr word (k + t) 1,
+        )
+
+    pub record-none : r ≡ 0 → (m : ℕ) → s * 64 + k ≤ m → m < s * 64 + 64 → meets (bitAt a) (bitAt b) i j m ≡ 0
+    record-none h m l g =
+        let d : ℕ = m - (s * 64 + k) in
+        let z : m ≡ s * 64 + (k + d) = omega arith in
+        rw z (meets-clear s (k + d) (omega arith) (digit-add (getD a (i * 16 + s) 0) k d ∙ ap (λ (v : ℕ). digit v d) (sym e ∙ h) ∙ digit-none d))
 
 pub served-bit : (a b : List ℕ) (i j : ℕ) → served (bitAt a) (bitAt b) i j < 2
 unfolding served

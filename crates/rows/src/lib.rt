@@ -182,8 +182,8 @@ fn occupied(rows: &[u64], n: usize, list: &mut [u32]) -> usize
 }
 
 // 1 if some middle record serves, that is, row i of a and row j of b have a column in common, else 0. The search goes over the squares, from the
-// first to the last of those in common, and in a square that has such a column over its records, those before its first one passed at once; it
-// is left at the first that serves.
+// first to the last of those in common, and in each over the records of row i from the first of row j on, lowest first, each tried in row j; it is
+// left at the first that serves. A square whose words have no bit in common is passed at once.
 fn serves(a: &[u64], i: usize, b: &[u64], j: usize, common: u32) -> u64
     requires { ⌜ (length (now a) ≡ 16384) × (i < 1024) × (length (now b) ≡ 16384) × (j < 1024) × (0 < common) × (common < 65536) ⌝ }
     ensures { λ r. ⌜ (Common (bitAt (now (a .entry))) (bitAt (now (b .entry))) i j common
@@ -192,15 +192,20 @@ fn serves(a: &[u64], i: usize, b: &[u64], j: usize, common: u32) -> u64
     let mut found: u64 = 0;
     let mut s = u32::trailing_zeros(common) as usize;
     'search: while common >> s != 0 {
-        let both = a[i * 16 + s] & b[j * 16 + s];
-        if both != 0 {
-            let mut k = u64::trailing_zeros(both);
-            while k < 64 {
-                if (both >> k) % 2 == 1 {
+        let row = a[i * 16 + s];
+        let column = b[j * 16 + s];
+        if row & column != 0 {
+            let mut k = u64::trailing_zeros(column);
+            let mut rest = row >> k;
+            while rest != 0 {
+                let passed = u64::trailing_zeros(rest);
+                k += passed;
+                if (column >> k) % 2 == 1 {
                     found = 1;
                     break 'search;
                 }
                 k += 1;
+                rest = (rest >> passed) >> 1;
             }
         }
         s += 1;

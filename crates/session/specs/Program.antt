@@ -2,6 +2,8 @@
 --   programRecords, programWords, minFrame, maxFrame
 --                   the most records, the words of work and of list that the program lends, and the least and the most that a frame's length may be
 --   number16 s p    the two-byte number at place p of the bytes s, little-endian
+--   following i     how many bytes follow the length at the front of the bytes i: that number, if it is there and a frame may have it, else 0
+--   wholeFront i    how many bytes the frame at the front of i is, with its length, if all of them are there; 0 if no whole frame stands there
 --   twoBytes n, frameOf k s
 --                   a number below 65,536 as two bytes, little-endian; the bytes of a frame of kind k with the body s
 --   openKind, pairsKind, chainKind, totalKind
@@ -54,6 +56,12 @@ maxFrame = 1024
 
 unfoldable pub number16 : List ℕ → ℕ → ℕ
 number16 s p = getD s p 0 + 256 * getD s (p + 1) 0
+
+unfoldable pub following : List ℕ → ℕ
+following i = pick (leb 2 (length i)) (pick (leb minFrame (number16 i 0)) (pick (leb (number16 i 0) maxFrame) (number16 i 0) 0) 0) 0
+
+unfoldable pub wholeFront : List ℕ → ℕ
+wholeFront i = pick (ltb 0 (following i)) (pick (leb (following i + 2) (length i)) (following i + 2) 0) 0
 
 unfoldable pub twoBytes : ℕ → List ℕ
 twoBytes n = n % 256 ∷ n / 256 ∷ []

@@ -95,14 +95,15 @@ module _ (st : State) (work : ℕ) (l l′ out out′ : List ℕ) (r : Framed) w
   -- a frame that says no request
   pub faulty-turns : (c : Cause) → r .state ≡ st → l′ ≡ l → Wrote 0 (refusedText (number c)) out out′ (r .written) → Turns st (faulty c) work l l′ out out′ r
   unfolding nextSession printed listLeft
-  faulty-turns c kept same w = record { within = w .fits; spares = as-it-was same; next = λ s h. rw kept h; prints = λ s h v t q. w; list = λ s h v t q. same }
+  faulty-turns c kept same w =
+      record { within = w .fits; spares = as-it-was _ w same; next = λ s h. rw kept h; prints = λ s h v t q. w; list = λ s h v t q. same }
 
   -- any request but open while no register is opened
   pub closed-turns : (f : Frame) → nextSession unopened f ≡ unopened
       → ((v : Verdict) (t : Reply) → printed work (length l) unopened f v t ≡ refusedText (number not-open))
       → ((v : Verdict) (t : Reply) → listLeft work l unopened f v t ≡ l)
       → st .opened ≡ false → r .state ≡ st → l′ ≡ l → Wrote 0 (refusedText (number not-open)) out out′ (r .written) → Turns st f work l l′ out out′ r
-  closed-turns f n p k shut kept same w = record { within = w .fits; spares = as-it-was same; next = after; prints = told; list = left }
+  closed-turns f n p k shut kept same w = record { within = w .fits; spares = as-it-was _ w same; next = after; prints = told; list = left }
     where
       after : (s : Session) → StateOf st s → StateOf (r .state) (nextSession s f)
       after unopened h = rw (n, kept) h
@@ -139,20 +140,20 @@ module _ (st : State) (work : ℕ) (l l′ out out′ : List ℕ) (r : Framed) w
       → Turns st (asks (opening n)) work l l′ out out′ r
   unfolding nextSession printed listLeft number answerText
   kept-turns n e kept same w =
-      record { within = w .fits; spares = as-it-was same; next = λ s h. rw (e, kept) h; prints = λ s h v t q. rw e w; list = λ s h v t q. same }
+      record { within = w .fits; spares = as-it-was _ w same; next = λ s h. rw (e, kept) h; prints = λ s h v t q. rw e w; list = λ s h v t q. same }
 
   pub fresh-turns : (n : ℕ) → openAnswer n ≡ 0 → n ≤ programRecords → r .state .opened ≡ true → Represents (r .state .register) (fresh n) → l′ ≡ l
       → Wrote 0 okText out out′ (r .written) → Turns st (asks (opening n)) work l l′ out out′ r
   unfolding nextSession printed listLeft answerText fresh
   fresh-turns n e small up x same w =
-      record { within = w .fits; spares = as-it-was same; next = λ s h. rw e (is-open up x small); prints = λ s h v t q. rw e w; list = λ s h v t q. same }
+      record { within = w .fits; spares = as-it-was _ w same; next = λ s h. rw e (is-open up x small); prints = λ s h v t q. rw e w; list = λ s h v t q. same }
 
   -- an edit or undo
   pub call-turns : (c : Call) (o : Told) → Steps (st .register) c o → st .opened ≡ true → r .state .opened ≡ true → r .state .register ≡ o .register → l′ ≡ l
       → Wrote 0 (answerText (answerNumber (o .answer))) out out′ (r .written) → Turns st (asks (call c)) work l l′ out out′ r
   unfolding nextSession printed listLeft
   call-turns c o steps up up′ kept same w =
-      open-turns (asks (call c)) up (w .fits) (as-it-was same)
+      open-turns (asks (call c)) up (w .fits) (as-it-was _ w same)
       (λ b x m. is-open up′ (rw kept (steps .follows b x)) (omega (arith, next-size b c)))
       (λ b x v t q. (wrote-as (ap answerText (ap answerNumber (steps .answers b x) ∙ number-answer (answer b c))) w, same))
 
@@ -188,7 +189,7 @@ module _ (st : State) (work : ℕ) (l l′ out out′ : List ℕ) (r : Framed) w
       → Wrote 0 (totalSaid a) out out′ (r .written) → Turns st (asks (totalling x)) work l l′ out out′ r
   unfolding nextSession printed listLeft
   total-turns x a told up kept same w =
-      open-turns (asks (totalling x)) up (w .fits) (as-it-was same)
+      open-turns (asks (totalling x)) up (w .fits) (as-it-was _ w same)
       (λ b h m. rw kept (is-open up h m))
       (λ b h v t q. (wrote-as (ap totalSaid (told .told b h) ∙ total-said (totalNumber x) (total (b .sheet) x)) w, same))
 

@@ -3,7 +3,8 @@
 --   printedLine, room list
 --                   the most bytes of a line; and of all that a frame may print, if so many words of list are lent: a line for each, and one before them
 --   Spares l l′ out out′ w
---                   a list that held l and then holds l′ is as it was, or has the answer that the w bytes printed into out say, and past it what it held
+--                   w bytes were printed at the front of out, and past them it is as it was; a list that held l and then holds l′ is as it was, or has
+--                   the answer that those bytes say, and past it what it held
 --   Turns st f work l l′ out out′ r
 --                   what a frame that says f promises, from the state st, with so many words of work, a list that held l and then holds l′, and room
 --                   in out for what it prints. Over any contents it prints within out, and writes nothing into the list but the
@@ -40,7 +41,7 @@ abbrev pub room : ℕ → ℕ
 room list = printedLine * (list + 3)
 
 pub data Spares (l l′ out out′ : List ℕ) (w : ℕ) : Type 0 where
-  as-it-was : l′ ≡ l → Spares l l′ out out′ w
+  as-it-was : (t : List ℕ) → Wrote 0 t out out′ w → l′ ≡ l → Spares l l′ out out′ w
   answered : (o : Outcome) → Wrote 0 (outcomeText o) out out′ w → l′ ≡ listAfter o l → Spares l l′ out out′ w
 
 pub record Turns (st : State) (f : Frame) (work : ℕ) (l l′ out out′ : List ℕ) (r : Framed) : Type 0 where

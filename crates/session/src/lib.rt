@@ -3,11 +3,11 @@ ghost use mathlib.Core.Path.{_≡_};
 ghost use mathlib.Core.List.{List};
 ghost use Prim.Native.Nat.{ℕ, _≤_, _<_};
 ghost use lib.ListN.{length, take, getD};
-ghost use Rattle.session.specs.Program.{decode as Program·decode, number16 as Program·number16};
+ghost use Rattle.session.specs.Program.{decode as Program·decode, number16 as Program·number16, following as Program·following, wholeFront};
 ghost use Rattle.session.specs.Program.{opening, call as Program·call, pairs, chain, totalling, asks, unopened as Program·unopened};
 ghost use Rattle.session.specs.Says.{says, Long};
 ghost use Rattle.session.specs.Turns.{StateOf, room, Turns, Framing};
-ghost use Rattle.session.specs.Runs.{Advances, RunsOn, Front};
+ghost use Rattle.session.specs.Runs.{OneTurn, RunsOn};
 ghost use Rattle.register.specs.Calls.{callOf};
 ghost use Rattle.report.specs.Report.{refusedText, outcomeText};
 ghost use Rattle.report.specs.Written.{Wrote};
@@ -62,6 +62,13 @@ const MAX_FRAME: usize = 1024;
 
 // The most bytes of a line.
 const MAX_LINE: usize = 13;
+
+// What the program lends: the words of work and of list, the most bytes of a frame with its length, and the bytes that a frame may print.
+pub const WORDS: usize = 4096;
+
+pub const FRAME_BYTES: usize = MAX_FRAME + 2;
+
+pub const PRINTED_BYTES: usize = MAX_LINE * (WORDS + 3);
 
 // Whether a register is opened, and the register.
 pub struct State {
@@ -382,13 +389,11 @@ pub fn frame(
     }
 }
 
-// The length of the frame at the front of the input, or 0 where no whole frame of a right length stands there.
-fn front(input: &[u8]) -> usize
-    requires { ⌜ 0 < length (now input) ⌝ }
-    ensures { λ r. ⌜ Front (now (input .entry)) r ⌝ }
+// How many bytes follow the length at the front of the input; 0 where it has no two bytes, or a length that no frame may have.
+pub fn following(input: &[u8]) -> usize
+    ensures { λ r. ⌜ r ≡ Program·following (now (input .entry)) ⌝ }
 {
-    let most = input.len();
-    if most < 2 {
+    if input.len() < 2 {
         return 0;
     }
     let n = number16(input, 0) as usize;
@@ -398,15 +403,26 @@ fn front(input: &[u8]) -> usize
     if n > MAX_FRAME {
         return 0;
     }
-    if most - 2 < n {
+    n
+}
+
+// How many bytes the whole frame at the front of the input is, or 0 where none stands there.
+fn front(input: &[u8]) -> usize
+    ensures { λ r. ⌜ r ≡ wholeFront (now (input .entry)) ⌝ }
+{
+    let n = following(input);
+    if n == 0 {
         return 0;
     }
-    n
+    if input.len() < n + 2 {
+        return 0;
+    }
+    n + 2
 }
 
 // One turn of a run: the frame at the front of the input, or the run's end. With too little room for what a frame may print, nothing.
 pub fn step(state: State, input: &[u8], work: &mut [u64], list: &mut [u32], out: &mut [u8]) -> Ran
-    ensures { λ r. ⌜ Advances state (now (input .entry)) (length (now (work .entry)))
+    ensures { λ r. ⌜ OneTurn state (now (input .entry)) (length (now (work .entry)))
         (now (list .entry)) (now (list .exit)) (now (out .entry)) (now (out .exit)) r ⌝ }
 {
     if out.len() / MAX_LINE < list.len() + 3 {
@@ -425,8 +441,8 @@ pub fn step(state: State, input: &[u8], work: &mut [u64], list: &mut [u32], out:
             more: false,
         };
     }
-    let n = front(input);
-    if n == 0 {
+    let read = front(input);
+    if read == 0 {
         let written = report::put_refused(book::BROKEN_FRAME, out, 0);
         return Ran {
             state,
@@ -435,22 +451,22 @@ pub fn step(state: State, input: &[u8], work: &mut [u64], list: &mut [u32], out:
             more: false,
         };
     }
-    let read = n + 2;
     let kind = number16(input, 2);
     let framed = frame(state, kind, &input[4..read], work, list, out);
     let next = framed.state;
     let written = framed.written;
+    let more = true;
     Ran {
         state: next,
         read,
         written,
-        more: true,
+        more,
     }
 }
 
 // A run over the whole input, as far as there is room for what it prints.
 pub fn run(state: State, input: &[u8], work: &mut [u64], list: &mut [u32], out: &mut [u8]) -> Ran
-    ensures { λ r. ⌜ RunsOn state (now (input .entry)) (length (now (work .entry)))
+    ensures { λ r. ⌜ RunsOn (length (now (work .entry))) state (now (input .entry))
         (now (list .entry)) (now (list .exit)) (now (out .entry)) (now (out .exit)) r ⌝ }
 {
     let mut state = state;

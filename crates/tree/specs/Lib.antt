@@ -4,4 +4,6 @@ pub mod Calls
 pub mod Settling
 pub mod CallLaws
 pub mod RoundTrips
+pub mod RoundTripLaws
 pub mod SensedProducts
+pub mod SensedProductLaws

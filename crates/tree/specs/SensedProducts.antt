@@ -2,96 +2,32 @@
 -- the same number or the same words; and an operand that `transpose` refuses as no tree it refuses with the same number.
 --   Transposed n t t′ s
 --                   the tree t′ is t so transposed: t itself where the sense s is plain; where it is inverted, what `transpose` wrote of t
--- Assumes nothing.
-use mathlib.Core.Path.{_≡_, refl, sym, ap, ap₂, _∙_}
+--   ProductSensed, DamagedRefused
+--                   so it is for all that may be lent, from what the calls promise (SensedProductLaws `product-sensed`, `damaged-refused`)
+-- Assumes nothing: these are definitions.
+use mathlib.Core.Path.{_≡_}
 use mathlib.Core.Bool.{false}
 use mathlib.Core.List.{List, [], _∷_}
-use Prim.Native.Nat.{ℕ, zero, suc, _+_, _≤_}
-use native.Mathlib.Omega.{arith}
-use lib.ListN.{length, take, drop}
-use lib.Seq.{take-at}
-use Rattle.book.specs.Causes.{bad-tree, number, firstNumber, maxRecords}
-use Rattle.k2.specs.PairSets.{Cells, product, transpose}
-use Rattle.k2.specs.PairSetLaws.{transpose-set}
-use Rattle.k2.specs.Trees.{treeWords}
-use Rattle.k2.specs.TreeSets.{setIn, formed}
-use Rattle.k2.specs.TreeSetLaws.{tree-tells-set, told-set, tree-formed}
+use Prim.Native.Nat.{ℕ, _≤_}
+use lib.ListN.{take}
+use Rattle.book.specs.Causes.{bad-tree, number, maxRecords}
+use Rattle.k2.specs.PairSets.{transpose}
 use Rattle.packing.specs.declared.loading.Sense.{Sense}
 use Rattle.packing.specs.declared.loading.Sense.the-variants.{Plain, Inverted}
-use Rattle.packing.specs.Senses.{sensed}
 use Rattle.tree.specs.declared.listing.Answer.{Answer}
 use Rattle.tree.specs.declared.listing.Answer.the-variants.{Done, Refused}
-use Rattle.tree.specs.Calls.{productSensed, allBelow, allFormed, lentCauses, treeCauses, treeAnswer, treeList, Answered, treeOfOne, treeOfTwo}
-use Rattle.tree.specs.CallLaws.{one-more, two-formed, lent-trees, lent-met, tree-refused}
+use Rattle.tree.specs.Calls.{productSensed, allFormed, Answered, treeOfOne, treeOfTwo}
 
 pub data Transposed (n : ℕ) (t t′ : List ℕ) : Sense → Type 0 where
   as-it-is : t′ ≡ t → Transposed n t t′ Plain
   written : {k m : ℕ} {out out′ : List ℕ} → Answered n [] (t ∷ []) k (treeOfOne transpose n t) out out′ (Done m) → t′ ≡ take m out′ → Transposed n t t′ Inverted
 
--- ---- a call that is accepted
--- 0 for a refusal
-abbrev done : Answer → ℕ
-done (Done m) = m + 1
-done (Refused c) = 0
-
-accepted-words : (c m : ℕ) (xs before after : List ℕ) → Done m ≡ treeAnswer c (length xs) → after ≡ treeList c xs before → (c ≡ 0) × (take m after ≡ xs)
-unfolding treeAnswer treeList
-accepted-words zero m xs before after e l =
-    let q : m ≡ length xs = omega (arith, ap done e) in
-    (refl, rw (l, q) (take-at xs (drop (length xs) before) (length xs) refl))
-accepted-words (suc c) m xs before after e l = absurd (omega (arith, ap done e))
-
-no-cause : (n k : ℕ) (ps xs : List ℕ) (ts : List (List ℕ)) (room c : ℕ)
-    → firstNumber (lentCauses n ps ts k) ≡ c → firstNumber (treeCauses n ps ts k xs room) ≡ 0 → c ≡ 0
-no-cause n k ps xs ts room zero e z = refl
-no-cause n k ps xs ts room (suc c) e z = absurd (omega (arith, tree-refused n ps ts k xs room e, z))
-
-accepted : {n k m : ℕ} {ps xs before after : List ℕ} {ts : List (List ℕ)} → Answered n ps ts k xs before after (Done m)
-    → (firstNumber (lentCauses n ps ts k) ≡ 0) × (take m after ≡ xs)
-accepted {n} {k} {m} {ps} {xs} {before} {after} {ts} A =
-    let w = accepted-words (firstNumber (treeCauses n ps ts k xs (length before))) m xs before after (A .answer) (A .list) in
-    (no-cause n k ps xs ts (length before) (firstNumber (lentCauses n ps ts k)) refl (w .0), w .1)
-
--- ---- an operand and its transpose
-transposed-set : {n : ℕ} {t t′ : List ℕ} {s : Sense} → Transposed n t t′ s → setIn n t′ ≡ sensed s (setIn n t)
-transposed-set {n} (as-it-is e) = ap (setIn n) e
-transposed-set {n} {t} (written A e) =
-    ap (setIn n) (e ∙ accepted A .1) ∙ tree-tells-set n (transpose (setIn n t)) (transpose-set n (setIn n t) (told-set n t))
-
-transposed-formed : {n : ℕ} {t t′ : List ℕ} {s : Sense} → Transposed n t t′ s → formed n t ≡ formed n t′
-transposed-formed {n} (as-it-is e) = ap (formed n) (sym e)
-transposed-formed {n} {t} (written {k} A e) =
-    let a = accepted A in
-    tree-formed (two-formed n t [] (one-more n t ∙ lent-met n [] (t ∷ []) k (a .0) .3) .0)
-    ∙ sym (tree-formed (record { set = transpose (setIn n t); is-set = transpose-set n (setIn n t) (told-set n t); tree = e ∙ a .1 }))
-
-same-causes : (n k : ℕ) (t u t′ u′ : List ℕ) → formed n t ≡ formed n t′
-    → formed n u ≡ formed n u′ → lentCauses n [] (t ∷ u ∷ []) k ≡ lentCauses n [] (t′ ∷ u′ ∷ []) k
-unfolding lentCauses allFormed
-same-causes n k t u t′ u′ e f = rw (e, f) refl
-
--- ---- two calls with the same causes and the same answer
-same-answer : {n k : ℕ} {ps xs ys before after after′ : List ℕ} {ts us : List (List ℕ)} {r r′ : Answer} → lentCauses n ps ts k ≡ lentCauses n ps us k → xs ≡ ys
-    → Answered n ps ts k xs before after r → Answered n ps us k ys before after′ r′ → (r ≡ r′) × (after ≡ after′)
-unfolding treeCauses
-same-answer {n} {k} {ps} {xs} {ys} {before} {ts = ts} {us} e f A B =
-    let c : firstNumber (treeCauses n ps ts k xs (length before)) ≡ firstNumber (treeCauses n ps us k ys (length before)) = rw (e, f) refl in (
-      A .answer ∙ ap₂ (λ (c : ℕ) (l : List ℕ). treeAnswer c (length l)) c f ∙ sym (B .answer),
-      A .list ∙ ap₂ (λ (c : ℕ) (l : List ℕ). treeList c l before) c f ∙ sym (B .list),
-    )
-
--- ---- product with senses, and on the operands so transposed
-pub product-sensed : {n k : ℕ} {t u t′ u′ out after after′ : List ℕ} {s q : Sense} {r r′ : Answer} → Transposed n t t′ s → Transposed n u u′ q
+abbrev pub ProductSensed : Type 0
+ProductSensed = (n k : ℕ) (t u t′ u′ out after after′ : List ℕ) (s q : Sense) (r r′ : Answer) → Transposed n t t′ s → Transposed n u u′ q
     → Answered n [] (t ∷ u ∷ []) k (treeOfTwo (productSensed n s q) n t u) out after r
     → Answered n [] (t′ ∷ u′ ∷ []) k (treeOfTwo (productSensed n Plain Plain) n t′ u′) out after′ r′ → (r ≡ r′) × (after ≡ after′)
-product-sensed {n} {k} {t} {u} {t′} {u′} x y A B =
-    same-answer (same-causes n k t u t′ u′ (transposed-formed x) (transposed-formed y))
-    (ap₂ (λ (a b : Cells). treeWords n (product n a b)) (sym (transposed-set x)) (sym (transposed-set y))) A B
 
 -- words that are no tree, in any call and with any sense
-pub damaged-refused : {n k : ℕ} {xs before after : List ℕ} {ts : List (List ℕ)} {r : Answer} → 1 ≤ n → n ≤ maxRecords → allFormed n ts ≡ false
+abbrev pub DamagedRefused : Type 0
+DamagedRefused = (n k : ℕ) (xs before after : List ℕ) (ts : List (List ℕ)) (r : Answer) → 1 ≤ n → n ≤ maxRecords → allFormed n ts ≡ false
     → Answered n [] ts k xs before after r → (r ≡ Refused (number bad-tree)) × (after ≡ before)
-unfolding treeAnswer treeList number allBelow
-damaged-refused {n} {k} {xs} {before} {ts = ts} some few bad A =
-    let c = tree-refused n [] ts k xs (length before) (lent-trees n [] ts k some few refl bad) in
-    (A .answer ∙ ap (λ (c : ℕ). treeAnswer c (length xs)) c, A .list ∙ ap (λ (c : ℕ). treeList c xs before) c)

@@ -64,8 +64,7 @@ returns c =
             steps = refl;
             size = after-size .size .ensures .size (fresh 0) e;
             links = none-linked 0 _ (after-marks .before .links .ensures .linked (fresh 0) e);
-            locks = after-marks .marks .ensures .locked (fresh 0) e;
-            withdrawn = after-marks .marks .ensures .withdrawn (fresh 0) e;
+            marks = after-marks .marks .ensures .marks (fresh 0) e;
             totals = c .before .totals .ensures .totals (fresh 0) e;
           };
       made = λ z. absurd (c .if1 .taken (k ∙ z));

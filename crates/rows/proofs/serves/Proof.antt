@@ -1,27 +1,30 @@
--- `serves` searches the squares in common, and the records of a square. Both invariants: no record passed serves. The measures are the squares
--- and the records left. It rests on `meets-in`: a record of a square serves exactly if the words' `&` has its bit. Assumes nothing.
+-- `serves` searches the squares in common, and in a square the records of row i from the first of row j on (`meets-before`), by the trailing zeros of
+-- what is left of its word. Both invariants: no record passed serves; inside a square, what is left is its word from place k on. The measures are the
+-- squares and the places left. It rests on `record-next`, the next record of row i, and `meets-record`: it serves exactly if row j has it. Assumes
+-- nothing.
 use mathlib.Core.Path.{_≡_, refl, sym, _∙_}
 use mathlib.Core.Logic.{⊎-elim}
-use Prim.Native.Nat.{_≤_, _<_, _+_, _-_, _*_}
+use Prim.Native.Nat.{ℕ, _≤_, _<_, _+_, _-_, _*_, _/_, _^_}
 use native.Mathlib.Omega.{arith}
-use lib.Bits.{bitAnd}
+use lib.Bits.{and-le-r}
 use lib.Count.{trailingZeros, trailing-le}
 use lib.ListN.{getD}
 use Rattle.k2.specs.Bits.{digit, bitAt}
+use Rattle.k2.specs.WordLaws.{trailing-lt}
 use Rattle.k2.specs.PairSets.{most}
 use Rattle.rows.specs.Steps.{meets, Common, served}
-use Rattle.rows.proofs.SearchLaws.{most-more, most-hit, most-far, meets-bits, meets-in, meets-word, meets-passed, first-square, square-inside}
-use Rattle.rows.proofs.SearchLaws.{common-first}
-use Rattle.rows.proofs.SearchLaws.{common-last}
+use Rattle.rows.proofs.SearchLaws.{most-more, most-hit, most-far, meets-bits, meets-word, meets-before, meets-record, record-next}
+use Rattle.rows.proofs.SearchLaws.{record-none, first-square, square-inside, common-first, common-last}
 use Rattle.rows.proofs.serves.Statement.{statement}
 use Rattle.rows.proofs.serves.Tie as tie
 
 abbrev Inv-loop : tie.InvT-loop
-Inv-loop a i b j common found₀ s both k₀ found k =
-    (k ≤ 64) × (found ≡ 0) × (Common (bitAt a) (bitAt b) i j common → most (s * 64 + k) (meets (bitAt a) (bitAt b) i j) ≡ 0)
+Inv-loop a i b j common found₀ s row column k₀ rest₀ found k rest =
+    (k ≤ 64) × (rest ≡ getD a (i * 16 + s) 0 / 2 ^ k) × (found ≡ 0)
+    × (Common (bitAt a) (bitAt b) i j common → most (s * 64 + k) (meets (bitAt a) (bitAt b) i j) ≡ 0)
 
 abbrev μ-loop : tie.MeasureT-loop
-μ-loop a i b j common found₀ s both k₀ found k = 64 - k
+μ-loop a i b j common found₀ s row column k₀ rest₀ found k rest = 64 - k
 
 abbrev Inv-search : tie.InvT-search
 Inv-search a i b j common found₀ s₀ found s =
@@ -49,51 +52,96 @@ shr-search c = omega arith
 inside : (c : tie.In-search Inv-loop μ-loop Inv-search μ-search) → c .before .search .s < 16
 inside c = square-inside (c .before .before .args .common) (c .before .search .s) (omega arith) (c .before .search .inv .0) (c .search-test .taken)
 
-mul-both : tie.Need-mul-both Inv-loop μ-loop Inv-search μ-search
-mul-both c = omega arith
+mul-row : tie.Need-mul-row Inv-loop μ-loop Inv-search μ-search
+mul-row c = omega arith
 
-add-both : tie.Need-add-both Inv-loop μ-loop Inv-search μ-search
-add-both c = omega arith
+add-row : tie.Need-add-row Inv-loop μ-loop Inv-search μ-search
+add-row c = omega arith
 
-mul-both-2 : tie.Need-mul-both-2 Inv-loop μ-loop Inv-search μ-search
-mul-both-2 c = omega arith
+mul-row-2 : tie.Need-mul-row-2 Inv-loop μ-loop Inv-search μ-search
+mul-row-2 c = omega arith
 
-shared-slice-read-both : tie.Need-shared-slice-read-both Inv-loop μ-loop Inv-search μ-search
-shared-slice-read-both c = omega (arith, inside (c .before))
+shared-slice-read-row : tie.Need-shared-slice-read-row Inv-loop μ-loop Inv-search μ-search
+shared-slice-read-row c = omega (arith, inside (c .before))
 
-mul-both-3 : tie.Need-mul-both-3 Inv-loop μ-loop Inv-search μ-search
-mul-both-3 c = omega arith
+mul-column : tie.Need-mul-column Inv-loop μ-loop Inv-search μ-search
+mul-column c = omega arith
 
-add-both-2 : tie.Need-add-both-2 Inv-loop μ-loop Inv-search μ-search
-add-both-2 c = omega arith
+add-column : tie.Need-add-column Inv-loop μ-loop Inv-search μ-search
+add-column c = omega arith
 
-mul-both-4 : tie.Need-mul-both-4 Inv-loop μ-loop Inv-search μ-search
-mul-both-4 c = omega arith
+mul-column-2 : tie.Need-mul-column-2 Inv-loop μ-loop Inv-search μ-search
+mul-column-2 c = omega arith
 
-shared-slice-read-both-2 : tie.Need-shared-slice-read-both-2 Inv-loop μ-loop Inv-search μ-search
-shared-slice-read-both-2 c = omega (arith, inside (c .before .before))
+shared-slice-read-column : tie.Need-shared-slice-read-column Inv-loop μ-loop Inv-search μ-search
+shared-slice-read-column c = omega (arith, inside (c .before .before))
+
+-- row j has a record in the square
+column-first : (c : tie.Then1 Inv-loop μ-loop Inv-search μ-search)
+    → trailingZeros 64 (getD (c .before .before .before .before .before .args .b .now)
+    (c .before .before .before .before .before .args .j * 16 + c .before .before .before .before .search .s) 0) < 64
+column-first c =
+    let S = c .before .before .before .before .search in
+    let a = c .before .before .before .before .before .args in
+    let row = getD (a .a .now) (a .i * 16 + S .s) 0 in
+    let column = getD (a .b .now) (a .j * 16 + S .s) 0 in
+    let f = c .before .shared-slice-known2 .given (a .j * 16 + S .s) .fits in
+    trailing-lt 64 column (omega (arith, and-le-r row column, c .if1 .taken)) f
+
+shr-rest : tie.Need-shr-rest Inv-loop μ-loop Inv-search μ-search
+shr-rest c = omega (arith, column-first c)
+
+cast-rest : tie.Need-cast-rest Inv-loop μ-loop Inv-search μ-search
+cast-rest c = omega (arith, column-first c)
 
 loop-holds : tie.Need-loop-holds Inv-loop μ-loop Inv-search μ-search
 loop-holds c =
     let S = c .before .before .before .before .search in
     let a = c .before .before .before .before .before .args in
-    let both = bitAnd (getD (a .a .now) (a .i * 16 + S .s) 0) (getD (a .b .now) (a .j * 16 + S .s) 0) in (
-      trailing-le 64 both,
+    let column = getD (a .b .now) (a .j * 16 + S .s) 0 in (
+      trailing-le 64 column,
+      refl,
       S .inv .1,
-      λ g. most-far (S .s * 64) (trailingZeros 64 both) _ (S .inv .2 g) (meets-passed (a .a .now) (a .b .now) (a .i) (a .j) (S .s)),
+      λ g. most-far (S .s * 64) (trailingZeros 64 column) _ (S .inv .2 g) (meets-before (a .a .now) (a .b .now) (a .i) (a .j) (S .s)),
     )
 
-cast-if2 : tie.Need-cast-if2 Inv-loop μ-loop Inv-search μ-search
-cast-if2 c = omega arith
-
-shr-if2 : tie.Need-shr-if2 Inv-loop μ-loop Inv-search μ-search
-shr-if2 c = omega arith
+-- the next record of row i, and that those before it do not serve
+next : (c : tie.In-loop Inv-loop μ-loop Inv-search μ-search)
+    → let at-search = c .before .before .before .before .before .before in
+    let a = at-search .before .args in
+    let l = c .before .loop in
+    let word = getD (a .a .now) (a .i * 16 + at-search .search .s) 0 in
+    (l .k + trailingZeros 64 (l .rest) < 64) × (digit word (l .k + trailingZeros 64 (l .rest)) ≡ 1)
+    × ((m : ℕ) → at-search .search .s * 64 + l .k ≤ m → m < at-search .search .s * 64 + l .k + trailingZeros 64 (l .rest)
+    → meets (bitAt (a .a .now)) (bitAt (a .b .now)) (a .i) (a .j) m ≡ 0)
+    × (l .rest / 2 ^ trailingZeros 64 (l .rest) / 2 ≡ word / 2 ^ (l .k + trailingZeros 64 (l .rest) + 1))
+next c =
+    let at-search = c .before .before .before .before .before .before in
+    let a = at-search .before .args in
+    let l = c .before .loop in
+    let f = c .before .before .before .before .shared-slice-known .given (a .i * 16 + at-search .search .s) .fits in
+    record-next (a .a .now) (a .b .now) (a .i) (a .j) (at-search .search .s) (l .k) (l .rest) (l .inv .1) f (omega (arith, c .loop-test .taken))
 
 add-k : tie.Need-add-k Inv-loop μ-loop Inv-search μ-search
-add-k c = omega arith
+add-k c = omega (arith, next c .0)
+
+cast-if2 : tie.Need-cast-if2 Inv-loop μ-loop Inv-search μ-search
+cast-if2 c = omega (arith, next c .0)
+
+shr-if2 : tie.Need-shr-if2 Inv-loop μ-loop Inv-search μ-search
+shr-if2 c = omega (arith, next c .0)
+
+add-k-2 : tie.Need-add-k-2 Inv-loop μ-loop Inv-search μ-search
+add-k-2 c = omega (arith, next (c .before) .0)
+
+cast-rest-2 : tie.Need-cast-rest-2 Inv-loop μ-loop Inv-search μ-search
+cast-rest-2 c = omega (arith, next (c .before) .0)
+
+shr-rest-2 : tie.Need-shr-rest-2 Inv-loop μ-loop Inv-search μ-search
+shr-rest-2 c = omega (arith, next (c .before) .0)
 
 loop-less : tie.Need-loop-less Inv-loop μ-loop Inv-search μ-search
-loop-less c = omega arith
+loop-less c = omega (arith, next (c .before) .0)
 
 loop-again : tie.Need-loop-again Inv-loop μ-loop Inv-search μ-search
 unfolding digit
@@ -101,10 +149,15 @@ loop-again c =
     let l = c .before .before .loop in
     let S = c .before .before .before .before .before .before .before .search in
     let a = c .before .before .before .before .before .before .before .before .args in
-    let e : S .s * 64 + (l .k + 1) ≡ S .s * 64 + l .k + 1 = omega arith in (
-      omega arith,
-      l .inv .1,
-      λ g. rw e (most-more (S .s * 64 + l .k) _ (l .inv .2 g) (meets-in (a .a .now) (a .b .now) (a .i) (a .j) (S .s) (l .k) (omega arith) ∙ omega arith)),
+    let t = trailingZeros 64 (l .rest) in
+    let N = next (c .before) in
+    let e : S .s * 64 + (l .k + t + 1) ≡ S .s * 64 + (l .k + t) + 1 = omega arith in
+    let d : S .s * 64 + l .k + t ≡ S .s * 64 + (l .k + t) = omega arith in (
+      omega (arith, N .0),
+      N .3,
+      l .inv .2,
+      λ g. rw e (most-more (S .s * 64 + (l .k + t)) _ (rw d at (most-far (S .s * 64 + l .k) t _ (l .inv .3 g) (N .2)))
+          (meets-record (a .a .now) (a .b .now) (a .i) (a .j) (S .s) (l .k + t) (N .0) (N .1) ∙ omega arith)),
     )
 
 add-s : tie.Need-add-s Inv-loop μ-loop Inv-search μ-search
@@ -119,10 +172,14 @@ search-again c =
     let a = c .before .before .before .before .before .args in
     let e : (S .s + 1) * 64 ≡ S .s * 64 + 64 = omega arith in (
       omega (arith, inside (c .before .before .before)),
-      ⊎-elim (λ w. w .3 ∙ w .1 .inv .1) (λ w. w .1 ∙ S .inv .1) (c .if1 .came),
+      ⊎-elim (λ w. w .3 ∙ w .1 .inv .2) (λ w. w .1 ∙ S .inv .1) (c .if1 .came),
       λ g. rw e (
           ⊎-elim
-          (λ w. let y : w .1 .k ≡ 64 = omega (arith, w .1 .inv .0, w .2 .left) in rw y at (w .1 .inv .2 g))
+          (λ w.
+          let l = w .1 in
+          let d : S .s * 64 + l .k + (64 - l .k) ≡ S .s * 64 + 64 = omega (arith, l .inv .0) in
+          rw d at (most-far (S .s * 64 + l .k) (64 - l .k) _ (l .inv .3 g)
+          (λ m h k. record-none (a .a .now) (a .b .now) (a .i) (a .j) (S .s) (l .k) (l .rest) (l .inv .1) (w .2 .left) m h (omega (arith, d)))))
           (λ w. most-far (S .s * 64) 64 _ (S .inv .2 g) (meets-word (a .a .now) (a .b .now) (a .i) (a .j) (S .s) (w .0 .left)))
           (c .if1 .came)),
     )
@@ -141,8 +198,10 @@ returns-2 c =
     let S = in-search .before .search in
     let l = c .before .before .loop in
     let a = in-search .before .before .args in
-    λ g. sym (most-hit 1024 _ (S .s * 64 + l .k) (meets-bits (a .a .now) (a .b .now) (a .i) (a .j)) (omega (arith, inside in-search))
-    (meets-in (a .a .now) (a .b .now) (a .i) (a .j) (S .s) (l .k) (omega arith) ∙ c .if2 .taken))
+    let N = next (c .before) in
+    let k = l .k + trailingZeros 64 (l .rest) in
+    λ g. sym (most-hit 1024 _ (S .s * 64 + k) (meets-bits (a .a .now) (a .b .now) (a .i) (a .j)) (omega (arith, inside in-search, N .0))
+    (meets-record (a .a .now) (a .b .now) (a .i) (a .j) (S .s) k (N .0) (N .1) ∙ c .if2 .taken))
 
 pub serves-spec : {M : Type 1} → statement M
 serves-spec =
@@ -156,18 +215,23 @@ serves-spec =
     search-holds
     cast-search
     shr-search
-    mul-both
-    add-both
-    mul-both-2
-    shared-slice-read-both
-    mul-both-3
-    add-both-2
-    mul-both-4
-    shared-slice-read-both-2
+    mul-row
+    add-row
+    mul-row-2
+    shared-slice-read-row
+    mul-column
+    add-column
+    mul-column-2
+    shared-slice-read-column
+    cast-rest
+    shr-rest
     loop-holds
+    add-k
     cast-if2
     shr-if2
-    add-k
+    add-k-2
+    cast-rest-2
+    shr-rest-2
     loop-less
     loop-again
     add-s

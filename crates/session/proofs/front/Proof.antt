@@ -1,39 +1,39 @@
--- `session::front` meets its contract: each test gives the reason why no frame stands there, and all four together that one does. Assumes nothing.
-use mathlib.Core.Path.{sym}
-use mathlib.Core.Logic.{inl, inr}
+-- `session::front` meets its contract: no frame, one that is cut, or a whole one, by the law for each. Assumes nothing.
+use mathlib.Core.Path.{ap, _∙_}
+use Prim.Native.Nat.{ℕ, _+_, _≤_}
 use native.Mathlib.Omega.{arith}
 use denote.Ref.{now}
-use Rattle.session.specs.Runs.{a-frame}
-use Rattle.session.specs.RunsLaws.{lone-front, bad-front, cut-front}
+use Rattle.session.specs.Program.{maxFrame}
+use Rattle.session.specs.RunsLaws.{following-most, whole-unframed, whole-cut, whole-is}
 use borrow.Author.Needs.{needs}
 use Rattle.session.proofs.front.Statement.{statement}
 use Rattle.session.proofs.front.Tie as tie
 
+following-requires : tie.Need-following-requires
+following-requires c κs = search needs
+
 returns : tie.Need-returns
-returns c = lone-front (now (c .before .before .args .input)) (omega arith) (omega arith)
+returns c = whole-unframed (now (c .before .before .before .args .input)) (omega (arith, c .before .following .ensures))
 
-number16-requires : tie.Need-number16-requires
-number16-requires c κs = search needs
+-- what follows is no more than a frame may have
+small : (c : tie.After-following) → c .following .result ≤ maxFrame
+small c = omega (arith, c .following .ensures, following-most (now (c .before .before .args .input)))
 
-cast-n : tie.Need-cast-n
-cast-n c = search needs
+add-if2 : tie.Need-add-if2
+add-if2 c = omega (arith, small (c .before))
 
 returns-2 : tie.Need-returns-2
-returns-2 c = bad-front (now (c .before .before .before .before .args .input)) (omega arith) (inl (rw (sym (c .before .number16 .ensures)) (omega arith)))
+returns-2 c =
+    let e = c .before .before .following .ensures in
+    whole-cut (now (c .before .before .before .before .args .input)) (omega (arith, e)) (omega (arith, e))
+
+add-result : tie.Need-add-result
+add-result c = omega (arith, small (c .before .before))
 
 returns-3 : tie.Need-returns-3
 returns-3 c =
-    bad-front (now (c .before .before .before .before .before .args .input)) (omega arith) (inr (rw (sym (c .before .before .number16 .ensures)) (omega arith)))
-
-returns-4 : tie.Need-returns-4
-returns-4 c =
-    let after-number16 = c .before .before .before in
-    let start = after-number16 .before .before .before in
-    cut-front (now (start .args .input)) (omega arith) (rw (sym (after-number16 .number16 .ensures)) (omega arith))
-
-returns-5 : tie.Need-returns-5
-returns-5 c = a-frame (c .before .before .before .number16 .ensures) (omega arith) (omega arith) (omega arith)
+    let e = c .before .before .following .ensures in
+    ap (λ (n : ℕ). n + 2) e ∙ whole-is (now (c .before .before .before .before .args .input)) (omega (arith, e)) (omega (arith, e))
 
 pub front-spec : {M : Type 1} → statement M
-front-spec =
-    tie.close (tie.spec returns number16-requires cast-n returns-2 returns-3 returns-4 returns-5)
+front-spec = tie.close (tie.spec following-requires returns add-if2 returns-2 add-result returns-3)

@@ -1,111 +1,116 @@
--- `session::run` meets its contract. The loop's invariant: what was read and printed so far is how far a run came that has read, or not yet begun
--- (`Reached`), and the lengths are as they were. The measure is what is left of the input. Assumes nothing.
-use mathlib.Core.Path.{_≡_, refl, subst, _∙_}
-use mathlib.Core.Bool.{Bool, true, false}
-use Prim.Native.Nat.{ℕ, _+_, _-_, _<_}
+-- `session::run` meets its contract. The loop's invariant: any run on from here is a run from the start (`Leads`), what was read and printed is within
+-- input and out, and the lengths are as they were. The measure is what is left of the input. Assumes nothing.
+use mathlib.Core.Path.{_≡_, refl, _∙_}
+use Prim.Native.Nat.{_+_, _-_, _≤_}
 use denote.Ref.{now}
 use borrow.Author.Tests.{not-true, not-false}
-use borrow.Rule.Slice.PartMut.{same-len-mid}
+use borrow.Rule.Slice.PartMut.{putMid, same-len-mid}
 use native.Mathlib.Omega.{arith}
-use lib.ListN.{length}
-use Rattle.session.specs.Turns.{room}
-use Rattle.session.specs.Runs.{Advances}
-use Rattle.session.specs.TurnLaws.{both-ways}
-use Rattle.session.specs.RunsLaws.{withRest, Reached, not-begun, has-read, goes-on-part, no-room, rest-short}
+use lib.ListN.{length, drop, length-drop}
+use Rattle.session.specs.Runs.{OneTurn}
+use Rattle.session.specs.RunsLaws.{Leads, leads-start, part-turn, leads-done, leads-full, leads-more}
 use Rattle.session.proofs.run.Statement.{statement}
 use Rattle.session.proofs.run.Tie as tie
 
 abbrev Inv-loop : tie.InvT-loop
 Inv-loop input work₀ list₀ out₀ state₀ read₀ written₀ work list out state read written =
-    Reached (length work₀) state₀ input list₀ list out₀ out (record { state = state; read = read; written = written; more = true })
-    × (length work ≡ length work₀) × (length list ≡ length list₀) × (length out ≡ length out₀)
+    Leads (length work₀) state₀ input list₀ out₀ state list out read written
+    × (read ≤ length input) × (written ≤ length out) × (length work ≡ length work₀) × (length list ≡ length list₀) × (length out ≡ length out₀)
 
 abbrev μ-loop : tie.MeasureT-loop
 μ-loop input work₀ list₀ out₀ state₀ read₀ written₀ work list out state read written = length input - read
 
 loop-holds : tie.Need-loop-holds Inv-loop μ-loop
-loop-holds c = (not-begun _ _ _ _ _, refl, refl, refl)
+loop-holds c = (leads-start _ _ _ _ _, omega arith, omega arith, refl, refl, refl)
 
 sub-step : tie.Need-sub-step Inv-loop μ-loop
-sub-step c = omega (arith, c .loop .inv .0 .inside, c .loop .inv .0 .within)
+sub-step c = omega (arith, c .loop .inv .1)
 
 part-step-start : tie.Need-part-step-start Inv-loop μ-loop
-part-step-start c = omega (arith, c .loop .inv .0 .inside, c .loop .inv .0 .within)
+part-step-start c = omega (arith, c .loop .inv .1)
 
 part-step-end : tie.Need-part-step-end Inv-loop μ-loop
-part-step-end c = omega (arith, c .loop .inv .0 .inside, c .loop .inv .0 .within)
+part-step-end c = omega (arith, c .loop .inv .1)
 
 sub-step-2 : tie.Need-sub-step-2 Inv-loop μ-loop
-sub-step-2 c =
-    let at-loop = c .before .before .before in
-    omega (arith, at-loop .loop .inv .0 .inside, at-loop .loop .inv .0 .within)
+sub-step-2 c = omega (arith, c .before .before .before .loop .inv .2)
 
 part-step-start-2 : tie.Need-part-step-start-2 Inv-loop μ-loop
-part-step-start-2 c =
-    let at-loop = c .before .before .before in
-    omega (arith, at-loop .loop .inv .0 .inside, at-loop .loop .inv .0 .within)
+part-step-start-2 c = omega (arith, c .before .before .before .loop .inv .2)
 
 part-step-end-2 : tie.Need-part-step-end-2 Inv-loop μ-loop
-part-step-end-2 c =
-    let at-loop = c .before .before .before in
-    omega (arith, at-loop .loop .inv .0 .inside, at-loop .loop .inv .0 .within)
+part-step-end-2 c = omega (arith, c .before .before .before .loop .inv .2)
 
 step-requires : tie.Need-step-requires Inv-loop μ-loop
 step-requires c κs = tt
 
--- how far the run came with this turn
-went : (c : tie.After-step Inv-loop μ-loop) (more : Bool)
+-- the turn, over the rest of the input and of out
+turned : (c : tie.After-step Inv-loop μ-loop)
     → let at-loop = c .before .before .before .before .before in
     let start = at-loop .before .before .before .before .before in
-    c .step .result .more ≡ more
-    → let l = at-loop .loop in let q = c .step .result in let s = start .args in
-    Advances (s .state) (now (s .input)) (length (now (s .work))) (now (s .list)) (c .step .last .1 .1 .1 .0) (now (s .out))
-    (withRest (l .written) (l .out) (c .step .last .1 .1 .1 .1 .0)) (record {
-      state = q .state;
-      read = l .read + q .read;
-      written = l .written + q .written;
-      more = more;
-    })
-went c more e =
+    let l = at-loop .loop in let s = start .args in
+    OneTurn (l .state) (drop (l .read) (now (s .input))) (length (now (s .work))) (l .list) (c .step .last .1 .1 .1 .0) (drop (l .written) (l .out))
+    (c .step .last .1 .1 .1 .1 .0) (c .step .result)
+turned c =
+    let at-loop = c .before .before .before .before .before in
+    let start = at-loop .before .before .before .before .before in
+    let l = at-loop .loop in let s = start .args in
+    part-turn (length (now (s .work))) (now (s .input)) (l .out) (l .read) (l .written) _ (l .inv .3) (c .step .ensures)
+
+-- it stays within them
+inside : (c : tie.After-step Inv-loop μ-loop)
+    → let at-loop = c .before .before .before .before .before in
+    let start = at-loop .before .before .before .before .before in
+    at-loop .loop .read + c .step .result .read ≤ length (now (start .args .input))
+inside c =
+    let at-loop = c .before .before .before .before .before in
+    let start = at-loop .before .before .before .before .before in
+    let l = at-loop .loop in
+    omega (arith, turned c .advances .inside, length-drop (l .read) (now (start .args .input)), l .inv .1)
+
+within : (c : tie.After-step Inv-loop μ-loop)
+    → let at-loop = c .before .before .before .before .before in
+    at-loop .loop .written + c .step .result .written ≤ length (at-loop .loop .out)
+within c =
     let l = c .before .before .before .before .before .loop in
-    let s = c .before .before .before .before .before .before .before .before .before .before .args in
-    let q = c .step .result in
-    subst (λ (b : Bool). Advances (s .state) (now (s .input)) (length (now (s .work))) (now (s .list)) (c .step .last .1 .1 .1 .0) (now (s .out))
-    (withRest (l .written) (l .out) (c .step .last .1 .1 .1 .1 .0)) (record {
-      state = q .state;
-      read = l .read + q .read;
-      written = l .written + q .written;
-      more = b;
-    })) e
-    (goes-on-part (length (now (s .work))) (s .state) (now (s .input)) (now (s .list)) (l .list) _ (now (s .out)) (l .out) (c .step .last .1 .1 .1 .1 .0)
-    (record { state = l .state; read = l .read; written = l .written; more = true }) q _ (l .inv .2) (l .inv .3) (l .inv .1) (l .inv .0) (c .step .ensures))
+    omega (arith, turned c .advances .within, length-drop (l .written) (l .out), l .inv .2)
 
 -- the lent slices keep their lengths
 works : (c : tie.After-step Inv-loop μ-loop)
     → let start = c .before .before .before .before .before .before .before .before .before .before in
     length (c .step .last .1 .1 .0) ≡ length (now (start .args .work))
-works c = c .step .kept .1 .1 .0 ∙ c .before .before .before .before .before .loop .inv .1
+works c = c .step .kept .1 .1 .0 ∙ c .before .before .before .before .before .loop .inv .3
 
 lists : (c : tie.After-step Inv-loop μ-loop)
     → let start = c .before .before .before .before .before .before .before .before .before .before in
     length (c .step .last .1 .1 .1 .0) ≡ length (now (start .args .list))
-lists c = c .step .kept .1 .1 .1 .0 ∙ c .before .before .before .before .before .loop .inv .2
+lists c = c .step .kept .1 .1 .1 .0 ∙ c .before .before .before .before .before .loop .inv .4
 
-outs : (c : tie.After-step Inv-loop μ-loop) → let l = c .before .before .before .before .before .loop in
-    length (withRest (l .written) (l .out) (c .step .last .1 .1 .1 .1 .0))
-    ≡ length (now (c .before .before .before .before .before .before .before .before .before .before .args .out))
-outs c =
+whole : (c : tie.After-step Inv-loop μ-loop) → let l = c .before .before .before .before .before .loop in
+    length (putMid (l .written) (length (l .out) - l .written) (l .out) (c .step .last .1 .1 .1 .1 .0)) ≡ length (l .out)
+whole c =
     let l = c .before .before .before .before .before .loop in
-    same-len-mid (l .written) (length (l .out) - l .written) (l .out) (c .step .last .1 .1 .1 .1 .0) (c .step .kept .1 .1 .1 .1 .0) ∙ l .inv .3
+    same-len-mid (l .written) (length (l .out) - l .written) (l .out) (c .step .last .1 .1 .1 .1 .0) (c .step .kept .1 .1 .1 .1 .0)
+
+outs : (c : tie.After-step Inv-loop μ-loop)
+    → let at-loop = c .before .before .before .before .before in
+    let start = at-loop .before .before .before .before .before in
+    let l = at-loop .loop in
+    length (putMid (l .written) (length (l .out) - l .written) (l .out) (c .step .last .1 .1 .1 .1 .0)) ≡ length (now (start .args .out))
+outs c = whole c ∙ c .before .before .before .before .before .loop .inv .5
 
 add-read : tie.Need-add-read Inv-loop μ-loop
-add-read c = omega (arith, went (c .before .before .before .before .before .before .before .before) _ refl .inside)
+add-read c =
+    let after-step = c .before .before .before .before .before .before .before .before in
+    let start = after-step .before .before .before .before .before .before .before .before .before .before in
+    let h = inside after-step in let g = start .good in omega (arith, h, g)
 
 add-written : tie.Need-add-written Inv-loop μ-loop
 add-written c =
     let after-step = c .before .before .before .before .before .before .before .before .before in
-    let start = after-step .before .before .before .before .before .before .before .before .before .before in
-    let h = went after-step _ refl .within in let g = start .good in omega (arith, h, g)
+    let at-loop = after-step .before .before .before .before .before in
+    let start = at-loop .before .before .before .before .before in
+    let h = within after-step in let g = start .good in let e = at-loop .loop .inv .5 in omega (arith, h, g, e)
 
 same-length : tie.Need-same-length Inv-loop μ-loop
 same-length c = works (c .before .before .before .before .before .before .before .before .before .before .before)
@@ -119,7 +124,9 @@ same-length-3 c = outs (c .before .before .before .before .before .before .befor
 returns : tie.Need-returns Inv-loop μ-loop
 returns c =
     let after-step = c .before .before .before .before .before .before .before .before .before .before .before in
-    record { advances = went after-step false (not-true _ (c .if1 .taken)); full = λ e. absurd (both-ways _ e refl) }
+    let at-loop = after-step .before .before .before .before .before in
+    let l = at-loop .loop in
+    leads-done _ (l .out) (l .read) (l .written) (l .inv .0) (turned after-step) (l .inv .2) (not-true _ (c .if1 .taken))
 
 same-length-4 : tie.Need-same-length-4 Inv-loop μ-loop
 same-length-4 c = works (c .before .before .before .before .before .before .before .before .before .before .before .before .before)
@@ -134,26 +141,27 @@ returns-2 : tie.Need-returns-2 Inv-loop μ-loop
 returns-2 c =
     let after-step = c .before .before .before .before .before .before .before .before .before .before .before .before .before in
     let at-loop = after-step .before .before .before .before .before in
-    let start = at-loop .before .before .before .before .before in
     let l = at-loop .loop in
-    let out = now (start .args .out) in
-    let turn = after-step .step in
-    let more = not-false _ (c .before .before .if1 .left) in
-    let short = no-room (turn .result) _ _ (turn .ensures .onward) more (omega arith) in
-    record {
-      advances = went after-step true more;
-      full = λ e.
-          subst (λ (k : ℕ). length out < l .written + turn .result .written + room k) (l .inv .2)
-          (rest-short (l .out) (length out) (l .written) (turn .result .written) (room (length (l .list))) (l .inv .0 .within) (l .inv .3) short);
-    }
+    leads-full _ (l .out) (l .read) (l .written) (l .inv .0) (turned after-step) (l .inv .2) (not-false _ (c .before .before .if1 .left)) (omega arith)
 
 loop-less : tie.Need-loop-less Inv-loop μ-loop
-loop-less c = omega (arith, went (c .before .before .before .before .before .before .before .before .before .before .before .before .before) _ refl .inside)
+loop-less c = let h = inside (c .before .before .before .before .before .before .before .before .before .before .before .before .before) in omega (arith, h)
 
 loop-again : tie.Need-loop-again Inv-loop μ-loop
 loop-again c =
-    let turn = c .before .before .before .before .before .before .before .before .before .before .before .before .before in
-    (has-read _ (went turn true (not-false _ (c .before .before .if1 .left))) refl (omega arith), works turn, lists turn, outs turn)
+    let earlier = c .before .before .before .before .before .before .before .before .before in
+    let at-loop = earlier .before .before .before .before .before .before .before .before .before in
+    let l = at-loop .loop in
+    let turn = earlier .before .before .before .before in
+    let h = within turn in
+    let e = whole turn in (
+      leads-more _ (l .out) (l .read) (l .written) (l .inv .0) (turned turn) (l .inv .2) (omega arith),
+      inside turn,
+      omega (arith, h, e),
+      works turn,
+      lists turn,
+      outs turn,
+    )
 
 pub run-spec : {M : Type 1} → statement M
 run-spec =

@@ -1,13 +1,12 @@
--- `session::step` meets its contract: with too little room it stays (`stays`), else it is at the end of the input (`at-end`), at no frame (`is-broken`),
+-- `session::step` meets its contract: with too little room it stays (`stays`), else it is at the end of the input (`at-end`), at no frame (`no-frame`),
 -- or at one, which `frame` does (`one-frame`). Assumes nothing.
-use mathlib.Core.Path.{_≡_}
-use Prim.Native.Nat.{_+_, _≤_}
+use Prim.Native.Nat.{_≤_}
 use native.Mathlib.Omega.{arith}
 use denote.Ref.{now}
 use lib.ListN.{length}
 use Rattle.book.specs.Causes.{number}
-use Rattle.session.specs.Program.{minFrame, maxFrame, number16}
-use Rattle.session.specs.RunsLaws.{front-frame, front-none, stays, at-end, is-broken, one-frame}
+use Rattle.session.specs.Turns.{room}
+use Rattle.session.specs.RunsLaws.{whole-long, whole-none, stays, at-end, no-frame, one-frame}
 use borrow.Author.Needs.{needs}
 use Rattle.session.proofs.step.Statement.{statement}
 use Rattle.session.proofs.step.Tie as tie
@@ -23,7 +22,7 @@ returns c =
 returns-2 : tie.Need-returns-2
 returns-2 c =
     let s = c .before .before .before .before .before .before .args in
-    at-end _ (s .state) (now (s .input)) (now (s .list)) (now (s .out)) (omega arith)
+    at-end _ (s .state) (now (s .input)) (now (s .list)) (now (s .out)) (omega arith) (omega arith)
 
 front-requires : tie.Need-front-requires
 front-requires c κs = search needs
@@ -38,17 +37,17 @@ returns-3 : tie.Need-returns-3
 unfolding number
 returns-3 c =
     let s = c .before .before .before .before .before .before .before .before .before .before .before .before .args in
-    is-broken _ (s .state) (now (s .input)) (now (s .list)) (now (s .out)) _ _ (c .before .before .put-refused .ensures)
-    (front-none (c .before .before .before .before .before .front .ensures) (omega arith) _)
+    let e = c .before .before .before .before .before .front .ensures in
+    no-frame _ (s .state) (now (s .input)) (now (s .list)) (now (s .out)) _ _ _ (omega arith) (omega (arith, e)) (c .before .before .put-refused .ensures)
+    (whole-none (now (s .input)) (omega arith) (omega (arith, e)) _)
 
--- the frame's length, and that it is whole
+-- a whole frame has a length, a kind, and all its bytes
 facts : (c : tie.Else3)
     → let start = c .before .before .before .before .before .before .before .before in
-    let n = c .before .front .result in let i = now (start .args .input) in (n ≡ number16 i 0) × (minFrame ≤ n) × (n ≤ maxFrame) × (n + 2 ≤ length i)
-facts c = front-frame (c .before .front .ensures) (λ e. omega arith)
-
-add-read : tie.Need-add-read
-add-read c = omega (arith, facts (c))
+    (4 ≤ c .before .front .result) × (c .before .front .result ≤ length (now (start .args .input)))
+facts c =
+    let start = c .before .before .before .before .before .before .before .before in
+    whole-long (now (start .args .input)) (c .before .front .result) (c .before .front .ensures) (omega arith)
 
 number16-requires : tie.Need-number16-requires
 number16-requires c κs = search needs
@@ -78,12 +77,14 @@ returns-4 : tie.Need-returns-4
 returns-4 c =
     let after-frame = c .before .before .before .before .before .before .before in
     let after-number16 = after-frame .before .before .before .before .before in
-    let else1 = after-number16 .before .before .before .before in
-    let start = else1 .before .before .before .before .before in
+    let after-front = after-number16 .before .before in
+    let start = after-front .before .before .before .before .before .before .before in
     let s = start .args in
     let f = after-frame .frame in
-    one-frame _ (s .state) (now (s .input)) (now (s .list)) _ (now (s .out)) _ (after-number16 .before .before .front .result) _
-    (f .result) (facts (after-number16 .before)) (after-number16 .number16 .ensures) (f .ensures .turns (omega (arith, else1 .if1 .left)))
+    let enough : room (length (now (s .list))) ≤ length (now (s .out)) = omega (arith, after-front .before .before .if1 .left) in
+    one-frame _ (s .state) (now (s .input)) (now (s .list)) _ (now (s .out)) _ (after-front .front .result) _ (f .result)
+    enough (f .kept .1 .1 .1 .1 .0) (after-front .front .ensures) (omega (arith, facts (after-number16 .before)))
+    (after-number16 .number16 .ensures) (f .ensures .turns enough)
 
 pub step-spec : {M : Type 1} → statement M
 step-spec =
@@ -96,7 +97,6 @@ step-spec =
     put-refused-requires
     same-length
     returns-3
-    add-read
     number16-requires
     sub-frame
     part-frame-start

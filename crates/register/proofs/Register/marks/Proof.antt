@@ -4,7 +4,6 @@ use borrow.Author.Needs.{needs}
 use lib.ListN.{length-replicate}
 use Rattle.book.specs.Causes.{maxRecords}
 use Rattle.register.specs.Marks.{freeMark}
-use Rattle.register.specs.MarkLaws.{shows-locked, shows-withdrawn}
 use Rattle.register.proofs.StepLaws.{outside, inside}
 use Rattle.register.proofs.Register.marks.Statement.{statement}
 use Rattle.register.proofs.Register.marks.Tie as tie
@@ -18,14 +17,13 @@ returns c =
     record {
       long = length-replicate maxRecords freeMark;
       foreign = λ _. refl;
-      locked = λ b h. absurd (none (h .ranged));
-      withdrawn = λ b h. absurd (none (h .ranged));
+      marks = λ b h. absurd (none (h .ranged));
     }
 
 returns-2 : tie.Need-returns-2
 returns-2 c =
     let made = inside (c .before .before .before .args .self) _ (c .before .before .ranged .ensures) (c .before .if1 .left) in
-    record { long = search needs; foreign = λ o. absurd (o made); locked = λ b h. shows-locked (h .sheet); withdrawn = λ b h. shows-withdrawn (h .sheet) }
+    record { long = search needs; foreign = λ o. absurd (o made); marks = λ b h. h .sheet .marks }
 
 pub marks-spec : {M : Type 1} → statement M
 marks-spec = tie.close (tie.spec ranged-requires returns returns-2)

@@ -1,0 +1,75 @@
+-- `lines::send_all` meets its contract. The loop's invariant: any loop on from here, with the turns that are left, is a loop from the start (`SendsOn`),
+-- and the arrays are as long as they were. The measure is the number of turns left. Assumes nothing.
+use mathlib.Core.Path.{_≡_, sym, _∙_}
+use Prim.Native.Nat.{ℕ, _+_}
+use native.Mathlib.Omega.{arith}
+use lib.ListN.{length, length-replicate}
+use Rattle.lines.specs.Typed.{maxLine}
+use Rattle.lines.specs.Encoding.{frameRoom}
+use Rattle.lines.specs.LoopLaws.{SendsOn, sends-start, sends-more, sends-stop, sends-fail, sends-spent}
+use Rattle.lines.proofs.send_all.Statement.{statement}
+use Rattle.lines.proofs.send_all.Tie as tie
+
+abbrev Inv-loop : tie.InvT-loop
+Inv-loop line₀ out₀ lines₀ line out lines = SendsOn lines × (length line ≡ maxLine + 1) × (length out ≡ frameRoom)
+
+abbrev μ-loop : tie.MeasureT-loop
+μ-loop line₀ out₀ lines₀ line out lines = lines
+
+loop-holds : tie.Need-loop-holds Inv-loop μ-loop
+loop-holds c = (sends-start, length-replicate {A = ℕ} (maxLine + 1) 0, length-replicate {A = ℕ} frameRoom 0)
+
+slice-aggregate-turn : tie.Need-slice-aggregate-turn Inv-loop μ-loop
+slice-aggregate-turn c = sym (c .before .before .loop .inv .1)
+
+slice-aggregate-turn-2 : tie.Need-slice-aggregate-turn-2 Inv-loop μ-loop
+slice-aggregate-turn-2 c = sym (c .before .before .before .loop .inv .2)
+
+turn-requires : tie.Need-turn-requires Inv-loop μ-loop
+turn-requires c κs =
+    let inv = c .before .before .before .loop .inv in
+    (omega (arith, inv .1), omega (arith, inv .2))
+
+returns : tie.Need-returns Inv-loop μ-loop
+returns c =
+    let l = c .before .before .before .before .before .before .before .before .loop in
+    let t = c .before .before .before .before .turn in
+    sends-fail (l .lines) (t .result .written) _ _ _ (omega arith) (l .inv .0) (t .ensures)
+
+returns-2 : tie.Need-returns-2 Inv-loop μ-loop
+returns-2 c =
+    let l = c .before .before .before .before .before .before .before .before .before .before .loop in
+    let t = c .before .before .before .before .before .before .turn in
+    sends-stop (l .lines) (t .result .written) _ _ _ (omega arith) (l .inv .0) (t .ensures)
+
+sub-lines : tie.Need-sub-lines Inv-loop μ-loop
+sub-lines c = omega arith
+
+loop-less : tie.Need-loop-less Inv-loop μ-loop
+loop-less c = omega arith
+
+loop-again : tie.Need-loop-again Inv-loop μ-loop
+loop-again c =
+    let l = c .before .before .before .before .before .before .before .before .before .before .loop in
+    let t = c .before .before .before .before .before .before .turn in
+    (sends-more (l .lines) (t .result .written) _ _ _ (omega arith) (l .inv .0) (t .ensures), t .kept .0 ∙ l .inv .1, t .kept .1 .0 ∙ l .inv .2)
+
+returns-3 : tie.Need-returns-3 Inv-loop μ-loop
+returns-3 c = let l = c .before .loop in sends-spent (l .lines) (omega arith) (l .inv .0)
+
+pub send-all-spec : {M : Type 1} → statement M
+send-all-spec =
+    tie.close
+    (tie.spec
+    Inv-loop
+    μ-loop
+    loop-holds
+    slice-aggregate-turn
+    slice-aggregate-turn-2
+    turn-requires
+    returns
+    returns-2
+    sub-lines
+    loop-less
+    loop-again
+    returns-3)
