@@ -153,7 +153,7 @@ pub fn pairs_by_rows(
 pub fn relation(register: Register, text: &[u8], work: &mut [u64], rows: &mut [u64]) -> PairsAnswer
     ensures { λ a. ⌜ Relates register (now (text .entry)) (length (now (work .entry))) (now (rows .entry)) (now (rows .exit)) a ⌝ }
 {
-    pairs::relation(register, text, work, rows)
+    rowpairs::relation(register, text, work, rows)
 }
 
 // The first chain of an expression between two records.
