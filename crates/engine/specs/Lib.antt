@@ -1,4 +1,3 @@
-pub mod BookLaws
 pub mod Demand
 pub mod DemandLaws
 pub mod Inquiries
