@@ -83,6 +83,10 @@ uint64_t dating_pairs(const uint32_t *state, size_t state_len, const uint8_t *te
 /* The first of the shortest chains: step words, (label * 2 + sense) * 1024 + record reached, sense 0 forward and 1 against. Work of 64 * n words. */
 uint64_t dating_chain(const uint32_t *state, size_t state_len, uint16_t from, uint16_t to, const uint8_t *text, size_t text_len,
                       uint64_t *work, size_t work_len, uint32_t *list, size_t list_len);
+/* The ends of a record, ascending: those that a chain leads to from it. As many as the list takes; how many they are in all is told. */
+uint64_t dating_ends(const uint32_t *state, size_t state_len, uint16_t from, const uint8_t *text, size_t text_len, uint32_t *list, size_t list_len);
+/* The starts of a record, likewise: those from which a chain leads to it. */
+uint64_t dating_starts(const uint32_t *state, size_t state_len, uint16_t to, const uint8_t *text, size_t text_len, uint32_t *list, size_t list_len);
 
 /* k2-trees of pairs below n, each lent as exactly its words; a tree has at most D words. Work as for pairs. */
 uint64_t dating_tree_make(size_t n, const uint32_t *pairs, size_t pairs_len, uint64_t *tree, size_t tree_len, uint64_t *work, size_t work_len);

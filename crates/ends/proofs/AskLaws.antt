@@ -37,7 +37,7 @@ use Rattle.ends.specs.Ends.{places, ends, joinedBy, endsCauses, endsAnsw
 use Rattle.ends.specs.EndsLaws.{places-same, ends-only, joined-as}
 use Rattle.ends.specs.MadeLaws.{answer-ends}
 use Rattle.ends.specs.declared.EndsAnswer.the-variants.{Ends, Refused}
-use Rattle.ends.specs.Asking.{endsLength, told-number, told-ends, BookEnds, Asks}
+use Rattle.ends.specs.Asking.{endsLength, told-number, told-ends, Asks}
 use Rattle.ends.specs.Listing.{Shown, meets}
 use Rattle.ends.proofs.ListLaws.{shown-over, shown-past}
 

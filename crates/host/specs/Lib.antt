@@ -12,3 +12,4 @@ pub mod OffsetsLaws
 pub mod PageHost
 pub mod PageHostLaws
 pub mod RowQuestionLaws
+pub mod EndsQuestionLaws

@@ -1,7 +1,5 @@
 -- `started` meets its contract: with the start, the tables are those of the automaton (`masked`). Assumes nothing.
-use mathlib.Core.Path.{_≡_}
 use borrow.Author.Needs.{needs}
-use lib.ListN.{length}
 use Rattle.tables.proofs.RunLaws.{masked}
 use Rattle.tables.proofs.started.Statement.{statement}
 use Rattle.tables.proofs.started.Tie as tie
