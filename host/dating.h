@@ -4,10 +4,10 @@
  * contents, and ends. What is written (state, list, out, tree, work) must not overlap what else is lent.
  *
  * A uint32_t answer is 0, or the number of a refusal, unless it says otherwise. A uint64_t answer is a total, or the number of words of the answer;
- * DATING_NO_CHAIN, or DATING_CANNOT_HOLD; DATING_LOOP plus the number of steps of a loop; or DATING_REFUSED plus the number of a refusal. Of links and
- * pairs (dating_links, dating_pairs, dating_tree_list, dating_preview, dating_pairs_by_rows) it is the total, of which the first min(total, list_len) are
- * written; any other answer that is longer than its list is refused. A refused call leaves state and list as they were; words of a list past the answer,
- * and of a state past DATING_STATE_WORDS, are never touched; work may hold anything after a call. The numbers:
+ * DATING_NO_CHAIN, or DATING_CANNOT_HOLD; DATING_LOOP plus the number of steps of a loop; or DATING_REFUSED plus the number of a refusal. Of links, pairs,
+ * ends and starts (dating_links, dating_pairs, dating_tree_list, dating_preview, dating_pairs_by_rows, dating_ends, dating_starts) it is the total, of
+ * which the first min(total, list_len) are written; any other answer that is longer than its list is refused. A refused call leaves state and list as they
+ * were; words of a list past the answer, and of a state past DATING_STATE_WORDS, are never touched; work may hold anything after a call. The numbers:
  *
  *    1  n outside 1 to 1,024                            12  work (or state) shorter than stated
  *    2  record not below n                              13  chain, loop, tree, numbers, records, offsets or pages
