@@ -1,12 +1,10 @@
--- What the engine promises of the book of a register, beside what its calls do: a crate above proves with this and with the calls' contracts, and needs
--- nothing else of a register.
---   made-book        a register that calls made represents the book after them
---   represented-fit  the sheet of a book that a register represents fits: its links are proper, and their ends are in use
+-- What the engine promises of the book of a register that calls made: a crate above proves with this and with the calls' contracts, and needs nothing else of
+-- a register.
+--   made-book   a register that calls made represents the book after them
 -- Assumes nothing.
 use mathlib.Core.List.{List}
 use Prim.Native.Nat.{ℕ}
-use Rattle.book.specs.Book.{Book, Call, fresh, after}
-use Rattle.book.specs.Sheets.{Fit}
+use Rattle.book.specs.Book.{Call, fresh, after}
 use Rattle.register.specs.HistoryLaws.{made-history}
 use Rattle.register.specs.Made.{MadeBy}
 use Rattle.register.specs.Representation.{Represents}
@@ -14,6 +12,3 @@ use Rattle.register.specs.declared.Register.{Register}
 
 pub made-book : {n : ℕ} {cs : List Call} {r : Register} → MadeBy n cs r → Represents r (after (fresh n) cs)
 made-book M = made-history M .2
-
-pub represented-fit : {r : Register} {b : Book} → Represents r b → Fit (b .n) (b .sheet)
-represented-fit R = R .sheet .fit

@@ -10,6 +10,7 @@ ghost use Rattle.book.specs.Book.{add, remove, lock, unlock, withdraw, reinstat
 ghost use Rattle.k2.specs.PairSets.{union, intersection, difference, transpose, closure};
 ghost use Rattle.tree.specs.Calls.{productSensed, Answered, Listed, treeOf, listOf, treeOfOne, treeOfTwo};
 ghost use Rattle.register.specs.Calls.{callOf, Opens, Steps, Closes};
+ghost use Rattle.register.specs.Parting.{Without};
 ghost use Rattle.register.specs.Questions.{Sized, Listing, Locking, Withdrawal, Totals};
 ghost use Rattle.pairs.specs.Asking.{AsksPairs, Relates};
 ghost use Rattle.rowpairs.specs.Asking.{AsksRows};
@@ -109,6 +110,13 @@ pub fn links(register: Register) -> Links
     register.links()
 }
 
+// The register without the links that touch a record; nothing is held then.
+pub fn without(register: Register, record: u16) -> Register
+    ensures { λ r. ⌜ Without register «record» r ⌝ }
+{
+    register.without(record)
+}
+
 // Whether a record is locked.
 pub fn is_locked(register: Register, record: u16) -> bool
     ensures { λ r. ⌜ Locking register «record» r ⌝ }
@@ -153,7 +161,7 @@ pub fn pairs_by_rows(
 pub fn relation(register: Register, text: &[u8], work: &mut [u64], rows: &mut [u64]) -> PairsAnswer
     ensures { λ a. ⌜ Relates register (now (text .entry)) (length (now (work .entry))) (now (rows .entry)) (now (rows .exit)) a ⌝ }
 {
-    pairs::relation(register, text, work, rows)
+    rowpairs::relation(register, text, work, rows)
 }
 
 // The first chain of an expression between two records.

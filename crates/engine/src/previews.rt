@@ -25,5 +25,5 @@ pub fn preview(
         return PairsAnswer::Refused(number);
     }
     let edited = outcome.register;
-    pairs::pairs(edited, text, work, list)
+    rowpairs::pairs(edited, text, work, list)
 }

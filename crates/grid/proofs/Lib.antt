@@ -7,3 +7,4 @@ pub mod ProductLaws
 pub mod PairLaws
 pub mod ListingLaws
 pub mod TransposeLaws
+pub mod SpreadLaws

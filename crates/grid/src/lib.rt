@@ -3,12 +3,13 @@
 // part of the work that begins with its left operand, and may use what stands after its operands.
 //
 // words.rt has the bits of one word, row.rt one row, putting.rt pairs put into a relation, algebra.rt union, product and transposition, closing.rt the
-// closure, listing.rt the list.
+// closure, listing.rt the list, spreading.rt the relation as rows of 1,024 bits.
 mod algebra;
 mod closing;
 mod listing;
 mod putting;
 mod row;
+mod spreading;
 mod words;
 
 pub use algebra::compose;
@@ -19,3 +20,4 @@ pub use listing::list;
 pub use putting::put_diagonal;
 pub use putting::put_letters;
 pub use putting::start;
+pub use spreading::spread;

@@ -1,10 +1,11 @@
 // The bits of one word: the lowest, the next above one, and a word put into another.
 ghost use mathlib.Core.Path.{_≡_};
-ghost use Prim.Native.Nat.{ℕ, _+_, _-_, _*_, _<_, max, min};
+ghost use Prim.Native.Nat.{ℕ, _+_, _-_, _*_, _≤_, _<_, max, min};
 ghost use lib.Dec.{ltb};
+ghost use lib.ListN.{length};
 ghost use Rattle.book.specs.Basics.{pick};
 ghost use Rattle.k2.specs.Bits.{digit};
-ghost use Rattle.grid.specs.Steps.{Lowest};
+ghost use Rattle.grid.specs.Steps.{Lowest, columns};
 
 // The lowest bit of a word; 64 if it has none.
 pub fn lowest(word: u64) -> usize
@@ -20,6 +21,13 @@ pub fn above(word: u64, k: usize) -> usize
 {
     let rest = (word >> k) >> 1;
     k + 1 + u64::trailing_zeros(rest) as usize
+}
+
+// How many bits a word has.
+pub fn count(word: u64) -> usize
+    ensures { λ r. ⌜ (r ≤ 64) × ((at : ℕ) → r ≡ length (columns (digit word) at 64)) ⌝ }
+{
+    u64::count_ones(word) as usize
 }
 
 // Word c of a row with the mask, the word v put in.

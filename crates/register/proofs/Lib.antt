@@ -6,5 +6,6 @@ pub mod SheetLaws
 pub mod StepLaws
 pub mod ReplayLaws
 pub mod ClosingLaws
+pub mod WithoutLaws
 pub mod LookupLaws
 pub mod KeepLaws

@@ -32,7 +32,7 @@ use Rattle.register.specs.declared.Register.{Register}
 use Rattle.register.proofs.AscendingLaws.{rises-absent}
 
 -- ---- words
-rises-distinct : {m : ℕ} {l : List ℕ} → Rises m l → Distinct eqb l
+pub rises-distinct : {m : ℕ} {l : List ℕ} → Rises m l → Distinct eqb l
 unfolding Distinct
 rises-distinct ended = tt
 rises-distinct (rises {w = w} h r) = (rises-absent w r (omega arith), rises-distinct r)

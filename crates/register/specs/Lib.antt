@@ -12,9 +12,12 @@ pub mod Lookups
 pub mod Words
 pub mod Inner
 pub mod Closing
+pub mod Parting
+pub mod Apart
 pub mod MarkLaws
 pub mod LinkLaws
 pub mod HistoryLaws
 pub mod EntryLaws
 pub mod LaidLaws
 pub mod WordLaws
+pub mod PartingLaws

@@ -5,6 +5,7 @@
 --   rows-handed     the pairs handed over are that answer
 --   rows-outcome    with both works enough the outcomes are equal
 --   rows-same       asked of a register that represents a book, with both works enough: both engines give the same answer and the same list
+--   rows-asks       what is promised by rows is what is promised by trees, with both works enough
 -- Assumes nothing.
 use mathlib.Core.Path.{_≡_, refl, sym, ap, _∙_, subst}
 use mathlib.Core.List.{List}
@@ -24,8 +25,8 @@ use Rattle.reader.specs.declared.Answer.the-variants.{Refused as Faulty}
 use Rattle.register.specs.Representation.{Represents}
 use Rattle.register.specs.declared.Register.{Register}
 use Rattle.pairs.specs.declared.PairsAnswer.{PairsAnswer}
-use Rattle.pairs.specs.Asking.{Tells, told-number, told-pairs, Handed, handed, AsksPairs}
-use Rattle.rowpairs.specs.Asking.{rowsWork, rowsCauses, rowsAnswer, BookRows, AsksRows}
+use Rattle.pairs.specs.Asking.{Tells, told-number, told-pairs, Handed, handed, AsksFor, AsksPairs}
+use Rattle.rowpairs.specs.Asking.{rowsWork, rowsCauses, rowsAnswer, BookRows, AsksRowsFor, AsksRows}
 
 module _ (b : Book) (work room : ℕ) where
   pub rows-refused : (v : Verdict) (k : ℕ) → readAnswer v ≡ Faulty k → rowsAnswer b v work room ≡ refused k
@@ -74,3 +75,17 @@ rows-same r b text trees rows before after after′ a a′ R h l T S =
     let t = T .book b R in
     let s = S .book b R in
     (tells-same (subst (λ (x : Outcome). Tells x a′) o (s .tells)) (t .tells), s .list ∙ ap (λ (x : Outcome). listAfter x before) o ∙ sym (t .list))
+
+pub rows-asks : (r : Register) (n work : ℕ) (v : Verdict) (before after : List ℕ) (a : PairsAnswer) → ((b : Book) → Represents r b → n ≡ b .n)
+    → pairsWork n ≤ work → rowsWork n ≤ work → AsksRowsFor r v work before after a → AsksFor r v work before after a
+rows-asks r n work v before after a size h l A = record {
+  past = A .past;
+  unchanged = A .unchanged;
+  caused = A .caused;
+  book = λ b R.
+      let z : n ≡ b .n = size b R in
+      let o =
+      rows-outcome b v work work (length before) (subst (λ (i : ℕ). pairsWork i ≤ work) z h) (subst (λ (i : ℕ). rowsWork i ≤ work) z l) in
+      let s = A .book b R in
+      record { tells = subst (λ (x : Outcome). Tells x a) o (s .tells); list = s .list ∙ ap (λ (x : Outcome). listAfter x before) o };
+}

@@ -18,6 +18,9 @@
 --                         the first i numbers of the code c have been run, and k relations wait
 --   ValueFirst n links used c ws ms
 --                         the code c has been run: for every book whose links and records in use these are, the first relation is its value
+--   ValueInRows r n c rows t
+--                         the code c has been run: for every book of n records that the register r represents, the rows of 1,024 bits are its value, which has
+--                         t pairs
 -- Assumes nothing: these are definitions.
 use mathlib.Core.Path.{_≡_}
 use mathlib.Core.List.{List, [], _∷_}
@@ -25,15 +28,19 @@ use Prim.Native.Nat.{ℕ, zero, suc, _+_, _-_, _*_, _<_, _≤_}
 use lib.ListN.{length, drop, getD}
 use Rattle.book.specs.Book.{Book}
 use Rattle.book.specs.Causes.{maxRecords}
+use Rattle.k2.specs.Bits.{bitAt}
 use Rattle.k2.specs.PairSets.{Cells, union, transpose, product, closure}
 use Rattle.paths.specs.Expressions.{Expr}
 use Rattle.paths.specs.Chains.{Graph, asked}
-use Rattle.paths.specs.Relations.{crossedBy, zeroSteps, cells}
+use Rattle.paths.specs.Relations.{crossedBy, zeroSteps, cells, pairs}
 use Rattle.reader.specs.declared.items.Item.{Item}
 use Rattle.reader.specs.declared.items.Item.the-variants.{Letters, Inverse, Star, Plus, Optional, Alternative, Sequence}
 use Rattle.reader.specs.Letters.{lettersIn}
 use Rattle.reader.specs.Code.{itemOf, does, run}
 use Rattle.reader.specs.Running.{operands, Runs}
+use Rattle.register.specs.Representation.{Represents}
+use Rattle.register.specs.declared.Register.{Register}
+use Rattle.rows.specs.Rows.{flat}
 use Rattle.grid.specs.Grid.{first, second}
 use Rattle.pairs.specs.Evaluation.{relations, heights, most-waiting}
 use Rattle.pairs.specs.Steps.{Lettered, Coded}
@@ -92,3 +99,7 @@ pub record Going (n : ℕ) (links used c ws ms : List ℕ) (k i : ℕ) : Type 0 
 
 pub record ValueFirst (n : ℕ) (links used c ws ms : List ℕ) : Type 0 where
   pub value : (b : Book) → Lettered b n links used → (s : List ℕ) (e : Expr) → Coded s e c → first n (rowWidth n) ws ms ≡ cells (asked b) e
+
+pub record ValueInRows (r : Register) (n : ℕ) (c rows : List ℕ) (t : ℕ) : Type 0 where
+  pub bits : (b : Book) → Represents r b → n ≡ b .n → (s : List ℕ) (e : Expr) → Coded s e c → bitAt rows ≡ flat (cells (asked b) e)
+  pub total : (b : Book) → Represents r b → n ≡ b .n → (s : List ℕ) (e : Expr) → Coded s e c → t ≡ length (pairs (asked b) e)

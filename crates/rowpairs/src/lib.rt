@@ -1,5 +1,6 @@
 // Pair questions by rows of bits: an expression's code is run on a stack of relations, which lie one after another in the lent work, each as n rows
-// of bits, 64 columns to a word, with a mask of each row's words in use (crate `grid`). The last one left is listed.
+// of bits, 64 columns to a word, with a mask of each row's words in use (crate `grid`). The last one left is listed, or spread to
+// rows of 1,024 bits.
 ghost use mathlib.Core.Path.{_≡_};
 ghost use mathlib.Core.List.{List, map, _++_};
 ghost use mathlib.Core.Logic.{_⊎_};
@@ -13,6 +14,7 @@ ghost use Rattle.paths.specs.Expressions.{Expr};
 ghost use Rattle.paths.specs.Grammar.{accepted};
 ghost use Rattle.paths.specs.Chains.{asked};
 ghost use Rattle.paths.specs.Relations.{crossedBy};
+ghost use Rattle.paths.specs.Questions.{pairsWork};
 ghost use Rattle.reader.specs.declared.items.Item.the-variants.{Inverse};
 ghost use Rattle.reader.specs.Code.{itemOf};
 ghost use Rattle.reader.specs.Letters.{lettersIn};
@@ -21,13 +23,17 @@ ghost use Rattle.rows.specs.Rows.{linkPair};
 ghost use Rattle.grid.specs.Grid.{first};
 ghost use Rattle.pairs.specs.Evaluation.{Ready};
 ghost use Rattle.pairs.specs.Steps.{Lettered, Coded};
-ghost use Rattle.rowpairs.specs.Asking.{rowWidth, AsksRowsFor, AsksRows};
+ghost use Rattle.pairs.specs.Asking.{Relates, AsksPairs};
+ghost use Rattle.rowpairs.specs.Asking.{rowWidth, rowsWork, AsksRowsFor, AsksRows};
 ghost use Rattle.rowpairs.specs.Labels.{everyIf, Alone, LetterListed};
-ghost use Rattle.rowpairs.specs.Evaluation.{Space, Lent, Operates, Goes, Reading, ValueFirst};
+ghost use Rattle.rowpairs.specs.Evaluation.{Space, Lent, Operates, Goes, Reading, ValueFirst, ValueInRows};
 use reader::Item;
 
 // The work is that of so many relations.
 const RELATIONS: usize = 32;
+
+// The words of a relation's rows: 1,024 rows of 1,024 bits.
+const ROW_WORDS: usize = 16384;
 
 // The masks of 20 relations of 1,024 rows, and one more: 19 that wait, one as scratch, and a row of a product.
 const MASKS: usize = 20481;
@@ -328,4 +334,82 @@ pub fn pairs_by_rows(
         reader::Answer::Refused(k) => pairs::PairsAnswer::Refused(k as u32),
         reader::Answer::Accepted(len) => of_code(register, code, len, work, list),
     }
+}
+
+// Is so much work enough for a question by trees, and for one by rows?
+fn enough_for_both(n: usize, work: usize) -> bool
+    requires { ⌜ n ≤ maxRecords ⌝ }
+    ensures { λ r. ⌜ (r ≡ true → (pairsWork n ≤ work) × (rowsWork n ≤ work)) ⌝ }
+{
+    if work < RELATIONS * tree::tree_unit(n) {
+        return false;
+    }
+    RELATIONS * (n * row_width(n)) <= work
+}
+
+// The relation of an expression as rows of 1,024 bits, by its code, the first len numbers of the array; how many pairs it has.
+fn relate(
+    register: register::Register,
+    n: usize,
+    code: [u64; book::MAX_BYTES],
+    len: usize,
+    work: &mut [u64],
+    rows: &mut [u64],
+) -> usize
+    requires { ⌜ (n ≤ maxRecords) × (rowsWork n ≤ length (now work)) × (length (now rows) ≡ 16384) × (len ≤ length code)
+        × ((s : List ℕ) × (e : Expr) × Coded s e (take len code)) ⌝ }
+    ensures { λ r. ⌜ ValueInRows register n (take len code) (now (rows .exit)) r ⌝ }
+{
+    let w = row_width(n);
+    let links = register.links();
+    let count = links.count;
+    let array = links.words;
+    let used = pairs::in_use(register, n);
+    let mut masks: [u16; MASKS] = [0; MASKS];
+    run(&array[..count], &used, work, &mut masks, n, &code[..len]);
+    grid::spread(work, &masks, n, w, rows)
+}
+
+// The relation as `pairs::relation` gives it: by rows if the work is enough for them, which it is for more than 32 records, else by trees.
+pub fn relation(
+    register: register::Register,
+    text: &[u8],
+    work: &mut [u64],
+    rows: &mut [u64],
+) -> pairs::PairsAnswer
+    ensures { λ a. ⌜ Relates register (now (text .entry)) (length (now (work .entry))) (now (rows .entry)) (now (rows .exit)) a ⌝ }
+{
+    let n = register.size();
+    if !enough_for_both(n, work.len()) {
+        return pairs::relation(register, text, work, rows);
+    }
+    if rows.len() < ROW_WORDS {
+        return pairs::relation(register, text, work, rows);
+    }
+    let reading = reader::read(text);
+    let answer = reading.answer;
+    let code = reading.code;
+    match answer {
+        reader::Answer::Refused(k) => pairs::PairsAnswer::Refused(k as u32),
+        reader::Answer::Accepted(len) => {
+            let found = relate(register, n, code, len, work, &mut rows[..ROW_WORDS]);
+            pairs::PairsAnswer::Pairs(found)
+        }
+    }
+}
+
+// The pairs as `pairs::pairs` gives them, by rows or by trees in the same way.
+pub fn pairs(
+    register: register::Register,
+    text: &[u8],
+    work: &mut [u64],
+    list: &mut [u32],
+) -> pairs::PairsAnswer
+    ensures { λ a. ⌜ AsksPairs register (now (text .entry)) (length (now (work .entry))) (now (list .entry)) (now (list .exit)) a ⌝ }
+{
+    let n = register.size();
+    if !enough_for_both(n, work.len()) {
+        return pairs::pairs(register, text, work, list);
+    }
+    pairs_by_rows(register, text, work, list)
 }

@@ -13,7 +13,7 @@
 --   part-length, supports
 --                  the part of the work that is lent on, and the promise
 -- Assumes nothing.
-use mathlib.Core.Path.{_≡_, refl, sym, ap, ap₂, _∙_, subst}
+use mathlib.Core.Path.{_≡_, refl, sym, ap, ap₂, _∙_, subst, fun-ext}
 use mathlib.Core.List.{List, [], _∷_, _++_}
 use mathlib.Core.Bool.{Bool, true, false, not, _||_, _&&_}
 use Prim.Native.Nat.{ℕ, zero, suc, _+_, _-_, _*_, _≤_, _<_, min}
@@ -25,7 +25,7 @@ use lib.Dec.{leb, ltb, eqb}
 use borrow.Author.Tests.{lt-ltb, le-ltb, le-leb, lt-leb, leb-false}
 use Rattle.book.specs.Basics.{pick}
 use Rattle.book.specs.Causes.{Cause, no-record, unordered-anchors, short-work, short-list, number, Caused, firstNumber, maxRecords}
-use Rattle.book.specs.Book.{Book}
+use Rattle.book.specs.Book.{Link, Book, present, isWithdrawn}
 use Rattle.book.specs.BookLaws.{caused-positive}
 use Rattle.k2.specs.Bits.{bitAt}
 use Rattle.k2.specs.PairSets.{pairWord}
@@ -38,6 +38,8 @@ use Rattle.paths.specs.Relations.{cells}
 use Rattle.paths.specs.Questions.{Outcome, refused, paired, unless, pairsWork, chainWork, pairsCauses, over}
 use Rattle.rows.specs.RowLaws.{flat-at}
 use Rattle.register.specs.Representation.{Represents}
+use Rattle.register.specs.Parting.{touches, withoutLinks, withoutRecord, Without}
+use Rattle.register.specs.PartingLaws.{present-without}
 use Rattle.register.specs.declared.Register.{Register}
 use Rattle.pairs.specs.Asking.{Tells, told-number, told-pairs, rowWords, relationCauses, relationAnswer, RelatesFor}
 use Rattle.pairs.specs.declared.PairsAnswer.{PairsAnswer}
@@ -48,7 +50,7 @@ use Rattle.support.specs.declared.Marks.{Marks}
 use Rattle.support.specs.Support.{without, some, chosen, reaches, falls, fallen, orderly, supportWork, fallenOf, supportCauses, supportNumber, answered}
 use Rattle.support.specs.Support.{listed, BookSupports, recordsLength, SupportsFor}
 use Rattle.support.specs.SupportLaws.{some-same, some-none, chosen-same}
-use Rattle.support.specs.Inner.{joinedBy, lost, Marked, Parted, Handed, too-long, handed, Compares}
+use Rattle.support.specs.Inner.{joinedBy, lost, Marked, Handed, too-long, handed, Compares}
 
 -- ---- a relation's number
 or-false : (t : Bool) → (t || false) ≡ t
@@ -113,6 +115,18 @@ module _ {r : Register} {v : Verdict} {anchors : List ℕ} {work n : ℕ} {befor
         ∙ flat-at (cells (asked b) f) x y (omega (arith, leb-false n y (some-none (leb n) anchors below y i)))
         in ap (λ (c : ℕ). eqb c 1) w);
   }
+
+-- the graph of a book without the core's links
+without-graph : (core : ℕ) (b : Book) → asked (withoutRecord core b) ≡ without core (asked b)
+unfolding asked without withoutRecord withoutLinks
+without-graph core b = λ i. record { n = b .n; inUse = in-use i; present = left i }
+  where
+    in-use : _≡_ {A = ℕ → Bool} (λ x. ltb x (b .n) && not (isWithdrawn (withoutLinks core (b .sheet)) x))
+        (λ x. ltb x (b .n) && not (isWithdrawn (b .sheet) x))
+    in-use = refl
+
+    left : _≡_ {A = Link → Bool} (λ k. present (withoutLinks core (b .sheet)) k) (λ k. present (b .sheet) k && not (touches core k))
+    left = fun-ext (λ k. present-without core (b .sheet) k)
 
 -- ---- the numbers of the question
 module _ (b : Book) (core : ℕ) (v : Verdict) (anchors : List ℕ) (work room : ℕ) where
@@ -259,18 +273,13 @@ module _ (r : Register) (core n : ℕ) (v : Verdict) (anchors : List ℕ) (work 
       (λ b R e whole w. number-pairs b core v anchors work whole (length before) w (here-core b e) (here-anchors b e) o (M .number b R) z)
 
   module _ {rest : Register} {m : Marks} (M : Marked r v anchors work n m) (z : m .number ≡ 0) {p : Marks}
-      (P : (b : Book) → Represents r b → b .n ≤ maxRecords → Parted core b rest) {later : ℕ} (kept : later ≡ work) (Q : Marked rest v anchors later n p) where
+      (W : Without r core rest) {later : ℕ} (kept : later ≡ work) (Q : Marked rest v anchors later n p) where
     -- what is left of a register has the same numbers
-    parted : (b : Book) → Represents r b → n ≡ b .n → Parted core b rest
-    parted b R s = P b R (subst (λ (i : ℕ). i ≤ maxRecords) s small)
-
     second-none : (b : Book) → Represents r b → n ≡ b .n → p .number ≡ 0
-    unfolding pairsCauses asked without
+    unfolding pairsCauses withoutRecord
     second-none b R s =
-        let B = parted b R s in
-        let k : B .book .n ≡ b .n = ap (λ (g : Graph). g .n) (B .graph) in
-        Q .number (B .book) (B .represents)
-        ∙ ap₂ (λ (i j : ℕ). firstNumber (verdictCause v ++ ((short-work, ltb j (pairsWork i)) ∷ []))) k kept ∙ sym (M .number b R) ∙ z
+        Q .number (withoutRecord core b) (W .book b R)
+        ∙ ap (λ (j : ℕ). firstNumber (verdictCause v ++ ((short-work, ltb j (pairsWork (b .n))) ∷ []))) kept ∙ sym (M .number b R) ∙ z
 
     -- so that it is refused of no book's register
     pub second-refused : (p .number ≡ 0 → ⊥) → Compares r core n v anchors work before before (Refused (p .number))
@@ -289,9 +298,9 @@ module _ (r : Register) (core n : ℕ) (v : Verdict) (anchors : List ℕ) (work 
 
         same : (x : ℕ) → x < n → lost (m .records) (p .records) core x ≡ falls (asked b) e core anchors x
         same x h =
-            let B = parted b R s in
             let second : getD (p .records) x false ≡ reaches (cells (without core (asked b)) e) anchors x =
-            Q .records (B .book) (B .represents) e q (second-none b R s) x h ∙ ap (λ (g : Graph). reaches (cells g e) anchors x) (B .graph) in
+            Q .records (withoutRecord core b) (W .book b R) e q (second-none b R s) x h
+            ∙ ap (λ (g : Graph). reaches (cells g e) anchors x) (without-graph core b) in
             ap₂ (λ (u t : Bool). not (eqb x core) && (u && not t)) (M .records b R e q z x h) second
 
     -- with no number so far: the text is an expression, and the records lost are those that fall

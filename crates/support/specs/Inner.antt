@@ -1,28 +1,23 @@
 -- What the inner functions promise.
---   wordLink w        the link that a register's word w names, its label as a byte
---   cut core k b      the book b after the link k is removed, if it touches the core: both ends are unlocked first
---   cutAll core ws b  so for each word of ws in turn
 --   joinedBy ws x y   the bit of the pair (x, y) in rows of bits
 --   lost before after core x
 --                     whether x is not the core, and is marked before and not after
 --   Marked r v anchors work n m
 --                     asked of the register r: the number of a refusal is a cause's; for every book that the register represents, it is the one of the pair
 --                     question, and with none the records below n are marked that have a chain to some anchor
---   Parted core b r   the register r represents a book whose graph is that of b without the links that touch the core
 --   Handed l before after a
 --                     the words l handed over into a list that held `before`: refused with 13 if it is shorter, else written over its front
 --   Compares r core n v anchors work before after a
 --                     what `Support` `SupportsFor` says, of a core and anchors that are not refused and with the work of a pair question alone
 -- Assumes nothing: these are definitions.
 use mathlib.Core.Path.{_≡_}
-use mathlib.Core.List.{List, [], _∷_}
+use mathlib.Core.List.{List}
 use mathlib.Core.Bool.{Bool, false, not, _&&_}
-use Prim.Native.Nat.{ℕ, _/_, _%_, _≤_, _<_}
+use Prim.Native.Nat.{ℕ, _≤_, _<_}
 use lib.ListN.{length, drop, getD}
 use lib.Dec.{ltb, eqb}
-use Rattle.book.specs.Basics.{pick}
 use Rattle.book.specs.Causes.{short-list, number, Caused, firstNumber, maxRecords}
-use Rattle.book.specs.Book.{Link, Book, remove, unlock, edit, next}
+use Rattle.book.specs.Book.{Book}
 use Rattle.k2.specs.Bits.{bitAt}
 use Rattle.k2.specs.PairSets.{Cells, pairWord}
 use Rattle.paths.specs.Expressions.{Expr}
@@ -32,24 +27,10 @@ use Rattle.paths.specs.Relations.{cells}
 use Rattle.paths.specs.Questions.{pairsWork, pairsCauses, over}
 use Rattle.register.specs.Representation.{Represents}
 use Rattle.register.specs.declared.Register.{Register}
-use Rattle.support.specs.Support.{touches, without, reaches, supportWork, recordsLength, BookSupports}
+use Rattle.support.specs.Support.{reaches, supportWork, recordsLength, BookSupports}
 use Rattle.support.specs.declared.Marks.{Marks}
 use Rattle.support.specs.declared.SupportAnswer.{SupportAnswer}
 use Rattle.support.specs.declared.SupportAnswer.the-variants.{Records, Refused}
-
-abbrev pub wordLink : ℕ → Link
-wordLink w = record { from = w / 1024 % 1024; label = w / 1048576 % 256; to = w % 1024 }
-
--- the book after an unlock of each end, and the removal
-unfoldable pub cutLink : Link → Book → Book
-cutLink k b = next (next (next b (edit (unlock (k .from)))) (edit (unlock (k .to)))) (edit (remove k))
-
-abbrev pub cut : ℕ → Link → Book → Book
-cut core k b = pick (touches core k) (cutLink k b) b
-
-unfoldable pub cutAll : ℕ → List ℕ → Book → Book
-cutAll core [] b = b
-cutAll core (w ∷ ws) b = cutAll core ws (cut core (wordLink w) b)
 
 unfoldable pub joinedBy : List ℕ → Cells
 joinedBy ws x y = bitAt ws (pairWord x y)
@@ -63,11 +44,6 @@ pub record Marked (r : Register) (v : Verdict) (anchors : List ℕ) (work n : �
   pub number : (b : Book) → Represents r b → m .number ≡ firstNumber (pairsCauses b v work)
   pub records : (b : Book) → Represents r b → (e : Expr) → v ≡ accepted e → m .number ≡ 0 → (x : ℕ) → x < n
       → getD (m .records) x false ≡ reaches (cells (asked b) e) anchors x
-
-pub record Parted (core : ℕ) (b : Book) (r : Register) : Type 0 where
-  pub book : Book
-  pub represents : Represents r book
-  pub graph : asked book ≡ without core (asked b)
 
 pub data Handed (l before after : List ℕ) : SupportAnswer → Type 0 where
   too-long : length before < length l → after ≡ before → Handed l before after (Refused (number short-list))

@@ -1,5 +1,4 @@
 -- Sole support: which records would lose every chain to the anchors if one core did.
---   touches core k       whether the link k touches the core, at either end
 --   without core g       the graph g with every link that touches the core gone; the core itself stays in use
 --   Held g e anchors x   the record x has a chain to some anchor that spells a word of e
 --   Falls g e core anchors x
@@ -38,7 +37,7 @@ use lib.ListN.{length, drop}
 use lib.Dec.{leb, ltb, eqb}
 use Rattle.book.specs.Basics.{pick, In, Rises}
 use Rattle.book.specs.Causes.{Cause, no-record, unordered-anchors, short-work, short-list, Caused, firstNumber}
-use Rattle.book.specs.Book.{Link, Book}
+use Rattle.book.specs.Book.{Book}
 use Rattle.k2.specs.PairSets.{Cells}
 use Rattle.paths.specs.Expressions.{Expr}
 use Rattle.paths.specs.Grammar.{Verdict, accepted, long, outside, large, verdictCause}
@@ -46,15 +45,13 @@ use Rattle.paths.specs.Verdicts.{verdict}
 use Rattle.paths.specs.Chains.{Graph, asked, Has}
 use Rattle.paths.specs.Relations.{cells}
 use Rattle.paths.specs.Questions.{pairsWork, chainWork, over}
+use Rattle.register.specs.Parting.{touches}
 use Rattle.register.specs.Representation.{Represents}
 use Rattle.register.specs.declared.Register.{Register}
 use Rattle.support.specs.declared.SupportAnswer.{SupportAnswer}
 use Rattle.support.specs.declared.SupportAnswer.the-variants.{Records, Refused}
 
 -- ---- what falls
-abbrev pub touches : ℕ → Link → Bool
-touches core k = eqb (k .from) core || eqb (k .to) core
-
 unfoldable pub without : ℕ → Graph → Graph
 without core g = record { n = g .n; inUse = g .inUse; present = λ k. g .present k && not (touches core k) }
 

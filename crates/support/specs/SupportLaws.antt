@@ -36,7 +36,8 @@ use Rattle.paths.specs.Relations.{cells}
 use Rattle.paths.specs.ChainLaws.{Inside}
 use Rattle.paths.specs.RelationLaws.{cells-is}
 use Rattle.paths.specs.PairLaws.{history-inside, text-in-order}
-use Rattle.support.specs.Support.{touches, without, Held, Falls, FallenAre, some, chosen, reaches, falls, fallen, orderly, supportWork, fallenOf}
+use Rattle.register.specs.Parting.{touches}
+use Rattle.support.specs.Support.{without, Held, Falls, FallenAre, some, chosen, reaches, falls, fallen, orderly, supportWork, fallenOf}
 use Rattle.support.specs.Support.{supportCauses}
 
 -- ---- tests of members

@@ -1,17 +1,15 @@
-// Sole support: which records would lose every chain to the anchors if one core did. A product above the engine: it reads and edits a register by the
-// engine's calls alone, and its proofs rest on what they promise.
+// Sole support: which records would lose every chain to the anchors if one core did. A product above the engine: it calls the
+// engine alone, whose question it asks of the register and of what is left of it without the core's links, and its proofs rest on what is promised there.
 ghost use mathlib.Core.Path.{_≡_};
-ghost use mathlib.Core.Bool.{true, false, not, _||_, _&&_};
+ghost use mathlib.Core.Bool.{true, false, not, _&&_};
 ghost use Prim.Native.Nat.{ℕ, _<_, _≤_, min};
 ghost use lib.Dec.{leb, eqb};
 ghost use lib.ListN.{length, take, getD};
 ghost use Rattle.book.specs.Causes.{maxRecords};
-ghost use Rattle.book.specs.Book.{Book};
 ghost use Rattle.paths.specs.Questions.{chainWork, over};
 ghost use Rattle.paths.specs.Verdicts.{verdict};
-ghost use Rattle.register.specs.Representation.{Represents};
 ghost use Rattle.support.specs.Support.{some, chosen, reaches, orderly, Supports};
-ghost use Rattle.support.specs.Inner.{wordLink, cut, joinedBy, lost as Lost, Marked, Parted, Handed, Compares};
+ghost use Rattle.support.specs.Inner.{joinedBy, lost as Lost, Marked, Handed, Compares};
 use pairs::PairsAnswer;
 use register::Register;
 
@@ -19,11 +17,6 @@ use register::Register;
 const WORD_BITS: usize = 64;
 
 const ROW_WORDS: usize = book::MAX_RECORDS * book::MAX_RECORDS / WORD_BITS;
-
-// A link's word is (label * 1024 + from) * 1024 + to.
-const FROM_UNIT: u32 = book::MAX_RECORDS as u32;
-
-const LABEL_UNIT: u32 = FROM_UNIT * FROM_UNIT;
 
 // The words of work for each record beside those of a pair question.
 const RECORD_WORDS: usize = 64;
@@ -144,49 +137,6 @@ fn mark_records(
     }
 }
 
-// Whether a link touches the core, by its ends.
-fn touching(from: u16, to: u16, core: u16) -> bool
-    ensures { λ r. ⌜ r ≡ (eqb from core || eqb to core) ⌝ }
-{
-    if from == core {
-        return true;
-    }
-    to == core
-}
-
-// The register without the link of a word, if that touches the core. Its ends are unlocked first, since locks play no part; of an end that is not locked the
-// answer is a refusal, and changes nothing.
-fn without_link(register: Register, core: u16, word: u32) -> Register
-    ensures { λ r. ⌜ ((b : Book) → Represents register b → Represents r (cut core (wordLink word) b)) ⌝ }
-{
-    let from = (word / FROM_UNIT % FROM_UNIT) as u16;
-    let to = (word % FROM_UNIT) as u16;
-    if !touching(from, to, core) {
-        return register;
-    }
-    let label = (word / LABEL_UNIT % 256) as u8;
-    let first = engine::unlock(register, from);
-    let second = engine::unlock(first.register, to);
-    let removed = engine::remove(second.register, from, label, to);
-    removed.register
-}
-
-// The register without the links that touch the core.
-fn without_core(register: Register, core: u16) -> Register
-    ensures { λ r. ⌜ ((b : Book) → Represents register b → b .n ≤ maxRecords → Parted core b r) ⌝ }
-{
-    let links = engine::links(register);
-    let words = links.words;
-    let count = links.count;
-    let mut rest = register;
-    let mut i = 0;
-    while i < count {
-        rest = without_link(rest, core, words[i]);
-        i += 1;
-    }
-    rest
-}
-
 // Whether a record is lost that was marked, or not, and is marked, or not: never the core.
 fn loses(had: bool, has: bool, core: bool) -> bool
     ensures { λ r. ⌜ r ≡ (not core && (had && not has)) ⌝ }
@@ -276,7 +226,7 @@ fn compared(
     if before.number != 0 {
         return SupportAnswer::Refused(before.number);
     }
-    let rest = without_core(register, core);
+    let rest = engine::without(register, core);
     let after = mark_records(rest, text, anchors, work, n);
     if after.number != 0 {
         return SupportAnswer::Refused(after.number);

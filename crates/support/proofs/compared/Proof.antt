@@ -17,8 +17,8 @@ returns : tie.Need-returns
 returns c = let p = c .before .before .before .before .before .before .before .before .before .before .pre in
     first-refused _ _ _ _ _ _ _ (p .0) (p .1) (p .2) (p .3) (c .before .before .before .before .mark-records .ensures) (c .if1 .taken)
 
-without-core-requires : tie.Need-without-core-requires
-without-core-requires c κs = search needs
+without-requires : tie.Need-without-requires
+without-requires c κs = search needs
 
 mark-records-requires-2 : tie.Need-mark-records-requires-2
 mark-records-requires-2 c κs = search needs
@@ -36,7 +36,7 @@ returns-2 c =
     let m = after-mark-records .mark-records in
     let kept : length (m .last .1 .1 .1 .0) ≡ length (start .args .work .now) = m .kept .1 .1 .1 .0 in
     second-refused _ _ _ _ _ _ _ (p .0) (p .1) (p .2) (p .3) (m .ensures) (else1 .if1 .left)
-    (after-mark-records2 .before .before .without-core .ensures) kept (after-mark-records2 .mark-records2 .ensures) (c .if2 .taken)
+    (after-mark-records2 .before .before .without .ensures) kept (after-mark-records2 .mark-records2 .ensures) (c .if2 .taken)
 
 hand-over-requires : tie.Need-hand-over-requires
 hand-over-requires c κs =
@@ -60,7 +60,7 @@ returns-3 c =
     let p = start .pre in
     let m = after-mark-records .mark-records in
     let kept : length (m .last .1 .1 .1 .0) ≡ length (start .args .work .now) = m .kept .1 .1 .1 .0 in
-    handed-over _ _ _ _ _ _ _ (p .0) (p .1) (p .2) (p .3) (m .ensures) (else1 .if1 .left) (after-mark-records2 .before .before .without-core .ensures)
+    handed-over _ _ _ _ _ _ _ (p .0) (p .1) (p .2) (p .3) (m .ensures) (else1 .if1 .left) (after-mark-records2 .before .before .without .ensures)
     kept (after-mark-records2 .mark-records2 .ensures) (c .before .before .hand-over .ensures)
 
 pub compared-spec : {M : Type 1} → statement M
@@ -70,7 +70,7 @@ compared-spec =
     mark-records-requires
     same-length
     returns
-    without-core-requires
+    without-requires
     mark-records-requires-2
     same-length-2
     returns-2

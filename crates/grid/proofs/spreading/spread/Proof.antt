@@ -1,0 +1,103 @@
+-- `spread` goes row by row. The loop's invariant: the rows below x are those of the relation, the others are empty, and t is the number of their pairs.
+-- The measure is the rows left. It rests on `laid-more` and `rows-count`. Assumes nothing.
+use mathlib.Core.Path.{_≡_, sym, ap, _∙_}
+use Prim.Native.Nat.{_-_, _*_, _≤_}
+use native.Mathlib.Omega.{arith}
+use borrow.Author.Needs.{needs}
+use lib.ListN.{length}
+use Rattle.k2.specs.PairSets.{Cells, rowsPairs}
+use Rattle.grid.specs.Grid.{first}
+use Rattle.grid.proofs.ListingLaws.{rows-none, rows-all}
+use Rattle.grid.proofs.SpreadLaws.{rows-count, Laid, laid-empty, laid-none, laid-more, laid-all}
+use Rattle.grid.proofs.spreading.spread.Statement.{statement}
+use Rattle.grid.proofs.spreading.spread.Tie as tie
+
+abbrev Inv-loop : tie.InvT-loop
+Inv-loop cells masks n w rows₀ t₀ x₀ rows t x =
+    (x ≤ n) × (t ≤ x * 1024) × (t ≡ length (rowsPairs (first n w cells masks) n x)) × (length rows ≡ 16384) × Laid x (first n w cells masks) rows
+
+abbrev μ-loop : tie.MeasureT-loop
+μ-loop cells masks n w rows₀ t₀ x₀ rows t x = n - x
+
+clear-requires : tie.Need-clear-requires Inv-loop μ-loop
+clear-requires c κs = c .before .before .before .before .pre .5
+
+loop-holds : tie.Need-loop-holds Inv-loop μ-loop
+loop-holds c =
+    let start = c .before .before .before .before .before .before .before in
+    let a = start .args in
+    let F : Cells = first (a .n) (a .w) (a .cells .now) (a .masks .now) in
+    let k = c .before .before .clear in
+    (omega arith, omega arith, sym (ap length (rows-none F (a .n))), k .kept .0 ∙ start .pre .5, laid-none F _ (k .ensures))
+
+mul-spread-row : tie.Need-mul-spread-row Inv-loop μ-loop
+mul-spread-row c = omega arith
+
+shared-slice-read-spread-row : tie.Need-shared-slice-read-spread-row Inv-loop μ-loop
+shared-slice-read-spread-row c = omega arith
+
+spread-row-requires : tie.Need-spread-row-requires Inv-loop μ-loop
+spread-row-requires c κs =
+    let start = c .before .before .before .before .before .before .before .before .before .before .before in
+    let a = start .args in
+    let l = c .before .before .before .loop in (
+      start .pre .0,
+      start .pre .1,
+      start .pre .2,
+      start .pre .3,
+      c .before .before .loop-test .taken,
+      l .inv .3,
+      laid-empty (l .x) (first (a .n) (a .w) (a .cells .now) (a .masks .now)) (l .rows) (l .inv .4),
+    )
+
+add-t : tie.Need-add-t Inv-loop μ-loop
+add-t c = omega (arith, c .before .before .before .before .before .before .loop .inv .1, c .before .before .spread-row .ensures .0)
+
+add-x : tie.Need-add-x Inv-loop μ-loop
+add-x c = omega arith
+
+loop-less : tie.Need-loop-less Inv-loop μ-loop
+loop-less c = omega arith
+
+loop-again : tie.Need-loop-again Inv-loop μ-loop
+loop-again c =
+    let start = c .before .before .before .before .before .before .before .before .before .before .before .before .before .before in
+    let a = start .args in
+    let l = c .before .before .before .before .before .before .loop in
+    let R = c .before .before .spread-row in (
+      omega arith,
+      omega (arith, l .inv .1, R .ensures .0),
+      rows-count (a .n) (a .w) (l .x) (l .t) (R .result) (a .cells .now) (a .masks .now) (omega arith) (l .inv .2) (R .ensures .1),
+      R .kept .1 .1 .1 .1 .1 .0 ∙ l .inv .3,
+      laid-more (a .n) (a .w) (a .cells .now) (a .masks .now) (l .x) (l .rows) _ (omega arith) (l .inv .4) (R .ensures .2),
+    )
+
+same-length : tie.Need-same-length Inv-loop μ-loop
+same-length c = search needs
+
+returns : tie.Need-returns Inv-loop μ-loop
+returns c =
+    let a = c .before .before .before .before .before .before .before .before .before .args in
+    let l = c .before .loop in
+    let F : Cells = first (a .n) (a .w) (a .cells .now) (a .masks .now) in (
+      l .inv .2 ∙ ap length (rows-all (a .n) (l .x) F (omega arith)),
+      laid-all (a .n) (a .w) (a .cells .now) (a .masks .now) (l .x) (l .rows) (omega arith) (l .inv .4),
+    )
+
+pub spread-spec : {M : Type 1} → statement M
+spread-spec =
+    tie.close
+    (tie.spec
+    Inv-loop
+    μ-loop
+    clear-requires
+    loop-holds
+    mul-spread-row
+    shared-slice-read-spread-row
+    spread-row-requires
+    add-t
+    add-x
+    loop-less
+    loop-again
+    same-length
+    returns)

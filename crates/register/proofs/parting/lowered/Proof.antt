@@ -1,0 +1,13 @@
+-- `register::parting::lowered` meets its contract: that of `lower`. Assumes nothing.
+use borrow.Author.Needs.{needs}
+use Rattle.register.proofs.parting.lowered.Statement.{statement}
+use Rattle.register.proofs.parting.lowered.Tie as tie
+
+lower-requires : tie.Need-lower-requires
+lower-requires c κs = search needs
+
+returns : tie.Need-returns
+returns c = c .lower .ensures
+
+pub lowered-spec : {M : Type 1} → statement M
+lowered-spec = tie.close (tie.spec lower-requires returns)
