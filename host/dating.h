@@ -4,10 +4,10 @@
  * contents, and ends. What is written (state, list, out, tree, work) must not overlap what else is lent.
  *
  * A uint32_t answer is 0, or the number of a refusal, unless it says otherwise. A uint64_t answer is a total, or the number of words of the answer;
- * DATING_NO_CHAIN, or DATING_CANNOT_HOLD; DATING_LOOP plus the number of steps of a loop; or DATING_REFUSED plus the number of a refusal. Of links and
- * pairs (dating_links, dating_pairs, dating_tree_list, dating_preview, dating_pairs_by_rows) it is the total, of which the first min(total, list_len) are
- * written; any other answer that is longer than its list is refused. A refused call leaves state and list as they were; words of a list past the answer,
- * and of a state past DATING_STATE_WORDS, are never touched; work may hold anything after a call. The numbers:
+ * DATING_NO_CHAIN, or DATING_CANNOT_HOLD; DATING_LOOP plus the number of steps of a loop; or DATING_REFUSED plus the number of a refusal. Of links, pairs,
+ * ends and starts (dating_links, dating_pairs, dating_tree_list, dating_preview, dating_pairs_by_rows, dating_ends, dating_starts) it is the total, of
+ * which the first min(total, list_len) are written; any other answer that is longer than its list is refused. A refused call leaves state and list as they
+ * were; words of a list past the answer, and of a state past DATING_STATE_WORDS, are never touched; work may hold anything after a call. The numbers:
  *
  *    1  n outside 1 to 1,024                            12  work (or state) shorter than stated
  *    2  record not below n                              13  chain, loop, tree, numbers, records, offsets or pages
@@ -83,6 +83,10 @@ uint64_t dating_pairs(const uint32_t *state, size_t state_len, const uint8_t *te
 /* The first of the shortest chains: step words, (label * 2 + sense) * 1024 + record reached, sense 0 forward and 1 against. Work of 64 * n words. */
 uint64_t dating_chain(const uint32_t *state, size_t state_len, uint16_t from, uint16_t to, const uint8_t *text, size_t text_len,
                       uint64_t *work, size_t work_len, uint32_t *list, size_t list_len);
+/* The ends of a record, ascending: those that a chain leads to from it. As many as the list takes; how many they are in all is told. */
+uint64_t dating_ends(const uint32_t *state, size_t state_len, uint16_t from, const uint8_t *text, size_t text_len, uint32_t *list, size_t list_len);
+/* The starts of a record, likewise: those from which a chain leads to it. */
+uint64_t dating_starts(const uint32_t *state, size_t state_len, uint16_t to, const uint8_t *text, size_t text_len, uint32_t *list, size_t list_len);
 
 /* k2-trees of pairs below n, each lent as exactly its words; a tree has at most D words. Work as for pairs. */
 uint64_t dating_tree_make(size_t n, const uint32_t *pairs, size_t pairs_len, uint64_t *tree, size_t tree_len, uint64_t *work, size_t work_len);

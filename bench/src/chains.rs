@@ -128,6 +128,26 @@ pub fn first(register: &Register, from: u32, to: u32, expression: &Expression) -
     None
 }
 
+/// The records, ascending, that a chain leads to from one; of an inverted expression those from which one leads to it.
+pub fn ends(register: &Register, from: u32, expression: &Expression) -> Vec<u32> {
+    let automaton = Automaton::of(expression);
+    let mut seen = vec![0u64; register.n()];
+    seen[from as usize] = 1 << START;
+    let mut ahead = vec![(from, 1u64 << START)];
+    while let Some((record, positions)) = ahead.pop() {
+        let after = automaton.after(positions);
+        for &step in register.steps(record as usize) {
+            let reached = step & 1023;
+            let positions = after & automaton.enters[(step >> 10) as usize] & !seen[reached as usize];
+            if positions != 0 {
+                seen[reached as usize] |= positions;
+                ahead.push((reached, positions));
+            }
+        }
+    }
+    (0..register.n() as u32).filter(|&record| seen[record as usize] & automaton.last != 0).collect()
+}
+
 fn steps_to_last(nodes: &[Node]) -> Vec<u32> {
     let mut steps = Vec::new();
     let mut at = nodes.len() - 1;

@@ -1,8 +1,8 @@
 //! The engine's functions as they are exported from `crates/host`: numbers and slices.
 //!
 //! A `u32` answer is 0 or the number of a refusal. A `u64` answer is a total, or the number of words of the answer; [`NO_CHAIN`] if there is no
-//! chain, [`CANNOT_HOLD`] if ties cannot all hold; [`LOOP`] + the number of steps of a loop; [`REFUSED`] + the number of a refusal. Links and
-//! pairs may be more than the list takes: the number is the total, of which the first min(total, list.len()) are written. A refused call leaves
+//! chain, [`CANNOT_HOLD`] if ties cannot all hold; [`LOOP`] + the number of steps of a loop; [`REFUSED`] + the number of a refusal. Links,
+//! pairs, ends and starts may be more than the list takes: the number is the total, of which the first min(total, list.len()) are written. A refused call leaves
 //! the state and the list as they were, and words of a list past the answer are never touched; work may hold anything after a call. A state may
 //! be longer than a register's words: its front is the register, and no call touches the words past it. Words that are no register's (too few, a
 //! counter out of range, a mark above 2) are refused with 16.
@@ -41,6 +41,8 @@
 //! assert_eq!(preview(&state, 3, 0, 0, 1, b"a+", &mut work, &mut []), 1); // with the first link removed, which it is not
 //! assert_eq!((chain(&state, 0, 2, b"a+", &mut work[..chain_work(3)], &mut list), &list[..2]), (2, &[1, 2][..]));
 //! assert_eq!(told(chain(&state, 2, 0, b"a+", &mut work, &mut list)), Ok(None));
+//! assert_eq!((ends(&state, 0, b"a+", &mut list), &list[..2]), (2, &[1, 2][..]));
+//! assert_eq!((starts(&state, 2, b"a+", &mut list[..1]), list[0]), (2, 0)); // two in all, one of which fits
 //! assert_eq!((generations(&state, &[0], &mut work, &mut list), &list[..3]), (3, &[0, 1, 2][..]));
 //! assert_eq!(numbered(generations(&state, &[26], &mut work, &mut list)), Err(dating::Refusal::Label));
 //! assert_eq!((sole_support(&state, 1, b"a+", &[2], &mut work, &mut list), list[0]), (1, 0)); // 0 falls with 1
@@ -169,6 +171,24 @@ extern "C" {
         text_len: usize,
         work: *mut u64,
         work_len: usize,
+        list: *mut u32,
+        list_len: usize,
+    ) -> u64;
+    fn dating_ends(
+        state: *const u32,
+        state_len: usize,
+        from: u16,
+        text: *const u8,
+        text_len: usize,
+        list: *mut u32,
+        list_len: usize,
+    ) -> u64;
+    fn dating_starts(
+        state: *const u32,
+        state_len: usize,
+        to: u16,
+        text: *const u8,
+        text_len: usize,
         list: *mut u32,
         list_len: usize,
     ) -> u64;
@@ -433,6 +453,16 @@ pub fn chain(state: &[u32], from: u16, to: u16, text: &[u8], work: &mut [u64], l
             list.len(),
         )
     }
+}
+
+/// The ends of a record, ascending: as many as the list takes, and how many they are in all.
+pub fn ends(state: &[u32], from: u16, text: &[u8], list: &mut [u32]) -> u64 {
+    unsafe { dating_ends(state.as_ptr(), state.len(), from, text.as_ptr(), text.len(), list.as_mut_ptr(), list.len()) }
+}
+
+/// The starts of a record, likewise.
+pub fn starts(state: &[u32], to: u16, text: &[u8], list: &mut [u32]) -> u64 {
+    unsafe { dating_starts(state.as_ptr(), state.len(), to, text.as_ptr(), text.len(), list.as_mut_ptr(), list.len()) }
 }
 
 /// The tree of pair words in any order. Work of every tree call: [`tree_work`](crate::tree_work).

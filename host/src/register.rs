@@ -2,7 +2,7 @@
 
 use crate::calls::{self, counted, done, told, STATE_WORDS};
 use crate::space::{chain_work, longest_chain};
-use crate::{Links, Pairs, Refusal, Steps};
+use crate::{Links, Pairs, Records, Refusal, Steps};
 use std::fmt::{self, Debug, Formatter};
 
 /// A register of n records, with its links, its locked and withdrawn records and the latest 256 edits.
@@ -256,6 +256,39 @@ impl Register {
         grow(&mut self.list, longest_chain(n));
         let length = told(calls::chain(&self.words, from, to, expression.as_ref(), &mut self.work, &mut self.list))?;
         Ok(length.map(|length| Steps::new(&self.list, length)))
+    }
+
+    /// The ends of a record: those that a chain leads to from it, spelling a word of the expression.
+    ///
+    /// ```
+    /// # let mut register = dating::Register::fresh(4)?;
+    /// register.add(0, 'a', 1)?;
+    /// register.add(1, 'a', 2)?;
+    /// assert_eq!(register.ends(0, "a+")?.collect::<Vec<_>>(), [1, 2]);
+    /// assert_eq!(register.ends(3, "a*")?.collect::<Vec<_>>(), [3]);
+    /// assert_eq!(register.ends(4, "a").err(), Some(dating::Refusal::Record));
+    /// # Ok::<(), dating::Refusal>(())
+    /// ```
+    pub fn ends(&mut self, from: u16, expression: impl AsRef<[u8]>) -> Result<Records<'_>, Refusal> {
+        grow(&mut self.list, self.size().into());
+        let total = counted(calls::ends(&self.words, from, expression.as_ref(), &mut self.list))?;
+        Ok(Records::new(&self.list, total))
+    }
+
+    /// The starts of a record: those from which a chain leads to it.
+    ///
+    /// ```
+    /// # let mut register = dating::Register::fresh(4)?;
+    /// register.add(0, 'a', 1)?;
+    /// register.add(1, 'a', 2)?;
+    /// assert_eq!(register.starts(2, "a+")?.collect::<Vec<_>>(), [0, 1]);
+    /// assert_eq!(register.ends(2, "^(a+)")?.collect::<Vec<_>>(), [0, 1]);
+    /// # Ok::<(), dating::Refusal>(())
+    /// ```
+    pub fn starts(&mut self, to: u16, expression: impl AsRef<[u8]>) -> Result<Records<'_>, Refusal> {
+        grow(&mut self.list, self.size().into());
+        let total = counted(calls::starts(&self.words, to, expression.as_ref(), &mut self.list))?;
+        Ok(Records::new(&self.list, total))
     }
 
     /// The pairs of an expression in lent space: work of [`tree_work`](crate::tree_work) words, and a list, which is left as it was with a

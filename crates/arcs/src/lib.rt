@@ -3,7 +3,7 @@ ghost use mathlib.Core.Path.{_≡_};
 ghost use Prim.Native.Nat.{_*_, _<_, _≤_};
 ghost use lib.ListN.{length};
 ghost use Rattle.book.specs.Causes.{maxRecords, maxLinks};
-ghost use Rattle.arcs.specs.Arcs.{maxArcs, arcOf, arcFrom, arcTo, Crossings};
+ghost use Rattle.arcs.specs.Arcs.{maxArcs, arcOf, arcFrom, arcTo, Crossings, PutIf};
 ghost use Rattle.arcs.specs.Index.{indexWords, keyAt, firstArc, nextArc, Indexed};
 
 // Each link may be crossed in two senses.
@@ -25,20 +25,31 @@ fn arc(link: u32, sense: u32) -> u32
     ((label * 2 + 1) * 1024 + to) * 1024 + from
 }
 
+// The arc at the place `count`, if its letter enters a state. How many are there now?
+fn put(arcs: &mut [u32], count: usize, arc: u32, states: u64) -> usize
+    requires { ⌜ count < length (now arcs) ⌝ }
+    ensures { λ r. ⌜ PutIf states arc (now (arcs .entry)) count (now (arcs .exit)) r ⌝ }
+{
+    if states == 0 {
+        return count;
+    }
+    arcs[count] = arc;
+    count + 1
+}
+
 // The crossings that can be of use, into `arcs`: each link in each sense whose letter enters a state. How many are they?
 pub fn arcs_of(links: &[u32], enter: &[u64], arcs: &mut [u32]) -> usize
     requires { ⌜ (length (now links) ≤ maxLinks) × (length (now enter) ≡ 64) × (length (now arcs) ≡ maxArcs) ⌝ }
     ensures { λ r. ⌜ (r ≤ maxArcs) × Crossings (now (links .entry)) (now (enter .entry)) (2 * length (now (links .entry))) (now (arcs .exit)) r ⌝ }
 {
     let mut count = 0;
-    let mut j = 0;
-    while j < 2 * links.len() {
-        let crossed = arc(links[j / 2], (j % 2) as u32);
-        if enter[(crossed / 1048576) as usize] != 0 {
-            arcs[count] = crossed;
-            count += 1;
-        }
-        j += 1;
+    let mut i = 0;
+    while i < links.len() {
+        let link = links[i];
+        let letter = (link / 1048576 % 32 * 2) as usize;
+        count = put(arcs, count, arc(link, 0), enter[letter]);
+        count = put(arcs, count, arc(link, 1), enter[letter + 1]);
+        i += 1;
     }
     count
 }

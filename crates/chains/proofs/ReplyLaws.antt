@@ -1,8 +1,6 @@
 -- From the register, the reader and the search to the book's answer.
---   inside, spans  the book's graph is proper, and the register's words span it
---   used, withdrawn-from, withdrawn-to
---                  a record below n is in use unless it is said to be withdrawn; from or to a withdrawn one there is no chain
---   asked-size     the graph has the book's n
+--   withdrawn-from, withdrawn-to
+--                  from or to a withdrawn record there is no chain
 --   answer-record, answer-text, answer-work, answer-list, answer-reply
 --                  the book's answer, by the first cause: 2, the text's number, 12, 13, or the reply
 --   foundAnswer    the answer, by what the search found
@@ -13,31 +11,26 @@
 use mathlib.Core.Path.{_≡_, refl, sym, ap, _∙_, subst}
 use mathlib.Core.Logic.{_⊎_, inl, inr}
 use mathlib.Core.List.{List, _++_}
-use mathlib.Core.Bool.{Bool, true, false}
+use mathlib.Core.Bool.{Bool, true}
 use Prim.Native.Nat.{ℕ, _*_, _≤_, _<_}
 use native.Mathlib.Omega.{arith}
-use lib.ListN.{length, getD, take, drop, take-append-drop}
-use lib.Seq.{getD-take, length-take-le}
+use lib.ListN.{length, take, drop, take-append-drop}
+use lib.Seq.{length-take-le}
 use borrow.Author.Tests.{le-leb, lt-leb, le-ltb, lt-ltb}
 use Rattle.book.specs.Causes.{no-record, short-work, short-list, number, Caused, firstNumber}
-use Rattle.book.specs.Book.{Link, Book, present}
+use Rattle.book.specs.Book.{Book}
 use Rattle.book.specs.SetLaws.{or-true}
-use Rattle.book.specs.ListLaws.{in-at, at-in}
 use Rattle.paths.specs.Expressions.{Expr}
 use Rattle.paths.specs.Grammar.{Verdict, accepted, long, outside, large, verdictCause}
 use Rattle.paths.specs.Verdicts.{verdict}
 use Rattle.paths.specs.Chains.{Graph, asked, Step, Answers, Reply, none as no-reply, chain as chain-reply, ChainIs, no-chain, first-chain}
-use Rattle.paths.specs.ChainLaws.{Inside}
-use Rattle.paths.specs.PairLaws.{in-use, fit-inside, withdrawn-none, none-withdrawn, verdict-caused}
+use Rattle.paths.specs.PairLaws.{withdrawn-none, none-withdrawn, verdict-caused}
 use Rattle.paths.specs.FirstChainLaws.{reply-only}
 use Rattle.paths.specs.Questions.{refused, replied, ReplyTo, chainWork, steps, chainCauses, chainAnswer, listAfter}
 use Rattle.register.specs.declared.Register.{Register}
-use Rattle.register.specs.Links.{linkWord, linkOf, Linked}
-use Rattle.register.specs.LinkLaws.{linkOf-word}
 use Rattle.register.specs.Representation.{Represents}
 use Rattle.register.specs.Questions.{Withdrawal}
 use Rattle.automaton.specs.WalkLaws.{length-stepWords}
-use Rattle.arcs.specs.Arcs.{Spans}
 use Rattle.search.specs.Steps.{Untouched, written, none as none-found, too-long, Answered, first, none, short}
 use Rattle.search.specs.declared.Found.{Found}
 use Rattle.search.specs.declared.Found.the-variants.{Steps, Nowhere, Short}
@@ -53,49 +46,14 @@ nowhere c = go c refl
     go (no-chain h) q = none h
     go (first-chain ss F) q = absurd (let z : _≡_ {A = ℕ} 0 1 = cc in omega arith)
 
--- ---- the register's words span the book's graph
+-- ---- withdrawn records
 module _ {self : Register} {b : Book} (R : Represents self b) where
-  pub inside : Inside (asked b)
-  inside = fit-inside b (R .sheet .fit)
-
-  module _ {n : ℕ} (size : n ≡ b .n) (hn : n ≤ 1024) where
-    -- a word of a present link is that of no other
-    word-link : (w : ℕ) (k : Link) → w ≡ linkWord k → present (b .sheet) k ≡ true → linkOf w ≡ k
-    word-link w k e p = let f = R .sheet .fit .links k p in let a = f .from in let c = f .to in ap linkOf e ∙ linkOf-word k (omega arith) (omega arith)
-
-    pub spans : (ws : List ℕ) (m : ℕ) → Linked (take m ws) (b .sheet) → m ≤ length ws → Spans ws m (asked b)
-    unfolding asked
-    spans ws m L hm = record { sound = sn; whole = wh }
-      where
-        sn : (i : ℕ) → i < m → present (b .sheet) (linkOf (getD ws i 0)) ≡ true
-        sn i h =
-            let e : length (take m ws) ≡ m = length-take-le m ws hm in
-            let z = L .sound (getD (take m ws) i 0) (at-in (take m ws) i 0 (omega arith)) in
-            let g = sym (getD-take m ws i 0 h) ∙ z .1 in
-            rw (word-link (getD ws i 0) (z .0) g (z .2)) (z .2)
-
-        wh : (k : Link) → present (b .sheet) k ≡ true → (i : ℕ) × (i < m) × (linkOf (getD ws i 0) ≡ k)
-        wh k p =
-            let e : length (take m ws) ≡ m = length-take-le m ws hm in
-            let z = in-at 0 (L .whole k p) in
-            let h : z .0 < m = omega (arith, z .1) in
-            (z .0, h, word-link (getD ws (z .0) 0) k (sym (getD-take m ws (z .0) 0 h) ∙ z .2) p)
-
-  -- a record below n is in use, unless it is said to be withdrawn
-  pub used : {n : ℕ} → n ≡ b .n → (x : ℕ) → x < n → {t : Bool} → Withdrawal self x t → t ≡ false → asked b .inUse x ≡ true
-  used e x h w f = in-use b x (omega arith) (sym (w .withdrawn b R) ∙ f)
-
-  -- from or to a withdrawn record there is no chain
   module _ (e : Expr) (x y : ℕ) (list : List ℕ) where
     pub withdrawn-from : {t : Bool} → Withdrawal self x t → t ≡ true → Answered (asked b) e x y list list Nowhere
     withdrawn-from w f = nowhere (withdrawn-none b e x y (sym (w .withdrawn b R) ∙ f))
 
     pub withdrawn-to : {t : Bool} → Withdrawal self y t → t ≡ true → Answered (asked b) e x y list list Nowhere
     withdrawn-to w f = nowhere (none-withdrawn b e x y (sym (w .withdrawn b R) ∙ f))
-
-  pub asked-size : {n : ℕ} → n ≡ b .n → asked b .n ≡ n
-  unfolding asked
-  asked-size e = sym e
 
 -- ---- the book's answer, by the first cause
 module _ (b : Book) (x y : ℕ) (t : Reply) (work room : ℕ) where

@@ -47,7 +47,7 @@ fn sought(
     if register.is_withdrawn(ends.to as u16) {
         return Found::Nowhere;
     }
-    let tables = tables::tables_of(numbers);
+    let tables = tables::tables_of(numbers, false);
     let follow = tables.follow;
     let predecessors = tables.pred;
     let enter = tables.enter;

@@ -15,9 +15,11 @@ ghost use Rattle.register.specs.Questions.{Sized, Listing, Locking, Withdrawal,
 ghost use Rattle.pairs.specs.Asking.{AsksPairs, Relates};
 ghost use Rattle.rowpairs.specs.Asking.{AsksRows};
 ghost use Rattle.chains.specs.Replies.{Replies};
+ghost use Rattle.ends.specs.Asking.{AsksEnds, AsksStarts};
 ghost use Rattle.engine.specs.Demand.{by-trees};
 ghost use Rattle.engine.specs.Inquiries.{Inquires};
 use chains::ChainAnswer;
+use ends::EndsAnswer;
 use pairs::PairsAnswer;
 use register::Answer;
 use register::Call;
@@ -176,6 +178,20 @@ pub fn chain(
     ensures { λ a. ⌜ Replies register from to (now (text .entry)) (length (now (work .entry))) (now (list .entry)) (now (list .exit)) a ⌝ }
 {
     chains::chain(register, from, to, text, work, list)
+}
+
+// The ends of a record: those that a chain of an expression leads to from it, ascending, as many as the list takes. How many they are in all is told.
+pub fn ends_of(register: Register, from: u16, text: &[u8], list: &mut [u32]) -> EndsAnswer
+    ensures { λ a. ⌜ AsksEnds register from (now (text .entry)) (now (list .entry)) (now (list .exit)) a ⌝ }
+{
+    ends::ends(register, from, text, list)
+}
+
+// The starts of a record, from which a chain leads to it, likewise.
+pub fn starts_of(register: Register, to: u16, text: &[u8], list: &mut [u32]) -> EndsAnswer
+    ensures { λ a. ⌜ AsksStarts register to (now (text .entry)) (now (list .entry)) (now (list .exit)) a ⌝ }
+{
+    ends::starts(register, to, text, list)
 }
 
 // The tree of a list of pair words, in any order and with repeats.

@@ -10,7 +10,7 @@
 --                   register's words the number and the words after it are those of an outcome that the call c promises
 --   pastCounts      2^32, which no count reaches; told in place of one
 --   refusal k       a refusal told as a number of 64 bits
---   toldPairs, toldChain, toldTotal, toldTree
+--   toldPairs, toldChain, toldEnds, toldTotal, toldTree
 --                   an answer told as a number of 64 bits: a count, `pastCounts` for no chain, or a refusal
 --   Told P f k      k tells an answer, by f, that P promises
 --   Asked ws P f before after k
@@ -47,6 +47,8 @@ use Rattle.pairs.specs.declared.PairsAnswer.{PairsAnswer}
 use Rattle.pairs.specs.declared.PairsAnswer.the-variants.{Pairs, Refused}
 use Rattle.chains.specs.declared.ChainAnswer.{ChainAnswer}
 use Rattle.chains.specs.declared.ChainAnswer.the-variants.{Chain, NoChain, Refused as Unchained}
+use Rattle.ends.specs.declared.EndsAnswer.{EndsAnswer}
+use Rattle.ends.specs.declared.EndsAnswer.the-variants.{Ends, Refused as Unended}
 use Rattle.tree.specs.declared.listing.Answer.{Answer}
 use Rattle.tree.specs.declared.listing.Answer.the-variants.{Done, Refused as Untreed}
 
@@ -82,6 +84,10 @@ abbrev pub toldChain : ChainAnswer → ℕ
 toldChain (Chain k) = k
 toldChain NoChain = pastCounts
 toldChain (Unchained k) = refusal k
+
+abbrev pub toldEnds : EndsAnswer → ℕ
+toldEnds (Ends k) = k
+toldEnds (Unended k) = refusal k
 
 abbrev pub toldTotal : TotalAnswer → ℕ
 toldTotal (Total t) = t

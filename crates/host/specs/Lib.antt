@@ -15,3 +15,4 @@ pub mod PageHost
 pub mod PageHostLaws
 pub mod RowQuestionLaws
 pub mod MadeLaws
+pub mod EndsQuestionLaws

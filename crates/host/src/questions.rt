@@ -4,8 +4,10 @@ ghost use Prim.Native.Nat.{_≤_};
 ghost use lib.ListN.{length, take};
 ghost use Rattle.pairs.specs.Asking.{AsksPairs};
 ghost use Rattle.chains.specs.Replies.{Replies};
-ghost use Rattle.host.specs.Host.{toldPairs, toldChain, Asked, Lists, Sizes, TellsLock, TellsWithdrawn, TellsTotal};
+ghost use Rattle.ends.specs.Asking.{AsksEnds, AsksStarts};
+ghost use Rattle.host.specs.Host.{toldPairs, toldChain, toldEnds, Asked, Lists, Sizes, TellsLock, TellsWithdrawn, TellsTotal};
 use crate::told::told_chain;
+use crate::told::told_ends;
 use crate::told::told_pairs;
 use crate::told::told_refusal;
 use crate::told::told_total;
@@ -138,4 +140,32 @@ pub extern "C" fn dating_chain(
         return told_refusal(book::NOT_OPEN);
     }
     told_chain(engine::chain(loaded.register, from, to, text, work, list))
+}
+
+// The ends of a record, ascending, as many as the list takes; how many they are in all.
+#[no_mangle]
+pub extern "C" fn dating_ends(state: &[u32], from: u16, text: &[u8], list: &mut [u32]) -> u64
+    ensures { λ k. ⌜ Asked (now (state .entry)) (λ r. AsksEnds r from (now (text .entry)) (now (list .entry)) (now (list .exit)))
+        toldEnds (now (list .entry)) (now (list .exit)) k ⌝ }
+{
+    let loaded = Register::load(state);
+    let answer = loaded.answer;
+    if register::number_of(answer) != 0 {
+        return told_refusal(book::NOT_OPEN);
+    }
+    told_ends(engine::ends_of(loaded.register, from, text, list))
+}
+
+// The starts of a record, likewise.
+#[no_mangle]
+pub extern "C" fn dating_starts(state: &[u32], to: u16, text: &[u8], list: &mut [u32]) -> u64
+    ensures { λ k. ⌜ Asked (now (state .entry)) (λ r. AsksStarts r to (now (text .entry)) (now (list .entry)) (now (list .exit)))
+        toldEnds (now (list .entry)) (now (list .exit)) k ⌝ }
+{
+    let loaded = Register::load(state);
+    let answer = loaded.answer;
+    if register::number_of(answer) != 0 {
+        return told_refusal(book::NOT_OPEN);
+    }
+    told_ends(engine::starts_of(loaded.register, to, text, list))
 }

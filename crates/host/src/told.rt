@@ -1,7 +1,8 @@
 // Answers told as numbers of 64 bits: a count; 2^32 in place of one; 2^33 and the number of the cause for a refusal.
 ghost use mathlib.Core.Path.{_≡_};
-ghost use Rattle.host.specs.Host.{refusal, toldPairs, toldChain, toldTotal, toldTree};
+ghost use Rattle.host.specs.Host.{refusal, toldPairs, toldChain, toldEnds, toldTotal, toldTree};
 use chains::ChainAnswer;
+use ends::EndsAnswer;
 use pairs::PairsAnswer;
 use register::TotalAnswer;
 
@@ -36,6 +37,16 @@ pub fn told_chain(answer: ChainAnswer) -> u64
         ChainAnswer::Chain(steps) => steps as u64,
         ChainAnswer::NoChain => PAST_COUNTS,
         ChainAnswer::Refused(number) => told_refusal(number),
+    }
+}
+
+// That for the ends of a record.
+pub fn told_ends(answer: EndsAnswer) -> u64
+    ensures { λ k. ⌜ k ≡ toldEnds answer ⌝ }
+{
+    match answer {
+        EndsAnswer::Ends(count) => count as u64,
+        EndsAnswer::Refused(number) => told_refusal(number),
     }
 }
 

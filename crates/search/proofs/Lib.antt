@@ -7,3 +7,4 @@ pub mod LevellingLaws
 pub mod CommitLaws
 pub mod WalkLaws
 pub mod AnswerLaws
+pub mod ReachLaws

@@ -1,3 +1,4 @@
 pub mod Levels
 pub mod Frontiers
 pub mod Steps
+pub mod Reaching

@@ -17,7 +17,7 @@ ghost use Rattle.search.specs.Levels.{Setting, Stamped, Committed, Sough
 ghost use Rattle.search.specs.Frontiers.{Levelling, Added, Listed, Frontier, Zero};
 
 // The states of the entry, if its record is below n, besides those of next, whose records are on the list. How many are they now?
-fn add_states(next: &mut [u64], list: &mut [u16], entry: Entry) -> usize
+pub(crate) fn add_states(next: &mut [u64], list: &mut [u16], entry: Entry) -> usize
     requires { ⌜ (entry .n ≤ maxRecords) × (length (now next) ≡ maxRecords) × (length (now list) ≡ maxRecords)
         × (entry .at < maxRecords) × Listed (now list) (entry .listed) (entry .n) (now next) ⌝ }
     ensures { λ k. ⌜ Listed (now (list .exit)) k (entry .n) (now (next .exit))

@@ -4,10 +4,12 @@
 // This file has what a caller sees, and passes the rest on: states.rt sets of states, levels.rt the levels, walk.rt the walk, chain.rt both.
 mod chain;
 mod levels;
+mod reach;
 mod states;
 mod walk;
 
 pub use chain::first_chain;
+pub use reach::reached;
 
 // How many records there are, and the two that a chain joins.
 pub struct Ends {

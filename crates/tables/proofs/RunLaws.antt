@@ -9,7 +9,9 @@
 --   holds-none, next-none, zeros-at
 --                        at the start: empty tables hold nothing, and the whole code is left
 --   at-end               at the end one part waits
---   masked, masked-part  with the start added, the tables are those of the automaton
+--   alone-top            then one place of the stack is used
+--   masked, masked-part, masked-inverse
+--                        with the start added, the tables are those of the automaton, of the expression or of its inverse
 -- Assumes nothing.
 use mathlib.Core.Path.{_≡_, refl, sym, ap, ap₂, _∙_, subst}
 use mathlib.Core.List.{List, [], _∷_, _++_}
@@ -44,7 +46,7 @@ use Rattle.automaton.specs.Traces.{Between, Within}
 use Rattle.automaton.specs.Masks.{letterNumber, Masked}
 use Rattle.tables.specs.declared.Build.{Build}
 use Rattle.tables.specs.Rows.{Joined}
-use Rattle.tables.specs.Builds.{Part, changed, combined, parts, Item as Place, Items, none, item, Holds, symbols, places, Next}
+use Rattle.tables.specs.Builds.{Part, changed, combined, parts, Item as Place, Items, none, item, Holds, symbols, places, Next, Alone}
 use Rattle.tables.proofs.PartLaws.{zero-of, Top, top-of, joins}
 
 -- ---- how many wait
@@ -246,6 +248,9 @@ pub at-end : {b : Build} {x : Part} → Next b [] x → (m : ℕ) × Holds b m (
 unfolding run
 at-end N = (N .m, rw (N .leaves) at (N .holds))
 
+pub alone-top : {b : Build} {x : Part} → Alone b x → (1 ≤ b .top) × (b .top ≤ places)
+alone-top A = let z = items-length (A .1 .items) in (omega arith, omega arith)
+
 -- with the start, they are the tables of the automaton
 module _ {b : Build} {m : ℕ} {x : Part} (H : Holds b m (x ∷ [])) where
   abbrev A : Fragment
@@ -341,3 +346,8 @@ module _ {b : Build} {m : ℕ} {x : Part} (H : Holds b m (x ∷ [])) where
 pub masked-part : {fs ps es : List ℕ} {f : ℕ} {s : List ℕ} {e : Expr} → Is alternatives s e
     → Masked fs ps es f (started (value parts e .fragment 0)) → Masked fs ps es f (automaton e)
 masked-part {fs} {ps} {es} {f} d T = subst (λ (x : Part). Masked fs ps es f (started (x .fragment 0))) (value-parts d) T
+
+pub masked-inverse : {fs ps es : List ℕ} {f : ℕ} {s : List ℕ} {e : Expr} → Is alternatives s e
+    → Masked fs ps es f (started (parts .inverted (value parts e) .fragment 0)) → Masked fs ps es f (automaton (inverse e))
+unfolding parts fragment
+masked-inverse {fs} {ps} {es} {f} d T = subst (λ (x : Part). Masked fs ps es f (started (reversed (x .fragment 0)))) (value-parts d) T

@@ -9,16 +9,20 @@
 --   symbols c        how many numbers of a code are symbols
 --   places           how many places of the stack are enough
 --   Next b c x       the code c is still to be run, leaves the part x alone, and finds enough operands, places and positions
+--   Alone b x        nothing but the part x waits
+--   inSense against e
+--                    the expression, or its inverse
 -- Assumes nothing: these are definitions.
 use mathlib.Core.Path.{_≡_}
 use mathlib.Core.List.{List, [], _∷_}
+use mathlib.Core.Bool.{Bool, true, false}
 use Prim.Native.Nat.{ℕ, suc, _+_, _<_, _≤_}
 use lib.Dec.{leb}
 use lib.ListN.{getD}
 use Rattle.book.specs.Basics.{bit}
 use Rattle.book.specs.Causes.{maxLetters}
 use Rattle.k2.specs.Bits.{digit}
-use Rattle.paths.specs.Expressions.{Letter}
+use Rattle.paths.specs.Expressions.{Letter, Expr, inverse}
 use Rattle.reader.specs.Letters.{lettersIn}
 use Rattle.reader.specs.Code.{first-letters, Algebra, run}
 use Rattle.reader.specs.Running.{Runs}
@@ -93,3 +97,10 @@ pub record Next (b : Build) (c : List ℕ) (x : Part) : Type 0 where
   pub leaves : run parts c st ≡ x ∷ []
   pub room : m + symbols c ≤ maxLetters
   pub holds : Holds b m st
+
+abbrev pub Alone : Build → Part → Type 0
+Alone b x = (m : ℕ) × Holds b m (x ∷ [])
+
+abbrev pub inSense : Bool → Expr → Expr
+inSense false e = e
+inSense true e = inverse e

@@ -6,11 +6,11 @@ ghost use Rattle.book.specs.Causes.{maxLetters};
 ghost use Rattle.k2.specs.Bits.{digit};
 ghost use Rattle.paths.specs.Expressions.{Expr};
 ghost use Rattle.paths.specs.Verdicts.{InLimits};
-ghost use Rattle.reader.specs.Code.{code};
-ghost use Rattle.automaton.specs.Automata.{automaton};
+ghost use Rattle.reader.specs.Code.{code, value};
+ghost use Rattle.automaton.specs.Automata.{automaton, started as Automata·started};
 ghost use Rattle.automaton.specs.Masks.{Masked};
 ghost use Rattle.tables.specs.Rows.{Joined, sideOf, letterDigit, Mixed, Turned};
-ghost use Rattle.tables.specs.Builds.{Part, parts, Holds, Next};
+ghost use Rattle.tables.specs.Builds.{Part, parts, Holds, Next, Alone, inSense};
 use reader::Item;
 
 // The tables so far: of each position those that may follow it and those that it may follow, of each letter those that it may enter; then the
@@ -240,11 +240,10 @@ pub struct Tables {
     pub accepting: u64,
 }
 
-// The tables of the automaton of the expression whose code it is.
-pub fn tables_of(numbers: &[u64]) -> Tables
+// The tables that the code of an expression builds, before the start is added.
+fn built(numbers: &[u64]) -> Build
     requires { ⌜ ((text : List ℕ) × (e : Expr) × InLimits text e × (now numbers ≡ code e)) ⌝ }
-    ensures { λ r. ⌜ ((text : List ℕ) (e : Expr) → InLimits text e → now (numbers .entry) ≡ code e
-        → Masked (r .follow) (r .pred) (r .enter) (r .accepting) (automaton e)) ⌝ }
+    ensures { λ r. ⌜ ((text : List ℕ) (e : Expr) → InLimits text e → now (numbers .entry) ≡ code e → Alone r (value parts e)) ⌝ }
 {
     let mut b = Build {
         follow: [0; 64],
@@ -262,6 +261,13 @@ pub fn tables_of(numbers: &[u64]) -> Tables
         b = step(b, numbers[i]);
         i += 1;
     }
+    b
+}
+
+// With the start added, the tables of the automaton.
+fn started(b: Build) -> Tables
+    ensures { λ r. ⌜ ((x : Part) → Alone b x → Masked (r .follow) (r .pred) (r .enter) (r .accepting) (Automata·started (x .fragment 0))) ⌝ }
+{
     let first = b.first[0];
     let last = b.last[0];
     let nullable = b.nullable[0];
@@ -276,4 +282,17 @@ pub fn tables_of(numbers: &[u64]) -> Tables
         enter,
         accepting: last | nullable,
     }
+}
+
+// The tables of the automaton of the expression whose code it is; against the sense, those of its inverse.
+pub fn tables_of(numbers: &[u64], against: bool) -> Tables
+    requires { ⌜ ((text : List ℕ) × (e : Expr) × InLimits text e × (now numbers ≡ code e)) ⌝ }
+    ensures { λ r. ⌜ ((text : List ℕ) (e : Expr) → InLimits text e → now (numbers .entry) ≡ code e
+        → Masked (r .follow) (r .pred) (r .enter) (r .accepting) (automaton (inSense against e))) ⌝ }
+{
+    let b = built(numbers);
+    if against {
+        return started(inverted(b));
+    }
+    started(b)
 }

@@ -270,6 +270,35 @@ class Register:
             length = told(calls.chain(self._words, start, end, spelt, self._space.work(chain_work(n)), written))
             return None if length is None else Steps(start, copied(written, length))
 
+    def ends(self, from_: int, expression: Expression) -> list[int]:
+        """The records, ascending, that a chain leads to from the one, spelling a word of the expression.
+
+        >>> register = Register(4)
+        >>> register.add(0, "a", 1)
+        >>> register.add(1, "a", 2)
+        >>> register.ends(0, "a+"), register.ends(3, "a*")
+        ([1, 2], [3])
+        """
+        return self._joined(calls.ends, from_, expression)
+
+    def starts(self, to: int, expression: Expression) -> list[int]:
+        """The records, ascending, from which a chain leads to the one, spelling a word of the expression.
+
+        >>> register = Register(3)
+        >>> register.add(0, "a", 1)
+        >>> register.add(1, "a", 2)
+        >>> register.starts(2, "a+"), register.ends(2, "^(a+)")
+        ([0, 1], [0, 1])
+        """
+        return self._joined(calls.starts, to, expression)
+
+    def _joined(self, call: calls.Call, at: int, expression: Expression) -> list[int]:
+        record, spelt = number(at), text(expression)
+        with self._turn:
+            written = self._space.list(self._size())
+            count = counted(call(self._words, record, spelt, written))
+            return written[:count]
+
     def generations(self, letters: Iterable[str]) -> Generations:
         """The length of the longest run of links with these letters, crossed forward, that ends at
         each record in use. If some record can return to itself over such links, the first loop of

@@ -111,6 +111,8 @@ pub fn damaged(run: &mut Run, seed: u64, size: Size) {
                 run.engine.pairs(&words, &text, Space { work: pairs, list }),
                 run.engine.pairs_by_rows(&words, &text, Space { work: pairs.min(rows::work(sized)), list }),
                 run.engine.chain(&words, from, to, &text, Space { work: chains, list }),
+                run.engine.ends(&words, from, &text, list),
+                run.engine.starts(&words, to, &text, list),
                 run.engine.sole_support(&words, from, &text, &[to as u16], Space { work: pairs + chains, list }),
             ];
             let edit = (random.pick(&[2, 3, 4, 5, 6, 10, 11]), from as u16, random.below(27) as u8, to as u16);

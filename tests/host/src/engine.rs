@@ -233,6 +233,14 @@ impl Engine {
         self.asked(words, text, space, |state, text, work, list| calls::chain(state, from, to, text, work, list))
     }
 
+    pub fn ends(&mut self, words: &[u32], from: u32, text: &[u8], list: usize) -> Answer<u32> {
+        self.asked(words, text, Space { work: 0, list }, |state, text, _, list| calls::ends(state, from as u16, text, list))
+    }
+
+    pub fn starts(&mut self, words: &[u32], to: u32, text: &[u8], list: usize) -> Answer<u32> {
+        self.asked(words, text, Space { work: 0, list }, |state, text, _, list| calls::starts(state, to as u16, text, list))
+    }
+
     /// A preview of the edit of a kind with its arguments.
     pub fn preview(&mut self, words: &[u32], edit: (u16, u16, u8, u16), text: &[u8], space: Space) -> Answer<u32> {
         let (kind, from, label, to) = edit;

@@ -52,6 +52,11 @@ pub fn spaces(work: usize, list: usize) -> Vec<Space> {
     spaces.into_iter().map(|(work, list)| Space { work, list }).collect()
 }
 
+/// The lists in which a question without work is asked: exact, with room, a word too short, none.
+fn lists(list: usize) -> [usize; 4] {
+    [list, list + 5, list.saturating_sub(1), 0]
+}
+
 impl<'a> History<'a> {
     /// A fresh register of a random size.
     pub fn fresh(run: &'a mut Run, seed: u64, size: Size) -> History<'a> {
@@ -209,13 +214,14 @@ impl<'a> History<'a> {
         in_grammar(&mut self.random, &self.labels, letters, 3)
     }
 
-    /// Questions with the same text: all pairs, then chains.
+    /// Questions with the same text: all pairs, then chains, and the ends and the starts of the records that chains join.
     fn questions(&mut self) {
         let text = self.text();
         let shown = || format!("`{}`", String::from_utf8_lossy(&text));
         let read = expressions::read(&text);
         let (n, sheet) = (self.book.n(), self.book.sheet());
-        let related = read.as_ref().map_err(|&refusal| refusal).map(|e| Relation::meant(n, sheet, e).pair_words());
+        let meant = read.as_ref().map_err(|&refusal| refusal).map(|e| Relation::meant(n, sheet, e));
+        let related = meant.as_ref().map_err(|&refusal| refusal).map(Relation::pair_words);
         let list = related.as_ref().map_or(0, Vec::len);
         for space in spaces(tree::work(n), list) {
             let answer = self.run.engine.pairs(&self.words, &text, space);
@@ -261,6 +267,24 @@ impl<'a> History<'a> {
                 let asked = || format!("chain {from} {to} {} in {space:?}", shown());
                 self.run.same_of(asked, &answer, &within(&steps, work, space));
                 self.run.counts.chains += 1;
+            }
+            let asked_of = |record: u32, joined: fn(&Relation, u32) -> Vec<u32>| match &meant {
+                _ if record >= n => Err(Refusal::Record),
+                Err(refusal) => Err(*refusal),
+                Ok(relation) => Ok(joined(relation, record)),
+            };
+            let (ends, starts) = (asked_of(from, Relation::ends), asked_of(to, Relation::starts));
+            for list in lists(ends.as_ref().map_or(0, Vec::len)) {
+                let answer = self.run.engine.ends(&self.words, from, &text, list);
+                let asked = || format!("ends {from} {} in a list of {list}", shown());
+                self.run.same_of(asked, &answer, &first_within(&ends, 0, Space { work: 0, list }));
+                self.run.counts.ends += 1;
+            }
+            for list in lists(starts.as_ref().map_or(0, Vec::len)) {
+                let answer = self.run.engine.starts(&self.words, to, &text, list);
+                let asked = || format!("starts {to} {} in a list of {list}", shown());
+                self.run.same_of(asked, &answer, &first_within(&starts, 0, Space { work: 0, list }));
+                self.run.counts.starts += 1;
             }
         }
     }

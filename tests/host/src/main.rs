@@ -103,7 +103,7 @@ fn run_all() -> ExitCode {
     }
     let counts = &run.counts;
     println!(
-        "{cases} cases: {} edits, {} registers read, {} pair questions, {} by rows, {} chain questions, {} tree calls, \
+        "{cases} cases: {} edits, {} registers read, {} pair questions, {} by rows, {} chain questions, {} for ends, {} for starts, {} tree calls, \
          {} pages printed or read, {} damaged registers, {} generations, {} of sole support ({} records fall), {} offsets; \
          {} calls, {} differences",
         counts.edits,
@@ -111,6 +111,8 @@ fn run_all() -> ExitCode {
         counts.pairs,
         counts.rows,
         counts.chains,
+        counts.ends,
+        counts.starts,
         counts.trees,
         counts.pages,
         counts.damaged,

@@ -11,6 +11,8 @@ pub struct Counts {
     pub pairs: usize,
     pub rows: usize,
     pub chains: usize,
+    pub ends: usize,
+    pub starts: usize,
     pub trees: usize,
     pub pages: usize,
     pub damaged: usize,

@@ -67,6 +67,16 @@ impl Relation {
         self.pairs().map(|(x, y)| x * 1024 + y).collect()
     }
 
+    /// The ends of a record: all that it is paired with, ascending (S21.1).
+    pub fn ends(&self, from: u32) -> Vec<u32> {
+        self.row(from).collect()
+    }
+
+    /// The starts of a record: all that are paired with it, ascending.
+    pub fn starts(&self, to: u32) -> Vec<u32> {
+        (0..self.n).filter(|&x| self.has(x, to)).collect()
+    }
+
     fn wordwise(&self, other: &Relation, combine: impl Fn(u64, u64) -> u64) -> Relation {
         let rows = self.rows.iter().zip(&other.rows);
         let rows = rows.map(|(left, right)| left.iter().zip(right).map(|(&l, &r)| combine(l, r)).collect());

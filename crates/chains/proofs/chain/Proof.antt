@@ -8,8 +8,9 @@ use lib.ListN.{length}
 use Rattle.paths.specs.Expressions.{Expr}
 use Rattle.reader.specs.Reads.{ReadAs}
 use Rattle.reader.specs.ReadsLaws.{reads-accepted, reads-refused}
+use Rattle.arcs.specs.SpanLaws.{spans}
 use Rattle.chains.specs.Replies.{Replies}
-use Rattle.chains.proofs.ReplyLaws.{spans, refuses-record, refuses-text, refuses-work, foundAnswer, replies-as, replies}
+use Rattle.chains.proofs.ReplyLaws.{refuses-record, refuses-text, refuses-work, foundAnswer, replies-as, replies}
 use Rattle.chains.proofs.chain.Statement.{statement}
 use Rattle.chains.proofs.chain.Tie as tie
 

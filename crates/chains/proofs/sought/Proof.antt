@@ -8,8 +8,9 @@ use lib.ListN.{length, take}
 use lib.Seq.{length-take-le}
 use Rattle.paths.specs.Chains.{asked}
 use Rattle.arcs.specs.ArcLaws.{spans-take}
+use Rattle.arcs.specs.SpanLaws.{inside, used, asked-size}
 use Rattle.search.specs.Steps.{none}
-use Rattle.chains.proofs.ReplyLaws.{inside, asked-size, used, withdrawn-from, withdrawn-to}
+use Rattle.chains.proofs.ReplyLaws.{withdrawn-from, withdrawn-to}
 use Rattle.chains.proofs.sought.Statement.{statement}
 use Rattle.chains.proofs.sought.Tie as tie
 

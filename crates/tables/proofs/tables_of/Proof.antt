@@ -1,102 +1,45 @@
--- `tables_of` meets its contract. The loop's invariant: the rest of the code, run on what the tables hold, leaves the expression (Next). The measure is what is
--- left of the code. Assumes nothing.
-use mathlib.Core.Path.{_≡_}
-use mathlib.Core.List.{List}
-use Prim.Native.Nat.{ℕ, suc, _-_, _≤_}
-use native.Mathlib.Omega.{arith}
+-- `tables_of` meets its contract: one part waits when the code has been run, the expression's; inverted where the sense is against it. Assumes nothing.
 use borrow.Author.Needs.{needs}
-use lib.ListN.{length}
-use native.Mathlib.Numerals.{add-one}
-use lib.ListN.{drop, drop-of-length-le, length-replicate}
-use lib.Seq.{drop-cons}
-use Rattle.paths.specs.Expressions.{Expr}
-use Rattle.paths.specs.Verdicts.{InLimits}
-use Rattle.reader.specs.Code.{code, value}
-use Rattle.tables.specs.Builds.{parts, Next}
-use Rattle.tables.proofs.RunLaws.{next-none, holds-none, zeros-at, at-end, masked, masked-part}
+use Rattle.reader.specs.Code.{value}
+use Rattle.tables.specs.Builds.{parts}
+use Rattle.tables.proofs.RunLaws.{alone-top, masked-part, masked-inverse}
 use Rattle.tables.proofs.tables_of.Statement.{statement}
 use Rattle.tables.proofs.tables_of.Tie as tie
 
-abbrev Inv-loop : tie.InvT-loop
-Inv-loop numbers b₀ i₀ b i =
-    (i ≤ length numbers) × (length (b .follow) ≡ 64)
-    × ((text : List ℕ) (e : Expr) → InLimits text e → numbers ≡ code e → Next b (drop i numbers) (value parts e))
+built-requires : tie.Need-built-requires
+built-requires c κs = search needs
 
-abbrev μ-loop : tie.MeasureT-loop
-μ-loop numbers b₀ i₀ b i = length numbers - i
+inverted-requires : tie.Need-inverted-requires
+inverted-requires c κs =
+    let p = c .before .before .before .pre in
+    alone-top (c .before .built .ensures (p .0) (p .1) (p .2) (p .3))
 
-loop-holds : tie.Need-loop-holds Inv-loop μ-loop
-loop-holds c = (omega arith, length-replicate {A = ℕ} 64 0, λ text e L q. next-none L q (holds-none _ _ _ (zeros-at 64) (zeros-at 64) (zeros-at 64) _ _ _ _))
+started-requires : tie.Need-started-requires
+started-requires c κs = search needs
 
-mul-step : tie.Need-mul-step Inv-loop μ-loop
-mul-step c = omega arith
-
-shared-slice-read-step : tie.Need-shared-slice-read-step Inv-loop μ-loop
-shared-slice-read-step c = omega arith
-
-step-requires : tie.Need-step-requires Inv-loop μ-loop
-step-requires c κs =
-    let start = c .before .before .before .before in
-    let p = start .pre in
-    let s = start .args .numbers .now in
-    let l = c .before .before .loop in
-    (drop (suc (l .i)) s, value parts (p .1), rw (drop-cons s (l .i) 0 (omega arith)) at (l .inv .2 (p .0) (p .1) (p .2) (p .3)))
-
-add-i : tie.Need-add-i Inv-loop μ-loop
-add-i c = omega arith
-
-loop-less : tie.Need-loop-less Inv-loop μ-loop
-loop-less c = omega arith
-
-loop-again : tie.Need-loop-again Inv-loop μ-loop
-loop-again c =
-    let s = c .before .before .before .before .before .args .numbers .now in
-    let l = c .before .before .before .loop in (
-      omega arith,
-      search needs,
-      λ text e L q. rw add-one (c .step .ensures (drop (suc (l .i)) s) (value parts e) (rw (drop-cons s (l .i) 0 (omega arith)) at (l .inv .2 text e L q))),
+returns : tie.Need-returns
+returns c = λ text e L q. (
+    let A = c .before .before .before .built .ensures text e L q in
+    rw (c .before .before .if1 .taken) (masked-inverse (L .syntax)
+    (c .started .ensures (parts .inverted (value parts e)) (A .0, c .before .inverted .ensures _ _ _ (A .1))))
     )
 
-element-copy-out-first : tie.Need-element-copy-out-first Inv-loop μ-loop
-element-copy-out-first c = omega arith
+started-requires-2 : tie.Need-started-requires-2
+started-requires-2 c κs = search needs
 
-element-copy-out-last : tie.Need-element-copy-out-last Inv-loop μ-loop
-element-copy-out-last c = omega arith
-
-element-copy-out-nullable : tie.Need-element-copy-out-nullable Inv-loop μ-loop
-element-copy-out-nullable c = omega arith
-
-array-write-follow : tie.Need-array-write-follow Inv-loop μ-loop
-array-write-follow c = omega arith
-
-joined-requires : tie.Need-joined-requires Inv-loop μ-loop
-joined-requires c κs = search needs
-
-returns : tie.Need-returns Inv-loop μ-loop
-returns c =
-    let s = c .before .before .before .before .before .before .before .before .before .before .args .numbers .now in
-    let l = c .before .before .before .before .before .before .before .before .loop in
-    λ text e L q. (
-    let h = at-end (rw (drop-of-length-le s (let z : length s ≤ l .i = omega arith in z)) at (l .inv .2 text e L q)) in
-    masked-part (L .syntax) (masked {m = h .0} (h .1) (l .inv .1) (c .joined .ensures))
+returns-2 : tie.Need-returns-2
+returns-2 c = λ text e L q. (
+    let A = c .before .before .built .ensures text e L q in
+    rw (c .before .if1 .left) (masked-part (L .syntax) (c .started2 .ensures (value parts e) A))
     )
 
 pub tables-of-spec : {M : Type 1} → statement M
 tables-of-spec =
     tie.close
     (tie.spec
-    Inv-loop
-    μ-loop
-    loop-holds
-    mul-step
-    shared-slice-read-step
-    step-requires
-    add-i
-    loop-less
-    loop-again
-    element-copy-out-first
-    element-copy-out-last
-    element-copy-out-nullable
-    array-write-follow
-    joined-requires
-    returns)
+    built-requires
+    inverted-requires
+    started-requires
+    returns
+    started-requires-2
+    returns-2)

@@ -1,0 +1,121 @@
+-- From the register, the reader and the search to the book's answer.
+--   ends-none      a withdrawn record has none
+--   ends-seen      the records seen in a final state are the ends
+--   answer-record, answer-text
+--                  the book's answer, by the first cause: 2, the text's number
+--   refuses-record, refuses-text
+--                  a refusal keeps the promise, by each cause
+--   asks-ends      so does the answer
+-- Assumes nothing.
+use mathlib.Core.Path.{_≡_, refl, sym, ap, _∙_, subst}
+use mathlib.Core.List.{List, []}
+use mathlib.Core.Bool.{Bool, true, false≢true}
+use Prim.Native.Nat.{ℕ, _≤_, _<_}
+use native.Mathlib.Omega.{arith}
+use lib.ListN.{length, drop}
+use borrow.Author.Tests.{le-leb, lt-leb}
+use Rattle.book.specs.Basics.{ended}
+use Rattle.book.specs.Causes.{no-record, number, Caused, firstNumber, maxRecords}
+use Rattle.book.specs.Book.{Book}
+use Rattle.book.specs.ListLaws.{in-none}
+use Rattle.paths.specs.Expressions.{Expr}
+use Rattle.paths.specs.Grammar.{Verdict, accepted, long, outside, large, verdictCause}
+use Rattle.paths.specs.Verdicts.{verdict}
+use Rattle.paths.specs.Chains.{Graph, asked}
+use Rattle.paths.specs.ChainLaws.{Inside}
+use Rattle.paths.specs.Relations.{cells}
+use Rattle.paths.specs.RelationLaws.{cells-has}
+use Rattle.paths.specs.PairLaws.{withdrawn-out, verdict-caused}
+use Rattle.paths.specs.Questions.{refused, listAfter}
+use Rattle.register.specs.declared.Register.{Register}
+use Rattle.register.specs.Representation.{Represents}
+use Rattle.register.specs.Questions.{Withdrawal}
+use Rattle.tables.specs.Builds.{inSense}
+use Rattle.arcs.specs.SpanLaws.{inside}
+use Rattle.search.specs.Reaching.{Ended}
+use Rattle.ends.specs.Ends.{places, ends, joinedBy, endsCauses, endsAnswer}
+use Rattle.ends.specs.EndsLaws.{places-same, ends-only, joined-as}
+use Rattle.ends.specs.MadeLaws.{answer-ends}
+use Rattle.ends.specs.declared.EndsAnswer.the-variants.{Ends, Refused}
+use Rattle.ends.specs.Asking.{endsLength, told-number, told-ends, Asks}
+use Rattle.ends.specs.Listing.{Shown, meets}
+use Rattle.ends.proofs.ListLaws.{shown-over, shown-past}
+
+-- ---- the ends
+module _ (against : Bool) {self : Register} {b : Book} (R : Represents self b) where
+  pub ends-none : (e : Expr) (x : ℕ) {t : Bool} → Withdrawal self x t → t ≡ true → [] ≡ joinedBy against (asked b) e x
+  ends-none e x w f =
+      ends-only (asked b) (inside R) (inSense against e) x [] (record {
+        ascending = ended;
+        sound = λ y i. absurd (in-none i refl);
+        whole = λ y h. absurd (false≢true (sym (withdrawn-out b x (sym (w .withdrawn b R) ∙ f)) ∙ h .1 .begins));
+      })
+      ∙ joined-as against (asked b) e x
+
+seen-ends : (g : Graph) → Inside g → (e : Expr) {x f n : ℕ} {seen : List ℕ} → g .n ≡ n → Ended g e x f seen → places (meets seen f) n ≡ ends g e x
+unfolding ends meets
+seen-ends g I e {x} {f} {n} {seen} size E =
+    places-same (meets seen f) (λ y. cells g e x y) n (λ y h o. cells-has g I e x y .1 (E .sound y o)) (λ y h o. E .whole y (cells-has g I e x y .0 o))
+    ∙ ap (places (λ y. cells g e x y)) (sym size)
+
+pub ends-seen : (against : Bool) (g : Graph) → Inside g → (e : Expr) {x f n : ℕ} {seen : List ℕ} → g .n ≡ n → Ended g (inSense against e) x f seen
+    → places (meets seen f) n ≡ joinedBy against g e x
+ends-seen against g I e {x} size E = seen-ends g I (inSense against e) size E ∙ joined-as against g e x
+
+-- ---- the book's answer, by the first cause
+module _ (against : Bool) (b : Book) (x room : ℕ) where
+  pub answer-record : (v : Verdict) → b .n ≤ x → endsAnswer against b x v room ≡ refused 2
+  unfolding endsAnswer endsCauses firstNumber number
+  answer-record v h = rw (le-leb (b .n) x h)
+
+  pub answer-text : x < b .n → (v : Verdict) (k : ℕ) → firstNumber (verdictCause v) ≡ k → 0 < k → endsAnswer against b x v room ≡ refused k
+  unfolding endsAnswer endsCauses firstNumber number verdictCause
+  answer-text hx (accepted e) k q h = absurd (omega arith)
+  answer-text hx long k q h = rw (lt-leb (b .n) x hx) (ap refused q)
+  answer-text hx outside k q h = rw (lt-leb (b .n) x hx) (ap refused q)
+  answer-text hx large k q h = rw (lt-leb (b .n) x hx) (ap refused q)
+
+-- ---- the promise
+-- the number of a refusal is its own
+refused-as : {k : ℕ} → Caused k → (j : ℕ) → Refused k ≡ Refused j → Caused j
+refused-as {k} c j e = let z : k ≡ j = cc in subst Caused z c
+
+module _ {against : Bool} {self : Register} {x : ℕ} {text before : List ℕ} where
+  refuses : (k : ℕ) → Caused k → ((b : Book) → Represents self b → endsAnswer against b x (verdict text) (length before) ≡ refused k)
+      → Asks against self x text before before (Refused k)
+  unfolding endsLength listAfter
+  refuses k c h = record {
+    most = omega arith;
+    past = refl;
+    unchanged = λ j q. refl;
+    caused = refused-as c;
+    book = λ b R. (let e = h b R in record { tells = rw e told-number; list = rw e refl });
+  }
+
+  module _ {n : ℕ} (size : (b : Book) → Represents self b → n ≡ b .n) where
+    pub refuses-record : n ≤ x → Asks against self x text before before (Refused 2)
+    unfolding number
+    refuses-record h =
+        refuses 2 (no-record, refl) (λ b R. (let s = size b R in answer-record against b x (length before) (verdict text) (omega arith)))
+
+    module _ (hx : x < n) where
+      pub refuses-text : (k : ℕ) → firstNumber (verdictCause (verdict text)) ≡ k → 0 < k → Asks against self x text before before (Refused k)
+      refuses-text k e h =
+          refuses k (verdict-caused (verdict text) k e h) (λ b R. (let s = size b R in
+          answer-text against b x (length before) (omega arith) (verdict text) k e h))
+
+      module _ (e : Expr) (a : verdict text ≡ accepted e) where
+        pub asks-ends : {after l : List ℕ} {r : ℕ} → r ≡ length l → r ≤ maxRecords → Shown l before after
+            → ((b : Book) → Represents self b → l ≡ joinedBy against (asked b) e x) → Asks against self x text before after (Ends r)
+        unfolding endsLength listAfter
+        asks-ends {after} {l} {r} q m S h = rw q (record {
+          most = rw q at m;
+          past = ap (drop (length l)) S ∙ shown-past l before;
+          unchanged = λ k z. absurd (let y : _≡_ {A = ℕ} 0 1 = cc in omega arith);
+          caused = λ k z. absurd (let y : _≡_ {A = ℕ} 0 1 = cc in omega arith);
+          book = λ b R.
+              (let s = size b R in
+              let i = h b R in
+              let o = answer-ends against b x (length before) (omega arith) (verdict text) e a in
+              record { tells = rw (o, sym i) told-ends; list = rw (o, sym i) (S ∙ shown-over l before) });
+        })

@@ -1,0 +1,78 @@
+-- `list` goes over the records. The loop's invariant: the list shows the places below y at which a state was seen, and t is how many they are. The measure is
+-- what is left of the records. It rests on what `write` gives (`Grown`) and on `places-next`. Assumes nothing.
+use mathlib.Core.Path.{_≡_, refl, sym, _∙_}
+use Prim.Native.Nat.{_-_, _≤_}
+use native.Mathlib.Omega.{arith}
+use lib.ListN.{length}
+use Rattle.ends.specs.Ends.{places}
+use Rattle.ends.specs.Listing.{Shown, meets}
+use Rattle.ends.proofs.ListLaws.{shown-none, places-next, places-short}
+use Rattle.ends.proofs.list.Statement.{statement}
+use Rattle.ends.proofs.list.Tie as tie
+
+abbrev Inv-loop : tie.InvT-loop
+Inv-loop seen states n out₀ t₀ y₀ out t y =
+    (length out ≡ length out₀) × (y ≤ n) × (t ≡ length (places (meets seen states) y)) × Shown (places (meets seen states) y) out₀ out
+
+abbrev μ-loop : tie.MeasureT-loop
+μ-loop seen states n out₀ t₀ y₀ out t y = n - y
+
+loop-holds : tie.Need-loop-holds Inv-loop μ-loop
+unfolding places
+loop-holds c = (refl, omega arith, refl, shown-none _)
+
+mul-write : tie.Need-mul-write Inv-loop μ-loop
+mul-write c = omega (arith, c .before .before .before .before .before .pre .1)
+
+shared-slice-read-write : tie.Need-shared-slice-read-write Inv-loop μ-loop
+shared-slice-read-write c = omega (arith, c .before .before .before .before .before .before .pre .0)
+
+cast-write : tie.Need-cast-write Inv-loop μ-loop
+cast-write c = omega (arith, c .before .before .before .before .before .before .pre .1)
+
+write-requires : tie.Need-write-requires Inv-loop μ-loop
+write-requires c κs =
+    let at-loop = c .before .before .before in
+    let start = at-loop .before .before .before in
+    let h = places-short (meets (start .args .seen .now) (start .args .states)) (at-loop .loop .y) in omega (arith, at-loop .loop .inv .2, start .pre .1)
+
+add-y : tie.Need-add-y Inv-loop μ-loop
+add-y c = omega (arith, c .before .before .before .before .before .before .before .before .before .pre .1)
+
+loop-less : tie.Need-loop-less Inv-loop μ-loop
+loop-less c = omega arith
+
+loop-again : tie.Need-loop-again Inv-loop μ-loop
+unfolding meets
+loop-again c =
+    let l = c .before .before .before .before .before .before .loop in
+    let s = c .before .before .before .before .before .before .before .before .before .args in
+    let W = c .before .before .write in
+    let o = W .ensures (places (meets (s .seen .now) (s .states)) (l .y)) (s .out .now) (sym (l .inv .2)) (sym (l .inv .0)) (l .inv .3) in
+    rw (places-next (meets (s .seen .now) (s .states)) (l .y)) (W .kept .0 ∙ l .inv .0, omega arith, o .0, o .1)
+
+same-length : tie.Need-same-length Inv-loop μ-loop
+same-length c = c .before .loop .inv .0
+
+returns : tie.Need-returns Inv-loop μ-loop
+returns c =
+    let l = c .before .loop in
+    let z : l .y ≡ c .before .before .before .before .args .n = omega arith in
+    rw (sym z) (l .inv .2, l .inv .3)
+
+pub list-spec : {M : Type 1} → statement M
+list-spec =
+    tie.close
+    (tie.spec
+    Inv-loop
+    μ-loop
+    loop-holds
+    mul-write
+    shared-slice-read-write
+    cast-write
+    write-requires
+    add-y
+    loop-less
+    loop-again
+    same-length
+    returns)

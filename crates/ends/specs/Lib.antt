@@ -1,0 +1,5 @@
+pub mod Ends
+pub mod Asking
+pub mod Listing
+pub mod EndsLaws
+pub mod MadeLaws

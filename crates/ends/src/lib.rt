@@ -1,0 +1,127 @@
+// The ends of one record, every record that a chain leads to from it, and its starts, from which one leads to it.
+ghost use mathlib.Core.Path.{_≡_};
+ghost use mathlib.Core.List.{List};
+ghost use Prim.Native.Nat.{ℕ, _<_, _≤_};
+ghost use lib.ListN.{length};
+ghost use Rattle.book.specs.Causes.{maxRecords, maxLinks};
+ghost use Rattle.book.specs.Book.{Book};
+ghost use Rattle.k2.specs.PairSets.{ifSet};
+ghost use Rattle.paths.specs.Expressions.{Expr};
+ghost use Rattle.paths.specs.Chains.{asked};
+ghost use Rattle.paths.specs.Verdicts.{InLimits};
+ghost use Rattle.reader.specs.Code.{code};
+ghost use Rattle.register.specs.Representation.{Represents};
+ghost use Rattle.arcs.specs.Arcs.{Spans};
+ghost use Rattle.ends.specs.Ends.{places, joinedBy};
+ghost use Rattle.ends.specs.Asking.{Asks, AsksEnds, AsksStarts};
+ghost use Rattle.ends.specs.Listing.{Shown, meets, Grown};
+use reader::Answer;
+use register::Register;
+
+// How many ends or starts there are in all, of which the list has as many as it takes; or the number of a cause.
+pub enum EndsAnswer {
+    Ends(usize),
+    Refused(u32),
+}
+
+// The record y written at place t, if the states are not none and the list is that long. The place after it.
+fn write(out: &mut [u32], t: usize, states: u64, y: u32) -> usize
+    requires { ⌜ t ≤ maxRecords ⌝ }
+    ensures { λ s. ⌜ Grown t s (ifSet states y) (now (out .entry)) (now (out .exit)) ⌝ }
+{
+    if states == 0 {
+        return t;
+    }
+    if out.len() <= t {
+        return t + 1;
+    }
+    out[t] = y;
+    t + 1
+}
+
+// How many of n records have one of the states; they are written to the list, ascending, as far as it takes them, and the words past them are left.
+fn list(seen: &[u64], states: u64, n: usize, out: &mut [u32]) -> usize
+    requires { ⌜ (n ≤ length (now seen)) × (n ≤ maxRecords) ⌝ }
+    ensures { λ r. ⌜ (r ≡ length (places (meets (now (seen .entry)) states) n))
+        × Shown (places (meets (now (seen .entry)) states) n) (now (out .entry)) (now (out .exit)) ⌝ }
+{
+    let mut t = 0;
+    let mut y = 0;
+    while y < n {
+        t = write(out, t, seen[y] & states, y as u32);
+        y += 1;
+    }
+    t
+}
+
+// The ends of a record over the first `count` links, for the expression whose code is given; against the sense, its starts. A withdrawn record has none.
+fn sought(
+    register: Register,
+    links: &[u32],
+    count: usize,
+    numbers: &[u64],
+    against: bool,
+    n: usize,
+    x: usize,
+    out: &mut [u32],
+) -> usize
+    requires { ⌜ (count ≤ length (now links)) × (count ≤ maxLinks) × (n ≤ maxRecords) × (x < n)
+        × ((text : List ℕ) × (e : Expr) × InLimits text e × (now numbers ≡ code e)) ⌝ }
+    ensures { λ r. ⌜ ((l : List ℕ) × (r ≡ length l) × (r ≤ maxRecords) × Shown l (now (out .entry)) (now (out .exit))
+        × ((text : List ℕ) (e : Expr) → InLimits text e → now (numbers .entry) ≡ code e → (b : Book) → Represents register b → n ≡ b .n
+        → Spans (now (links .entry)) count (asked b) → l ≡ joinedBy against (asked b) e x)) ⌝ }
+{
+    if register.is_withdrawn(x as u16) {
+        return 0;
+    }
+    let tables = tables::tables_of(numbers, against);
+    let follow = tables.follow;
+    let enter = tables.enter;
+    let seen = search::reached(&links[0..count], &follow, &enter, n, x);
+    list(&seen, tables.accepting, n, out)
+}
+
+// The records that a chain joins to the one, in either sense.
+fn joined(register: Register, to: u16, text: &[u8], against: bool, out: &mut [u32]) -> EndsAnswer
+    ensures { λ r. ⌜ Asks against register to (now (text .entry)) (now (out .entry)) (now (out .exit)) r ⌝ }
+{
+    let n = register.size();
+    let x = to as usize;
+    if n <= x {
+        return EndsAnswer::Refused(book::NO_RECORD);
+    }
+    let reading = reader::read(text);
+    let code = reading.code;
+    let answer = reading.answer;
+    match answer {
+        Answer::Refused(number) => EndsAnswer::Refused(number as u32),
+        Answer::Accepted(k) => {
+            let links = register.links();
+            let total = sought(
+                register,
+                &links.words,
+                links.count,
+                &code[0..k],
+                against,
+                n,
+                x,
+                out,
+            );
+            EndsAnswer::Ends(total)
+        }
+    }
+}
+
+// Every record that a chain leads to from the one, spelling a word of the expression: ascending, as many as the list takes.
+pub fn ends(register: Register, from: u16, text: &[u8], out: &mut [u32]) -> EndsAnswer
+    ensures { λ r. ⌜ AsksEnds register from (now (text .entry)) (now (out .entry)) (now (out .exit)) r ⌝ }
+{
+    joined(register, from, text, false, out)
+}
+
+// Every record from which a chain leads to the one, likewise.
+pub fn starts(register: Register, to: u16, text: &[u8], out: &mut [u32]) -> EndsAnswer
+    ensures { λ r. ⌜ AsksStarts register to (now (text .entry)) (now (out .entry)) (now (out .exit)) r ⌝ }
+{
+    joined(register, to, text, true, out)
+}

@@ -1,0 +1,168 @@
+-- `out_of` goes over the arcs out of the record. The loop's invariant: the cursor stands at one of them (`Cursor`), the list has the records that are
+-- pending (`Listed`), no more is to be done than before (`Fewer`), and the arcs that count at the states of the mask are those from the cursor on
+-- (`Expanding`). The measure is the cursor, which falls (`next-falls`). It rests on `expanding-more`. Assumes nothing.
+use mathlib.Core.Path.{_≡_, refl, _∙_}
+use mathlib.Core.List.{List}
+use Prim.Native.Nat.{ℕ, _-_, _^_, _≤_, _<_}
+use native.Mathlib.Omega.{arith}
+use lib.Bits.{bitAnd, bitOr}
+use lib.ListN.{length, getD, length-set}
+use Rattle.arcs.specs.Arcs.{arcFrom, arcTo, arcLetter}
+use Rattle.arcs.specs.Index.{Cursor}
+use Rattle.arcs.specs.IndexLaws.{next-falls, cursor-next}
+use Rattle.search.specs.Levels.{Spread}
+use Rattle.search.specs.Frontiers.{Listed}
+use Rattle.search.specs.Reaching.{Expanding, Fewer}
+use Rattle.search.proofs.FrontierLaws.{added-more}
+use Rattle.search.proofs.ReachLaws.{expanding-first, expanding-more, expanding-done, fewer-more}
+use Rattle.search.proofs.reach.out_of.Statement.{statement}
+use Rattle.search.proofs.reach.out_of.Tie as tie
+
+abbrev Inv-loop : tie.InvT-loop
+Inv-loop arcs index enter seen₀ pending₀ list₀ entry n listed₀ cursor₀ seen pending list listed cursor =
+    (length seen ≡ length seen₀) × (length pending ≡ length pending₀) × (length list ≡ length list₀)
+    × Cursor (arcFrom arcs) (length arcs) (entry .at) cursor × Listed list listed (entry .n) pending
+    × Fewer (entry .n) seen₀ pending₀ seen pending
+    × ((fs : List ℕ) (x mask : ℕ) → Spread fs mask 0 (entry .states)
+    → Expanding fs enter arcs (length arcs) (entry .n) x seen₀ pending₀ (entry .at) mask (length arcs)
+    → Expanding fs enter arcs (length arcs) (entry .n) x seen pending (entry .at) mask cursor)
+
+abbrev μ-loop : tie.MeasureT-loop
+μ-loop arcs index enter seen₀ pending₀ list₀ entry n listed₀ cursor₀ seen pending list listed cursor = cursor
+
+-- the arc at which the cursor stands
+stands : (c : tie.In-loop Inv-loop μ-loop)
+    → let start = c .before .before .before .before .before .before .before .before .before in
+    (0 < c .before .loop .cursor) × (c .before .loop .cursor ≤ length (start .args .arcs .now))
+stands c = (omega arith, c .before .loop .inv .3 .0)
+
+first-arc-requires : tie.Need-first-arc-requires Inv-loop μ-loop
+first-arc-requires c κs =
+    let start = c .before .before .before .before .before .before in
+    (start .pre .1, start .pre .7)
+
+loop-holds : tie.Need-loop-holds Inv-loop μ-loop
+loop-holds c =
+    let p = c .before .before .before .before .before .before .before .pre in
+    rw (c .first-arc .ensures) (refl, refl, refl, p .8 .first-at _ (p .7), p .9, λ i h. omega arith, λ fs x mask S I. expanding-first (p .8) I)
+
+sub-j : tie.Need-sub-j Inv-loop μ-loop
+sub-j c = omega arith
+
+mul-arc : tie.Need-mul-arc Inv-loop μ-loop
+mul-arc c = omega arith
+
+shared-slice-read-arc : tie.Need-shared-slice-read-arc Inv-loop μ-loop
+shared-slice-read-arc c = omega (arith, stands (c .before))
+
+cast-arc : tie.Need-cast-arc Inv-loop μ-loop
+cast-arc c = omega (arith, c .shared-slice-known4 .given (c .before .before .loop .cursor - 1) .fits)
+
+mul-old : tie.Need-mul-old Inv-loop μ-loop
+mul-old c = omega arith
+
+slice-read-old : tie.Need-slice-read-old Inv-loop μ-loop
+slice-read-old c = omega (arith, c .before .before .before .before .before .before .before .before .before .before .before .pre .3)
+
+mul-states : tie.Need-mul-states Inv-loop μ-loop
+mul-states c = omega arith
+
+shared-slice-read-states : tie.Need-shared-slice-read-states Inv-loop μ-loop
+shared-slice-read-states c = omega (arith, c .before .before .before .before .before .before .before .before .before .before .before .before .pre .2)
+
+mul-seen : tie.Need-mul-seen Inv-loop μ-loop
+mul-seen c = omega arith
+
+slice-write-seen : tie.Need-slice-write-seen Inv-loop μ-loop
+slice-write-seen c = omega (arith, c .before .before .before .before .before .before .before .before .before .before .before .before .before .pre .3)
+
+add-states-requires : tie.Need-add-states-requires Inv-loop μ-loop
+add-states-requires c κs =
+    let p = c .before .before .before .before .before .before .before .before .before .before .before .before .before .before .before .pre in
+    let l = c .before .before .before .before .before .before .before .loop in
+    (p .6, omega (arith, l .inv .1, p .4), omega (arith, l .inv .2, p .5), omega arith, l .inv .4)
+
+next-arc-requires : tie.Need-next-arc-requires Inv-loop μ-loop
+next-arc-requires c κs =
+    let in-loop = c .before .before .before .before .before .before .before .before .before .before .before in
+    let start = in-loop .before .before .before .before .before .before .before .before .before in
+    (start .pre .1, omega (arith, stands in-loop, start .pre .0))
+
+loop-less : tie.Need-loop-less Inv-loop μ-loop
+loop-less c =
+    let in-loop = c .before .before .before .before .before .before .before .before .before .before .before .before in
+    let start = in-loop .before .before .before .before .before .before .before .before .before in
+    let z = stands in-loop in omega (arith, c .next-arc .ensures, next-falls (start .pre .8) (in-loop .before .loop .inv .3) (z .0))
+
+loop-again : tie.Need-loop-again Inv-loop μ-loop
+unfolding arcFrom arcTo arcLetter
+loop-again c =
+    let after-add-states = c .before .before .before .before .before in
+    let known4 = after-add-states .before .before .before .before .before in
+    let at-loop = known4 .before .before .before in
+    let start = at-loop .before .before .before .before .before .before .before .before in
+    let s = start .args in
+    let p = start .pre in
+    let X = p .8 in
+    let l = at-loop .loop in
+    let hp = stands (known4 .before .before) .0 in
+    let to : ℕ = arcTo (s .arcs .now) (l .cursor - 1) in
+    let v : ℕ = bitAnd (bitAnd (s .entry .states) (getD (s .enter .now) (arcLetter (s .arcs .now) (l .cursor - 1)) 0)) ((2 ^ 64 - 1) - getD (l .seen) to 0) in
+    let tn : to < 1024 = omega arith in
+    let fit = known4 .slice-known4 .given to .fits in
+    let A = after-add-states .add-states in
+    let B = added-more (l .seen) 1024 to v (omega (arith, l .inv .0, p .3)) tn in
+    let fewer = fewer-more (s .arcs .now) (s .enter .now) (l .seen) (l .cursor) (s .entry .states) fit tn B (A .ensures .1) in
+    rw (c .next-arc .ensures) (
+      length-set {A = ℕ} (l .seen) to (bitOr (getD (l .seen) to 0) v) ∙ l .inv .0,
+      A .kept .0 ∙ l .inv .1,
+      A .kept .1 .0 ∙ l .inv .2,
+      cursor-next X (l .inv .3) hp,
+      A .ensures .0,
+      λ i h. (let y = fewer i h in let z = l .inv .5 i h in omega arith),
+      λ fs x mask S I.
+          expanding-more (s .arcs .now) (s .enter .now) (l .seen) (l .cursor) (s .entry .states)
+          fit tn B (A .ensures .1) X (l .inv .3) hp S (l .inv .6 fs x mask S I),
+    )
+
+same-length : tie.Need-same-length Inv-loop μ-loop
+same-length c = c .before .loop .inv .0
+
+same-length-2 : tie.Need-same-length-2 Inv-loop μ-loop
+same-length-2 c = c .before .loop .inv .1
+
+same-length-3 : tie.Need-same-length-3 Inv-loop μ-loop
+same-length-3 c = c .before .loop .inv .2
+
+returns : tie.Need-returns Inv-loop μ-loop
+returns c =
+    let l = c .before .loop in
+    let z : l .cursor ≡ 0 = omega arith in
+    (l .inv .4, l .inv .5, λ fs x mask S I. expanding-done (rw z at (l .inv .6 fs x mask S I)))
+
+pub out-of-spec : {M : Type 1} → statement M
+out-of-spec =
+    tie.close
+    (tie.spec
+    Inv-loop
+    μ-loop
+    first-arc-requires
+    loop-holds
+    sub-j
+    mul-arc
+    shared-slice-read-arc
+    cast-arc
+    mul-old
+    slice-read-old
+    mul-states
+    shared-slice-read-states
+    mul-seen
+    slice-write-seen
+    add-states-requires
+    next-arc-requires
+    loop-less
+    loop-again
+    same-length
+    same-length-2
+    same-length-3
+    returns)

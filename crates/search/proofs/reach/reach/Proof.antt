@@ -1,0 +1,186 @@
+-- `reach` goes out of one record after another, the last listed first. The loop's invariant: the list has the records with states pending (`Listed`), and
+-- what was seen is come to and, where it is not pending, gone out of (`Expanding`). The measure is the number of states that are not seen or pending
+-- (`toDo`), which a record taken off lessens (`fewer-pop`) and an arc does not raise (`Fewer`). Assumes nothing.
+use mathlib.Core.Path.{_≡_, sym, _∙_}
+use Prim.Native.Nat.{ℕ, _*_, _-_, _<_}
+use native.Mathlib.Omega.{arith}
+use borrow.Author.Needs.{needs}
+use lib.ListN.{length, getD, set, replicate, length-set, length-replicate}
+use Rattle.k2.specs.Bits.{onesBelow}
+use Rattle.search.specs.Frontiers.{Listed}
+use Rattle.search.specs.Reaching.{Expanding, toDo}
+use Rattle.search.proofs.MaskLaws.{zero-at}
+use Rattle.search.proofs.LevelLaws.{ones-mono, mask-here, mask-off}
+use Rattle.search.proofs.FrontierLaws.{listed-none, listed-fits, none-listed}
+use Rattle.search.proofs.ReachLaws.{listed-less, expanding-pop, fewer-pop, expanding-start, expanding-all}
+use Rattle.search.proofs.reach.reach.Statement.{statement}
+use Rattle.search.proofs.reach.reach.Tie as tie
+
+abbrev Inv-loop : tie.InvT-loop
+Inv-loop arcs follow enter n from index seen₀ pending₀ list₀ count₀ seen pending list count =
+    (length seen ≡ 1024) × (length pending ≡ 1024) × (length list ≡ 1024) × Listed list count n pending
+    × Expanding follow enter arcs (length arcs) n from seen pending 0 0 0
+
+abbrev μ-loop : tie.MeasureT-loop
+μ-loop arcs follow enter n from index seen₀ pending₀ list₀ count₀ seen pending list count = onesBelow (toDo seen pending) (n * 64)
+
+-- the record last listed
+inside : (c : tie.In-loop Inv-loop μ-loop)
+    → let start = c .before .before .before .before .before .before .before .before .before .before .before in
+    getD (c .before .loop .list) (c .before .loop .count - 1) 0 < start .args .n
+inside c = c .before .loop .inv .3 .small (c .before .loop .count - 1) (omega arith)
+
+within : (c : tie.In-loop Inv-loop μ-loop) → getD (c .before .loop .list) (c .before .loop .count - 1) 0 < length (c .before .loop .pending)
+within c = omega (arith, inside c, c .before .loop .inv .1)
+
+index-by-left-requires : tie.Need-index-by-left-requires Inv-loop μ-loop
+index-by-left-requires c κs = search needs
+
+mul-seen : tie.Need-mul-seen Inv-loop μ-loop
+mul-seen c = omega arith
+
+array-write-seen : tie.Need-array-write-seen Inv-loop μ-loop
+array-write-seen c = omega arith
+
+slice-aggregate-add-states : tie.Need-slice-aggregate-add-states Inv-loop μ-loop
+slice-aggregate-add-states c = search needs
+
+slice-aggregate-add-states-2 : tie.Need-slice-aggregate-add-states-2 Inv-loop μ-loop
+slice-aggregate-add-states-2 c = search needs
+
+add-states-requires : tie.Need-add-states-requires Inv-loop μ-loop
+add-states-requires c κs =
+    let p = c .before .before .before .before .before .before .pre in
+    (p .3, length-replicate {A = ℕ} 1024 0, length-replicate {A = ℕ} 1024 0, omega arith, listed-none _ _ _ (zero-at 1024))
+
+loop-holds : tie.Need-loop-holds Inv-loop μ-loop
+loop-holds c =
+    let start = c .before .before .before .before .before .before .before .before .before in
+    let s = start .args in
+    let A = c .before .before .add-states in (
+      (let z : length (set {A = ℕ} (replicate 1024 0) (s .from) 1) ≡ 1024 = simp length-set (length-replicate {A = ℕ} 1024 0) in z),
+      A .kept .0 ∙ length-replicate {A = ℕ} 1024 0,
+      A .kept .1 .0 ∙ length-replicate {A = ℕ} 1024 0,
+      A .ensures .0,
+      expanding-start (start .pre .4) (zero-at 1024) (mask-here 1024 (s .from) 1 (omega arith)) (mask-off 1024 (s .from) 1) (A .ensures .1),
+    )
+
+sub-last : tie.Need-sub-last Inv-loop μ-loop
+sub-last c = omega arith
+
+mul-at : tie.Need-mul-at Inv-loop μ-loop
+mul-at c = let h = listed-fits (c .before .loop .inv .3) in omega arith
+
+array-read-at : tie.Need-array-read-at Inv-loop μ-loop
+array-read-at c = let h = listed-fits (c .before .loop .inv .3) in omega (arith, c .before .loop .inv .2)
+
+cast-at : tie.Need-cast-at Inv-loop μ-loop
+cast-at c = omega (arith, inside (c))
+
+mul-spread : tie.Need-mul-spread Inv-loop μ-loop
+mul-spread c = omega (arith, inside (c))
+
+array-read-spread : tie.Need-array-read-spread Inv-loop μ-loop
+array-read-spread c = omega (arith, inside (c), c .before .loop .inv .1)
+
+spread-requires : tie.Need-spread-requires Inv-loop μ-loop
+spread-requires c κs = search needs
+
+mul-pending : tie.Need-mul-pending Inv-loop μ-loop
+mul-pending c = omega (arith, inside (c .before))
+
+array-write-pending : tie.Need-array-write-pending Inv-loop μ-loop
+array-write-pending c = omega (arith, inside (c .before), c .before .before .loop .inv .1)
+
+slice-aggregate-out-of : tie.Need-slice-aggregate-out-of Inv-loop μ-loop
+slice-aggregate-out-of c = search needs
+
+slice-aggregate-out-of-2 : tie.Need-slice-aggregate-out-of-2 Inv-loop μ-loop
+slice-aggregate-out-of-2 c = sym (c .before .before .before .before .loop .inv .0)
+
+slice-aggregate-out-of-3 : tie.Need-slice-aggregate-out-of-3 Inv-loop μ-loop
+slice-aggregate-out-of-3 c =
+    let l = c .before .before .before .before .before .loop in
+    sym (length-set {A = ℕ} (l .pending) (getD (l .list) (l .count - 1) 0) 0 ∙ l .inv .1)
+
+slice-aggregate-out-of-4 : tie.Need-slice-aggregate-out-of-4 Inv-loop μ-loop
+slice-aggregate-out-of-4 c = sym (c .before .before .before .before .before .before .loop .inv .2)
+
+out-of-requires : tie.Need-out-of-requires Inv-loop μ-loop
+out-of-requires c κs =
+    let in-loop = c .before .before .before .before .before in
+    let after-index-by-left = in-loop .before .before .before .before .before .before .before in
+    let start = after-index-by-left .before .before .before .before in
+    let p = start .pre in
+    let l = in-loop .before .loop in
+    let X = after-index-by-left .index-by-left in
+    let long : length (X .result) ≡ 9216 = search needs in
+    let h = inside in-loop in (
+      p .0,
+      long,
+      p .2,
+      l .inv .0,
+      length-set {A = ℕ} (l .pending) (getD (l .list) (l .count - 1) 0) 0 ∙ l .inv .1,
+      l .inv .2,
+      p .3,
+      omega arith,
+      X .ensures,
+      listed-less (l .inv .3) (omega arith) (within in-loop),
+    )
+
+loop-less : tie.Need-loop-less Inv-loop μ-loop
+loop-less c =
+    let after-out-of = c .before .before .before in
+    let in-loop = after-out-of .before .before .before .before .before .before in
+    let start = in-loop .before .before .before .before .before .before .before .before .before .before .before in
+    let l = in-loop .before .loop in
+    let a = fewer-pop (l .inv .3) (omega arith) (within in-loop) (l .seen) (l .inv .4 .waits) in
+    let b = ones-mono _ _ (start .args .n * 64) (after-out-of .out-of .ensures .1) in
+    omega arith
+
+loop-again : tie.Need-loop-again Inv-loop μ-loop
+loop-again c =
+    let after-out-of = c .before .before .before in
+    let after-spread = after-out-of .before .before .before .before .before in
+    let l = after-spread .before .before .loop in
+    let P = after-out-of .out-of in (
+      P .kept .1 .1 .1 .0 ∙ l .inv .0,
+      P .kept .1 .1 .1 .1 .0 ∙ length-set {A = ℕ} (l .pending) (getD (l .list) (l .count - 1) 0) 0 ∙ l .inv .1,
+      P .kept .1 .1 .1 .1 .1 .0 ∙ l .inv .2,
+      P .ensures .0,
+      P .ensures .2 _ _ _ (after-spread .spread .ensures) (expanding-pop (l .inv .3) (omega arith) (within (after-spread .before)) (l .inv .4)),
+    )
+
+returns : tie.Need-returns Inv-loop μ-loop
+returns c = expanding-all (c .before .loop .inv .4) (none-listed (c .before .loop .inv .3) (omega arith))
+
+pub reach-spec : {M : Type 1} → statement M
+reach-spec =
+    tie.close
+    (tie.spec
+    Inv-loop
+    μ-loop
+    index-by-left-requires
+    mul-seen
+    array-write-seen
+    slice-aggregate-add-states
+    slice-aggregate-add-states-2
+    add-states-requires
+    loop-holds
+    sub-last
+    mul-at
+    array-read-at
+    cast-at
+    mul-spread
+    array-read-spread
+    spread-requires
+    mul-pending
+    array-write-pending
+    slice-aggregate-out-of
+    slice-aggregate-out-of-2
+    slice-aggregate-out-of-3
+    slice-aggregate-out-of-4
+    out-of-requires
+    loop-less
+    loop-again
+    returns)

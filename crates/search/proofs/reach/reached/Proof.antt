@@ -1,0 +1,68 @@
+-- `reached` meets its contract: the arcs are the crossings, and what is seen at the end of the search forward are the ends (ReachLaws). Assumes nothing.
+use mathlib.Core.Path.{_≡_}
+use Prim.Native.Nat.{_*_, _-_}
+use native.Mathlib.Omega.{arith}
+use borrow.Author.Needs.{needs}
+use lib.ListN.{length, take}
+use lib.Seq.{length-take-le}
+use Rattle.arcs.specs.ArcLaws.{crossings-take}
+use Rattle.arcs.specs.Arcs.{Crossings}
+use Rattle.search.proofs.AnswerLaws.{setting}
+use Rattle.search.proofs.ReachLaws.{ended}
+use Rattle.search.proofs.reach.reached.Statement.{statement}
+use Rattle.search.proofs.reach.reached.Tie as tie
+
+slice-aggregate-arcs-of : tie.Need-slice-aggregate-arcs-of
+slice-aggregate-arcs-of c = search needs
+
+arcs-of-requires : tie.Need-arcs-of-requires
+arcs-of-requires c κs = search needs
+
+-- the words of the arcs, and how many of them count
+long : (c : tie.After-arcs-of) → length (c .arcs-of .last .1 .1 .0) ≡ 8192
+long c = search needs
+
+part-long : (c : tie.After-arcs-of) → length (take (c .arcs-of .result - 0) (c .arcs-of .last .1 .1 .0)) ≡ c .arcs-of .result - 0
+part-long c = length-take-le (c .arcs-of .result - 0) (c .arcs-of .last .1 .1 .0) (omega (arith, long c, c .arcs-of .ensures .0))
+
+sub-reach : tie.Need-sub-reach
+sub-reach c = search needs
+
+part-reach-start : tie.Need-part-reach-start
+part-reach-start c = search needs
+
+part-reach-end : tie.Need-part-reach-end
+part-reach-end c = omega (arith, long (c .before .before), c .before .before .arcs-of .ensures .0)
+
+reach-requires : tie.Need-reach-requires
+reach-requires c κs =
+    let after-arcs-of = c .before .before .before in
+    let p = after-arcs-of .before .before .before .before .before .pre in
+    (omega (arith, part-long after-arcs-of, after-arcs-of .arcs-of .ensures .0), p .1, p .2, p .3, p .4)
+
+-- those that count, alone, are the crossings
+crossed : (c : tie.After-arcs-of)
+    → let start = c .before .before .before .before .before in
+    Crossings (start .args .links .now) (start .args .enter .now) (2 * length (start .args .links .now))
+    (take (c .arcs-of .result - 0) (c .arcs-of .last .1 .1 .0)) (length (take (c .arcs-of .result - 0) (c .arcs-of .last .1 .1 .0)))
+crossed c =
+    let a = c .arcs-of in
+    let part : a .result - 0 ≡ a .result = omega arith in
+    rw part (crossings-take (a .last .1 .1 .0) (a .result) (omega (arith, long c, a .ensures .0)) (a .ensures .1))
+
+returns : tie.Need-returns
+returns c =
+    let p = c .before .before .before .before .before .before .before .before .before .pre in
+    λ g e ps f size I S l T u. ended (setting size I (p .3) S (crossed (c .before .before .before .before)) T l) I (p .4) u (c .reach .ensures)
+
+pub reached-spec : {M : Type 1} → statement M
+reached-spec =
+    tie.close
+    (tie.spec
+    slice-aggregate-arcs-of
+    arcs-of-requires
+    sub-reach
+    part-reach-start
+    part-reach-end
+    reach-requires
+    returns)
