@@ -26,7 +26,7 @@ use Rattle.register.specs.declared.Register.{Register}
 use Rattle.register.specs.declared.Outcome.{Outcome}
 use Rattle.register.specs.declared.Answer.{Answer}
 use Rattle.register.specs.declared.Answer.the-variants.{Done, Refused as Turned-down}
-use Rattle.pairs.specs.Asking.{Tells, told-number, told-pairs, AsksPairs}
+use Rattle.pairs.specs.Asking.{pairsLength, Tells, told-number, told-pairs, AsksPairs}
 use Rattle.pairs.specs.declared.PairsAnswer.{PairsAnswer}
 use Rattle.pairs.specs.declared.PairsAnswer.the-variants.{Pairs, Refused}
 use Rattle.rowpairs.specs.Asking.{rowsWork, AsksRows}
@@ -74,11 +74,12 @@ module _ {r : Register} {c : Call} {o : Outcome} (s : Steps r c o) where
     accepted-outcome e b R = rw (accepted-as e b R)
 
     pub preview-refused : (k : ℕ) → k ≡ answerNumber (o .answer) → (k ≡ 0 → ⊥) → Previews r c text work before before (Refused k)
-    unfolding listAfter
+    unfolding listAfter pairsLength
     preview-refused k n z =
         let e = by-number (o .answer) k n z in
         record {
           past = refl;
+          fits = omega arith;
           unchanged = λ j q. refl;
           caused = λ j q. let z : k ≡ j = cc in rw (← z) (s .caused k e);
           book = λ b R. record { tells = rw (refused-outcome k e b R) told-number; list = rw (refused-outcome k e b R) };
@@ -90,6 +91,7 @@ module _ {r : Register} {c : Call} {o : Outcome} (s : Steps r c o) where
         let e = by-zero (o .answer) k (s .caused) n z in
         record {
           past = Q .past;
+          fits = Q .fits;
           unchanged = Q .unchanged;
           caused = Q .caused;
           book = λ b R.

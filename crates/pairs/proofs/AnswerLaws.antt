@@ -11,15 +11,16 @@
 --                  the pairs handed over: refused, or the first of them
 -- Assumes nothing.
 use mathlib.Core.Path.{_≡_, refl, sym, ap, _∙_, subst}
-use mathlib.Core.List.{List, _++_}
-use Prim.Native.Nat.{ℕ, _*_, _≤_, _<_}
+use mathlib.Core.List.{List, [], _∷_, _++_}
+use Prim.Native.Nat.{ℕ, zero, suc, _*_, _≤_, _<_}
 use native.Mathlib.Omega.{arith}
-use lib.ListN.{length, take, drop}
+use lib.ListN.{length, take, drop, length-append}
 use lib.Seq.{take-at, drop-at}
 use Rattle.book.specs.Basics.{bit}
 use Rattle.book.specs.Causes.{short-work, number, Caused, maxRecords}
 use Rattle.book.specs.Book.{Book}
 use Rattle.k2.specs.Bits.{bitAt}
+use Rattle.k2.specs.PairSets.{ifSet}
 use Rattle.k2.specs.Trees.{treeUnit}
 use Rattle.paths.specs.Expressions.{Expr}
 use Rattle.paths.specs.Grammar.{Verdict, accepted}
@@ -33,15 +34,15 @@ use Rattle.reader.specs.declared.Answer.the-variants.{Refused as Faulty}
 use Rattle.register.specs.Links.{Linked}
 use Rattle.register.specs.Representation.{Represents}
 use Rattle.register.specs.declared.Register.{Register}
-use Rattle.rows.specs.Rows.{flat, pairsIn}
+use Rattle.rows.specs.Rows.{flat, places, pairsIn}
 use Rattle.rows.specs.RowLaws.{pairs-in}
 use Rattle.pairs.specs.declared.PairsAnswer.{PairsAnswer}
 use Rattle.pairs.specs.declared.PairsAnswer.the-variants.{Pairs, Refused}
 use Rattle.pairs.specs.declared.Related.{Related}
 use Rattle.pairs.specs.declared.Related.the-variants.{Rows, Refused as Declined}
-use Rattle.pairs.specs.Asking.{pairsLength, told-number, told-pairs, Handed, BookPairs, AsksFor, RelatesFor, rowWords, relationAnswer}
+use Rattle.pairs.specs.Asking.{maxPairs, pairsLength, told-number, told-pairs, Handed, BookPairs, AsksFor, RelatesFor, rowWords, relationAnswer}
 use Rattle.pairs.specs.AskingLaws.{relation-refused, relation-short, relation-few, relation-paired, refused-alike, asks-handed, faulty-caused}
-use Rattle.pairs.specs.AskingLaws.{handed-past, handed-some}
+use Rattle.pairs.specs.AskingLaws.{handed-past, handed-fits, handed-some}
 use Rattle.pairs.specs.Relating.{Relating, turned-down, in-rows, RelatingFor}
 use Rattle.pairs.specs.Steps.{Lettered, Coded}
 
@@ -132,11 +133,26 @@ made {b} {n = n} {after} (in-rows e s h l few S m) d =
       rows = m;
     }
 
+-- ---- how many pairs rows can hold
+places-few : (f : ℕ → ℕ) (n : ℕ) → length (places f n) ≤ n
+unfolding places
+places-few f zero = omega arith
+places-few f (suc n) = go (f n) (places-few f n)
+  where
+    go : (v : ℕ) → length (places f n) ≤ n → length (places f n ++ ifSet v n) ≤ suc n
+    go zero h = omega (arith, length-append (places f n) [])
+    go (suc v) h = omega (arith, length-append (places f n) (n ∷ []))
+
+pairs-few : (n : ℕ) (ws : List ℕ) → n ≤ maxRecords → length (pairsIn n ws) ≤ maxPairs
+pairs-few n ws h = omega (arith, places-few (bitAt ws) (n * 1024))
+
 -- ---- the relation told
 module _ (r : Register) (v : Verdict) (work : ℕ) (before after : List ℕ) where
   pub relates-refused : {k : ℕ} {q : Related} → q ≡ Declined k → RelatingFor r v work before after q → RelatesFor r v work before after (Refused k)
+  unfolding pairsLength
   relates-refused {k} d A = record {
     past = A .past;
+    fits = omega arith;
     unchanged = λ j e. A .unchanged k d;
     caused = λ j e. let z : k ≡ j = cc in A .caused j (d ∙ ap Declined z);
     book = λ b R. record {
@@ -147,8 +163,10 @@ module _ (r : Register) (v : Verdict) (work : ℕ) (before after : List ℕ) whe
 
   pub relates-rows : {n t : ℕ} {q : Related} → q ≡ Rows n → RelatingFor r v work before after q → t ≡ length (pairsIn n (take rowWords after))
       → RelatesFor r v work before after (Pairs t)
+  unfolding pairsLength
   relates-rows {n} {t} d A c = record {
     past = A .past;
+    fits = omega (arith, c, pairs-few n (take rowWords after) (A .small n d));
     unchanged = λ j e. absurd (let y : _≡_ {A = ℕ} 0 1 = cc in omega arith);
     caused = λ j e. absurd (let y : _≡_ {A = ℕ} 0 1 = cc in omega arith);
     book = λ b R.
@@ -170,6 +188,7 @@ module _ (r : Register) (v : Verdict) (work : ℕ) (none rows : List ℕ) (wide 
   unfolding pairsLength listAfter
   asks-refused {k} d A = record {
     past = refl;
+    fits = omega arith;
     unchanged = λ j e. refl;
     caused = λ j e. let z : k ≡ j = cc in A .caused j (d ∙ ap Declined z);
     book = λ b R.
@@ -181,6 +200,7 @@ module _ (r : Register) (v : Verdict) (work : ℕ) (none rows : List ℕ) (wide 
       → Handed (pairsIn n rows) before after a → AsksFor r v work before after a
   asks-rows {n} {a = a} d A whole h = record {
     past = handed-past h;
+    fits = handed-fits h (pairs-few n rows (A .small n d));
     unchanged = λ k q. handed-some h k q;
     caused = λ k q. handed-some h k q;
     book = λ b R.

@@ -1,4 +1,5 @@
 -- What the pair question promises, and the relation as rows.
+--   maxPairs        the most pairs that there are of records
 --   pairsLength a   how many pairs there are by the answer
 --   Tells o a       the answer a is how the outcome o is told: the number of a refusal, or how many pairs there are in all
 --   Handed l before after a
@@ -8,7 +9,8 @@
 --                   that the book gives, and the list, which holds `after`, is that outcome's
 --   AsksFor r v work before after a
 --                   asked of the register r. Over any contents: the words past the pairs are as they were, all of them with a refusal, whose number is
---                   a cause's. For every book that the register represents: answer and list are the book's
+--                   a cause's, and no more pairs are told than there are of records. For every book that the register represents: answer and list are
+--                   the book's
 --   AsksPairs r text work before after a
 --                   the same of a text
 --   rowWords        the words of a relation's rows: 1,024 rows of 1,024 bits
@@ -19,17 +21,18 @@
 --                   the book gives, and the rows, which hold `after`, are the relation's
 --   RelatesFor r v work before after a
 --                   asked of the register r. Over any contents: the words past the rows are as they were, all of them with a refusal, whose number is a
---                   cause's. For every book that the register represents: answer and rows are the book's
+--                   cause's, and no more pairs are told than there are of records. For every book that the register represents: answer and rows are
+--                   the book's
 --   Relates r text work before after a
 --                   the same of a text
 -- Assumes nothing: these are definitions.
 use mathlib.Core.Path.{_≡_}
 use mathlib.Core.List.{List, [], _∷_, _++_}
 use mathlib.Core.Bool.{Bool, _||_}
-use Prim.Native.Nat.{ℕ}
+use Prim.Native.Nat.{ℕ, _*_, _≤_}
 use lib.Dec.{ltb}
 use lib.ListN.{length, take, drop}
-use Rattle.book.specs.Causes.{Cause, short-work, Caused, firstNumber}
+use Rattle.book.specs.Causes.{Cause, short-work, Caused, firstNumber, maxRecords}
 use Rattle.book.specs.Book.{Book}
 use Rattle.k2.specs.Bits.{bitAt}
 use Rattle.paths.specs.Expressions.{Expr}
@@ -43,6 +46,9 @@ use Rattle.register.specs.Representation.{Represents}
 use Rattle.register.specs.declared.Register.{Register}
 use Rattle.pairs.specs.declared.PairsAnswer.{PairsAnswer}
 use Rattle.pairs.specs.declared.PairsAnswer.the-variants.{Pairs, Refused}
+
+abbrev pub maxPairs : ℕ
+maxPairs = maxRecords * maxRecords
 
 unfoldable pub pairsLength : PairsAnswer → ℕ
 pairsLength (Pairs k) = k
@@ -61,6 +67,7 @@ pub record BookPairs (b : Book) (v : Verdict) (work : ℕ) (before after : List 
 
 pub record AsksFor (r : Register) (v : Verdict) (work : ℕ) (before after : List ℕ) (a : PairsAnswer) : Type 0 where
   pub past : drop (pairsLength a) after ≡ drop (pairsLength a) before
+  pub fits : pairsLength a ≤ maxPairs
   pub unchanged : (k : ℕ) → a ≡ Refused k → after ≡ before
   pub caused : (k : ℕ) → a ≡ Refused k → Caused k
   pub book : (b : Book) → Represents r b → BookPairs b v work before after a
@@ -83,6 +90,7 @@ pub record RelationOf (b : Book) (v : Verdict) (work : ℕ) (before after : List
 
 pub record RelatesFor (r : Register) (v : Verdict) (work : ℕ) (before after : List ℕ) (a : PairsAnswer) : Type 0 where
   pub past : drop rowWords after ≡ drop rowWords before
+  pub fits : pairsLength a ≤ maxPairs
   pub unchanged : (k : ℕ) → a ≡ Refused k → after ≡ before
   pub caused : (k : ℕ) → a ≡ Refused k → Caused k
   pub book : (b : Book) → Represents r b → RelationOf b v work before after a

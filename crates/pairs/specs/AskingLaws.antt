@@ -7,6 +7,7 @@
 --                  the same of the relation as rows
 --   refused-alike  with rows enough, a pair question is refused as its relation is
 --   handed-past    what is handed over leaves the words past it
+--   handed-fits    and it is as many as are told
 --   handed-some    it is no refusal
 -- Assumes nothing.
 use mathlib.Core.Path.{_≡_, refl, sym, ap, _∙_}
@@ -30,7 +31,7 @@ use Rattle.reader.specs.Reads.{readAnswer}
 use Rattle.reader.specs.declared.Answer.the-variants.{Refused as Faulty}
 use Rattle.pairs.specs.declared.PairsAnswer.{PairsAnswer}
 use Rattle.pairs.specs.declared.PairsAnswer.the-variants.{Refused}
-use Rattle.pairs.specs.Asking.{pairsLength, told-pairs, Handed, handed, BookPairs, rowWords, relationCauses, relationAnswer}
+use Rattle.pairs.specs.Asking.{maxPairs, pairsLength, told-pairs, Handed, handed, BookPairs, rowWords, relationCauses, relationAnswer}
 
 module _ (b : Book) (work room : ℕ) where
   pub asks-short : (e : Expr) → work < 32 * treeUnit (b .n) → pairsAnswer b (accepted e) work room ≡ refused 12
@@ -113,6 +114,10 @@ module _ {l before after : List ℕ} where
   pub handed-past : {a : PairsAnswer} → Handed l before after a → drop (pairsLength a) after ≡ drop (pairsLength a) before
   unfolding pairsLength
   handed-past (handed e) = ap (drop (length l)) e ∙ past-over l before
+
+  pub handed-fits : {a : PairsAnswer} → Handed l before after a → length l ≤ maxPairs → pairsLength a ≤ maxPairs
+  unfolding pairsLength
+  handed-fits (handed e) h = h
 
   pub handed-some : {A : Type 0} {a : PairsAnswer} → Handed l before after a → (k : ℕ) → a ≡ Refused k → A
   handed-some (handed e) k q = absurd (let z : _≡_ {A = ℕ} 0 1 = cc in omega arith)

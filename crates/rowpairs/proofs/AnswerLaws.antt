@@ -12,13 +12,14 @@ use mathlib.Core.Path.{_≡_, refl, sym, ap, ap₂, _∙_, subst}
 use mathlib.Core.List.{List, _++_, map}
 use Prim.Native.Nat.{ℕ, _*_, _≤_, _<_}
 use native.Mathlib.Omega.{arith}
-use lib.ListN.{length, take, drop}
+use lib.ListN.{length, take, drop, length-map, length-take, length-drop}
 use lib.Seq.{take-at, drop-at}
 use Rattle.book.specs.Basics.{bit}
-use Rattle.book.specs.Causes.{short-work, number, Caused, maxRecords}
+use Rattle.book.specs.Causes.{short-work, number, Caused, maxRecords, maxLinks}
 use Rattle.book.specs.Book.{Book}
 use Rattle.k2.specs.Bits.{bitAt}
 use Rattle.k2.specs.PairSets.{Cells, listed}
+use Rattle.k2.specs.PairSetLaws.{within-length, listed-within}
 use Rattle.paths.specs.Expressions.{Expr}
 use Rattle.paths.specs.Grammar.{Verdict, accepted}
 use Rattle.paths.specs.Chains.{asked}
@@ -27,14 +28,15 @@ use Rattle.paths.specs.Questions.{refused, paired, pairsWork, listAfter}
 use Rattle.reader.specs.Reads.{readAnswer}
 use Rattle.reader.specs.declared.Answer.the-variants.{Refused as Faulty}
 use Rattle.register.specs.Links.{Linked}
+use Rattle.register.specs.Lookups.{LabelPart}
 use Rattle.register.specs.Representation.{Represents}
 use Rattle.register.specs.declared.Register.{Register}
 use Rattle.grid.specs.Grid.{first}
 use Rattle.tree.specs.CallLaws.{first-over}
 use Rattle.pairs.specs.declared.PairsAnswer.{PairsAnswer}
 use Rattle.pairs.specs.declared.PairsAnswer.the-variants.{Pairs, Refused}
-use Rattle.pairs.specs.Asking.{pairsLength, told-number, told-pairs, Handed, handed, rowWords, relationAnswer, RelatesFor}
-use Rattle.pairs.specs.AskingLaws.{faulty-caused, relation-refused, relation-paired, handed-past, handed-some}
+use Rattle.pairs.specs.Asking.{maxPairs, pairsLength, told-number, told-pairs, Handed, handed, rowWords, relationAnswer, RelatesFor}
+use Rattle.pairs.specs.AskingLaws.{faulty-caused, relation-refused, relation-paired, handed-past, handed-fits, handed-some}
 use Rattle.pairs.specs.Steps.{Lettered, Coded}
 use Rattle.rowpairs.specs.Asking.{rowWidth, rowsWork, rowsAnswer, AsksRowsFor}
 use Rattle.rowpairs.specs.AskingLaws.{rows-refused, rows-short, rows-handed}
@@ -50,6 +52,7 @@ declines : (r : Register) (v : Verdict) (work k : ℕ) (before : List ℕ) → C
 unfolding pairsLength listAfter
 declines r v work k before z f = record {
   past = refl;
+  fits = omega arith;
   unchanged = λ j e. refl;
   caused = λ j e. let q : k ≡ j = cc in subst Caused q z;
   book = λ b R. let o = f b R in record { tells = rw o told-number; list = rw o refl };
@@ -57,6 +60,10 @@ declines r v work k before z f = record {
 
 pub faulty-text : (r : Register) (v : Verdict) (work k : ℕ) (before : List ℕ) → readAnswer v ≡ Faulty k → AsksRowsFor r v work before before (Refused k)
 faulty-text r v work k before e = declines r v work k before (faulty-caused v k e) (λ b R. rows-refused b work (length before) v k e)
+
+-- ---- how many pairs a value has
+value-few : (n w : ℕ) (ws ms : List ℕ) → n ≤ maxRecords → length (listed n (first n w ws ms)) ≤ maxPairs
+value-few n w ws ms small = omega (arith, within-length (listed-within n (first n w ws ms) small))
 
 module _ (r : Register) (e : Expr) (n work : ℕ) (before : List ℕ) (size : (b : Book) → Represents r b → n ≡ b .n) where
   pub little-work : {w : ℕ} → w ≡ rowWidth n → work < 32 * (n * w) → AsksRowsFor r (accepted e) work before before (Refused 12)
@@ -80,6 +87,7 @@ module _ (r : Register) (e : Expr) (n work : ℕ) (before : List ℕ) (size : (b
       (sym total) (handed (written ∙ first-over (listed n (first n w ws ms)) before)) in
       record {
         past = handed-past H;
+        fits = handed-fits H (value-few n w ws ms small);
         unchanged = λ k q. handed-some H k q;
         caused = λ k q. handed-some H k q;
         book =
@@ -95,22 +103,27 @@ module _ (r : Register) (e : Expr) (n work : ℕ) (before : List ℕ) (size : (b
           ap₂ (λ (i v : ℕ). listed i (first n v ws ms)) z width ∙ ap (listed (b .n)) (made .value b L s e C)
 
   -- ---- a letter alone
+  part-few : {l : ℕ} {links part : List ℕ} → LabelPart links l part → length part ≤ length links
+  part-few {links = links} P =
+      let q = P .inside in omega (arith, ap length (q .2), length-take (q .1) (drop (q .0) links), length-drop (q .0) links)
+
   pub alone-asks : (l : ℕ) (s links code after : List ℕ) (t w : ℕ) → w ≡ rowWidth n → n ≤ maxRecords → 32 * (n * w) ≤ work
       → ((b : Book) → Represents r b → Linked links (b .sheet)) → Coded s e code → Alone l code
-      → LetterListed links l before after t → AsksRowsFor r (accepted e) work before after (Pairs t)
-  alone-asks l s links code after t w width small h linked C A T =
+      → length links ≤ maxLinks → LetterListed links l before after t → AsksRowsFor r (accepted e) work before after (Pairs t)
+  alone-asks l s links code after t w width small h linked C A few T =
       let ps : List ℕ = map linkPair (T .part) in
       let H : Handed ps before after (Pairs t) =
       subst (λ (k : ℕ). Handed ps before after (Pairs k)) (sym (T .total)) (handed (T .written ∙ first-over ps before)) in
       record {
         past = handed-past H;
+        fits = handed-fits H (omega (arith, length-map linkPair (T .part), part-few (T .of-label), few));
         unchanged = λ k q. handed-some H k q;
         caused = λ k q. handed-some H k q;
         book = λ b R.
             let z : n ≡ b .n = size b R in
-            let few : b .n ≤ maxRecords = subst (λ (i : ℕ). i ≤ maxRecords) z small in
-            let u = some-used b few in
-            let L : Lettered b n links (u .0) = record { size = z; small = few; fit = R .sheet .fit; linked = linked b R; in-use = u .1 } in
+            let least : b .n ≤ maxRecords = subst (λ (i : ℕ). i ≤ maxRecords) z small in
+            let u = some-used b least in
+            let L : Lettered b n links (u .0) = record { size = z; small = least; fit = R .sheet .fit; linked = linked b R; in-use = u .1 } in
             rows-handed b e work (subst (λ (i : ℕ). rowsWork i ≤ work) z (subst (λ (v : ℕ). 32 * (n * v) ≤ work) width h))
             (subst (λ (x : List ℕ). Handed x before after (Pairs t)) (letter-listed b n links (u .0) L l (T .part) (T .of-label) s e code C A) H);
       }
@@ -126,6 +139,7 @@ pub value-rows : (r : Register) (n t w : ℕ) (links used code ws ms rows : List
     → ValueFirst n links used code ws ms → bitAt rows ≡ flat (first n w ws ms) → t ≡ length (listed n (first n w ws ms)) → ValueInRows r n code rows t
 unfolding pairs asked
 value-rows r n t w links used code ws ms rows width small linked bits made spread counted = record {
+  few = omega (arith, counted, value-few n w ws ms small);
   bits = λ b R z s e C. spread ∙ ap flat (value b R z s e C);
   total = λ b R z s e C. counted ∙ ap₂ (λ (i : ℕ) (a : Cells). length (listed i a)) z (value b R z s e C);
 }
@@ -137,8 +151,10 @@ value-rows r n t w links used code ws ms rows width small linked bits made sprea
         ap (λ (v : ℕ). first n v ws ms) width ∙ made .value b L s e C
 
 pub relation-faulty : (r : Register) (v : Verdict) (work k : ℕ) (before : List ℕ) → readAnswer v ≡ Faulty k → RelatesFor r v work before before (Refused k)
+unfolding pairsLength
 relation-faulty r v work k before e = record {
   past = refl;
+  fits = omega arith;
   unchanged = λ j q. refl;
   caused = λ j q. let z : k ≡ j = cc in subst Caused z (faulty-caused v k e);
   book = λ b R. record {
@@ -153,8 +169,10 @@ accepted-same e = cc
 pub relation-made : (r : Register) (v : Verdict) (e : Expr) (n work t : ℕ) (s code before part : List ℕ) → ((b : Book) → Represents r b → n ≡ b .n)
     → v ≡ accepted e → Coded s e code → pairsWork n ≤ work → rowWords ≤ length before → length part ≡ rowWords
     → ValueInRows r n code part t → RelatesFor r v work before (part ++ drop rowWords before) (Pairs t)
+unfolding pairsLength
 relation-made r v e n work t s code before part size d C h l wide I = record {
   past = drop-at part (drop rowWords before) rowWords wide;
+  fits = I .few;
   unchanged = λ k q. absurd (let y : _≡_ {A = ℕ} 0 1 = cc in omega arith);
   caused = λ k q. absurd (let y : _≡_ {A = ℕ} 0 1 = cc in omega arith);
   book = λ b R.

@@ -9,14 +9,15 @@
 --                   that the book gives, and the list, which holds `after`, is that outcome's
 --   AsksRowsFor r v work before after a
 --                   asked of the register r. Over any contents: the words past the pairs are as they were, all of them with a refusal, whose number is
---                   a cause's. For every book that the register represents: answer and list are the book's
+--                   a cause's, and no more pairs are told than there are of records. For every book that the register represents: answer and list are
+--                   the book's
 --   AsksRows r text work before after a
 --                   the same of a text
 -- Assumes nothing: these are definitions.
 use mathlib.Core.Path.{_≡_}
 use mathlib.Core.List.{List, [], _∷_, _++_}
 use mathlib.Core.Bool.{Bool}
-use Prim.Native.Nat.{ℕ, _+_, _*_, _/_}
+use Prim.Native.Nat.{ℕ, _+_, _*_, _/_, _≤_}
 use lib.Dec.{ltb}
 use lib.ListN.{length, take, drop}
 use Rattle.book.specs.Causes.{Cause, short-work, Caused, firstNumber}
@@ -28,7 +29,7 @@ use Rattle.register.specs.Representation.{Represents}
 use Rattle.register.specs.declared.Register.{Register}
 use Rattle.pairs.specs.declared.PairsAnswer.{PairsAnswer}
 use Rattle.pairs.specs.declared.PairsAnswer.the-variants.{Refused}
-use Rattle.pairs.specs.Asking.{pairsLength, Tells}
+use Rattle.pairs.specs.Asking.{maxPairs, pairsLength, Tells}
 
 abbrev pub rowWidth : ℕ → ℕ
 rowWidth n = (n + 63) / 64
@@ -48,6 +49,7 @@ pub record BookRows (b : Book) (v : Verdict) (work : ℕ) (before after : List �
 
 pub record AsksRowsFor (r : Register) (v : Verdict) (work : ℕ) (before after : List ℕ) (a : PairsAnswer) : Type 0 where
   pub past : drop (pairsLength a) after ≡ drop (pairsLength a) before
+  pub fits : pairsLength a ≤ maxPairs
   pub unchanged : (k : ℕ) → a ≡ Refused k → after ≡ before
   pub caused : (k : ℕ) → a ≡ Refused k → Caused k
   pub book : (b : Book) → Represents r b → BookRows b v work before after a

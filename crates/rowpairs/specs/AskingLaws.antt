@@ -80,6 +80,7 @@ pub rows-asks : (r : Register) (n work : ℕ) (v : Verdict) (before after : List
     → pairsWork n ≤ work → rowsWork n ≤ work → AsksRowsFor r v work before after a → AsksFor r v work before after a
 rows-asks r n work v before after a size h l A = record {
   past = A .past;
+  fits = A .fits;
   unchanged = A .unchanged;
   caused = A .caused;
   book = λ b R.

@@ -20,7 +20,7 @@
 --                         the code c has been run: for every book whose links and records in use these are, the first relation is its value
 --   ValueInRows r n c rows t
 --                         the code c has been run: for every book of n records that the register r represents, the rows of 1,024 bits are its value, which has
---                         t pairs
+--                         t pairs; over any contents t is no more than there are of records
 -- Assumes nothing: these are definitions.
 use mathlib.Core.Path.{_≡_}
 use mathlib.Core.List.{List, [], _∷_}
@@ -42,6 +42,7 @@ use Rattle.register.specs.Representation.{Represents}
 use Rattle.register.specs.declared.Register.{Register}
 use Rattle.rows.specs.Rows.{flat}
 use Rattle.grid.specs.Grid.{first, second}
+use Rattle.pairs.specs.Asking.{maxPairs}
 use Rattle.pairs.specs.Evaluation.{relations, heights, most-waiting}
 use Rattle.pairs.specs.Steps.{Lettered, Coded}
 use Rattle.rowpairs.specs.Asking.{rowWidth}
@@ -101,5 +102,6 @@ pub record ValueFirst (n : ℕ) (links used c ws ms : List ℕ) : Type 0 where
   pub value : (b : Book) → Lettered b n links used → (s : List ℕ) (e : Expr) → Coded s e c → first n (rowWidth n) ws ms ≡ cells (asked b) e
 
 pub record ValueInRows (r : Register) (n : ℕ) (c rows : List ℕ) (t : ℕ) : Type 0 where
+  pub few : t ≤ maxPairs
   pub bits : (b : Book) → Represents r b → n ≡ b .n → (s : List ℕ) (e : Expr) → Coded s e c → bitAt rows ≡ flat (cells (asked b) e)
   pub total : (b : Book) → Represents r b → n ≡ b .n → (s : List ℕ) (e : Expr) → Coded s e c → t ≡ length (pairs (asked b) e)

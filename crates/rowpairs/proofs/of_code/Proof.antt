@@ -5,6 +5,7 @@ use mathlib.Core.Path.{_≡_, sym, subst}
 use Prim.Native.Nat.{ℕ, _*_, _≤_}
 use lib.ListN.{length, take}
 use lib.Seq.{length-take-le}
+use Rattle.book.specs.Causes.{maxLinks}
 use Rattle.rowpairs.specs.Asking.{rowWidth}
 use Rattle.rowpairs.proofs.StepLaws.{unit-le, list-space}
 use Rattle.rowpairs.proofs.AnswerLaws.{little-work, listed-value, alone-asks}
@@ -14,6 +15,10 @@ use Rattle.rowpairs.proofs.of_code.Tie as tie
 
 in-words : (c : tie.After-links) → c .links .result .count ≤ length (c .links .result .words)
 in-words c = let o = c .links .ensures in omega (arith, o .few, o .long)
+
+-- there are at most 4,096 of them
+few-words : (c : tie.After-links) → length (take (c .links .result .count) (c .links .result .words)) ≤ maxLinks
+few-words c = omega (arith, length-take-le (c .links .result .count) (c .links .result .words) (in-words c), c .links .ensures .few)
 
 -- src/lib.rt:288:9
 size-requires : tie.Need-size-requires
@@ -86,7 +91,7 @@ returns-2 c =
     let t = c .before .before .list-letter in
     λ s e q. alone-asks (a .register) e (n .result) _ (a .list .now) (n .ensures .size) _ s (take (l .result .count) (l .result .words)) _ (t .last .1 .1 .0)
     (t .result) _ (after-links .before .before .row-width .ensures) (n .ensures .small) (omega (arith, after-links .before .if1 .left))
-    (l .ensures .linked) q (then2 .before .letter-alone .ensures (then2 .if2 .taken)) (t .ensures)
+    (l .ensures .linked) q (then2 .before .letter-alone .ensures (then2 .if2 .taken)) (few-words after-links) (t .ensures)
 
 -- src/lib.rt:301:16
 in-use-requires : tie.Need-in-use-requires
