@@ -27,8 +27,8 @@ use Rattle.book.specs.Sheets.{Distinct, Fit}
 use Rattle.book.specs.TotalLaws.{tally-le, tally-without}
 use Rattle.register.specs.Links.{linkWord, linkOf, labelUnit, wordTotal, Linked}
 use Rattle.register.specs.LinkLaws.{word-link}
-use Rattle.register.specs.Marks.{freeMark}
-use Rattle.register.specs.Packed.{markOf, Shows, Piled}
+use Rattle.register.specs.Marks.{freeMark, markOf}
+use Rattle.register.specs.Packed.{Shows, Piled}
 use Rattle.register.specs.Representation.{latest, packedOf, Represents}
 use Rattle.register.specs.Inner.{Lowered}
 use Rattle.register.specs.PartingLaws.{filter-in, in-filter, length-filter, tally-filter, filter-append, rises-filter, has-filter, filter-has}
