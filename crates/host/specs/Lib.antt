@@ -15,3 +15,7 @@ pub mod PageHost
 pub mod PageHostLaws
 pub mod RowQuestionLaws
 pub mod MadeLaws
+pub mod Drafts
+pub mod DraftLaws
+pub mod Reading
+pub mod ReadingLaws
