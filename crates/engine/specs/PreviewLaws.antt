@@ -1,5 +1,6 @@
 -- Laws of previews.
 --   tells-only       an outcome is told by one answer
+--   by-number        an answer by its number
 --   accepted-as      an accepted call is accepted by every book that the register represents
 --   preview-refused  a refused call's number, with the list as it was, is what a preview promises
 --   preview-asked    what the question gives on the register that an accepted call hands back is what a preview promises
@@ -41,7 +42,7 @@ tells-only e (told-pairs {total} {ws}) (told-number {k = k}) = absurd (let z : _
 tells-only e (told-pairs {total} {ws}) (told-pairs {total = m} {ws = vs}) = let z : total ≡ m = cc in ap Pairs z
 
 -- an answer by its number: no cause has the number 0
-by-number : (a : Answer) (k : ℕ) → k ≡ answerNumber a → (k ≡ 0 → ⊥) → a ≡ Turned-down k
+pub by-number : (a : Answer) (k : ℕ) → k ≡ answerNumber a → (k ≡ 0 → ⊥) → a ≡ Turned-down k
 by-number Done k e z = absurd (z e)
 by-number (Turned-down j) k e z = ap Turned-down (sym e)
 

@@ -1,8 +1,12 @@
 // The dating register: the calls that programs make. A register is a value; an edit hands the next one back, and a question changes nothing.
 // Every call takes any contents and any arguments, and what it promises is the whole of what it does: the answer, and everything that it was lent.
-// previews.rt has the preview of an edit.
+// previews.rt has the preview of an edit, drafts.rt a list of edits made all or none.
+mod drafts;
 mod previews;
 
+pub use drafts::Applied;
+pub use drafts::DraftAnswer;
+pub use drafts::apply_all;
 pub use previews::preview;
 ghost use mathlib.Core.List.{[], _∷_};
 ghost use lib.ListN.{length};

@@ -1,0 +1,31 @@
+-- `engine::drafts::step` meets its contract: a call is applied, and no other word is a call. Assumes nothing.
+use borrow.Author.Needs.{needs}
+use Rattle.book.specs.Causes.{number}
+use Rattle.register.specs.EntryLaws.{entry-call, entry-none}
+use Rattle.engine.specs.DraftLaws.{called, uncalled}
+use Rattle.engine.proofs.drafts.step.Statement.{statement}
+use Rattle.engine.proofs.drafts.step.Tie as tie
+
+entry-at-requires : tie.Need-entry-at-requires
+entry-at-requires c κs = search needs
+
+enum-known-entry : tie.Need-enum-known-entry
+enum-known-entry c = search needs
+
+apply-requires : tie.Need-apply-requires
+apply-requires c κs = search needs
+
+enum-told : tie.Need-enum-told
+enum-told c = search needs
+
+returns : tie.Need-returns
+returns c = called _ (entry-call (c .before .before .before .before .entry-at .ensures) (c .before .before .entry .given .1)) (c .apply .ensures)
+
+returns-2 : tie.Need-returns-2
+unfolding number
+returns-2 c = uncalled (entry-none (c .before .before .entry-at .ensures) (c .enum-told .given .1))
+
+pub step-spec : {M : Type 1} → statement M
+step-spec =
+    tie.close
+    (tie.spec entry-at-requires enum-known-entry apply-requires enum-told returns returns-2)
