@@ -17,7 +17,7 @@ function of it is proved to meet its contract; this package lends it memory and 
     ...     register.add(0, "a", 1)
     ... except Refusal as refusal:
     ...     print(refusal)
-    refused 5: the link is present, or the record is locked or withdrawn, already
+    refused 5: the link is there already
 
 Expressions, from loosest to closest: `|` between alternatives; `/` between the parts of a sequence;
 a part is an optional `^` (inverse), then a letter, a negated set (`!a`, `!^a`, `!(a|^b)`: any
