@@ -265,6 +265,11 @@ class Kept(Register):
             made.apply(edits)
             self._write(", ".join([f"do open {n}", *map(str, edits), "settle"]), made._words, 0, remark)
 
+    @property
+    def calls(self) -> int:
+        """How many calls the history has."""
+        return sum(1 for line in self._journal.lines if line and not line.startswith(b"#"))
+
     def latest(self, most: int) -> list[tuple[str, str]]:
         """The latest calls, the last first: each as it was typed, and its time."""
         return self._journal.latest(most)
