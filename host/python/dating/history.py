@@ -31,7 +31,6 @@ HEAD = f"{FORMAT} {VERSION}\n".encode()
 _REMARK = b"  # "
 # Of a check: eight figures, and the blank before them.
 _CHECK = 9
-_ALONE = {word.encode(): kind << 40 for word, kind in KINDS.items()}
 _KINDS = {word.encode(): kind << 40 for word, kind in KINDS.items()}
 _LETTERS = {bytes([ord("a") + label]): label << 16 for label in range(26)}
 _MOST = 65535
@@ -87,7 +86,7 @@ class Journal:
 
     def latest(self, most: int) -> list[tuple[str, str]]:
         """The latest calls, the last first: each as it was typed, and its time."""
-        found = []
+        found: list[tuple[str, str]] = []
         for line in reversed(self.lines):
             if len(found) == most:
                 break

@@ -11,7 +11,7 @@ from typing import TYPE_CHECKING, Any
 from . import calls
 from .arguments import number
 from .calls import done, refused_at
-from .items import copied
+from .items import Links, copied
 from .questions import Questions, State
 from .refusal import Cause, Refusal
 from .terms import UNDO, Edit
@@ -108,7 +108,9 @@ class Register(Questions):
             return plain(type(self._words).from_buffer_copy(self._words), self._reach)
 
     def __eq__(self, other: object) -> bool:
-        return self._key() == other._key() if isinstance(other, Register) else NotImplemented
+        if not isinstance(other, Register):
+            return NotImplemented
+        return self._key() == other._key()
 
     # It changes, so it is no key of a dictionary.
     __hash__ = None  # type: ignore[assignment]
@@ -325,14 +327,12 @@ def _edit(edit: Edit) -> Edit:
     return edit
 
 
-def _between(links_before: Any, marks_before: list[int], links: Any, marks: list[int]) -> Edit:
+def _between(links_before: Links, marks_before: list[int], links: Links, marks: list[int]) -> Edit:
     """The edit that led from one sheet to the next."""
-    for record, (before, after) in enumerate(zip(marks_before, marks)):
-        if before != after:
-            gone, kind = (before, 1) if after == 0 else (after, 0)
+    for record, (old, new) in enumerate(zip(marks_before, marks)):
+        if old != new:
+            gone, kind = (old, 1) if new == 0 else (new, 0)
             pair = (Edit.lock, Edit.unlock) if gone == calls.LOCKED else (Edit.withdraw, Edit.reinstate)
             return pair[kind](record)
     before, after = set(links_before), set(links)
-    for link in after - before:
-        return Edit.add(*link)
-    return Edit.remove(*(before - after).pop())
+    return Edit.add(*(after - before).pop()) if after - before else Edit.remove(*(before - after).pop())

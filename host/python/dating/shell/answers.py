@@ -178,7 +178,7 @@ def preview(session: Session, words: Words) -> Told:
     if not comes and not goes:
         lines.append("nothing comes and nothing goes")
     rows = [["comes", *pair] for pair in comes] + [["goes", *pair] for pair in goes]
-    return Told("\n".join(lines), ["what", "from", "to"], rows, now=len(now), then=len(then), comes=comes, goes=goes)
+    return Told("\n".join(lines), ["what", "from", "to"], rows, pairs_now=len(now), pairs_then=len(then), comes=comes, goes=goes)
 
 
 def support(session: Session, words: Words) -> Told:

@@ -110,9 +110,9 @@ def import_(session: Session, words: Words) -> Told:
         wrong = f"{len(faults):,} of {rows} {'is' if len(faults) == 1 else 'are'} faulty: none is added; import some adds the others"
         return Failed("\n".join([*lines, wrong]), added=0, faults=faults)
     session.imported(good)
-    told = Failed if faults else Told
     lines.append(f"{rows}: {count(len(good), 'link')} {'is' if len(good) == 1 else 'are'} added{f', {len(faults):,} faulty' if faults else ''}")
-    return told("\n".join(lines), added=len(good), faults=faults)
+    said = "\n".join(lines)
+    return Failed(said, added=len(good), faults=faults) if faults else Told(said, added=len(good), faults=[])
 
 
 def names(session: Session, words: Words) -> Told:

@@ -42,7 +42,7 @@ class Failed(Told):
 
 def ok(words: str = "") -> Told:
     """That a request is done."""
-    return Told(f"ok: {words}" if words else "ok", ok=True, **({"words": words} if words else {}))
+    return Told(f"ok: {words}", ok=True, words=words) if words else Told("ok", ok=True)
 
 
 def _values(head: list[str], rows: list[list[Any]]) -> str:
