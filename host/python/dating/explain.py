@@ -71,7 +71,10 @@ class Why:
             head = f"by {'/'.join(reach.parts)}, " if len(self.reaches) > 1 else ""
             onward = zip(reach.parts, reach.onward)
             back = zip(reach.parts[::-1], reach.back)
-            lines.append(_told(f"{head}from {named(self.from_)}:", [f"{part} reaches {_some(found, named)}" for part, found in onward], "then"))
+            reached = [f"{part} reaches {_some(found, named)}" for part, found in onward]
+            if reach.onward[-1]:
+                reached[-1] += f", and not {named(self.to)}"
+            lines.append(_told(f"{head}from {named(self.from_)}:", reached, "then"))
             lines.append(_told(f"{head}to {named(self.to)}:", _backward(back, named), "before it"))
         if self.other_way is not None:
             lines.append(f"there is one the other way round: {chain(self.other_way, named)}")

@@ -170,16 +170,14 @@ class Kept(Register):
             raise NotKept(f"{cut}; it cannot be set aside in {beside}: {error.strerror}; --read-only reads the rest") from error
         self.torn = f"{cut}; it is set aside in {beside}"
 
-    def _make_file(self) -> None:
-        """A new file with its first line, synced, its name too."""
+    def _make_file(self) -> _File:
+        """A new file, its name synced; it is empty."""
         try:
             descriptor = os.open(self.path, os.O_RDWR | os.O_APPEND | os.O_CREAT | os.O_EXCL | os.O_CLOEXEC, 0o666)
         except OSError as error:
             raise NotKept(f"{self.path} cannot be made: {error.strerror}; the call is not made") from error
         try:
             _lock(descriptor, self.path)
-            file = _File(self.path, descriptor, 0)
-            file.append(HEAD)
             folder = os.open(os.path.dirname(self.path) or ".", os.O_RDONLY | os.O_DIRECTORY)
             try:
                 os.fsync(folder)
@@ -188,7 +186,7 @@ class Kept(Register):
         except BaseException:
             os.close(descriptor)
             raise
-        self._file = file
+        return _File(self.path, descriptor, 0)
 
     def refresh(self) -> str:
         """For one who reads: takes what another has written since, and tells of it; empty if nothing has changed."""
@@ -240,10 +238,9 @@ class Kept(Register):
         sealed = self._journal.sealed(line, remark)
         with _uninterrupted():
             if self.path:
-                if self._file is None:
-                    self._make_file()
-                assert self._file is not None
-                self._file.append(sealed)
+                self._file = self._file or self._make_file()
+                # A file that is empty has no first line yet.
+                self._file.append(sealed if self._file.size else HEAD + sealed)
             self._journal.take(sealed, state, reach)
             self.changed += 1
             super()._write(line, state, reach)

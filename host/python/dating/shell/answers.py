@@ -8,6 +8,7 @@ from .. import drawing, explain
 from ..items import Pairs, Steps
 from ..refusal import Cause, Refusal
 from ..register import Register
+from ..space import MAX_RECORDS
 from ..terms import Tie
 from ..texts import chain as drawn
 from ..texts import count, filled, listed
@@ -91,9 +92,10 @@ def pairs(session: Session, words: Words) -> Told:
 
 
 def _pairs(session: Session, found: Pairs) -> Told:
-    named = session.named
-    lines = [count(found.total, "pair"), *(f"{named(from_)} {named(to)}" for from_, to in found)]
-    return Told("\n".join(lines), ["from", "to"], found, total=found.total, pairs=list(found))
+    # There may be a million.
+    shown = [session.named(record) for record in range(session.register.size)]
+    lines = [count(found.total, "pair"), *(f"{shown[word // MAX_RECORDS]} {shown[word % MAX_RECORDS]}" for word in found.words())]
+    return Told("\n".join(lines), ["from", "to"], found, total=found.total, pairs=found)
 
 
 def ends(session: Session, words: Words) -> Told:

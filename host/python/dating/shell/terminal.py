@@ -73,6 +73,7 @@ class Terminal:
                     session.out("the line is taken back; Ctrl-C again, or quit, ends\n" if session.unsaved else "")
                 interrupted = True
             except EOFError:
+                interrupted = False
                 session.out("\n")
                 if self.leaves("the end of the input"):
                     return
@@ -115,9 +116,10 @@ class Terminal:
 
     def asked(self, question: str) -> bool:
         """The answer to a question; Ctrl-C is no."""
+        self.session.out(question + "\n")
         while True:
             try:
-                answer = input(f"{question} (yes or no) ").strip().lower()
+                answer = input("yes or no? ").strip().lower()
             except KeyboardInterrupt:
                 self.session.out("\n")
                 return False

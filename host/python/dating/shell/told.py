@@ -18,7 +18,7 @@ class Told:
         self.text = text
         self.data = data
         self.head = list(head)
-        self.rows = [list(row) for row in rows]
+        self.rows = rows
         self.then = then
         """What is done once the answer is out, and what is said of that."""
         self.failed = False
@@ -26,7 +26,7 @@ class Told:
     def lines(self, mode: str, request: str) -> str:
         """The answer in a mode, with a line feed at the end of each line."""
         if mode == "json":
-            return json.dumps({"request": request, **self.data}, ensure_ascii=False) + "\n"
+            return json.dumps({"request": request, **self.data}, ensure_ascii=False, default=list) + "\n"
         if mode == "csv":
             return _values(self.head, self.rows) if self.head else _values([], [[self.text]])
         return self.text if self.text.endswith("\n") else self.text + "\n"
@@ -45,7 +45,7 @@ def ok(words: str = "") -> Told:
     return Told(f"ok: {words}", ok=True, words=words) if words else Told("ok", ok=True)
 
 
-def _values(head: list[str], rows: list[list[Any]]) -> str:
+def _values(head: list[str], rows: Iterable[Iterable[Any]]) -> str:
     out = io.StringIO()
     writer = csv.writer(out, lineterminator="\n")
     if head:
