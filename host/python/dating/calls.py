@@ -96,7 +96,9 @@ def _library() -> ctypes.CDLL:
     installed = here / "libdating.so"
     path = Path(named).resolve() if named else installed if installed.is_file() else checkout / "target/lib/libdating.so"
     if not path.is_file():
-        raise ImportError(f"{path} is missing: {checkout / 'host/shared'} makes target/lib/libdating.so, and DATING_LIBRARY names another file")
+        maker = checkout / "host/shared"
+        how = f"{maker} makes target/lib/libdating.so" if maker.is_file() else "in a checkout host/shared makes it, and pip install ./host/python takes it along"
+        raise ImportError(f"{path if named or maker.is_file() else installed} is missing: {how}; DATING_LIBRARY names another file")
     try:
         return ctypes.CDLL(str(path))
     except OSError as error:

@@ -77,7 +77,7 @@ class Why:
             lines.append(_told(f"{head}from {named(self.from_)}:", reached, "then"))
             lines.append(_told(f"{head}to {named(self.to)}:", _backward(back, named), "before it"))
         if self.other_way is not None:
-            lines.append(f"there is one the other way round: {chain(self.other_way, named)}")
+            lines.append(filled(f"there is one the other way round: {chain(self.other_way, named)}".split()))
         return "\n".join(lines)
 
     def __str__(self) -> str:

@@ -155,7 +155,9 @@ def hangs(session: Session, words: Words) -> Told:
     steps, cores = explain.hangs(session.opened(), *path)
     if steps is None:
         return Told(_no_chain(session, path), chain=None, cores=[])
-    said = listed("it hangs on each of:", cores, session.named) if cores else "it hangs on no record between its ends: there is another way round each"
+    between = {step.reached for step in steps} - set(path[:2])
+    none = "there is another way round each record between its ends" if between else "there is no record between its ends"
+    said = listed("it hangs on each of:", cores, session.named) if cores else f"it hangs on none: {none}"
     return Told(f"{drawn(steps, session.named)}\n{said}", ["record"], [[core] for core in cores], chain=_rows(steps), cores=cores)
 
 

@@ -119,7 +119,7 @@ def names(session: Session, words: Words) -> Told:
     if not words.rest:
         found = session.names
         rows = [*found.records.items(), *found.letters.items()]
-        return Told(found.text() or "no names; names FILE takes some", ["of", "name"], rows, names=rows)
+        return Told(found.text() or "# no names; names FILE takes some", ["of", "name"], rows, names=rows)
     path = words.expression("FILE")
     try:
         session.names = Names.read(path)

@@ -46,6 +46,11 @@ def main(arguments: list[str] | None = None) -> int:
         return 1
 
 
+def run() -> None:
+    """The command as it is installed."""
+    sys.exit(main())
+
+
 def _answered(given: argparse.Namespace) -> int:
     try:
         register = Kept(given.file, given.read_only)

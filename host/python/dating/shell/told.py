@@ -36,7 +36,7 @@ class Failed(Told):
     """What is said where a request is refused, or is none."""
 
     def __init__(self, text: str, **data: Any) -> None:
-        super().__init__(text, ["failed", "why"], [["no", text]], **data)
+        super().__init__(text, ["failed", "why"], [[data.get("refused", "no request" if "no_request" in data else "file"), text]], **data)
         self.failed = True
 
 
