@@ -244,6 +244,7 @@ def denied(folder):
         if child == 0:
             os.dup2(writer, 1)
             os.dup2(writer, 2)
+            sys.stdout = os.fdopen(1, "w")
             if os.getuid() == 0:
                 os.setgid(NOBODY)
                 os.setuid(NOBODY)

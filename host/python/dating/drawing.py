@@ -194,7 +194,7 @@ class _Drawing:
         along = self.loop is None and self.numbers.get(link.from_) == self.numbers.get(link.to)
         style = _CHAIN_AND_LOOP if steps and back else _CHAIN if steps else _LOOP if back else ""
         # A link of the chain whose letter is not drawn has no say in the levels.
-        free = "constraint=false" if self.loop is None and link.letter not in self.letters and self.letters else ""
+        free = "constraint=false" if self.loop is None and link.letter not in self.letters else ""
         # The blank keeps the letter off a line that leads upward, the second line off one along a level.
         word = _escaped(self.names.letters.get(link.letter, link.letter))
         label = f'label=" {numbered}{word}{"" if not along else chr(92) + "n "}"'

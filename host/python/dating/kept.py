@@ -6,18 +6,19 @@ import errno
 import fcntl
 import os
 import signal
+import stat
 import threading
 from collections.abc import Iterator, Sequence
 from contextlib import contextmanager
 from types import TracebackType
+from zlib import crc32
 
-from . import calls
+from .closing import short
 from .history import FORMAT, HEAD, VERSION, Damaged, Journal, version_of
 from .questions import State
-from .refusal import Refusal
 from .register import Register, fresh
 from .terms import Edit
-from .texts import runs
+from .texts import count
 
 
 class NotKept(Exception):
@@ -76,7 +77,7 @@ class Kept(Register):
     the file go.
     """
 
-    __slots__ = ("_journal", "_file", "read_only", "torn", "_seen", "changed")
+    __slots__ = ("_journal", "_file", "read_only", "torn", "_seen", "_good", "changed", "_closed")
 
     read_only: bool
     torn: str
@@ -90,7 +91,10 @@ class Kept(Register):
         self.read_only = read_only
         self.torn = ""
         self.changed = 0
-        self._seen: tuple[int, int, int] | None = None
+        # The file as one who reads has seen it, and how much of it is whole lines, with their check.
+        self._seen: tuple[int, ...] | None = None
+        self._good = 0, 0
+        self._closed = False
         self._keep(self._journal.state)
         self._reach = None
         if path is not None:
@@ -111,6 +115,8 @@ class Kept(Register):
     def _open(self) -> None:
         path = self.path
         try:
+            if not stat.S_ISREG(os.stat(path).st_mode):
+                raise NotKept(f"{path} is no file that can be kept in: a folder or a device")
             descriptor = os.open(path, (os.O_RDONLY if self.read_only else os.O_RDWR | os.O_APPEND) | os.O_CLOEXEC)
         except FileNotFoundError:
             if self.read_only:
@@ -131,9 +137,9 @@ class Kept(Register):
             os.close(descriptor)
 
     def _load(self, text: bytes, descriptor: int) -> None:
-        status = os.fstat(descriptor)
-        self._seen = status.st_ino, status.st_dev, len(text)
+        self._seen = _status(os.fstat(descriptor))
         good = text.rfind(b"\n") + 1
+        self._good = good, crc32(text[:good])
         if good == 0 and not HEAD.startswith(text):
             raise _no_history(self.path, text)
         if good:
@@ -190,33 +196,48 @@ class Kept(Register):
 
     def refresh(self) -> str:
         """For one who reads: takes what another has written since, and tells of it; empty if nothing has changed."""
-        if not self.read_only or self._seen is None:
+        if not self.read_only or self._seen is None or self._closed:
             return ""
         with self._turn:
+            before = self.calls
             try:
-                status = os.stat(self.path)
-                if (status.st_ino, status.st_dev, status.st_size) == self._seen:
+                if _status(os.stat(self.path)) == self._seen:
                     return ""
-                before = len(self._journal.lines)
-                again = Kept(self.path, read_only=True)
+                onward = self._read_on()
             except (OSError, NotKept, Damaged) as error:
                 self._seen = None
                 return f"{self.path} has changed, and is no longer read: {error}; answers are of what it was"
-            came = again._journal.lines[before:]
-            onward = again._journal.lines[:before] == self._journal.lines
-            self._journal, self._words, self._reach, self._seen, self.torn = again._journal, again._words, again._reach, again._seen, again.torn
-            if onward and not came:
+            if onward and self.calls == before:
                 return ""
             self.changed += 1
-            more = f"{len(came):,} call{'' if len(came) == 1 else 's'} more" if onward else "another history"
+            more = f"{count(self.calls - before, 'call')} more" if onward else "another history"
             return f"{self.path} has changed since it was read: {more}; answers are of what it is now"
+
+    def _read_on(self) -> bool:
+        """Takes the calls that were written since; if what was read before has changed, all of them anew, and that is no going on."""
+        descriptor = os.open(self.path, os.O_RDONLY | os.O_CLOEXEC)
+        try:
+            seen, text = _status(os.fstat(descriptor)), _whole(descriptor, self.path)
+        finally:
+            os.close(descriptor)
+        length, check = self._good
+        onward = length > 0 and len(text) >= length and crc32(text[:length]) == check
+        if onward:
+            good = text.rfind(b"\n") + 1
+            self._journal.read(text[length:good])
+            self._good = good, crc32(text[length:good], check)
+        else:
+            again = Kept(self.path, read_only=True)
+            self._journal, self._good = again._journal, again._good
+        self._seen, self._words, self._reach = seen, self._journal.state, self._journal.reach
+        return onward
 
     def close(self) -> None:
         """Lets the file go."""
         if self._file is not None:
             self._file.close()
             self._file = None
-            self.read_only = True
+        self._closed = True
 
     def __enter__(self) -> Kept:
         return self
@@ -231,10 +252,10 @@ class Kept(Register):
     # Changes
 
     def _write(self, line: str, state: State, reach: int | None, remark: str = "") -> None:
-        if self.read_only:
-            raise NotKept(f"{self.path or 'the register'} is open for reading alone; the call is not made")
+        if self.read_only or self._closed:
+            raise NotKept(f"{self.path or 'the register'} is {'closed' if self._closed else 'open for reading alone'}; the call is not made")
         if line == "close":
-            remark = f"old and new: {_table(self.closed_up())}"
+            remark = f"old and new: {short(self.closed_up())}"
         sealed = self._journal.sealed(line, remark)
         with _uninterrupted():
             if self.path:
@@ -301,6 +322,11 @@ def _no_history(path: str, text: bytes) -> Damaged:
     return Damaged(path, 1, text[:200].decode(errors="replace"), f"no history of a dating register, whose first line is {FORMAT!r} and a version; {hint}")
 
 
+def _status(status: os.stat_result) -> tuple[int, ...]:
+    """What tells whether a file has changed."""
+    return status.st_dev, status.st_ino, status.st_size, status.st_mtime_ns
+
+
 def _lock(descriptor: int, path: str) -> None:
     try:
         fcntl.flock(descriptor, fcntl.LOCK_EX | fcntl.LOCK_NB)
@@ -318,25 +344,6 @@ def _whole(descriptor: int, path: str) -> bytes:
     except OSError as error:
         raise NotKept(f"{path} cannot be read: {error.strerror}") from error
     return b"".join(parts)
-
-
-def _table(numbers: Sequence[int | None]) -> str:
-    """The list of a closing up in short: `0-3 0-3, 4 gone, 5-8 4-7`."""
-    pieces = []
-    for first, last, new in moved(numbers):
-        pieces.append(f"{_span(first, last)} {'gone' if new is None else _span(new, new + last - first)}")
-    return ", ".join(pieces)
-
-
-def _span(first: int, last: int) -> str:
-    return str(first) if first == last else f"{first}-{last}"
-
-
-def moved(numbers: Sequence[int | None]) -> Iterator[tuple[int, int, int | None]]:
-    """The runs of old numbers that moved as one, or were withdrawn: first and last, and the new number of the first."""
-    in_use = [record for record, new in enumerate(numbers) if new is not None]
-    gone = [record for record, new in enumerate(numbers) if new is None]
-    return iter(sorted([(first, last, numbers[first]) for first, last in runs(in_use)] + [(first, last, None) for first, last in runs(gone)]))
 
 
 @contextmanager

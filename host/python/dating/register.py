@@ -11,7 +11,7 @@ from typing import TYPE_CHECKING, Any
 from . import calls
 from .arguments import number
 from .calls import done, refused_at
-from .items import Links, copied
+from .items import Links, Steps, copied
 from .questions import Questions, State
 from .refusal import Cause, Refusal
 from .terms import UNDO, Edit
@@ -280,6 +280,31 @@ class Register(Questions):
         from .draft import Draft
 
         return Draft(self)
+
+    def sheet(self) -> str:
+        """The register as a sheet: the requests that make it again, with its counts at the end."""
+        from . import sheets
+
+        return sheets.text(self)
+
+    @classmethod
+    def of_sheet(cls, text: str) -> Register:
+        """The register of a sheet; undo does not reach into it. `sheets.NoSheet` names every faulty line.
+
+        >>> register = Register(2)
+        >>> register.lock(1)
+        >>> Register.of_sheet(register.sheet()).locked()
+        [1]
+        """
+        from . import sheets
+
+        return sheets.read(text).register()
+
+    def drawing(self, letters: str, chain: Steps | None = None) -> str:
+        """The links with these letters as text for Graphviz, by generation, with a chain in them if one is given."""
+        from . import drawing
+
+        return drawing.of_letters(self, letters, chain)
 
     def why(self, from_: int, to: int, expression: str | bytes) -> Why:
         """The chain between two records; if there is none, how far it goes from either end, and where it stops."""

@@ -5,8 +5,8 @@ from __future__ import annotations
 from typing import TYPE_CHECKING
 
 from .. import imports, sheets
+from ..closing import moved
 from ..files import because, named
-from ..kept import moved
 from ..names import Names, NoNames, unread
 from ..refusal import Refusal
 from ..terms import UNDO, Edit

@@ -14,7 +14,8 @@ from ..names import Names, NoNames, unread
 from .session import Quit, Session, unwritten
 from .terminal import Terminal, is_there
 
-_USAGE = 2
+# The status of a command that Ctrl-C ended.
+_INTERRUPTED = 130
 
 
 def main(arguments: list[str] | None = None) -> int:
@@ -37,6 +38,8 @@ def main(arguments: list[str] | None = None) -> int:
         sys.stdout.reconfigure(encoding="utf-8", errors="replace")
     try:
         return _answered(given)
+    except KeyboardInterrupt:
+        return _INTERRUPTED
     except BrokenPipeError:
         os.dup2(os.open(os.devnull, os.O_WRONLY), sys.stdout.fileno())
         return 0
