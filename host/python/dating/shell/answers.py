@@ -39,11 +39,13 @@ def show(session: Session, words: Words) -> Told:
 
 
 def links(session: Session, words: Words) -> Told:
-    word = words.rest
+    word = words.rest.split(" ")[0]
     asked: int | None = None
-    if word and not (len(word) == 1 and not word.isdigit()):
+    if len(word) == 1 and not word.isdigit():
+        words.next()
+    elif word:
         asked = words.record("RECORD")
-        words.end()
+    words.end()
     register = session.opened()
     found = list(register.links()) if asked is None else register.links_of(asked)
     if word and asked is None:

@@ -170,7 +170,7 @@ class Session:
             try:
                 written(path, text.encode("utf-8", "surrogateescape"))
             except OSError as error:
-                return Failed(changes.cannot(path, error) + ("; nothing is done" if told.then else ""))
+                return Failed(changes.cannot(path, error) + ("; nothing is done" if told.then and "sheet" not in told.data else ""))
             said = Told(f"wrote {named(path)} ({count(text.count(chr(10)), 'line')})", wrote=path)
             after = self.after(told, file)
             self.show(said.lines(self.mode, request), True)
@@ -211,8 +211,8 @@ class Session:
         else:
             self.show(told.text + "\n")
 
-    def run(self, script: Iterable[Line], place: str) -> Sums:
-        """Answers the lines of a file or a pipe, up to quit or the end; what fails is named by its place and text."""
+    def run(self, script: Iterable[Line], place: str, unit: str = "line") -> Sums:
+        """Answers the lines of a file or a pipe, or requests, up to quit or the end; what fails is named by its place and text."""
         sums = Sums()
         had = self.register.is_open
         for line in script:
@@ -233,7 +233,7 @@ class Session:
                 continue
             none = told.text.startswith("no request: ")
             sums.none, sums.refused = sums.none + none, sums.refused + (not none)
-            self.tell(told, f"{place}line {line.number}, ", line.text.strip(BLANKS))
+            self.tell(told, f"{place}{unit} {line.number}, ", line.text.strip(BLANKS))
             if line.text.split()[:1] == ["open"] and (place or had) and not none:
                 self.out(f"{place}line {line.number}: what follows was meant for another register, and is not read\n")
                 break
