@@ -14,6 +14,7 @@ from ..texts import chain as drawn
 from ..texts import count, filled, listed
 from ..texts import link as drawn_link
 from . import help as helped
+from .changes import apply_all
 from .told import Told
 from .words import Fault, Words
 
@@ -173,7 +174,7 @@ def preview(session: Session, words: Words) -> Told:
         before = register.pairs(expression)
     else:
         scratch = register.__copy__()
-        scratch.apply(edits)
+        apply_all(scratch, edits)
         after = scratch.pairs(expression)
     assert before is not None
     now, then = set(before), set(after)
