@@ -232,6 +232,9 @@ class Session:
                 sums.done += 1
                 continue
             none = told.text.startswith("no request: ")
+            if none and place:
+                # How a request is typed is for who types it.
+                told.text = told.text.split("\n")[0]
             sums.none, sums.refused = sums.none + none, sums.refused + (not none)
             self.tell(told, f"{place}{unit} {line.number}, ", line.text.strip(BLANKS))
             if line.text.split()[:1] == ["open"] and (place or had) and not none:
@@ -261,15 +264,19 @@ class Session:
             if opens and self.stays(f"read {named(path)}"):
                 return self.none("nothing is read")
             self.quiet = True
+            # On a terminal nothing scrolls away: all of it is shown by screenfuls.
+            out, screen, collected = self.out, self.screen, list[str]()
+            if screen is not None:
+                self.out, self.screen = collected.append, None
             try:
                 sums = self.run(lines(file), f"{named(path)}, ")
             except Quit as end:
                 sums = end.args[0]
             finally:
-                self.quiet = False
+                self.quiet, self.out, self.screen = False, out, screen
         if opens and (self.register.latest(1), self.register.calls) != before and self.register.is_open:
             self.register.settle()
-        said = f"{named(path)}: {sums.text()}"
+        said = f"{''.join(collected)}{named(path)}: {sums.text()}"
         if sums.failed:
             return Failed(said)
         return Told(said, read=path, done=sums.done)
