@@ -111,7 +111,11 @@ class Drafts(unittest.TestCase):
             draft.save()
         self.assertEqual((refused.exception.cause, refused.exception.place), (Cause.LOCKED, 1))
         self.assertEqual(len(register.links()), 0)
+        with self.assertRaises(Refusal):
+            draft.renew()
+        self.assertEqual((len(draft.edits), draft.is_locked(2)), (2, False))
         draft.undo()
+        self.assertTrue(draft.is_locked(2))
         draft.save()
         self.assertEqual([str(link) for link in register.links()], ["0 a 1"])
         self.assertIsInstance(draft, Draft)

@@ -113,7 +113,11 @@ class Session:
 
     def stays(self, what: str) -> bool:
         """Whether a request that would lose work is not to be done, as who typed it says."""
-        if self.ask is None or not self.unsaved or not self.register.is_open:
+        if self.ask is None or not self.register.is_open:
+            return False
+        if self.register.path and (links := len(self.register.links())):
+            return not self.ask(f"{count(links, 'link')} would be gone by {what}, and undo does not bring them back. Go on?")
+        if not self.unsaved:
             return False
         return not self.ask(f"{count(self.unsaved, 'change')} kept nowhere would be lost by {what}; sheet > FILE keeps them. Go on?")
 
