@@ -12,8 +12,9 @@ from dating.shell import help
 from dating.shell.session import Quit, Session
 
 LINES = 4000
-WORDS = ["0", "1", "2", "3", "99", "-1", "1,024", "a", "b", "t", "ab", "A", "é", "a+", "a/b", "(a|b)*", "!a", "a**", "t/", "> out.txt", ">", ">>", ",", "#", '"']
-WORDS += ["near", "chain", "some", "links.csv", "from=1", "json", "text", "csv", "add", "undo", "lock", '"x y"', "\x1b[2J", "\udcff", "99999999999999999999", "nobody"]
+WORDS = ["0", "1", "2", "3", "99", "-1", "1,024", "a", "b", "t", "ab", "A", "é", "a+", "a/b", "(a|b)*", "!a", "a**", "t/"]
+WORDS += ["> out.txt", ">", ">>", ",", "#", '"', "near", "chain", "some", "links.csv", "from=1", "json", "text", "csv", "add", "undo", "lock"]
+WORDS += ['"x y"', "\x1b[2J", "\udcff", "99999999999999999999", "nobody"]
 # Requests that open another file, or end.
 PASSED = ("quit", "read")
 
@@ -63,7 +64,8 @@ def main():
             if told.failed and not text.startswith("import some"):
                 assert key(session.register) == before, f"{text!r} failed, and has changed the register"
     assert isinstance(session.register, Register)
-    print(f"shell: {sum(counts.values())} lines of any kind: {counts['done']} done, {counts['failed']} refused, failed or no request, {counts['silent']} say nothing")
+    total = sum(counts.values())
+    print(f"shell: {total} lines of any kind: {counts['done']} done, {counts['failed']} refused, failed or no request, {counts['silent']} say nothing")
 
 
 main()
