@@ -27,8 +27,8 @@ from dating.shell.main import main as command
 
 ROUNDS = 2000
 ROUNDS_A_FILE = 100
-ACCEPTED = 5  # calls, at most, before a process is killed
-TIMED = 3000  # microseconds, at most, after them
+ACCEPTED = 3  # calls, at most, before a process is killed
+TIMED = 1500  # microseconds, at most, after them
 WAIT = 5  # seconds for a call
 PAUSE = 0.0001  # seconds between two parts of a write
 NOBODY = 65534
