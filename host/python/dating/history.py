@@ -7,7 +7,7 @@
 
 The first line names the format and its version. Then comes a call as it is typed, and as a remark its time and a check over this line and all before it, by
 which a line that is changed, put in or taken out is told. Calls that are made all or none stand on one line, after `do`. `settle` is where undo stops: at the
-end of a file that was read. A line that begins with `#`, or is empty, says nothing. Only what ends with a line feed is in the history.
+end of a file that was read. There is no other line, and only what ends with a line feed is in the history.
 """
 
 from __future__ import annotations
@@ -87,12 +87,9 @@ class Journal:
     def latest(self, most: int) -> list[tuple[str, str]]:
         """The latest calls, the last first: each as it was typed, and its time."""
         found: list[tuple[str, str]] = []
-        for line in reversed(self.lines):
-            if len(found) == most:
-                break
-            if not line.startswith(b"#") and line:
-                call, _, remark = line.decode().partition(_REMARK.decode())
-                found.append((call, remark[:20]))
+        for line in self.lines[: -most - 1 : -1]:
+            call, _, remark = line.decode().partition(_REMARK.decode())
+            found.append((call, remark[:20]))
         return found
 
 
@@ -114,8 +111,6 @@ class _Replay:
     def line(self, line: bytes) -> None:
         self.number += 1
         self.begun.append(line)
-        if not line or line.startswith(b"#"):
-            return
         front = line[:-_CHECK]
         call, remark, _ = front.partition(_REMARK)
         if not remark:
