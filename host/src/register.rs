@@ -270,7 +270,8 @@ impl Register {
     /// # Ok::<(), dating::Refusal>(())
     /// ```
     pub fn ends(&mut self, from: u16, expression: impl AsRef<[u8]>) -> Result<Records<'_>, Refusal> {
-        grow(&mut self.list, self.size().into());
+        let n = self.size();
+        grow(&mut self.list, n.into());
         let total = counted(calls::ends(&self.words, from, expression.as_ref(), &mut self.list))?;
         Ok(Records::new(&self.list, total))
     }
@@ -286,7 +287,8 @@ impl Register {
     /// # Ok::<(), dating::Refusal>(())
     /// ```
     pub fn starts(&mut self, to: u16, expression: impl AsRef<[u8]>) -> Result<Records<'_>, Refusal> {
-        grow(&mut self.list, self.size().into());
+        let n = self.size();
+        grow(&mut self.list, n.into());
         let total = counted(calls::starts(&self.words, to, expression.as_ref(), &mut self.list))?;
         Ok(Records::new(&self.list, total))
     }
