@@ -14,7 +14,7 @@ from pathlib import Path
 import dating
 
 HERE = Path(__file__).resolve().parent
-MODULES = [importlib.import_module(f"dating.{module.name}") for module in pkgutil.iter_modules(dating.__path__)]
+MODULES = [importlib.import_module(module.name) for module in pkgutil.walk_packages(dating.__path__, "dating.")]
 
 
 class Examples(unittest.TestCase):

@@ -9,7 +9,7 @@ from typing import Any, Callable
 
 from dating import Cause, Edit, Refusal, Register, Tie, Tree, calls, read_pages
 
-OUTSIDE = [-1, -65536, -(10**30), 65535, 65536, 65537, 1 << 32, 10**30]
+OUTSIDE = [True, False, -1, -65536, -(10**30), 65535, 65536, 65537, 1 << 32, 10**30]
 
 
 class Refused(unittest.TestCase):
@@ -49,7 +49,11 @@ class Every(Refused):
             self.refused(Cause.RECORD, register.offsets, 0, [(0, record, 0, 0)])
             self.refused(Cause.RECORD, Tree, 4, [(0, record)])
             self.refused(Cause.RECORD, Tree, 4, [(record, 0)])
-            self.assertEqual((register.is_locked(record), register.is_withdrawn(record)), (False, False))
+            for asked in (register.is_locked, register.is_withdrawn, register.links_of):
+                self.refused(Cause.RECORD, asked, record)
+            self.refused(Cause.RECORD, register.ends, record, "a")
+            self.refused(Cause.RECORD, register.starts, record, "a")
+            self.refused(Cause.RECORD, register.apply, [Edit.lock(record)])
 
     def test_label(self) -> None:
         for letter in ["A", "`", "{", "", "aa", "é", "a\0", "\udc80", "0"]:
@@ -114,8 +118,9 @@ class Every(Refused):
         """The package lends enough; the calls themselves can be lent too little."""
         state = calls.words(calls.STATE_WORDS - 1)
         self.assertEqual(calls.fresh(4, state), Cause.WORK)
-        words = self.register.words()
-        state = (ctypes.c_uint32 * len(words))(*words)
+        state = calls.words(calls.STATE_WORDS)
+        calls.fresh(4, state)
+        calls.add(state, 0, 0, 1)
         answer = calls.pairs(state, b"a", calls.work(31), calls.words(1))
         self.refused(Cause.WORK, calls.counted, answer)
         answer = calls.chain(state, 0, 1, b"a", calls.work(256), calls.words(0))
@@ -136,6 +141,15 @@ class Every(Refused):
         words = self.register.words()
         for wrong in [[], words[:-1], [0] * len(words), [1 << 32, *words], [-1, *words], [4, 4097, *words[2:]]]:
             self.refused(Cause.NOT_OPENED, Register.of_words, wrong)
+
+    def test_other_version(self) -> None:
+        """Words without the mark, and those of another version, have messages of their own."""
+        words = self.register.words()
+        with self.assertRaisesRegex(Refusal, "no mark of a register"):
+            Register.of_words(words[3:])
+        words[1] = 2
+        with self.assertRaisesRegex(Refusal, "of version 2, and this package reads version 1"):
+            Register.of_words(words)
 
     def test_touched(self) -> None:
         self.refused(Cause.TOUCHED, self.register.withdraw, 1)
@@ -259,7 +273,7 @@ class Wrong(unittest.TestCase):
                 return register.size - 1
 
         register = Register(True + 2)
-        register.add(Last(), "a", True)
+        register.add(Last(), "a", 1)
         self.assertEqual(list(register.pairs("a", most=Last())), [(2, 1)])
         self.assertEqual((str(register.chain(Last(), 1, "a")), register.is_locked(Last()), register.is_withdrawn(Last())), ("2 -a-> 1 (1 step)", False, False))
 

@@ -117,7 +117,7 @@ class Registers(unittest.TestCase):
 
     def test_repr(self) -> None:
         register = Register(1)
-        self.assertEqual(repr(register), "<Register: 1 record, 0 links>")
+        self.assertEqual(repr(register), "<Register: 1 record, no links>")
         register.add(0, "a", 0)
         self.assertEqual(repr(register), "<Register: 1 record, 1 link>")
 

@@ -27,10 +27,10 @@ def whole(given: int) -> int:
 
 
 def number(given: int) -> int:
-    """A record, a size or a kind of two bytes; for any other 65,535, which is no record's, no size
-    and no kind (2, 1, 15).
+    """A record, a size or a kind of two bytes; for any other, and for True and False, 65,535, which
+    is no record's, no size and no kind (2, 1, 15).
     """
-    value = whole(given)
+    value = _ABOVE_RECORDS if isinstance(given, bool) else whole(given)
     return value if 0 <= value <= _ABOVE_RECORDS else _ABOVE_RECORDS
 
 

@@ -23,13 +23,13 @@ from typing import Any
 from .refusal import Refusal
 
 STATE_WORDS = 5406
-"""The words of a register: n, three counters, 4,096 words of links, 256 of held edits, 1,024 of
-marks, 26 of totals.
-"""
-MARKS = slice(4356, 5380)
-"""The marks of the records among a register's words."""
+"""The words of a register."""
+LOCKED = 1
+"""The mark of a locked record."""
 WITHDRAWN = 2
 """The mark of a withdrawn record."""
+PLACE = 32
+"""By what the place of a refused edit is multiplied in the answer to a list of edits."""
 WORK_WORDS = 764608
 """The words of work that are enough for every call."""
 NO_CHAIN = 1 << 32
@@ -81,18 +81,26 @@ class Call:
                 lent.append(len(argument))
             elif not 0 <= argument <= most:
                 raise OverflowError(f"{self.name} takes a number from 0 to {most}, not {argument}")
-        return self.function(*lent)
+        answer: int = self.function(*lent)
+        return answer
 
     def __repr__(self) -> str:
         return f"<call dating_{self.name}>"
 
 
 def _library() -> ctypes.CDLL:
+    """What DATING_LIBRARY names; or the one beside this file, as in an installed package; or that of the checkout."""
     named = os.environ.get("DATING_LIBRARY")
-    checkout = Path(__file__).resolve().parents[3]
-    path = Path(named).resolve() if named else checkout / "target/lib/libdating.so"
+    here = Path(__file__).resolve().parent
+    checkout = here.parents[2]
+    installed = here / "libdating.so"
+    path = Path(named).resolve() if named else installed if installed.is_file() else checkout / "target/lib/libdating.so"
     if not path.is_file():
-        raise ImportError(f"{path} is missing: {checkout / 'host/shared'} makes target/lib/libdating.so, and DATING_LIBRARY names another file")
+        maker = checkout / "host/shared"
+        how = f"{maker} makes target/lib/libdating.so"
+        if not maker.is_file():
+            path, how = path if named else installed, "in a checkout host/shared makes it, and pip install ./host/python takes it along"
+        raise ImportError(f"{path} is missing: {how}; DATING_LIBRARY names another file")
     try:
         return ctypes.CDLL(str(path))
     except OSError as error:
@@ -166,6 +174,11 @@ def counted(answer: int) -> int:
 def told(answer: int) -> int | None:
     """An answer that is a count, or none (no chain, or ties that cannot all hold), or refused."""
     return None if answer == NO_CHAIN else counted(answer)
+
+
+def refused_at(answer: int) -> tuple[int, int] | None:
+    """Of an answer to a list of edits: the place of the refused one and its number; none if all are made."""
+    return divmod(answer - REFUSED, PLACE) if answer >= REFUSED else None
 
 
 def numbered(answer: int) -> tuple[bool, int]:

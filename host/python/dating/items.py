@@ -81,7 +81,7 @@ class Answer(Sequence[T]):
         return map(self._item, self._words)
 
     def __eq__(self, other: object) -> bool:
-        if type(other) is not type(self):
+        if not isinstance(other, Answer) or type(other) is not type(self):
             return NotImplemented
         return self._key() == other._key()
 

@@ -75,7 +75,7 @@ class Refusal(Exception):
     ...     Register(3).lock(7)
     ... except Refusal as refusal:
     ...     print(refusal.number, refusal.cause.name, refusal.meaning, sep="; ")
-    2; RECORD; a record is not below the number of records
+    2; RECORD; there is no such record: records are 0 to 2
     """
 
     # As people name it, in a traceback too.
@@ -83,10 +83,17 @@ class Refusal(Exception):
 
     cause: Cause
     """Why, by name."""
+    place: int | None
+    """Which of a list of edits was refused, from 0; none if no list was made."""
+    mark: str
+    """A faulty expression with a mark under the byte at which it cannot go on, two lines; else empty."""
 
-    def __init__(self, number: int) -> None:
-        super().__init__(number)
+    def __init__(self, number: int, words: str | None = None, place: int | None = None, mark: str = "") -> None:
+        super().__init__(number, words, place, mark)
         self.cause = Cause(number)
+        self.place = place
+        self.mark = mark
+        self._words = words
 
     @property
     def number(self) -> int:
@@ -95,8 +102,9 @@ class Refusal(Exception):
 
     @property
     def meaning(self) -> str:
-        """Why, in words."""
-        return self.cause.meaning
+        """Why, in words that fit the call; the general ones of `Cause.meaning` if there are no others."""
+        return self.cause.meaning if self._words is None else self._words
 
     def __str__(self) -> str:
-        return f"refused {self.number}: {self.meaning}"
+        text = f"refused {self.number}: {self.meaning}"
+        return f"{text}\n{self.mark}" if self.mark else text

@@ -3,23 +3,35 @@
 from __future__ import annotations
 
 import ctypes
-import threading
 from array import array
-from collections.abc import Callable, Iterable
+from collections.abc import Callable, Iterable, Iterator, Sequence
 from itertools import islice
-from typing import Any
+from typing import TYPE_CHECKING, Any
 
 from . import calls
-from .arguments import Expression, label, number, rings, text, wanted
-from .calls import counted, done, numbered, told
-from .items import Links, Pairs, Steps, copied
-from .pages import page_bytes
+from .arguments import number
+from .calls import done, refused_at
+from .items import Links, Steps, copied
+from .questions import Questions, State
 from .refusal import Cause, Refusal
-from .space import MAX_LINKS, MAX_RECORDS, Space, chain_work, longest_chain, most_pairs, room, rows_work, support_work, tree_work
-from .terms import Edit, Generations, Limits, Tie
+from .terms import UNDO, Edit
+from .wording import of_edit, words
+
+if TYPE_CHECKING:
+    from .draft import Draft
+    from .explain import Why
+
+MOST_HELD = 256
+"""The most edits that are held for undo."""
+
+# What words that are kept begin with: a mark, "DATR" in bytes, and a version. Then how many edits undo may reach; _ALL if all that are held.
+_MARK = int.from_bytes(b"DATR", "little")
+_VERSION = 1
+_ALL = (1 << 32) - 1
+_HEAD = 3
 
 
-class Register:
+class Register(Questions):
     """A register of n records, 0 to n − 1: its links, its locked and withdrawn records, and the
     latest 256 edits.
 
@@ -34,35 +46,31 @@ class Register:
 
     Records are numbers, letters are "a" to "z", an expression is text or bytes. A call that cannot
     be done raises `Refusal` with the first of its causes, and changes nothing. Any number that is
-    no record's is refused with 2, also below 0 or above 65,535. An argument of a wrong type raises
-    TypeError.
+    no record's is refused with 2, also below 0 or above 65,535; True and False are no records. An
+    argument of a wrong type raises TypeError.
 
-    A register can be copied (`copy.copy`) and pickled, held edits too. It keeps the space that
-    questions need, up to 10 MB for 1,024 records. Calls from several threads are made one after the
-    other. A call takes at most 464 KB of stack.
+    Two registers are equal if they have the same records, links, locks, withdrawn records and held
+    edits. A register can be copied (`copy.copy`) and pickled, held edits too. It keeps the space
+    that questions need, up to 10 MB for 1,024 records. Calls from several threads are made one
+    after the other. A call takes at most 464 KB of stack.
     """
 
-    __slots__ = ("_words", "_space", "_turn", "__weakref__")
+    __slots__ = ("_reach",)
+
+    # How many edits undo may take back, if a sheet was read: undo does not reach into it. None for all that are held.
+    _reach: int | None
 
     def __init__(self, n: int) -> None:
         """A register of n records, n from 1 to 1,024, with no links and no locks, and every record
         in use.
         """
-        words = calls.words(calls.STATE_WORDS)
-        done(calls.fresh(number(n), words))
-        self._keep(words)
-
-    def _keep(self, words: ctypes.Array[ctypes.c_uint32]) -> None:
-        self._words = words
-        self._space = Space()
-        # Held while a call is made and its answer copied: calls let other threads run, which might ask the same register. Arguments are read before,
-        # since they may have code of their own.
-        self._turn = threading.Lock()
+        self._keep(fresh(n))
+        self._reach = None
 
     @classmethod
     def of_words(cls, words: Iterable[int]) -> Register:
         """A register from the words of one, as `words` gives them. What is promised is promised of
-        words that a register had; any others do no harm.
+        words that a register had; any others do no harm, and those of another version are told.
 
         >>> register = Register(3)
         >>> register.add(0, "a", 1)
@@ -74,59 +82,118 @@ class Register:
         if isinstance(words, (str, bytes, bytearray)):
             raise TypeError(f"words are numbers, not {type(words).__name__}")
         try:
-            front = array("I", islice(words, calls.STATE_WORDS))
+            given = array("I", islice(words, _HEAD + calls.STATE_WORDS))
         except OverflowError:
             raise Refusal(Cause.NOT_OPENED) from None
-        state = (ctypes.c_uint32 * len(front)).from_buffer_copy(front)
+        if len(given) < _HEAD or given[0] != _MARK:
+            raise Refusal(Cause.NOT_OPENED, "no register is opened: the words have no mark of a register")
+        if given[1] != _VERSION:
+            raise Refusal(Cause.NOT_OPENED, f"no register is opened: the words are of version {given[1]}, and this package reads version {_VERSION}")
+        state = (ctypes.c_uint32 * (len(given) - _HEAD)).from_buffer_copy(given[_HEAD:]) if len(given) > _HEAD else calls.words(0)
         if calls.size(state) == 0:
             raise Refusal(Cause.NOT_OPENED)
-        register = cls.__new__(cls)
-        register._keep(state)
-        return register
+        return plain(state, None if given[2] == _ALL else given[2])
 
     def words(self) -> array[int]:
-        """The words, to be kept; `of_words` takes them."""
+        """The words, to be kept, with a mark and a version before them; `of_words` takes them."""
         with self._turn:
-            return copied(self._words, calls.STATE_WORDS)
+            head = array("I", [_MARK, _VERSION, _ALL if self._reach is None else self._reach])
+            return head + copied(self._words, calls.STATE_WORDS)
 
     def __reduce__(self) -> tuple[Any, ...]:
-        return (type(self).of_words, (self.words(),))
+        return (Register.of_words, (self.words(),))
 
-    def __repr__(self) -> str:
+    def __copy__(self) -> Register:
         with self._turn:
-            links = counted(calls.links(self._words, calls.words(0)))
-            return f"<Register: {_many(self._size(), 'record')}, {_many(links, 'link')}>"
+            return plain(type(self._words).from_buffer_copy(self._words), self._reach)
 
-    def _size(self) -> int:
-        return calls.size(self._words)
+    def __eq__(self, other: object) -> bool:
+        if not isinstance(other, Register):
+            return NotImplemented
+        return self._key() == other._key()
 
-    @property
-    def size(self) -> int:
-        """The number of records, withdrawn ones too."""
+    # It changes, so it is no key of a dictionary.
+    __hash__ = None  # type: ignore[assignment]
+
+    def _key(self) -> tuple[Any, ...]:
         with self._turn:
-            return self._size()
+            return (self._marks(), self.links(), self.held)
 
-    # Edits
+    # Changes
 
-    def _edit(self, call: calls.Call, *arguments: int) -> None:
+    def _change(self, change: Callable[[State], Any], line: str, reach: int | None) -> Any:
+        """Makes a change on a copy of the words, has it written, and then takes the copy. A call that is refused, or that cannot be written, raises, and
+        nothing has changed.
+        """
         with self._turn:
-            done(call(self._words, *arguments))
+            state = type(self._words).from_buffer_copy(self._words)
+            answer = change(state)
+            self._write(line, state, reach)
+        return answer
+
+    def _write(self, line: str, state: State, reach: int | None) -> None:
+        """Has a change written where the register is kept, and takes it."""
+        self._words, self._reach = state, reach
+
+    def apply(self, edits: Edit | Iterable[Edit]) -> None:
+        """Makes an edit, or a list of them, all or none: if one is refused, none is made, and `Refusal.place` tells which it was.
+
+        >>> register = Register(3)
+        >>> register.lock(2)
+        >>> register.apply([Edit.add(0, "a", 1), Edit.unlock(2), Edit.add(1, "a", 2)])
+        >>> [str(link) for link in register.links()]
+        ['0 a 1', '1 a 2']
+        """
+        if isinstance(edits, Edit):
+            return self._make([edits], False)
+        self._make([_edit(edit) for edit in edits], True)
+
+    def _make(self, edits: Sequence[Edit], listed: bool) -> None:
+        packed = [edit.packed() for edit in edits]
+        with self._turn:
+            reach, stop = reached(self._reach, edits)
+            lent = (ctypes.c_uint64 * len(packed[:stop]))(*packed[:stop])
+
+            def change(state: State) -> None:
+                found = refused_at(calls.apply_all(state, lent))
+                if found is None and stop is not None:
+                    found = stop, Cause.NONE_HELD.value
+                if found is not None:
+                    raise self._refusal(edits, *found, listed)
+
+            if edits:
+                line = str(edits[0]) if len(edits) == 1 else "do " + ", ".join(map(str, edits))
+                # What is refused may have no words for a line; then none is written.
+                self._change(change, line, reach)
+
+    def _refusal(self, edits: Sequence[Edit], place: int, found: int, listed: bool) -> Refusal:
+        """A refusal in words that fit the register as the edits before have made it."""
+        if place >= len(edits):
+            return Refusal(found)
+        before: Questions = self
+        if place:
+            state = type(self._words).from_buffer_copy(self._words)
+            calls.apply_all(state, (ctypes.c_uint64 * place)(*(edit.packed() for edit in edits[:place])))
+            before = plain(state, None)
+        cause = Cause(found)
+        said = words(cause, "", 0) if cause == Cause.NOT_OPENED else of_edit(before, edits[place], cause)
+        return Refusal(found, said, place if listed else None)
 
     def add(self, from_: int, letter: str, to: int) -> None:
         """Puts a link in."""
-        self._edit(calls.add, number(from_), label(letter), number(to))
+        self._make([Edit.add(from_, letter, to)], False)
 
     def remove(self, from_: int, letter: str, to: int) -> None:
         """Takes a link out."""
-        self._edit(calls.remove, number(from_), label(letter), number(to))
+        self._make([Edit.remove(from_, letter, to)], False)
 
     def lock(self, record: int) -> None:
         """Locks a record: links at it are neither added nor removed."""
-        self._edit(calls.lock, number(record))
+        self._make([Edit.lock(record)], False)
 
     def unlock(self, record: int) -> None:
         """Takes the lock of a record away."""
-        self._edit(calls.unlock, number(record))
+        self._make([Edit.unlock(record)], False)
 
     def withdraw(self, record: int) -> None:
         """Withdraws a record that no link touches and that is not locked. It takes no link and no
@@ -141,17 +208,17 @@ class Register:
         >>> list(register.pairs("a*"))
         [(0, 0), (1, 1)]
         """
-        self._edit(calls.withdraw, number(record))
+        self._make([Edit.withdraw(record)], False)
 
     def reinstate(self, record: int) -> None:
         """Takes a withdrawn record into use again."""
-        self._edit(calls.reinstate, number(record))
+        self._make([Edit.reinstate(record)], False)
 
     def undo(self) -> None:
         """Takes back the latest edit that is still held: of a link, a lock or a withdrawn record.
         At most 256 are held.
         """
-        self._edit(calls.undo)
+        self._make([Edit.undo()], False)
 
     def close_up(self) -> list[int | None]:
         """Numbers the records in use from 0 in their old order, and lowers the number of records to
@@ -167,232 +234,137 @@ class Register:
         """
         with self._turn:
             numbers = (ctypes.c_uint16 * self._size())()
-            done(calls.close_up(self._words, numbers))
-        return [None if new == calls.NO_NUMBER else new for new in numbers]
+            self._change(lambda state: done(calls.close_up(state, numbers)), "close", None)
+        return new_numbers(numbers)
 
-    # What the register holds
-
-    def is_locked(self, record: int) -> bool:
-        """Whether the record is locked."""
-        asked = number(record)
+    def closed_up(self) -> list[int | None]:
+        """What `close_up` would give; nothing is changed."""
         with self._turn:
-            return calls.locked(self._words, asked) == 1
+            numbers = (ctypes.c_uint16 * self._size())()
+            done(calls.close_up(type(self._words).from_buffer_copy(self._words), numbers))
+        return new_numbers(numbers)
 
-    def is_withdrawn(self, record: int) -> bool:
-        """Whether the record is withdrawn."""
-        asked = number(record)
-        with self._turn:
-            return calls.withdrawn(self._words, asked) == 1
-
-    def total(self, letter: str) -> int:
-        """The number of links with this letter, which the register keeps: none is counted.
+    @property
+    def held(self) -> list[Edit]:
+        """The edits that undo can take back, the latest first. They are found by undoing a copy.
 
         >>> register = Register(3)
         >>> register.add(0, "a", 1)
-        >>> register.total("a"), register.total("b")
-        (1, 0)
+        >>> register.lock(1)
+        >>> [str(edit) for edit in register.held]
+        ['lock 1', 'add 0 a 1']
         """
-        asked = label(letter)
-        with self._turn:
-            return counted(calls.total(self._words, asked))
+        return list(self._held())
 
-    def links(self) -> Links:
-        """The links present."""
-        with self._turn:
-            written = self._space.list(MAX_LINKS)
-            return Links(copied(written, counted(calls.links(self._words, written))))
+    def _held(self) -> Iterator[Edit]:
+        copy = self.__copy__()
+        reach = MOST_HELD if copy._reach is None else copy._reach
+        links, marks = copy.links(), copy._marks()
+        while reach > 0 and calls.undo(copy._words) == 0:
+            links_before, marks_before = copy.links(), copy._marks()
+            yield _between(links_before, marks_before, links, marks)
+            links, marks, reach = links_before, marks_before, reach - 1
 
-    # Questions
+    @property
+    def latest_held(self) -> Edit | None:
+        """The edit that undo would take back now; none if there is none."""
+        return next(self._held(), None)
 
-    def pairs(self, expression: Expression, most: int | None = None) -> Pairs:
-        """The pairs of records that the expression joins, by the faster of the two engines,
-        `pairs_by_rows`. With `most`, only so many of them, the smallest; `Pairs.total` tells how
-        many there are.
+    def draft(self) -> Draft:
+        """Edits that are collected, and made all or none at the end of the block, on the register as it then is; none if the block is left by an
+        exception, or `cancel` is called. Questions to the draft are answered as if they were made.
 
         >>> register = Register(3)
-        >>> register.add(0, "a", 1)
-        >>> register.add(1, "a", 2)
-        >>> list(register.pairs("a+"))
-        [(0, 1), (0, 2), (1, 2)]
-        >>> first = register.pairs("a+", most=1)
-        >>> list(first), first.total
-        ([(0, 1)], 3)
+        >>> with register.draft() as draft:
+        ...     draft.add(0, "a", 1)
+        ...     draft.lock(1)
+        ...     print(len(register.links()), len(draft.links()))
+        0 1
+        >>> len(register.links())
+        1
         """
-        return self.pairs_by_rows(expression, most)
+        from .draft import Draft
 
-    def pairs_by_rows(self, expression: Expression, most: int | None = None) -> Pairs:
-        """As `pairs`, by the engine on rows of bits."""
-        return self._pairs(calls.pairs_by_rows, rows_work, (text(expression),), most)
+        return Draft(self)
 
-    def pairs_by_trees(self, expression: Expression, most: int | None = None) -> Pairs:
-        """As `pairs`, by the engine on k2-trees."""
-        return self._pairs(calls.pairs, tree_work, (text(expression),), most)
+    def sheet(self) -> str:
+        """The register as a sheet: the requests that make it again, with its counts at the end."""
+        from . import sheets
 
-    def preview(self, edit: Edit, expression: Expression, most: int | None = None) -> Pairs:
-        """The pairs that the expression would join if the edit were made. It is not made. An edit
-        that would be refused gives its cause, before any of the question's.
+        return sheets.text(self)
 
-        >>> register = Register(3)
-        >>> register.add(0, "a", 1)
-        >>> list(register.preview(Edit.add(1, "a", 2), "a+"))
-        [(0, 1), (0, 2), (1, 2)]
-        >>> list(register.preview(Edit.undo(), "a+")), list(register.pairs("a+"))
-        ([], [(0, 1)])
+    @classmethod
+    def of_sheet(cls, text: str) -> Register:
+        """The register of a sheet; undo does not reach into it. `sheets.NoSheet` names every faulty line.
+
+        >>> register = Register(2)
+        >>> register.lock(1)
+        >>> Register.of_sheet(register.sheet()).locked()
+        [1]
         """
-        if not isinstance(edit, Edit):
-            raise TypeError(f"an edit is an Edit, as in Edit.add(0, \"a\", 1), not {type(edit).__name__}")
-        kind, from_, letter, to = edit
-        arguments = (number(kind), number(from_), label(letter), number(to), text(expression))
-        return self._pairs(calls.preview, tree_work, arguments, most)
+        from . import sheets
 
-    def _pairs(self, call: calls.Call, work: Callable[[int], int], arguments: tuple[Any, ...], most: int | None) -> Pairs:
-        count = wanted(most)
-        with self._turn:
-            n = self._size()
-            written = self._space.list(room(n, None)) if count is None else calls.words(room(n, count))
-            total = counted(call(self._words, *arguments, self._space.work(work(n)), written))
-            return Pairs(copied(written, total), total)
+        return sheets.read(text).register()
 
-    def chain(self, from_: int, to: int, expression: Expression) -> Steps | None:
-        """The first of the shortest chains from one record to another that spell a word of the
-        expression; None if there is no chain of any length.
+    def drawing(self, letters: str, chain: Steps | None = None) -> str:
+        """The links with these letters as text for Graphviz, by generation, with a chain in them if one is given."""
+        from . import drawing
 
-        >>> register = Register(3)
-        >>> register.add(0, "a", 1)
-        >>> register.add(2, "b", 1)
-        >>> print(register.chain(0, 2, "a/^b"), register.chain(2, 0, "a+"), sep=", ")
-        0 -a-> 1 <-b- 2 (2 steps), None
-        """
-        start, end, spelt = number(from_), number(to), text(expression)
-        with self._turn:
-            n = self._size()
-            written = self._space.list(longest_chain(n))
-            length = told(calls.chain(self._words, start, end, spelt, self._space.work(chain_work(n)), written))
-            return None if length is None else Steps(start, copied(written, length))
+        return drawing.of_letters(self, letters, chain)
 
-    def ends(self, from_: int, expression: Expression) -> list[int]:
-        """The records, ascending, that a chain leads to from the one, spelling a word of the expression.
+    def why(self, from_: int, to: int, expression: str | bytes) -> Why:
+        """The chain between two records; if there is none, how far it goes from either end, and where it stops."""
+        from .explain import Why
 
-        >>> register = Register(4)
-        >>> register.add(0, "a", 1)
-        >>> register.add(1, "a", 2)
-        >>> register.ends(0, "a+"), register.ends(3, "a*")
-        ([1, 2], [3])
-        """
-        return self._joined(calls.ends, from_, expression)
-
-    def starts(self, to: int, expression: Expression) -> list[int]:
-        """The records, ascending, from which a chain leads to the one, spelling a word of the expression.
-
-        >>> register = Register(3)
-        >>> register.add(0, "a", 1)
-        >>> register.add(1, "a", 2)
-        >>> register.starts(2, "a+"), register.ends(2, "^(a+)")
-        ([0, 1], [0, 1])
-        """
-        return self._joined(calls.starts, to, expression)
-
-    def _joined(self, call: calls.Call, at: int, expression: Expression) -> list[int]:
-        record, spelt = number(at), text(expression)
-        with self._turn:
-            written = self._space.list(self._size())
-            count = counted(call(self._words, record, spelt, written))
-            return written[:count]
-
-    def generations(self, letters: Iterable[str]) -> Generations:
-        """The length of the longest run of links with these letters, crossed forward, that ends at
-        each record in use. If some record can return to itself over such links, the first loop of
-        the smallest that can comes instead. Letters may stand in any order and repeat; with none of
-        them every number is 0.
-
-        >>> register = Register(4)
-        >>> register.add(2, "a", 0)
-        >>> register.add(0, "b", 3)
-        >>> register.withdraw(1)
-        >>> register.generations("ab").numbers
-        {0: 1, 2: 0, 3: 2}
-        >>> register.add(3, "a", 0)
-        >>> print(register.generations("ab").loop)
-        0 -b-> 3 -a-> 0 (2 steps)
-        """
-        labels = bytes(map(label, letters))
-        with self._turn:
-            n = self._size()
-            written = self._space.list(longest_chain(n))
-            looped, length = numbered(calls.generations(self._words, labels, self._space.work(chain_work(n)), written))
-            answer = copied(written, length)
-            marks = self._words[calls.MARKS]
-        if looped:
-            # Its last step reaches the record that it begins at.
-            return Generations(None, Steps(answer[-1] % MAX_RECORDS, answer))
-        in_use = (record for record, mark in enumerate(marks) if mark != calls.WITHDRAWN)
-        return Generations(dict(zip(in_use, answer)), None)
-
-    def sole_support(self, core: int, expression: Expression, anchors: Iterable[int]) -> list[int]:
-        """The records but the core, ascending, that have a chain to some anchor, and none to any
-        once the links that touch the core are gone. Locks play no part, and the register is
-        unchanged. The anchors ascend, each once.
-
-        >>> register = Register(5)
-        >>> for from_, to in [(1, 0), (2, 1), (3, 1), (3, 4), (4, 0)]:
-        ...     register.add(from_, "o", to)
-        >>> register.sole_support(1, "o+", [0])
-        [2]
-        """
-        held, spelt, ends = number(core), text(expression), list(map(number, anchors))
-        lent = (ctypes.c_uint16 * len(ends))(*ends)
-        with self._turn:
-            n = self._size()
-            written = self._space.list(n)
-            count = counted(calls.sole_support(self._words, held, spelt, lent, self._space.work(support_work(n)), written))
-            return written[:count]
-
-    def pages(self, expression: Expression) -> bytes:
-        """The pairs of records that the expression joins, as printed pages: lines of 72 bytes and a
-        line feed, six pairs to a line, and a head with the first 60 bytes of the expression and the
-        page's number before each 59 lines. `read_pages` gives the pairs back.
-
-        >>> from dating import read_pages
-        >>> register = Register(3)
-        >>> register.add(0, "a", 1)
-        >>> register.add(1, "a", 2)
-        >>> pages = register.pages("a+")
-        >>> pages[73:109]
-        b'    0     1     0     2     1     2 '
-        >>> list(read_pages("a+", pages))
-        [(0, 1), (0, 2), (1, 2)]
-        """
-        spelt = text(expression)
-        with self._turn:
-            n = self._size()
-            printed = (ctypes.c_uint8 * page_bytes(most_pairs(n)))()
-            length = counted(calls.pages(self._words, spelt, self._space.work(tree_work(n)), printed))
-        return memoryview(printed)[:length].tobytes()
-
-    def offsets(self, base: int, ties: Iterable[tuple[int, int, int, int]]) -> list[Limits | None] | None:
-        """How many rings each record begins after the base, as far as ties tell, at most 1,024 of
-        them: for each record its limits, or None if no tie joins it to the base, directly or
-        through others. None alone if no placing of whole years meets all ties.
-
-        >>> register = Register(3)
-        >>> register.offsets(0, [Tie(first=0, second=1, least=31, most=38)])
-        [Limits(least=0, most=0), Limits(least=31, most=38), None]
-        >>> print(register.offsets(2, [(0, 1, 31, 38), (1, 0, 1, 5)]))
-        None
-        """
-        start, lent = number(base), [_lent(Tie(*tie)) for tie in ties]
-        with self._turn:
-            n = self._size()
-            work, written = (ctypes.c_int64 * chain_work(n))(), (ctypes.c_int32 * (2 * n))()
-            count = told(calls.offsets(self._words, start, (calls.LentTie * len(lent))(*lent), work, written))
-        if count is None:
-            return None
-        return [None if least > most else Limits(least, most) for least, most in zip(written[:count:2], written[1:count:2])]
+        return Why(self, from_, to, expression)
 
 
-def _many(count: int, one: str) -> str:
-    return f"1 {one}" if count == 1 else f"{count:,} {one}s"
+def fresh(n: int) -> State:
+    """The words of a register of n records."""
+    state = calls.words(calls.STATE_WORDS)
+    try:
+        done(calls.fresh(number(n), state))
+    except Refusal as refusal:
+        raise Refusal(refusal.cause, words(refusal.cause, "open", 0)) from None
+    return state
 
 
-def _lent(tie: Tie) -> calls.LentTie:
-    return calls.LentTie(number(tie.first), number(tie.second), rings(tie.least), rings(tie.most))
+def plain(state: State, reach: int | None) -> Register:
+    """A register in memory alone, of these words."""
+    register = Register.__new__(Register)
+    register._keep(state)
+    register._reach = reach
+    return register
+
+
+def new_numbers(numbers: Iterable[int]) -> list[int | None]:
+    """The list of a closing up, None for a withdrawn record."""
+    return [None if new == calls.NO_NUMBER else new for new in numbers]
+
+
+def reached(reach: int | None, edits: Iterable[Edit]) -> tuple[int | None, int | None]:
+    """How many edits undo may take back after these, and the place of the first undo that goes too far, if one does."""
+    if reach is not None:
+        for place, edit in enumerate(edits):
+            if edit.kind == UNDO and reach == 0:
+                return reach, place
+            reach = reach - 1 if edit.kind == UNDO else min(reach + 1, MOST_HELD)
+    return reach, None
+
+
+def _edit(edit: Edit) -> Edit:
+    if not isinstance(edit, Edit):
+        raise TypeError(f"an edit is an Edit, as in Edit.add(0, \"a\", 1), not {type(edit).__name__}")
+    return edit
+
+
+def _between(links_before: Links, marks_before: list[int], links: Links, marks: list[int]) -> Edit:
+    """The edit that led from one sheet to the next."""
+    for record, (old, new) in enumerate(zip(marks_before, marks)):
+        if old != new:
+            gone, kind = (old, 1) if new == 0 else (new, 0)
+            pair = (Edit.lock, Edit.unlock) if gone == calls.LOCKED else (Edit.withdraw, Edit.reinstate)
+            return pair[kind](record)
+    before, after = set(links_before.words()), set(links.words())
+    link = Links(array("I", (before ^ after)))[0]
+    return Edit.add(*link) if after - before else Edit.remove(*link)

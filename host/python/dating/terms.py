@@ -2,16 +2,28 @@
 
 from __future__ import annotations
 
+from operator import index
 from typing import NamedTuple
 
-from .items import Steps
+from .arguments import label, number
+from .items import Link, Steps
+
+ADD, REMOVE, LOCK, UNLOCK, UNDO, WITHDRAW, REINSTATE = 2, 3, 4, 5, 6, 10, 11
+"""The kinds of edits and undo, as the program's frames number them."""
+
+KINDS = {"add": ADD, "remove": REMOVE, "lock": LOCK, "unlock": UNLOCK, "undo": UNDO, "withdraw": WITHDRAW, "reinstate": REINSTATE}
+"""The kinds by the words that are typed."""
+_WORDS = {kind: word for word, kind in KINDS.items()}
+_OPPOSITE = {ADD: REMOVE, REMOVE: ADD, LOCK: UNLOCK, UNLOCK: LOCK, WITHDRAW: REINSTATE, REINSTATE: WITHDRAW}
 
 
 class Edit(NamedTuple):
-    """An edit or undo by name, for `Register.preview`.
+    """An edit or undo by name, for `Register.apply` and `Register.preview`.
 
     >>> Edit.add(0, "a", 1)
     Edit(kind=2, from_=0, letter='a', to=1)
+    >>> print(Edit.add(0, "a", 1), Edit.lock(3), Edit.undo(), sep="; ")
+    add 0 a 1; lock 3; undo
     """
 
     kind: int
@@ -24,37 +36,66 @@ class Edit(NamedTuple):
     @classmethod
     def add(cls, from_: int, letter: str, to: int) -> Edit:
         """As `Register.add`."""
-        return cls(2, from_, letter, to)
+        return cls(ADD, from_, letter, to)
 
     @classmethod
     def remove(cls, from_: int, letter: str, to: int) -> Edit:
         """As `Register.remove`."""
-        return cls(3, from_, letter, to)
+        return cls(REMOVE, from_, letter, to)
 
     @classmethod
     def lock(cls, record: int) -> Edit:
         """As `Register.lock`."""
-        return cls(4, record)
+        return cls(LOCK, record)
 
     @classmethod
     def unlock(cls, record: int) -> Edit:
         """As `Register.unlock`."""
-        return cls(5, record)
+        return cls(UNLOCK, record)
 
     @classmethod
     def undo(cls) -> Edit:
         """As `Register.undo`."""
-        return cls(6)
+        return cls(UNDO)
 
     @classmethod
     def withdraw(cls, record: int) -> Edit:
         """As `Register.withdraw`."""
-        return cls(10, record)
+        return cls(WITHDRAW, record)
 
     @classmethod
     def reinstate(cls, record: int) -> Edit:
         """As `Register.reinstate`."""
-        return cls(11, record)
+        return cls(REINSTATE, record)
+
+    @property
+    def word(self) -> str:
+        """The word by which it is typed; empty for an unknown kind."""
+        return _WORDS.get(self.kind, "")
+
+    @property
+    def has_link(self) -> bool:
+        """Whether it is of a link, and not of a record alone."""
+        return self.kind in (ADD, REMOVE)
+
+    @property
+    def link(self) -> Link:
+        """The link that it is of."""
+        return Link(self.from_, self.letter, self.to)
+
+    @property
+    def opposite(self) -> Edit:
+        """The edit that takes it back."""
+        return self._replace(kind=_OPPOSITE[self.kind])
+
+    def packed(self) -> int:
+        """The word of a history: the kind in bits 40 and up, from or the record in 24 to 39, the label in 16 to 23, to in 0 to 15."""
+        return number(self.kind) << 40 | number(self.from_) << 24 | label(self.letter) << 16 | number(self.to)
+
+    def __str__(self) -> str:
+        if self.kind == UNDO:
+            return self.word
+        return f"{self.word} {index(self.from_)} {self.letter} {index(self.to)}" if self.has_link else f"{self.word} {index(self.from_)}"
 
 
 class Generations(NamedTuple):
