@@ -95,6 +95,18 @@ class Journal:
                 found.append((call, remark[:20]))
         return found
 
+    def since(self, mark: str) -> list[tuple[str, str]] | None:
+        """The calls after the line that a mark names, the last first; none if there is no such line with this check."""
+        found = re.fullmatch(r"(\d{1,9})-([0-9a-f]{8})", mark)
+        lines = int(found[1]) if found else len(self.lines) + 1
+        if found is None or lines > len(self.lines):
+            return None
+        # A remark has no check: that of the call before it stands.
+        sealed = next((line for line in reversed(self.lines[:lines]) if line and not line.startswith(b"#")), None)
+        if found[2].encode() != (sealed[1 - _CHECK :] if sealed else b"%08x" % 0):
+            return None
+        return self.latest(sum(1 for line in self.lines[lines:] if line and not line.startswith(b"#")))
+
 
 class _Replay:
     """Lines made one after the other. Edits are gathered, and made by one call of the engine for each run of them."""

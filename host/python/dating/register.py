@@ -254,10 +254,14 @@ class Register(Questions):
         >>> [str(edit) for edit in register.held]
         ['lock 1', 'add 0 a 1']
         """
+        return self.latest_held(MOST_HELD)
+
+    def latest_held(self, most: int) -> list[Edit]:
+        """As `held`, at most so many of them."""
         copy = self.__copy__()
         edits: list[Edit] = []
         links, marks = copy.links(), copy._marks()
-        while copy._reach != 0 and calls.undo(copy._words) == 0:
+        while len(edits) < most and copy._reach != 0 and calls.undo(copy._words) == 0:
             links_before, marks_before = copy.links(), copy._marks()
             edits.append(_between(links_before, marks_before, links, marks))
             links, marks = links_before, marks_before
