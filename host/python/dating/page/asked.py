@@ -53,12 +53,12 @@ class Answer(NamedTuple):
     remark: str = ""
 
 
-def ask(reading: Reading, given: dict[str, str], across: int) -> Answer:
+def ask(reading: Reading, given: dict[str, str], width: int) -> Answer:
     """The answer to a question, whose kind is among `KINDS`."""
     kind = given.get("kind", "")
     if kind not in KINDS:
         raise Fault(f"a question is one of {', '.join(KINDS)}")
-    return KINDS[kind](reading, Fields(given, reading.names), across)
+    return KINDS[kind](reading, Fields(given, reading.names), width)
 
 
 def request(reading: Reading, given: dict[str, str]) -> str:
@@ -87,42 +87,42 @@ def _chain_rows(reading: Reading, steps: Steps) -> list[list[Any]]:
     return rows
 
 
-def _of_steps(reading: Reading, steps: Steps, lines: list[str], across: int) -> Answer:
+def _of_steps(reading: Reading, steps: Steps, lines: list[str], width: int) -> Answer:
     shown, remark = "", f"the chain has {len(steps):,} steps, which no one can read in a picture: {picture.MOST_STEPS} are the most; the steps are listed"
     if len(steps) <= picture.MOST_STEPS:
-        shown, remark = picture.of_chain(steps, reading.register._marks(), reading.names, across), ""
+        shown, remark = picture.of_chain(steps, reading.register._marks(), reading.names, width), ""
     rows = _chain_rows(reading, steps)
     return Answer(True, lines, ["step", "link", "crossed", "reaches"], rows, len(rows), steps, shown, remark)
 
 
-def _chain(reading: Reading, fields: Fields, across: int) -> Answer:
+def _chain(reading: Reading, fields: Fields, width: int) -> Answer:
     from_, to, expression = fields.record("from", "From"), fields.record("to", "To"), fields.text("expression", "Expression")
-    return _why(reading, explain.Why(reading.register, from_, to, expression), across)
+    return _why(reading, explain.Why(reading.register, from_, to, expression), width)
 
 
-def _why(reading: Reading, why: explain.Why, across: int) -> Answer:
+def _why(reading: Reading, why: explain.Why, width: int) -> Answer:
     lines = _unbroken(why.text(reading.named))
     if why.steps is not None:
-        return _of_steps(reading, why.steps, lines, across)
+        return _of_steps(reading, why.steps, lines, width)
     rows: list[picture.Row] = []
     for reach in why.reaches:
         head = f"by {'/'.join(reach.parts)}, " if len(why.reaches) > 1 else ""
         rows.append(picture.Row(f"{head}from {why.from_}", why.from_, reach.parts, reach.onward, why.to, True))
         rows.append(picture.Row(f"{head}back from {why.to}", why.to, reach.parts[::-1], reach.back, why.from_, False))
-    return _none(reading, lines, rows, across)
+    return _none(reading, lines, rows, width)
 
 
-def _none(reading: Reading, lines: list[str], rows: list[picture.Row], across: int) -> Answer:
+def _none(reading: Reading, lines: list[str], rows: list[picture.Row], width: int) -> Answer:
     remark = f"of {len(rows)} rows the first {_MOST_ROWS} are drawn; the words have all" if len(rows) > _MOST_ROWS else ""
-    return Answer(False, lines, picture=picture.of_rows(rows[:_MOST_ROWS], reading.names, across) if rows else "", remark=remark)
+    return Answer(False, lines, picture=picture.of_rows(rows[:_MOST_ROWS], reading.register._marks(), reading.names, width) if rows else "", remark=remark)
 
 
-def _hangs(reading: Reading, fields: Fields, across: int) -> Answer:
+def _hangs(reading: Reading, fields: Fields, width: int) -> Answer:
     from_, to, expression = fields.record("from", "From"), fields.record("to", "To"), fields.text("expression", "Expression")
     register = reading.register
     steps = register.chain(from_, to, expression)
     if steps is None:
-        return _why(reading, explain.Why(register, from_, to, expression), across)
+        return _why(reading, explain.Why(register, from_, to, expression), width)
     passed = {step.reached for step in steps} - {from_, to}
     if len(passed) > MOST_HUNG:
         raise Fault(f"the chain passes {len(passed):,} records, and {MOST_HUNG} are asked here at most; the shell asks them all: {request(reading, dict(fields.given))}")
@@ -130,7 +130,7 @@ def _hangs(reading: Reading, fields: Fields, across: int) -> Answer:
     between = "there is another way round each record between its ends" if passed else "there is no record between its ends"
     named = ", ".join(map(reading.named, cores))
     lines = [*_unbroken(drawn(steps, reading.named)), f"it hangs on each of: {named}" if cores else f"it hangs on none: {between}"]
-    answer = _of_steps(reading, steps, lines, across)
+    answer = _of_steps(reading, steps, lines, width)
     return answer._replace(head=["it hangs on"], rows=[[reading.named(core)] for core in cores], total=len(cores))
 
 
@@ -141,7 +141,7 @@ def _missing(reading: Reading, expression: str) -> list[str]:
     return [f"no link has the letter {' or '.join(gone)}"] if gone else []
 
 
-def _side(reading: Reading, fields: Fields, across: int, which: str) -> Answer:
+def _side(reading: Reading, fields: Fields, width: int, which: str) -> Answer:
     record, expression = fields.record("record", "Record"), fields.text("expression", "Expression")
     register, named = reading.register, reading.named
     found = register.ends(record, expression) if which == "ends" else register.starts(record, expression)
@@ -161,7 +161,7 @@ def _side(reading: Reading, fields: Fields, across: int, which: str) -> Answer:
         told = [f"{part} {'reaches' if which == 'ends' else 'from'} {_some(records, named)}" for part, records in zip(words, reached)]
         lines.append(f"{head}{'from' if which == 'ends' else 'to'} {named(record)}: {('; then ' if which == 'ends' else '; before it ').join(told)}")
         rows.append(picture.Row(f"{head}{'from' if which == 'ends' else 'back from'} {record}", record, words, reached, None, which == "ends"))
-    return _none(reading, lines, rows, across)
+    return _none(reading, lines, rows, width)
 
 
 def _some(records: list[int], named: Callable[[int], str]) -> str:
@@ -171,7 +171,7 @@ def _some(records: list[int], named: Callable[[int], str]) -> str:
     return shown if len(records) <= 20 else f"{shown} and {len(records) - 20:,} more"
 
 
-def _pairs(reading: Reading, fields: Fields, across: int) -> Answer:
+def _pairs(reading: Reading, fields: Fields, width: int) -> Answer:
     expression = fields.text("expression", "Expression")
     first = fields.number("first", 0, 1 << 20, 0)
     register = reading.register
@@ -207,7 +207,7 @@ class _Part(Sequence[Any]):
         return self.rows[at.start - self.first : at.stop - self.first]
 
 
-def _support(reading: Reading, fields: Fields, across: int) -> Answer:
+def _support(reading: Reading, fields: Fields, width: int) -> Answer:
     record, expression = fields.record("record", "Core"), fields.text("expression", "Expression")
     anchors = sorted(set(fields.records("anchors", "Anchors")))
     found = reading.register.sole_support(record, expression, anchors)
@@ -224,28 +224,28 @@ def _letters(fields: Fields) -> str:
     return "".join(dict.fromkeys(fields.text("letters", "Letters").replace(",", " ").replace(" ", "")))
 
 
-def _loops(reading: Reading, fields: Fields, across: int) -> Answer:
+def _loops(reading: Reading, fields: Fields, width: int) -> Answer:
     told = answers.loops(reading, Words(_letters(fields), reading.names))
     lines, records = _unbroken(told.text), told.data["records"]
     loop = reading.register.generations(_letters(fields)).loop
     if loop is None:
         return Answer(False, lines)
-    answer = _of_steps(reading, loop, lines, across)
+    answer = _of_steps(reading, loop, lines, width)
     return answer._replace(head=["returns to itself"], rows=[[reading.named(record)] for record in records], total=len(records))
 
 
-def _generations(reading: Reading, fields: Fields, across: int) -> Answer:
+def _generations(reading: Reading, fields: Fields, width: int) -> Answer:
     letters = _letters(fields)
     numbers, loop = reading.register.generations(letters)
     if loop is not None:
-        return _of_steps(reading, loop, _unbroken(answers.generations(reading, Words(letters)).text), across)
+        return _of_steps(reading, loop, _unbroken(answers.generations(reading, Words(letters)).text), width)
     if not numbers:
         return Answer(False, ["no record is in use"])
     line = f"{count(len(numbers), 'record')} in use; the longest run of links {' '.join(letters)} to each"
     return Answer(True, [line], ["record", "longest run"], [[reading.named(record), number] for record, number in numbers.items()], len(numbers))
 
 
-def _links(reading: Reading, fields: Fields, across: int) -> Answer:
+def _links(reading: Reading, fields: Fields, width: int) -> Answer:
     which = fields.given.get("which", "").strip()
     quoted = f'"{which}"' if " " in which and '"' not in which else which
     rows = answers.links(reading, Words(quoted, reading.names)).data["links"]
@@ -254,12 +254,12 @@ def _links(reading: Reading, fields: Fields, across: int) -> Answer:
     return Answer(bool(rows), [f"{count(len(rows), 'link')}{of}"], ["from", "letter", "to"], shown, len(rows))
 
 
-def _ends(reading: Reading, fields: Fields, across: int) -> Answer:
-    return _side(reading, fields, across, "ends")
+def _ends(reading: Reading, fields: Fields, width: int) -> Answer:
+    return _side(reading, fields, width, "ends")
 
 
-def _starts(reading: Reading, fields: Fields, across: int) -> Answer:
-    return _side(reading, fields, across, "starts")
+def _starts(reading: Reading, fields: Fields, width: int) -> Answer:
+    return _side(reading, fields, width, "starts")
 
 
 KINDS: dict[str, Callable[[Reading, Fields, int], Answer]] = {

@@ -19,7 +19,7 @@ def effect(now: Reading, made: Reading, given: dict[str, str]) -> dict[str, Any]
     if kind == "pairs":
         comes, goes, words = _pairs(now, made, Fields(given, now.names).text("expression", "Expression"))
         return _told(comes, goes, words)
-    before, after = ask(now, given, 1), ask(made, given, 1)
+    before, after = ask(now, given, 700), ask(made, given, 700)
     if kind in ("chain", "hangs"):
         return _chains(before, after)
     rows_before, rows_after = [_key(row) for row in before.rows], [_key(row) for row in after.rows]
@@ -47,13 +47,11 @@ def _named(reading: Reading, pairs: Pairs, but: set[int]) -> list[tuple[str, ...
 def _chains(before: Answer, after: Answer) -> dict[str, Any]:
     if before.lines == after.lines:
         return _told([], [], "the answer stays as it is" if before.found else "there is no chain now, and none if the draft is made")
-    comes = [("a chain" if after.found and not before.found else "this", line) for line in after.lines[:1]]
-    goes = [("the chain" if before.found and not after.found else "this", line) for line in before.lines[:1]]
     if before.lines[0] == after.lines[0]:
         return _told([], [], f"{after.lines[0]}, with the draft too; what the answer tells beside that would change")
     words = "there would be a chain, and there is none now" if after.found and not before.found else ""
     words = words or ("there would be no chain any more" if before.found and not after.found else "there would be another chain")
-    return _told([(line,) for _, line in comes], [(line,) for _, line in goes], words)
+    return _told([(after.lines[0],)] if after.found else [], [(before.lines[0],)] if before.found else [], words)
 
 
 def _told(comes: list[tuple[str, ...]], goes: list[tuple[str, ...]], words: str) -> dict[str, Any]:

@@ -18,7 +18,7 @@ _WIDTH, _HEIGHT = 96, 46
 _GAP, _ROW = 74, 104
 _EDGE = 8
 # The most characters of a name, and the most records of a set, that stand in a box.
-_NAME, _SET = 14, 4
+_NAME, _SET = 13, 4
 
 
 def _cut(text: str, most: int = _NAME) -> str:
@@ -42,8 +42,8 @@ class _Picture:
     def box(self, x: float, y: float, kind: str, lines: Sequence[str], width: float = _WIDTH) -> None:
         self.shapes.append(f'<rect x="{x:g}" y="{y:g}" width="{width:g}" height="{_HEIGHT}" rx="7" class="box {kind}"/>')
         if kind == "locked":
-            self.shapes.append(f'<rect x="{x + 3:g}" y="{y + 3:g}" width="{width - 6:g}" height="{_HEIGHT - 6}" rx="5" class="box inner"/>')
             self.padlock(x + width - 14, y - 7)
+            self.shapes.append(f'<rect x="{x + 3:g}" y="{y + 3:g}" width="{width - 6:g}" height="{_HEIGHT - 6}" rx="5" class="box inner"/>')
         first = y + _HEIGHT / 2 + 5 - 8 * (len(lines) - 1)
         for place, line in enumerate(lines):
             self.shapes.append(_text(x + width / 2, first + 16 * place, line, "number" if place == 0 else "name"))
@@ -81,11 +81,16 @@ class _Picture:
 _KINDS = {0: "free", calls.LOCKED: "locked", calls.WITHDRAWN: "withdrawn"}
 
 
-def of_chain(chain: Steps, marks: Sequence[int], names: Names, across: int) -> str:
-    """A chain: its records in rows of at most so many, each with its lock, and between them the links, numbered as its steps."""
+def _across(width: int, gap: int) -> int:
+    """How many boxes stand side by side."""
+    return max(2, (width - 2 * _EDGE + gap) // (_WIDTH + gap))
+
+
+def of_chain(chain: Steps, marks: Sequence[int], names: Names, width: int) -> str:
+    """A chain: its records in rows of some width, each with its lock, and between them the links, numbered as its steps."""
     drawn = _Picture()
     records = [chain.start, *(step.reached for step in chain)]
-    across = max(2, across)
+    across = _across(width, _GAP)
     for place, record in enumerate(records):
         row, column = divmod(place, across)
         x, y = _EDGE + column * (_WIDTH + _GAP), 2 * _EDGE + row * _ROW
@@ -110,31 +115,33 @@ class Row:
         self.head, self.begin, self.parts, self.reached, self.wanted, self.forward = head, begin, parts, reached, wanted, forward
 
 
-def of_rows(rows: Sequence[Row], names: Names, across: int) -> str:
+def of_rows(rows: Sequence[Row], marks: Sequence[int], names: Names, width: int) -> str:
     """How far a question goes, from either end, and where it stops."""
     drawn = _Picture()
     y = 2.0 * _EDGE
-    gap = _GAP + 26
-    across = max(2, across - 1)
+    gap = _GAP + 16
+    ahead = _across(width, gap) - 1
     for row in rows:
         drawn.shapes.append(_text(_EDGE, y + 6, row.head, "head-words"))
-        y += 22
-        drawn.box(_EDGE, y, "begin", _numbered([row.begin], names))
-        for place, (part, found) in enumerate(zip(row.parts, row.reached), 1):
-            column = place % across
-            if column == 0:
-                y += _ROW - 24
-                drawn.shapes.append(_text(_EDGE, y + _HEIGHT / 2 + 5, "…", "head-words"))
-            x = _EDGE + column * (_WIDTH + gap) + (0 if column else gap)
-            drawn.arrow(x - gap, y + _HEIGHT / 2, x, _cut(part, 15), row.forward, "link" if found else "stop")
-            missed = bool(found) and row.wanted is not None and place == len(row.reached) == len(row.parts)
-            kind = "none" if not found else "missed" if missed else "free"
-            lines = ["none"] if not found else _numbered(found, names)
-            drawn.box(x, y, kind, lines)
+        y += 18
+        before: Sequence[int] = [row.begin]
+        for place, (part, found) in enumerate(zip(row.parts, row.reached)):
+            column = place % ahead + 1
+            if column == 1:
+                # A new line begins with what the one before ended with.
+                y += _HEIGHT + 22 if place else 0
+                drawn.box(_EDGE, y, "free" if place else "begin", _numbered(before, names))
+                if not place and marks[row.begin] == calls.LOCKED:
+                    drawn.padlock(_EDGE + _WIDTH - 14, y - 7)
+            x = _EDGE + column * (_WIDTH + gap)
+            drawn.arrow(x - gap, y + _HEIGHT / 2, x, _cut(part, 13), row.forward, "link" if found else "stop")
+            missed = bool(found) and row.wanted is not None and place + 1 == len(row.parts)
+            drawn.box(x, y, "none" if not found else "missed" if missed else "free", _numbered(found, names) if found else ["none"])
             if missed:
                 drawn.shapes.append(_text(x + _WIDTH / 2, y + _HEIGHT + 15, f"not {row.wanted}", "letter"))
                 drawn.reach(x + _WIDTH, y + _HEIGHT + 18)
-        y += _HEIGHT + 30
+            before = found
+        y += _HEIGHT + 28
     return drawn.svg("how far it goes, and where it stops")
 
 

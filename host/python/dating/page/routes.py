@@ -112,7 +112,7 @@ def asked(server: Server, given: dict[str, Any]) -> Reply:
         reading = server.desk.reading()
         typed = Fields(fields, reading.names)
         first = typed.number("first", 0, 1 << 20, 0)
-        answer = ask(reading, fields, typed.number("across", 1, 12, 5))
+        answer = ask(reading, fields, typed.number("width", 1, 4000, 700))
     rows = answer.rows[first : first + PART]
     return Reply.told(
         **server.desk.stands(reading.mark),

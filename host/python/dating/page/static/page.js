@@ -3,7 +3,7 @@
 import * as curator from "./curator.js";
 import * as draft from "./draft.js";
 import * as question from "./question.js";
-import { at, calls, clock, el, fill, many, note } from "./shown.js";
+import { at, calls, el, fill, many, note } from "./shown.js";
 import { get, takeToken } from "./wire.js";
 
 const EVERY = 1000;
@@ -75,5 +75,3 @@ document.addEventListener("visibilitychange", () => {
   if (!document.hidden) poll();
 });
 poll();
-
-export { clock };

@@ -1,6 +1,6 @@
 // A question and its answer. Under way, answered, none, refused, no answer and as of then look different, and each says in a word which it is.
 
-import { across, at, clock, el, fill, many, note, picture, table } from "./shown.js";
+import { at, clock, el, fill, note, picture, table, wide } from "./shown.js";
 import { Told, get } from "./wire.js";
 
 const form = at("ask");
@@ -62,7 +62,7 @@ async function more(button, frame, first) {
   button.disabled = true;
   button.textContent = "Under way …";
   try {
-    const data = await get("/ask", { ...asked, first, across: across(place) });
+    const data = await get("/ask", { ...asked, first, width: wide(place) });
     if (mine !== turn) return;
     if (data.mark !== answer.mark) {
       button.replaceWith(note("old", "The sheet has changed since the first part: ask again for the whole list."));
@@ -85,7 +85,7 @@ export async function ask(given = fields()) {
     place.querySelector(".state").textContent = `Under way … ${Math.round((Date.now() - began) / 1000)} s`;
   }, 1000);
   try {
-    const data = await get("/ask", { ...given, across: across(place) }, 120);
+    const data = await get("/ask", { ...given, width: wide(place) }, 120);
     if (mine !== turn) return;
     answer = data;
     told(data);
@@ -124,5 +124,3 @@ export function begin() {
   });
   shape();
 }
-
-export { many };

@@ -48,6 +48,7 @@ export function note(kind, ...inside) {
   return el("div", { class: `note ${kind}` }, ...inside);
 }
 
-export const across = (place) => Math.max(2, Math.min(8, Math.floor((place.clientWidth - 20 + 74) / 170)));
+// How wide a picture may be.
+export const wide = (place) => Math.max(300, Math.min(4000, place.clientWidth - 28));
 
 export const quoted = (word) => (/[\s,]/.test(word.trim()) && !word.includes('"') ? `"${word.trim()}"` : word.trim());
