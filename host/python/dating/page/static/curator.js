@@ -34,8 +34,8 @@ function age() {
 async function history() {
   try {
     const data = await get("/history", { most });
-    const rows = data.rows.map(([call, when, held]) => [clock(when), call, held ? "undo can" : ""]);
-    fill(at("latest"), rows.length ? table(["made", "call", "take back"], rows, `the latest ${rows.length.toLocaleString("en")} of ${data.total.toLocaleString("en")}`) : el("p", {}, "Nothing has been made yet."));
+    const rows = data.rows.map(([call, when, held]) => [clock(when), call, held ? "can take it back" : ""]);
+    fill(at("latest"), rows.length ? table(["made", "call", "undo"], rows, `the latest ${rows.length.toLocaleString("en")} of ${data.total.toLocaleString("en")}`) : el("p", {}, "Nothing has been made yet."));
     at("more-history").hidden = rows.length >= data.total;
   } catch (error) {
     fill(at("latest"), note("error", `The latest edits are not known: ${error.message}.`));

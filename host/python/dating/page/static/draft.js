@@ -56,16 +56,30 @@ export function put(line) {
 }
 
 function line(text, place) {
-  const faulty = refused && refused.place === place;
-  const input = el("input", { value: text, "aria-label": `Line ${place + 1} of the draft`, "aria-invalid": faulty ? "true" : "false", spellcheck: "false", autocapitalize: "off" });
-  input.addEventListener("change", () => {
+  const input = el("input", { value: text, "aria-label": `Line ${place + 1} of the draft`, spellcheck: "false", autocapitalize: "off" });
+  input.addEventListener("input", () => {
     draft.lines[place] = input.value.trim();
-    changed();
+    draft.name = fresh();
+    keep();
   });
+  input.addEventListener("change", changed);
   const out = el("button", { type: "button", "aria-label": `Take out line ${place + 1}, ${text}`, onclick: () => takeOut(place) }, "Take out");
-  const why = faulty ? el("p", { class: "fault" }, `${refused.number ? `Refused ${refused.number}` : "No edit"}: ${refused.words}`) : null;
-  const named = !faulty && words[place] && words[place] !== text ? el("p", { class: "small" }, words[place]) : null;
-  return el("li", { class: faulty ? "faulty" : "" }, el("div", { class: "line-of-draft" }, input, out), why, named);
+  return el("li", {}, el("div", { class: "line-of-draft" }, input, out), el("div", { class: "of-line" }));
+}
+
+// Fields that are there stay, so that the focus is not lost while a line is mended; what is said of each line is said anew.
+function lines() {
+  const there = [...at("lines").querySelectorAll("input")];
+  const same = there.length === draft.lines.length && there.every((input, place) => input.value.trim() === draft.lines[place]);
+  if (!same) fill(at("lines"), ...draft.lines.map(line));
+  [...at("lines").children].forEach((item, place) => {
+    const faulty = refused !== null && refused.place === place;
+    item.className = faulty ? "faulty" : "";
+    item.querySelector("input").setAttribute("aria-invalid", String(faulty));
+    const said = faulty ? el("p", { class: "fault" }, `${refused.number ? `Refused ${refused.number}` : "No edit"}: ${refused.words}`) : null;
+    const named = !faulty && words[place] && words[place] !== draft.lines[place] ? el("p", { class: "small" }, words[place]) : null;
+    fill(item.querySelector(".of-line"), said, named);
+  });
 }
 
 function takeOut(place) {
@@ -80,8 +94,8 @@ function show() {
   at("draft").className = count ? "has-lines" : "";
   at("draft-count").textContent = count ? `${many(count, "line")}, not made` : "empty";
   at("draft-says").textContent = count ? "Not made yet: nobody else sees these lines, and no answer has them, until you save." : "Nothing is waiting to be made. What you put in here is made when you save it.";
-  fill(at("lines"), ...draft.lines.map(line));
-  at("save").disabled = at("cancel").disabled = busy;
+  lines();
+  at("save").disabled = at("cancel").disabled = busy || sheet.read_only;
   const bar = at("draft-bar");
   bar.className = count ? "" : "hidden";
   bar.textContent = `Draft: ${many(count, "line")}, not made`;
@@ -107,9 +121,7 @@ async function tried() {
     refused = data.refused;
     words = data.words || [];
     between(data.between);
-    const focused = document.activeElement;
-    const typing = at("lines").contains(focused) && focused.tagName === "INPUT";
-    if (!typing) show();
+    show();
     effect(data);
   } catch (error) {
     if (mine === checks) fill(at("effect"), note("error", `What the draft would change is not known: ${error.message}.`));
