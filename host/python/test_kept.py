@@ -111,7 +111,11 @@ class Drafts(unittest.TestCase):
             draft.save()
         self.assertEqual((refused.exception.cause, refused.exception.place), (Cause.LOCKED, 1))
         self.assertEqual(len(register.links()), 0)
+        with self.assertRaises(Refusal):
+            draft.renew()
+        self.assertEqual((len(draft.edits), draft.is_locked(2)), (2, False))
         draft.undo()
+        self.assertTrue(draft.is_locked(2))
         draft.save()
         self.assertEqual([str(link) for link in register.links()], ["0 a 1"])
         self.assertIsInstance(draft, Draft)
@@ -154,6 +158,37 @@ class Histories(unittest.TestCase):
                 draft.add(0, "a", 1)
                 draft.lock(1)
         self.assertEqual(self.path.read_text().splitlines()[-1].split("  # ")[0], "do add 0 a 1, lock 1")
+
+    def test_closing_up_is_kept_with_its_table(self) -> None:
+        with dating.open(self.path, records=6) as register:
+            register.withdraw(2)
+            register.withdraw(3)
+            self.assertEqual(register.closed_up(), [0, 1, None, None, 2, 3])
+            self.assertEqual(register.size, 6)
+            self.assertEqual(register.close_up(), [0, 1, None, None, 2, 3])
+        self.assertIn(" old and new: 0-1 0-1, 2-3 gone, 4-5 2-3 ", self.path.read_text().splitlines()[-1])
+        with dating.open(self.path) as again:
+            self.assertEqual((again.size, again.held), (4, []))
+
+    def test_closed(self) -> None:
+        register = dating.open(self.path, records=3)
+        register.close()
+        with self.assertRaisesRegex(NotKept, "is closed; the call is not made"):
+            register.lock(0)
+        self.assertEqual(register.locked(), [])
+
+    def test_a_reader_reads_on(self) -> None:
+        with dating.open(self.path, records=3) as register, dating.open(self.path, read_only=True) as reader:
+            for record in range(3):
+                register.lock(record)
+                self.assertIn("1 call more", reader.refresh())
+                self.assertEqual(reader.refresh(), "")
+                self.assertEqual(reader, register)
+            # An earlier line changed in place, and a line more: it is not gone on with.
+            text = self.path.read_bytes()
+            self.path.write_bytes(text.replace(b"lock 1", b"lock 7"))
+            self.assertIn("no longer read", reader.refresh())
+            self.assertEqual(reader.locked(), [0, 1, 2])
 
     def test_not_there(self) -> None:
         with self.assertRaisesRegex(NotKept, "has no register yet"):

@@ -27,8 +27,8 @@ from dating.shell.main import main as command
 
 ROUNDS = 2000
 ROUNDS_A_FILE = 100
-ACCEPTED = 5  # calls, at most, before a process is killed
-TIMED = 3000  # microseconds, at most, after them
+ACCEPTED = 3  # calls, at most, before a process is killed
+TIMED = 1500  # microseconds, at most, after them
 WAIT = 5  # seconds for a call
 PAUSE = 0.0001  # seconds between two parts of a write
 NOBODY = 65534
@@ -312,6 +312,8 @@ def changed(folder):
         if one + 1 < len(lines):
             tries.append(b"".join(lines[:one] + lines[one + 1 :]))
             tries.append(b"".join(lines[:one] + [lines[one + 1], lines[one]] + lines[one + 2 :]))
+        # Into a remark, an empty line, another call.
+        tries += [b"".join(lines[:one] + [new] + lines[one + 1 :]) for new in (b"#" + lines[one][1:], b"\n", b"undo\n", b"lock 3" + lines[one][6:])]
     # A line turned into another that the register would take.
     tries.append(text.replace(b"add 0 a 1 ", b"add 0 a 2 "))
     told = 0
@@ -368,6 +370,7 @@ def two(folder):
     assert len(first.links()) == 2
     first.close()
     first = Kept(path)
+    size = os.path.getsize(path)
     with open(path, "ab") as file:
         file.write(b"# a remark\n")
     try:
@@ -376,6 +379,7 @@ def two(folder):
     except NotKept as error:
         assert "changed by another program" in str(error)
     first.close()
+    os.truncate(path, size)
     with Kept(path) as again:
         again.add(3, "b", 3)
     os.unlink(path)

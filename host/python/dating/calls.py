@@ -97,8 +97,10 @@ def _library() -> ctypes.CDLL:
     path = Path(named).resolve() if named else installed if installed.is_file() else checkout / "target/lib/libdating.so"
     if not path.is_file():
         maker = checkout / "host/shared"
-        how = f"{maker} makes target/lib/libdating.so" if maker.is_file() else "in a checkout host/shared makes it, and pip install ./host/python takes it along"
-        raise ImportError(f"{path if named or maker.is_file() else installed} is missing: {how}; DATING_LIBRARY names another file")
+        how = f"{maker} makes target/lib/libdating.so"
+        if not maker.is_file():
+            path, how = path if named else installed, "in a checkout host/shared makes it, and pip install ./host/python takes it along"
+        raise ImportError(f"{path} is missing: {how}; DATING_LIBRARY names another file")
     try:
         return ctypes.CDLL(str(path))
     except OSError as error:
@@ -121,8 +123,12 @@ links = Call("links", c_uint64, _STATE, _LIST)
 locked = Call("locked", c_uint32, _STATE, c_uint16)
 withdrawn = Call("withdrawn", c_uint32, _STATE, c_uint16)
 total = Call("total", c_uint64, _STATE, c_uint8)
+totals = Call("totals", c_uint64, _STATE, _LIST)
+marks = Call("marks", c_uint64, _STATE, _LIST)
 pairs = Call("pairs", c_uint64, _STATE, _TEXT, _WORK, _LIST)
 chain = Call("chain", c_uint64, _STATE, c_uint16, c_uint16, _TEXT, _WORK, _LIST)
+ends = Call("ends", c_uint64, _STATE, c_uint16, _TEXT, _LIST)
+starts = Call("starts", c_uint64, _STATE, c_uint16, _TEXT, _LIST)
 tree_make = Call("tree_make", c_uint64, c_size_t, _LIST, _TREE, _WORK)
 tree_list = Call("tree_list", c_uint64, c_size_t, _TREE, _LIST, _WORK)
 tree_union = Call("tree_union", c_uint64, c_size_t, _TREE, _TREE, _TREE, _WORK)
@@ -132,6 +138,7 @@ tree_product = Call("tree_product", c_uint64, c_size_t, _TREE, c_uint8, _TREE, c
 tree_transpose = Call("tree_transpose", c_uint64, c_size_t, _TREE, _TREE, _WORK)
 tree_closure = Call("tree_closure", c_uint64, c_size_t, _TREE, _TREE, _WORK)
 preview = Call("preview", c_uint64, _STATE, c_uint16, c_uint16, c_uint8, c_uint16, _TEXT, _WORK, _LIST)
+apply_all = Call("apply_all", c_uint64, _STATE, POINTER(c_uint64))
 close_up = Call("close_up", c_uint32, _STATE, POINTER(c_uint16))
 generations = Call("generations", c_uint64, _STATE, _TEXT, _WORK, _LIST)
 sole_support = Call("sole_support", c_uint64, _STATE, c_uint16, _TEXT, POINTER(c_uint16), _WORK, _LIST)
@@ -139,11 +146,6 @@ pages = Call("pages", c_uint64, _STATE, _TEXT, _WORK, POINTER(c_uint8))
 read_pages = Call("read_pages", c_uint64, _TEXT, _TEXT, _LIST)
 pairs_by_rows = Call("pairs_by_rows", c_uint64, _STATE, _TEXT, _WORK, _LIST)
 offsets = Call("offsets", c_uint64, _STATE, c_uint16, POINTER(LentTie), POINTER(c_int64), POINTER(c_int32))
-ends = Call("ends", c_uint64, _STATE, c_uint16, _TEXT, _LIST)
-starts = Call("starts", c_uint64, _STATE, c_uint16, _TEXT, _LIST)
-apply_all = Call("apply_all", c_uint64, _STATE, POINTER(c_uint64))
-totals = Call("totals", c_uint64, _STATE, _LIST)
-marks = Call("marks", c_uint64, _STATE, _LIST)
 
 
 def words(count: int) -> ctypes.Array[c_uint32]:

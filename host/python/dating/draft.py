@@ -57,10 +57,17 @@ class Draft(Register):
             raise ValueError("undo stands alone in a draft")
         if not self.edits:
             raise Refusal(Cause.NONE_HELD, "the draft has no edit to take back", 0 if listed else None)
-        kept = self.edits[:-1]
+        self._renew(self.edits[:-1])
+
+    def _renew(self, edits: list[Edit]) -> None:
         again = Draft(self._of)
-        again.apply(kept)
-        self._words, self.edits = again._words, kept
+        again.apply(edits)
+        self._words, self.edits = again._words, edits
+
+    def renew(self) -> None:
+        """Has questions answered as if the draft were made on the register as it is now. An edit that would now be refused is, and nothing has changed."""
+        with self._turn:
+            self._renew(self.edits)
 
     def _write(self, line: str, state: State, reach: int | None) -> None:
         if line == "close":

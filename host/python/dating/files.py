@@ -12,6 +12,8 @@ LONGEST_LINE = 65536
 LARGEST_FILE = 64 << 20
 """The most bytes of a file that is read whole."""
 
+# Where names stand for what is open already.
+_DEVICES = ("/dev/", "/proc/")
 _BYTE_ORDER_MARK = b"\xef\xbb\xbf"
 
 
@@ -25,12 +27,12 @@ class Line(NamedTuple):
 
 def written(path: str, text: bytes) -> None:
     """Writes a file beside, syncs it, and puts it in the place of the old one: after a failure the old one is as it was."""
-    path = os.path.realpath(path)
-    if os.path.exists(path) and not os.path.isfile(path):
+    if path.startswith(_DEVICES) or os.path.exists(path) and not os.path.isfile(path):
         # A device or a pipe takes what is written; a folder raises.
-        with open(path, "wb") as file:
+        with open(os.open(path, os.O_WRONLY | os.O_APPEND), "wb") as file:
             file.write(text)
         return
+    path = os.path.realpath(path)
     folder = os.path.dirname(path)
     descriptor, beside = tempfile.mkstemp(prefix=f".{os.path.basename(path)[:200]}.", dir=folder)
     try:

@@ -7,7 +7,7 @@
 
 The first line names the format and its version. Then comes a call as it is typed, and as a remark its time and a check over this line and all before it, by
 which a line that is changed, put in or taken out is told. Calls that are made all or none stand on one line, after `do`. `settle` is where undo stops: at the
-end of a file that was read. A line that begins with `#`, or is empty, says nothing. Only what ends with a line feed is in the history.
+end of a file that was read. There is no other line, and only what ends with a line feed is in the history.
 """
 
 from __future__ import annotations
@@ -87,12 +87,9 @@ class Journal:
     def latest(self, most: int) -> list[tuple[str, str]]:
         """The latest calls, the last first: each as it was typed, and its time."""
         found: list[tuple[str, str]] = []
-        for line in reversed(self.lines):
-            if len(found) == most:
-                break
-            if not line.startswith(b"#") and line:
-                call, _, remark = line.decode().partition(_REMARK.decode())
-                found.append((call, remark[:20]))
+        for line in self.lines[: -most - 1 : -1]:
+            call, _, remark = line.decode().partition(_REMARK.decode())
+            found.append((call, remark[:20]))
         return found
 
     def since(self, mark: str) -> list[tuple[str, str]] | None:
@@ -101,11 +98,8 @@ class Journal:
         lines = int(found[1]) if found else len(self.lines) + 1
         if found is None or lines > len(self.lines):
             return None
-        # A remark has no check: that of the call before it stands.
-        sealed = next((line for line in reversed(self.lines[:lines]) if line and not line.startswith(b"#")), None)
-        if found[2].encode() != (sealed[1 - _CHECK :] if sealed else b"%08x" % 0):
-            return None
-        return self.latest(sum(1 for line in self.lines[lines:] if line and not line.startswith(b"#")))
+        check = self.lines[lines - 1][1 - _CHECK :].decode() if lines else f"{0:08x}"
+        return self.latest(len(self.lines) - lines) if found[2] == check else None
 
 
 class _Replay:
@@ -126,8 +120,6 @@ class _Replay:
     def line(self, line: bytes) -> None:
         self.number += 1
         self.begun.append(line)
-        if not line or line.startswith(b"#"):
-            return
         front = line[:-_CHECK]
         call, remark, _ = front.partition(_REMARK)
         if not remark:

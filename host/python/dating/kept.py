@@ -286,7 +286,7 @@ class Kept(Register):
     @property
     def calls(self) -> int:
         """How many calls the history has."""
-        return sum(1 for line in self._journal.lines if line and not line.startswith(b"#"))
+        return len(self._journal.lines)
 
     def latest(self, most: int) -> list[tuple[str, str]]:
         """The latest calls, the last first: each as it was typed, and its time."""

@@ -4,7 +4,7 @@ from __future__ import annotations
 
 import ctypes
 from array import array
-from collections.abc import Callable, Iterable, Sequence
+from collections.abc import Callable, Iterable, Iterator, Sequence
 from itertools import islice
 from typing import TYPE_CHECKING, Any
 
@@ -254,19 +254,21 @@ class Register(Questions):
         >>> [str(edit) for edit in register.held]
         ['lock 1', 'add 0 a 1']
         """
-        return self.latest_held(MOST_HELD)
+        return list(self._held())
 
-    def latest_held(self, most: int) -> list[Edit]:
-        """As `held`, at most so many of them."""
+    def _held(self) -> Iterator[Edit]:
         copy = self.__copy__()
-        edits: list[Edit] = []
+        reach = MOST_HELD if copy._reach is None else copy._reach
         links, marks = copy.links(), copy._marks()
-        while len(edits) < most and copy._reach != 0 and calls.undo(copy._words) == 0:
+        while reach > 0 and calls.undo(copy._words) == 0:
             links_before, marks_before = copy.links(), copy._marks()
-            edits.append(_between(links_before, marks_before, links, marks))
-            links, marks = links_before, marks_before
-            copy._reach = None if copy._reach is None else copy._reach - 1
-        return edits
+            yield _between(links_before, marks_before, links, marks)
+            links, marks, reach = links_before, marks_before, reach - 1
+
+    @property
+    def latest_held(self) -> Edit | None:
+        """The edit that undo would take back now; none if there is none."""
+        return next(self._held(), None)
 
     def draft(self) -> Draft:
         """Edits that are collected, and made all or none at the end of the block, on the register as it then is; none if the block is left by an
@@ -363,5 +365,6 @@ def _between(links_before: Links, marks_before: list[int], links: Links, marks: 
             gone, kind = (old, 1) if new == 0 else (new, 0)
             pair = (Edit.lock, Edit.unlock) if gone == calls.LOCKED else (Edit.withdraw, Edit.reinstate)
             return pair[kind](record)
-    before, after = set(links_before), set(links)
-    return Edit.add(*(after - before).pop()) if after - before else Edit.remove(*(before - after).pop())
+    before, after = set(links_before.words()), set(links.words())
+    link = Links(array("I", (before ^ after)))[0]
+    return Edit.add(*link) if after - before else Edit.remove(*link)

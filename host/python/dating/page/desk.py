@@ -81,7 +81,6 @@ class Desk:
         reading = self.reading()
         register, names = reading.register, reading.names
         locked, withdrawn, totals = register.locked(), register.withdrawn(), register.totals()
-        held = register.latest_held(1)
         return {
             **self.stands(reading.mark),
             "words": answers.show(reading, Words("")).text.replace("\n    ", " ").split("\n"),
@@ -93,7 +92,7 @@ class Desk:
             "withdrawn": [[record, names.records.get(record, "")] for record in withdrawn],
             "names": [[record, name] for record, name in sorted(names.records.items()) if record < register.size],
             "letters": sorted(names.letters.items()),
-            "undo": str(held[0]) if held else "",
+            "undo": str(register.latest_held or ""),
         }
 
     def stands(self, mark: str) -> dict[str, Any]:
@@ -204,9 +203,9 @@ class Desk:
         """Takes back an edit that a page has shown, if that is still the one."""
         with self._turn:
             self.same(mark, "undo would take back another edit now")
-            held = self.register.latest_held(1)
-            if not held or str(held[0]) != edit:
-                raise Changed(f"undo would take back {held[0] if held else 'nothing'}, not {edit}: look again")
+            held = self.register.latest_held
+            if held is None or str(held) != edit:
+                raise Changed(f"undo would take back {held or 'nothing'}, not {edit}: look again")
             self.register.undo()
             return {**self.stands(self.register.mark), "undone": edit}
 

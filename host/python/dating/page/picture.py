@@ -15,7 +15,7 @@ MOST_STEPS = 120
 """The most steps of a chain that someone can read in a picture."""
 
 _WIDTH, _HEIGHT = 96, 46
-_GAP, _ROW = 74, 104
+_GAP, _ROW = 80, 104
 _EDGE = 8
 # The most characters of a name, and the most records of a set, that stand in a box.
 _NAME, _SET = 13, 4
@@ -96,11 +96,12 @@ def of_chain(chain: Steps, marks: Sequence[int], names: Names, width: int) -> st
         x, y = _EDGE + column * (_WIDTH + _GAP), 2 * _EDGE + row * _ROW
         if place:
             step = chain[place - 1]
-            words = f"{place}: {_cut(names.letters.get(step.letter, step.letter), 9)}"
+            words, name = f"{place}: {step.letter}", _cut(names.letters.get(step.letter, ""))
             if column:
                 drawn.arrow(x - _GAP, y + _HEIGHT / 2, x, words, step.forward)
+                drawn.shapes.append(_text(x - _GAP / 2, y + _HEIGHT / 2 + 16, name, "name"))
             else:
-                drawn.down(_EDGE + (across - 1) * (_WIDTH + _GAP) + _WIDTH / 2, y - _ROW + _HEIGHT, x + _WIDTH / 2, y, words, step.forward)
+                drawn.down(_EDGE + (across - 1) * (_WIDTH + _GAP) + _WIDTH / 2, y - _ROW + _HEIGHT, x + _WIDTH / 2, y, f"{words} {name}".rstrip(), step.forward)
         name = [_cut(names.records[record])] if record in names.records else []
         drawn.box(x, y, _KINDS[marks[record]], [str(record), *name])
     return drawn.svg(f"a chain of {len(chain)} steps from {records[0]} to {records[-1]}")

@@ -14,6 +14,7 @@ from ..texts import chain as drawn
 from ..texts import count, filled, listed
 from ..texts import link as drawn_link
 from . import help as helped
+from .changes import apply_all
 from .told import Told
 from .words import Fault, Words
 
@@ -39,11 +40,13 @@ def show(session: Session, words: Words) -> Told:
 
 
 def links(session: Session, words: Words) -> Told:
-    word = words.rest
+    word = words.rest.split(" ")[0]
     asked: int | None = None
-    if word and not (len(word) == 1 and not word.isdigit()):
+    if len(word) == 1 and not word.isdigit():
+        words.next()
+    elif word:
         asked = words.record("RECORD")
-        words.end()
+    words.end()
     register = session.opened()
     found = list(register.links()) if asked is None else register.links_of(asked)
     if word and asked is None:
@@ -171,7 +174,7 @@ def preview(session: Session, words: Words) -> Told:
         before = register.pairs(expression)
     else:
         scratch = register.__copy__()
-        scratch.apply(edits)
+        apply_all(scratch, edits)
         after = scratch.pairs(expression)
     assert before is not None
     now, then = set(before), set(after)

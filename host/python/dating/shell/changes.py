@@ -9,6 +9,7 @@ from ..closing import moved
 from ..files import because, named
 from ..names import Names, NoNames, unread
 from ..refusal import Refusal
+from ..register import Register
 from ..terms import UNDO, Edit
 from ..texts import count, run, shown
 from ..wording import of_edit
@@ -35,9 +36,9 @@ def edit(session: Session, words: Words, word: str) -> Told:
     words.end()
     register = session.opened()
     if made.kind == UNDO:
-        held = register.held[:1]
+        latest = register.latest_held
         register.undo()
-        return ok(f"{held[0]} is taken back")
+        return ok(f"{latest} is taken back")
     try:
         register.apply(made)
     except Refusal as refusal:
@@ -49,13 +50,17 @@ def do(session: Session, words: Words) -> Told:
     edits = words.edits()
     words.end(": a comma stands between edits")
     register = session.opened()
+    apply_all(register, edits, "; none is made")
+    return ok(f"{count(len(edits), 'edit')} {'is' if len(edits) == 1 else 'are'} made")
+
+
+def apply_all(register: Register, edits: list[Edit], then: str = "") -> None:
+    """Makes edits, all or none; a refusal says which it was."""
     try:
         register.apply(edits)
     except Refusal as refusal:
         place = refusal.place or 0
-        mark = f"  edit {place + 1}, {edits[place]}; none is made"
-        raise Refusal(refusal.cause, refusal.meaning, place, mark) from None
-    return ok(f"{count(len(edits), 'edit')} {'is' if len(edits) == 1 else 'are'} made")
+        raise Refusal(refusal.cause, refusal.meaning, place, f"  edit {place + 1}, {edits[place]}{then}") from None
 
 
 def close(session: Session, words: Words) -> Told:
@@ -127,7 +132,10 @@ def names(session: Session, words: Words) -> Told:
         return Failed(unread(path, error))
     except NoNames as error:
         return Failed(f"{error}\nnone is taken")
-    return ok(f"{count(len(session.names.records), 'name')} of records, {count(len(session.names.letters), 'name')} of letters")
+    n = session.register.size
+    beyond = sum(record >= n for record in session.names.records) if n else 0
+    outside = f"; {count(beyond, 'name')} of no record here" if beyond else ""
+    return ok(f"{count(len(session.names.records), 'name')} of records, {count(len(session.names.letters), 'name')} of letters{outside}")
 
 
 def mode(session: Session, words: Words) -> Told:

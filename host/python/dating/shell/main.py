@@ -6,6 +6,7 @@ import argparse
 import io
 import os
 import sys
+from collections.abc import Iterable
 
 from ..files import Line, lines
 from ..history import Damaged
@@ -70,7 +71,7 @@ def _answered(given: argparse.Namespace) -> int:
         if register.torn:
             print(f"dating: {register.torn}", file=sys.stderr)
         if given.requests is not None:
-            return _script(session, (Line(number, text, False) for number, text in enumerate(given.requests, 1)))
+            return _script(session, (Line(number, text, False) for number, text in enumerate(given.requests, 1)), "request")
         if is_there():
             if given.file and not register.is_open:
                 _out(f"{given.file} is not there yet, or has no register: open N makes it\n")
@@ -79,9 +80,9 @@ def _answered(given: argparse.Namespace) -> int:
         return _script(session, lines(sys.stdin.buffer))
 
 
-def _script(session: Session, script: object) -> int:
+def _script(session: Session, script: Iterable[Line], unit: str = "line") -> int:
     try:
-        sums = session.run(script, "")  # type: ignore[arg-type]
+        sums = session.run(script, "", unit)
     except Quit as end:
         sums = end.args[0]
     if sums.failed:

@@ -113,7 +113,11 @@ class Session:
 
     def stays(self, what: str) -> bool:
         """Whether a request that would lose work is not to be done, as who typed it says."""
-        if self.ask is None or not self.unsaved or not self.register.is_open:
+        if self.ask is None or not self.register.is_open:
+            return False
+        if self.register.path and (links := len(self.register.links())):
+            return not self.ask(f"{count(links, 'link')} would be gone by {what}, and undo does not bring them back. Go on?")
+        if not self.unsaved:
             return False
         return not self.ask(f"{count(self.unsaved, 'change')} kept nowhere would be lost by {what}; sheet > FILE keeps them. Go on?")
 
@@ -170,7 +174,7 @@ class Session:
             try:
                 written(path, text.encode("utf-8", "surrogateescape"))
             except OSError as error:
-                return Failed(changes.cannot(path, error) + ("; nothing is done" if told.then else ""))
+                return Failed(changes.cannot(path, error) + ("; nothing is done" if told.then and "sheet" not in told.data else ""))
             said = Told(f"wrote {named(path)} ({count(text.count(chr(10)), 'line')})", wrote=path)
             after = self.after(told, file)
             self.show(said.lines(self.mode, request), True)
@@ -211,8 +215,8 @@ class Session:
         else:
             self.show(told.text + "\n")
 
-    def run(self, script: Iterable[Line], place: str) -> Sums:
-        """Answers the lines of a file or a pipe, up to quit or the end; what fails is named by its place and text."""
+    def run(self, script: Iterable[Line], place: str, unit: str = "line") -> Sums:
+        """Answers the lines of a file or a pipe, or requests, up to quit or the end; what fails is named by its place and text."""
         sums = Sums()
         had = self.register.is_open
         for line in script:
@@ -232,8 +236,11 @@ class Session:
                 sums.done += 1
                 continue
             none = told.text.startswith("no request: ")
+            if none and place:
+                # How a request is typed is for who types it.
+                told.text = told.text.split("\n")[0]
             sums.none, sums.refused = sums.none + none, sums.refused + (not none)
-            self.tell(told, f"{place}line {line.number}, ", line.text.strip(BLANKS))
+            self.tell(told, f"{place}{unit} {line.number}, ", line.text.strip(BLANKS))
             if line.text.split()[:1] == ["open"] and (place or had) and not none:
                 self.out(f"{place}line {line.number}: what follows was meant for another register, and is not read\n")
                 break
@@ -261,15 +268,19 @@ class Session:
             if opens and self.stays(f"read {named(path)}"):
                 return self.none("nothing is read")
             self.quiet = True
+            # On a terminal nothing scrolls away: all of it is shown by screenfuls.
+            out, screen, collected = self.out, self.screen, list[str]()
+            if screen is not None:
+                self.out, self.screen = collected.append, None
             try:
                 sums = self.run(lines(file), f"{named(path)}, ")
             except Quit as end:
                 sums = end.args[0]
             finally:
-                self.quiet = False
+                self.quiet, self.out, self.screen = False, out, screen
         if opens and (self.register.latest(1), self.register.calls) != before and self.register.is_open:
             self.register.settle()
-        said = f"{named(path)}: {sums.text()}"
+        said = f"{''.join(collected)}{named(path)}: {sums.text()}"
         if sums.failed:
             return Failed(said)
         return Told(said, read=path, done=sums.done)

@@ -63,7 +63,7 @@ class Terminal:
             try:
                 line = input(help.PROMPT)
                 interrupted = False
-                self.typed(line)
+                self.answered(line)
             except KeyboardInterrupt:
                 # The line is taken back; a second time it is the end.
                 session.out("\n")
@@ -80,6 +80,13 @@ class Terminal:
             except Quit:
                 if self.leaves("quit"):
                     return
+
+    def answered(self, line: str) -> None:
+        """Answers a line; Ctrl-C in the midst is told, since the call may have been made."""
+        try:
+            self.typed(line)
+        except KeyboardInterrupt:
+            self.session.out("\ninterrupted; what was accepted stays, and history lists it\n")
 
     def typed(self, line: str) -> None:
         session = self.session

@@ -45,7 +45,7 @@ class Words:
         word = self.word(name)
         if not _figures(word):
             raise _no_number(name, word)
-        return min(int(word[:20]), _ABOVE_RECORDS) if len(word) <= 20 else _ABOVE_RECORDS if word.lstrip("0")[20:] else int(word)
+        return min(_number(word), _ABOVE_RECORDS)
 
     def record(self, name: str) -> int:
         """A record, by its number or its name."""
@@ -67,7 +67,7 @@ class Words:
         size = word[1:] if word[:1] in ("-", "+") else word
         if not _figures(size):
             raise _no_number(name, word)
-        return max(-_MOST_RINGS, min(_MOST_RINGS, int(size[:30]))) * (-1 if word.startswith("-") else 1)
+        return min(_MOST_RINGS, _number(size)) * (-1 if word.startswith("-") else 1)
 
     def letter(self, name: str) -> str:
         """One character; whether it is a letter from a to z is for the engine to say."""
@@ -133,6 +133,12 @@ def _is_edit(text: str) -> bool:
 
 def _figures(word: str) -> bool:
     return word.isascii() and word.isdigit()
+
+
+def _number(figures: str) -> int:
+    """The number of some figures; of more than twelve that count, one that is too large for all."""
+    some = figures.lstrip("0")
+    return int(some or "0") if len(some) <= 12 else 10**12
 
 
 def _no_number(name: str, word: str) -> Fault:
