@@ -62,6 +62,11 @@ class Desk:
         self.closed = ""
         """What was said of the latest closing up."""
 
+    def end(self) -> None:
+        """Lets the file go, once a change that is under way is made or refused."""
+        with self._turn:
+            self.register.close()
+
     # What there is
 
     def refresh(self) -> None:

@@ -60,11 +60,12 @@ def main(arguments: list[str] | None = None) -> int:
 
 def _serve(server: Server, host: str) -> None:
     with server:
-        print(f"http://{host}:{server.server_port}/ is the page of {server.desk.register.path}; Ctrl-C ends it", flush=True)
         # Ended from another thread: whoever serves cannot wait for itself.
         for number in (signal.SIGINT, signal.SIGTERM):
             signal.signal(number, lambda *_: threading.Thread(target=server.shutdown).start())
+        print(f"http://{host}:{server.server_port}/ is the page of {server.desk.register.path}; Ctrl-C ends it", flush=True)
         server.serve_forever(poll_interval=0.2)
+    server.desk.end()
 
 
 def _password(path: str | None) -> str:

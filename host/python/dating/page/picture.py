@@ -102,8 +102,7 @@ def of_chain(chain: Steps, marks: Sequence[int], names: Names, width: int) -> st
                 drawn.shapes.append(_text(x - _GAP / 2, y + _HEIGHT / 2 + 16, name, "name"))
             else:
                 drawn.down(_EDGE + (across - 1) * (_WIDTH + _GAP) + _WIDTH / 2, y - _ROW + _HEIGHT, x + _WIDTH / 2, y, f"{words} {name}".rstrip(), step.forward)
-        name = [_cut(names.records[record])] if record in names.records else []
-        drawn.box(x, y, _KINDS[marks[record]], [str(record), *name])
+        drawn.box(x, y, _KINDS[marks[record]], _numbered([record], names))
     return drawn.svg(f"a chain of {len(chain)} steps from {records[0]} to {records[-1]}")
 
 
