@@ -123,7 +123,7 @@ class Page(unittest.TestCase):
         browser.says("#between", "lock 3")
         browser.click("#save")
         browser.says("#told", "Saved: 1 edit made")
-        self.assertIn("others made 1 call", browser.text("#told"))
+        self.assertIn("The sheet had changed since you began, by 1 call", browser.text("#told"))
         self.assertIn("lock 3", browser.text("#told"))
 
     def test_under_way_no_answer_and_none_look_different(self):
@@ -157,7 +157,7 @@ class Page(unittest.TestCase):
 
     def to(self, css):
         """Goes on by Tab until an element has the focus."""
-        for _ in range(60):
+        for _ in range(90):
             if browser.run("return document.activeElement.matches(arguments[0])", css):
                 return
             browser.keys(TAB)

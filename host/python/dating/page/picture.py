@@ -42,8 +42,8 @@ class _Picture:
     def box(self, x: float, y: float, kind: str, lines: Sequence[str], width: float = _WIDTH) -> None:
         self.shapes.append(f'<rect x="{x:g}" y="{y:g}" width="{width:g}" height="{_HEIGHT}" rx="7" class="box {kind}"/>')
         if kind == "locked":
-            self.padlock(x + width - 14, y - 7)
             self.shapes.append(f'<rect x="{x + 3:g}" y="{y + 3:g}" width="{width - 6:g}" height="{_HEIGHT - 6}" rx="5" class="box inner"/>')
+            self.padlock(x + width - 14, y - 7)
         first = y + _HEIGHT / 2 + 5 - 8 * (len(lines) - 1)
         for place, line in enumerate(lines):
             self.shapes.append(_text(x + width / 2, first + 16 * place, line, "number" if place == 0 else "name"))
@@ -96,7 +96,7 @@ def of_chain(chain: Steps, marks: Sequence[int], names: Names, width: int) -> st
         x, y = _EDGE + column * (_WIDTH + _GAP), 2 * _EDGE + row * _ROW
         if place:
             step = chain[place - 1]
-            words, name = f"{place}: {step.letter}", _cut(names.letters.get(step.letter, ""))
+            words, name = f"{place}: {step.letter}", _cut(names.letters.get(step.letter, ""), 11)
             if column:
                 drawn.arrow(x - _GAP, y + _HEIGHT / 2, x, words, step.forward)
                 drawn.shapes.append(_text(x - _GAP / 2, y + _HEIGHT / 2 + 16, name, "name"))

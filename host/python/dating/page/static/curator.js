@@ -109,7 +109,7 @@ async function whole(letters) {
     if (!answer.ok) throw new Error((await answer.json()).error);
     const image = el("img", { alt: `links ${letters} by generations`, class: "whole" });
     image.src = `${address}&at=${encodeURIComponent(sheet.mark)}`;
-    fill(place, el("div", { class: "picture", tabindex: "0", role: "group", "aria-label": "picture of the whole" }, image));
+    fill(place, el("div", { class: "picture", tabindex: "0", role: "group", "aria-label": "picture of the whole" }, image), el("a", { href: address, target: "_blank", rel: "noopener" }, "The picture alone"));
   } catch (error) {
     fill(place, note("refused", `No picture: ${error.message}`));
   }

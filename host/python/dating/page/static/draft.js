@@ -57,12 +57,16 @@ export function put(line) {
 
 function line(text, place) {
   const input = el("input", { value: text, "aria-label": `Line ${place + 1} of the draft`, spellcheck: "false", autocapitalize: "off" });
-  input.addEventListener("input", () => {
+  const taken = () => {
     draft.lines[place] = input.value.trim();
     draft.name = fresh();
     keep();
+  };
+  input.addEventListener("input", taken);
+  input.addEventListener("change", () => {
+    taken();
+    changed();
   });
-  input.addEventListener("change", changed);
   const out = el("button", { type: "button", "aria-label": `Take out line ${place + 1}, ${text}`, onclick: () => takeOut(place) }, "Take out");
   return el("li", {}, el("div", { class: "line-of-draft" }, input, out), el("div", { class: "of-line" }));
 }
@@ -92,13 +96,13 @@ function takeOut(place) {
 function show() {
   const count = draft.lines.length;
   at("draft").className = count ? "has-lines" : "";
-  at("draft-count").textContent = count ? `${many(count, "line")}, not made` : "empty";
-  at("draft-says").textContent = count ? "Not made yet: nobody else sees these lines, and no answer has them, until you save." : "Nothing is waiting to be made. What you put in here is made when you save it.";
+  at("draft-count").textContent = count ? `${many(count, "line")}, ${unsure ? "not known whether made" : "not made"}` : "empty";
+  at("draft-says").textContent = unsure ? "A Save of these lines was not answered: whether they are made is being looked up." : count ? "Not made yet: nobody else sees these lines, and no answer has them, until you save." : "Nothing is waiting to be made. What you put in here is made when you save it.";
   lines();
   at("save").disabled = at("cancel").disabled = busy || sheet.read_only;
   const bar = at("draft-bar");
   bar.className = count ? "" : "hidden";
-  bar.textContent = `Draft: ${many(count, "line")}, not made`;
+  bar.textContent = `Draft: ${at("draft-count").textContent}`;
   if (!count) {
     fill(at("effect"));
     fill(at("between"));
@@ -139,13 +143,14 @@ function settled(data) {
     return true;
   }
   keep();
+  show();
   fill(at("told"), note("error", "The Save that was not answered has not been made. The draft is still here; save again."));
   return false;
 }
 
 function between(found) {
   if (found.another) fill(at("between"), note("old", "The file holds another history than when you began this draft. Look at the lines before you save."));
-  else if (found.total) fill(at("between"), note("old", `Since you began this draft, others made ${many(found.total, "call")}; it will be saved on the sheet as it is now:`, calls(found)));
+  else if (found.total) fill(at("between"), note("old", `The sheet has changed since you began this draft, by ${many(found.total, "call")}. It will be saved on the sheet as it is now:`, calls(found)));
   else fill(at("between"));
 }
 
@@ -182,7 +187,7 @@ async function save() {
     draft = { lines: [], since: "", name: "" };
     refused = null;
     const found = data.between;
-    const also = found.another ? "The file held another history than when you began." : found.total ? `Before it, since you began, others made ${many(found.total, "call")}:` : "";
+    const also = found.another ? "The file held another history than when you began." : found.total ? `The sheet had changed since you began, by ${many(found.total, "call")}:` : "";
     fill(at("told"), note("good", `Saved: ${many(data.saved, "edit")} made, and in the file, at ${clock(data.time)}. ${also}`, found.total ? calls(found) : null));
     document.dispatchEvent(new CustomEvent("stands", { detail: data }));
   } catch (error) {

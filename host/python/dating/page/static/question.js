@@ -1,6 +1,6 @@
 // A question and its answer. Under way, answered, none, refused, no answer and as of then look different, and each says in a word which it is.
 
-import { at, clock, el, fill, note, picture, table, wide } from "./shown.js";
+import { at, clock, el, fill, note, picture, table, unbroken, wide } from "./shown.js";
 import { Told, get } from "./wire.js";
 
 const form = at("ask");
@@ -39,7 +39,7 @@ function show(kind, state, ...inside) {
 
 function told(data) {
   const [first, ...rest] = data.words;
-  const pieces = [el("p", { class: "words" }, first), ...rest.map((line) => el("p", { class: "line" }, line)), picture(data.picture)];
+  const pieces = [el("p", { class: "words" }, ...unbroken(first)), ...rest.map((line) => el("p", { class: "line" }, ...unbroken(line))), picture(data.picture)];
   if (data.remark) pieces.push(el("p", { class: "line" }, data.remark));
   if (data.rows.length) pieces.push(rows(data));
   pieces.push(el("p", { class: "small" }, "Asked: ", el("code", {}, data.request), ` · sheet of ${clock(data.time)}`));

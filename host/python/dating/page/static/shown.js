@@ -52,3 +52,6 @@ export function note(kind, ...inside) {
 export const wide = (place) => Math.max(300, Math.min(4000, place.clientWidth - 28));
 
 export const quoted = (word) => (/[\s,]/.test(word.trim()) && !word.includes('"') ? `"${word.trim()}"` : word.trim());
+
+// Words as text; arrows and short names that have a hyphen are not broken at it.
+export const unbroken = (line) => line.split(" ").flatMap((word, place) => [place ? " " : "", word.includes("-") && word.length < 25 ? el("span", { class: "whole-word" }, word) : word]);
