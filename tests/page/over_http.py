@@ -114,7 +114,8 @@ class Questions(Page):
             self.assertEqual((status, data["kind"], data["number"]), (422, "refused", number))
             self.assertIn(words, data["error"])
         self.assertIn("^", self.get("/ask", kind="pairs", expression="t / m")[1]["mark"])
-        for fields in ({"kind": "chain", "from_": "x", "to": "0", "expression": "t"}, {"kind": "chain"}, {"kind": "none"}, {"kind": "ends", "record": "-1", "expression": "t"}):
+        wrong = [{"kind": "chain", "from_": "x", "to": "0", "expression": "t"}, {"kind": "chain"}, {"kind": "none"}]
+        for fields in [*wrong, {"kind": "ends", "record": "-1", "expression": "t"}]:
             status, data = self.get("/ask", **fields)
             self.assertEqual((status, data["kind"]), (400, "fault"))
             self.assertGreater(len(data["error"]), 8)
@@ -281,8 +282,10 @@ class Safe(Page):
         before = self.unchanged()
         right = self.server.headers()
         bodies = [b"", b"{", b"[]", b"null", b"3", b'"x"', b"\xff\xfe", b"{}" * 3, b"[" * 100000, b'{"edits": 1}', b'{"edits": [1]}', b'{"edits": ["lock 3"]}']
-        bodies += [b'{"edits": ["lock 3"], "since": 4, "name": "x"}', b'{"edits": ["lock 3"], "since": "%s", "name": 4}' % (b"x" * 50), b'{"edits": [], "since": "", "name": ""}']
-        for lines in (["lock"], ["lock x"], ["lock 3 4"], ["lock 99999999999999999999"], ["add 0 aa 1"], ["add 0 A 1"], ["lock -3"], ["\u0000"], ["lock \u0663"], ["x" * 300], ["lock 3"] * 1001, ["open 3"], ["close"], ["lock 3", "lock 3"]):
+        bodies += [b'{"edits": ["lock 3"], "since": 4, "name": "x"}', b'{"edits": ["lock 3"], "since": "%s", "name": 4}' % (b"x" * 50)]
+        bodies += [b'{"edits": [], "since": "", "name": ""}']
+        wrong = ["lock", "lock x", "lock 3 4", "lock 99999999999999999999", "add 0 aa 1", "add 0 A 1", "lock -3", "\u0000", "lock \u0663", "x" * 300]
+        for lines in ([[line] for line in wrong] + [["lock 3"] * 1001, ["open 3"], ["close"], ["undo"], ["lock 3", "lock 3"]]):
             bodies.append(json.dumps({"edits": lines, "since": before[1], "name": "x"}).encode())
         for path in ("/save", "/draft", "/undo", "/close"):
             for body in bodies:
@@ -324,8 +327,15 @@ class Safe(Page):
     def test_what_is_no_request(self):
         before = self.unchanged()
         token = self.server.headers()["X-Dating-Token"]
-        head = f"POST /save HTTP/1.1\r\nHost: 127.0.0.1:{self.server.port}\r\nOrigin: {self.server.origin}\r\nX-Dating-Token: {token}\r\nContent-Type: application/json\r\n"
-        for more, status in (("Content-Length: -1\r\n\r\n", b"411"), ("Transfer-Encoding: chunked\r\n\r\n0\r\n\r\n", b"411"), ("\r\n", b"411"), ("Content-Length: 50\r\n\r\n{", b"400"), ("Content-Length: 99999999999\r\n\r\n", b"413")):
+        head = f"POST /save HTTP/1.1\r\nHost: 127.0.0.1:{self.server.port}\r\nOrigin: {self.server.origin}\r\nX-Dating-Token: {token}\r\n"
+        head += "Content-Type: application/json\r\n"
+        for more, status in (
+            ("Content-Length: -1\r\n\r\n", b"411"),
+            ("Transfer-Encoding: chunked\r\n\r\n0\r\n\r\n", b"411"),
+            ("\r\n", b"411"),
+            ("Content-Length: 50\r\n\r\n{", b"400"),
+            ("Content-Length: 99999999999\r\n\r\n", b"413"),
+        ):
             self.assertIn(status, self.raw((head + more).encode()).split(b"\r\n")[0], more)
         chance = random.Random(44)
         for _ in range(40):
@@ -359,14 +369,16 @@ class Password(Page):
         self.addCleanup(self.folder.cleanup)
 
     def test_another_address_needs_a_password(self):
-        for more in ((), ("--password-file", self.folder.put("short", "short\n")), ("--password-file", self.folder.put("empty", "")), ("--password-file", "/nothing/here")):
+        files = [self.folder.put("short", "short\n"), self.folder.put("empty", ""), "/nothing/here"]
+        for more in [(), *(("--password-file", file) for file in files)]:
             done = subprocess.run([sys.executable, "-m", "dating.page", self.folder.path, *self.arguments, *more], capture_output=True, text=True, check=False)
             self.assertEqual((done.returncode, done.stdout), (1, ""))
             self.assertIn("password" if "/nothing/here" not in more else "cannot be read", done.stderr)
         word = self.folder.put("word", "larch and oak\n")
         with Server(self.folder.path, *self.arguments, "--password-file", word) as server:
             right = {"Authorization": "Basic " + base64.b64encode(b"anna:larch and oak").decode()}
-            for headers in ({}, {"Authorization": "Basic " + base64.b64encode(b"anna:larch").decode()}, {"Authorization": "Basic ???"}, {"Authorization": "Bearer x"}):
+            wrong = ["Basic " + base64.b64encode(b"anna:larch").decode(), "Basic ???", "Bearer x"]
+            for headers in [{}, *({"Authorization": word} for word in wrong)]:
                 for path in ("/", "/sheet"):
                     status, given, _ = server.request("GET", path, headers=headers)
                     self.assertEqual(status, 401)
@@ -468,7 +480,8 @@ class Killed(unittest.TestCase):
             self.assertEqual(len(folder.calls()) - len(calls), len(HOUSE))
             self.assertEqual(server.get("/sheet")[1]["links"], 7 + len(calls))
         more = len(calls) - len(answered)
-        print(f"page: killed {rounds} times; {len(answered)} saves were answered, and all are there; {more} more were made and not answered; none that was refused")
+        said = f"{len(answered)} saves were answered, and all are there; {more} more were made and not answered; none that was refused"
+        print(f"page: killed {rounds} times; {said}")
 
     def test_a_page_learns_whether_its_save_was_made(self):
         folder = Folder()

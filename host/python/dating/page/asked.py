@@ -125,7 +125,8 @@ def _hangs(reading: Reading, fields: Fields, width: int) -> Answer:
         return _why(reading, explain.Why(register, from_, to, expression), width)
     passed = {step.reached for step in steps} - {from_, to}
     if len(passed) > MOST_HUNG:
-        raise Fault(f"the chain passes {len(passed):,} records, and {MOST_HUNG} are asked here at most; the shell asks them all: {request(reading, dict(fields.given))}")
+        typed = request(reading, dict(fields.given))
+        raise Fault(f"the chain passes {len(passed):,} records, and {MOST_HUNG} are asked here at most; the shell asks them all: {typed}")
     _, cores = explain.hangs(register, from_, to, expression)
     between = "there is another way round each record between its ends" if passed else "there is no record between its ends"
     named = ", ".join(map(reading.named, cores))
