@@ -483,6 +483,25 @@ class Killed(unittest.TestCase):
         said = f"{len(answered)} saves were answered, and all are there; {more} more were made and not answered; none that was refused"
         print(f"page: killed {rounds} times; {said}")
 
+    def test_a_full_disk(self):
+        """What cannot be written is not made, and said so; what fits is."""
+        folder = Folder()
+        self.addCleanup(folder.cleanup)
+        before = folder.text()
+        with Server(folder.path, largest=len(before) + 50) as server:
+            status, data = server.save("lock 3", "lock 4", "lock 5", "lock 6")
+            self.assertEqual((status, data["kind"]), (500, "not kept"))
+            self.assertIn("the call is not made", data["error"])
+            self.assertEqual((folder.text(), server.get("/sheet")[1]["locked"]), (before, [[0, ""]]))
+            self.assertEqual(server.save("lock 3")[0], 200)
+            status, data = server.post("/close", mark=server.mark())
+            self.assertEqual(status, 500)
+            self.assertEqual(server.get("/sheet")[1]["records"], 9)
+        with Server(folder.path, largest=30) as server:
+            status, data = server.post("/close", mark=server.mark())
+            self.assertIn("nothing is closed up", data["error"])
+        self.assertEqual(folder.calls(), [*HOUSE, "lock 3"])
+
     def test_a_page_learns_whether_its_save_was_made(self):
         folder = Folder()
         self.addCleanup(folder.cleanup)

@@ -4,6 +4,7 @@ import http.client
 import json
 import os
 import re
+import resource
 import subprocess
 import sys
 import tempfile
@@ -43,9 +44,14 @@ class Folder(tempfile.TemporaryDirectory):
 class Server:
     """A server over a history, on a port of its own."""
 
-    def __init__(self, path, *arguments, port=0, environment=None):
+    def __init__(self, path, *arguments, port=0, largest=None):
+        """With `largest`, no file can have more bytes than that: a disk that is full."""
         command = [sys.executable, "-W", "error", "-m", "dating.page", path, "--port", str(port), *arguments]
-        self.process = subprocess.Popen(command, stdout=subprocess.PIPE, stderr=subprocess.PIPE, text=True, env={**os.environ, **(environment or {})})
+
+        def limit():
+            resource.setrlimit(resource.RLIMIT_FSIZE, (largest, largest))
+
+        self.process = subprocess.Popen(command, stdout=subprocess.PIPE, stderr=subprocess.PIPE, text=True, preexec_fn=largest and limit)
         self.said = self.process.stdout.readline()
         found = re.match(r"http://([^:]+):(\d+)/", self.said)
         if not found:

@@ -35,6 +35,11 @@ MOST_FIELDS = 20
 MOST_CLIENTS = 64
 """The most requests at one time; one more is told to come again."""
 _SECONDS = 20
+# How long a request may take to come, whole.
+_COMES = 40.0
+# How much is read of what is not wanted, and for how long.
+_UNREAD = 1 << 20
+_DRAIN = 1.0
 # How long a wrong password waits.
 _WRONG = 0.5
 _HEADERS = {
@@ -99,6 +104,23 @@ class Handler(BaseHTTPRequestHandler):
     server_version, sys_version = "dating.page", ""
     timeout = _SECONDS
 
+    def setup(self) -> None:
+        super().setup()
+        # Whoever sends a byte now and then is let go too.
+        self.late = threading.Timer(_COMES, self.let_go)
+        self.late.daemon = True
+        self.late.start()
+
+    def let_go(self) -> None:
+        try:
+            self.connection.shutdown(socket.SHUT_RDWR)
+        except OSError:
+            pass
+
+    def finish(self) -> None:
+        self.late.cancel()
+        super().finish()
+
     def do_GET(self) -> None:
         self.answered(GET, self.query)
 
@@ -115,7 +137,9 @@ class Handler(BaseHTTPRequestHandler):
                 if path in other:
                     raise Denied(HTTPStatus.METHOD_NOT_ALLOWED, f"{path} is asked by {'GET' if routes is POST else 'POST'}")
                 raise Denied(HTTPStatus.NOT_FOUND, "there is nothing at this address")
-            reply = routes[path](self.server, given())
+            asked = given()
+            self.late.cancel()
+            reply = routes[path](self.server, asked)
         except Denied as denied:
             reply = Reply.told(denied.status, error=str(denied), kind="denied")
         except RefusedLine as refused:
@@ -135,6 +159,19 @@ class Handler(BaseHTTPRequestHandler):
             print(f"dating.page: {type(error).__name__}: {error}", file=sys.stderr)
             reply = Reply.told(HTTPStatus.INTERNAL_SERVER_ERROR, error=f"the server failed ({type(error).__name__}); this is no answer", kind="failed")
         self.send(reply)
+        self.drain()
+
+    def drain(self) -> None:
+        """Reads what was sent and not looked at, within bounds: a connection that is closed over unread bytes may lose the answer."""
+        self.wfile.flush()
+        left, end = _UNREAD, time.monotonic() + _DRAIN
+        self.connection.settimeout(_DRAIN)
+        try:
+            self.connection.shutdown(socket.SHUT_WR)
+            while left > 0 and time.monotonic() < end and (part := self.connection.recv(65536)):
+                left -= len(part)
+        except OSError:
+            pass
 
     # Who may ask
 

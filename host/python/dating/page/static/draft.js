@@ -48,11 +48,16 @@ function changed() {
   check();
 }
 
-export function put(line) {
+function put(line) {
+  if (!sheet) {
+    fill(at("told"), note("error", "The sheet is not here yet: nothing is put into the draft."));
+    return false;
+  }
   if (!draft.lines.length) draft.since = sheet.mark;
   draft.lines.push(line);
   fill(at("told"));
   changed();
+  return true;
 }
 
 function line(text, place) {
@@ -173,7 +178,7 @@ function effect(data) {
 }
 
 async function save() {
-  if (busy) return;
+  if (busy || !sheet) return;
   if (!draft.lines.length) {
     fill(at("told"), note("plain", "There is nothing to save: the draft is empty, and the sheet is as it was."));
     return;
@@ -212,6 +217,7 @@ function failed(error) {
 }
 
 function cancel() {
+  if (!sheet) return;
   const count = draft.lines.length;
   checks++;
   draft = { lines: [], since: "", name: "" };
@@ -232,7 +238,7 @@ function entered(form, line) {
       missing.focus();
       return;
     }
-    put(line(word, form.elements));
+    if (!put(line(word, form.elements))) return;
     form.reset();
     form.querySelector("input").focus();
   });
