@@ -49,6 +49,16 @@ class Browser:
         """What a script of the test gives."""
         return self.call("POST", "/execute/sync", {"script": script, "args": list(given)})
 
+    def window(self):
+        return self.call("GET", "/window")
+
+    def another(self):
+        """Another window, which is the one from now on."""
+        self.to(self.call("POST", "/window/new", {"type": "window"})["handle"])
+
+    def to(self, window):
+        self.call("POST", "/window", {"handle": window})
+
     def find(self, css):
         return self.call("POST", "/element", {"using": "css selector", "value": css})[ELEMENT]
 

@@ -126,6 +126,29 @@ class Page(unittest.TestCase):
         self.assertIn("The sheet had changed since you began, by 1 call", browser.text("#told"))
         self.assertIn("lock 3", browser.text("#told"))
 
+    def test_two_pages(self):
+        """Each of two pages learns of what the other saved, and each has a draft of its own."""
+        first = browser.window()
+        inserted("8", "o", "7")
+        browser.says("#draft-count", "1 line")
+        browser.another()
+        try:
+            browser.screen(1280, 800)
+            self.opened()
+            browser.says("#draft-count", "empty")
+            browser.type("#edit-record [name=record]", "8")
+            browser.click("#edit-record [value=lock]")
+            browser.click("#save")
+            browser.says("#told", "Saved: 1 edit made")
+        finally:
+            browser.call("DELETE", "/window")
+            browser.to(first)
+        self.assertLess(browser.says("#changes", "lock 8", 2), 2)
+        browser.says("#effect", "Line 1 would be refused: an end of the link is locked: 8")
+        browser.click("#save")
+        browser.says("#told", "Not saved: line 1")
+        self.assertEqual(self.folder.calls()[-1], "lock 8")
+
     def test_under_way_no_answer_and_none_look_different(self):
         os.kill(self.server.process.pid, signal.SIGSTOP)
         asked("4", "0")

@@ -145,6 +145,15 @@ class Names(Page):
         status, data = self.get("/ask", kind="ends", record="attic", expression="t")
         self.assertIn("not \"attic\"", data["error"])
 
+    def test_names_are_never_markup(self):
+        self.server.end()
+        wild = "<script>alert(1)</script> & 'more'"
+        with Server(self.folder.path, "--names", self.folder.put("wild.txt", f"4 {wild}\nt <b>\n")) as server:
+            for expression in ("^t", "m"):
+                drawn = ElementTree.fromstring(server.ask("chain", from_="4", to="8", expression=expression)["picture"])
+                self.assertEqual({each.tag.split("}")[1] for each in drawn.iter()}, {"svg", "title", "rect", "path", "text"})
+            self.assertIn(wild, server.ask("ends", record="8", expression="t")["rows"][0][0])
+
     def test_closing_up_keeps_its_table_first(self):
         before = self.unchanged()
         told = self.get("/closing")[1]

@@ -24,8 +24,10 @@ if TYPE_CHECKING:
 _JSON = "application/json; charset=utf-8"
 _TEXT = "text/plain; charset=utf-8"
 _HISTORY = 5000
-# Questions at one time: each has up to 10 MB of space of its own. And how long one waits for its turn.
-_PLACES = threading.BoundedSemaphore(4)
+# Questions at one time: each has up to 10 MB of space of its own. Those of one record do not wait for those of all pairs. And how long one waits for its turn.
+_PLACES = threading.BoundedSemaphore(3)
+_SHORT_PLACES = threading.BoundedSemaphore(3)
+_SHORT = ("chain", "ends", "starts", "links", "loops", "generations")
 _WAIT = 30.0
 _DRAWING_SECONDS = 20
 
@@ -48,14 +50,15 @@ class Reply(NamedTuple):
 
 
 @contextmanager
-def turn() -> Iterator[None]:
+def turn(kind: str = "") -> Iterator[None]:
     """A question's turn: so many are asked at one time."""
-    if not _PLACES.acquire(timeout=_WAIT):
+    places = _SHORT_PLACES if kind in _SHORT else _PLACES
+    if not places.acquire(timeout=_WAIT):
         raise Fault("too many questions are asked at once; this is no answer: ask again")
     try:
         yield
     finally:
-        _PLACES.release()
+        places.release()
 
 
 def texts(given: dict[str, Any], most: int = 600) -> dict[str, str]:
@@ -108,7 +111,7 @@ def history(server: Server, given: dict[str, Any]) -> Reply:
 def asked(server: Server, given: dict[str, Any]) -> Reply:
     """A question's answer, or one part of it: the first rows, and how many there are."""
     fields = texts(given)
-    with turn():
+    with turn(fields.get("kind", "")):
         reading = server.desk.reading()
         typed = Fields(fields, reading.names)
         first = typed.number("first", 0, 1 << 20, 0)
