@@ -11,6 +11,10 @@ import tempfile
 import time
 from urllib.parse import urlencode
 
+import dating
+from dating.names import Names
+from dating.page.fields import read_edit
+
 DATED = "^t/(o|^o|t/^t)*/m+"
 # The house of examples/surveyor.txt: 0 is the master, and locked; the rafter 3 is dated, the wall post 4 is not.
 HOUSE = ["open 9", "add 5 t 2", "add 6 t 2", "add 7 t 3", "add 8 t 4", "add 7 o 6", "add 5 m 1", "add 1 m 0", "lock 0"]
@@ -24,7 +28,11 @@ class Folder(tempfile.TemporaryDirectory):
         super().__init__()
         self.path = os.path.join(self.name, "house.txt")
         if lines:
-            subprocess.run([sys.executable, "-m", "dating", self.path], input="\n".join(lines) + "\n", text=True, check=True, stdout=subprocess.DEVNULL)
+            with dating.open(self.path, records=int(lines[0].split()[1])) as register:
+                edits = [read_edit(line, Names()) for line in lines[1:]]
+                # A large sheet is one line of the history.
+                for part in [edits] if len(edits) > 100 else [[edit] for edit in edits]:
+                    register.apply(part)
 
     def text(self):
         with open(self.path, "rb") as file:
