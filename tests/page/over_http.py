@@ -241,8 +241,12 @@ class Drafts(Page):
         self.assertEqual((status, data["kind"]), (409, "changed"))
         sheet = self.get("/sheet")[1]
         self.assertEqual(self.post("/undo", mark=sheet["mark"], edit="lock 4")[0], 409)
+        # Nor one of the same words that another made since.
+        self.save("unlock 8", "lock 8")
+        self.assertEqual(self.post("/undo", mark=sheet["mark"], edit="lock 8")[0], 409)
+        sheet = self.get("/sheet")[1]
         self.assertEqual(self.post("/undo", mark=sheet["mark"], edit="lock 8")[1]["undone"], "lock 8")
-        self.assertEqual(self.folder.calls()[-3:], ["add 3 o 2", "lock 8", "undo"])
+        self.assertEqual(self.folder.calls()[-4:], ["add 3 o 2", "lock 8", "do unlock 8, lock 8", "undo"])
         self.assertTrue(self.get("/changes", since="4-00000000")[1]["another"])
 
     def test_one_who_reads(self):
