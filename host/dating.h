@@ -4,8 +4,8 @@
  * contents, and ends. What is written (state, list, out, tree, work) must not overlap what else is lent.
  *
  * A uint32_t answer is 0, or the number of a refusal, unless it says otherwise. A uint64_t answer is a total, or the number of words of the answer;
- * DATING_NO_CHAIN, or DATING_CANNOT_HOLD; DATING_LOOP plus the number of steps of a loop; or DATING_REFUSED plus the number of a refusal. Of links, pairs,
- * ends and starts (dating_links, dating_pairs, dating_tree_list, dating_preview, dating_pairs_by_rows, dating_ends, dating_starts) it is the total, of
+ * DATING_NO_CHAIN, or DATING_CANNOT_HOLD; DATING_LOOP plus the number of steps of a loop; or DATING_REFUSED plus the number of a refusal. Of links, totals, marks, pairs,
+ * ends and starts (dating_links, dating_totals, dating_marks, dating_pairs, dating_tree_list, dating_preview, dating_pairs_by_rows, dating_ends, dating_starts) it is the total, of
  * which the first min(total, list_len) are written; any other answer that is longer than its list is refused. A refused call leaves state and list as they
  * were; words of a list past the answer, and of a state past DATING_STATE_WORDS, are never touched; work may hold anything after a call. The numbers:
  *
@@ -88,6 +88,11 @@ uint64_t dating_ends(const uint32_t *state, size_t state_len, uint16_t from, con
 /* The starts of a record, likewise: those from which a chain leads to it. */
 uint64_t dating_starts(const uint32_t *state, size_t state_len, uint16_t to, const uint8_t *text, size_t text_len, uint32_t *list, size_t list_len);
 
+/* The 26 totals, from label 0 on. */
+uint64_t dating_totals(const uint32_t *state, size_t state_len, uint32_t *list, size_t list_len);
+/* The marks of the n records, from record 0 on: 0 free, 1 locked, 2 withdrawn. */
+uint64_t dating_marks(const uint32_t *state, size_t state_len, uint32_t *list, size_t list_len);
+
 /* k2-trees of pairs below n, each lent as exactly its words; a tree has at most D words. Work as for pairs. */
 uint64_t dating_tree_make(size_t n, const uint32_t *pairs, size_t pairs_len, uint64_t *tree, size_t tree_len, uint64_t *work, size_t work_len);
 uint64_t dating_tree_list(size_t n, const uint64_t *tree, size_t tree_len, uint32_t *list, size_t list_len, uint64_t *work, size_t work_len);
@@ -108,6 +113,12 @@ uint64_t dating_tree_closure(size_t n, const uint64_t *a, size_t a_len, uint64_t
  * the question's. */
 uint64_t dating_preview(const uint32_t *state, size_t state_len, uint16_t kind, uint16_t from, uint8_t label, uint16_t to, const uint8_t *text,
                         size_t text_len, uint64_t *work, size_t work_len, uint32_t *list, size_t list_len);
+/* A list of edits and undos made as one: every call of it, or none. A call is a word: its kind, as above, times 2^40, from or the record times 2^24, the
+ * label times 2^16, and to; closing up and any other kind are refused with 15. Each is asked as if those before it were made. The answer is the number of
+ * calls if all were accepted, and then each of them is held for undo. Otherwise the state stays as it is, and the answer is DATING_REFUSED plus 32 times the
+ * place of the first refused call, from 0, plus its number; 16 stands at the place 0, and so does 14 for 2^32 calls or more. To ask what a list would
+ * give, make it on a copy of the state. */
+uint64_t dating_apply_all(uint32_t *state, size_t state_len, const uint64_t *calls, size_t calls_len);
 /* Closes up the numbers: the records in use are numbered from 0 in their old order, n is lowered to their count, and links, locks and totals follow. The list
  * takes, for each old number ascending, the new one, or DATING_NO_NUMBER for a withdrawn record; words past the old n are left. Held edits are dropped. 21
  * if no record is in use, then 13 if the list is shorter than the old n. */

@@ -26,6 +26,38 @@
 //! assert_eq!((undo(&mut state), done(undo(&mut state))), (8, Err(dating::Refusal::NoneHeld)));
 //! ```
 //!
+//! Edits made all or none: unlock 2, add the link a from 1 to 2, lock 2 again. With the link twice nothing is made, and the answer tells the place:
+//!
+//! ```
+//! use dating::calls::*;
+//!
+//! let mut state = vec![0; STATE_WORDS];
+//! fresh(4, &mut state);
+//! lock(&mut state, 2);
+//! let (unlock_2, add_1_a_2, lock_2) = (5 << 40 | 2 << 24, 2 << 40 | 1 << 24 | 2, 4 << 40 | 2 << 24);
+//! let before = state.clone();
+//! assert_eq!(apply_all(&mut state, &[unlock_2, add_1_a_2, add_1_a_2, lock_2]), REFUSED + 32 * 2 + 5);
+//! assert_eq!(state, before);
+//! assert_eq!((apply_all(&mut state, &[unlock_2, add_1_a_2, lock_2]), locked(&state, 2), total(&state, 0)), (3, 1, 1));
+//! assert_eq!((undo(&mut state), locked(&state, 2)), (0, 0));
+//! ```
+//!
+//! Totals and marks, each as one list, of which the first are written if it is short:
+//!
+//! ```
+//! use dating::calls::*;
+//!
+//! let mut state = vec![0; STATE_WORDS];
+//! fresh(4, &mut state);
+//! add(&mut state, 0, 1, 1);
+//! lock(&mut state, 2);
+//! withdraw(&mut state, 3);
+//! let (mut list, mut few) = ([9; 5], [9; 2]);
+//! assert_eq!((marks(&state, &mut list), list), (4, [0, 0, 1, 2, 9]));
+//! assert_eq!((totals(&state, &mut few), few), (26, [0, 1]));
+//! assert_eq!(marks(&[], &mut list), REFUSED + 16);
+//! ```
+//!
 //! Questions. The state has links a from 0 to 1 and from 1 to 2:
 //!
 //! ```
@@ -192,6 +224,8 @@ extern "C" {
         list: *mut u32,
         list_len: usize,
     ) -> u64;
+    fn dating_totals(state: *const u32, state_len: usize, list: *mut u32, list_len: usize) -> u64;
+    fn dating_marks(state: *const u32, state_len: usize, list: *mut u32, list_len: usize) -> u64;
     fn dating_tree_make(
         n: usize,
         pairs: *const u32,
@@ -288,6 +322,7 @@ extern "C" {
         list: *mut u32,
         list_len: usize,
     ) -> u64;
+    fn dating_apply_all(state: *mut u32, state_len: usize, calls: *const u64, calls_len: usize) -> u64;
     fn dating_close_up(state: *mut u32, state_len: usize, numbers: *mut u16, numbers_len: usize) -> u32;
     fn dating_generations(
         state: *const u32,
@@ -465,6 +500,16 @@ pub fn starts(state: &[u32], to: u16, text: &[u8], list: &mut [u32]) -> u64 {
     unsafe { dating_starts(state.as_ptr(), state.len(), to, text.as_ptr(), text.len(), list.as_mut_ptr(), list.len()) }
 }
 
+/// The 26 totals, from label 0 on.
+pub fn totals(state: &[u32], list: &mut [u32]) -> u64 {
+    unsafe { dating_totals(state.as_ptr(), state.len(), list.as_mut_ptr(), list.len()) }
+}
+
+/// The marks of the n records, from record 0 on: 0 free, 1 locked, 2 withdrawn.
+pub fn marks(state: &[u32], list: &mut [u32]) -> u64 {
+    unsafe { dating_marks(state.as_ptr(), state.len(), list.as_mut_ptr(), list.len()) }
+}
+
 /// The tree of pair words in any order. Work of every tree call: [`tree_work`](crate::tree_work).
 pub fn tree_make(n: usize, pairs: &[u32], tree: &mut [u64], work: &mut [u64]) -> u64 {
     unsafe { dating_tree_make(n, pairs.as_ptr(), pairs.len(), tree.as_mut_ptr(), tree.len(), work.as_mut_ptr(), work.len()) }
@@ -565,6 +610,13 @@ pub fn preview(state: &[u32], kind: u16, from: u16, label: u8, to: u16, text: &[
             list.len(),
         )
     }
+}
+
+/// A list of edits and undos made as one, every call of it or none. A call is a word: its kind, as that of a preview, times 2^40, from or the record
+/// times 2^24, the label times 2^16, and to. The number of calls if all were accepted; else [`REFUSED`] + 32 times the place of the first refused one,
+/// from 0, + its number.
+pub fn apply_all(state: &mut [u32], calls: &[u64]) -> u64 {
+    unsafe { dating_apply_all(state.as_mut_ptr(), state.len(), calls.as_ptr(), calls.len()) }
 }
 
 /// Closes up the numbers: 0, or 21 or 13. The list takes, for each old number ascending, the new one, or [`NO_NUMBER`] for a withdrawn record;

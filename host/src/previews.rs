@@ -30,9 +30,36 @@ impl Edit {
             Edit::Reinstate(record) => (11, record, 0, 0),
         }
     }
+
+    /// The same as a word of a history.
+    fn word(self) -> u64 {
+        let (kind, from, label, to) = self.parts();
+        u64::from(kind) << 40 | u64::from(from) << 24 | u64::from(label) << 16 | u64::from(to)
+    }
 }
 
 impl Register {
+    /// Makes every edit of a list in turn, or none of them. If one is refused, nothing is changed, and the place of the first that is comes with its
+    /// cause, counted from 0. To ask what a list would give, make it on a clone of the register.
+    ///
+    /// ```
+    /// use dating::{Edit, Link, Refusal};
+    /// # let mut register = dating::Register::fresh(3)?;
+    /// register.lock(2)?;
+    /// let link = Edit::Add(Link { from: 1, letter: 'a', to: 2 });
+    /// assert_eq!(register.apply_all(&[Edit::Unlock(2), link, link, Edit::Lock(2)]), Err((2, Refusal::Already)));
+    /// assert!(register.is_locked(2));
+    /// assert_eq!(register.apply_all(&[Edit::Unlock(2), link, Edit::Lock(2)]), Ok(()));
+    /// assert_eq!(register.pairs("a")?.collect::<Vec<_>>(), [(1, 2)]);
+    /// # Ok::<(), dating::Refusal>(())
+    /// ```
+    pub fn apply_all(&mut self, edits: &[Edit]) -> Result<(), (usize, Refusal)> {
+        let words: Vec<u64> = edits.iter().map(|edit| edit.word()).collect();
+        let answer = calls::apply_all(&mut self.words, &words);
+        let refused = |told: u64| ((told / 32) as usize, calls::done((told % 32) as u32).expect_err("a refusal has a cause"));
+        answer.checked_sub(calls::REFUSED).map_or(Ok(()), |told| Err(refused(told)))
+    }
+
     /// The pairs that the expression would join if the edit were made. It is not made: the links, the marks and the held edits stay as they are, and only the
     /// space for questions is written to. An edit that would be refused gives its cause, before any of the question's.
     ///

@@ -13,8 +13,8 @@ struct Function {
 }
 
 /// The modules of `crates/host/src` that export functions, in the order of the declarations.
-const MODULES: [&str; 10] =
-    ["edits", "questions", "trees", "previews", "closing", "numbering", "sole_support", "printing", "by_rows", "ties"];
+const MODULES: [&str; 12] =
+    ["edits", "questions", "reading", "trees", "previews", "drafts", "closing", "numbering", "sole_support", "printing", "by_rows", "ties"];
 
 /// Those that export none.
 const OTHERS: [&str; 2] = ["lib", "told"];

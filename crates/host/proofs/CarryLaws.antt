@@ -11,7 +11,8 @@
 --   fresh-refused, fresh-short, fresh-made
 --                         what asking for one promises, in each case
 --   asked-foreign, asked  a question over words that are no register's, and over a register's
---   links-handed          the links, copied to the front of a list
+--   copied                words copied to the front of a list, the first that it takes
+--   links-handed          the links, copied so
 --   size-foreign, sized, total-foreign, totalled
 --                         the number of records, and the total of a label
 --   lock-foreign, locked-word, withdrawn-foreign, withdrawn-word
@@ -45,7 +46,7 @@ use Rattle.register.specs.declared.Outcome.{Outcome}
 use Rattle.register.specs.declared.Links.{Links}
 use Rattle.register.specs.declared.Answer.{Answer}
 use Rattle.register.specs.declared.Answer.the-variants.{Done, Refused}
-use Rattle.pairs.specs.Asking.{handed}
+use Rattle.pairs.specs.Asking.{Handed, handed}
 use Rattle.pairs.specs.declared.PairsAnswer.the-variants.{Pairs}
 use Rattle.host.specs.Host.{freshNumber, Freshens, Edits, refusal, toldPairs, toldTotal, Told, Asked, Lists, Sizes, TellsLock, TellsWithdrawn, TellsTotal}
 use Rattle.host.specs.Histories.{Renumbers}
@@ -208,20 +209,21 @@ module _ {A : Type 0} {ws : List ℕ} {P : Register → A → Type 0} {f : A →
   pub asked : {r : Register} → Keeps ws r → (a : A) → P r a → k ≡ f a → Asked ws P f before after k
   asked {r} w a p e = record { answers = λ s v. subst (λ (t : Register). Told (P t) f k) (keeps-same w v) (a, p, e); foreign = λ g. absurd (g r w) }
 
--- the links: the first words of an array copied to the front of a list
+-- words copied to the front of a list, the first that it takes
+pub copied : {before after : List ℕ} (l xs : List ℕ) {ok : Bool} → Copies xs 0 before after ok → length xs ≤ length before → xs ≡ take (length before) l
+    → Handed l before after (Pairs (length l))
+copied {before} l xs c h q =
+    let z : 0 + length xs ≡ length xs = omega arith in
+    handed (c .fits (omega (arith, h)) .1 ∙ ap (λ (j : ℕ). xs ++ drop j before) z ∙ ap (λ (ys : List ℕ). ys ++ drop (length ys) before) q)
+
+-- the links: the first words of an array
 abbrev front : Links → List ℕ
 front ls = take (ls .count) (ls .words)
 
 pub links-handed : {ws before after : List ℕ} {r : Register} → Keeps ws r → (ls : Links)
     → Listing r ls → (xs : List ℕ) {ok : Bool} → Copies xs 0 before after ok → length xs ≤ length before
     → xs ≡ take (length before) (front ls) → {k : ℕ} → k ≡ length (front ls) → Asked ws (Lists before after) toldPairs before after k
-links-handed {before = before} w ls g xs c h q e =
-    let z : 0 + length xs ≡ length xs = omega arith in
-    asked w (Pairs (length (front ls))) (
-      ls,
-      g,
-      handed (c .fits (omega (arith, h)) .1 ∙ ap (λ (j : ℕ). xs ++ drop j before) z ∙ ap (λ (l : List ℕ). l ++ drop (length l) before) q),
-    ) e
+links-handed w ls g xs c h q e = asked w (Pairs (length (front ls))) (ls, g, copied (front ls) xs c h q) e
 
 byte : (l : Bool) → boolByte l ≡ bit l
 byte true = refl

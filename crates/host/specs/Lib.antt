@@ -16,3 +16,7 @@ pub mod PageHostLaws
 pub mod RowQuestionLaws
 pub mod MadeLaws
 pub mod EndsQuestionLaws
+pub mod Drafts
+pub mod DraftLaws
+pub mod Reading
+pub mod ReadingLaws

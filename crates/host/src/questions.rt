@@ -32,7 +32,7 @@ pub extern "C" fn dating_size(state: &[u32]) -> u32
 }
 
 // How many of some words a list of so many takes.
-fn fitting(words: &[u32], room: usize) -> usize
+pub fn fitting(words: &[u32], room: usize) -> usize
     ensures { λ r. ⌜ (r ≤ length (now (words .entry))) × (r ≤ room) × (take r (now (words .entry)) ≡ take room (now (words .entry))) ⌝ }
 {
     if room < words.len() {

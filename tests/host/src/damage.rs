@@ -87,6 +87,12 @@ pub fn damaged(run: &mut Run, seed: u64, size: Size) {
             run.same_of(|| format!("{call:?} on words of no register"), &answer, &16);
         }
     }
+    let refused = !possible(&words);
+    let draft: Vec<u64> = (0..random.below(6)).map(|_| random.pick(&[2, 3, 4, 5, 6, 10, 12]) << 40 | random.word() % (1 << 34)).collect();
+    let answer = run.engine.apply_all(&mut words, &draft);
+    if refused {
+        run.same("a list on words of no register", &answer, &Err((0, 16)));
+    }
     for room in [0, 3, 1024, 1500] {
         let refused = !possible(&words);
         let answer = run.engine.close_up(&mut words, room);
@@ -108,6 +114,8 @@ pub fn damaged(run: &mut Run, seed: u64, size: Size) {
             let (from, to) = (random.record(sized), random.record(sized));
             let answers = [
                 run.engine.links(&words, list),
+                run.engine.totals(&words, list),
+                run.engine.marks(&words, list),
                 run.engine.pairs(&words, &text, Space { work: pairs, list }),
                 run.engine.pairs_by_rows(&words, &text, Space { work: pairs.min(rows::work(sized)), list }),
                 run.engine.chain(&words, from, to, &text, Space { work: chains, list }),

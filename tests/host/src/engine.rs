@@ -2,6 +2,7 @@
 //! refused call leaves state and list as they were, and words past an answer are not touched.
 
 mod closing;
+mod drafts;
 
 use crate::lent::{Lender, Word};
 use dating::calls;
@@ -218,6 +219,14 @@ impl Engine {
 
     pub fn links(&mut self, words: &[u32], list: usize) -> Answer<u32> {
         self.asked(words, b"", Space { work: 0, list }, |state, _, _, list| calls::links(state, list))
+    }
+
+    pub fn totals(&mut self, words: &[u32], list: usize) -> Answer<u32> {
+        self.asked(words, b"", Space { work: 0, list }, |state, _, _, list| calls::totals(state, list))
+    }
+
+    pub fn marks(&mut self, words: &[u32], list: usize) -> Answer<u32> {
+        self.asked(words, b"", Space { work: 0, list }, |state, _, _, list| calls::marks(state, list))
     }
 
     pub fn pairs(&mut self, words: &[u32], text: &[u8], space: Space) -> Answer<u32> {

@@ -3,6 +3,7 @@
 pub mod previews;
 pub mod two_people;
 pub mod closing;
+pub mod drafts;
 
 use crate::engine::Answer;
 use crate::run::{Run, Size};
@@ -201,6 +202,13 @@ impl<'a> History<'a> {
         }
         for label in (0..=LABELS).chain([31, 97, 255]) {
             self.compare_total(label);
+        }
+        let (totals, marks) = (self.book.totals(), self.book.marks());
+        for space in spaces(1, totals.len()).into_iter().chain(spaces(1, marks.len())) {
+            let answer = self.run.engine.totals(&self.words, space.list);
+            self.run.same("totals", &answer, &first_within(&Ok(totals.clone()), 0, space));
+            let answer = self.run.engine.marks(&self.words, space.list);
+            self.run.same("marks", &answer, &first_within(&Ok(marks.clone()), 0, space));
         }
         self.run.counts.contents += 1;
     }

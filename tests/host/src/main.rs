@@ -40,6 +40,8 @@ const KINDS: &[Kind] = &[
     ("damaged words, many records", damage::damaged, Size(65, 1024), [100, 1500, 1]),
     ("previews of few records", history::previews::previews, Size(1, 64), [100, 1000, 2]),
     ("previews of many records", history::previews::previews, Size(65, 1024), [12, 120, 0]),
+    ("lists of edits, few records", history::drafts::drafts, Size(1, 64), [150, 1500, 2]),
+    ("lists of edits, many records", history::drafts::drafts, Size(65, 1024), [20, 200, 0]),
     ("two people, few records", history::two_people::two_people, Size(1, 64), [40, 400, 1]),
     ("two people, many records", history::two_people::two_people, Size(65, 1024), [6, 60, 0]),
     ("two people, almost full", history::two_people::almost_full, Size(16, 256), [6, 60, 0]),

@@ -67,6 +67,17 @@ impl Book {
         Ok(self.sheet.links.iter().filter(|link| link.label == label).count())
     }
 
+    /// The total of each label, from 0 on.
+    pub fn totals(&self) -> Vec<u32> {
+        (0..LABELS).map(|label| self.sheet.links.iter().filter(|link| link.label == label).count() as u32).collect()
+    }
+
+    /// The mark of each record, from 0 on: 0 free, 1 locked, 2 withdrawn.
+    pub fn marks(&self) -> Vec<u32> {
+        let mark = |record| u32::from(self.sheet.locked.contains(&record)) + 2 * u32::from(self.sheet.withdrawn.contains(&record));
+        (0..self.n).map(mark).collect()
+    }
+
     /// The number of edits that undo can take back.
     pub fn held(&self) -> usize {
         self.pile.len()

@@ -12,6 +12,7 @@
 //! | `offsets` | offsets known within limits | S19 Offsets known within limits |
 //! | `question` | pair and chain questions with all their refusals | S6 Causes and numbers |
 //! | `preview` | pair questions on a copy where an edit was made | S12 Look before saving |
+//! | `draft` | a list of edits made all or none | S22 Edits made all or none |
 //! | `generations` | the longest run to each record, or the first loop | S15 Generations |
 //! | `support` | sole support with all its refusals | S16 Sole support |
 //! | `frame` | requests as frames, and frames read as requests | S7 The program |
@@ -24,6 +25,7 @@
 
 pub mod book;
 pub mod chain;
+pub mod draft;
 pub mod expression;
 pub mod frame;
 pub mod generations;

@@ -14,7 +14,7 @@ const PREVIEWS: usize = 4;
 
 impl History<'_> {
     /// The kind and arguments of a call; those that the kind does not take are any.
-    fn arguments(&mut self, call: Call) -> (u16, u16, u8, u16) {
+    pub(super) fn arguments(&mut self, call: Call) -> (u16, u16, u8, u16) {
         let (from, label, to) = (self.random.word() as u16, self.random.word() as u8, self.random.word() as u16);
         match call {
             Call::Add(link) => (2, link.from as u16, link.label as u8, link.to as u16),

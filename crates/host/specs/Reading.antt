@@ -1,0 +1,37 @@
+-- What `dating_totals` and `dating_marks` promise: what the register keeps of every label and of every record, read as one list.
+--   ReadsTotals before after r a
+--                   the totals of the register r, from label 0 on, handed over into a list that held `before`: the first that it takes, and how many they
+--                   are in all
+--   ReadsMarks before after r a
+--                   the marks of its records, from record 0 on, likewise
+--   valuesBelow f n
+--                   f 0, f 1, and so on up to f (n − 1)
+--   totalsOf b, marksOf b
+--                   the totals of the labels, and the marks of the records, of the book b
+-- Assumes nothing: these are definitions.
+use mathlib.Core.List.{List, [], _∷_, _++_}
+use Prim.Native.Nat.{ℕ, zero, suc}
+use lib.ListN.{take}
+use Rattle.book.specs.Causes.{labels}
+use Rattle.book.specs.Book.{Book, total}
+use Rattle.register.specs.Marks.{markOf}
+use Rattle.register.specs.Questions.{Sized, MarkList, TotalList}
+use Rattle.register.specs.declared.Register.{Register}
+use Rattle.pairs.specs.Asking.{Handed}
+use Rattle.pairs.specs.declared.PairsAnswer.{PairsAnswer}
+
+abbrev pub ReadsTotals : List ℕ → List ℕ → Register → PairsAnswer → Type 0
+ReadsTotals before after r a = (ts : List ℕ) × TotalList r ts × Handed ts before after a
+
+abbrev pub ReadsMarks : List ℕ → List ℕ → Register → PairsAnswer → Type 0
+ReadsMarks before after r a = (n : ℕ) × (ms : List ℕ) × Sized r n × MarkList r ms × Handed (take n ms) before after a
+
+unfoldable pub valuesBelow : (ℕ → ℕ) → ℕ → List ℕ
+valuesBelow f zero = []
+valuesBelow f (suc n) = valuesBelow f n ++ (f n ∷ [])
+
+abbrev pub totalsOf : Book → List ℕ
+totalsOf b = valuesBelow (total (b .sheet)) labels
+
+abbrev pub marksOf : Book → List ℕ
+marksOf b = valuesBelow (markOf (b .sheet)) (b .n)
