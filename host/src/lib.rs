@@ -28,7 +28,6 @@
 //! * [`Register::pages`] and [`read_pages`]: the answer of a pair question as printed pages, and the pairs read back
 //! * [`Edit`]: an edit by name, for a preview of what it would do to an answer
 //! * [`Generations`]: the longest run of links to each record, or the first loop
-//! * [`Register::drawing`]: the links of some letters as a picture, text for Graphviz
 //! * [`Trees`] and [`Tree`]: sets of pairs as k2-trees, and their algebra
 //! * [`calls`]: the engine's functions as they are exported, on plain slices
 //!
@@ -37,7 +36,6 @@
 mod by_rows;
 pub mod calls;
 mod closing;
-mod drawing;
 mod generations;
 mod items;
 mod offsets;
