@@ -111,8 +111,8 @@ uint64_t dating_tree_closure(size_t n, const uint64_t *a, size_t a_len, uint64_t
 /* A preview: what dating_pairs would give if one edit or undo were made, which is not made; the state stays as it is. The kind is a frame's: 2 add,
  * 3 remove, 4 lock, 5 unlock, 6 undo, 10 withdraw, 11 reinstate; any other is refused with 15. A record alone is `from`. The edit's numbers come before
  * the question's. */
-uint64_t dating_preview(const uint32_t *state, size_t state_len, uint16_t kind, uint16_t from, uint8_t label, uint16_t to, const uint8_t *text,
-                        size_t text_len, uint64_t *work, size_t work_len, uint32_t *list, size_t list_len);
+uint64_t dating_preview(const uint32_t *state, size_t state_len, uint16_t kind, uint16_t from, uint8_t label, uint16_t to, const uint8_t *text, size_t text_len,
+                        uint64_t *work, size_t work_len, uint32_t *list, size_t list_len);
 /* A list of edits and undos made as one: every call of it, or none. A call is a word: its kind, as above, times 2^40, from or the record times 2^24, the
  * label times 2^16, and to; closing up and any other kind are refused with 15. Each is asked as if those before it were made. The answer is the number of
  * calls if all were accepted, and then each of them is held for undo. Otherwise the state stays as it is, and the answer is DATING_REFUSED plus 32 times the
@@ -133,13 +133,13 @@ uint64_t dating_generations(const uint32_t *state, size_t state_len, const uint8
 
 /* Sole support: the records but the core, ascending, that have a chain to some anchor and none to any once the links that touch the core are gone. Locks
  * play no part. Anchors ascend, each once. Work of 32 * D + 64 * n words. */
-uint64_t dating_sole_support(const uint32_t *state, size_t state_len, uint16_t core, const uint8_t *text, size_t text_len, const uint16_t *anchors,
-                             size_t anchors_len, uint64_t *work, size_t work_len, uint32_t *list, size_t list_len);
+uint64_t dating_sole_support(const uint32_t *state, size_t state_len, uint16_t core, const uint8_t *text, size_t text_len,
+                             const uint16_t *anchors, size_t anchors_len, uint64_t *work, size_t work_len, uint32_t *list, size_t list_len);
 
 /* The pairs that the expression joins, as printed pages of lines of 72 bytes and a line feed: the bytes written. A space that cannot hold every page is
  * refused with 13; k pairs take 73 * (k / 6 rounded up + heads) bytes, where heads is k / 354 rounded up, and at least 1. Work as for pairs. */
-uint64_t dating_pages(const uint32_t *state, size_t state_len, const uint8_t *text, size_t text_len, uint64_t *work, size_t work_len, uint8_t *pages,
-                      size_t pages_len);
+uint64_t dating_pages(const uint32_t *state, size_t state_len, const uint8_t *text, size_t text_len, uint64_t *work, size_t work_len,
+                      uint8_t *pages, size_t pages_len);
 /* The pairs that pages show, ascending: their number. Bytes that are not the pages of the expression and some ascending list of different pairs are
  * refused with 14, a list that is too short for them with 13. */
 uint64_t dating_read_pages(const uint8_t *text, size_t text_len, const uint8_t *pages, size_t pages_len, uint32_t *list, size_t list_len);
@@ -155,8 +155,8 @@ struct dating_tie {
 };
 /* How many rings each record begins after the base in every placing of whole years that meets all ties, at most 1,024: two words to a record, the
  * narrowest least and most, or 1 and 0 for a record that ties do not join to the base. Work of 64 * n words. */
-uint64_t dating_offsets(const uint32_t *state, size_t state_len, uint16_t base, const struct dating_tie *ties, size_t ties_len, int64_t *work,
-                        size_t work_len, int32_t *list, size_t list_len);
+uint64_t dating_offsets(const uint32_t *state, size_t state_len, uint16_t base, const struct dating_tie *ties, size_t ties_len, int64_t *work, size_t work_len,
+                        int32_t *list, size_t list_len);
 
 #ifdef __cplusplus
 }
