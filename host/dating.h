@@ -25,7 +25,7 @@
  *       8 deep                                          21  no record in use
  *   11  lent tree not well formed
  *
- * tests/declarations.rs holds this file to the Rattle source.
+ * host/declarations writes the functions of this file from the Rattle source.
  */
 #ifndef DATING_H
 #define DATING_H

@@ -6,6 +6,7 @@ use std::fmt::{self, Display, Formatter};
 /// The cause of a refusal. The engine names each by its number.
 #[derive(Clone, Copy, Debug, PartialEq, Eq, PartialOrd, Ord, Hash)]
 #[repr(u32)]
+#[non_exhaustive]
 pub enum Refusal {
     Size = 1,
     Record = 2,
@@ -44,7 +45,10 @@ const CAUSES: &[(Refusal, &str)] = &[
     (Refusal::Limits, "the expression is over 256 bytes, 63 letters or 8 deep"),
     (Refusal::Tree, "the tree is not well formed"),
     (Refusal::Work, "the work is shorter than stated"),
-    (Refusal::List, "the chain, the loop, the tree, the numbers, the records, the offsets or the pages are longer than the space for them"),
+    (
+        Refusal::List,
+        "the chain, the loop, the tree, the numbers, the records, the offsets or the pages are longer than the space for them",
+    ),
     (Refusal::Frame, "the frame is broken, or the bytes are not the pages of the expression"),
     (Refusal::Kind, "the kind is unknown"),
     (Refusal::NotOpened, "no register is opened: the words are not those of a register"),
@@ -62,6 +66,7 @@ impl Refusal {
     /// assert_eq!(dating::Refusal::of(4), Some(dating::Refusal::Locked));
     /// assert_eq!(dating::Refusal::of(0), None);
     /// ```
+    #[must_use]
     pub fn of(number: u32) -> Option<Refusal> {
         CAUSES.iter().map(|&(cause, _)| cause).find(|cause| cause.number() == number)
     }
@@ -71,6 +76,7 @@ impl Refusal {
     /// ```
     /// assert_eq!(dating::Refusal::Locked.number(), 4);
     /// ```
+    #[must_use]
     pub fn number(self) -> u32 {
         self as u32
     }
@@ -81,6 +87,7 @@ impl Refusal {
     /// assert_eq!(dating::Refusal::Full.meaning(), "4,096 links are present");
     /// assert_eq!(dating::Refusal::Full.to_string(), "refused 7: 4,096 links are present");
     /// ```
+    #[must_use]
     pub fn meaning(self) -> &'static str {
         let found = CAUSES.iter().find(|(cause, _)| *cause == self);
         found.expect("every cause is in the table").1
