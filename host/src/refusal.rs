@@ -32,6 +32,7 @@ pub enum Refusal {
 }
 
 /// Every cause, by ascending number, with its meaning.
+#[rustfmt::skip]
 const CAUSES: &[(Refusal, &str)] = &[
     (Refusal::Size, "the number of records is outside 1 to 1,024"),
     (Refusal::Record, "a record is not below the number of records"),
@@ -45,10 +46,7 @@ const CAUSES: &[(Refusal, &str)] = &[
     (Refusal::Limits, "the expression is over 256 bytes, 63 letters or 8 deep"),
     (Refusal::Tree, "the tree is not well formed"),
     (Refusal::Work, "the work is shorter than stated"),
-    (
-        Refusal::List,
-        "the chain, the loop, the tree, the numbers, the records, the offsets or the pages are longer than the space for them",
-    ),
+    (Refusal::List, "the chain, the loop, the tree, the numbers, the records, the offsets or the pages are longer than the space for them"),
     (Refusal::Frame, "the frame is broken, or the bytes are not the pages of the expression"),
     (Refusal::Kind, "the kind is unknown"),
     (Refusal::NotOpened, "no register is opened: the words are not those of a register"),

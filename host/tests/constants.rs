@@ -30,6 +30,7 @@ fn constants_are_the_same() {
     assert_eq!(defined("DATING_STATE_WORDS"), dating::calls::STATE_WORDS.to_string());
     assert_eq!(defined("DATING_WORK_WORDS"), dating::support_work(1024).to_string());
     assert_eq!(defined("DATING_NO_NUMBER"), dating::calls::NO_NUMBER.to_string());
+    assert_eq!(defined("DATING_PLACE"), dating::calls::PLACE.to_string());
     let power = |number: u64| format!("(UINT64_C(1) << {})", number.trailing_zeros());
     assert_eq!(defined("DATING_NO_CHAIN"), power(dating::calls::NO_CHAIN));
     assert_eq!(defined("DATING_REFUSED"), power(dating::calls::REFUSED));

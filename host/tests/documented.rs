@@ -73,3 +73,13 @@ fn the_header_names_every_refusal() {
     let causes: Vec<u32> = (1..100).filter(|&number| dating::Refusal::of(number).is_some()).collect();
     assert_eq!(found, causes);
 }
+
+#[test]
+fn the_header_has_the_words_of_every_refusal() {
+    let header = text("dating.h");
+    let (_, table) = header.split_once("meanings[] = {").expect("the words");
+    let (table, _) = table.split_once("};").expect("their end");
+    let words: Vec<&str> = table.lines().filter_map(|line| line.trim().strip_prefix('"')?.strip_suffix("\",")).collect();
+    let causes = (1..100).map_while(dating::Refusal::of).map(|cause| cause.meaning().replace('−', "-"));
+    assert_eq!(words, std::iter::once("done".to_string()).chain(causes).collect::<Vec<_>>());
+}
