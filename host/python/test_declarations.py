@@ -67,8 +67,8 @@ class Declarations(unittest.TestCase):
         """Every call is made by the package, beside the module that declares it."""
         texts = [path.read_text() for path in PACKAGE.glob("*.py") if path.name != "calls.py"]
         made = {name for text in texts for name in re.findall(r"\bcalls\.(\w+)", text)}
-        # A list of edits makes the single ones, and the marks have locks and withdrawn records.
-        by_others = {"add", "remove", "lock", "unlock", "withdraw", "reinstate", "locked", "withdrawn"}
+        # A list of edits makes the single ones.
+        by_others = {"add", "remove", "lock", "unlock", "withdraw", "reinstate"}
         self.assertEqual(declared() - made, by_others)
 
     def test_constants(self) -> None:

@@ -2,8 +2,8 @@
 //!
 //! A `u32` answer is 0 or the number of a refusal. A `u64` answer is a total, or the number of words of the answer; [`NO_CHAIN`] if there is no
 //! chain, [`CANNOT_HOLD`] if ties cannot all hold; [`LOOP`] + the number of steps of a loop; [`REFUSED`] + the number of a refusal. Links,
-//! pairs, ends and starts may be more than the list takes: the number is the total, of which the first min(total, list.len()) are written. A refused call leaves
-//! the state and the list as they were, and words of a list past the answer are never touched; work may hold anything after a call. A state may
+//! pairs, ends and starts may be more than the list takes: the number is the total, of which the first min(total, list.len()) are written. A refused
+//! call leaves the state and the list as they were, and words of a list past the answer are never touched; work may hold anything after a call. A state may
 //! be longer than a register's words: its front is the register, and no call touches the words past it. Words that are no register's (too few, a
 //! counter out of range, a mark above 2) are refused with 16.
 //!

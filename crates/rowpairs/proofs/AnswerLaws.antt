@@ -116,7 +116,7 @@ module _ (r : Register) (e : Expr) (n work : ℕ) (before : List ℕ) (size : (b
       subst (λ (k : ℕ). Handed ps before after (Pairs k)) (sym (T .total)) (handed (T .written ∙ first-over ps before)) in
       record {
         past = handed-past H;
-        fits = handed-fits H (omega (arith, length-map linkPair (T .part), part-few (T .of-label), few));
+        fits = handed-fits H (omega (arith, length-map (T .part) linkPair, part-few (T .of-label), few));
         unchanged = λ k q. handed-some H k q;
         caused = λ k q. handed-some H k q;
         book = λ b R.

@@ -60,20 +60,23 @@ class Questions:
             counted(calls.marks(self._words, written))
             return written[:]
 
-    def _mark(self, record: int) -> int:
-        asked, marks = number(record), self._marks()
-        if asked >= len(marks):
-            cause = Cause.RECORD if marks else Cause.NOT_OPENED
-            raise Refusal(cause, fitting(cause, "", len(marks)))
-        return marks[asked]
+    def _is(self, call: calls.Call, record: int) -> bool:
+        """Whether a record has a mark; a number that is no record's is refused."""
+        asked = number(record)
+        with self._turn:
+            n = self._size()
+            if asked >= n:
+                cause = Cause.RECORD if n else Cause.NOT_OPENED
+                raise Refusal(cause, fitting(cause, "", n))
+            return call(self._words, asked) == 1
 
     def is_locked(self, record: int) -> bool:
         """Whether the record is locked."""
-        return self._mark(record) == calls.LOCKED
+        return self._is(calls.locked, record)
 
     def is_withdrawn(self, record: int) -> bool:
         """Whether the record is withdrawn."""
-        return self._mark(record) == calls.WITHDRAWN
+        return self._is(calls.withdrawn, record)
 
     def locked(self) -> list[int]:
         """The locked records, ascending."""
@@ -126,7 +129,7 @@ class Questions:
 
     def links_of(self, record: int) -> list[Link]:
         """The links that touch a record, in the order of `links`."""
-        self._mark(record)
+        self.is_locked(record)
         return [link for link in self.links() if record in (link.from_, link.to)]
 
     # Questions
