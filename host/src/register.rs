@@ -10,7 +10,7 @@ use std::sync::Mutex;
 /// Where links, held edits, marks and totals stand among a register's words, after the four counters (see [`STATE_WORDS`]).
 const LINKS: Range<usize> = 4..4100;
 const HELD: Range<usize> = 4100..4356;
-const MARKS: Range<usize> = 4356..5380;
+pub(crate) const MARKS: Range<usize> = 4356..5380;
 const TOTALS: Range<usize> = 5380..STATE_WORDS;
 
 /// The letters.
