@@ -180,7 +180,7 @@ fn refusal(number: u32) -> Refusal {
 
 // A slice is lent as a pointer to its first word and its length. `host/declarations` writes these, and the
 // parameters and bodies of the functions below, from the Rattle source.
-extern "C" {
+unsafe extern "C" {
     fn dating_fresh(n: u16, state: *mut u32, state_len: usize) -> u32;
     fn dating_add(state: *mut u32, state_len: usize, from: u16, label: u8, to: u16) -> u32;
     fn dating_remove(state: *mut u32, state_len: usize, from: u16, label: u8, to: u16) -> u32;

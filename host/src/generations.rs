@@ -1,7 +1,7 @@
 //! Generations: how long the longest run of links to each record is, or the first loop.
 
 use crate::calls::{self, WITHDRAWN};
-use crate::register::{label, MARKS};
+use crate::register::{MARKS, label};
 use crate::space::{chain_work, longest_chain};
 use crate::{Refusal, Register, Steps};
 use std::borrow::Cow;

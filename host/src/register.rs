@@ -1,6 +1,6 @@
 //! The register.
 
-use crate::calls::{self, counted, done, told, STATE_WORDS, WITHDRAWN};
+use crate::calls::{self, STATE_WORDS, WITHDRAWN, counted, done, told};
 use crate::space::{chain_work, longest_chain};
 use crate::{Links, Pairs, Records, Refusal, Steps};
 use std::fmt::{self, Debug, Formatter};

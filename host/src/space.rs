@@ -85,11 +85,7 @@ pub fn longest_chain(n: u16) -> usize {
 }
 
 fn in_range(n: u16) -> usize {
-    if n <= 1024 {
-        n.into()
-    } else {
-        0
-    }
+    if n <= 1024 { n.into() } else { 0 }
 }
 
 #[cfg(test)]

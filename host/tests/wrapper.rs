@@ -110,9 +110,9 @@ fn short_lists_get_the_first_pairs_and_the_total() {
 fn words_are_kept_and_taken_again() {
     let register = cases().unwrap();
     let mut again = Register::of_words(register.words()).unwrap();
-    assert_eq!(pairs(&mut again, "a/b"), [(1, 0)]);
+    assert_eq!(pairs(&again, "a/b"), [(1, 0)]);
     again.undo().unwrap();
-    assert_eq!(pairs(&mut again, "a/b"), []);
+    assert_eq!(pairs(&again, "a/b"), []);
     assert_eq!(Register::of_words(&register.words()[1..]).err(), Some(Refusal::NotOpened));
 }
 
