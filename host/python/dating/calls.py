@@ -51,7 +51,8 @@ class LentTie(ctypes.Structure):
 
 
 # Slices, by what they have. Bytes that are only read are lent as they are.
-_SLICES = {c_char_p, *map(POINTER, (c_uint8, c_uint16, c_uint32, c_uint64, c_int32, c_int64, LentTie))}
+_WORDS = {POINTER(c_uint8), POINTER(c_uint16), POINTER(c_uint32), POINTER(c_uint64), POINTER(c_int32), POINTER(c_int64), POINTER(LentTie)}
+_SLICES: set[Any] = {c_char_p, *_WORDS}
 
 
 class Call:
