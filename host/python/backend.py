@@ -49,7 +49,7 @@ def _library() -> Path:
 def _sources() -> list[Path]:
     """The files of the package, but for what is made of them."""
     found = (path for path in (HERE / "dating").rglob("*") if path.is_file() and "__pycache__" not in path.parts)
-    return sorted(path for path in found if path.suffix in (".py", ".txt", ".typed"))
+    return sorted(path for path in found if path.suffix in (".py", ".txt", ".typed", ".html", ".css", ".js"))
 
 
 def _metadata() -> dict[str, str]:

@@ -152,6 +152,20 @@ class Histories(unittest.TestCase):
             self.assertEqual(again, plain)
             self.assertEqual(copy.copy(again), pickle.loads(pickle.dumps(again)))
 
+    def test_what_was_done_since(self) -> None:
+        with dating.open(self.path, records=5) as register:
+            begun = register.mark
+            self.assertEqual(register.since(begun), [])
+            register.lock(1)
+            middle = register.mark
+            register.apply([Edit.unlock(1), Edit.add(0, "a", 1)])
+            self.assertEqual([call for call, _ in register.since(begun) or []], ["do unlock 1, add 0 a 1", "lock 1"])
+            self.assertEqual([call for call, _ in register.since(middle) or []], ["do unlock 1, add 0 a 1"])
+            self.assertEqual(len(register.since("0-00000000") or []), 3)
+            for other in ("", "x", "1-00000000", "99-00000000", begun + "0", "2-" + begun[2:]):
+                self.assertIsNone(register.since(other))
+            self.assertEqual(register.held_count, len(register.held))
+
     def test_a_draft_is_one_line(self) -> None:
         with dating.open(self.path, records=4) as register:
             with register.draft() as draft:

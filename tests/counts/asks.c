@@ -7,7 +7,7 @@
 
 #define STATE 5406
 static uint32_t state[STATE];
-static uint64_t work[65536];
+static uint64_t work[1048576];
 static uint32_t list[1048576];
 
 __attribute__((noinline)) void asked(uint64_t answer) {
@@ -44,7 +44,7 @@ int main(int count, char **words) {
             asked(dating_starts(state, STATE, atoi(words[i]), (const uint8_t *)words[i + 1], strlen(words[i + 1]), list, 1024));
             i += 2;
         } else if (!strcmp(kind, "rows")) {
-            asked(dating_pairs_by_rows(state, STATE, (const uint8_t *)words[i], strlen(words[i]), work, 65536, list, 1048576));
+            asked(dating_pairs_by_rows(state, STATE, (const uint8_t *)words[i], strlen(words[i]), work, 1048576, list, 1048576));
             i += 1;
         } else {
             asked(dating_add(state, STATE, atoi(words[i]), words[i + 1][0] - 'a', atoi(words[i + 2])));

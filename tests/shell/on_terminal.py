@@ -7,6 +7,7 @@ import fcntl
 import os
 import pty
 import select
+import signal
 import struct
 import sys
 import termios
@@ -45,6 +46,8 @@ def main():
         fcntl.ioctl(1, termios.TIOCSWINSZ, struct.pack("HHHH", 24, 80, 0, 0))
         if answers_alone:
             os.dup2(os.open(typed, os.O_RDONLY), 0)
+        # Ctrl-C reaches the shell also where the test was begun with it ignored, as in the background.
+        signal.signal(signal.SIGINT, signal.SIG_DFL)
         # No colours, no marks around what is pasted.
         os.environ["TERM"] = "dumb"
         os.environ["INPUTRC"] = "/dev/null"

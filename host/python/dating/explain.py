@@ -88,17 +88,27 @@ class Why:
 
 
 def _reach(register: Questions, from_: int, to: int, parts: list[bytes]) -> Reach:
-    onward: list[list[int]] = []
-    back: list[list[int]] = []
+    return Reach([part.decode() for part in parts], onward(register, from_, parts), back(register, to, parts))
+
+
+def onward(register: Questions, from_: int, parts: list[bytes]) -> list[list[int]]:
+    """For each part of a sequence, the records that are reached from one by the parts up to it; ends at the first part that reaches none."""
+    found: list[list[int]] = []
     for last in range(1, len(parts) + 1):
-        onward.append(register.ends(from_, b"/".join(parts[:last])))
-        if not onward[-1]:
+        found.append(register.ends(from_, b"/".join(parts[:last])))
+        if not found[-1]:
             break
+    return found
+
+
+def back(register: Questions, to: int, parts: list[bytes]) -> list[list[int]]:
+    """For each part, from the last on, the records from which one is reached by that part and those after it; ends likewise."""
+    found: list[list[int]] = []
     for first in reversed(range(len(parts))):
-        back.append(register.starts(to, b"/".join(parts[first:])))
-        if not back[-1]:
+        found.append(register.starts(to, b"/".join(parts[first:])))
+        if not found[-1]:
             break
-    return Reach([part.decode() for part in parts], onward, back)
+    return found
 
 
 def _some(records: list[int], named: Named) -> str:

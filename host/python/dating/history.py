@@ -92,6 +92,15 @@ class Journal:
             found.append((call, remark[:20]))
         return found
 
+    def since(self, mark: str) -> list[tuple[str, str]] | None:
+        """The calls after the line that a mark names, the last first; none if there is no such line with this check."""
+        found = re.fullmatch(r"(\d{1,9})-([0-9a-f]{8})", mark)
+        lines = int(found[1]) if found else len(self.lines) + 1
+        if found is None or lines > len(self.lines):
+            return None
+        check = self.lines[lines - 1][1 - _CHECK :].decode() if lines else f"{0:08x}"
+        return self.latest(len(self.lines) - lines) if found[2] == check else None
+
 
 class _Replay:
     """Lines made one after the other. Edits are gathered, and made by one call of the engine for each run of them."""

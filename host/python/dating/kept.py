@@ -292,6 +292,16 @@ class Kept(Register):
         """The latest calls, the last first: each as it was typed, and its time."""
         return self._journal.latest(most)
 
+    @property
+    def mark(self) -> str:
+        """What tells this history from any other, and from itself before and after: its lines, and the check over them."""
+        return f"{len(self._journal.lines)}-{self._journal.check:08x}"
+
+    def since(self, mark: str) -> list[tuple[str, str]] | None:
+        """The calls that were made since the history stood at this mark, the last first; none if it never did."""
+        with self._turn:
+            return [] if mark == self.mark else self._journal.since(mark)
+
 
 def open_(path: str | os.PathLike[str], records: int | None = None, read_only: bool = False) -> Kept:
     """The register that is kept in a file. With `records`, a file that is not there yet is made, for a register of so many records; without, it must be

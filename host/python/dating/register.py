@@ -266,6 +266,15 @@ class Register(Questions):
             links, marks, reach = links_before, marks_before, reach - 1
 
     @property
+    def held_count(self) -> int:
+        """How many edits undo can take back."""
+        copy = self.__copy__()
+        reach, found = MOST_HELD if copy._reach is None else copy._reach, 0
+        while found < reach and calls.undo(copy._words) == 0:
+            found += 1
+        return found
+
+    @property
     def latest_held(self) -> Edit | None:
         """The edit that undo would take back now; none if there is none."""
         return next(self._held(), None)

@@ -67,7 +67,7 @@ def history(session: Session, words: Words) -> Told:
     most = words.number("N") if words.rest else _HISTORY
     words.end()
     register = session.opened()
-    held, skipped = len(register.held), 0
+    held, skipped = register.held_count, 0
     latest = register.latest(most)
     lines = [f"{count(register.calls, 'call')}; the latest {len(latest):,}:"]
     rows = []

@@ -1,0 +1,6 @@
+"""`python3 -m dating.page FILE`."""
+
+from .main import run
+
+if __name__ == "__main__":
+    run()
