@@ -57,7 +57,8 @@ class Declarations(unittest.TestCase):
                     for path, text in zip(files, before):
                         (copy / "host" / path).write_text(text)
             source.write_text(kept)
-            for path, text, old, new in zip(files, before, ("uint8_t label", "label: u8", "c_uint32), c_uint8)"), ("uint16_t label", "label: u16", "c_uint32), c_uint16)")):
+            others = [("uint8_t label", "uint16_t label"), ("label: u8", "label: u16"), ("c_uint32), c_uint8)", "c_uint32), c_uint16)")]
+            for path, text, (old, new) in zip(files, before, others):
                 with self.subTest(path):
                     (copy / "host" / path).write_text(text.replace(old, new))
                     self.assertEqual(status("--check"), 1)
