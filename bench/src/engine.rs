@@ -26,7 +26,7 @@ impl System for Engine {
     fn pairs(&mut self, expression: &[u8], list: &mut [u32]) -> Result<usize, Refusal> {
         let pairs = match self.by_rows {
             true => self.register.pairs_by_rows_in(expression, &mut self.work, list),
-            false => self.register.pairs_in(expression, &mut self.work, list),
+            false => self.register.pairs_by_trees_in(expression, &mut self.work, list),
         };
         Ok(pairs.map_err(number)?.len())
     }

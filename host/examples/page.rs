@@ -1,6 +1,6 @@
 //! A page for a bound volume: which samples are dated, by any number of overlaps, against one another. The pairs are then read back from the page.
 
-use dating::{read_pages, Refusal, Register};
+use dating::{Refusal, Register, read_pages};
 
 const EXPRESSION: &str = "(o|^o|b|^b)+";
 

@@ -5,6 +5,7 @@ from __future__ import annotations
 import ctypes
 import os
 import re
+import shutil
 import subprocess
 import sys
 import tempfile
@@ -17,46 +18,51 @@ from dating import Cause, Refusal, calls
 HOST = Path(__file__).resolve().parents[1]
 PACKAGE = Path(dating.__file__).resolve().parent
 
-# The types of the header as ctypes has them; bytes that are only read are lent as Python has them.
-TYPES = {
-    "uint8_t": ctypes.c_uint8,
-    "uint16_t": ctypes.c_uint16,
-    "uint32_t": ctypes.c_uint32,
-    "uint64_t": ctypes.c_uint64,
-    "int32_t": ctypes.c_int32,
-    "int64_t": ctypes.c_int64,
-    "size_t": ctypes.c_size_t,
-    "struct dating_tie": calls.LentTie,
-}
+# The types of a tie in the header as ctypes has them.
+TYPES = {"uint16_t": ctypes.c_uint16, "int32_t": ctypes.c_int32}
 
 
-def of_c(parameter: str) -> type:
-    """The type of a parameter of the header."""
-    constant, of, pointer = re.fullmatch(r"(const )?([a-z0-9_ ]+?) (\*?)\w+", parameter).groups()
-    if constant and pointer and of == "uint8_t":
-        return ctypes.c_char_p
-    return ctypes.POINTER(TYPES[of]) if pointer else TYPES[of]
-
-
-def declared_in_c() -> dict[str, list[type]]:
-    """Each function of the header: its result and its parameters."""
-    code = re.sub(r"/\*.*?\*/", " ", (HOST / "dating.h").read_text(), flags=re.S)
-    functions = re.findall(r"(\w+) dating_(\w+)\(([^)]*)\);", code)
-    parts = {name: (result, [" ".join(parameter.split()) for parameter in given.split(",")]) for result, name, given in functions}
-    return {name: [TYPES[result], *map(of_c, parameters)] for name, (result, parameters) in parts.items()}
+def declared() -> set[str]:
+    """The names of the calls."""
+    return {name for name, call in vars(calls).items() if isinstance(call, calls.Call)}
 
 
 class Declarations(unittest.TestCase):
-    def test_calls(self) -> None:
-        """The same names in the same order, with the same results and parameters."""
-        declared = {name: call for name, call in vars(calls).items() if isinstance(call, calls.Call)}
-        header = declared_in_c()
-        self.assertGreaterEqual(len(header), 31)
-        self.assertEqual(list(declared), list(header))
-        for name, call in declared.items():
-            with self.subTest(name):
-                self.assertEqual(call.name, name)
-                self.assertEqual([call.function.restype, *call.function.argtypes], header[name])
+    def test_written(self) -> None:
+        """Nothing is left to write, and a source, or a file, that is another is seen."""
+        with tempfile.TemporaryDirectory() as folder:
+            copy = Path(folder)
+            shutil.copytree(HOST.parent / "crates/host/src", copy / "crates/host/src")
+            files = [Path("dating.h"), Path("src/calls.rs"), Path("python/dating/calls.py")]
+            for path in [Path("declarations"), *files]:
+                (copy / "host" / path).parent.mkdir(parents=True, exist_ok=True)
+                shutil.copy(HOST / path, copy / "host" / path)
+
+            def status(*arguments: str) -> int:
+                return subprocess.run([sys.executable, copy / "host/declarations", *arguments], capture_output=True).returncode
+
+            def texts() -> list[str]:
+                return [(copy / "host" / path).read_text() for path in files]
+
+            self.assertEqual(status("--check"), 0)
+            before = texts()
+            source = copy / "crates/host/src/edits.rt"
+            kept = source.read_text()
+            for old, new in [("n: u16", "n: u32"), ("dating_undo", "dating_undone"), (") -> u32", ") -> u64")]:
+                with self.subTest(new):
+                    source.write_text(kept.replace(old, new))
+                    self.assertEqual((status("--check"), texts()), (1, before))
+                    self.assertEqual((status(), status("--check")), (0, 0))
+                    self.assertTrue(all(text != other for text, other in zip(texts(), before)))
+                    for path, text in zip(files, before):
+                        (copy / "host" / path).write_text(text)
+            source.write_text(kept)
+            others = [("uint8_t label", "uint16_t label"), ("label: u8", "label: u16"), ("c_uint32), c_uint8)", "c_uint32), c_uint16)")]
+            for path, text, (old, new) in zip(files, before, others):
+                with self.subTest(path):
+                    (copy / "host" / path).write_text(text.replace(old, new))
+                    self.assertEqual(status("--check"), 1)
+                    self.assertEqual((status(), texts()), (0, before))
 
     def test_reached(self) -> None:
         """Every call is made by the package, beside the module that declares it."""
@@ -64,7 +70,7 @@ class Declarations(unittest.TestCase):
         made = {name for text in texts for name in re.findall(r"\bcalls\.(\w+)", text)}
         # A list of edits makes the single ones.
         by_others = {"add", "remove", "lock", "unlock", "withdraw", "reinstate"}
-        self.assertEqual(set(declared_in_c()) - made, by_others)
+        self.assertEqual(declared() - made, by_others)
 
     def test_constants(self) -> None:
         header = dict(re.findall(r"#define DATING_(\w+) (.+)", (HOST / "dating.h").read_text()))
@@ -124,7 +130,7 @@ class Library(unittest.TestCase):
         """Nothing but the calls is exported."""
         listed = subprocess.run(["nm", "-D", "--defined-only", calls._LIBRARY._name], capture_output=True, text=True, check=True)
         names = {line.split()[-1].split("@")[0] for line in listed.stdout.splitlines()}
-        self.assertEqual(names, {f"dating_{name}" for name in declared_in_c()})
+        self.assertEqual(names, {f"dating_{name}" for name in declared()})
 
 
 if __name__ == "__main__":

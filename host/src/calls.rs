@@ -36,7 +36,8 @@
 //! lock(&mut state, 2);
 //! let (unlock_2, add_1_a_2, lock_2) = (5 << 40 | 2 << 24, 2 << 40 | 1 << 24 | 2, 4 << 40 | 2 << 24);
 //! let before = state.clone();
-//! assert_eq!(apply_all(&mut state, &[unlock_2, add_1_a_2, add_1_a_2, lock_2]), REFUSED + 32 * 2 + 5);
+//! assert_eq!(apply_all(&mut state, &[unlock_2, add_1_a_2, add_1_a_2, lock_2]), REFUSED + PLACE * 2 + 5);
+//! assert_eq!(applied(apply_all(&mut state, &[lock_2])), Err((0, dating::Refusal::Already)));
 //! assert_eq!(state, before);
 //! assert_eq!((apply_all(&mut state, &[unlock_2, add_1_a_2, lock_2]), locked(&state, 2), total(&state, 0)), (3, 1, 1));
 //! assert_eq!((undo(&mut state), locked(&state, 2)), (0, 0));
@@ -111,9 +112,6 @@ use crate::{Refusal, Tie};
 /// 256 of held edits, 1,024 of marks (1 locked, 2 withdrawn), 26 of totals. Words saved before the totals, 5,380 of them, are refused with 16.
 pub const STATE_WORDS: usize = 5406;
 
-/// The marks of the records among a register's words.
-pub const MARKS: std::ops::Range<usize> = 4356..5380;
-
 /// The mark of a withdrawn record.
 pub const WITHDRAWN: u32 = 2;
 
@@ -163,14 +161,26 @@ pub fn numbered(answer: u64) -> Result<(bool, usize), Refusal> {
     }
 }
 
+/// By what the place of a refused edit is multiplied in an answer of [`apply_all`].
+pub const PLACE: u64 = 32;
+
+/// An answer of [`apply_all`]: all made, or the place of the first edit that is refused, and why.
+pub fn applied(answer: u64) -> Result<(), (usize, Refusal)> {
+    match answer.checked_sub(REFUSED) {
+        None => Ok(()),
+        Some(told) => Err(((told / PLACE) as usize, refusal((told % PLACE) as u32))),
+    }
+}
+
 /// Every refusal has the number of a cause: so it is proved of every call (`caused` of `register/Calls`, `pairs/Asking`, `chains/Replies`,
 /// `generations/Generating`, `support/Support`; `Totals` of `register/Questions`).
 fn refusal(number: u32) -> Refusal {
     Refusal::of(number).expect("a refusal has the number of a cause")
 }
 
-// A slice is lent as a pointer to its first word and its length. `tests/declarations.rs` holds these to the Rattle source.
-extern "C" {
+// A slice is lent as a pointer to its first word and its length. `host/declarations` writes these, and the
+// parameters and bodies of the functions below, from the Rattle source.
+unsafe extern "C" {
     fn dating_fresh(n: u16, state: *mut u32, state_len: usize) -> u32;
     fn dating_add(state: *mut u32, state_len: usize, from: u16, label: u8, to: u16) -> u32;
     fn dating_remove(state: *mut u32, state_len: usize, from: u16, label: u8, to: u16) -> u32;

@@ -1,6 +1,6 @@
 //! Closing up the numbers.
 
-use crate::calls::{self, done, NO_NUMBER};
+use crate::calls::{self, NO_NUMBER, done};
 use crate::{Refusal, Register};
 
 impl Register {

@@ -1,11 +1,13 @@
 //! Generations: how long the longest run of links to each record is, or the first loop.
 
-use crate::calls::{self, MARKS, WITHDRAWN};
-use crate::register::{grow, label};
+use crate::calls::{self, WITHDRAWN};
+use crate::register::{MARKS, label};
 use crate::space::{chain_work, longest_chain};
 use crate::{Refusal, Register, Steps};
+use std::borrow::Cow;
 
 /// The answer to [`Register::generations`].
+#[must_use]
 #[derive(Clone, Debug)]
 pub enum Generations<'a> {
     /// No record can return to itself: the number of each record in use.
@@ -15,14 +17,14 @@ pub enum Generations<'a> {
 }
 
 /// The records in use, ascending, each with its number: the length of the longest run of links that ends at it.
+#[must_use]
 #[derive(Clone, Debug)]
 pub struct Numbers<'a> {
-    marks: &'a [u32],
-    record: u16,
-    words: &'a [u32],
+    records: std::vec::IntoIter<u16>,
+    words: Cow<'a, [u32]>,
 }
 
-impl<'a> Numbers<'a> {
+impl Numbers<'_> {
     /// The numbers of those that are still to come, as the engine wrote them.
     ///
     /// ```
@@ -32,8 +34,9 @@ impl<'a> Numbers<'a> {
     /// assert_eq!(numbers.words(), [0, 1]);
     /// # Ok::<(), dating::Refusal>(())
     /// ```
-    pub fn words(&self) -> &'a [u32] {
-        self.words
+    #[must_use]
+    pub fn words(&self) -> &[u32] {
+        &self.words[self.words.len() - self.records.len()..]
     }
 }
 
@@ -41,17 +44,12 @@ impl Iterator for Numbers<'_> {
     type Item = (u16, u32);
 
     fn next(&mut self) -> Option<(u16, u32)> {
-        let (&number, rest) = self.words.split_first()?;
-        self.words = rest;
-        let passed = self.marks.iter().position(|&mark| mark != WITHDRAWN)?;
-        let record = self.record + passed as u16;
-        self.marks = &self.marks[passed + 1..];
-        self.record = record + 1;
-        Some((record, number))
+        let &number = self.words().first()?;
+        Some((self.records.next()?, number))
     }
 
     fn size_hint(&self) -> (usize, Option<usize>) {
-        (self.words.len(), Some(self.words.len()))
+        self.records.size_hint()
     }
 }
 
@@ -78,11 +76,16 @@ impl Register {
     /// assert_eq!(steps.map(|step| step.to_string()).collect::<Vec<_>>(), ["b + 3", "a + 0"]);
     /// # Ok::<(), dating::Refusal>(())
     /// ```
-    pub fn generations(&mut self, letters: &str) -> Result<Generations<'_>, Refusal> {
-        let n = self.size();
-        grow(&mut self.work, chain_work(n));
-        grow(&mut self.list, longest_chain(n));
-        generations(&self.words, letters, &mut self.work, &mut self.list)
+    pub fn generations(&self, letters: &str) -> Result<Generations<'static>, Refusal> {
+        let space = (chain_work(self.size()), longest_chain(self.size()));
+        self.in_space(space.0, space.1, |_, work, list| {
+            Ok(match self.generations_in(letters, work, list)? {
+                Generations::Loop(steps) => Generations::Loop(steps.own()),
+                Generations::Numbers(Numbers { records, words }) => {
+                    Generations::Numbers(Numbers { records, words: Cow::Owned(words.into_owned()) })
+                }
+            })
+        })
     }
 
     /// The same in lent space: work of [`chain_work`] words, and a list, which is left as it was with a refusal.
@@ -95,16 +98,14 @@ impl Register {
     /// assert_eq!(steps.map(|step| step.to_string()).collect::<Vec<_>>(), ["a + 1"]);
     /// # Ok::<(), dating::Refusal>(())
     /// ```
-    pub fn generations_in<'a>(&'a self, letters: &str, work: &mut [u64], list: &'a mut [u32]) -> Result<Generations<'a>, Refusal> {
-        generations(&self.words, letters, work, list)
+    pub fn generations_in<'a>(&self, letters: &str, work: &mut [u64], list: &'a mut [u32]) -> Result<Generations<'a>, Refusal> {
+        let labels: Vec<u8> = letters.chars().map(label).collect();
+        let (looped, length) = calls::numbered(calls::generations(self.words(), &labels, work, list))?;
+        if looped {
+            return Ok(Generations::Loop(Steps::new(list, length)));
+        }
+        let in_use = self.words()[MARKS].iter().zip(0..).filter(|&(&mark, _)| mark != WITHDRAWN);
+        let records: Vec<u16> = in_use.map(|(_, record)| record).take(length).collect();
+        Ok(Generations::Numbers(Numbers { words: Cow::Borrowed(&list[..records.len()]), records: records.into_iter() }))
     }
-}
-
-fn generations<'a>(words: &'a [u32], letters: &str, work: &mut [u64], list: &'a mut [u32]) -> Result<Generations<'a>, Refusal> {
-    let labels: Vec<u8> = letters.chars().map(label).collect();
-    let (looped, length) = calls::numbered(calls::generations(words, &labels, work, list))?;
-    if looped {
-        return Ok(Generations::Loop(Steps::new(list, length)));
-    }
-    Ok(Generations::Numbers(Numbers { marks: &words[MARKS], record: 0, words: &list[..length] }))
 }

@@ -26,7 +26,7 @@
 //!
 //! * [`Register`]: edits, undo, both questions, closing up, sole support, and offsets known within limits
 //! * [`Register::pages`] and [`read_pages`]: the answer of a pair question as printed pages, and the pairs read back
-//! * [`Edit`]: an edit by name, for a preview of what it would do to an answer
+//! * [`Edit`] and [`Draft`]: edits by name, for a preview of what one would do to an answer, and for lists that are made all or none
 //! * [`Generations`]: the longest run of links to each record, or the first loop
 //! * [`Trees`] and [`Tree`]: sets of pairs as k2-trees, and their algebra
 //! * [`calls`]: the engine's functions as they are exported, on plain slices
@@ -36,6 +36,8 @@
 mod by_rows;
 pub mod calls;
 mod closing;
+mod drafts;
+mod edits;
 mod generations;
 mod items;
 mod offsets;
@@ -47,12 +49,13 @@ mod space;
 mod support;
 mod tree;
 
+pub use drafts::Draft;
+pub use edits::{Edit, RefusedAt};
 pub use generations::{Generations, Numbers};
 pub use items::{Link, Links, Pairs, Records, Step, Steps};
 pub use offsets::{Offset, Offsets, Tie};
 pub use pages::{page_bytes, read_pages};
-pub use previews::Edit;
 pub use refusal::Refusal;
-pub use register::Register;
+pub use register::{Mark, Register};
 pub use space::{chain_work, longest_chain, most_pairs, offsets_work, rows_work, support_work, tree_words, tree_work};
 pub use tree::{Sense, Tree, Trees};

@@ -24,6 +24,7 @@ pub enum Offset {
 }
 
 /// The answer to asking for offsets.
+#[must_use]
 #[derive(Clone, Debug, PartialEq, Eq)]
 pub enum Offsets {
     /// The offset of each record, in ascending order of record.

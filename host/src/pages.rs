@@ -15,6 +15,7 @@ const PAGE_PAIRS: usize = 354;
 /// // an answer of no pairs is a head alone; six pairs are a line under it, and the seventh begins another
 /// assert_eq!((dating::page_bytes(0), dating::page_bytes(6), dating::page_bytes(7)), (73, 2 * 73, 3 * 73));
 /// ```
+#[must_use]
 pub fn page_bytes(pairs: usize) -> usize {
     LINE * (pairs.div_ceil(LINE_PAIRS) + pairs.div_ceil(PAGE_PAIRS).max(1))
 }

@@ -6,6 +6,7 @@ use std::fmt::{self, Display, Formatter};
 /// The cause of a refusal. The engine names each by its number.
 #[derive(Clone, Copy, Debug, PartialEq, Eq, PartialOrd, Ord, Hash)]
 #[repr(u32)]
+#[non_exhaustive]
 pub enum Refusal {
     Size = 1,
     Record = 2,
@@ -31,6 +32,7 @@ pub enum Refusal {
 }
 
 /// Every cause, by ascending number, with its meaning.
+#[rustfmt::skip]
 const CAUSES: &[(Refusal, &str)] = &[
     (Refusal::Size, "the number of records is outside 1 to 1,024"),
     (Refusal::Record, "a record is not below the number of records"),
@@ -62,6 +64,7 @@ impl Refusal {
     /// assert_eq!(dating::Refusal::of(4), Some(dating::Refusal::Locked));
     /// assert_eq!(dating::Refusal::of(0), None);
     /// ```
+    #[must_use]
     pub fn of(number: u32) -> Option<Refusal> {
         CAUSES.iter().map(|&(cause, _)| cause).find(|cause| cause.number() == number)
     }
@@ -71,6 +74,7 @@ impl Refusal {
     /// ```
     /// assert_eq!(dating::Refusal::Locked.number(), 4);
     /// ```
+    #[must_use]
     pub fn number(self) -> u32 {
         self as u32
     }
@@ -81,6 +85,7 @@ impl Refusal {
     /// assert_eq!(dating::Refusal::Full.meaning(), "4,096 links are present");
     /// assert_eq!(dating::Refusal::Full.to_string(), "refused 7: 4,096 links are present");
     /// ```
+    #[must_use]
     pub fn meaning(self) -> &'static str {
         let found = CAUSES.iter().find(|(cause, _)| *cause == self);
         found.expect("every cause is in the table").1

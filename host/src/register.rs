@@ -1,19 +1,60 @@
 //! The register.
 
-use crate::calls::{self, counted, done, told, STATE_WORDS};
+use crate::calls::{self, STATE_WORDS, WITHDRAWN, counted, done, told};
 use crate::space::{chain_work, longest_chain};
 use crate::{Links, Pairs, Records, Refusal, Steps};
 use std::fmt::{self, Debug, Formatter};
+use std::ops::Range;
+use std::sync::Mutex;
+
+/// Where links, held edits, marks and totals stand among a register's words, after the four counters (see [`STATE_WORDS`]).
+const LINKS: Range<usize> = 4..4100;
+const HELD: Range<usize> = 4100..4356;
+pub(crate) const MARKS: Range<usize> = 4356..5380;
+const TOTALS: Range<usize> = 5380..STATE_WORDS;
+
+/// The letters.
+const LETTERS: usize = 26;
 
 /// A register of n records, with its links, its locked and withdrawn records and the latest 256 edits.
 ///
+/// Two registers are equal if they have the same records, links, locked and withdrawn records, and the same edits held for undo:
+///
+/// ```
+/// # let mut register = dating::Register::fresh(3)?;
+/// let before = register.clone();
+/// register.lock(0)?;
+/// assert_ne!(register, before);
+/// register.undo()?;
+/// assert_eq!(register, before);
+/// # Ok::<(), dating::Refusal>(())
+/// ```
+///
+/// A question takes `&self`, and its answer stands by itself, so that questions may be asked while an answer is read, and from several threads at once:
+///
+/// ```
+/// # let mut register = dating::Register::fresh(3)?;
+/// register.add(0, 'a', 1)?;
+/// register.add(1, 'a', 2)?;
+/// for (from, to) in register.pairs("a+")? {
+///     assert!(register.chain(from, to, "a+")?.is_some());
+/// }
+/// # Ok::<(), dating::Refusal>(())
+/// ```
+///
 /// It takes 21,624 bytes, and with the first question of each kind the space for it: for 1,024 records 4.2 MB and 4.2 MB (pairs; by trees
-/// 5.6 MB and 4.2 MB), or 0.5 MB and 0.3 MB (chains), of which the system gives what is written to. [`pairs_in`](Register::pairs_in) and
-/// [`chain_in`](Register::chain_in) take the caller's space instead.
+/// 5.6 MB and 4.2 MB), or 0.5 MB and 0.3 MB (chains), of which the system gives what is written to. A question that is asked while another is answered has
+/// space of its own, so that none waits. [`pairs_in`](Register::pairs_in) and [`chain_in`](Register::chain_in) take the caller's space instead.
 pub struct Register {
     pub(crate) words: Box<[u32]>,
-    pub(crate) work: Vec<u64>,
-    pub(crate) list: Vec<u32>,
+    space: Mutex<Space>,
+}
+
+/// Space for questions.
+#[derive(Default)]
+struct Space {
+    work: Vec<u64>,
+    list: Vec<u32>,
 }
 
 impl Register {
@@ -28,7 +69,7 @@ impl Register {
     pub fn fresh(n: u16) -> Result<Register, Refusal> {
         let mut words = vec![0; STATE_WORDS].into_boxed_slice();
         done(calls::fresh(n, &mut words))?;
-        Ok(Register { words, work: Vec::new(), list: Vec::new() })
+        Ok(Register { words, space: Mutex::default() })
     }
 
     /// A register from the words of one, at the front of a state. What is promised is promised of words that a register had; any others do no
@@ -37,7 +78,8 @@ impl Register {
     /// ```
     /// let mut register = dating::Register::fresh(2)?;
     /// register.add(0, 'a', 1)?;
-    /// let mut kept = dating::Register::of_words(register.words())?;
+    /// let kept = dating::Register::of_words(register.words())?;
+    /// assert_eq!(kept, register);
     /// assert_eq!(kept.pairs("a")?.collect::<Vec<_>>(), [(0, 1)]);
     /// assert_eq!(dating::Register::of_words(&[2, 1]).err(), Some(dating::Refusal::NotOpened));
     /// # Ok::<(), dating::Refusal>(())
@@ -46,7 +88,7 @@ impl Register {
         if calls::size(words) == 0 {
             return Err(Refusal::NotOpened);
         }
-        Ok(Register { words: words.into(), work: Vec::new(), list: Vec::new() })
+        Ok(Register { words: words.into(), space: Mutex::default() })
     }
 
     /// The words, to be kept; [`of_words`](Register::of_words) takes them.
@@ -55,6 +97,7 @@ impl Register {
     /// assert_eq!(dating::Register::fresh(2)?.words().len(), dating::calls::STATE_WORDS);
     /// # Ok::<(), dating::Refusal>(())
     /// ```
+    #[must_use]
     pub fn words(&self) -> &[u32] {
         &self.words
     }
@@ -63,12 +106,31 @@ impl Register {
         &mut self.words
     }
 
+    /// What makes registers equal: marks, links and totals, and the words of the edits that are held, the latest first.
+    fn parts(&self) -> (&[u32], &[u32], &[u32], Vec<u32>) {
+        let counter = |place: usize| self.words[place] as usize;
+        let (n, count, next, held) = (counter(0), counter(1), counter(2), counter(3));
+        let ring = &self.words[HELD];
+        let latest = (1..=held).map(|back| ring[(next + ring.len() - back) % ring.len()]).collect();
+        (&self.words[MARKS][..n], &self.words[LINKS][..count], &self.words[TOTALS], latest)
+    }
+
+    /// What is asked in space of so many words of work and of a list: that of the register, or fresh space if another question has it.
+    pub(crate) fn in_space<T>(&self, work: usize, list: usize, ask: impl FnOnce(&[u32], &mut [u64], &mut [u32]) -> T) -> T {
+        let (mut kept, mut fresh) = (self.space.try_lock(), Space::default());
+        let space = kept.as_deref_mut().unwrap_or(&mut fresh);
+        grow(&mut space.work, work);
+        grow(&mut space.list, list);
+        ask(&self.words, &mut space.work, &mut space.list)
+    }
+
     /// The number of records.
     ///
     /// ```
     /// assert_eq!(dating::Register::fresh(9)?.size(), 9);
     /// # Ok::<(), dating::Refusal>(())
     /// ```
+    #[must_use]
     pub fn size(&self) -> u16 {
         calls::size(&self.words) as u16
     }
@@ -176,6 +238,7 @@ impl Register {
     /// assert_eq!((register.is_locked(0), register.is_locked(1), register.is_locked(2)), (false, true, false));
     /// # Ok::<(), dating::Refusal>(())
     /// ```
+    #[must_use]
     pub fn is_locked(&self, record: u16) -> bool {
         calls::locked(&self.words, record) == 1
     }
@@ -188,6 +251,7 @@ impl Register {
     /// assert_eq!((register.is_withdrawn(0), register.is_withdrawn(1), register.is_withdrawn(2)), (false, true, false));
     /// # Ok::<(), dating::Refusal>(())
     /// ```
+    #[must_use]
     pub fn is_withdrawn(&self, record: u16) -> bool {
         calls::withdrawn(&self.words, record) == 1
     }
@@ -219,10 +283,43 @@ impl Register {
     /// assert_eq!(links, [(2, 'a', 0), (0, 'b', 1), (1, 'b', 2)]);
     /// # Ok::<(), dating::Refusal>(())
     /// ```
-    pub fn links(&mut self) -> Result<Links<'_>, Refusal> {
-        grow(&mut self.list, 4096);
-        let total = counted(calls::links(&self.words, &mut self.list))?;
-        Ok(Links::new(&self.list, total))
+    pub fn links(&self) -> Result<Links<'static>, Refusal> {
+        self.in_space(0, LINKS.len(), |words, _, list| {
+            let total = counted(calls::links(words, list))?;
+            Ok(Links::new(list, total).own())
+        })
+    }
+
+    /// The number of links with each letter, from a to z.
+    ///
+    /// ```
+    /// # let mut register = dating::Register::fresh(3)?;
+    /// register.add(1, 'b', 2)?;
+    /// register.add(0, 'b', 1)?;
+    /// assert_eq!(register.totals()?[..3], [0, 2, 0]);
+    /// # Ok::<(), dating::Refusal>(())
+    /// ```
+    pub fn totals(&self) -> Result<[u32; LETTERS], Refusal> {
+        let mut totals = [0; LETTERS];
+        counted(calls::totals(&self.words, &mut totals))?;
+        Ok(totals)
+    }
+
+    /// The mark of each record, ascending by record.
+    ///
+    /// ```
+    /// use dating::Mark::{Free, Locked, Withdrawn};
+    /// # let mut register = dating::Register::fresh(3)?;
+    /// register.lock(1)?;
+    /// register.withdraw(2)?;
+    /// assert_eq!(register.marks()?, [Free, Locked, Withdrawn]);
+    /// # Ok::<(), dating::Refusal>(())
+    /// ```
+    pub fn marks(&self) -> Result<Vec<Mark>, Refusal> {
+        self.in_space(0, self.size().into(), |words, _, list| {
+            let total = counted(calls::marks(words, list))?;
+            Ok(list[..total].iter().map(|&mark| Mark::of(mark)).collect())
+        })
     }
 
     /// The pairs of records that the expression joins, by the faster of the two engines: [`pairs_by_rows`](Register::pairs_by_rows), for
@@ -235,7 +332,7 @@ impl Register {
     /// assert_eq!(register.pairs("a+")?.collect::<Vec<_>>(), [(0, 1), (0, 2), (1, 2)]);
     /// # Ok::<(), dating::Refusal>(())
     /// ```
-    pub fn pairs(&mut self, expression: impl AsRef<[u8]>) -> Result<Pairs<'_>, Refusal> {
+    pub fn pairs(&self, expression: impl AsRef<[u8]>) -> Result<Pairs<'static>, Refusal> {
         self.pairs_by_rows(expression)
     }
 
@@ -250,12 +347,11 @@ impl Register {
     /// assert!(register.chain(2, 0, "a+")?.is_none());
     /// # Ok::<(), dating::Refusal>(())
     /// ```
-    pub fn chain(&mut self, from: u16, to: u16, expression: impl AsRef<[u8]>) -> Result<Option<Steps<'_>>, Refusal> {
-        let n = self.size();
-        grow(&mut self.work, chain_work(n));
-        grow(&mut self.list, longest_chain(n));
-        let length = told(calls::chain(&self.words, from, to, expression.as_ref(), &mut self.work, &mut self.list))?;
-        Ok(length.map(|length| Steps::new(&self.list, length)))
+    pub fn chain(&self, from: u16, to: u16, expression: impl AsRef<[u8]>) -> Result<Option<Steps<'static>>, Refusal> {
+        self.in_space(chain_work(self.size()), longest_chain(self.size()), |words, work, list| {
+            let length = told(calls::chain(words, from, to, expression.as_ref(), work, list))?;
+            Ok(length.map(|length| Steps::new(list, length).own()))
+        })
     }
 
     /// The ends of a record: those that a chain leads to from it, spelling a word of the expression.
@@ -269,11 +365,11 @@ impl Register {
     /// assert_eq!(register.ends(4, "a").err(), Some(dating::Refusal::Record));
     /// # Ok::<(), dating::Refusal>(())
     /// ```
-    pub fn ends(&mut self, from: u16, expression: impl AsRef<[u8]>) -> Result<Records<'_>, Refusal> {
-        let n = self.size();
-        grow(&mut self.list, n.into());
-        let total = counted(calls::ends(&self.words, from, expression.as_ref(), &mut self.list))?;
-        Ok(Records::new(&self.list, total))
+    pub fn ends(&self, from: u16, expression: impl AsRef<[u8]>) -> Result<Records<'static>, Refusal> {
+        self.in_space(0, self.size().into(), |words, _, list| {
+            let total = counted(calls::ends(words, from, expression.as_ref(), list))?;
+            Ok(Records::new(list, total).own())
+        })
     }
 
     /// The starts of a record: those from which a chain leads to it.
@@ -286,28 +382,27 @@ impl Register {
     /// assert_eq!(register.ends(2, "^(a+)")?.collect::<Vec<_>>(), [0, 1]);
     /// # Ok::<(), dating::Refusal>(())
     /// ```
-    pub fn starts(&mut self, to: u16, expression: impl AsRef<[u8]>) -> Result<Records<'_>, Refusal> {
-        let n = self.size();
-        grow(&mut self.list, n.into());
-        let total = counted(calls::starts(&self.words, to, expression.as_ref(), &mut self.list))?;
-        Ok(Records::new(&self.list, total))
+    pub fn starts(&self, to: u16, expression: impl AsRef<[u8]>) -> Result<Records<'static>, Refusal> {
+        self.in_space(0, self.size().into(), |words, _, list| {
+            let total = counted(calls::starts(words, to, expression.as_ref(), list))?;
+            Ok(Records::new(list, total).own())
+        })
     }
 
-    /// The pairs of an expression in lent space: work of [`tree_work`](crate::tree_work) words, and a list, which is left as it was with a
-    /// refusal. A list that is too short for all pairs gets the smallest of them; [`Pairs::total`] tells how many there are.
+    /// The pairs of an expression in lent space: work of [`rows_work`](crate::rows_work) words, since the faster engine answers, and a list, which is left
+    /// as it was with a refusal. A list that is too short for all pairs gets the smallest of them; [`Pairs::total`] tells how many there are.
     ///
     /// ```
     /// # let mut register = dating::Register::fresh(3)?;
     /// register.add(0, 'a', 1)?;
     /// register.add(1, 'a', 2)?;
-    /// let (mut work, mut list) = (vec![0; dating::tree_work(3)], [0; 2]);
+    /// let (mut work, mut list) = (vec![0; dating::rows_work(3)], [0; 2]);
     /// let pairs = register.pairs_in("a+", &mut work, &mut list)?;
     /// assert_eq!((pairs.total(), pairs.collect::<Vec<_>>()), (3, vec![(0, 1), (0, 2)]));
     /// # Ok::<(), dating::Refusal>(())
     /// ```
     pub fn pairs_in<'a>(&self, expression: impl AsRef<[u8]>, work: &mut [u64], list: &'a mut [u32]) -> Result<Pairs<'a>, Refusal> {
-        let total = counted(calls::pairs(&self.words, expression.as_ref(), work, list))?;
-        Ok(Pairs::new(list, total))
+        self.pairs_by_rows_in(expression, work, list)
     }
 
     /// The first chain in lent space: work of [`chain_work`] words, and a list, which is left as it was if there is no chain.
@@ -337,13 +432,41 @@ impl Register {
 /// The same links, locks and held edits; the space for questions is its own.
 impl Clone for Register {
     fn clone(&self) -> Register {
-        Register { words: self.words.clone(), work: Vec::new(), list: Vec::new() }
+        Register { words: self.words.clone(), space: Mutex::default() }
     }
 }
+
+/// What a register is to whoever asks and undoes; words that no call reads play no part.
+impl PartialEq for Register {
+    fn eq(&self, other: &Register) -> bool {
+        self.words == other.words || self.parts() == other.parts()
+    }
+}
+
+impl Eq for Register {}
 
 impl Debug for Register {
     fn fmt(&self, f: &mut Formatter) -> fmt::Result {
         f.debug_struct("Register").field("size", &self.size()).finish_non_exhaustive()
+    }
+}
+
+/// Whether a record is in use and may have links put in and taken out.
+#[derive(Clone, Copy, Debug, PartialEq, Eq, Hash)]
+pub enum Mark {
+    Free,
+    Locked,
+    Withdrawn,
+}
+
+impl Mark {
+    /// Of a word: no register has others than 0, 1 and 2.
+    fn of(word: u32) -> Mark {
+        match word {
+            1 => Mark::Locked,
+            WITHDRAWN => Mark::Withdrawn,
+            _ => Mark::Free,
+        }
     }
 }
 
@@ -356,7 +479,7 @@ pub(crate) fn label(letter: char) -> u8 {
 }
 
 /// Room for so many words.
-pub(crate) fn grow<T: Clone + Default>(space: &mut Vec<T>, words: usize) {
+fn grow<T: Clone + Default>(space: &mut Vec<T>, words: usize) {
     if space.len() < words {
         *space = vec![T::default(); words];
     }

@@ -5,6 +5,7 @@
 /// ```
 /// assert_eq!((dating::tree_words(1), dating::tree_words(64), dating::tree_words(1024)), (1, 86, 21_846));
 /// ```
+#[must_use]
 pub fn tree_words(n: u16) -> usize {
     let side = in_range(n).next_power_of_two().max(2);
     if in_range(n) == 0 {
@@ -18,6 +19,7 @@ pub fn tree_words(n: u16) -> usize {
 /// ```
 /// assert_eq!(dating::tree_work(64), 32 * dating::tree_words(64));
 /// ```
+#[must_use]
 pub fn tree_work(n: u16) -> usize {
     32 * tree_words(n)
 }
@@ -27,6 +29,7 @@ pub fn tree_work(n: u16) -> usize {
 /// ```
 /// assert_eq!(dating::rows_work(65), 32 * 65 * 2);
 /// ```
+#[must_use]
 pub fn rows_work(n: u16) -> usize {
     32 * in_range(n) * in_range(n).div_ceil(64)
 }
@@ -36,6 +39,7 @@ pub fn rows_work(n: u16) -> usize {
 /// ```
 /// assert_eq!(dating::chain_work(1024), 65_536);
 /// ```
+#[must_use]
 pub fn chain_work(n: u16) -> usize {
     64 * in_range(n)
 }
@@ -45,6 +49,7 @@ pub fn chain_work(n: u16) -> usize {
 /// ```
 /// assert_eq!(dating::support_work(64), dating::tree_work(64) + dating::chain_work(64));
 /// ```
+#[must_use]
 pub fn support_work(n: u16) -> usize {
     tree_work(n) + chain_work(n)
 }
@@ -54,6 +59,7 @@ pub fn support_work(n: u16) -> usize {
 /// ```
 /// assert_eq!((dating::offsets_work(1024), dating::offsets_work(1025)), (65_536, 0));
 /// ```
+#[must_use]
 pub fn offsets_work(n: u16) -> usize {
     64 * in_range(n)
 }
@@ -63,6 +69,7 @@ pub fn offsets_work(n: u16) -> usize {
 /// ```
 /// assert_eq!(dating::most_pairs(1024), 1_048_576);
 /// ```
+#[must_use]
 pub fn most_pairs(n: u16) -> usize {
     in_range(n) * in_range(n)
 }
@@ -72,16 +79,13 @@ pub fn most_pairs(n: u16) -> usize {
 /// ```
 /// assert_eq!(dating::longest_chain(1024), 64_512);
 /// ```
+#[must_use]
 pub fn longest_chain(n: u16) -> usize {
     63 * in_range(n)
 }
 
 fn in_range(n: u16) -> usize {
-    if n <= 1024 {
-        n.into()
-    } else {
-        0
-    }
+    if n <= 1024 { n.into() } else { 0 }
 }
 
 #[cfg(test)]

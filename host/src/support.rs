@@ -1,7 +1,6 @@
 //! Sole support: what would fall with a core.
 
 use crate::calls::{self, counted};
-use crate::register::grow;
 use crate::space::support_work;
 use crate::{Records, Refusal, Register};
 
@@ -20,12 +19,11 @@ impl Register {
     /// assert_eq!(register.sole_support(1, "o+", &[4, 0]).err(), Some(dating::Refusal::Anchors));
     /// # Ok::<(), dating::Refusal>(())
     /// ```
-    pub fn sole_support(&mut self, core: u16, expression: impl AsRef<[u8]>, anchors: &[u16]) -> Result<Records<'_>, Refusal> {
-        let n = self.size();
-        grow(&mut self.work, support_work(n));
-        grow(&mut self.list, n.into());
-        let total = counted(calls::sole_support(&self.words, core, expression.as_ref(), anchors, &mut self.work, &mut self.list))?;
-        Ok(Records::new(&self.list, total))
+    pub fn sole_support(&self, core: u16, expression: impl AsRef<[u8]>, anchors: &[u16]) -> Result<Records<'static>, Refusal> {
+        self.in_space(support_work(self.size()), self.size().into(), |words, work, list| {
+            let total = counted(calls::sole_support(words, core, expression.as_ref(), anchors, work, list))?;
+            Ok(Records::new(list, total).own())
+        })
     }
 
     /// The same in lent space: work of [`support_work`] words, and a list, which is left as it was with a refusal.

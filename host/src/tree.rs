@@ -5,6 +5,7 @@ use crate::space::{most_pairs, tree_words, tree_work};
 use crate::{Pairs, Refusal};
 
 /// The words of a k2-tree with k = 2: a set of pairs of records below some n.
+#[must_use]
 #[derive(Clone, Debug, PartialEq, Eq, Hash)]
 pub struct Tree(Vec<u64>);
 
@@ -29,6 +30,7 @@ impl Tree {
     /// assert_eq!((trees.make([(1, 0)])?.words(), trees.make([])?.words()), (&[4][..], &[][..]));
     /// # Ok::<(), dating::Refusal>(())
     /// ```
+    #[must_use]
     pub fn words(&self) -> &[u64] {
         &self.0
     }
@@ -70,7 +72,7 @@ impl Trees {
     /// ```
     pub fn below(n: u16) -> Result<Trees, Refusal> {
         let mut trees = Trees { n, work: vec![0; tree_work(n)], tree: vec![0; tree_words(n)], list: Vec::new() };
-        trees.make([])?;
+        let _ = trees.make([])?;
         Ok(trees)
     }
 

@@ -9,7 +9,7 @@ fn text(path: &str) -> String {
     fs::read_to_string(&path).unwrap_or_else(|error| panic!("{}: {error}", path.display()))
 }
 
-/// The files of the crate, those of its programs left out.
+/// The files of the crate.
 fn sources() -> Vec<PathBuf> {
     let folder = Path::new(env!("CARGO_MANIFEST_DIR")).join("src");
     let files = fs::read_dir(&folder).unwrap_or_else(|error| panic!("{}: {error}", folder.display()));
@@ -65,11 +65,21 @@ const SECOND: usize = 56;
 #[test]
 fn the_header_names_every_refusal() {
     let header = text("dating.h");
-    let (table, _) = header.split_once("tests/declarations.rs").expect("the table's end");
+    let (table, _) = header.split_once("host/declarations").expect("the table's end");
     let columns: Vec<&str> = table.lines().flat_map(|line| <[&str; 2]>::from(line.split_at(line.len().min(SECOND)))).collect();
     let numbers = |half: &str| half.trim_start_matches(" *").trim().split("  ").next().and_then(|word| word.parse::<u32>().ok());
     let mut found: Vec<u32> = columns.into_iter().filter_map(numbers).collect();
     found.sort_unstable();
     let causes: Vec<u32> = (1..100).filter(|&number| dating::Refusal::of(number).is_some()).collect();
     assert_eq!(found, causes);
+}
+
+#[test]
+fn the_header_has_the_words_of_every_refusal() {
+    let header = text("dating.h");
+    let (_, table) = header.split_once("meanings[] = {").expect("the words");
+    let (table, _) = table.split_once("};").expect("their end");
+    let words: Vec<&str> = table.lines().filter_map(|line| line.trim().strip_prefix('"')?.strip_suffix("\",")).collect();
+    let causes = (1..100).map_while(dating::Refusal::of).map(|cause| cause.meaning().replace('−', "-"));
+    assert_eq!(words, std::iter::once("done".to_string()).chain(causes).collect::<Vec<_>>());
 }

@@ -11,13 +11,13 @@ fn cases() -> Result<Register, Refusal> {
     Ok(register)
 }
 
-fn pairs(register: &mut Register, expression: &str) -> Vec<(u16, u16)> {
+fn pairs(register: &Register, expression: &str) -> Vec<(u16, u16)> {
     register.pairs(expression).unwrap().collect()
 }
 
 #[test]
 fn pairs_of_the_scope() {
-    let register = &mut cases().unwrap();
+    let register = &cases().unwrap();
     assert_eq!(pairs(register, "a"), [(0, 1), (1, 2)]);
     assert_eq!(pairs(register, "a/b"), [(1, 0)]);
     assert_eq!(pairs(register, "^(a/b)"), [(0, 1)]);
@@ -29,8 +29,8 @@ fn pairs_of_the_scope() {
 
 #[test]
 fn chains_of_the_scope() {
-    let register = &mut cases().unwrap();
-    let mut chain = |from, to, expression| {
+    let register = &cases().unwrap();
+    let chain = |from, to, expression| {
         let steps = register.chain(from, to, expression).unwrap();
         steps.map(|steps| steps.map(|step| step.to_string()).collect::<Vec<_>>().join(", "))
     };
@@ -78,7 +78,7 @@ fn edits_locks_and_undo() {
 
 #[test]
 fn refusals_of_questions() {
-    let register = &mut cases().unwrap();
+    let register = &cases().unwrap();
     assert_eq!(Register::fresh(0).err(), Some(Refusal::Size));
     assert_eq!(Register::fresh(1025).err(), Some(Refusal::Size));
     assert_eq!(register.pairs("").err(), Some(Refusal::Grammar));
@@ -110,9 +110,9 @@ fn short_lists_get_the_first_pairs_and_the_total() {
 fn words_are_kept_and_taken_again() {
     let register = cases().unwrap();
     let mut again = Register::of_words(register.words()).unwrap();
-    assert_eq!(pairs(&mut again, "a/b"), [(1, 0)]);
+    assert_eq!(pairs(&again, "a/b"), [(1, 0)]);
     again.undo().unwrap();
-    assert_eq!(pairs(&mut again, "a/b"), []);
+    assert_eq!(pairs(&again, "a/b"), []);
     assert_eq!(Register::of_words(&register.words()[1..]).err(), Some(Refusal::NotOpened));
 }
 
@@ -137,4 +137,47 @@ fn trees() {
     assert_eq!(trees.make([(0, 1024)]), Err(Refusal::Record));
     assert_eq!(trees.list(&Tree::of_words(vec![0])).err(), Some(Refusal::Tree));
     assert_eq!(Trees::below(0).err().or(Trees::below(1025).err()), Some(Refusal::Size));
+}
+
+/// Equal by what is asked and undone, and not by words that no call reads.
+#[test]
+fn equal_registers() {
+    let (mut one, mut other) = (cases().unwrap(), cases().unwrap());
+    assert_eq!(one, other);
+    one.add(3, 'c', 3).unwrap();
+    assert_ne!(one, other);
+    one.undo().unwrap();
+    assert_eq!(one, other);
+    assert_eq!(one, one.clone());
+    one.lock(1).unwrap();
+    one.unlock(1).unwrap();
+    assert_ne!(one, other, "two more edits are held");
+    for register in [&mut one, &mut other] {
+        for _ in 0..200 {
+            register.lock(2).unwrap();
+            register.unlock(2).unwrap();
+        }
+    }
+    assert_eq!(one, other, "the same 256 edits are held, at other places of the ring");
+    assert_ne!(one.words(), other.words());
+    assert_ne!(Register::fresh(3), Register::fresh(4));
+}
+
+/// Questions from several threads at once, each answered as alone.
+#[test]
+fn questions_at_once() {
+    let register = &cases().unwrap();
+    let alone: Vec<_> = register.pairs("(a|b)+").unwrap().collect();
+    std::thread::scope(|scope| {
+        for _ in 0..4 {
+            scope.spawn(|| {
+                for _ in 0..50 {
+                    for (from, to) in register.pairs("(a|b)+").unwrap() {
+                        assert!(register.chain(from, to, "(a|b)+").unwrap().is_some());
+                    }
+                    assert_eq!(register.pairs("(a|b)+").unwrap().collect::<Vec<_>>(), alone);
+                }
+            });
+        }
+    });
 }

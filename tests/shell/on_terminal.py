@@ -11,6 +11,7 @@ import signal
 import struct
 import sys
 import termios
+import time
 
 PROMPTS = (b"\ndating> ", b"\nyes or no? ")
 KEYS = {b"^C": b"\x03", b"^D": b"\x04"}
@@ -36,6 +37,15 @@ def read_to(terminal, endings, last=False):
     return text
 
 
+def wait_for_quiet(child):
+    """Until the shell sleeps: a signal that comes between its prompt and its wait for a key is seen only at the next key."""
+    asleep = 0
+    while asleep < 5:
+        time.sleep(0.05)
+        with open(f"/proc/{child}/stat", "rb") as file:
+            asleep = asleep + 1 if file.read().rpartition(b")")[2].split()[0] == b"S" else 0
+
+
 def main():
     shell, typed, *more = sys.argv[1:]
     answers_alone = more == ["answers"]
@@ -56,6 +66,8 @@ def main():
     if not answers_alone:
         shown += read_to(terminal, PROMPTS)
         for line in lines:
+            if line in KEYS:
+                wait_for_quiet(child)
             os.write(terminal, KEYS.get(line, line + b"\n"))
             shown += read_to(terminal, PROMPTS)
         os.write(terminal, END_OF_INPUT)

@@ -51,10 +51,8 @@ class LentTie(ctypes.Structure):
 
 
 # Slices, by what they have. Bytes that are only read are lent as they are.
-_STATE = _LIST = POINTER(c_uint32)
-_WORK = _TREE = POINTER(c_uint64)
-_TEXT = c_char_p
-_SLICES = {_STATE, _WORK, _TEXT, POINTER(c_uint8), POINTER(c_uint16), POINTER(c_int32), POINTER(c_int64), POINTER(LentTie)}
+_WORDS = {POINTER(c_uint8), POINTER(c_uint16), POINTER(c_uint32), POINTER(c_uint64), POINTER(c_int32), POINTER(c_int64), POINTER(LentTie)}
+_SLICES: set[Any] = {c_char_p, *_WORDS}
 
 
 class Call:
@@ -109,43 +107,43 @@ def _library() -> ctypes.CDLL:
 
 _LIBRARY = _library()
 
-# In the order of the header, to which `host/python/test_declarations.py` holds them.
-fresh = Call("fresh", c_uint32, c_uint16, _STATE)
-add = Call("add", c_uint32, _STATE, c_uint16, c_uint8, c_uint16)
-remove = Call("remove", c_uint32, _STATE, c_uint16, c_uint8, c_uint16)
-lock = Call("lock", c_uint32, _STATE, c_uint16)
-unlock = Call("unlock", c_uint32, _STATE, c_uint16)
-withdraw = Call("withdraw", c_uint32, _STATE, c_uint16)
-reinstate = Call("reinstate", c_uint32, _STATE, c_uint16)
-undo = Call("undo", c_uint32, _STATE)
-size = Call("size", c_uint32, _STATE)
-links = Call("links", c_uint64, _STATE, _LIST)
-locked = Call("locked", c_uint32, _STATE, c_uint16)
-withdrawn = Call("withdrawn", c_uint32, _STATE, c_uint16)
-total = Call("total", c_uint64, _STATE, c_uint8)
-pairs = Call("pairs", c_uint64, _STATE, _TEXT, _WORK, _LIST)
-chain = Call("chain", c_uint64, _STATE, c_uint16, c_uint16, _TEXT, _WORK, _LIST)
-ends = Call("ends", c_uint64, _STATE, c_uint16, _TEXT, _LIST)
-starts = Call("starts", c_uint64, _STATE, c_uint16, _TEXT, _LIST)
-totals = Call("totals", c_uint64, _STATE, _LIST)
-marks = Call("marks", c_uint64, _STATE, _LIST)
-tree_make = Call("tree_make", c_uint64, c_size_t, _LIST, _TREE, _WORK)
-tree_list = Call("tree_list", c_uint64, c_size_t, _TREE, _LIST, _WORK)
-tree_union = Call("tree_union", c_uint64, c_size_t, _TREE, _TREE, _TREE, _WORK)
-tree_intersection = Call("tree_intersection", c_uint64, c_size_t, _TREE, _TREE, _TREE, _WORK)
-tree_difference = Call("tree_difference", c_uint64, c_size_t, _TREE, _TREE, _TREE, _WORK)
-tree_product = Call("tree_product", c_uint64, c_size_t, _TREE, c_uint8, _TREE, c_uint8, _TREE, _WORK)
-tree_transpose = Call("tree_transpose", c_uint64, c_size_t, _TREE, _TREE, _WORK)
-tree_closure = Call("tree_closure", c_uint64, c_size_t, _TREE, _TREE, _WORK)
-preview = Call("preview", c_uint64, _STATE, c_uint16, c_uint16, c_uint8, c_uint16, _TEXT, _WORK, _LIST)
-apply_all = Call("apply_all", c_uint64, _STATE, POINTER(c_uint64))
-close_up = Call("close_up", c_uint32, _STATE, POINTER(c_uint16))
-generations = Call("generations", c_uint64, _STATE, _TEXT, _WORK, _LIST)
-sole_support = Call("sole_support", c_uint64, _STATE, c_uint16, _TEXT, POINTER(c_uint16), _WORK, _LIST)
-pages = Call("pages", c_uint64, _STATE, _TEXT, _WORK, POINTER(c_uint8))
-read_pages = Call("read_pages", c_uint64, _TEXT, _TEXT, _LIST)
-pairs_by_rows = Call("pairs_by_rows", c_uint64, _STATE, _TEXT, _WORK, _LIST)
-offsets = Call("offsets", c_uint64, _STATE, c_uint16, POINTER(LentTie), POINTER(c_int64), POINTER(c_int32))
+# Declarations: host/declarations writes them.
+fresh = Call("fresh", c_uint32, c_uint16, POINTER(c_uint32))
+add = Call("add", c_uint32, POINTER(c_uint32), c_uint16, c_uint8, c_uint16)
+remove = Call("remove", c_uint32, POINTER(c_uint32), c_uint16, c_uint8, c_uint16)
+lock = Call("lock", c_uint32, POINTER(c_uint32), c_uint16)
+unlock = Call("unlock", c_uint32, POINTER(c_uint32), c_uint16)
+withdraw = Call("withdraw", c_uint32, POINTER(c_uint32), c_uint16)
+reinstate = Call("reinstate", c_uint32, POINTER(c_uint32), c_uint16)
+undo = Call("undo", c_uint32, POINTER(c_uint32))
+size = Call("size", c_uint32, POINTER(c_uint32))
+links = Call("links", c_uint64, POINTER(c_uint32), POINTER(c_uint32))
+locked = Call("locked", c_uint32, POINTER(c_uint32), c_uint16)
+withdrawn = Call("withdrawn", c_uint32, POINTER(c_uint32), c_uint16)
+total = Call("total", c_uint64, POINTER(c_uint32), c_uint8)
+pairs = Call("pairs", c_uint64, POINTER(c_uint32), c_char_p, POINTER(c_uint64), POINTER(c_uint32))
+chain = Call("chain", c_uint64, POINTER(c_uint32), c_uint16, c_uint16, c_char_p, POINTER(c_uint64), POINTER(c_uint32))
+ends = Call("ends", c_uint64, POINTER(c_uint32), c_uint16, c_char_p, POINTER(c_uint32))
+starts = Call("starts", c_uint64, POINTER(c_uint32), c_uint16, c_char_p, POINTER(c_uint32))
+totals = Call("totals", c_uint64, POINTER(c_uint32), POINTER(c_uint32))
+marks = Call("marks", c_uint64, POINTER(c_uint32), POINTER(c_uint32))
+tree_make = Call("tree_make", c_uint64, c_size_t, POINTER(c_uint32), POINTER(c_uint64), POINTER(c_uint64))
+tree_list = Call("tree_list", c_uint64, c_size_t, POINTER(c_uint64), POINTER(c_uint32), POINTER(c_uint64))
+tree_union = Call("tree_union", c_uint64, c_size_t, POINTER(c_uint64), POINTER(c_uint64), POINTER(c_uint64), POINTER(c_uint64))
+tree_intersection = Call("tree_intersection", c_uint64, c_size_t, POINTER(c_uint64), POINTER(c_uint64), POINTER(c_uint64), POINTER(c_uint64))
+tree_difference = Call("tree_difference", c_uint64, c_size_t, POINTER(c_uint64), POINTER(c_uint64), POINTER(c_uint64), POINTER(c_uint64))
+tree_product = Call("tree_product", c_uint64, c_size_t, POINTER(c_uint64), c_uint8, POINTER(c_uint64), c_uint8, POINTER(c_uint64), POINTER(c_uint64))
+tree_transpose = Call("tree_transpose", c_uint64, c_size_t, POINTER(c_uint64), POINTER(c_uint64), POINTER(c_uint64))
+tree_closure = Call("tree_closure", c_uint64, c_size_t, POINTER(c_uint64), POINTER(c_uint64), POINTER(c_uint64))
+preview = Call("preview", c_uint64, POINTER(c_uint32), c_uint16, c_uint16, c_uint8, c_uint16, c_char_p, POINTER(c_uint64), POINTER(c_uint32))
+apply_all = Call("apply_all", c_uint64, POINTER(c_uint32), POINTER(c_uint64))
+close_up = Call("close_up", c_uint32, POINTER(c_uint32), POINTER(c_uint16))
+generations = Call("generations", c_uint64, POINTER(c_uint32), c_char_p, POINTER(c_uint64), POINTER(c_uint32))
+sole_support = Call("sole_support", c_uint64, POINTER(c_uint32), c_uint16, c_char_p, POINTER(c_uint16), POINTER(c_uint64), POINTER(c_uint32))
+pages = Call("pages", c_uint64, POINTER(c_uint32), c_char_p, POINTER(c_uint64), POINTER(c_uint8))
+read_pages = Call("read_pages", c_uint64, c_char_p, c_char_p, POINTER(c_uint32))
+pairs_by_rows = Call("pairs_by_rows", c_uint64, POINTER(c_uint32), c_char_p, POINTER(c_uint64), POINTER(c_uint32))
+offsets = Call("offsets", c_uint64, POINTER(c_uint32), c_uint16, POINTER(LentTie), POINTER(c_int64), POINTER(c_int32))
 
 
 def words(count: int) -> ctypes.Array[c_uint32]:
