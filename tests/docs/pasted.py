@@ -71,7 +71,7 @@ def python(block):
     """What differs when a session of Python is run."""
     test = doctest.DocTestParser().get_doctest(block, {}, "README", "README.md", 0)
     told = []
-    doctest.DocTestRunner(optionflags=doctest.IGNORE_EXCEPTION_DETAIL).run(test, out=told.append)
+    doctest.DocTestRunner().run(test, out=told.append)
     return ["a session of Python differs:\n" + "".join(told)] if told else []
 
 
