@@ -46,7 +46,7 @@
 //! * [`Trees`] and [`Tree`]: sets of pairs as k2-trees, and their algebra
 //! * [`calls`]: the engine's functions as they are exported, on plain slices
 //!
-//! A call takes at most 464 KB of stack (listing a tree), sole support 448, a pair question 352, a chain question 144, an edit or undo 128.
+//! A call takes at most 464 KB of stack, which listing a tree does; a thread of 512 KB is enough for every call.
 
 mod by_rows;
 pub mod calls;
