@@ -3,6 +3,7 @@
 from __future__ import annotations
 
 import copy
+import os
 import pickle
 import random
 import tempfile
@@ -52,7 +53,7 @@ class Lists(unittest.TestCase):
 
     def test_held(self) -> None:
         """Against a list of what was done, with more edits than are held."""
-        rng = random.Random(3)
+        rng = random.Random(int(os.environ.get("SEED", 3)))
         register = Register(6)
         done: list[str] = []
         for _ in range(600):
@@ -129,7 +130,7 @@ class Histories(unittest.TestCase):
 
     def test_the_very_register(self) -> None:
         """Random calls, through a file and without one: the same register, held edits too."""
-        rng = random.Random(5)
+        rng = random.Random(int(os.environ.get("SEED", 5)))
         with dating.open(self.path, records=20) as register:
             plain = Register(20)
             for _ in range(400):
@@ -268,7 +269,7 @@ class Histories(unittest.TestCase):
 class Explanations(unittest.TestCase):
     def test_against_the_chain(self) -> None:
         """There is a chain exactly if `why` says so; what it says of the parts is what the pairs say."""
-        rng = random.Random(11)
+        rng = random.Random(int(os.environ.get("SEED", 11)))
         for _ in range(60):
             register = Register(7)
             for _ in range(rng.randrange(14)):
