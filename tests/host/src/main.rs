@@ -1,8 +1,9 @@
-//! `differences [long | heap | quick]`: the engine's exported calls against the oracle, and over damaged words. Every slice that is
-//! lent ends right before a page that may not be touched; with `heap`, which is for valgrind, each is a block of the heap,
-//! and there are few cases; with `quick` there are a tenth as many. Every case is made from its seed: those of seeds from 0 on are the same in every run, and if SEED is
-//! in the environment there are a tenth as many from it on. Fails if there is a difference. All calls are made on a stack of
-//! 1 MB. With VERBOSE in the environment each case is named before it is run.
+//! `differences [long | heap | quick | few]`: the engine's exported calls against the oracle, and over damaged words. Every
+//! slice that is lent ends right before a page that may not be touched; with `heap`, which is for valgrind, each is a block
+//! of the heap, and there are few cases; with `quick` there are a tenth as many, with `few` a sixtieth. Every case is made
+//! from its seed: those of seeds from 0 on are the same in every run, and if SEED is in the environment there are a tenth as
+//! many from it on. Fails if there is a difference. All calls are made on a stack of 1 MB. With VERBOSE in the environment
+//! each case is named before it is run.
 
 mod damage;
 mod engine;
@@ -73,8 +74,9 @@ fn run_all() -> ExitCode {
         ["long"] => ("long", 1),
         ["heap"] => ("heap", 2),
         ["quick"] => ("quick", 0),
+        ["few"] => ("few", 0),
         _ => {
-            eprintln!("usage: differences [long | heap | quick]");
+            eprintln!("usage: differences [long | heap | quick | few]");
             return ExitCode::from(2);
         }
     };
@@ -85,8 +87,11 @@ fn run_all() -> ExitCode {
     trees::sizes(&mut run);
     for &(kind, case, size, counts) in KINDS {
         let start = Instant::now();
-        // A quick run has a tenth of the cases.
-        let count = if name == "quick" { counts[place].div_ceil(10) } else { counts[place] };
+        let count = match name {
+            "quick" => counts[place].div_ceil(10),
+            "few" => counts[place].div_ceil(60),
+            _ => counts[place],
+        };
         let new = drawn.map_or(0..0, |seed| seed..seed.saturating_add(count.div_ceil(10)));
         let made = count + new.end - new.start;
         for seed in (0..count).chain(new) {
