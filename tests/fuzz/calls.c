@@ -346,7 +346,11 @@ static void one(const struct call *call) {
     }
     case 8: answer = dating_size(lent_state(), state_len); hold(answer <= 1024 && (could || !answer), "a size of no register"); say(call, 0); break;
     case 10: answer = dating_locked(lent_state(), state_len, call->x); hold(answer <= (unsigned)could, "a lock of no register"); say(call, 0); break;
-    case 11: answer = dating_withdrawn(lent_state(), state_len, call->x); hold(answer <= (unsigned)could, "a withdrawn record of no register"); say(call, 0); break;
+    case 11:
+        answer = dating_withdrawn(lent_state(), state_len, call->x);
+        hold(answer <= (unsigned)could, "a withdrawn record of no register");
+        say(call, 0);
+        break;
     case 12:
         answer = dating_total(lent_state(), state_len, call->label);
         hold(could ? (answer == DATING_REFUSED + 3) == (call->label > 25) : answer == DATING_REFUSED + 16, "a total of no register or of no label");
@@ -492,7 +496,8 @@ static void run(const unsigned char *bytes, size_t size) {
     begin();
     for (size_t at = 0, calls = 0; at + 11 <= size && calls < CALLS; calls++) {
         const unsigned char *b = bytes + at;
-        struct call call = {b[0] % OPERATIONS, b[1] + 256u * b[2], b[3], b[4] + 256u * b[5], b[6] + 256u * b[7], b[8] + 256u * b[9], least(b[10], size - at - 11), b + 11};
+        size_t further = least(b[10], size - at - 11);
+        struct call call = {b[0] % OPERATIONS, b[1] + 256u * b[2], b[3], b[4] + 256u * b[5], b[6] + 256u * b[7], b[8] + 256u * b[9], further, b + 11};
         at += 11 + call.further;
         one(&call);
     }

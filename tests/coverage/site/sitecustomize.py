@@ -1,5 +1,5 @@
-"""Read by every Python that has this folder in PYTHONPATH: where REACHED names a folder, the lines of the package `dating` that are reached are written there, a file
-for each process. A process that is killed tells nothing."""
+"""Read by every Python that has this folder in PYTHONPATH: where REACHED names a folder, the lines of the package `dating` that are reached are written there,
+a file for each process. A process that is killed tells nothing."""
 import os
 
 if "REACHED" in os.environ:
