@@ -1,0 +1,48 @@
+-- The answer of a call that counts, what holds of it and of its list over any contents, and how it is told as one number.
+--   counted a       how many there are by the answer; none with a refusal
+--   answered k m    the answer where k is the number of the first cause: refused with it; where there is none, which is 0, the count m
+--   listAfter k ws l
+--                   what a list that held l holds then: as it was; where there is no cause, the words ws over its front
+--   Contained most words before after a
+--                   what holds over any contents: no more than `most` are told, past the first `words` words the list is as it was, with a refusal all
+--                   of it, and a refusal has the number of a cause
+--   pastCounts      2^32, which no count reaches; told in place of one
+--   refusal k, toldCounted a
+--                   a refusal, and a count or a refusal, told as a number of 64 bits: the count, or 2^33 and the number of the cause
+-- Assumes nothing: these are definitions.
+use mathlib.Core.Path.{_≡_}
+use mathlib.Core.List.{List}
+use Prim.Native.Nat.{ℕ, zero, suc, _+_, _*_, _≤_}
+use lib.ListN.{drop}
+use Rattle.book.specs.Basics.{over}
+use Rattle.book.specs.Causes.{Caused}
+use Rattle.answers.specs.declared.Counted.{Counted}
+use Rattle.answers.specs.declared.Counted.the-variants.{Count, Refused}
+
+unfoldable pub counted : Counted → ℕ
+counted (Count k) = k
+counted (Refused k) = 0
+
+unfoldable pub answered : ℕ → ℕ → Counted
+answered zero m = Count m
+answered (suc k) m = Refused (suc k)
+
+unfoldable pub listAfter : ℕ → List ℕ → List ℕ → List ℕ
+listAfter zero ws l = over ws l
+listAfter (suc k) ws l = l
+
+pub record Contained {A : Type 0} (most words : ℕ) (before after : List A) (a : Counted) : Type 0 where
+  pub fits : counted a ≤ most
+  pub past : drop words after ≡ drop words before
+  pub unchanged : (k : ℕ) → a ≡ Refused k → after ≡ before
+  pub caused : (k : ℕ) → a ≡ Refused k → Caused k
+
+abbrev pub pastCounts : ℕ
+pastCounts = 4294967296
+
+abbrev pub refusal : ℕ → ℕ
+refusal k = 2 * pastCounts + k
+
+abbrev pub toldCounted : Counted → ℕ
+toldCounted (Count k) = k
+toldCounted (Refused k) = refusal k
