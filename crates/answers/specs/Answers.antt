@@ -1,8 +1,11 @@
 -- The answer of a call that counts, what holds of it and of its list over any contents, and how it is told as one number.
 --   counted a       how many there are by the answer; none with a refusal
 --   answered k m    the answer where k is the number of the first cause: refused with it; where there is none, which is 0, the count m
---   listAfter k ws l
+--   overUnless k ws l
 --                   what a list that held l holds then: as it was; where there is no cause, the words ws over its front
+--   Handed k all ws before after a
+--                   the answer a, and the list, which held `before` and holds `after`, where k is the number of the first cause: how many `all` are, and the
+--                   words ws of them over the list's front
 --   Contained most words before after a
 --                   what holds over any contents: no more than `most` are told, past the first `words` words the list is as it was, with a refusal all
 --                   of it, and a refusal has the number of a cause
@@ -13,7 +16,7 @@
 use mathlib.Core.Path.{_≡_}
 use mathlib.Core.List.{List}
 use Prim.Native.Nat.{ℕ, zero, suc, _+_, _*_, _≤_}
-use lib.ListN.{drop}
+use lib.ListN.{length, drop}
 use Rattle.book.specs.Basics.{over}
 use Rattle.book.specs.Causes.{Caused}
 use Rattle.answers.specs.declared.Counted.{Counted}
@@ -27,9 +30,13 @@ unfoldable pub answered : ℕ → ℕ → Counted
 answered zero m = Count m
 answered (suc k) m = Refused (suc k)
 
-unfoldable pub listAfter : ℕ → List ℕ → List ℕ → List ℕ
-listAfter zero ws l = over ws l
-listAfter (suc k) ws l = l
+unfoldable pub overUnless : ℕ → List ℕ → List ℕ → List ℕ
+overUnless zero ws l = over ws l
+overUnless (suc k) ws l = l
+
+pub record Handed (k : ℕ) (all ws before after : List ℕ) (a : Counted) : Type 0 where
+  pub answer : a ≡ answered k (length all)
+  pub list : after ≡ overUnless k ws before
 
 pub record Contained {A : Type 0} (most words : ℕ) (before after : List A) (a : Counted) : Type 0 where
   pub fits : counted a ≤ most

@@ -1,0 +1,1 @@
+// What the engines of pair questions share: the records in use as bits.
