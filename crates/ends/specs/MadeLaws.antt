@@ -21,7 +21,9 @@ use Rattle.paths.specs.Verdicts.{verdict}
 use Rattle.paths.specs.Chains.{asked}
 use Rattle.paths.specs.ChainLaws.{Inside}
 use Rattle.paths.specs.PairLaws.{history-inside}
-use Rattle.paths.specs.Questions.{Outcome as Question·Outcome, paired, over, listAfter}
+use Rattle.answers.specs.declared.Counted.{Counted}
+use Rattle.answers.specs.declared.Counted.the-variants.{Count}
+use Rattle.paths.specs.Questions.{Outcome as Question·Outcome, paired, over, listAfter, countOf, Tells}
 use Rattle.register.specs.Calls.{Opens}
 use Rattle.register.specs.History.{Lent, CallsMade}
 use Rattle.register.specs.HistoryLaws.{history}
@@ -29,10 +31,8 @@ use Rattle.register.specs.Representation.{Represents}
 use Rattle.register.specs.declared.Register.{Register}
 use Rattle.register.specs.declared.Outcome.{Outcome}
 use Rattle.ends.specs.Ends.{EndsAre, StartsAre, ends, starts, joinedBy, endsOf, endsCauses, endsAnswer}
-use Rattle.ends.specs.Asking.{Tells, told-number, told-ends, BookEnds, AsksEnds, AsksStarts}
+use Rattle.ends.specs.Asking.{AsksEnds, AsksStarts}
 use Rattle.ends.specs.EndsLaws.{ends-are, starts-are}
-use Rattle.ends.specs.declared.EndsAnswer.{EndsAnswer}
-use Rattle.ends.specs.declared.EndsAnswer.the-variants.{Ends}
 
 pub answer-ends : (against : Bool) (b : Book) (x room : ℕ) → x < b .n → (v : Verdict) (e : Expr) → v ≡ accepted e
     → endsAnswer against b x v room ≡ paired (length (joinedBy against (asked b) e x)) (take room (joinedBy against (asked b) e x))
