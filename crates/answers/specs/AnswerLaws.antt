@@ -1,14 +1,21 @@
 -- Laws of answers that count.
 --   contained-refused  a refusal that has the number of a cause and leaves the list is contained
 --   contained-count    a count of at most `most` is, if the list is left past so many words
+--   whole-refused, whole-given, part-given
+--                      a list that is too short for xs; one that takes them; and as much of them as it takes
+--   first-over         the first words of xs over a list, if it is too short for all of them too
 -- Assumes nothing.
-use mathlib.Core.Path.{_≡_, ap, subst}
-use mathlib.Core.List.{List}
-use Prim.Native.Nat.{ℕ, _≤_}
+use mathlib.Core.Path.{_≡_, refl, sym, ap, subst, _∙_}
+use mathlib.Core.List.{List, _++_}
+use Prim.Native.Nat.{ℕ, _≤_, _<_}
+use native.Mathlib.Decide.{decLt}
 use native.Mathlib.Omega.{arith}
-use lib.ListN.{drop}
-use Rattle.book.specs.Causes.{Caused}
-use Rattle.answers.specs.Answers.{counted, Contained}
+use lib.ListN.{length, take, drop, drop-of-length-le}
+use lib.Seq.{take-all, length-take-le}
+use borrow.Author.Tests.{lt-ltb, le-ltb}
+use Rattle.book.specs.Basics.{over}
+use Rattle.book.specs.Causes.{Caused, number, firstNumber}
+use Rattle.answers.specs.Answers.{counted, answered, overUnless, Whole, FirstPart, Contained}
 use Rattle.answers.specs.declared.Counted.{Counted}
 use Rattle.answers.specs.declared.Counted.the-variants.{Count, Refused}
 
@@ -30,3 +37,26 @@ module _ {A : Type 0} (most words : ℕ) (before after : List A) where
     unchanged = λ j q. absurd (let z : _≡_ {A = ℕ} 0 1 = cc in omega arith);
     caused = λ j q. absurd (let z : _≡_ {A = ℕ} 0 1 = cc in omega arith);
   }
+
+module _ (xs before after : List ℕ) where
+  pub whole-refused : length before < length xs → after ≡ before → Whole xs before after (Refused 13)
+  unfolding answered overUnless firstNumber number
+  whole-refused h e = record { answer = rw (lt-ltb (length before) (length xs) h) refl; list = rw (lt-ltb (length before) (length xs) h) e }
+
+  pub whole-given : (m : ℕ) → m ≡ length xs → length xs ≤ length before → after ≡ over xs before → Whole xs before after (Count m)
+  unfolding answered overUnless firstNumber number
+  whole-given m q h e =
+      record { answer = rw (le-ltb (length before) (length xs) h) (ap Count q); list = rw (le-ltb (length before) (length xs) h) e }
+
+  pub part-given : (m : ℕ) → m ≡ length xs → after ≡ over (take (length before) xs) before → FirstPart xs before after (Count m)
+  unfolding answered overUnless
+  part-given m q e = record { answer = ap Count q; list = e }
+
+pub first-over : (xs l : List ℕ) → take (length l) xs ++ drop (length xs) l ≡ take (length l) xs ++ drop (length (take (length l) xs)) l
+first-over xs l = go (decLt (length l) (length xs))
+  where
+    go : Dec (length l < length xs) → take (length l) xs ++ drop (length xs) l ≡ take (length l) xs ++ drop (length (take (length l) xs)) l
+    go (yes h) =
+        ap (λ (t : List ℕ). take (length l) xs ++ t) (drop-of-length-le l {i =
+        length xs} (omega arith) ∙ sym (drop-of-length-le l {i = length (take (length l) xs)} (omega (arith, length-take-le (length l) xs (omega arith)))))
+    go (no h) = ap (λ (t : List ℕ). take (length l) xs ++ drop (length t) l) (sym (take-all (length l) xs (omega arith)))

@@ -24,7 +24,7 @@ use borrow.Author.Tests.{lt-ltb, le-ltb}
 use Rattle.book.specs.Causes.{short-work, number, Caused, firstNumber}
 use Rattle.book.specs.Book.{Book}
 use Rattle.answers.specs.Answers.{counted}
-use Rattle.answers.specs.AnswerLaws.{contained-refused, contained-count}
+use Rattle.answers.specs.AnswerLaws.{contained-refused, contained-count, first-over}
 use Rattle.answers.specs.declared.Counted.{Counted}
 use Rattle.answers.specs.declared.Counted.the-variants.{Count, Refused}
 use Rattle.k2.specs.Bits.{bitAt}
@@ -34,7 +34,7 @@ use Rattle.paths.specs.Chains.{asked}
 use Rattle.paths.specs.Relations.{cells, pairs}
 use Rattle.paths.specs.PairLaws.{verdict-caused}
 use Rattle.paths.specs.Questions.{Outcome, Engine, refused, paired, pairsWork, workFor, pairsOf, pairsCauses, pairsAnswer}
-use Rattle.paths.specs.Questions.{over, listAfter, countOf}
+use Rattle.paths.specs.Questions.{listAfter, countOf}
 use Rattle.reader.specs.Reads.{readAnswer}
 use Rattle.reader.specs.declared.Answer.the-variants.{Refused as Faulty}
 use Rattle.register.specs.Representation.{Represents}
@@ -43,16 +43,6 @@ use Rattle.rows.specs.Rows.{flat}
 use Rattle.query.specs.Asking.{Asks, AsksFor, maxPairs, rowWords, relationCauses, relationAnswer, RelatesFor}
 
 -- ---- any question that counts
--- the first words of l over a list, if it is too short for all of them too
-first-over : (l before : List ℕ) → take (length before) l ++ drop (length l) before ≡ over (take (length before) l) before
-first-over l before = go (decLt (length before) (length l))
-  where
-    go : Dec (length before < length l) → take (length before) l ++ drop (length l) before ≡ over (take (length before) l) before
-    go (yes h) =
-        ap (λ (t : List ℕ). take (length before) l ++ t) (drop-of-length-le before {i = length l} (omega arith)
-        ∙ sym (drop-of-length-le before {i = length (take (length before) l)} (omega (arith, length-take-le (length before) l (omega arith)))))
-    go (no h) = ap (λ (t : List ℕ). take (length before) l ++ drop (length t) before) (sym (take-all (length before) l (omega arith)))
-
 -- behind the words of l, a list that takes them all is as it was, and there is nothing of one that does not
 past-first : (l before : List ℕ) → drop (length l) (take (length before) l ++ drop (length l) before) ≡ drop (length l) before
 past-first l before = go (decLt (length before) (length l))
