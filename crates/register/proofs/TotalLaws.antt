@@ -27,7 +27,7 @@ use Rattle.book.specs.TotalLaws.{tally-le, tally-without}
 use Rattle.register.specs.Links.{labelUnit, wordTotal}
 use Rattle.register.specs.Packed.{Packed, insert, Shows}
 use Rattle.register.specs.Representation.{packedOf, Represents}
-use Rattle.register.specs.Inner.{Raised, Lowered, Counted, Holding}
+use Rattle.register.specs.Inner.{Raised, Lowered, Tallied, Holding}
 use Rattle.register.specs.declared.Register.{Register}
 use Rattle.register.proofs.AscendingLaws.{rises-absent}
 
@@ -101,11 +101,11 @@ lowered-counted x ts us ws vs a i e r k l h =
     let v : wordTotal l vs ≡ wordTotal l (without eqb x ws) = ap (wordTotal l) e in
     omega (arith, r .less l h (omega (arith, k l h, w)), k l h, w, v)
 
-pub held-counted : {m r : Register} {w : ℕ} → Holding m w r → Counted m → Counted r
+pub held-counted : {m r : Register} {w : ℕ} → Holding m w r → Tallied m → Tallied r
 held-counted o k l h = ap (λ (t : List ℕ). getD t l 0) (o .totals) ∙ k l h ∙ sym (ap (λ (p : Packed). wordTotal l (p .links)) (o .sheet))
 
-pub represents-counted : {r : Register} {b : Book} → Represents r b → Counted r
+pub represents-counted : {r : Register} {b : Book} → Represents r b → Tallied r
 represents-counted h l p = h .totals l p ∙ sym (h .sheet .totals l)
 
-pub counted-totals : (r : Register) {n : ℕ} {s : Sheet} → Counted r → Shows n (packedOf r) s → (l : ℕ) → l < labels → getD (r .totals) l 0 ≡ total s l
+pub counted-totals : (r : Register) {n : ℕ} {s : Sheet} → Tallied r → Shows n (packedOf r) s → (l : ℕ) → l < labels → getD (r .totals) l 0 ≡ total s l
 counted-totals r k s l h = k l h ∙ s .totals l

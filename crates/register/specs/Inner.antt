@@ -9,7 +9,7 @@
 --                         what `ranged`, `check_link`, `hold`, the inner edits and `taken_back` promise
 --   Raised l ts us, Lowered l ts us
 --                         what `raise` and `lower` promise: one more and one less of the label l, where the total has room for it
---   Counted r             the totals of the register are those of its links' words
+--   Tallied r             the totals of the register are those of its links' words
 --   Formed ws             the words of a register, as they are told: enough of them, the counters in range, each mark one of the three
 --   Tested P ok           ok is whether P
 -- Assumes nothing: these are definitions.
@@ -91,20 +91,20 @@ pub record Raised (l : ℕ) (ts us : List ℕ) : Type 0 where
 pub record Lowered (l : ℕ) (ts us : List ℕ) : Type 0 where
   pub less : (j : ℕ) → j < labels → bit (eqb l j) ≤ getD ts j 0 → getD ts j 0 ≡ bit (eqb l j) + getD us j 0
 
-abbrev pub Counted : Register → Type 0
-Counted r = (l : ℕ) → l < labels → getD (r .totals) l 0 ≡ wordTotal l (packedOf r .links)
+abbrev pub Tallied : Register → Type 0
+Tallied r = (l : ℕ) → l < labels → getD (r .totals) l 0 ≡ wordTotal l (packedOf r .links)
 
 -- where the words ascend, the sheet is changed to p, and the totals follow
 pub record Changed (self : Register) (p : Packed) (r : Register) : Type 0 where
   pub kept : Kept self r
   pub sheet : Rises 0 (packedOf self .links) → packedOf r ≡ p
-  pub counted : Rises 0 (packedOf self .links) → Counted self → Counted r
+  pub counted : Rises 0 (packedOf self .links) → Tallied self → Tallied r
 
 -- where the words ascend and there is room, an edit is taken back, and the totals follow
 pub record TakenBack (self : Register) (kind x : ℕ) (r : Register) : Type 0 where
   pub kept : Kept self r
   pub sheet : Rises 0 (packedOf self .links) → length (takeBackKind kind x (packedOf self) .links) ≤ maxLinks → packedOf r ≡ takeBackKind kind x (packedOf self)
-  pub counted : Rises 0 (packedOf self .links) → Counted self → Counted r
+  pub counted : Rises 0 (packedOf self .links) → Tallied self → Tallied r
 
 pub record Formed (ws : List ℕ) : Type 0 where
   pub long : stateWords ≤ length ws

@@ -104,12 +104,6 @@ pub struct Links {
     pub count: usize,
 }
 
-// The answer to asking for a total: the number of links, or refused with the number of its cause.
-pub enum TotalAnswer {
-    Total(u32),
-    Refused(u32),
-}
-
 // What is found of a link before its presence is: its word, or the number of a refusal.
 enum LinkCheck {
     Word(u32),

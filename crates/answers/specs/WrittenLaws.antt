@@ -8,7 +8,7 @@ use native.Mathlib.Numerals.{add-one}
 use native.Mathlib.Omega.{arith}
 use lib.ListN.{length, take, drop, getD, set, length-append, length-drop, take-append-drop}
 use lib.Seq.{length-take-le, take-suc, take-at, drop-at, drop-drop, set-split}
-use Rattle.report.specs.Written.{written, Wrote}
+use Rattle.answers.specs.Written.{written, Wrote}
 
 pub length-written : (p : ℕ) (t l : List ℕ) → p + length t ≤ length l → length (written p t l) ≡ length l
 unfolding written

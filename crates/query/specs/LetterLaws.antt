@@ -3,6 +3,8 @@
 --   letters-crossed  the pairs of the links of letters are those that a step joins whose letter is one of them
 --   zero-used        each record in use joined to itself is zero steps
 --   used-below       the records in use are below n
+--   used-asked       of a register's marks they are those of its book
+--   read-lettered    what is read of a register is its book's
 -- Assumes nothing.
 use mathlib.Core.Path.{_≡_, refl, sym, ap, _∙_, subst, fun-ext}
 use mathlib.Core.Logic.{⊎-elim}
@@ -12,12 +14,14 @@ use Prim.Native.Nat.{ℕ, _+_, _*_, _/_, _%_, _<_, _≤_, max}
 use native.Mathlib.Decide.{decLt}
 use native.Mathlib.Omega.{arith}
 use lib.Dec.{eqb}
+use lib.ListN.{take}
 use borrow.Author.Tests.{eqb-true, eq-eqb, le-ltb}
-use Rattle.book.specs.Basics.{pick, In, here, there}
+use Rattle.book.specs.Basics.{pick, bit, In, here, there}
 use Rattle.book.specs.ListLaws.{in-none, in-front, in-map}
 use Rattle.book.specs.Book.{Book, present}
-use Rattle.k2.specs.Bits.{digit, bitAt}
-use Rattle.k2.specs.PairSets.{pairWord, setOf, union, transpose, diagonal}
+use Rattle.book.specs.Causes.{maxRecords}
+use Rattle.k2.specs.Bits.{digit}
+use Rattle.k2.specs.PairSets.{pairWord, setOf, union, transpose, diagonal, PairsBelow}
 use Rattle.k2.specs.PairSetLaws.{set-in, in-set, set-bit, set-past}
 use Rattle.paths.specs.Expressions.{Letter}
 use Rattle.paths.specs.Chains.{Graph, asked}
@@ -26,9 +30,13 @@ use Rattle.paths.specs.ChainLaws.{Inside}
 use Rattle.paths.specs.RelationLaws.{crossed-is, is-crossed}
 use Rattle.paths.specs.PairLaws.{fit-inside}
 use Rattle.reader.specs.Letters.{lettersIn}
+use Rattle.register.specs.MarkLaws.{listed-withdrawn}
+use Rattle.register.specs.Questions.{Sized, Listing, MarkList}
+use Rattle.register.specs.Representation.{Represents}
+use Rattle.register.specs.declared.Register.{Register}
+use Rattle.register.specs.declared.Links.{Links}
 use Rattle.rows.specs.Rows.{linkPair, labelled, crossedWords}
-use Rattle.tree.specs.Inner.{LinksBelow}
-use Rattle.pairs.specs.Steps.{Lettered}
+use Rattle.query.specs.Evaluation.{usedBelow, Lettered}
 
 -- ---- the words of a set of labels
 -- a word that is kept is one of the words, and its label is in the set
@@ -55,11 +63,11 @@ keep m (v ∷ ws) w (there i) d = go (eqb (digit m (v / 1048576)) 1) (keep m ws 
     go false j = j
 
 -- ---- a book's links
-module _ (b : Book) (n : ℕ) (ws used : List ℕ) (L : Lettered b n ws used) where
+module _ (b : Book) (n : ℕ) (ws : List ℕ) (u : ℕ → ℕ) (L : Lettered b n ws u) where
   abbrev g : Graph
   g = asked b
 
-  pub links-below : LinksBelow n ws
+  pub links-below : PairsBelow n (map linkPair ws)
   unfolding linkPair
   links-below p h =
       let r = in-map linkPair ws h in
@@ -144,10 +152,25 @@ module _ (b : Book) (n : ℕ) (ws used : List ℕ) (L : Lettered b n ws used) wh
           go (no k) (yes j) = absurd (omega (arith, back x y j))
           go (no k) (no j) = omega arith
 
-  pub zero-used : diagonal (bitAt used) ≡ zeroSteps g
+  pub zero-used : diagonal u ≡ zeroSteps g
   unfolding zeroSteps
   zero-used = ap diagonal (L .in-use)
 
-  pub used-below : (x : ℕ) → n ≤ x → bitAt used x ≡ 0
+  pub used-below : (x : ℕ) → n ≤ x → u x ≡ 0
   unfolding asked
   used-below x h = ap (λ (f : ℕ → ℕ). f x) (L .in-use) ∙ rw (le-ltb x (b .n) (omega (arith, L .size)))
+
+-- ---- what is read of a register
+module _ {r : Register} {n : ℕ} {ms : List ℕ} (M : MarkList r ms) (b : Book) (R : Represents r b) where
+  pub used-asked : n ≡ b .n → usedBelow n ms ≡ (λ x. bit (asked b .inUse x))
+  unfolding usedBelow asked
+  used-asked e = fun-ext (λ x. rw (e, listed-withdrawn M R x))
+
+  pub read-lettered : {l : Links} → Sized r n → Listing r l → Lettered b n (take (l .count) (l .words)) (usedBelow n ms)
+  read-lettered S T = let z : n ≡ b .n = S .size b R in record {
+    size = z;
+    small = subst (λ (i : ℕ). i ≤ maxRecords) z (S .small);
+    fit = R .sheet .fit;
+    linked = T .linked b R;
+    in-use = used-asked z;
+  }
