@@ -1,8 +1,10 @@
 // What a call that counts answers, and how it is told as one number; words written into a list that is lent, one copy for each width.
 ghost use mathlib.Core.Path.{_≡_};
+ghost use mathlib.Core.List.{[], _∷_};
 ghost use Prim.Native.Nat.{_+_, _≤_};
 ghost use lib.ListN.{length};
 ghost use Rattle.answers.specs.Answers.{refusal, toldCounted};
+ghost use Rattle.answers.specs.Listing.{Grown};
 ghost use Rattle.answers.specs.Written.{Wrote};
 
 // The answer of a call that counts: how many there are, or refused with the number of the cause.
@@ -71,4 +73,13 @@ pub fn copy_u64(from: &[u64], to: &mut [u64], at: usize) -> usize
         i += 1;
     }
     at + i
+}
+
+// A word written at place t, if the list is that long.
+pub fn put_u32(out: &mut [u32], t: usize, v: u32)
+    ensures { λ _. ⌜ Grown t (t + 1) (v ∷ []) (now (out .entry)) (now (out .exit)) ⌝ }
+{
+    if t < out.len() {
+        out[t] = v;
+    }
 }

@@ -42,7 +42,7 @@ use Rattle.register.specs.MarkLaws.{listed-withdrawn}
 use Rattle.register.specs.Representation.{Represents}
 use Rattle.register.specs.Questions.{Sized, MarkList}
 use Rattle.rows.specs.Rows.{labelled, places, crossedWords}
-use Rattle.report.specs.Written.{written as text-written, Wrote}
+use Rattle.answers.specs.Written.{written as text-written, Wrote}
 use Rattle.chains.specs.declared.ChainAnswer.{ChainAnswer}
 use Rattle.chains.specs.declared.ChainAnswer.the-variants.{Chain, NoChain, Refused as ChainRefused}
 use Rattle.chains.specs.Replies.{outcomeOf as replyOf, stepsLength, Replies}

@@ -11,7 +11,7 @@ ghost use lib.ListN.{length, getD};
 ghost use Rattle.book.specs.Causes.{maxRecords};
 ghost use Rattle.k2.specs.PairSets.{IsSet};
 ghost use Rattle.rows.specs.Rows.{crossedWords};
-ghost use Rattle.report.specs.Written.{Wrote};
+ghost use Rattle.answers.specs.Written.{Wrote};
 ghost use Rattle.generations.specs.Inner.{chosen, Smallest, Joined, Closed};
 ghost use Rattle.generations.specs.Generating.{Generates, Looped};
 use chains::ChainAnswer;

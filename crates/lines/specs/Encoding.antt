@@ -28,7 +28,7 @@ use Rattle.book.specs.Book.{Link, Edit, edit, undo, close, add, remove, lock, u
 use Rattle.paths.specs.Grammar.{Verdict}
 use Rattle.paths.specs.Chains.{Reply}
 use Rattle.register.specs.History.{addKind, removeKind, lockKind, unlockKind, undoKind, withdrawKind, reinstateKind}
-use Rattle.report.specs.Written.{Wrote}
+use Rattle.answers.specs.Written.{Wrote}
 use Rattle.session.specs.Program.{twoBytes, frameOf, openKind, pairsKind, chainKind, totalKind, Request, Frame, asks, faulty, opening, call, pairs, chain}
 use Rattle.session.specs.Program.{totalling, Session, nextSession, Right, printed, listLeft, minFrame, maxFrame}
 use Rattle.session.specs.Runs.{End, ended, unsent, spent, allSent, mostTurns}

@@ -6,7 +6,7 @@ use Prim.Native.Nat.{ℕ, suc, _+_, _-_, _<_}
 use native.Mathlib.Omega.{arith}
 use lib.ListN.{length, take, drop}
 use lib.Seq.{take-at}
-use Rattle.report.specs.Written.{written, Wrote}
+use Rattle.answers.specs.Written.{written, Wrote}
 use Rattle.session.specs.Runs.{End, ended, unsent, spent, allSent, mostTurns}
 use Rattle.lines.specs.Typed.{typed}
 use Rattle.lines.specs.Encoding.{sent, sentAll, Sends, no-turns, last-line, not-sent, one-more, SentAll}

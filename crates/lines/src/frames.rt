@@ -2,7 +2,7 @@
 ghost use mathlib.Core.List.{_∷_, _++_};
 ghost use Prim.Native.Nat.{_+_, _≤_};
 ghost use lib.ListN.{length};
-ghost use Rattle.report.specs.Written.{Wrote};
+ghost use Rattle.answers.specs.Written.{Wrote};
 ghost use Rattle.session.specs.Program.{twoBytes, frameOf, chainKind};
 ghost use Rattle.lines.specs.Typed.{maxText};
 ghost use Rattle.lines.specs.Encoding.{maxBody, frameRoom};

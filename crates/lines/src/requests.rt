@@ -8,7 +8,7 @@ use crate::words::NONE;
 ghost use Prim.Native.Nat.{ℕ, _≤_};
 ghost use lib.ListN.{length};
 ghost use Rattle.book.specs.Book.{Link, Edit, undo};
-ghost use Rattle.report.specs.Written.{Wrote};
+ghost use Rattle.answers.specs.Written.{Wrote};
 ghost use Rattle.session.specs.Program.{Request, asks, call, pairs};
 ghost use Rattle.lines.specs.Typed.{saying, misfit, numbered, linked, alone, chained, lettered, text, requested, typed};
 ghost use Rattle.lines.specs.Encoding.{sent, OfNumber, OfLink, frameRoom};

@@ -13,19 +13,20 @@
 --                   the outcome of the relation as rows: the verdict's number; 12 for the work or for the rows; how many pairs there are
 --   relates-faulty, relates-short, relates-few, relates-made
 --                   so it promises of any register: refused, or the rows made
+--   handed-tells    what is handed over is told by its outcome
 -- Assumes nothing.
 use mathlib.Core.Path.{_≡_, refl, sym, ap, _∙_, subst}
 use mathlib.Core.List.{List, _++_}
-use Prim.Native.Nat.{ℕ, _≤_, _<_}
-use native.Mathlib.Decide.{decLt}
+use Prim.Native.Nat.{ℕ, zero, suc, _≤_, _<_}
 use native.Mathlib.Omega.{arith}
-use lib.ListN.{length, take, drop, length-append, length-drop, drop-of-length-le}
-use lib.Seq.{take-at, drop-at, take-all, length-take-le}
+use lib.ListN.{length, take, drop}
+use lib.Seq.{take-at, drop-at}
 use borrow.Author.Tests.{lt-ltb, le-ltb}
 use Rattle.book.specs.Causes.{short-work, number, Caused, firstNumber}
 use Rattle.book.specs.Book.{Book}
-use Rattle.answers.specs.Answers.{counted}
-use Rattle.answers.specs.AnswerLaws.{contained-refused, contained-count, first-over}
+use Rattle.answers.specs.Answers.{counted, answered, overUnless, Handed}
+use Rattle.answers.specs.AnswerLaws.{contained-refused, contained-count}
+use Rattle.answers.specs.ListingLaws.{shown-over, shown-past}
 use Rattle.answers.specs.declared.Counted.{Counted}
 use Rattle.answers.specs.declared.Counted.the-variants.{Count, Refused}
 use Rattle.k2.specs.Bits.{bitAt}
@@ -35,7 +36,7 @@ use Rattle.paths.specs.Chains.{asked}
 use Rattle.paths.specs.Relations.{cells, pairs}
 use Rattle.paths.specs.PairLaws.{verdict-caused}
 use Rattle.paths.specs.Questions.{Outcome, Engine, refused, paired, pairsWork, workFor, pairsOf, pairsCauses, pairsAnswer}
-use Rattle.paths.specs.Questions.{listAfter, countOf, Tells}
+use Rattle.paths.specs.Questions.{unless, listAfter, countOf, Tells}
 use Rattle.reader.specs.Reads.{readAnswer}
 use Rattle.reader.specs.declared.Answer.the-variants.{Refused as Faulty}
 use Rattle.register.specs.Representation.{Represents}
@@ -44,23 +45,6 @@ use Rattle.rows.specs.Rows.{flat}
 use Rattle.query.specs.Asking.{Asks, AsksFor, maxPairs, rowWords, relationCauses, relationAnswer, RelatesFor}
 
 -- ---- any question that counts
--- behind the words of l, a list that takes them all is as it was, and there is nothing of one that does not
-past-first : (l before : List ℕ) → drop (length l) (take (length before) l ++ drop (length l) before) ≡ drop (length l) before
-past-first l before = go (decLt (length before) (length l))
-  where
-    go : Dec (length before < length l) → drop (length l) (take (length before) l ++ drop (length l) before) ≡ drop (length l) before
-    go (yes h) =
-        let n : length (take (length before) l ++ drop (length l) before) ≤ length l =
-        omega (
-          arith,
-          length-append (take (length before) l) (drop (length l) before),
-          length-drop (length l) before,
-          length-take-le (length before) l (omega arith),
-        ) in
-        drop-of-length-le (take (length before) l ++ drop (length l) before) {i = length l} n
-        ∙ sym (drop-of-length-le before {i = length l} (omega arith))
-    go (no h) = rw (take-all (length before) l (omega arith)) (drop-at l (drop (length l) before) (length l) refl)
-
 module _ (most : ℕ) (r : Register) (o : Book → Outcome) (before : List ℕ) where
   pub asks-refused : (k : ℕ) → Caused k → ((b : Book) → Represents r b → o b ≡ refused k) → Asks most r o before before (Refused k)
   unfolding listAfter countOf
@@ -75,8 +59,8 @@ module _ (most : ℕ) (r : Register) (o : Book → Outcome) (before : List ℕ) 
   asks-listed l after t e h q f = record {
     contained =
         contained-count most t before after t (rw e h)
-        (ap (λ (i : ℕ). drop i after) e ∙ ap (drop (length l)) q ∙ past-first l before ∙ ap (λ (i : ℕ). drop i before) (sym e));
-    book = λ b R. let z = f b R in record { answer = rw (z, e) refl; list = rw z (q ∙ first-over l before) };
+        (ap (λ (i : ℕ). drop i after) e ∙ ap (drop (length l)) q ∙ shown-past l before ∙ ap (λ (i : ℕ). drop i before) (sym e));
+    book = λ b R. let z = f b R in record { answer = rw (z, e) refl; list = rw z (q ∙ shown-over l before) };
   }
 
 -- ---- the outcome of a pair question
@@ -210,3 +194,8 @@ module _ (r : Register) (v : Verdict) (work : ℕ) (before : List ℕ) where
               ap bitAt (take-at part (drop rowWords before) rowWords wide) ∙ m .0 ∙ ap (λ (x : Expr). flat (cells (asked b) x)) y;
         };
   }
+
+pub handed-tells : (k : ℕ) {xs ws before after : List ℕ} {a : Counted} → Handed k xs ws before after a → Tells (unless k (paired (length xs) ws)) before after a
+unfolding answered overUnless countOf listAfter
+handed-tells zero H = record { answer = H .answer; list = H .list }
+handed-tells (suc k) H = record { answer = H .answer; list = H .list }

@@ -57,8 +57,8 @@ use Rattle.paths.specs.Grammar.{Verdict}
 use Rattle.paths.specs.Chains.{Reply}
 use Rattle.register.specs.HistoryLaws.{represents-sound}
 use Rattle.report.specs.Report.{refusedText, outcomeText}
-use Rattle.report.specs.Written.{written, Wrote}
-use Rattle.report.specs.WrittenLaws.{length-written, wrote-as, wrote-none, wrote-then}
+use Rattle.answers.specs.Written.{written, Wrote}
+use Rattle.answers.specs.WrittenLaws.{length-written, wrote-as, wrote-none, wrote-then}
 use Rattle.session.specs.Program.{programWords, minFrame, maxFrame, number16, following, wholeFront, Frame, decode, Session, unopened, nextSession, Right}
 use Rattle.session.specs.Program.{printed}
 use Rattle.session.specs.Program.{listLeft, Run, ended as ended-here, lone-byte, bad-length, cut}

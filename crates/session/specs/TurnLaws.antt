@@ -39,8 +39,8 @@ use Rattle.register.specs.HistoryLaws.{number-answer}
 use Rattle.register.specs.Questions.{Totals}
 use Rattle.answers.specs.declared.Counted.{Counted}
 use Rattle.report.specs.Report.{refusedText, answerText, okText, outcomeText}
-use Rattle.report.specs.Written.{Wrote}
-use Rattle.report.specs.WrittenLaws.{wrote-as}
+use Rattle.answers.specs.Written.{Wrote}
+use Rattle.answers.specs.WrittenLaws.{wrote-as}
 use Rattle.session.specs.Program.{programRecords, Frame, asks, faulty, opening, call, pairs, chain, totalling, Session, unopened, opened, openAnswer}
 use Rattle.session.specs.Program.{nextSession, programPairs, Right, printed, listLeft}
 use Rattle.session.specs.Turns.{StateOf, is-closed, is-open, room, Spares, as-it-was, answered, Turns, Framing}

@@ -10,7 +10,7 @@ ghost use Rattle.session.specs.Turns.{StateOf, room, Turns, Framing};
 ghost use Rattle.session.specs.Runs.{OneTurn, RunsOn};
 ghost use Rattle.register.specs.Calls.{callOf};
 ghost use Rattle.report.specs.Report.{refusedText, outcomeText};
-ghost use Rattle.report.specs.Written.{Wrote};
+ghost use Rattle.answers.specs.Written.{Wrote};
 ghost use Rattle.session.specs.Listing.{listing, AnswersPairs, totalSaid};
 ghost use Rattle.chains.specs.Replies.{outcomeOf, stepsLength};
 use answers::Counted;

@@ -3,7 +3,7 @@
 use mathlib.Core.Path.{_≡_, sym, ap, _∙_}
 use native.Mathlib.Omega.{arith}
 use denote.Ref.{now}
-use Rattle.report.specs.WrittenLaws.{wrote-as, wrote-none}
+use Rattle.answers.specs.WrittenLaws.{wrote-as, wrote-none}
 use Rattle.lines.specs.Typed.{word, rest, requested, begun, typed}
 use Rattle.lines.specs.Encoding.{sent}
 use Rattle.lines.specs.SaidLaws.{typed-long, typed-short, begun-none, begun-comment, begun-request}

@@ -4,7 +4,7 @@ use mathlib.Core.Path.{sym, ap, _∙_}
 use native.Mathlib.Omega.{arith}
 use denote.Ref.{now}
 use Rattle.book.specs.Book.{Link}
-use Rattle.report.specs.WrittenLaws.{wrote-as}
+use Rattle.answers.specs.WrittenLaws.{wrote-as}
 use Rattle.lines.specs.Typed.{word}
 use Rattle.lines.specs.Encoding.{linkBytes, sent}
 use Rattle.lines.specs.SaidLaws.{label-under, linked-not-from, linked-not-label, linked-not-to, linked-more, linked-is}

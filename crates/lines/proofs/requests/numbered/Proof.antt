@@ -1,7 +1,7 @@
 -- `lines::requests::numbered` meets its contract, case by case (`numbered-not`, `numbered-more`, `numbered-is`). Assumes nothing.
 use mathlib.Core.Path.{sym, ap, _∙_}
 use denote.Ref.{now}
-use Rattle.report.specs.WrittenLaws.{wrote-as}
+use Rattle.answers.specs.WrittenLaws.{wrote-as}
 use Rattle.lines.specs.Encoding.{sent}
 use Rattle.lines.specs.SaidLaws.{numbered-not, numbered-more, numbered-is}
 use borrow.Author.Needs.{needs}

@@ -6,7 +6,7 @@ use denote.Ref.{now}
 use Rattle.book.specs.Causes.{number}
 use Rattle.book.specs.Book.{edit, add, remove, lock, unlock, withdraw, reinstate}
 use Rattle.report.specs.Report.{bytes}
-use Rattle.report.specs.WrittenLaws.{wrote-as}
+use Rattle.answers.specs.WrittenLaws.{wrote-as}
 use Rattle.session.specs.Program.{opening, call}
 use Rattle.lines.specs.Typed.{sameBytes, requested}
 use Rattle.lines.specs.SaidLaws.{requested-as, requested-none}

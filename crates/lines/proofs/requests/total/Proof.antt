@@ -2,7 +2,7 @@
 use mathlib.Core.Path.{sym, ap}
 use native.Mathlib.Omega.{arith}
 use denote.Ref.{now}
-use Rattle.report.specs.WrittenLaws.{wrote-as}
+use Rattle.answers.specs.WrittenLaws.{wrote-as}
 use Rattle.lines.specs.Encoding.{kindOf, bodyOf, frameFor, sent}
 use Rattle.lines.specs.SaidLaws.{lettered-not, lettered-more, lettered-is, label-under}
 use borrow.Author.Needs.{needs}

@@ -3,7 +3,7 @@ use mathlib.Core.Path.{sym, ap}
 use denote.Ref.{now}
 use Rattle.book.specs.Book.{undo}
 use Rattle.session.specs.Program.{call}
-use Rattle.report.specs.WrittenLaws.{wrote-as}
+use Rattle.answers.specs.WrittenLaws.{wrote-as}
 use Rattle.lines.specs.SaidLaws.{alone-more, alone-is}
 use Rattle.lines.specs.Encoding.{kindOf, bodyOf, frameFor, sent}
 use borrow.Author.Needs.{needs}

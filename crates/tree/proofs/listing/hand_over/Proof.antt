@@ -5,7 +5,8 @@ use Prim.Native.Nat.{ℕ}
 use borrow.Author.Needs.{needs}
 use lib.ListN.{length}
 use Rattle.rows.specs.Rows.{pairsIn}
-use Rattle.answers.specs.AnswerLaws.{part-given, first-over}
+use Rattle.answers.specs.AnswerLaws.{part-given}
+use Rattle.answers.specs.ListingLaws.{shown-over}
 use Rattle.tree.proofs.listing.hand_over.Statement.{statement}
 use Rattle.tree.proofs.listing.hand_over.Tie as tie
 
@@ -25,7 +26,7 @@ returns c =
     let a = after-count-pairs .before .before .before .args in
     let xs : List ℕ = pairsIn (a .n) (a .rows .now) in
     let k : after-count-pairs .count-pairs .result ≡ length xs = after-count-pairs .count-pairs .ensures in
-    part-given xs (a .out .now) _ _ k (after-write-pairs .write-pairs .ensures ∙ first-over xs (a .out .now))
+    part-given xs (a .out .now) _ _ k (after-write-pairs .write-pairs .ensures ∙ shown-over xs (a .out .now))
 
 pub hand-over-spec : {M : Type 1} → statement M
 hand-over-spec = tie.close (tie.spec count-pairs-requires write-pairs-requires same-length returns)
