@@ -8,11 +8,12 @@ use mathlib.Core.Path.{_≡_, refl, sym, ap, _∙_}
 use mathlib.Core.List.{List}
 use Prim.Native.Nat.{ℕ, zero, suc}
 use native.Mathlib.Omega.{arith}
-use lib.ListN.{length}
+use lib.ListN.{length, take}
+use Rattle.book.specs.Causes.{firstNumber}
 use Rattle.book.specs.Book.{Book, Call, close, answer, next, fresh, after}
 use Rattle.paths.specs.Verdicts.{verdict}
 use Rattle.paths.specs.Chains.{asked, Reply}
-use Rattle.paths.specs.Questions.{Outcome as Question·Outcome, refused, paired, replied, unless, pairsAnswer, listAfter, countOf}
+use Rattle.paths.specs.Questions.{Outcome as Question·Outcome, refused, paired, replied, unless, pairsOf, pairsCauses, pairsAnswer, listAfter, countOf}
 use Rattle.paths.specs.PairLaws.{fit-inside}
 use Rattle.paths.specs.GraphLaws.{some-reply}
 use Rattle.paths.specs.Renaming.{renamedReply, renamedOutcome, newNumber}
@@ -45,11 +46,13 @@ module _ {r : Register} {before after : List ℕ} {out : Outcome} (c : Closes r 
 
   pub pairs-after : PairsRenamed b r (out .register)
   unfolding pairsAnswer
-  pairs-after d text work l l₁ l₂ a₁ a₂ w p q =
+  pairs-after engine text work l l₁ l₂ a₁ a₂ w p q =
       let o = p .book b h in
       let n = q .book (next b (close (length before))) (c .steps .follows b h) in
-      let e = closing-pairs b (represents-sound h) (length before) accepted d (verdict text) work (length l) w in (
-        n .answer ∙ ap countOf e ∙ renamed-count (newNumber b) (pairsAnswer d b (verdict text) work (length l)) (not-replied _ _ _) ∙ sym (o .answer),
+      let e = closing-pairs b (represents-sound h) (length before) accepted engine (verdict text) work (length l) w in (
+        n .answer ∙ ap countOf e ∙ renamed-count (newNumber b) (pairsAnswer engine b (verdict text) work (length l))
+            (not-replied (firstNumber (pairsCauses engine b (verdict text) work)) (length (pairsOf b (verdict text))) (take (length l) (pairsOf b (verdict text))))
+            ∙ sym (o .answer),
         n .list ∙ ap (λ (u : Question·Outcome). listAfter u l) e,
       )
 

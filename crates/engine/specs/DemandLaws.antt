@@ -54,9 +54,9 @@ small : {e : Register} {b : Book} → Represents e b → b .n ≤ 1024
 small R = let q = R .size in let l = R .ranged .size in omega arith
 
 -- ---- pair questions
-paired-count : {o : Outcome} {a : Counted} (k : ℕ) → a ≡ countOf o → o ≡ refused k → (m : ℕ) → a ≡ Count m → ⊥
+refused-uncounted : {o : Outcome} {a : Counted} (k : ℕ) → a ≡ countOf o → o ≡ refused k → (m : ℕ) → a ≡ Count m → ⊥
 unfolding countOf
-paired-count k t e m p = let z : _≡_ {A = ℕ} 0 1 = cc in omega arith
+refused-uncounted k t e m p = let z : Count m ≡ countOf (refused k) = sym p ∙ t ∙ ap countOf e in let y : _≡_ {A = ℕ} 0 1 = cc in omega arith
 
 module _ {r : Register} {b : Book} (R : Represents r b) (q : PairsAsked)
     (T : Tells (pairsAnswer (q .engine) b (verdict (q .text)) (q .work) (length (q .before))) (q .before) (q .after) (q .answer)) where
@@ -82,7 +82,7 @@ module _ {r : Register} {b : Book} (R : Represents r b) (q : PairsAsked)
   pairs-handed k p = go (verdict (q .text)) refl
     where
       not-refused : (c : ℕ) (u : Verdict) → verdict (q .text) ≡ u → pairsAnswer (q .engine) b u (q .work) (length (q .before)) ≡ refused c → ⊥
-      not-refused c u v o = paired-count c (T .answer) (at u v ∙ o) k p
+      not-refused c u v o = refused-uncounted c (T .answer) (at u v ∙ o) k p
 
       enough : (e : Expr) → verdict (q .text) ≡ accepted e → Dec (q .work < workFor (q .engine) (b .n)) → workFor (q .engine) (b .n) ≤ q .work
       enough e v (yes h) = absurd (not-refused 12 (accepted e) v (outcome-short (q .engine) b (q .work) (length (q .before)) e h))

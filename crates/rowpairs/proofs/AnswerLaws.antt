@@ -1,7 +1,7 @@
 -- The value of a code handed over, in plain variables.
 --   listed-value   the pairs of the first relation listed are those of the value
---   alone-listed   so are those of a letter alone
 --   spread-value   the first relation spread to rows is the value in rows
+--   alone-listed   the pairs of a letter alone are those of its value
 --   own-words      with the work of trees, rows have too little only for 32 records or fewer
 -- Assumes nothing.
 use mathlib.Core.Path.{_≡_, sym, ap, ap₂, _∙_}
