@@ -4,7 +4,7 @@
 --   alone-listed   the pairs of a letter alone are those of its value
 --   own-words      with the work of trees, rows have too little only for 32 records or fewer
 -- Assumes nothing.
-use mathlib.Core.Path.{_≡_, sym, ap, ap₂, _∙_}
+use mathlib.Core.Path.{_≡_, ap, ap₂, _∙_}
 use mathlib.Core.List.{List, _++_, map}
 use Prim.Native.Nat.{ℕ, _≤_, _<_}
 use native.Mathlib.Decide.{decLt}

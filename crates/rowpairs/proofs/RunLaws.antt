@@ -6,7 +6,7 @@
 --                  the same of letters and a `^` after them, read as one
 --   going-ends     one relation is left, and it is the value
 -- Assumes nothing.
-use mathlib.Core.Path.{_≡_, refl, sym, ap, ap₂, _∙_, subst, fun-ext}
+use mathlib.Core.Path.{_≡_, sym, ap, ap₂, _∙_, subst, fun-ext}
 use mathlib.Core.List.{List, [], _∷_}
 use Prim.Native.Nat.{ℕ, zero, suc, _+_, _-_, _*_, _<_, _≤_, max}
 use native.Mathlib.Numerals.{add-one}

@@ -1,5 +1,4 @@
 -- `list_value` lists the links of a letter alone; it lends words of its own, enough by `rows-few`, where the work is too short. Assumes nothing.
-use native.Mathlib.Omega.{arith}
 use mathlib.Core.Path.{subst}
 use Prim.Native.Nat.{ℕ, _<_}
 use lib.ListN.{length}

@@ -1,7 +1,7 @@
 -- `list_within` lends masks: the many are enough for any code, the few if `few_masks` says so. Assumes nothing.
 use native.Mathlib.Omega.{arith}
 use native.Mathlib.Nat.{mul-le-mul}
-use Prim.Native.Nat.{ℕ, _+_, _*_, _≤_, _<_}
+use Prim.Native.Nat.{_*_, _≤_}
 use borrow.Author.Needs.{needs}
 use Rattle.rowpairs.proofs.list_within.Statement.{statement}
 use Rattle.rowpairs.proofs.list_within.Tie as tie

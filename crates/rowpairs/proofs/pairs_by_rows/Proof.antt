@@ -1,6 +1,6 @@
 -- `pairs_by_rows` reads the text; a refused one gives its number, too little work 12; else the code of the text is run, and its pairs are listed. Assumes nothing.
 use native.Mathlib.Omega.{arith}
-use mathlib.Core.Path.{_≡_, refl, sym, subst, _∙_}
+use mathlib.Core.Path.{_≡_, sym, subst, _∙_}
 use Prim.Native.Nat.{ℕ, _≤_, _<_}
 use lib.ListN.{length, take}
 use lib.Seq.{length-take-le}
