@@ -14,7 +14,7 @@
 --   decode k s      what a frame of kind k with the body s says: an unknown kind comes before a wrong body size
 --   Session         no register opened yet, or the book of the one that is
 --   openAnswer n    the answer to opening with n: in the program n is 1 to 64
---   rowRecords, programPairs b v work room
+--   rowRecords, engineFor n, programPairs b v work room
 --                   the most records whose pair questions are answered by rows; the outcome of a pair question: by rows up to so many records, by trees above
 --   nextSession s f the session after a frame
 --   Right s f v t   v is the verdict on the frame's text, and t the reply to its chain question, where it has them
@@ -37,9 +37,8 @@ use Rattle.book.specs.Causes.{Cause, bad-size, broken-frame, unknown-kind, not-
 use Rattle.book.specs.Book.{Link, Book, Call, edit, undo, add, remove, lock, unlock, withdraw, reinstate, answer, next, fresh, total, totalNumber}
 use Rattle.paths.specs.Grammar.{Verdict, Judged}
 use Rattle.paths.specs.Chains.{asked, Reply}
-use Rattle.paths.specs.Questions.{Outcome, pairsAnswer, chainAnswer, ReplyTo, listAfter}
+use Rattle.paths.specs.Questions.{Outcome, Engine, by-trees, by-rows, pairsAnswer, chainAnswer, ReplyTo, listAfter}
 use Rattle.register.specs.History.{addKind, removeKind, lockKind, unlockKind, undoKind, withdrawKind, reinstateKind}
-use Rattle.rowpairs.specs.Asking.{rowsAnswer}
 use Rattle.report.specs.Report.{refusedText, answerText, totalText, outcomeText}
 
 abbrev pub programRecords : ℕ
@@ -125,8 +124,11 @@ openAnswer n = firstNumber ((bad-size, ltb n 1 || ltb programRecords n) ∷ [])
 abbrev pub rowRecords : ℕ
 rowRecords = 32
 
+unfoldable pub engineFor : ℕ → Engine
+engineFor n = pick (leb n rowRecords) by-rows by-trees
+
 unfoldable pub programPairs : Book → Verdict → ℕ → ℕ → Outcome
-programPairs b v work room = pick (leb (b .n) rowRecords) (rowsAnswer b v work room) (pairsAnswer b v work room)
+programPairs b v work room = pairsAnswer (engineFor (b .n)) b v work room
 
 -- a refused open keeps the old register
 unfoldable pub nextSession : Session → Frame → Session

@@ -38,9 +38,8 @@ use Rattle.paths.specs.AcceptanceLaws.{parted, many, accepts}
 use Rattle.paths.specs.FirstChainLaws.{reach, stepsBelow, before-each, after-each, walks, walksTo, end, best, firstTo, chainTo, chain-first}
 use Rattle.report.specs.Report.{bytes, figures, decimal, pairLine, labelLetter, senseSign, stepLine, lines, counted, okText, refusedText, noneText, pairsText}
 use Rattle.report.specs.Report.{chainText, answerText, totalText, outcomeText}
-use Rattle.rowpairs.specs.Asking.{rowsCauses, rowsAnswer}
 use Rattle.session.specs.Program.{programWords, minFrame, maxFrame, number16, twoBytes, frameOf, linkIn, decode, Session, unopened, openAnswer}
-use Rattle.session.specs.Program.{programPairs, nextSession, Right, printed, listLeft, frameIn, Run, framed, ended, lone-byte}
+use Rattle.session.specs.Program.{engineFor, programPairs, nextSession, Right, printed, listLeft, frameIn, Run, framed, ended, lone-byte}
 use Rattle.session.specs.ProgramLaws.{length-left}
 
 unfoldable pub input : List ℕ
@@ -112,7 +111,7 @@ unfolding input output twoBytes frameOf bytes number16 linkIn decode openAnswer 
     chainText counted lines pairLine stepLine labelLetter senseSign decimal figures number firstNumber causes editAnswer edited turned undoAnswer undone answer
     next fresh after has without verdict readAlternatives alternativesIn letters depth verdictCause standsFor asked most crossedBy zeroSteps diagonal transpose
     union serves product via closure cells rowPairs rowsPairs listed pairs pairsOf pairsCauses pairsAnswer
-    rowsCauses rowsAnswer programPairs steps stepWords chainCauses chainAnswer rise height treeUnit
+    engineFor programPairs steps stepWords chainCauses chainAnswer rise height treeUnit
 sample =
     by (drop 3 output) long none refl refl refl tt
     (by (drop 6 output) long none refl refl refl tt
@@ -163,7 +162,7 @@ none-asked = (verdict-right [], λ e h. absurd (outside-none e h))
 pub refused-run : Prints unopened faults refusals
 unfolding faults refusals twoBytes frameOf bytes number16 linkIn decode openAnswer nextSession printed answerText outcomeText okText refusedText counted decimal
     figures number firstNumber causes editAnswer edited turned undoAnswer undone answer next fresh has without verdict readAlternatives
-    alternativesIn letters depth verdictCause asked pairsOf pairsCauses pairsAnswer rowsCauses rowsAnswer programPairs steps chainCauses chainAnswer
+    alternativesIn letters depth verdictCause asked pairsOf pairsCauses pairsAnswer engineFor programPairs steps chainCauses chainAnswer
 refused-run =
     by (drop 11 refusals) long none refl refl refl tt
     (by (drop 22 refusals) long none refl refl refl tt
@@ -257,7 +256,7 @@ unfolding struck uses twoBytes frameOf bytes number16 linkIn decode openAnswer n
     chainText counted lines pairLine stepLine labelLetter senseSign decimal figures number firstNumber causes editAnswer edited turned undoAnswer undone answer
     next fresh after has without touched verdict readAlternatives alternativesIn letters depth verdictCause standsFor asked most crossedBy zeroSteps diagonal
     transpose union serves product via closure cells rowPairs rowsPairs listed pairs pairsOf pairsCauses
-    pairsAnswer rowsCauses rowsAnswer programPairs steps stepWords chainCauses chainAnswer rise height treeUnit
+    pairsAnswer engineFor programPairs steps stepWords chainCauses chainAnswer rise height treeUnit
 struck-run =
     by (drop 3 uses) long none refl refl refl tt
     (by (drop 6 uses) long none refl refl refl tt

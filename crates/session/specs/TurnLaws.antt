@@ -37,7 +37,7 @@ use Rattle.register.specs.Representation.{Represents}
 use Rattle.register.specs.Calls.{answerNumber, Steps}
 use Rattle.register.specs.HistoryLaws.{number-answer}
 use Rattle.register.specs.Questions.{Totals}
-use Rattle.register.specs.declared.TotalAnswer.{TotalAnswer}
+use Rattle.answers.specs.declared.Counted.{Counted}
 use Rattle.report.specs.Report.{refusedText, answerText, okText, outcomeText}
 use Rattle.answers.specs.Written.{Wrote}
 use Rattle.answers.specs.WrittenLaws.{wrote-as}
@@ -185,7 +185,7 @@ module _ (st : State) (work : ℕ) (l l′ out out′ : List ℕ) (r : Framed) w
       (wrote-as (ap outcomeText (told .0 ∙ same)) w, told .1 ∙ ap (λ (a : Outcome). listAfter a l) same))
 
   -- asking for a total
-  pub total-turns : (x : ℕ) (a : TotalAnswer) → Totals (st .register) x a → st .opened ≡ true → r .state ≡ st → l′ ≡ l
+  pub total-turns : (x : ℕ) (a : Counted) → Totals (st .register) x a → st .opened ≡ true → r .state ≡ st → l′ ≡ l
       → Wrote 0 (totalSaid a) out out′ (r .written) → Turns st (asks (totalling x)) work l l′ out out′ r
   unfolding nextSession printed listLeft
   total-turns x a told up kept same w =

@@ -13,11 +13,10 @@ ghost use Rattle.report.specs.Report.{refusedText, outcomeText};
 ghost use Rattle.answers.specs.Written.{Wrote};
 ghost use Rattle.session.specs.Listing.{listing, AnswersPairs, totalSaid};
 ghost use Rattle.chains.specs.Replies.{outcomeOf, stepsLength};
+use answers::Counted;
 use chains::ChainAnswer;
-use pairs::PairsAnswer;
 use register::Call;
 use register::Register;
-use register::TotalAnswer;
 
 // The most records of the program.
 const MOST_RECORDS: u16 = 64;
@@ -298,21 +297,21 @@ fn listed(total: usize, list: &[u32]) -> usize
 }
 
 // The number of all pairs, and those in the list.
-fn put_listing(answer: PairsAnswer, list: &[u32], out: &mut [u8]) -> usize
+fn put_listing(answer: Counted, list: &[u32], out: &mut [u8]) -> usize
     requires { ⌜ room (length (now list)) ≤ length (now out) ⌝ }
     ensures { λ r. ⌜ Wrote 0 (outcomeText (listing answer (now (list .entry)))) (now (out .entry)) (now (out .exit)) r ⌝ }
 {
     match answer {
-        PairsAnswer::Pairs(total) => {
+        Counted::Count(total) => {
             let count = listed(total, list);
             report::put_pairs(total as u64, &list[..count], out, 0)
         }
-        PairsAnswer::Refused(k) => report::put_refused(k, out, 0),
+        Counted::Refused(k) => report::put_refused(k, out, 0),
     }
 }
 
 // The answer to a pair question of an opened book: by rows of bits for up to 32 records, by trees above.
-fn answer_pairs(register: Register, text: &[u8], work: &mut [u64], list: &mut [u32]) -> PairsAnswer
+fn answer_pairs(register: Register, text: &[u8], work: &mut [u64], list: &mut [u32]) -> Counted
     ensures { λ a. ⌜ AnswersPairs register (now (text .entry)) (length (now (work .entry))) (now (list .entry)) (now (list .exit)) a ⌝ }
 {
     if engine::size(register) <= ROW_RECORDS {
@@ -340,13 +339,13 @@ fn ask_pairs(
     Framed { state, written }
 }
 
-fn put_total(answer: TotalAnswer, out: &mut [u8]) -> usize
+fn put_total(answer: Counted, out: &mut [u8]) -> usize
     requires { ⌜ 29 ≤ length (now out) ⌝ }
     ensures { λ r. ⌜ Wrote 0 (totalSaid answer) (now (out .entry)) (now (out .exit)) r ⌝ }
 {
     match answer {
-        TotalAnswer::Total(t) => report::put_total(t, out, 0),
-        TotalAnswer::Refused(k) => report::put_refused(k, out, 0),
+        Counted::Count(t) => report::put_total(t as u64, out, 0),
+        Counted::Refused(k) => report::put_refused(k, out, 0),
     }
 }
 
