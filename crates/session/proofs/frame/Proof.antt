@@ -1,13 +1,13 @@
 -- `session::frame` meets its contract: with too little room nothing is done (`none-framed`), else each arm keeps its own promise (`turned-framed`).
 -- Assumes nothing.
-use mathlib.Core.Path.{refl, subst}
+use mathlib.Core.Path.{refl, sym, ap, _∙_}
 use Prim.Native.Nat.{_≤_}
 use native.Mathlib.Omega.{arith}
 use denote.Ref.{now}
 use lib.ListN.{length}
 use Rattle.book.specs.Causes.{number, broken-frame, unknown-kind}
-use Rattle.session.specs.Says.{says, Long}
-use Rattle.session.specs.TurnLaws.{faulty-turns, part-turns, none-framed, turned-framed}
+use Rattle.session.specs.Says.{says}
+use Rattle.session.specs.TurnLaws.{faulty-turns, decode-long, part-turns, none-framed, turned-framed}
 use borrow.Author.Needs.{needs}
 use Rattle.session.proofs.frame.Statement.{statement}
 use Rattle.session.proofs.frame.Tie as tie
@@ -46,9 +46,11 @@ enum-known-decoded-3 c = search needs
 
 -- the body of a chain question has at least four bytes
 long : (c : tie.After-decoded3) → 4 ≤ length (now (c .before .before .before .before .before .before .before .before .args .body))
+unfolding says
 long c =
     let start = c .before .before .before .before .before .before .before .before in
-    subst (λ d. Long d (now (start .args .body))) (c .decoded3 .given .1) (c .before .before .decode .ensures .1)
+    let s = now (start .args .body) in
+    decode-long (start .args .kind) s _ _ _ (sym (c .before .before .decode .ensures) ∙ ap (λ d. says d s) (c .decoded3 .given .1))
 
 sub-ask-chain : tie.Need-sub-ask-chain
 sub-ask-chain c = omega (arith, long (c .before))
@@ -92,7 +94,7 @@ returns-2 c =
     let s = start .args in
     let w = c .before .before .«open» in
     turned-framed (s .state) (length (now (s .work))) (now (s .list)) _ (now (s .out)) _ _
-    (says (after-decode .decode .result) (now (s .body))) _ (after-decode .decode .ensures .0) (omega arith)
+    (says (after-decode .decode .result) (now (s .body))) _ (after-decode .decode .ensures) (omega arith)
     (rw (after-decoded .decoded .given .1) (w .ensures _ _))
 
 same-length-2 : tie.Need-same-length-2
@@ -107,7 +109,7 @@ returns-3 c =
     let s = start .args in
     let w = c .before .before .edit in
     turned-framed (s .state) (length (now (s .work))) (now (s .list)) _ (now (s .out)) _ _
-    (says (after-decode .decode .result) (now (s .body))) _ (after-decode .decode .ensures .0) (omega arith)
+    (says (after-decode .decode .result) (now (s .body))) _ (after-decode .decode .ensures) (omega arith)
     (rw (after-decoded2 .decoded2 .given .1) (w .ensures _ _))
 
 same-length-3 : tie.Need-same-length-3
@@ -129,7 +131,7 @@ returns-4 c =
     let s = start .args in
     let w = after-ask-pairs .ask-pairs in
     turned-framed (s .state) (length (now (s .work))) (now (s .list)) _ (now (s .out)) _ _
-    (says (after-decode .decode .result) (now (s .body))) _ (after-decode .decode .ensures .0) (omega arith)
+    (says (after-decode .decode .result) (now (s .body))) _ (after-decode .decode .ensures) (omega arith)
     (rw (after-enum-told .enum-told .given .1) (w .ensures))
 
 same-length-6 : tie.Need-same-length-6
@@ -151,7 +153,7 @@ returns-5 c =
     let s = start .args in
     let w = after-ask-chain .ask-chain in
     turned-framed (s .state) (length (now (s .work))) (now (s .list)) _ (now (s .out)) _ _
-    (says (after-decode .decode .result) (now (s .body))) _ (after-decode .decode .ensures .0) (omega (arith, after-decode .before .if1 .left))
+    (says (after-decode .decode .result) (now (s .body))) _ (after-decode .decode .ensures) (omega (arith, after-decode .before .if1 .left))
     (rw (after-decoded3 .decoded3 .given .1) (part-turns (s .state) _ _ _ _ _ _ _ _ (now (s .body)) (w .ensures)))
 
 same-length-9 : tie.Need-same-length-9
@@ -166,7 +168,7 @@ returns-6 c =
     let s = start .args in
     let w = c .before .before .ask-total in
     turned-framed (s .state) (length (now (s .work))) (now (s .list)) _ (now (s .out)) _ _
-    (says (after-decode .decode .result) (now (s .body))) _ (after-decode .decode .ensures .0) (omega arith)
+    (says (after-decode .decode .result) (now (s .body))) _ (after-decode .decode .ensures) (omega arith)
     (rw (after-decoded4 .decoded4 .given .1) (w .ensures _ _))
 
 same-length-10 : tie.Need-same-length-10
@@ -181,7 +183,7 @@ returns-7 c =
     let s = start .args in
     let w = c .before .before .refuse in
     turned-framed (s .state) (length (now (s .work))) (now (s .list)) _ (now (s .out)) _ _
-    (says (after-decode .decode .result) (now (s .body))) _ (after-decode .decode .ensures .0) (omega arith)
+    (says (after-decode .decode .result) (now (s .body))) _ (after-decode .decode .ensures) (omega arith)
     (rw (after-enum-told2 .enum-told2 .given .1) (faulty-turns (s .state) _ _ _ _ _ (w .result) broken-frame (w .ensures .0) refl (w .ensures .1)))
 
 same-length-11 : tie.Need-same-length-11
@@ -196,7 +198,7 @@ returns-8 c =
     let s = start .args in
     let w = c .before .before .refuse2 in
     turned-framed (s .state) (length (now (s .work))) (now (s .list)) _ (now (s .out)) _ _
-    (says (after-decode .decode .result) (now (s .body))) _ (after-decode .decode .ensures .0) (omega arith)
+    (says (after-decode .decode .result) (now (s .body))) _ (after-decode .decode .ensures) (omega arith)
     (rw (after-enum-told3 .enum-told3 .given .1) (faulty-turns (s .state) _ _ _ _ _ (w .result) unknown-kind (w .ensures .0) refl (w .ensures .1)))
 
 pub frame-spec : {M : Type 1} → statement M
