@@ -6,14 +6,14 @@
 --   frame-parts     a frame from its parts
 --   run-lines       for all lines of a session: on the frames that are sent the program prints what the lines ask for, line by line
 -- Assumes nothing.
-use mathlib.Core.Path.{_≡_, refl, ap, sym, subst, _∙_}
+use mathlib.Core.Path.{_≡_, refl, ap, ap₂, subst, _∙_}
 use mathlib.Core.List.{List, [], _∷_, _++_, append-assoc}
 use mathlib.Core.Bool.{Bool, true, false, _&&_}
 use Prim.Native.Nat.{ℕ, suc, _+_, _-_, _*_, _/_, _%_, _≤_, _<_}
 use native.Mathlib.Omega.{arith}
 use lib.ListN.{length, drop, length-append}
 use lib.Seq.{take-at, drop-at}
-use lib.Dec.{leb, ltb, eqb}
+use lib.Dec.{ltb, eqb}
 use borrow.Author.Tests.{le-leb}
 use Rattle.book.specs.Basics.{pick}
 use Rattle.book.specs.Causes.{broken-frame, unknown-kind}
@@ -25,8 +25,8 @@ use Rattle.session.specs.Program.{Session, nextSession, Right, printed, listLef
 use Rattle.session.specs.RunLaws.{framed-as}
 use Rattle.session.specs.declared.Shape.{Shape}
 use Rattle.session.specs.declared.Shape.the-variants.{Empty, Record, Link, Size, Label, Expression, Ends, Unknown}
-use Rattle.lines.specs.Typed.{Typed, nothing, framed, fitting, word, rest, skip, empty, isNumber, numberOf, isLabel, labelOf, text, maxLine, hash}
-use Rattle.lines.specs.Typed.{kindNamed, argued, requested, begun, typed}
+use Rattle.lines.specs.Typed.{Typed, nothing, framed, unknown, fitting, word, rest, skip, empty, isNumber, numberOf, isLabel, labelOf, text, maxLine}
+use Rattle.lines.specs.Typed.{hash, kindNamed, argued, requested, begun, typed}
 use Rattle.lines.specs.TypedLaws.{length-text}
 use Rattle.lines.specs.Encoding.{sent, maxBody, sentAll, TypedRun, no-lines, silent-line, request-line}
 
@@ -41,18 +41,26 @@ pub data Sends : Typed → Type 0 where
 
 fitting-sends : (b : Bool) (k : ℕ) (s : List ℕ) → length s ≤ maxBody → Sends (fitting b k s)
 fitting-sends true k s h = one h
-fitting-sends false k s h = one (omega arith)
+fitting-sends false k s h = one {s = 0 ∷ []} (omega arith)
 
 argued-sends : (h : Shape) (k : ℕ) (r : List ℕ) → Sends (argued h k r)
 unfolding argued twoBytes
-argued-sends Empty k r = fitting-sends _ k _ (omega arith)
-argued-sends Record k r = fitting-sends _ k _ (omega arith)
-argued-sends Size k r = fitting-sends _ k _ (omega arith)
-argued-sends Link k r = fitting-sends _ k _ (omega arith)
-argued-sends Label k r = fitting-sends _ k _ (omega arith)
-argued-sends Expression k r = one (omega (arith, length-text r))
-argued-sends Ends k r = fitting-sends _ k _ (omega (arith, length-text (rest (rest r))))
-argued-sends Unknown k r = one (omega arith)
+argued-sends Empty k r = fitting-sends _ k [] (omega arith)
+argued-sends Record k r = fitting-sends _ k (twoBytes (numberOf (word r))) (omega arith)
+argued-sends Size k r = fitting-sends _ k (twoBytes (numberOf (word r))) (omega arith)
+argued-sends Link k r =
+    let x = numberOf (word r) in
+    let l = labelOf (word (rest r)) in
+    let y = numberOf (word (rest (rest r))) in
+    fitting-sends _ k (twoBytes x ++ (l ∷ twoBytes y)) (omega arith)
+argued-sends Label k r = fitting-sends _ k (labelOf (word r) ∷ []) (omega arith)
+argued-sends Expression k r = one {s = text r} (omega (arith, length-text r))
+argued-sends Ends k r =
+    let x = numberOf (word r) in
+    let y = numberOf (word (rest r)) in
+    let u = text (rest (rest r)) in
+    fitting-sends _ k (twoBytes x ++ (twoBytes y ++ u)) (omega (arith, length-text (rest (rest r))))
+argued-sends Unknown k r = one {s = []} (omega arith)
 
 choose : (b : Bool) (t u : Typed) → Sends t → Sends u → Sends (pick b t u)
 choose true t u x y = x
@@ -65,7 +73,7 @@ begun-sends (c ∷ s) = choose (eqb c hash) _ _ none (argued-sends _ _ _)
 
 pub typed-sends : (s : List ℕ) → Sends (typed s)
 unfolding typed
-typed-sends s = choose (ltb maxLine (length s)) _ _ (one (omega arith)) (begun-sends (skip s))
+typed-sends s = choose (ltb maxLine (length s)) _ _ (one {s = 0 ∷ []} (omega arith)) (begun-sends (skip s))
 
 -- ---- what the program takes their frames for
 unfoldable pub saying : Typed → List Frame
@@ -97,6 +105,10 @@ unfolding saying decode shapeOf fits
 fitting-taken true k s f e = ap (λ (g : Frame). g ∷ []) e
 fitting-taken false k s f e = refl
 
+unknown-taken : saying unknown ≡ faulty unknown-kind ∷ []
+unfolding saying decode shapeOf fits taken
+unknown-taken = refl
+
 -- a body by the shape of its kind, if it fits
 shape-taken : (h : Shape) (k : ℕ) (s : List ℕ) → shapeOf k ≡ h → fits h (length s) ≡ true → decode k s ≡ taken h k s
 unfolding decode
@@ -105,16 +117,25 @@ shape-taken h k s e f = rw (e, f)
 argued-taken : (h : Shape) (k : ℕ) (r : List ℕ) → shapeOf k ≡ h → saying (argued h k r) ≡ meant h k r ∷ []
 unfolding argued meant taken fits twoBytes number16
 argued-taken Empty k r e = fitting-taken _ k _ _ (shape-taken Empty k _ e refl)
-argued-taken Record k r e = fitting-taken _ k _ _ (shape-taken Record k _ e refl ∙ rw (both (numberOf (word r))))
-argued-taken Size k r e = fitting-taken _ k _ _ (shape-taken Size k _ e refl ∙ rw (both (numberOf (word r))))
+argued-taken Record k r e =
+    let x = numberOf (word r) in
+    fitting-taken _ k _ _ (shape-taken Record k _ e refl ∙ ap (λ (n : ℕ). called (kindCall k n 0 0)) (both x))
+argued-taken Size k r e =
+    let x = numberOf (word r) in
+    fitting-taken _ k _ _ (shape-taken Size k _ e refl ∙ ap (λ (n : ℕ). asks (opening n)) (both x))
 argued-taken Link k r e =
-    fitting-taken _ k _ _ (shape-taken Link k _ e refl ∙ rw (both (numberOf (word r)), both (numberOf (word (rest (rest r))))))
+    let x = numberOf (word r) in
+    let l = labelOf (word (rest r)) in
+    let y = numberOf (word (rest (rest r))) in
+    fitting-taken _ k _ _ (shape-taken Link k _ e refl ∙ ap₂ (λ (n m : ℕ). called (kindCall k n l m)) (both x) (both y))
 argued-taken Label k r e = fitting-taken _ k _ _ (shape-taken Label k _ e refl)
 argued-taken Expression k r e = fitting-taken true k _ _ (shape-taken Expression k _ e refl)
 argued-taken Ends k r e =
     let long = le-leb 4 (suc (suc (suc (suc (length (text (rest (rest r)))))))) (omega arith) in
-    fitting-taken _ k _ _ (shape-taken Ends k _ e long ∙ rw (both (numberOf (word r)), both (numberOf (word (rest r)))))
-argued-taken Unknown k r e = fitting-taken true 0 [] _ refl
+    let x = numberOf (word r) in
+    let y = numberOf (word (rest r)) in
+    fitting-taken _ k _ _ (shape-taken Ends k _ e long ∙ ap₂ (λ (n m : ℕ). asks (chain n m (text (rest (rest r))))) (both x) (both y))
+argued-taken Unknown k r e = unknown-taken
 
 pub decode-line : (w r : List ℕ) → saying (requested w r) ≡ meant (shapeOf (kindNamed w)) (kindNamed w) r ∷ []
 unfolding requested

@@ -7,8 +7,11 @@
 --   lettered-not, lettered-more, lettered-is
 --                         one letter and no more
 --   alone-more, alone-is  no argument
+--   LinkRead s x t l u y v
+--                         of the bytes s the words x, l and y are read, with what follows each
 --   linked-not-from, linked-not-label, linked-not-to, linked-more, linked-is
 --                         FROM LETTER TO and no more, in this order
+--   EndsRead s x t y u v  of the bytes s the words x and y are read, with what follows each, and then the text v
 --   chained-not-from, chained-not-to, chained-is
 --                         FROM TO EXPRESSION, in this order
 -- Assumes nothing.
@@ -53,26 +56,26 @@ begun-request [] h k = absurd (h refl)
 begun-request (c ∷ s) h k = rw (ne-eqb c hash k)
 
 -- ---- words as read
-number-fits : (w : List ℕ) (n : ℕ) → n ≡ read (isNumber w) (numberOf w) → n < unfit → (isNumber w ≡ true) × (n ≡ numberOf w)
+number-fits : (w : List ℕ) (n : ℕ) → n ≡ read (isNumber w) (numberOf w) → n < unfit → record { fits : isNumber w ≡ true; is : n ≡ numberOf w }
 unfolding read
 number-fits w n e h =
     let yes : isNumber w ≡ true = read-fits (isNumber w) (numberOf w) (rw e at h) in
-    (yes, e ∙ rw yes)
+    record { fits = yes; is = e ∙ rw yes }
 
 number-not : (w : List ℕ) (n : ℕ) → n ≡ read (isNumber w) (numberOf w) → unfit ≤ n → isNumber w ≡ false
 number-not w n e h = read-not (isNumber w) (numberOf w) (number-small w) (rw e at h)
 
-label-fits : (w : List ℕ) (n : ℕ) → n ≡ read (isLabel w) (labelOf w) → n < unfit → (isLabel w ≡ true) × (n ≡ labelOf w)
+label-fits : (w : List ℕ) (n : ℕ) → n ≡ read (isLabel w) (labelOf w) → n < unfit → record { fits : isLabel w ≡ true; is : n ≡ labelOf w }
 unfolding read
 label-fits w n e h =
     let yes : isLabel w ≡ true = read-fits (isLabel w) (labelOf w) (rw e at h) in
-    (yes, e ∙ rw yes)
+    record { fits = yes; is = e ∙ rw yes }
 
 label-not : (w : List ℕ) (n : ℕ) → n ≡ read (isLabel w) (labelOf w) → unfit ≤ n → isLabel w ≡ false
 label-not w n e h = read-not (isLabel w) (labelOf w) (λ y. omega (arith, label-small w y)) (rw e at h)
 
 pub label-under : (w : List ℕ) (n : ℕ) → n ≡ read (isLabel w) (labelOf w) → n < unfit → n < labels
-label-under w n e h = let f = label-fits w n e h in omega (arith, f .1, label-small w (f .0))
+label-under w n e h = let f = label-fits w n e h in omega (arith, f .is, label-small w (f .fits))
 
 empty-none : (s : List ℕ) → length s ≤ 0 → empty s ≡ true
 unfolding empty
@@ -98,7 +101,7 @@ module _ (s : List ℕ) {n : ℕ} {u : List ℕ} (is-n : n ≡ read (isNumber (w
   unfolding argued
   numbered-is h i =
       let v = number-fits (word s) n is-n h in
-      rw (← is-u, empty-none u i, v .0, v .1)
+      rw (← is-u, empty-none u i, v .fits, v .is)
 
 -- ---- one letter
 module _ (s : List ℕ) {n : ℕ} {u : List ℕ} (is-n : n ≡ read (isLabel (word s)) (labelOf (word s))) (is-u : u ≡ rest s) (k : ℕ) where
@@ -114,7 +117,7 @@ module _ (s : List ℕ) {n : ℕ} {u : List ℕ} (is-n : n ≡ read (isLabel (wo
   unfolding argued
   lettered-is h i =
       let v = label-fits (word s) n is-n h in
-      rw (← is-u, empty-none u i, v .0, v .1)
+      rw (← is-u, empty-none u i, v .fits, v .is)
 
 -- ---- no argument
 pub alone-more : (k : ℕ) (s : List ℕ) → 0 < length s → argued Empty k s ≡ misfit
@@ -126,50 +129,66 @@ unfolding argued
 alone-is k s h = rw (empty-none s h)
 
 -- ---- a link: x and what follows it, t, of it l and u, of that y and v
-module _ (s : List ℕ) {x l y : ℕ} {t u v : List ℕ}
-    (is-x : x ≡ read (isNumber (word s)) (numberOf (word s))) (is-t : t ≡ rest s)
-    (is-l : l ≡ read (isLabel (word t)) (labelOf (word t))) (is-u : u ≡ rest t)
-    (is-y : y ≡ read (isNumber (word u)) (numberOf (word u))) (is-v : v ≡ rest u) (k : ℕ) where
+pub record LinkRead (s : List ℕ) (x : ℕ) (t : List ℕ) (l : ℕ) (u : List ℕ) (y : ℕ) (v : List ℕ) : Type 0 where
+  pub from : x ≡ read (isNumber (word s)) (numberOf (word s))
+  pub after-from : t ≡ rest s
+  pub label : l ≡ read (isLabel (word t)) (labelOf (word t))
+  pub after-label : u ≡ rest t
+  pub to : y ≡ read (isNumber (word u)) (numberOf (word u))
+  pub after-to : v ≡ rest u
+
+module _ {s t u v : List ℕ} {x l y : ℕ} (r : LinkRead s x t l u y v) (k : ℕ) where
   pub linked-not-from : unfit ≤ x → argued Link k s ≡ misfit
   unfolding argued
-  linked-not-from h = rw (number-not (word s) x is-x h)
+  linked-not-from h = rw (number-not (word s) x (r .from) h)
 
   pub linked-not-label : x < unfit → unfit ≤ l → argued Link k s ≡ misfit
   unfolding argued
-  linked-not-label h i = rw (← is-t, number-fits (word s) x is-x h .0, label-not (word t) l is-l i)
+  linked-not-label h i = rw (← r .after-from, number-fits (word s) x (r .from) h .fits, label-not (word t) l (r .label) i)
 
   pub linked-not-to : x < unfit → l < unfit → unfit ≤ y → argued Link k s ≡ misfit
   unfolding argued
-  linked-not-to h i j = rw (← is-t, ← is-u, number-fits (word s) x is-x h .0, label-fits (word t) l is-l i .0, number-not (word u) y is-y j)
+  linked-not-to h i j =
+      let a = number-fits (word s) x (r .from) h in
+      let b = label-fits (word t) l (r .label) i in
+      rw (← r .after-from, ← r .after-label, a .fits, b .fits, number-not (word u) y (r .to) j)
 
   pub linked-more : x < unfit → l < unfit → y < unfit → 0 < length v → argued Link k s ≡ misfit
   unfolding argued
   linked-more h i j m =
-      rw (← is-t, ← is-u, ← is-v, number-fits (word s) x is-x h .0, label-fits (word t) l is-l i .0, number-fits (word u) y is-y j .0, empty-some v m)
+      let a = number-fits (word s) x (r .from) h in
+      let b = label-fits (word t) l (r .label) i in
+      let d = number-fits (word u) y (r .to) j in
+      rw (← r .after-from, ← r .after-label, ← r .after-to, a .fits, b .fits, d .fits, empty-some v m)
 
   pub linked-is : x < unfit → l < unfit → y < unfit → length v ≤ 0 → argued Link k s ≡ framed k (twoBytes x ++ (l ∷ twoBytes y))
   unfolding argued
   linked-is h i j m =
-      let a = number-fits (word s) x is-x h in
-      let b = label-fits (word t) l is-l i in
-      let d = number-fits (word u) y is-y j in
-      rw (← is-t, ← is-u, ← is-v, a .0, b .0, d .0, empty-none v m, a .1, b .1, d .1)
+      let a = number-fits (word s) x (r .from) h in
+      let b = label-fits (word t) l (r .label) i in
+      let d = number-fits (word u) y (r .to) j in
+      rw (← r .after-from, ← r .after-label, ← r .after-to, a .fits, b .fits, d .fits, empty-none v m, a .is, b .is, d .is)
 
--- ---- a chain question: x and what follows it, t, of it y and u, whose text is v
-module _ (s : List ℕ) {x y : ℕ} {t u v : List ℕ}
-    (is-x : x ≡ read (isNumber (word s)) (numberOf (word s))) (is-t : t ≡ rest s)
-    (is-y : y ≡ read (isNumber (word t)) (numberOf (word t))) (is-u : u ≡ rest t) (is-v : v ≡ text u) (k : ℕ) where
+-- ---- two ends and an expression: x and what follows it, t, of it y and u, whose text is v
+pub record EndsRead (s : List ℕ) (x : ℕ) (t : List ℕ) (y : ℕ) (u v : List ℕ) : Type 0 where
+  pub from : x ≡ read (isNumber (word s)) (numberOf (word s))
+  pub after-from : t ≡ rest s
+  pub to : y ≡ read (isNumber (word t)) (numberOf (word t))
+  pub after-to : u ≡ rest t
+  pub expression : v ≡ text u
+
+module _ {s t u v : List ℕ} {x y : ℕ} (r : EndsRead s x t y u v) (k : ℕ) where
   pub chained-not-from : unfit ≤ x → argued Ends k s ≡ misfit
   unfolding argued
-  chained-not-from h = rw (number-not (word s) x is-x h)
+  chained-not-from h = rw (number-not (word s) x (r .from) h)
 
   pub chained-not-to : x < unfit → unfit ≤ y → argued Ends k s ≡ misfit
   unfolding argued
-  chained-not-to h i = rw (← is-t, number-fits (word s) x is-x h .0, number-not (word t) y is-y i)
+  chained-not-to h i = rw (← r .after-from, number-fits (word s) x (r .from) h .fits, number-not (word t) y (r .to) i)
 
   pub chained-is : x < unfit → y < unfit → argued Ends k s ≡ framed k (twoBytes x ++ (twoBytes y ++ v))
   unfolding argued
   chained-is h i =
-      let a = number-fits (word s) x is-x h in
-      let b = number-fits (word t) y is-y i in
-      rw (← is-t, ← is-u, ← is-v, a .0, b .0, a .1, b .1)
+      let a = number-fits (word s) x (r .from) h in
+      let b = number-fits (word t) y (r .to) i in
+      rw (← r .after-from, ← r .after-to, ← r .expression, a .fits, b .fits, a .is, b .is)

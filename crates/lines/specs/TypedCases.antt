@@ -10,7 +10,8 @@ use Rattle.book.specs.Causes.{broken-frame, unknown-kind}
 use Rattle.book.specs.Book.{edit, undo, add, remove, lock, unlock, withdraw, reinstate}
 use Rattle.register.specs.History.{kindCall}
 use Rattle.report.specs.Report.{bytes}
-use Rattle.session.specs.Program.{number16, twoBytes, Request, Frame, asks, faulty, opening, call, pairs, chain, totalling, shapeOf, fits, called, taken, decode}
+use Rattle.session.specs.Program.{number16, twoBytes, Request, Frame, asks, faulty, opening, call, pairs, chain, totalling, shapeOf, fits, called, taken}
+use Rattle.session.specs.Program.{decode}
 use Rattle.lines.specs.Typed.{blank, skip, trim, word, rest, sameBytes, empty, figure, allFigures, numberAfter, numberOf, isNumber, isLabel, labelOf}
 use Rattle.lines.specs.Typed.{text, kindNamed, argued, requested, begun, typed}
 use Rattle.lines.specs.EncodingLaws.{saying}

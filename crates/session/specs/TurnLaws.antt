@@ -3,6 +3,9 @@
 --   open-none, open-many, open-fine, fresh-fine
 --                  opening with n: 1 for none or more than 64, else accepted
 --   next-size      a call keeps n, or lowers it
+--   decode-taken, decode-unfit
+--                  a body that fits is taken by the shape of its kind; one that does not says that the frame is broken
+--   decode-long    the body of a chain question has its two record numbers in front of its text
 --   faulty-turns   a frame that says no request
 --   closed-turns   any request but open while no register is opened
 --   open-turns     a request while one is
@@ -12,9 +15,6 @@
 --   pairs-turns, chain-turns
 --                  the two questions, which leave the session as it was
 --   total-turns    asking for a total
---   decode-taken, decode-unfit
---                  a body that fits is taken by the shape of its kind; one that does not says that the frame is broken
---   decode-long    the body of a chain question has its two record numbers in front of its text
 --   part-turns     a chain question's text is the part of its body from byte 4 on
 --   none-framed, turned-framed
 --                  with too little room for out nothing is done; with enough, what a turn promises

@@ -4,7 +4,8 @@ ghost use mathlib.Core.List.{List};
 ghost use Prim.Native.Nat.{ℕ, _≤_, _<_};
 ghost use lib.ListN.{length, take, getD};
 ghost use Rattle.session.specs.Program.{decode as Program·decode, number16 as Program·number16, following as Program·following, wholeFront};
-ghost use Rattle.session.specs.Program.{shapeOf, fits, called, opening, call as Program·call, pairs, chain, totalling, asks, unopened as Program·unopened};
+ghost use Rattle.session.specs.Program.{shapeOf, fits, called};
+ghost use Rattle.session.specs.Program.{opening, call as Program·call, pairs, chain, totalling, asks, unopened as Program·unopened};
 ghost use Rattle.session.specs.Says.{says};
 ghost use Rattle.session.specs.Turns.{StateOf, room, Turns, Framing};
 ghost use Rattle.session.specs.Runs.{OneTurn, RunsOn};
@@ -436,6 +437,29 @@ fn front(input: &[u8]) -> usize
     n + 2
 }
 
+// Where no whole frame stands the run ends: nothing is printed at the end of the input, else that the frame is broken.
+fn halt(state: State, input: &[u8], out: &mut [u8]) -> Ran
+    requires { ⌜ (wholeFront (now input) ≡ 0) × (29 ≤ length (now out)) ⌝ }
+    ensures { λ r. ⌜ ((work : ℕ) (l : List ℕ) → room (length l) ≤ length (now (out .entry))
+        → OneTurn state (now (input .entry)) work l l (now (out .entry)) (now (out .exit)) r) ⌝ }
+{
+    if input.len() == 0 {
+        return Ran {
+            state,
+            read: 0,
+            written: 0,
+            more: false,
+        };
+    }
+    let written = report::put_refused(book::BROKEN_FRAME, out, 0);
+    Ran {
+        state,
+        read: 0,
+        written,
+        more: false,
+    }
+}
+
 // One turn of a run: the frame at the front of the input, or the run's end. With too little room for what a frame may print, nothing.
 pub fn step(state: State, input: &[u8], work: &mut [u64], list: &mut [u32], out: &mut [u8]) -> Ran
     ensures { λ r. ⌜ OneTurn state (now (input .entry)) (length (now (work .entry)))
@@ -449,23 +473,9 @@ pub fn step(state: State, input: &[u8], work: &mut [u64], list: &mut [u32], out:
             more: true,
         };
     }
-    if input.len() == 0 {
-        return Ran {
-            state,
-            read: 0,
-            written: 0,
-            more: false,
-        };
-    }
     let read = front(input);
     if read == 0 {
-        let written = report::put_refused(book::BROKEN_FRAME, out, 0);
-        return Ran {
-            state,
-            read: 0,
-            written,
-            more: false,
-        };
+        return halt(state, input, out);
     }
     let kind = number16(input, 2);
     let framed = frame(state, kind, &input[4..read], work, list, out);

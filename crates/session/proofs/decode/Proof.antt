@@ -11,7 +11,6 @@ use Rattle.session.specs.Program.{fits, taken, decode}
 use Rattle.session.specs.Says.{says}
 use Rattle.session.specs.TurnLaws.{decode-taken, decode-unfit}
 use Rattle.session.specs.declared.Shape.{Shape}
-use Rattle.session.specs.declared.Shape.the-variants.{Empty, Record, Link, Size, Label, Expression, Ends, Unknown}
 use Rattle.session.proofs.decode.Statement.{statement}
 use Rattle.session.proofs.decode.Tie as tie
 
@@ -94,13 +93,15 @@ number16-requires-6 c κs = search needs
 shared-slice-read-label : tie.Need-shared-slice-read-label
 unfolding fits
 shared-slice-read-label c =
-    let e : length (now (start (c .before .before .before) .args .body)) ≡ 5 = eqb-true _ 5 (fit (c .before .before .before) (c .before .enum-told3 .given .1)) in
+    let past = c .before .before .before in
+    let e : length (now (start past .args .body)) ≡ 5 = eqb-true _ 5 (fit past (c .before .enum-told3 .given .1)) in
     omega (arith, e)
 
 shared-slice-read-label-2 : tie.Need-shared-slice-read-label-2
 unfolding fits
 shared-slice-read-label-2 c =
-    let e : length (now (start (c .before .before .before) .args .body)) ≡ 1 = eqb-true _ 1 (fit (c .before .before .before) (c .before .enum-told5 .given .1)) in
+    let past = c .before .before .before in
+    let e : length (now (start past .args .body)) ≡ 1 = eqb-true _ 1 (fit past (c .before .enum-told5 .given .1)) in
     omega (arith, e)
 
 returns-2 : tie.Need-returns-2

@@ -1,20 +1,20 @@
--- `lines::frames::put_chain` meets its contract: the bytes of its numbers are those of the definition. Assumes nothing.
+-- `lines::frames::put_ends` meets its contract: the bytes of its numbers are those of the definition. Assumes nothing.
 use Rattle.session.specs.Program.{twoBytes}
 use borrow.Author.Needs.{needs}
-use Rattle.lines.proofs.frames.put_chain.Statement.{statement}
-use Rattle.lines.proofs.frames.put_chain.Tie as tie
+use Rattle.lines.proofs.frames.put_ends.Statement.{statement}
+use Rattle.lines.proofs.frames.put_ends.Tie as tie
 
-cast-t7 : tie.Need-cast-t7
-cast-t7 c = search needs
+cast-t8 : tie.Need-cast-t8
+cast-t8 c = search needs
 
-cast-t9 : tie.Need-cast-t9
-cast-t9 c = search needs
+cast-t10 : tie.Need-cast-t10
+cast-t10 c = search needs
 
-cast-t11 : tie.Need-cast-t11
-cast-t11 c = search needs
+cast-t12 : tie.Need-cast-t12
+cast-t12 c = search needs
 
-cast-t13 : tie.Need-cast-t13
-cast-t13 c = search needs
+cast-t14 : tie.Need-cast-t14
+cast-t14 c = search needs
 
 slice-aggregate-put-frame : tie.Need-slice-aggregate-put-frame
 slice-aggregate-put-frame c = search needs
@@ -29,14 +29,14 @@ returns : tie.Need-returns
 unfolding twoBytes
 returns c = c .before .before .put-frame .ensures
 
-pub put-chain-spec : {M : Type 1} → statement M
-put-chain-spec =
+pub put-ends-spec : {M : Type 1} → statement M
+put-ends-spec =
     tie.close
     (tie.spec
-    cast-t7
-    cast-t9
-    cast-t11
-    cast-t13
+    cast-t8
+    cast-t10
+    cast-t12
+    cast-t14
     slice-aggregate-put-frame
     put-frame-requires
     same-length

@@ -1,15 +1,38 @@
--- `lines::requests::chain` meets its contract, case by case (`chained-not-from`, `chained-not-to`, `chained-is`). Assumes nothing.
+-- `lines::requests::chained` meets its contract, case by case (`chained-not-from`, `chained-not-to`, `chained-is`). Assumes nothing.
 use mathlib.Core.Path.{sym, ap}
 use native.Mathlib.Omega.{arith}
 use denote.Ref.{now}
 use lib.ListN.{length}
 use Rattle.report.specs.WrittenLaws.{wrote-as}
 use Rattle.lines.specs.TypedLaws.{length-text}
-use Rattle.lines.specs.Encoding.{kindOf, bodyOf, frameFor, sent}
-use Rattle.lines.specs.SaidLaws.{chained-not-from, chained-not-to, chained-is}
+use Rattle.lines.specs.Encoding.{sent}
+use Rattle.lines.specs.SaidLaws.{EndsRead, chained-not-from, chained-not-to, chained-is}
 use borrow.Author.Needs.{needs}
-use Rattle.lines.proofs.requests.chain.Statement.{statement}
-use Rattle.lines.proofs.requests.chain.Tie as tie
+use Rattle.lines.proofs.requests.chained.Statement.{statement}
+use Rattle.lines.proofs.requests.chained.Tie as tie
+
+-- where every word is read: the start, and the words
+abbrev start : tie.After-text → tie.Start
+start c = c .before .before .before .before .before .before .before
+
+as-read : (c : tie.After-text)
+    → let u = c .before in
+    let y = u .before in
+    let t = y .before in
+    let x = t .before in
+    EndsRead (now (start c .args .s)) (x .number .result) (now (t .rest .result)) (y .number2 .result) (now (u .rest2 .result)) (now (c .text .result))
+as-read c =
+    let u = c .before in
+    let y = u .before in
+    let t = y .before in
+    let x = t .before in
+    record {
+      from = x .number .ensures;
+      after-from = t .rest .ensures;
+      to = y .number2 .ensures;
+      after-to = u .rest2 .ensures;
+      expression = c .text .ensures;
+    }
 
 number-requires : tie.Need-number-requires
 number-requires c κs = search needs
@@ -34,15 +57,9 @@ same-length c = search needs
 
 returns : tie.Need-returns
 returns c =
-    let v = c .before .before .before .before .before in
-    let u = v .before in
-    let y = u .before in
-    let t = y .before in
-    let x = t .before in
-    let s = now (x .before .before .before .args .s) in
-    wrote-as (ap sent (sym (chained-not-from s (x .number .ensures) (t .rest .ensures) (y .number2 .ensures) (u .rest2 .ensures) (v .text .ensures)
-    (c .before .before .before .before .if1 .taken))))
-    (c .before .before .broken .ensures)
+    let test = c .before .before .before .before in
+    let v = test .before in
+    wrote-as (ap sent (sym (chained-not-from (as-read v) (start v .args .kind) (test .if1 .taken)))) (c .before .before .broken .ensures)
 
 broken-requires-2 : tie.Need-broken-requires-2
 broken-requires-2 c κs = search needs
@@ -52,24 +69,19 @@ same-length-2 c = search needs
 
 returns-2 : tie.Need-returns-2
 returns-2 c =
-    let v = c .before .before .before .before .before .before in
-    let u = v .before in
-    let y = u .before in
-    let t = y .before in
-    let x = t .before in
-    let s = now (x .before .before .before .args .s) in
-    wrote-as (ap sent (sym (chained-not-to s (x .number .ensures) (t .rest .ensures) (y .number2 .ensures) (u .rest2 .ensures) (v .text .ensures)
-    (c .before .before .before .before .before .if1 .left) (c .before .before .before .before .if2 .taken))))
+    let test = c .before .before .before .before in
+    let v = test .before .before in
+    wrote-as (ap sent (sym (chained-not-to (as-read v) (start v .args .kind) (test .before .if1 .left) (test .if2 .taken))))
     (c .before .before .broken2 .ensures)
 
-cast-put-chain : tie.Need-cast-put-chain
-cast-put-chain c = search needs
+cast-put-ends : tie.Need-cast-put-ends
+cast-put-ends c = search needs
 
-cast-put-chain-2 : tie.Need-cast-put-chain-2
-cast-put-chain-2 c = search needs
+cast-put-ends-2 : tie.Need-cast-put-ends-2
+cast-put-ends-2 c = search needs
 
-put-chain-requires : tie.Need-put-chain-requires
-put-chain-requires c κs =
+put-ends-requires : tie.Need-put-ends-requires
+put-ends-requires c κs =
     let v = c .before .before .before in
     (omega (arith, ap length (v .text .ensures), length-text (now (v .before .rest2 .result))), search needs)
 
@@ -77,20 +89,14 @@ same-length-3 : tie.Need-same-length-3
 same-length-3 c = search needs
 
 returns-3 : tie.Need-returns-3
-unfolding sent frameFor kindOf bodyOf
+unfolding sent
 returns-3 c =
-    let v = c .before .before .before .before .before .before in
-    let u = v .before in
-    let y = u .before in
-    let t = y .before in
-    let x = t .before in
-    let s = now (x .before .before .before .args .s) in
-    wrote-as (ap sent (sym (chained-is s (x .number .ensures) (t .rest .ensures) (y .number2 .ensures) (u .rest2 .ensures) (v .text .ensures)
-    (c .before .before .before .before .before .if1 .left) (c .before .before .before .before .if2 .left))))
-    (c .before .before .put-chain .ensures)
+    let test = c .before .before .before .before in
+    let v = test .before .before in
+    wrote-as (ap sent (sym (chained-is (as-read v) (start v .args .kind) (test .before .if1 .left) (test .if2 .left)))) (c .before .before .put-ends .ensures)
 
-pub chain-spec : {M : Type 1} → statement M
-chain-spec =
+pub chained-spec : {M : Type 1} → statement M
+chained-spec =
     tie.close
     (tie.spec
     number-requires
@@ -104,8 +110,8 @@ chain-spec =
     broken-requires-2
     same-length-2
     returns-2
-    cast-put-chain
-    cast-put-chain-2
-    put-chain-requires
+    cast-put-ends
+    cast-put-ends-2
+    put-ends-requires
     same-length-3
     returns-3)
