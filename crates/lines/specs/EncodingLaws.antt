@@ -45,21 +45,22 @@ fitting-sends false k s h = one {s = 0 ∷ []} (omega arith)
 
 argued-sends : (h : Shape) (k : ℕ) (r : List ℕ) → Sends (argued h k r)
 unfolding argued twoBytes
-argued-sends Empty k r = fitting-sends _ k [] (omega arith)
-argued-sends Record k r = fitting-sends _ k (twoBytes (numberOf (word r))) (omega arith)
-argued-sends Size k r = fitting-sends _ k (twoBytes (numberOf (word r))) (omega arith)
+argued-sends Empty k r = fitting-sends (empty r) k [] (omega arith)
+argued-sends Record k r = fitting-sends (isNumber (word r) && empty (rest r)) k (twoBytes (numberOf (word r))) (omega arith)
+argued-sends Size k r = fitting-sends (isNumber (word r) && empty (rest r)) k (twoBytes (numberOf (word r))) (omega arith)
 argued-sends Link k r =
-    let x = numberOf (word r) in
-    let l = labelOf (word (rest r)) in
-    let y = numberOf (word (rest (rest r))) in
-    fitting-sends _ k (twoBytes x ++ (l ∷ twoBytes y)) (omega arith)
-argued-sends Label k r = fitting-sends _ k (labelOf (word r) ∷ []) (omega arith)
+    let x = word r in
+    let l = word (rest r) in
+    let y = word (rest (rest r)) in
+    fitting-sends (isNumber x && (isLabel l && (isNumber y && empty (rest (rest (rest r)))))) k
+    (twoBytes (numberOf x) ++ (labelOf l ∷ twoBytes (numberOf y))) (omega arith)
+argued-sends Label k r = fitting-sends (isLabel (word r) && empty (rest r)) k (labelOf (word r) ∷ []) (omega arith)
 argued-sends Expression k r = one {s = text r} (omega (arith, length-text r))
 argued-sends Ends k r =
-    let x = numberOf (word r) in
-    let y = numberOf (word (rest r)) in
-    let u = text (rest (rest r)) in
-    fitting-sends _ k (twoBytes x ++ (twoBytes y ++ u)) (omega (arith, length-text (rest (rest r))))
+    let x = word r in
+    let y = word (rest r) in
+    fitting-sends (isNumber x && isNumber y) k (twoBytes (numberOf x) ++ (twoBytes (numberOf y) ++ text (rest (rest r))))
+    (omega (arith, length-text (rest (rest r))))
 argued-sends Unknown k r = one {s = []} (omega arith)
 
 choose : (b : Bool) (t u : Typed) → Sends t → Sends u → Sends (pick b t u)
@@ -116,25 +117,34 @@ shape-taken h k s e f = rw (e, f)
 
 argued-taken : (h : Shape) (k : ℕ) (r : List ℕ) → shapeOf k ≡ h → saying (argued h k r) ≡ meant h k r ∷ []
 unfolding argued meant taken fits twoBytes number16
-argued-taken Empty k r e = fitting-taken _ k _ _ (shape-taken Empty k _ e refl)
+argued-taken Empty k r e = fitting-taken (empty r) k [] _ (shape-taken Empty k [] e refl)
 argued-taken Record k r e =
     let x = numberOf (word r) in
-    fitting-taken _ k _ _ (shape-taken Record k _ e refl ∙ ap (λ (n : ℕ). called (kindCall k n 0 0)) (both x))
+    fitting-taken (isNumber (word r) && empty (rest r)) k (twoBytes x) (called (kindCall k x 0 0))
+    (shape-taken Record k (twoBytes x) e refl ∙ ap (λ (n : ℕ). called (kindCall k n 0 0)) (both x))
 argued-taken Size k r e =
     let x = numberOf (word r) in
-    fitting-taken _ k _ _ (shape-taken Size k _ e refl ∙ ap (λ (n : ℕ). asks (opening n)) (both x))
+    fitting-taken (isNumber (word r) && empty (rest r)) k (twoBytes x) (asks (opening x))
+    (shape-taken Size k (twoBytes x) e refl ∙ ap (λ (n : ℕ). asks (opening n)) (both x))
 argued-taken Link k r e =
+    let third = rest (rest r) in
     let x = numberOf (word r) in
     let l = labelOf (word (rest r)) in
-    let y = numberOf (word (rest (rest r))) in
-    fitting-taken _ k _ _ (shape-taken Link k _ e refl ∙ ap₂ (λ (n m : ℕ). called (kindCall k n l m)) (both x) (both y))
-argued-taken Label k r e = fitting-taken _ k _ _ (shape-taken Label k _ e refl)
-argued-taken Expression k r e = fitting-taken true k _ _ (shape-taken Expression k _ e refl)
+    let y = numberOf (word third) in
+    fitting-taken (isNumber (word r) && (isLabel (word (rest r)) && (isNumber (word third) && empty (rest third)))) k
+    (twoBytes x ++ (l ∷ twoBytes y)) (called (kindCall k x l y))
+    (shape-taken Link k (twoBytes x ++ (l ∷ twoBytes y)) e refl ∙ ap₂ (λ (n m : ℕ). called (kindCall k n l m)) (both x) (both y))
+argued-taken Label k r e =
+    let l = labelOf (word r) in
+    fitting-taken (isLabel (word r) && empty (rest r)) k (l ∷ []) (asks (totalling l)) (shape-taken Label k (l ∷ []) e refl)
+argued-taken Expression k r e = fitting-taken true k (text r) (asks (pairs (text r))) (shape-taken Expression k (text r) e refl)
 argued-taken Ends k r e =
-    let long = le-leb 4 (suc (suc (suc (suc (length (text (rest (rest r)))))))) (omega arith) in
     let x = numberOf (word r) in
     let y = numberOf (word (rest r)) in
-    fitting-taken _ k _ _ (shape-taken Ends k _ e long ∙ ap₂ (λ (n m : ℕ). asks (chain n m (text (rest (rest r))))) (both x) (both y))
+    let u = text (rest (rest r)) in
+    let long = le-leb 4 (suc (suc (suc (suc (length u))))) (omega arith) in
+    fitting-taken (isNumber (word r) && isNumber (word (rest r))) k (twoBytes x ++ (twoBytes y ++ u)) (asks (chain x y u))
+    (shape-taken Ends k (twoBytes x ++ (twoBytes y ++ u)) e long ∙ ap₂ (λ (n m : ℕ). asks (chain n m u)) (both x) (both y))
 argued-taken Unknown k r e = unknown-taken
 
 pub decode-line : (w r : List ℕ) → saying (requested w r) ≡ meant (shapeOf (kindNamed w)) (kindNamed w) r ∷ []
