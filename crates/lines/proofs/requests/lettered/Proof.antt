@@ -1,13 +1,13 @@
--- `lines::requests::total` meets its contract, case by case (`lettered-not`, `lettered-more`, `lettered-is`). Assumes nothing.
+-- `lines::requests::lettered` meets its contract, case by case (`lettered-not`, `lettered-more`, `lettered-is`). Assumes nothing.
 use mathlib.Core.Path.{sym, ap}
 use native.Mathlib.Omega.{arith}
 use denote.Ref.{now}
 use Rattle.answers.specs.WrittenLaws.{wrote-as}
-use Rattle.lines.specs.Encoding.{kindOf, bodyOf, frameFor, sent}
+use Rattle.lines.specs.Encoding.{sent}
 use Rattle.lines.specs.SaidLaws.{lettered-not, lettered-more, lettered-is, label-under}
 use borrow.Author.Needs.{needs}
-use Rattle.lines.proofs.requests.total.Statement.{statement}
-use Rattle.lines.proofs.requests.total.Tie as tie
+use Rattle.lines.proofs.requests.lettered.Statement.{statement}
+use Rattle.lines.proofs.requests.lettered.Tie as tie
 
 label-requires : tie.Need-label-requires
 label-requires c κs = search needs
@@ -26,7 +26,7 @@ returns c =
     let then1 = c .before .before .before .before in
     let start = then1 .before .before .before .before .before in
     let s = now (start .args .s) in
-    wrote-as (ap sent (sym (lettered-not s (then1 .before .before .label .ensures) (then1 .before .rest .ensures) (then1 .if1 .taken))))
+    wrote-as (ap sent (sym (lettered-not s (then1 .before .before .label .ensures) (then1 .before .rest .ensures) (start .args .kind) (then1 .if1 .taken))))
     (c .before .before .broken .ensures)
 
 broken-requires-2 : tie.Need-broken-requires-2
@@ -41,11 +41,11 @@ returns-2 c =
     let after-label = then2 .before .before .before in
     let start = after-label .before .before .before in
     let s = now (start .args .s) in
-    wrote-as (ap sent (sym (lettered-more s (after-label .label .ensures) (then2 .before .before .rest .ensures) (then2 .if2 .taken))))
+    wrote-as (ap sent (sym (lettered-more s (after-label .label .ensures) (then2 .before .before .rest .ensures) (start .args .kind) (then2 .if2 .taken))))
     (c .before .before .broken2 .ensures)
 
-cast-t13 : tie.Need-cast-t13
-cast-t13 c = omega (arith, label-under _ _ (c .before .before .before .label .ensures) (c .before .if1 .left))
+cast-t14 : tie.Need-cast-t14
+cast-t14 c = omega (arith, label-under _ _ (c .before .before .before .label .ensures) (c .before .if1 .left))
 
 slice-aggregate-put-frame : tie.Need-slice-aggregate-put-frame
 slice-aggregate-put-frame c = search needs
@@ -60,17 +60,20 @@ same-length-3 : tie.Need-same-length-3
 same-length-3 c = search needs
 
 returns-3 : tie.Need-returns-3
-unfolding sent frameFor kindOf bodyOf
+unfolding sent
 returns-3 c =
     let else2 = c .before .before .before .before .before .before in
     let after-label = else2 .before .before .before in
     let start = after-label .before .before .before in
     let s = now (start .args .s) in
-    wrote-as (ap sent (sym (lettered-is s (after-label .label .ensures) (else2 .before .before .rest .ensures) (else2 .before .if1 .left) (else2 .if2 .left))))
+    wrote-as
+    (ap sent
+    (sym
+    (lettered-is s (after-label .label .ensures) (else2 .before .before .rest .ensures) (start .args .kind) (else2 .before .if1 .left) (else2 .if2 .left))))
     (c .before .before .put-frame .ensures)
 
-pub total-spec : {M : Type 1} → statement M
-total-spec =
+pub lettered-spec : {M : Type 1} → statement M
+lettered-spec =
     tie.close
     (tie.spec
     label-requires
@@ -81,7 +84,7 @@ total-spec =
     broken-requires-2
     same-length-2
     returns-2
-    cast-t13
+    cast-t14
     slice-aggregate-put-frame
     slice-aggregate-put-frame-2
     put-frame-requires

@@ -1,13 +1,14 @@
--- `lines::requests::pairs` meets its contract: the text that is sent fits (`length-text`). Assumes nothing.
+-- `lines::requests::expressed` meets its contract: the text that is sent fits (`length-text`). Assumes nothing.
 use mathlib.Core.Path.{ap}
 use native.Mathlib.Omega.{arith}
 use denote.Ref.{now}
 use lib.ListN.{length}
 use Rattle.lines.specs.TypedLaws.{length-text}
-use Rattle.lines.specs.Encoding.{kindOf, bodyOf, frameFor, sent}
+use Rattle.lines.specs.Typed.{argued}
+use Rattle.lines.specs.Encoding.{sent}
 use borrow.Author.Needs.{needs}
-use Rattle.lines.proofs.requests.pairs.Statement.{statement}
-use Rattle.lines.proofs.requests.pairs.Tie as tie
+use Rattle.lines.proofs.requests.expressed.Statement.{statement}
+use Rattle.lines.proofs.requests.expressed.Tie as tie
 
 slice-aggregate-put-frame : tie.Need-slice-aggregate-put-frame
 slice-aggregate-put-frame c = search needs
@@ -23,10 +24,10 @@ same-length : tie.Need-same-length
 same-length c = search needs
 
 returns : tie.Need-returns
-unfolding sent frameFor kindOf bodyOf
+unfolding sent argued
 returns c = rw (← c .before .before .before .before .text .ensures) (c .before .before .put-frame .ensures)
 
-pub pairs-spec : {M : Type 1} → statement M
-pairs-spec =
+pub expressed-spec : {M : Type 1} → statement M
+expressed-spec =
     tie.close
     (tie.spec slice-aggregate-put-frame text-requires put-frame-requires same-length returns)

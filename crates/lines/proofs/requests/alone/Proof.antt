@@ -1,14 +1,12 @@
--- `lines::requests::undo` meets its contract (`alone-more`, `alone-is`). Assumes nothing.
+-- `lines::requests::alone` meets its contract (`alone-more`, `alone-is`). Assumes nothing.
 use mathlib.Core.Path.{sym, ap}
 use denote.Ref.{now}
-use Rattle.book.specs.Book.{undo}
-use Rattle.session.specs.Program.{call}
 use Rattle.answers.specs.WrittenLaws.{wrote-as}
 use Rattle.lines.specs.SaidLaws.{alone-more, alone-is}
-use Rattle.lines.specs.Encoding.{kindOf, bodyOf, frameFor, sent}
+use Rattle.lines.specs.Encoding.{sent}
 use borrow.Author.Needs.{needs}
-use Rattle.lines.proofs.requests.undo.Statement.{statement}
-use Rattle.lines.proofs.requests.undo.Tie as tie
+use Rattle.lines.proofs.requests.alone.Statement.{statement}
+use Rattle.lines.proofs.requests.alone.Tie as tie
 
 broken-requires : tie.Need-broken-requires
 broken-requires c κs = search needs
@@ -19,8 +17,8 @@ same-length c = search needs
 returns : tie.Need-returns
 returns c =
     let t = c .before .before .before .before in
-    let s = now (t .before .before .before .args .s) in
-    wrote-as (ap sent (sym (alone-more (call undo) s (t .if1 .taken)))) (c .before .before .broken .ensures)
+    let a = t .before .before .before .args in
+    wrote-as (ap sent (sym (alone-more (a .kind) (now (a .s)) (t .if1 .taken)))) (c .before .before .broken .ensures)
 
 slice-aggregate-put-frame : tie.Need-slice-aggregate-put-frame
 slice-aggregate-put-frame c = search needs
@@ -35,14 +33,14 @@ same-length-2 : tie.Need-same-length-2
 same-length-2 c = search needs
 
 returns-2 : tie.Need-returns-2
-unfolding sent frameFor kindOf bodyOf
+unfolding sent
 returns-2 c =
     let t = c .before .before .before .before .before .before in
-    let s = now (t .before .before .before .args .s) in
-    wrote-as (ap sent (sym (alone-is (call undo) s (t .if1 .left)))) (c .before .before .put-frame .ensures)
+    let a = t .before .before .before .args in
+    wrote-as (ap sent (sym (alone-is (a .kind) (now (a .s)) (t .if1 .left)))) (c .before .before .put-frame .ensures)
 
-pub undo-spec : {M : Type 1} → statement M
-undo-spec =
+pub alone-spec : {M : Type 1} → statement M
+alone-spec =
     tie.close
     (tie.spec
     broken-requires
