@@ -26,6 +26,15 @@ pub use questions::label_part;
 pub use state::number_of;
 pub use words::STATE_WORDS;
 pub use words::copy;
+pub use words::fitting;
+pub use words::has_mark;
+pub use words::is_register;
+pub use words::links_in;
+pub use words::mark_in;
+pub use words::marks_in;
+pub use words::size_in;
+pub use words::total_in;
+pub use words::totals_in;
 
 // The limits of the crate book, as wide as what is compared with them.
 const MAX_RECORDS: u16 = book::MAX_RECORDS as u16;
@@ -55,7 +64,7 @@ const REINSTATED: u32 = 5 * KIND_UNIT;
 // A record's mark: in use and not locked, locked, or withdrawn.
 const FREE_MARK: u32 = 0;
 
-const LOCK_MARK: u32 = 1;
+pub const LOCK_MARK: u32 = 1;
 
 pub const WITHDRAWN_MARK: u32 = 2;
 
