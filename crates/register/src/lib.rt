@@ -1,9 +1,10 @@
-// The register: links, marks and held edits by value. This file has its types and its numbers, and passes the rest on: sorted.rt ascending words,
-// state.rt a fresh register, totals.rt the totals, edits.rt the calls that edit it, closing.rt closing up its numbers, parting.rt the register without
-// a record's links, history.rt a history as words, questions.rt what questions read, words.rt its words.
+// The register: links, marks and held edits by value. This file has its types and its numbers, and passes the rest on: sorted.rt ascending words, fields.rt
+// the parts of a link's word, state.rt a fresh register, totals.rt the totals, edits.rt the calls that edit it, closing.rt closing up its numbers,
+// parting.rt the register without a record's links, history.rt a history as words, questions.rt what questions read, words.rt its words.
 // What the calls promise is stated in specs/Calls.antt, specs/History.antt and specs/Questions.antt, about the plain book of the crate book.
 mod closing;
 mod edits;
+mod fields;
 mod history;
 mod parting;
 mod questions;
@@ -12,6 +13,10 @@ mod state;
 mod totals;
 mod words;
 
+pub use fields::from_of;
+pub use fields::label_of;
+pub use fields::pair_of;
+pub use fields::to_of;
 pub use history::ADD_KIND;
 pub use history::Entry;
 pub use history::LOCK_KIND;

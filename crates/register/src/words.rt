@@ -39,6 +39,9 @@ const TOTALS_AT: usize = MARKS_AT + book::MAX_RECORDS;
 
 pub const STATE_WORDS: usize = TOTALS_AT + book::LABELS;
 
+// The most records, as wide as a word.
+const MOST_SIZE: u32 = book::MAX_RECORDS as u32;
+
 // A part of words copied to a place from word `at` on; false, and nothing written, if it does not fit there.
 pub fn copy(from: &[u32], to: &mut [u32], at: usize) -> bool
     ensures { λ r. ⌜ Copies (now (from .entry)) at (now (to .entry)) (now (to .exit)) r ⌝ }
@@ -109,7 +112,7 @@ pub fn is_register(words: &[u32]) -> bool
     if words.len() < STATE_WORDS {
         return false;
     }
-    if 65536 <= words[SIZE_AT] {
+    if MOST_SIZE < words[SIZE_AT] {
         return false;
     }
     let n = words[SIZE_AT] as u16;
