@@ -14,8 +14,6 @@ mod totals;
 mod words;
 
 pub use fields::from_of;
-pub use fields::label_of;
-pub use fields::pair_of;
 pub use fields::to_of;
 pub use history::ADD_KIND;
 pub use history::Entry;

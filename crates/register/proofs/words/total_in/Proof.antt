@@ -35,7 +35,9 @@ shared-slice-read-t9 : tie.Need-shared-slice-read-t9
 shared-slice-read-t9 c = omega (arith, keeps-long (one (c .before .before) .1), c .before .if2 .left)
 
 returns-3 : tie.Need-returns-3
-returns-3 c = let k = one (c .before .before) .1 in of-kept k (totals-given _ _ (k .ranged) (c .before .if2 .left) (sym (keeps-total k _ (c .before .if2 .left))))
+returns-3 c =
+    let k = one (c .before .before) .1 in
+    let below = c .before .if2 .left in of-kept k (totals-given _ _ (k .ranged) below (sym (keeps-total k _ below)))
 
 pub total-in-spec : {M : Type 1} → statement M
 total-in-spec =
