@@ -33,8 +33,8 @@ use Rattle.paths.specs.Grammar.{Verdict}
 use Rattle.paths.specs.Chains.{Reply}
 use Rattle.register.specs.HistoryLaws.{represents-sound}
 use Rattle.report.specs.Report.{refusedText}
-use Rattle.report.specs.Written.{written, Wrote}
-use Rattle.report.specs.WrittenLaws.{wrote-none}
+use Rattle.answers.specs.Written.{written, Wrote}
+use Rattle.answers.specs.WrittenLaws.{wrote-none}
 use Rattle.session.specs.Program.{minFrame, maxFrame, number16, following, wholeFront, Frame, decode, Session, nextSession, Right, printed}
 use Rattle.session.specs.Program.{listLeft, Run, ended, lone-byte, bad-length, cut}
 use Rattle.session.specs.ProgramLaws.{Steady, right-exists}

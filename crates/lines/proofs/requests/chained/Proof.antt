@@ -3,7 +3,7 @@ use mathlib.Core.Path.{sym, ap}
 use native.Mathlib.Omega.{arith}
 use denote.Ref.{now}
 use lib.ListN.{length}
-use Rattle.report.specs.WrittenLaws.{wrote-as}
+use Rattle.answers.specs.WrittenLaws.{wrote-as}
 use Rattle.lines.specs.TypedLaws.{length-text}
 use Rattle.lines.specs.Encoding.{sent}
 use Rattle.lines.specs.SaidLaws.{EndsRead, chained-not-from, chained-not-to, chained-is}
