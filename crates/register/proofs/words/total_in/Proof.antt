@@ -1,5 +1,6 @@
 -- `register::words::total_in` reads the total at the label's place, of words that are a register's. Assumes nothing.
 use mathlib.Core.Path.{sym}
+use Prim.Native.Nat.{_+_}
 use native.Mathlib.Omega.{arith}
 use borrow.Author.Tests.{not-true, not-false}
 use Rattle.book.specs.Causes.{number}
@@ -25,14 +26,17 @@ returns-2 : tie.Need-returns-2
 unfolding number
 returns-2 c = let k = one (c .before) .1 in of-kept k (totals-refused _ _ (k .ranged) (c .if2 .taken))
 
-add-t6 : tie.Need-add-t6
-add-t6 c = search needs
+add-kept : tie.Need-add-kept
+add-kept c = search needs
 
-mul-t7 : tie.Need-mul-t7
-mul-t7 c = search needs
+mul-kept : tie.Need-mul-kept
+mul-kept c = search needs
 
-shared-slice-read-t9 : tie.Need-shared-slice-read-t9
-shared-slice-read-t9 c = omega (arith, keeps-long (one (c .before .before) .1), c .before .if2 .left)
+shared-slice-read-kept : tie.Need-shared-slice-read-kept
+shared-slice-read-kept c = omega (arith, keeps-long (one (c .before .before) .1), c .before .if2 .left)
+
+cast-t6 : tie.Need-cast-t6
+cast-t6 c = omega (arith, c .shared-slice-known2 .given (5380 + c .before .before .before .before .before .args .label) .fits)
 
 returns-3 : tie.Need-returns-3
 returns-3 c =
@@ -42,4 +46,4 @@ returns-3 c =
 pub total-in-spec : {M : Type 1} → statement M
 total-in-spec =
     tie.close
-    (tie.spec is-register-requires returns returns-2 add-t6 mul-t7 shared-slice-read-t9 returns-3)
+    (tie.spec is-register-requires returns returns-2 add-kept mul-kept shared-slice-read-kept cast-t6 returns-3)
