@@ -77,7 +77,7 @@ module _ {ws before after′ : List ℕ} {k : ℕ} (text : List ℕ) (work : ℕ
   chain-book x y q = let t = q .answers (h .0) (h .1) in (t .0, t .1 .answers b (h .2), t .2)
 
 pub total-book : {ws : List ℕ} {l k : ℕ} → TellsTotal ws l k → (b : Book) → KeepsBook ws b → k ≡ toldTotal (totalAnswer (b .sheet) l)
-total-book q b h = let t = q .total (h .0) (h .1) in t .2 ∙ ap toldTotal (t .1 .told b (h .2))
+total-book q b h = let t = q .kept (h .0) (h .1) in t .2 ∙ ap toldTotal (t .1 .told b (h .2))
 
 pub total-told : (a : TotalAnswer) (k : ℕ) → toldTotal a ≡ k → k < 2 * pastCounts → a ≡ Total k
 total-told (Total j) k e l = ap Total e
