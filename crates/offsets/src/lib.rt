@@ -26,11 +26,6 @@ const WITHDRAWN_MARK: u32 = 2;
 
 const MARKS_AT: usize = 4356;
 
-// What is told in place of a count: that no placing meets all ties, and, with the number of its cause added, a refusal.
-const CANNOT_HOLD: u64 = 4294967296;
-
-const REFUSAL: u64 = 8589934592;
-
 // A number from LOW to below FAR is a distance; any other one stands for "not known".
 const FAR: i64 = 4611686018427387904;
 
@@ -392,17 +387,17 @@ fn hand_over(cause: u32, n: u16, on: bool, work: &mut [i64], list: &mut [i32]) -
     ensures { λ r. ⌜ inner.TellsOver cause n on (now (work .entry)) (now (list .entry)) (now (list .exit)) r ⌝ }
 {
     if cause != 0 {
-        return REFUSAL + cause as u64;
+        return answers::told_refusal(cause);
     }
     if on {
-        return CANNOT_HOLD;
+        return answers::PAST_COUNTS;
     }
     let k = n as usize;
     if work.len() < k * 3 {
-        return REFUSAL + book::SHORT_WORK as u64;
+        return answers::told_refusal(book::SHORT_WORK);
     }
     if list.len() < k * 2 {
-        return REFUSAL + book::SHORT_LIST as u64;
+        return answers::told_refusal(book::SHORT_LIST);
     }
     tell(k, work, list);
     (k * 2) as u64
