@@ -12,6 +12,4 @@ use Rattle.generations.specs.declared.GenerationsAnswer.{GenerationsAnsw
 
 pub generations-made : {n : ℕ} {cs : List Call} {r : Register} → MadeBy n cs r → (ls : List ℕ) (work : ℕ) (list list′ : List ℕ) (a : GenerationsAnswer)
     → Generates r ls work list list′ a → BookGenerates (after (fresh n) cs) ls work list list′ a
-generations-made {n} {cs} M ls work list list′ a G =
-    let R = made-book M in
-    (G .outcome (after (fresh n) cs) R, G .after (after (fresh n) cs) R)
+generations-made {n} {cs} M ls work list list′ a G = G .book (after (fresh n) cs) (made-book M)
