@@ -31,13 +31,16 @@ use borrow.Author.Tests.{lt-ltb, le-ltb}
 use Rattle.book.specs.Basics.{pick, bit}
 use Rattle.book.specs.Causes.{short-work, not-open, number, firstNumber, maxRecords}
 use Rattle.book.specs.Book.{Book, Call, close, freshAnswer}
+use Rattle.answers.specs.Answers.{FirstPart}
+use Rattle.answers.specs.AnswerLaws.{part-given}
+use Rattle.answers.specs.declared.Counted.{Counted}
+use Rattle.answers.specs.declared.Counted.the-variants.{Count}
 use Rattle.register.specs.Representation.{Represents}
 use Rattle.register.specs.Marks.{Marked}
 use Rattle.register.specs.Counters.{InRange}
 use Rattle.register.specs.Calls.{answerOf, answerNumber, Opens, Steps, Closes}
 use Rattle.register.specs.HistoryLaws.{number-answer}
 use Rattle.register.specs.Questions.{Sized, Listing, Locking, Withdrawal, Totals}
-use Rattle.register.specs.declared.TotalAnswer.{TotalAnswer}
 use Rattle.register.specs.Words.{stateWords, Keeps, Foreign, Copies, Loads, Stores}
 use Rattle.register.specs.MarkLaws.{represents-marked}
 use Rattle.register.specs.WordLaws.{keeps-long, keeps-same, load-done}
@@ -46,9 +49,7 @@ use Rattle.register.specs.declared.Outcome.{Outcome}
 use Rattle.register.specs.declared.Links.{Links}
 use Rattle.register.specs.declared.Answer.{Answer}
 use Rattle.register.specs.declared.Answer.the-variants.{Done, Refused}
-use Rattle.pairs.specs.Asking.{Handed, handed}
-use Rattle.pairs.specs.declared.PairsAnswer.the-variants.{Pairs}
-use Rattle.host.specs.Host.{freshNumber, Freshens, Edits, refusal, toldPairs, toldTotal, Told, Asked, Lists, Sizes, TellsLock, TellsWithdrawn, TellsTotal}
+use Rattle.host.specs.Host.{freshNumber, Freshens, Edits, refusal, toldCounted, Told, Asked, Lists, Sizes, TellsLock, TellsWithdrawn, TellsTotal}
 use Rattle.host.specs.Histories.{Renumbers}
 use Rattle.host.specs.Inner.{Finishes, refused, kept, lost}
 
@@ -211,10 +212,11 @@ module _ {A : Type 0} {ws : List ℕ} {P : Register → A → Type 0} {f : A →
 
 -- words copied to the front of a list, the first that it takes
 pub copied : {before after : List ℕ} (l xs : List ℕ) {ok : Bool} → Copies xs 0 before after ok → length xs ≤ length before → xs ≡ take (length before) l
-    → Handed l before after (Pairs (length l))
-copied {before} l xs c h q =
+    → FirstPart l before after (Count (length l))
+copied {before} {after} l xs c h q =
     let z : 0 + length xs ≡ length xs = omega arith in
-    handed (c .fits (omega (arith, h)) .1 ∙ ap (λ (j : ℕ). xs ++ drop j before) z ∙ ap (λ (ys : List ℕ). ys ++ drop (length ys) before) q)
+    part-given l before after (length l) refl
+    (c .fits (omega (arith, h)) .1 ∙ ap (λ (j : ℕ). xs ++ drop j before) z ∙ ap (λ (ys : List ℕ). ys ++ drop (length ys) before) q)
 
 -- the links: the first words of an array
 abbrev front : Links → List ℕ
@@ -222,8 +224,8 @@ front ls = take (ls .count) (ls .words)
 
 pub links-handed : {ws before after : List ℕ} {r : Register} → Keeps ws r → (ls : Links)
     → Listing r ls → (xs : List ℕ) {ok : Bool} → Copies xs 0 before after ok → length xs ≤ length before
-    → xs ≡ take (length before) (front ls) → {k : ℕ} → k ≡ length (front ls) → Asked ws (Lists before after) toldPairs before after k
-links-handed w ls g xs c h q e = asked w (Pairs (length (front ls))) (ls, g, copied (front ls) xs c h q) e
+    → xs ≡ take (length before) (front ls) → {k : ℕ} → k ≡ length (front ls) → Asked ws (Lists before after) toldCounted before after k
+links-handed w ls g xs c h q e = asked w (Count (length (front ls))) (ls, g, copied (front ls) xs c h q) e
 
 byte : (l : Bool) → boolByte l ≡ bit l
 byte true = refl
@@ -243,9 +245,9 @@ module _ {ws : List ℕ} where
   pub total-foreign : {l k : ℕ} → Foreign ws → k ≡ refusal (number not-open) → TellsTotal ws l k
   total-foreign g e = record { total = λ r w. absurd (g r w); foreign = λ _. e }
 
-  pub totalled : {r : Register} {l k : ℕ} → Keeps ws r → (a : TotalAnswer) → Totals r l a → k ≡ toldTotal a → TellsTotal ws l k
+  pub totalled : {r : Register} {l k : ℕ} → Keeps ws r → (a : Counted) → Totals r l a → k ≡ toldCounted a → TellsTotal ws l k
   totalled {r} {l} {k} w a p e =
-      record { total = λ s v. subst (λ (t : Register). Told (Totals t l) toldTotal k) (keeps-same w v) (a, p, e); foreign = λ g. absurd (g r w) }
+      record { total = λ s v. subst (λ (t : Register). Told (Totals t l) toldCounted k) (keeps-same w v) (a, p, e); foreign = λ g. absurd (g r w) }
 
   pub lock-foreign : (x : ℕ) → Foreign ws → TellsLock ws x 0
   lock-foreign x g = record { small = omega arith; locked = λ b h. absurd (g (h .0) (h .1)); foreign = λ _. refl }

@@ -2,15 +2,13 @@
 ghost use mathlib.Core.Path.{_≡_};
 ghost use Prim.Native.Nat.{_≤_};
 ghost use lib.ListN.{length, take};
-ghost use Rattle.pairs.specs.Asking.{AsksPairs};
+ghost use Rattle.query.specs.Asking.{AsksPairs};
 ghost use Rattle.chains.specs.Replies.{Replies};
 ghost use Rattle.ends.specs.Asking.{AsksEnds, AsksStarts};
-ghost use Rattle.host.specs.Host.{toldPairs, toldChain, toldEnds, Asked, Lists, Sizes, TellsLock, TellsWithdrawn, TellsTotal};
+ghost use Rattle.host.specs.Host.{toldCounted, toldChain, Asked, Lists, Sizes, TellsLock, TellsWithdrawn, TellsTotal};
 use crate::told::told_chain;
-use crate::told::told_ends;
-use crate::told::told_pairs;
-use crate::told::told_refusal;
-use crate::told::told_total;
+use answers::told;
+use answers::told_refusal;
 use register::Register;
 
 // The number of records; 0 if the words are no register's.
@@ -44,7 +42,7 @@ pub fn fitting(words: &[u32], room: usize) -> usize
 // The links' words, ascending, as many as the list takes; how many they are in all.
 #[no_mangle]
 pub extern "C" fn dating_links(state: &[u32], list: &mut [u32]) -> u64
-    ensures { λ k. ⌜ Asked (now (state .entry)) (Lists (now (list .entry)) (now (list .exit))) toldPairs (now (list .entry)) (now (list .exit)) k ⌝ }
+    ensures { λ k. ⌜ Asked (now (state .entry)) (Lists (now (list .entry)) (now (list .exit))) toldCounted (now (list .entry)) (now (list .exit)) k ⌝ }
 {
     let loaded = Register::load(state);
     let answer = loaded.answer;
@@ -99,7 +97,7 @@ pub extern "C" fn dating_total(state: &[u32], label: u8) -> u64
         return told_refusal(book::NOT_OPEN);
     }
     let register = loaded.register;
-    told_total(engine::total(register, label))
+    told(engine::total(register, label))
 }
 
 // The pairs that have a chain, ascending, each once, as many as the list takes; how many they are in all.
@@ -111,14 +109,14 @@ pub extern "C" fn dating_pairs(
     list: &mut [u32],
 ) -> u64
     ensures { λ k. ⌜ Asked (now (state .entry)) (λ r. AsksPairs r (now (text .entry)) (length (now (work .entry))) (now (list .entry)) (now (list .exit)))
-        toldPairs (now (list .entry)) (now (list .exit)) k ⌝ }
+        toldCounted (now (list .entry)) (now (list .exit)) k ⌝ }
 {
     let loaded = Register::load(state);
     let answer = loaded.answer;
     if register::number_of(answer) != 0 {
         return told_refusal(book::NOT_OPEN);
     }
-    told_pairs(engine::pairs(loaded.register, text, work, list))
+    told(engine::pairs(loaded.register, text, work, list))
 }
 
 // The first of the shortest chains from one record to another.
@@ -146,26 +144,26 @@ pub extern "C" fn dating_chain(
 #[no_mangle]
 pub extern "C" fn dating_ends(state: &[u32], from: u16, text: &[u8], list: &mut [u32]) -> u64
     ensures { λ k. ⌜ Asked (now (state .entry)) (λ r. AsksEnds r from (now (text .entry)) (now (list .entry)) (now (list .exit)))
-        toldEnds (now (list .entry)) (now (list .exit)) k ⌝ }
+        toldCounted (now (list .entry)) (now (list .exit)) k ⌝ }
 {
     let loaded = Register::load(state);
     let answer = loaded.answer;
     if register::number_of(answer) != 0 {
         return told_refusal(book::NOT_OPEN);
     }
-    told_ends(engine::ends_of(loaded.register, from, text, list))
+    told(engine::ends_of(loaded.register, from, text, list))
 }
 
 // The starts of a record, likewise.
 #[no_mangle]
 pub extern "C" fn dating_starts(state: &[u32], to: u16, text: &[u8], list: &mut [u32]) -> u64
     ensures { λ k. ⌜ Asked (now (state .entry)) (λ r. AsksStarts r to (now (text .entry)) (now (list .entry)) (now (list .exit)))
-        toldEnds (now (list .entry)) (now (list .exit)) k ⌝ }
+        toldCounted (now (list .entry)) (now (list .exit)) k ⌝ }
 {
     let loaded = Register::load(state);
     let answer = loaded.answer;
     if register::number_of(answer) != 0 {
         return told_refusal(book::NOT_OPEN);
     }
-    told_ends(engine::starts_of(loaded.register, to, text, list))
+    told(engine::starts_of(loaded.register, to, text, list))
 }

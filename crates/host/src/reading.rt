@@ -1,15 +1,15 @@
 // The totals and the marks of a register that the caller keeps as words, each as one list.
-ghost use Rattle.pairs.specs.Asking.{Handed};
-ghost use Rattle.pairs.specs.declared.PairsAnswer.the-variants.{Pairs};
-ghost use Rattle.host.specs.Host.{toldPairs, Asked};
+ghost use Rattle.answers.specs.Answers.{FirstPart};
+ghost use Rattle.answers.specs.declared.Counted.the-variants.{Count};
+ghost use Rattle.host.specs.Host.{toldCounted, Asked};
 ghost use Rattle.host.specs.Reading.{ReadsTotals, ReadsMarks};
 use crate::questions::fitting;
-use crate::told::told_refusal;
+use answers::told_refusal;
 use register::Register;
 
 // Words written to the front of a list, as many as it takes; how many they are in all.
 fn told_words(words: &[u32], list: &mut [u32]) -> u64
-    ensures { λ k. ⌜ Handed (now (words .entry)) (now (list .entry)) (now (list .exit)) (Pairs k) ⌝ }
+    ensures { λ k. ⌜ FirstPart (now (words .entry)) (now (list .entry)) (now (list .exit)) (Count k) ⌝ }
 {
     let first = fitting(words, list.len());
     register::copy(&words[..first], list, 0);
@@ -19,7 +19,7 @@ fn told_words(words: &[u32], list: &mut [u32]) -> u64
 // The totals of the labels, ascending, as many as the list takes; how many they are: 26.
 #[no_mangle]
 pub extern "C" fn dating_totals(state: &[u32], list: &mut [u32]) -> u64
-    ensures { λ k. ⌜ Asked (now (state .entry)) (ReadsTotals (now (list .entry)) (now (list .exit))) toldPairs (now (list .entry)) (now (list .exit)) k ⌝ }
+    ensures { λ k. ⌜ Asked (now (state .entry)) (ReadsTotals (now (list .entry)) (now (list .exit))) toldCounted (now (list .entry)) (now (list .exit)) k ⌝ }
 {
     let loaded = Register::load(state);
     let answer = loaded.answer;
@@ -34,7 +34,7 @@ pub extern "C" fn dating_totals(state: &[u32], list: &mut [u32]) -> u64
 // The marks of the records, ascending, as many as the list takes: 0 of a free one, 1 of a locked one, 2 of a withdrawn one; how many they are: n.
 #[no_mangle]
 pub extern "C" fn dating_marks(state: &[u32], list: &mut [u32]) -> u64
-    ensures { λ k. ⌜ Asked (now (state .entry)) (ReadsMarks (now (list .entry)) (now (list .exit))) toldPairs (now (list .entry)) (now (list .exit)) k ⌝ }
+    ensures { λ k. ⌜ Asked (now (state .entry)) (ReadsMarks (now (list .entry)) (now (list .exit))) toldCounted (now (list .entry)) (now (list .exit)) k ⌝ }
 {
     let loaded = Register::load(state);
     let answer = loaded.answer;

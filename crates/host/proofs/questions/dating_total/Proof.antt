@@ -23,17 +23,17 @@ returns c =
 total-requires : tie.Need-total-requires
 total-requires c κs = search needs
 
-told-total-requires : tie.Need-told-total-requires
-told-total-requires c κs = search needs
+told-requires : tie.Need-told-requires
+told-requires c κs = search needs
 
 returns-2 : tie.Need-returns-2
 returns-2 c =
     totalled
     (load-some (c .before .before .before .before .before .load .ensures)
     (c .before .before .before .before .number-of .ensures) (c .before .before .before .if1 .left))
-    (c .before .total .result) (c .before .total .ensures) (c .told-total .ensures)
+    (c .before .total .result) (c .before .total .ensures) (c .told .ensures)
 
 pub dating-total-spec : {M : Type 1} → statement M
 dating-total-spec =
     tie.close
-    (tie.spec load-requires number-of-requires told-refusal-requires returns total-requires told-total-requires returns-2)
+    (tie.spec load-requires number-of-requires told-refusal-requires returns total-requires told-requires returns-2)

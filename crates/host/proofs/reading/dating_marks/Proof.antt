@@ -1,7 +1,7 @@
 -- `host::reading::dating_marks` hands the marks of the n records over to the list. Assumes nothing.
 use mathlib.Core.Path.{sym, refl}
 use Rattle.book.specs.Causes.{number}
-use Rattle.pairs.specs.declared.PairsAnswer.the-variants.{Pairs}
+use Rattle.answers.specs.declared.Counted.the-variants.{Count}
 use Rattle.host.proofs.CarryLaws.{load-none, load-some, asked-foreign, asked}
 use native.Mathlib.Omega.{arith}
 use lib.Seq.{length-take-le}
@@ -49,7 +49,7 @@ returns-2 c =
     let after-size = after-marks .before in
     let after-number-of = after-size .before .before .before in
     asked (load-some (after-number-of .before .load .ensures) (after-number-of .number-of .ensures) (after-size .before .before .if1 .left))
-    (Pairs (told .result)) (
+    (Count (told .result)) (
       after-size .size .result,
       after-marks .marks .result,
       after-size .size .ensures,

@@ -1,7 +1,7 @@
 -- `host::reading::dating_totals` hands the totals over to the list. Assumes nothing.
 use mathlib.Core.Path.{refl}
 use Rattle.book.specs.Causes.{number}
-use Rattle.pairs.specs.declared.PairsAnswer.the-variants.{Pairs}
+use Rattle.answers.specs.declared.Counted.the-variants.{Count}
 use Rattle.host.proofs.CarryLaws.{load-none, load-some, asked-foreign, asked}
 use borrow.Author.Needs.{needs}
 use Rattle.host.proofs.reading.dating_totals.Statement.{statement}
@@ -40,7 +40,7 @@ returns-2 c =
     let after-totals = c .before .before .before .before .before in
     let after-number-of = after-totals .before .before .before in
     asked (load-some (after-number-of .before .load .ensures) (after-number-of .number-of .ensures) (after-totals .before .before .if1 .left))
-    (Pairs (told .result)) (after-totals .totals .result, after-totals .totals .ensures, told .ensures) refl
+    (Count (told .result)) (after-totals .totals .result, after-totals .totals .ensures, told .ensures) refl
 
 pub dating-totals-spec : {M : Type 1} → statement M
 dating-totals-spec =
