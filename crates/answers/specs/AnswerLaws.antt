@@ -3,19 +3,15 @@
 --   contained-count    a count of at most `most` is, if the list is left past so many words
 --   whole-refused, whole-given, part-given
 --                      a list that is too short for xs; one that takes them; and as much of them as it takes
---   whole-contained    what is handed over whole is contained in its list
 -- Assumes nothing.
-use mathlib.Core.Path.{_≡_, refl, sym, ap, subst, _∙_}
+use mathlib.Core.Path.{_≡_, refl, ap, subst}
 use mathlib.Core.List.{List}
 use Prim.Native.Nat.{ℕ, _≤_, _<_}
-use native.Mathlib.Decide.{decLt}
 use native.Mathlib.Omega.{arith}
 use lib.ListN.{length, take, drop}
 use borrow.Author.Tests.{lt-ltb, le-ltb}
-use lib.Dec.{ltb}
-use lib.Seq.{drop-at}
-use Rattle.book.specs.Basics.{pick, over}
-use Rattle.book.specs.Causes.{short-list, Caused, number, firstNumber}
+use Rattle.book.specs.Basics.{over}
+use Rattle.book.specs.Causes.{Caused, number, firstNumber}
 use Rattle.answers.specs.Answers.{counted, answered, overUnless, Whole, FirstPart, Contained}
 use Rattle.answers.specs.declared.Counted.{Counted}
 use Rattle.answers.specs.declared.Counted.the-variants.{Count, Refused}
@@ -52,22 +48,3 @@ module _ (xs before after : List ℕ) where
   pub part-given : (m : ℕ) → m ≡ length xs → after ≡ over (take (length before) xs) before → FirstPart xs before after (Count m)
   unfolding answered overUnless
   part-given m q e = record { answer = ap Count q; list = e }
-
-pub whole-contained : {xs before after : List ℕ} {a : Counted} → Whole xs before after a → Contained (length before) (counted a) before after a
-unfolding answered overUnless counted firstNumber number
-whole-contained {xs} {before} {after} {a} W = go (decLt (length before) (length xs))
-  where
-    go : Dec (length before < length xs) → Contained (length before) (counted a) before after a
-    go (yes h) =
-        let k : pick (ltb (length before) (length xs)) 13 0 ≡ 13 = rw (lt-ltb (length before) (length xs) h) refl in
-        let e : a ≡ Refused 13 = W .answer ∙ ap (λ (j : ℕ). answered j (length xs)) k in
-        let l : after ≡ before = W .list ∙ ap (λ (j : ℕ). overUnless j xs before) k in
-        subst (λ (c : Counted). Contained (length before) (counted c) before after c) (sym e)
-        (contained-refused (length before) 0 before after 13 (short-list, refl) l)
-    go (no h) =
-        let k : pick (ltb (length before) (length xs)) 13 0 ≡ 0 = rw (le-ltb (length before) (length xs) (omega arith)) refl in
-        let e : a ≡ Count (length xs) = W .answer ∙ ap (λ (j : ℕ). answered j (length xs)) k in
-        let l : after ≡ over xs before = W .list ∙ ap (λ (j : ℕ). overUnless j xs before) k in
-        subst (λ (c : Counted). Contained (length before) (counted c) before after c) (sym e)
-        (contained-count (length before) (length xs) before after (length xs) (omega arith)
-        (ap (drop (length xs)) l ∙ drop-at xs (drop (length xs) before) (length xs) refl))

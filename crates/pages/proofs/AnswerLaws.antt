@@ -21,7 +21,7 @@ use Rattle.paths.specs.RelationLaws.{cells-set}
 use Rattle.paths.specs.PairLaws.{fit-inside}
 use Rattle.paths.specs.Verdicts.{verdict}
 use Rattle.answers.specs.Answers.{counted, Whole}
-use Rattle.answers.specs.AnswerLaws.{contained-refused, whole-contained}
+use Rattle.answers.specs.AnswerLaws.{contained-refused}
 use Rattle.answers.specs.declared.Counted.{Counted}
 use Rattle.answers.specs.declared.Counted.the-variants.{Count, Refused}
 use Rattle.paths.specs.Questions.{Outcome, refused, over, listAfter, countOf, Tells}
@@ -32,7 +32,7 @@ use Rattle.register.specs.declared.Register.{Register}
 use Rattle.rows.specs.Rows.{flat, pairsIn}
 use Rattle.rows.specs.RowLaws.{places-gap, pairs-in}
 use Rattle.query.specs.Asking.{rowWords, relationAnswer, RelatesFor}
-use Rattle.query.specs.AskingLaws.{handed-tells}
+use Rattle.query.specs.AskingLaws.{handed-tells, whole-contained}
 use Rattle.pages.specs.Pages.{pages}
 use Rattle.pages.specs.PageCalls.{printOutcome, Prints, Content, listing, nothing, are-pages, no-pages, readOutcome, ReadsPages}
 use Rattle.pages.specs.PageCallLaws.{tells-number, Asked, asked-enough, print-refused, print-asked, read-refused, read-broken, read-short}

@@ -13,17 +13,21 @@
 --   relates-refused, relates-made
 --                   so it is promised: refused, or the rows made
 --   handed-tells    what is handed over is told by its outcome
+--   whole-contained what is handed over whole is contained in its list
 -- Assumes nothing.
 use mathlib.Core.Path.{_≡_, refl, sym, ap, _∙_, subst}
 use mathlib.Core.List.{List, _++_}
 use Prim.Native.Nat.{ℕ, zero, suc, _≤_, _<_}
+use native.Mathlib.Decide.{decLt}
 use native.Mathlib.Omega.{arith}
 use lib.ListN.{length, take, drop}
 use lib.Seq.{take-at, drop-at}
+use lib.Dec.{ltb}
 use borrow.Author.Tests.{lt-ltb, le-ltb}
-use Rattle.book.specs.Causes.{short-work, number, Caused, firstNumber}
+use Rattle.book.specs.Basics.{pick, over}
+use Rattle.book.specs.Causes.{short-work, short-list, number, Caused, firstNumber}
 use Rattle.book.specs.Book.{Book}
-use Rattle.answers.specs.Answers.{counted, answered, overUnless, Handed}
+use Rattle.answers.specs.Answers.{counted, answered, overUnless, Handed, Whole, Contained}
 use Rattle.answers.specs.AnswerLaws.{contained-refused, contained-count}
 use Rattle.answers.specs.ListingLaws.{shown-over, shown-past}
 use Rattle.answers.specs.declared.Counted.{Counted}
@@ -180,3 +184,22 @@ pub handed-tells : (k : ℕ) {xs ws before after : List ℕ} {a : Counted} → H
 unfolding answered overUnless countOf listAfter
 handed-tells zero H = record { answer = H .answer; list = H .list }
 handed-tells (suc k) H = record { answer = H .answer; list = H .list }
+
+pub whole-contained : {xs before after : List ℕ} {a : Counted} → Whole xs before after a → Contained (length before) (counted a) before after a
+unfolding answered overUnless counted firstNumber number
+whole-contained {xs} {before} {after} {a} W = go (decLt (length before) (length xs))
+  where
+    go : Dec (length before < length xs) → Contained (length before) (counted a) before after a
+    go (yes h) =
+        let k : _≡_ {A = ℕ} (pick (ltb (length before) (length xs)) 13 0) 13 = rw (lt-ltb (length before) (length xs) h) refl in
+        let e : a ≡ Refused 13 = W .answer ∙ ap (λ (j : ℕ). answered j (length xs)) k in
+        let l : after ≡ before = W .list ∙ ap (λ (j : ℕ). overUnless j xs before) k in
+        subst (λ (c : Counted). Contained (length before) (counted c) before after c) (sym e)
+        (contained-refused (length before) 0 before after 13 (short-list, refl) l)
+    go (no h) =
+        let k : _≡_ {A = ℕ} (pick (ltb (length before) (length xs)) 13 0) 0 = rw (le-ltb (length before) (length xs) (omega arith)) refl in
+        let e : a ≡ Count (length xs) = W .answer ∙ ap (λ (j : ℕ). answered j (length xs)) k in
+        let l : after ≡ over xs before = W .list ∙ ap (λ (j : ℕ). overUnless j xs before) k in
+        subst (λ (c : Counted). Contained (length before) (counted c) before after c) (sym e)
+        (contained-count (length before) (length xs) before after (length xs) (omega arith)
+        (ap (drop (length xs)) l ∙ drop-at xs (drop (length xs) before) (length xs) refl))

@@ -36,7 +36,7 @@ use Rattle.paths.specs.Grammar.{Verdict, accepted, long, outside, large, verdic
 use Rattle.paths.specs.Chains.{Graph, asked}
 use Rattle.paths.specs.Relations.{cells}
 use Rattle.answers.specs.Answers.{counted, Whole}
-use Rattle.answers.specs.AnswerLaws.{contained-refused, whole-refused, whole-given, whole-contained}
+use Rattle.answers.specs.AnswerLaws.{contained-refused, whole-refused, whole-given}
 use Rattle.answers.specs.declared.Counted.{Counted}
 use Rattle.answers.specs.declared.Counted.the-variants.{Count, Refused}
 use Rattle.paths.specs.Questions.{Outcome, by-trees, refused, paired, replied, unless, pairsWork, chainWork, pairsCauses, over, listAfter, countOf, Tells}
@@ -46,7 +46,7 @@ use Rattle.register.specs.Parting.{touches, withoutLinks, withoutRecord, Withou
 use Rattle.register.specs.PartingLaws.{present-without}
 use Rattle.register.specs.declared.Register.{Register}
 use Rattle.query.specs.Asking.{rowWords, relationCauses, relationAnswer, RelatesFor}
-use Rattle.query.specs.AskingLaws.{handed-tells}
+use Rattle.query.specs.AskingLaws.{handed-tells, whole-contained}
 use Rattle.support.specs.declared.Marks.{Marks}
 use Rattle.support.specs.Support.{without, some, chosen, reaches, falls, fallen, orderly, supportWork, fallenOf, supportCauses, supportNumber}
 use Rattle.support.specs.Support.{supportOutcome, SupportsFor}

@@ -16,7 +16,9 @@ size-requires : tie.Need-size-requires
 size-requires c κs = search needs
 
 returns : tie.Need-returns
-returns c = let a = c .before .before .before .args in refuses-record (a .against) _ (a .text .now) (c .before .size .ensures .size) (c .if1 .taken)
+returns c =
+    let a = c .before .before .before .before .args in
+    refuses-record (a .against) _ (a .text .now) (c .before .size .ensures .size) (c .if1 .taken)
 
 read-requires : tie.Need-read-requires
 read-requires c κs = search needs

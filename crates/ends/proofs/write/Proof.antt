@@ -1,8 +1,8 @@
 -- `write` leaves the list where there is no state (`grown-none`), and else puts the record there. Assumes nothing.
-use borrow.Author.Needs.{needs}
-use native.Mathlib.Omega.{arith}
-use Rattle.answers.specs.ListingLaws.{grown-none, grown-to}
 use mathlib.Core.Path.{sym}
+use native.Mathlib.Omega.{arith}
+use borrow.Author.Needs.{needs}
+use Rattle.answers.specs.ListingLaws.{grown-none, grown-to}
 use Rattle.ends.proofs.ListLaws.{set-none, set-some}
 use Rattle.ends.proofs.write.Statement.{statement}
 use Rattle.ends.proofs.write.Tie as tie
@@ -20,7 +20,10 @@ same-length : tie.Need-same-length
 same-length c = search needs
 
 returns-2 : tie.Need-returns-2
-returns-2 c = ?
+returns-2 c =
+    let else1 = c .before .before .before .before .before in
+    let a = else1 .before .args in
+    grown-to (a .t) _ _ _ (a .out .now) _ (sym (set-some (a .states) (a .y) (omega (arith, else1 .if1 .left)))) (c .before .before .put-u32 .ensures)
 
 pub write-spec : {M : Type 1} → statement M
 write-spec = tie.close (tie.spec returns put-u32-requires add-result same-length returns-2)
