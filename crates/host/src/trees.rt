@@ -15,7 +15,8 @@ pub extern "C" fn dating_tree_make(
     work: &mut [u64],
 ) -> u64
     ensures { λ k. ⌜ Told
-        (Answered n (now (pairs .entry)) [] (length (now (work .entry))) (treeOf n (now (pairs .entry))) (now (tree .entry)) (now (tree .exit))) toldCounted k ⌝ }
+        (Answered n (now (pairs .entry)) [] (length (now (work .entry))) (treeOf n (now (pairs .entry))) (now (tree .entry)) (now (tree .exit)))
+        toldCounted k ⌝ }
 {
     told(engine::tree_make(n, pairs, tree, work))
 }

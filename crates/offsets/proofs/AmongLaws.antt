@@ -36,7 +36,7 @@ use Rattle.offsets.specs.PassLaws.{settled-is, passes-length}
 use Rattle.offsets.specs.Finds.{ran, least-word, most-word, Told, Fits, cannot-exactly, cannot-are, told-are}
 use Rattle.offsets.specs.BoundLaws.{words-fit}
 use Rattle.offsets.specs.FrontLaws.{beside, ran-front}
-use Rattle.offsets.specs.Answers.{OffsetsAnswer, Limits, CannotHold, Refused, toldOffsets, OffsetsTold, offsetsCauses, OffsetsFor, offsetsCounted}
+use Rattle.offsets.specs.Answers.{OffsetsAnswer, Refused, toldOffsets, OffsetsTold, offsetsCauses, OffsetsFor, offsetsCounted}
 use Rattle.offsets.specs.Answers as answers
 use Rattle.offsets.specs.Inner.{Records, Plan, SizeIn, Begins, roundsOf, isWithdrawnIn, judgeAll, orElse, Filled, Plans, HandsOver, Among}
 use Rattle.offsets.specs.Inner as inner
