@@ -40,7 +40,7 @@ unfolding endsAnswer endsCauses firstNumber number verdictCause endsOf
 answer-ends against b x room hx v e a = rw (a, lt-leb (b .n) x hx)
 
 -- of a register that represents a book
-module _ (against : Bool) {b : Book} {x : ℕ} (hx : x < b .n) {w : Verdict} {before after′ : List ℕ} {a : Counted} {e : Expr} (v : w ≡ accepted e)
+module _ (against : Bool) (b : Book) {x : ℕ} (hx : x < b .n) {w : Verdict} {before after′ : List ℕ} {a : Counted} {e : Expr} (v : w ≡ accepted e)
     (B : Tells (endsAnswer against b x w (length before)) before after′ a) where
   book-joined : (a ≡ Count (length (joinedBy against (asked b) e x))) × (after′ ≡ over (take (length before) (joinedBy against (asked b) e x)) before)
   unfolding countOf listAfter
@@ -48,17 +48,17 @@ module _ (against : Bool) {b : Book} {x : ℕ} (hx : x < b .n) {w : Verdict} {be
       let q = answer-ends against b x (length before) hx w e v in
       (B .answer ∙ ap countOf q, B .list ∙ ap (λ (o : Question·Outcome). listAfter o before) q)
 
-module _ {b : Book} (I : Inside (asked b)) {x : ℕ} (hx : x < b .n) {w : Verdict} {before after′ : List ℕ} {a : Counted} {e : Expr}
+module _ (b : Book) (I : Inside (asked b)) {x : ℕ} (hx : x < b .n) {w : Verdict} {before after′ : List ℕ} {a : Counted} {e : Expr}
     (v : w ≡ accepted e) where
   pub book-ends : Tells (endsAnswer false b x w (length before)) before after′ a
       → (l : List ℕ) × EndsAre (asked b) e x l × (a ≡ Count (length l)) × (after′ ≡ over (take (length before) l) before)
   unfolding joinedBy
-  book-ends B = let z = book-joined false hx v B in (ends (asked b) e x, ends-are (asked b) I e x, z .0, z .1)
+  book-ends B = let z = book-joined false b hx v B in (ends (asked b) e x, ends-are (asked b) I e x, z .0, z .1)
 
   pub book-starts : Tells (endsAnswer true b x w (length before)) before after′ a
       → (l : List ℕ) × StartsAre (asked b) e x l × (a ≡ Count (length l)) × (after′ ≡ over (take (length before) l) before)
   unfolding joinedBy
-  book-starts B = let z = book-joined true hx v B in (starts (asked b) e x, starts-are (asked b) I e x, z .0, z .1)
+  book-starts B = let z = book-joined true b hx v B in (starts (asked b) e x, starts-are (asked b) I e x, z .0, z .1)
 
 -- of every register that calls made, from a fresh one of n records
 module _ (n : ℕ) (h : 1 ≤ n) (k : n ≤ maxRecords) (opened : Outcome) (O : Opens n opened) (cs : List Call) (told : List ℕ) (ls : List Lent) (r : Register)
@@ -70,8 +70,8 @@ module _ (n : ℕ) (h : 1 ≤ n) (k : n ≤ maxRecords) (opened : Outcome) (O : 
 
   pub ends-made : AsksEnds r x text before after′ a
       → (l : List ℕ) × EndsAre (asked (after (fresh n) cs)) e x l × (a ≡ Count (length l)) × (after′ ≡ over (take (length before) l) before)
-  ends-made A = book-ends (history-inside n k cs) hx v (A .book (after (fresh n) cs) represents)
+  ends-made A = book-ends (after (fresh n) cs) (history-inside n k cs) hx v (A .book (after (fresh n) cs) represents)
 
   pub starts-made : AsksStarts r x text before after′ a
       → (l : List ℕ) × StartsAre (asked (after (fresh n) cs)) e x l × (a ≡ Count (length l)) × (after′ ≡ over (take (length before) l) before)
-  starts-made A = book-starts (history-inside n k cs) hx v (A .book (after (fresh n) cs) represents)
+  starts-made A = book-starts (after (fresh n) cs) (history-inside n k cs) hx v (A .book (after (fresh n) cs) represents)

@@ -8,7 +8,7 @@ use Rattle.ends.proofs.write.Statement.{statement}
 use Rattle.ends.proofs.write.Tie as tie
 
 returns : tie.Need-returns
-returns c = let a = c .before .args in grown-none (a .t) _ (a .out .now) (set-none (a .states) (a .y) (c .if1 .taken))
+returns c = let a = c .before .before .args in grown-none (a .t) _ (a .out .now) (set-none (a .states) (a .y) (c .if1 .taken))
 
 put-u32-requires : tie.Need-put-u32-requires
 put-u32-requires c κs = search needs
@@ -21,8 +21,8 @@ same-length c = search needs
 
 returns-2 : tie.Need-returns-2
 returns-2 c =
-    let else1 = c .before .before .before .before .before in
-    let a = else1 .before .args in
+    let else1 = c .before .before .before .before in
+    let a = else1 .before .before .args in
     grown-to (a .t) _ _ _ (a .out .now) _ (sym (set-some (a .states) (a .y) (omega (arith, else1 .if1 .left)))) (c .before .before .put-u32 .ensures)
 
 pub write-spec : {M : Type 1} → statement M
