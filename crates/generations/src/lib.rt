@@ -104,7 +104,7 @@ fn first_loop(
 {
     let mut text = [0u8; TEXT_BYTES];
     let bytes = put_text(set, &mut text);
-    let answer = engine::chain(
+    let answer = chains::chain(
         register,
         record as u16,
         record as u16,

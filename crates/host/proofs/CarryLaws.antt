@@ -29,6 +29,10 @@ use borrow.Author.Tests.{lt-ltb, le-ltb}
 use Rattle.book.specs.Basics.{pick, bit}
 use Rattle.book.specs.Causes.{short-work, not-open, number, firstNumber, maxRecords}
 use Rattle.book.specs.Book.{Book, Call, close, freshAnswer}
+use Rattle.answers.specs.Answers.{FirstPart}
+use Rattle.answers.specs.AnswerLaws.{part-given}
+use Rattle.answers.specs.declared.Counted.{Counted}
+use Rattle.answers.specs.declared.Counted.the-variants.{Count}
 use Rattle.register.specs.Representation.{Represents}
 use Rattle.register.specs.Marks.{hasMark, Marked}
 use Rattle.register.specs.Counters.{InRange}
@@ -42,10 +46,7 @@ use Rattle.register.specs.declared.Register.{Register}
 use Rattle.register.specs.declared.Outcome.{Outcome}
 use Rattle.register.specs.declared.Answer.{Answer}
 use Rattle.register.specs.declared.Answer.the-variants.{Done, Refused}
-use Rattle.pairs.specs.Asking.{Handed, handed}
-use Rattle.pairs.specs.declared.PairsAnswer.{PairsAnswer}
-use Rattle.pairs.specs.declared.PairsAnswer.the-variants.{Pairs}
-use Rattle.host.specs.Host.{freshNumber, Freshens, Edits, refusal, toldPairs, Told, Asked}
+use Rattle.host.specs.Host.{freshNumber, Freshens, Edits, refusal, toldCounted, Told, Asked}
 use Rattle.host.specs.Histories.{Renumbers}
 use Rattle.host.specs.Inner.{Finishes, refused, kept, lost}
 
@@ -208,18 +209,19 @@ module _ {A : Type 0} {ws : List ℕ} {P : Register → A → Type 0} {f : A →
 
 -- words copied to the front of a list, the first that it takes
 pub copied : {before after : List ℕ} (l xs : List ℕ) {ok : Bool} → Copies xs 0 before after ok → length xs ≤ length before → xs ≡ take (length before) l
-    → Handed l before after (Pairs (length l))
-copied {before} l xs c h q =
+    → FirstPart l before after (Count (length l))
+copied {before} {after} l xs c h q =
     let z : 0 + length xs ≡ length xs = omega arith in
-    handed (c .fits (omega (arith, h)) .1 ∙ ap (λ (j : ℕ). xs ++ drop j before) z ∙ ap (λ (ys : List ℕ). ys ++ drop (length ys) before) q)
+    part-given l before after (length l) refl
+    (c .fits (omega (arith, h)) .1 ∙ ap (λ (j : ℕ). xs ++ drop j before) z ∙ ap (λ (ys : List ℕ). ys ++ drop (length ys) before) q)
 
-pub asked-list : {ws before after part : List ℕ} {k : ℕ} {Q : Register → PairsAnswer → Type 0} (f : Register → List ℕ) → Shown ws f part
-    → Asked ws (λ _. Handed part before after) toldPairs before after k
-    → ((r : Register) → Keeps ws r → (a : PairsAnswer) → Handed (f r) before after a → Q r a) → Asked ws Q toldPairs before after k
+pub asked-list : {ws before after part : List ℕ} {k : ℕ} {Q : Register → Counted → Type 0} (f : Register → List ℕ) → Shown ws f part
+    → Asked ws (λ _. FirstPart part before after) toldCounted before after k
+    → ((r : Register) → Keeps ws r → (a : Counted) → FirstPart (f r) before after a → Q r a) → Asked ws Q toldCounted before after k
 asked-list {before = before} {after} f s q g = record {
   answers = λ r w.
       let t = q .answers r w in
-      (t .0, g r w (t .0) (subst (λ (l : List ℕ). Handed l before after (t .0)) (s r w) (t .1)), t .2);
+      (t .0, g r w (t .0) (subst (λ (l : List ℕ). FirstPart l before after (t .0)) (s r w) (t .1)), t .2);
   foreign = q .foreign;
 }
 

@@ -1,14 +1,12 @@
 // What is told by one number of a register that the caller keeps as words, and both questions.
 ghost use lib.ListN.{length};
-ghost use Rattle.pairs.specs.Asking.{AsksPairs};
+ghost use Rattle.query.specs.Asking.{AsksPairs};
 ghost use Rattle.chains.specs.Replies.{Replies};
 ghost use Rattle.ends.specs.Asking.{AsksEnds, AsksStarts};
-ghost use Rattle.host.specs.Host.{toldPairs, toldChain, toldEnds, Asked, Sizes, TellsLock, TellsWithdrawn, TellsTotal};
+ghost use Rattle.host.specs.Host.{toldCounted, toldChain, Asked, Sizes, TellsLock, TellsWithdrawn, TellsTotal};
 use crate::told::told_chain;
-use crate::told::told_ends;
-use crate::told::told_pairs;
-use crate::told::told_refusal;
-use crate::told::told_total;
+use answers::told;
+use answers::told_refusal;
 use register::Register;
 
 // The number of records; 0 if the words are no register's.
@@ -40,7 +38,7 @@ pub extern "C" fn dating_withdrawn(state: &[u32], record: u16) -> u32
 pub extern "C" fn dating_total(state: &[u32], label: u8) -> u64
     ensures { λ k. ⌜ TellsTotal (now (state .entry)) label k ⌝ }
 {
-    told_total(register::total_in(state, label))
+    told(register::total_in(state, label))
 }
 
 // The pairs that have a chain, ascending, each once, as many as the list takes; how many they are in all.
@@ -52,14 +50,14 @@ pub extern "C" fn dating_pairs(
     list: &mut [u32],
 ) -> u64
     ensures { λ k. ⌜ Asked (now (state .entry)) (λ r. AsksPairs r (now (text .entry)) (length (now (work .entry))) (now (list .entry)) (now (list .exit)))
-        toldPairs (now (list .entry)) (now (list .exit)) k ⌝ }
+        toldCounted (now (list .entry)) (now (list .exit)) k ⌝ }
 {
     let loaded = Register::load(state);
     let answer = loaded.answer;
     if register::number_of(answer) != 0 {
         return told_refusal(book::NOT_OPEN);
     }
-    told_pairs(engine::pairs(loaded.register, text, work, list))
+    told(engine::pairs(loaded.register, text, work, list))
 }
 
 // The first of the shortest chains from one record to another.
@@ -87,26 +85,26 @@ pub extern "C" fn dating_chain(
 #[no_mangle]
 pub extern "C" fn dating_ends(state: &[u32], from: u16, text: &[u8], list: &mut [u32]) -> u64
     ensures { λ k. ⌜ Asked (now (state .entry)) (λ r. AsksEnds r from (now (text .entry)) (now (list .entry)) (now (list .exit)))
-        toldEnds (now (list .entry)) (now (list .exit)) k ⌝ }
+        toldCounted (now (list .entry)) (now (list .exit)) k ⌝ }
 {
     let loaded = Register::load(state);
     let answer = loaded.answer;
     if register::number_of(answer) != 0 {
         return told_refusal(book::NOT_OPEN);
     }
-    told_ends(engine::ends_of(loaded.register, from, text, list))
+    told(engine::ends_of(loaded.register, from, text, list))
 }
 
 // The starts of a record, likewise.
 #[no_mangle]
 pub extern "C" fn dating_starts(state: &[u32], to: u16, text: &[u8], list: &mut [u32]) -> u64
     ensures { λ k. ⌜ Asked (now (state .entry)) (λ r. AsksStarts r to (now (text .entry)) (now (list .entry)) (now (list .exit)))
-        toldEnds (now (list .entry)) (now (list .exit)) k ⌝ }
+        toldCounted (now (list .entry)) (now (list .exit)) k ⌝ }
 {
     let loaded = Register::load(state);
     let answer = loaded.answer;
     if register::number_of(answer) != 0 {
         return told_refusal(book::NOT_OPEN);
     }
-    told_ends(engine::starts_of(loaded.register, to, text, list))
+    told(engine::starts_of(loaded.register, to, text, list))
 }

@@ -15,9 +15,11 @@ use lib.Dec.{ltb, eqb}
 use lib.IntN.{ℤ, pos}
 use lib.ListN.{length, take, List·getD-append}
 use lib.Signed.{mag}
-use Rattle.book.specs.Causes.{short-work, short-list, number, Caused, firstNumber, maxRecords}
+use Rattle.book.specs.Causes.{short-work, short-list, number, firstNumber, maxRecords}
 use Rattle.book.specs.Book.{isWithdrawn}
 use Rattle.book.specs.BookLaws.{first-caused}
+use Rattle.answers.specs.Answers.{counted}
+use Rattle.answers.specs.AnswerLaws.{contained-refused, contained-count}
 use Rattle.register.specs.Inner.{SizeIn}
 use Rattle.register.specs.Marks.{withdrawnMark, hasMark}
 use Rattle.register.specs.MarkLaws.{shows-withdrawn}
@@ -34,7 +36,7 @@ use Rattle.offsets.specs.PassLaws.{settled-is, passes-length}
 use Rattle.offsets.specs.Finds.{ran, least-word, most-word, Told, Fits, cannot-exactly, cannot-are, told-are}
 use Rattle.offsets.specs.BoundLaws.{words-fit}
 use Rattle.offsets.specs.FrontLaws.{beside, ran-front}
-use Rattle.offsets.specs.Answers.{OffsetsAnswer, Limits, CannotHold, Refused, toldOffsets, OffsetsTold, offsetsCauses, OffsetsFor, toldWords}
+use Rattle.offsets.specs.Answers.{OffsetsAnswer, Refused, toldOffsets, OffsetsTold, offsetsCauses, OffsetsFor, offsetsCounted}
 use Rattle.offsets.specs.Answers as answers
 use Rattle.offsets.specs.Inner.{Records, Plan, Begins, roundsOf, isWithdrawnIn, judgeAll, orElse, Filled, Plans, HandsOver, Among}
 use Rattle.offsets.specs.Inner as inner
@@ -165,57 +167,33 @@ module _ (g : Records) (base : ℕ) (ts : List Tie) (work₀ work₁ work₂ bef
 
   pub calls-among : (a : OffsetsAnswer) → length after ≡ length before
       → HandsOver (p .cause) n on work₂ before after a → Among g base ts (length work₀) before after a
-  unfolding toldWords
+  unfolding offsetsCounted counted
   calls-among a kept (inner.refused {k} e q) = record {
-    fits = omega arith;
-    past = q;
     refused = λ j r. (ap Refused (sym e ∙ refused-is j r), q);
-    caused = λ z j r. subst Caused (refused-tell r) (first-caused (offsetsCauses n w base ts (length work₀)) (sym e ∙ cause-is z) (λ b. no-number b));
+    contained = λ z. contained-refused (length before) 0 before after (suc k)
+        (first-caused (offsetsCauses n w base ts (length work₀)) (sym e ∙ cause-is z) (λ b. no-number b)) q;
     found = λ z few. answers.refused (sym (cause-is z) ∙ e) q;
   }
-    where
-      refused-tell : {i j : ℕ} → Refused i ≡ Refused j → i ≡ j
-      refused-tell r = cc
   calls-among a kept (inner.cannot-hold e o q) = record {
-    fits = omega arith;
-    past = q;
     refused = λ j r. no-number (sym (refused-is j r) ∙ e);
-    caused = λ z j r. absurd (not-refused r);
+    contained = λ z. contained-count (length before) 0 before after 0 (omega arith) q;
     found = λ z few. answers.cannot-hold (none z few e) (cannot-case z few e o) q;
   }
-    where
-      not-refused : {j : ℕ} → CannotHold ≡ Refused j → ⊥
-      not-refused r = let z : _≡_ {A = ℕ} 0 1 = cc in let none′ : 1 ≤ 0 = omega (arith, z) in not-suc-le-zero none′
   calls-among a kept (inner.scant e h q) = record {
-    fits = omega arith;
-    past = q;
     refused = λ j r. no-number (sym (refused-is j r) ∙ e);
-    caused = λ z j r. subst Caused (refused-tell r) (short-work, refl);
+    contained = λ z. contained-refused (length before) 0 before after (number short-work) (short-work, refl) q;
     found = λ z few. absurd (scant-not z few e h);
   }
-    where
-      refused-tell : {i j : ℕ} → Refused i ≡ Refused j → i ≡ j
-      refused-tell r = cc
   calls-among a kept (inner.short e o h q) = record {
-    fits = omega arith;
-    past = q;
     refused = λ j r. no-number (sym (refused-is j r) ∙ e);
-    caused = λ z j r. subst Caused (refused-tell r) (short-list, refl);
+    contained = λ z. contained-refused (length before) 0 before after (number short-list) (short-list, refl) q;
     found = λ z few. let s = placed z few e o in answers.short (none z few e) (s .0) (s .1) h q;
   }
-    where
-      refused-tell : {i j : ℕ} → Refused i ≡ Refused j → i ≡ j
-      refused-tell r = cc
   calls-among a kept (inner.told e o h t q) = record {
-    fits = h;
-    past = q;
     refused = λ j r. no-number (sym (refused-is j r) ∙ e);
-    caused = λ z j r. absurd (not-refused r);
+    contained = λ z. contained-count (length before) (n * 2) before after (n * 2) h q;
     found = λ z few. answers.told (none z few e) h (told-case z few e o (subst (λ (m : ℕ). n * 2 ≤ m) (sym kept) h) t) q;
   }
-    where
-      not-refused : {k j : ℕ} → Limits k ≡ Refused j → ⊥
-      not-refused r = let z : _≡_ {A = ℕ} 0 1 = cc in let none′ : 1 ≤ 0 = omega (arith, z) in not-suc-le-zero none′
 
 -- ---- of words that a caller keeps
 -- a record is withdrawn among a register's words if it is in the register
@@ -240,9 +218,7 @@ calls-told ws n base ts work₀ work₁ work₂ before after found cause rounds 
             a,
             (
               record {
-                fits = m .fits;
-                past = m .past;
-                caused = m .caused z;
+                contained = m .contained z;
                 book = λ b rep.
                     subst (λ (j : ℕ). OffsetsFor j (isWithdrawn (b .sheet)) base ts (length work₀) before after a) (sized .1 .kept r w .size b rep)
                     (subst (λ (v : ℕ → Bool). OffsetsFor n v base ts (length work₀) before after a)

@@ -22,13 +22,14 @@ use lib.Dec.{leb, ltb, eqb}
 use lib.IntN.{ℤ}
 use lib.ListN.{length, drop}
 use Rattle.book.specs.Basics.{pick}
+use Rattle.answers.specs.Answers.{counted, Contained}
 use Rattle.book.specs.Causes.{no-record, withdrawn-record, bad-tie, short-work, short-list, not-open, number, Caused, firstNumber, maxRecords}
 use Rattle.register.specs.Inner.{markIn}
 use Rattle.register.specs.Marks.{withdrawnMark}
 use Rattle.register.specs.Words.{Keeps, Foreign}
 use Rattle.register.specs.declared.Register.{Register}
 use Rattle.offsets.specs.declared.Tie.{Tie}
-use Rattle.offsets.specs.Answers.{OffsetsAnswer, Limits, CannotHold, Refused, toldOffsets, maxTies, outside, offsetsWork, OffsetsFor, toldWords}
+use Rattle.offsets.specs.Answers.{OffsetsAnswer, Limits, CannotHold, Refused, toldOffsets, maxTies, outside, offsetsWork, OffsetsFor, offsetsCounted}
 use Rattle.offsets.specs.Thirds.{Starts}
 use Rattle.offsets.specs.Finds.{Told, Fits}
 
@@ -106,8 +107,6 @@ abbrev pub TellsOver : ℕ → ℕ → Bool → List ℤ → List ℤ → List �
 TellsOver cause n on work before after k = (a : OffsetsAnswer) × (HandsOver cause n on work before after a × (k ≡ toldOffsets a))
 
 pub record Among (g : Records) (base : ℕ) (ts : List Tie) (work : ℕ) (before after : List ℤ) (a : OffsetsAnswer) : Type 0 where
-  pub fits : toldWords a ≤ length before
-  pub past : drop (toldWords a) after ≡ drop (toldWords a) before
   pub refused : (k : ℕ) → g .refused ≡ suc k → (a ≡ Refused (suc k)) × (after ≡ before)
-  pub caused : g .refused ≡ 0 → (k : ℕ) → a ≡ Refused k → Caused k
+  pub contained : g .refused ≡ 0 → Contained (length before) (counted (offsetsCounted a)) before after (offsetsCounted a)
   pub found : g .refused ≡ 0 → g .n ≤ maxRecords → OffsetsFor (g .n) (isWithdrawnIn (g .marks)) base ts work before after a

@@ -370,17 +370,17 @@ fn hand_over(cause: u32, n: u16, on: bool, work: &mut [i64], list: &mut [i32]) -
     ensures { λ r. ⌜ inner.TellsOver cause n on (now (work .entry)) (now (list .entry)) (now (list .exit)) r ⌝ }
 {
     if cause != 0 {
-        return REFUSAL + cause as u64;
+        return answers::told_refusal(cause);
     }
     if on {
-        return CANNOT_HOLD;
+        return answers::PAST_COUNTS;
     }
     let k = n as usize;
     if work.len() < k * 3 {
-        return REFUSAL + book::SHORT_WORK as u64;
+        return answers::told_refusal(book::SHORT_WORK);
     }
     if list.len() < k * 2 {
-        return REFUSAL + book::SHORT_LIST as u64;
+        return answers::told_refusal(book::SHORT_LIST);
     }
     tell(k, work, list);
     (k * 2) as u64

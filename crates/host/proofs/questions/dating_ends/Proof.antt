@@ -24,8 +24,8 @@ returns c =
 ends-of-requires : tie.Need-ends-of-requires
 ends-of-requires c κs = search needs
 
-told-ends-requires : tie.Need-told-ends-requires
-told-ends-requires c κs = search needs
+told-requires : tie.Need-told-requires
+told-requires c κs = search needs
 
 same-length : tie.Need-same-length
 same-length c = search needs
@@ -35,7 +35,7 @@ returns-2 c =
     let after-ends = c .before .before .before in
     let else1 = after-ends .before .before in
     asked (load-some (else1 .before .before .load .ensures) (else1 .before .number-of .ensures) (else1 .if1 .left))
-    (after-ends .ends-of .result) (after-ends .ends-of .ensures) (c .told-ends .ensures)
+    (after-ends .ends-of .result) (after-ends .ends-of .ensures) (c .told .ensures)
 
 pub dating-ends-spec : {M : Type 1} → statement M
 dating-ends-spec =
@@ -46,6 +46,6 @@ dating-ends-spec =
     told-refusal-requires
     returns
     ends-of-requires
-    told-ends-requires
+    told-requires
     same-length
     returns-2)

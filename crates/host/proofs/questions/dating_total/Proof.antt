@@ -7,11 +7,11 @@ use Rattle.host.proofs.questions.dating_total.Tie as tie
 total-in-requires : tie.Need-total-in-requires
 total-in-requires c κs = search needs
 
-told-total-requires : tie.Need-told-total-requires
-told-total-requires c κs = search needs
+told-requires : tie.Need-told-requires
+told-requires c κs = search needs
 
 returns : tie.Need-returns
-returns c = told-word (λ _ _ p. p) (c .before .total-in .ensures) (c .told-total .ensures)
+returns c = told-word (λ _ _ p. p) (c .before .total-in .ensures) (c .told .ensures)
 
 pub dating-total-spec : {M : Type 1} → statement M
-dating-total-spec = tie.close (tie.spec total-in-requires told-total-requires returns)
+dating-total-spec = tie.close (tie.spec total-in-requires told-requires returns)

@@ -6,7 +6,7 @@ use lib.ListN.{length, take}
 use lib.Seq.{length-take-le}
 use borrow.Author.Tests.{not-true, not-false}
 use Rattle.book.specs.Causes.{number}
-use Rattle.pairs.specs.declared.PairsAnswer.the-variants.{Pairs}
+use Rattle.answers.specs.declared.Counted.the-variants.{Count}
 use Rattle.host.proofs.CarryLaws.{asked-foreign, asked, copied}
 use borrow.Author.Needs.{needs}
 use Rattle.host.proofs.reading.told_words.Statement.{statement}
@@ -49,7 +49,7 @@ returns-2 c =
     let f = after-fitting .fitting in
     let k = else1 .before .is-register .ensures .sure (not-false _ (else1 .if1 .left)) .1 in
     let h : length (take (f .result) (a .words .now)) ≤ length (a .list .now) = omega (arith, long after-fitting, f .ensures .1) in
-    asked k (Pairs (length (a .words .now)))
+    asked k (Count (length (a .words .now)))
     (copied (a .words .now) (take (f .result) (a .words .now)) (c .before .before .copy .ensures) h (f .ensures .2)) refl
 
 pub told-words-spec : {M : Type 1} → statement M
