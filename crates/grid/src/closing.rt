@@ -287,6 +287,28 @@ fn close_from(
     search_on(cells, masks, n, w, marks, stack);
 }
 
+// Row x closed, unless it is empty, and before it the rows that it leads to.
+fn close_record(
+    cells: &mut [u64],
+    masks: &mut [u16],
+    n: usize,
+    w: usize,
+    x: usize,
+    marks: &mut [u64],
+    stack: &mut [u16],
+)
+    requires { ⌜ (n ≤ 1024) × (w ≤ 16) × (n ≤ w * 64) × (n * w ≤ length (now cells)) × (n ≤ length (now masks)) × (length (now marks) ≡ 32)
+        × (length (now stack) ≡ 2050) × (x < n) ⌝ }
+    ensures { λ _. ⌜ Onward n w (now (marks .entry)) (now (cells .entry)) (now (masks .entry)) (now (marks .exit)) (now (cells .exit)) (now (masks .exit))
+        × ((getD (now (masks .entry)) x 0 ≡ 0) ⊎ (bitAt (now (marks .exit)) x ≡ 1)) ⌝ }
+{
+    if masks[x] == 0 {
+        return;
+    }
+    close_from(cells, masks, n, w, x, marks, stack);
+    close_once(cells, masks, n, w, x, marks);
+}
+
 // One or more steps of the first relation. Clean words stay so.
 fn close_all(cells: &mut [u64], masks: &mut [u16], n: usize, w: usize)
     requires { ⌜ (n ≤ 1024) × (w ≤ 16) × (n ≤ w * 64) × (n * w ≤ length (now cells)) × (n ≤ length (now masks)) ⌝ }
@@ -297,10 +319,7 @@ fn close_all(cells: &mut [u64], masks: &mut [u16], n: usize, w: usize)
     let mut stack: [u16; 2050] = [0; 2050];
     let mut x = 0;
     while x < n {
-        if masks[x] != 0 {
-            close_from(cells, masks, n, w, x, &mut marks, &mut stack);
-            close_once(cells, masks, n, w, x, &mut marks);
-        }
+        close_record(cells, masks, n, w, x, &mut marks, &mut stack);
         x += 1;
     }
 }
