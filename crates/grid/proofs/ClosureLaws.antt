@@ -2,20 +2,35 @@
 --   first-bit, empty-row  a cell of the rows is 0 or 1; a row with no mask is empty
 --   merged-here, merged-else, merged-self
 --                         a row merged into another, as rows of the relation: this one, every other, and into itself
---   bit-here, bit-else    the word of one bit
---   fresh-found
---                         a column found and not yet seen; a word with none; words that are not in the mask
+--   clean-merged, clean-past
+--                         clean words after that, if no column from n on is merged in; they hold none
+--   LookedTo n p f g r    r is a column that is not seen, or those below p are
+--   lacks, looked-gap, fresh-found, looked-word
+--                         the bits that a set lacks; words that are not in the mask; a column found in a word; a word looked at
+--   Adding w b m c ws vs vs′
+--                         a row added to a set, up to word c
+--   adding-none, adding-gap, adding-word
+--                         so before the first word, over words that are not in the mask, a word more
 --   Search n a x r v      r is among what x leads to by a, with the columns of a x, and with all that the seen, v, lead to in one step
 --   search-done           all that is found is seen: the row is closed
 --   search-plain, search-whole
 --                         a record more is seen, whose row is that of a, or is closed already
---   Searching n w x c ws ms ws′ ms′
---                         row x is being searched, and the others are as they were
+--   back-done             records that lead to one another lead to the same
+--   Searching n w x c v ws ms ws′ ms′
+--                         row x is being searched, v is seen, and the other rows are as they were
 --   searching-none, searching-more, left-less
 --                         before the first; a record more; one less is left
---   half-none, half-same, half-next, half-beyond, half-all
---                         the rows closed one after another: none, the same rows, one more, a mark beyond the records, all
---   put-keeps, all-next   a mark put in keeps the others; the first x + 1 are marked
+--   row-done, row-back    the row is closed: all that is found is seen, or a whole row leads back
+--   half-none             none of the rows is closed yet
+--   onward-same, onward-next, onward-beyond, onward-row
+--                         on from marks to marks: not at all, one after another, by a mark beyond the records, by a row closed
+--   Settled n a c u       record u is closed, or has no pair
+--   settled-empty, settled-next
+--                         a row with no mask; the first x + 1 records
+--   half-all              all records: the relation is the closure
+--   clean-flat            clean words of 1,024 bits a row are the rows of the relation
+--   masked-set, masked-clean
+--                         rows of a set, with masks of the words that are not empty
 --   rows-other            two rows have no word in common
 -- Assumes nothing.
 use mathlib.Core.Path.{_≡_, refl, sym, ap, ap₂, subst, _∙_, fun-ext}
@@ -27,7 +42,7 @@ use native.Mathlib.Omega.{arith}
 use lib.Bits.{bitAnd, bitOr}
 use lib.Dec.{eqb, ltb}
 use lib.ListN.{length, getD, set}
-use borrow.Author.Tests.{eq-eqb, ne-eqb, lt-ltb, le-ltb}
+use borrow.Author.Tests.{lt-ltb, le-ltb}
 use Rattle.book.specs.Basics.{pick}
 use Rattle.k2.specs.Bits.{digit, bitAt, onesBelow}
 use Rattle.k2.specs.DigitLaws.{digit-lt, digit-none, digit-or, digit-and, digit-not}

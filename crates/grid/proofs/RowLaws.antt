@@ -13,8 +13,8 @@
 --   joined-more, joined-all
 --                      a word more, and all of them: the row is merged in
 --   put-is             one word put in is a row merged in
---   merged-none, merged-more, merged-to
---                      merging nothing, one row after another, as an equal row
+--   merged-none, merged-more
+--                      merging nothing, one row after another
 --   one-mask           `1 << c` in a mask is a power of two
 -- Assumes nothing.
 use mathlib.Core.Path.{_≡_, refl, sym, ap, ap₂, _∙_}
@@ -246,15 +246,6 @@ module _ {w t b : ℕ} {s : ℕ → ℕ} {ws ms ws′ ms′ : List ℕ} (M : Mer
     where
       assoc : (x y z : ℕ) → max (max x y) z ≡ max x (max y z)
       assoc x y z = omega arith
-
-  pub merged-to : (g : ℕ → ℕ) → ((y : ℕ) → y < w * 64 → s y ≡ g y) → Merged w t b g ws ms ws′ ms′
-  merged-to g e = record {
-    row = λ y h. M .row y h ∙ ap (max (rowOf ws b (getD ms t 0) y)) (e y h);
-    below = M .below;
-    above = M .above;
-    masks = M .masks;
-    clean = M .clean;
-  }
 
 -- `1 << c` in a mask
 pub one-mask : (c : ℕ) → c < 16 → (1 * 2 ^ c) % 65536 ≡ 2 ^ c

@@ -192,7 +192,8 @@ fn deeper(
     marks: &mut [u64],
 ) -> usize
     requires { ⌜ (n ≤ 1024) × (w ≤ 16) × (n ≤ w * 64) × (n * w ≤ length (now cells)) × (n ≤ length (now masks)) × (length (now marks) ≡ 32) ⌝ }
-    ensures { λ r. ⌜ (r ≤ n) × Onward n w (now (marks .entry)) (now (cells .entry)) (now (masks .entry)) (now (marks .exit)) (now (cells .exit)) (now (masks .exit)) ⌝ }
+    ensures { λ r. ⌜ (r ≤ n) × Onward n w (now (marks .entry)) (now (cells .entry))
+        (now (masks .entry)) (now (marks .exit)) (now (cells .exit)) (now (masks .exit)) ⌝ }
 {
     if n <= x {
         return n;
@@ -232,7 +233,8 @@ fn advance(
 ) -> usize
     requires { ⌜ (n ≤ 1024) × (w ≤ 16) × (n ≤ w * 64) × (n * w ≤ length (now cells)) × (n ≤ length (now masks)) × (length (now marks) ≡ 32)
         × (length (now stack) ≡ 2050) × (0 < depth) × (depth < 2050) ⌝ }
-    ensures { λ r. ⌜ (r ≤ depth + 1) × Onward n w (now (marks .entry)) (now (cells .entry)) (now (masks .entry)) (now (marks .exit)) (now (cells .exit)) (now (masks .exit)) ⌝ }
+    ensures { λ r. ⌜ (r ≤ depth + 1) × Onward n w (now (marks .entry)) (now (cells .entry))
+        (now (masks .entry)) (now (marks .exit)) (now (cells .exit)) (now (masks .exit)) ⌝ }
 {
     let x = stack[depth - 1] as usize;
     let z = deeper(cells, masks, n, w, x, marks);
@@ -337,10 +339,10 @@ fn mask_rows(rows: &[u64], n: usize, masks: &mut [u16])
     requires { ⌜ (n ≤ 1024) × (length (now rows) ≡ 16384) × (n ≤ length (now masks)) ⌝ }
     ensures { λ _. ⌜ ((x : ℕ) → x < n → Masked (bitAt (now (rows .entry))) x (getD (now (masks .exit)) x 0)) ⌝ }
 {
-    let mut x = 0;
-    while x < n {
-        masks[x] = rows::squares(rows, x) as u16;
-        x += 1;
+    let mut row = 0;
+    while row < n {
+        masks[row] = rows::squares(rows, row) as u16;
+        row += 1;
     }
 }
 

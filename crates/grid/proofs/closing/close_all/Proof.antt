@@ -37,9 +37,11 @@ slice-aggregate-close-record-2 c = omega arith
 
 close-record-requires : tie.Need-close-record-requires Inv-loop μ-loop
 close-record-requires c κs =
-    let p = c .before .before .before .before .before .before .before .before .pre in
-    let l = c .before .before .before .before .before .loop .inv in
-    let t : c .before .before .before .before .before .loop .x < c .before .before .before .before .before .before .before .before .args .n = omega arith in
+    let at-loop = c .before .before .before .before .before in
+    let start = at-loop .before .before .before in
+    let p = start .pre in
+    let l = at-loop .loop .inv in
+    let t : at-loop .loop .x < start .args .n = omega arith in
     omega (arith, p, l .1, l .2, l .3, l .4, t)
 
 -- each row is closed, or as it was
@@ -58,9 +60,12 @@ loop-less c = omega arith
 
 loop-again : tie.Need-loop-again Inv-loop μ-loop
 loop-again c =
-    let a = c .before .before .before .before .before .before .before .before .before .before .before .before .before .before .before .args in
-    let l = c .before .before .before .before .before .before .before .before .before .before .before .before .loop in
-    let m = c .before .before .before .before .before .before .close-record in
+    let after-close-record = c .before .before .before .before .before .before in
+    let at-loop = after-close-record .before .before .before .before .before .before in
+    let start = at-loop .before .before .before in
+    let a = start .args in
+    let l = at-loop .loop in
+    let m = after-close-record .close-record in
     let F : Cells = first (a .n) (a .w) (a .cells .now) (a .masks .now) in
     let xl : l .x < a .n = omega arith in (
       omega arith,
@@ -70,7 +75,7 @@ loop-again c =
       m .kept .1 .1 .1 .1 .1 .1 .0 ∙ l .inv .4,
       onward-next (l .inv .5) (m .ensures .0),
       settled-next (a .n) F (bitAt (l .marks)) _ (l .x) (l .inv .6) (m .ensures .0 .marks)
-          (⊎-elim (λ e. inl (settled-empty (a .n) (a .w) F (l .marks) (l .cells) (l .masks) (l .x) xl (half (c .before .before .before .before .before .before .before .before .before .before .before .before)) e)) (λ h. inr h) (m .ensures .1)),
+          (⊎-elim (λ e. inl (settled-empty (a .n) (a .w) F (l .marks) (l .cells) (l .masks) (l .x) xl (half at-loop) e)) (λ h. inr h) (m .ensures .1)),
     )
 
 same-length : tie.Need-same-length Inv-loop μ-loop

@@ -39,10 +39,13 @@ same-length-4 c = search needs
 
 returns-3 : tie.Need-returns-3
 returns-3 c =
-    let a = c .before .before .before .before .before .before .before .before .before .before .before .before .before .before .before .before .before .before .before .args in
+    let after-close-row = c .before .before .before .before .before .before .before .before in
+    let else2 = after-close-row .before .before .before .before in
+    let start = else2 .before .before .before .before .before .before .before in
+    let a = start .args in
     let s = c .before .before .set-bit .ensures in
-    let none : bitAt (a .closed .now) (a .x) ≡ 0 = omega (arith, c .before .before .before .before .before .before .before .before .before .before .before .before .before .bit .ensures, c .before .before .before .before .before .before .before .before .before .before .before .before .if2 .left, bit-lt (a .closed .now) (a .x)) in (
-      onward-row (a .n) (a .w) (a .x) (a .closed .now) _ (a .cells .now) (a .masks .now) _ _ none s (c .before .before .before .before .before .before .before .before .close-row .ensures),
+    let none : bitAt (a .closed .now) (a .x) ≡ 0 = omega (arith, else2 .before .bit .ensures, else2 .if2 .left, bit-lt (a .closed .now) (a .x)) in (
+      onward-row (a .n) (a .w) (a .x) (a .closed .now) _ (a .cells .now) (a .masks .now) _ _ none s (after-close-row .close-row .ensures),
       λ h. ap (λ (f : ℕ → ℕ). f (a .x)) s ∙ put-at (a .x) 1 (bitAt (a .closed .now)),
     )
 

@@ -35,8 +35,10 @@ same-length-4 c = search needs
 
 returns-2 : tie.Need-returns-2
 returns-2 c =
-    let o = c .before .before .before .before .before .before .close-once .ensures in
-    (onward-next (c .before .before .before .before .before .before .before .before .before .before .before .before .before .before .before .before .before .before .close-from .ensures) (o .0), inr (o .1 (omega arith)))
+    let after-close-once = c .before .before .before .before .before .before in
+    let after-close-from = after-close-once .before .before .before .before .before .before .before .before .before .before .before .before in
+    let o = after-close-once .close-once .ensures in
+    (onward-next (after-close-from .close-from .ensures) (o .0), inr (o .1 (omega arith)))
 
 pub close-record-spec : {M : Type 1} → statement M
 close-record-spec =

@@ -56,9 +56,12 @@ lead-on-requires : tie.Need-lead-on-requires Inv-loop μ-loop
 lead-on-requires c κs = let l = c .before .before .before .before .loop in omega (arith, l .inv .0, l .inv .1)
 
 -- the lengths, and that row z ends before the words do
-after : (c : tie.After-lead-on Inv-loop μ-loop) → let a = c .before .before .before .before .before .before .before .before .before .before .before .before .before .args in
+after : (c : tie.After-lead-on Inv-loop μ-loop)
+    → let at-loop = c .before .before .before .before .before in
+    let start = at-loop .before .before .before .before .before .before .before .before in
+    let a = start .args in
     (length (c .lead-on .last .0) ≡ length (a .cells .now)) × (length (c .lead-on .last .1 .0) ≡ length (a .masks .now))
-    × (a .n * a .w ≤ 16384) × (c .before .before .before .before .before .loop .z * a .w + a .w ≤ a .n * a .w)
+    × (a .n * a .w ≤ 16384) × (at-loop .loop .z * a .w + a .w ≤ a .n * a .w)
 after c =
     let a = c .before .before .before .before .before .before .before .before .before .before .before .before .before .args in
     let l = c .before .before .before .before .before .loop in
@@ -85,13 +88,16 @@ same-length-2 c = after (c .before .before .before .before .before .before .befo
 
 returns : tie.Need-returns Inv-loop μ-loop
 returns c =
-    let a = c .before .before .before .before .before .before .before .before .before .before .before .before .before .before .before .before .before .before .before .before .before .args in
-    let l = c .before .before .before .before .before .before .before .before .before .before .before .before .before .loop in
+    let after-lead-on = c .before .before .before .before .before .before .before .before in
+    let after-bit = after-lead-on .before .before .before in
+    let start = after-bit .before .before .before .before .before .before .before .before .before .before in
+    let a = start .args in
+    let l = after-bit .before .before .loop in
     let zl : l .z < a .n = omega arith in
     let back = c .before .leads-back .ensures (c .if1 .taken) in
     row-back (a .n) (a .w) (a .x) (l .z) (bitAt (a .closed .now)) (bitAt (l .seen)) (a .cells .now) (a .masks .now) (l .cells) (l .masks) _ _
-    (c .before .before .before .before .before .before .before .before .before .before .before .before .before .before .before .before .before .before .before .before .before .pre .2) (c .before .before .before .before .before .before .before .before .before .before .before .before .before .before .before .before .before .before .before .before .before .pre .5) zl (c .before .before .before .before .before .before .before .before .lead-on .ensures) (l .inv .3 .found zl .0) (l .inv .4)
-    (sym (c .before .before .before .before .before .before .before .before .before .before .before .bit .ensures) ∙ back .0) (unfold firstRows in (back .1))
+    (start .pre .2) (start .pre .5) zl (after-lead-on .lead-on .ensures) (l .inv .3 .found zl .0) (l .inv .4)
+    (sym (after-bit .bit .ensures) ∙ back .0) (unfold firstRows in (back .1))
 
 mul-mark : tie.Need-mul-mark Inv-loop μ-loop
 mul-mark c = omega arith
@@ -100,57 +106,87 @@ slice-read-mark : tie.Need-slice-read-mark Inv-loop μ-loop
 slice-read-mark c = omega (arith, after (c .before .before .before .before .before .before .before .before .before .before) .1)
 
 slice-aggregate-mark : tie.Need-slice-aggregate-mark Inv-loop μ-loop
-slice-aggregate-mark c = let l = c .before .before .before .before .before .before .before .before .before .before .before .before .before .before .before .before .loop in omega (arith, l .inv .2)
+slice-aggregate-mark c =
+    let earlier = c .before .before .before .before .before .before .before .before in
+    let at-loop = earlier .before .before .before .before .before .before .before .before in
+    let l = at-loop .loop in omega (arith, l .inv .2)
 
 mark-requires : tie.Need-mark-requires Inv-loop μ-loop
-mark-requires c κs = let f = after (c .before .before .before .before .before .before .before .before .before .before .before) in let l = c .before .before .before .before .before .before .before .before .before .before .before .before .before .before .before .before .loop in (omega arith, omega arith, omega (arith, f .0, f .3), omega (arith, l .inv .2))
+mark-requires c κs =
+    let after-lead-on = c .before .before .before .before .before .before .before .before .before .before .before in
+    let at-loop = after-lead-on .before .before .before .before .before in
+    let f = after after-lead-on in let l = at-loop .loop in (omega arith, omega arith, omega (arith, f .0, f .3), omega (arith, l .inv .2))
 
 mul-fresh-2 : tie.Need-mul-fresh-2 Inv-loop μ-loop
 mul-fresh-2 c = omega arith
 
 slice-read-fresh-2 : tie.Need-slice-read-fresh-2 Inv-loop μ-loop
-slice-read-fresh-2 c = omega (arith, after (c .before .before .before .before .before .before .before .before .before .before .before .before .before .before .before) .1)
+slice-read-fresh-2 c =
+    let earlier = c .before .before .before .before .before .before .before in
+    let after-lead-on = earlier .before .before .before .before .before .before .before .before in
+    omega (arith, after after-lead-on .1)
 
 -- what is seen then
 long : (c : tie.After-mark Inv-loop μ-loop) → length (c .mark .last .1 .1 .1 .1 .1 .0) ≡ 16
-long c = c .mark .kept .1 .1 .1 .1 .1 .0 ∙ c .before .before .before .before .before .before .before .before .before .before .before .before .before .before .before .before .before .loop .inv .2
+long c =
+    let earlier = c .before .before .before .before .before .before .before .before in
+    let at-loop = earlier .before .before .before .before .before .before .before .before .before in
+    c .mark .kept .1 .1 .1 .1 .1 .0 ∙ at-loop .loop .inv .2
 
 slice-aggregate-fresh-2 : tie.Need-slice-aggregate-fresh-2 Inv-loop μ-loop
 slice-aggregate-fresh-2 c = omega (arith, long (c .before .before .before .before))
 
 fresh-requires-2 : tie.Need-fresh-requires-2 Inv-loop μ-loop
 fresh-requires-2 c κs =
-    let p = c .before .before .before .before .before .before .before .before .before .before .before .before .before .before .before .before .before .before .before .before .before .before .before .before .before .before .before .before .before .pre in
-    let f = after (c .before .before .before .before .before .before .before .before .before .before .before .before .before .before .before .before) in
-    (p .0, p .1, p .2, omega (arith, f .0, p .3), p .5, omega (arith, long (c .before .before .before .before)), p .6)
+    let after-mark = c .before .before .before .before in
+    let after-lead-on = after-mark .before .before .before .before .before .before .before .before .before .before .before .before in
+    let start = after-lead-on .before .before .before .before .before .before .before .before .before .before .before .before .before in
+    let p = start .pre in
+    let f = after after-lead-on in
+    (p .0, p .1, p .2, omega (arith, f .0, p .3), p .5, omega (arith, long after-mark), p .6)
 
-marked : (c : tie.After-mark Inv-loop μ-loop) → let a = c .before .before .before .before .before .before .before .before .before .before .before .before .before .before .before .before .before .before .before .before .before .before .before .before .before .args in let l = c .before .before .before .before .before .before .before .before .before .before .before .before .before .before .before .before .before .loop in
+marked : (c : tie.After-mark Inv-loop μ-loop)
+    → let after-lead-on = c .before .before .before .before .before .before .before .before .before .before .before .before in
+    let at-loop = after-lead-on .before .before .before .before .before in
+    let start = at-loop .before .before .before .before .before .before .before .before in
+    let a = start .args in let l = at-loop .loop in
     (y : ℕ) → y < a .w * 64 → bitAt (c .mark .last .1 .1 .1 .1 .1 .0) y
     ≡ max (put (l .z) 1 (bitAt (l .seen)) y) (pick (eqb (bitAt (a .closed .now) (l .z)) 1)
-    (firstRows (a .w) (c .before .before .before .before .before .before .before .before .before .before .before .before .lead-on .last .0) (c .before .before .before .before .before .before .before .before .before .before .before .before .lead-on .last .1 .0) (l .z) y) 0)
+    (firstRows (a .w) (after-lead-on .lead-on .last .0) (after-lead-on .lead-on .last .1 .0) (l .z) y) 0)
 unfolding firstRows
-marked c = rw (c .before .before .before .before .before .before .before .before .before .before .before .before .before .before .before .bit .ensures) at (c .mark .ensures)
+marked c =
+    let earlier = c .before .before .before .before .before .before .before in
+    let after-bit = earlier .before .before .before .before .before .before .before .before in
+    rw (after-bit .bit .ensures) at (c .mark .ensures)
 
 loop-less : tie.Need-loop-less Inv-loop μ-loop
 loop-less c =
-    let a = c .before .before .before .before .before .before .before .before .before .before .before .before .before .before .before .before .before .before .before .before .before .before .before .before .before .before .before .before .before .before .args in
-    let l = c .before .before .before .before .before .before .before .before .before .before .before .before .before .before .before .before .before .before .before .before .before .before .loop in
+    let after-mark = c .before .before .before .before .before in
+    let after-lead-on = after-mark .before .before .before .before .before .before .before .before .before .before .before .before in
+    let at-loop = after-lead-on .before .before .before .before .before in
+    let start = at-loop .before .before .before .before .before .before .before .before in
+    let a = start .args in
+    let l = at-loop .loop in
     let zl : l .z < a .n = omega arith in
     left-less (a .n) (a .w) (a .x) (l .z) (bitAt (a .closed .now)) (bitAt (l .seen)) (a .cells .now) (a .masks .now) (l .cells) (l .masks) _ _
-    (c .before .before .before .before .before .before .before .before .before .before .before .before .before .before .before .before .before .before .before .before .before .before .before .before .before .before .before .before .before .before .pre .2) (c .before .before .before .before .before .before .before .before .before .before .before .before .before .before .before .before .before .before .before .before .before .before .before .before .before .before .before .before .before .before .pre .5) zl (c .before .before .before .before .before .before .before .before .before .before .before .before .before .before .before .before .before .lead-on .ensures) (l .inv .3 .found zl .0) (l .inv .4) _ (marked (c .before .before .before .before .before)) (l .inv .3 .found zl .1)
+    (start .pre .2) (start .pre .5) zl (after-lead-on .lead-on .ensures) (l .inv .3 .found zl .0) (l .inv .4) _ (marked after-mark) (l .inv .3 .found zl .1)
 
 loop-again : tie.Need-loop-again Inv-loop μ-loop
 loop-again c =
-    let a = c .before .before .before .before .before .before .before .before .before .before .before .before .before .before .before .before .before .before .before .before .before .before .before .before .before .before .before .before .before .before .args in
-    let l = c .before .before .before .before .before .before .before .before .before .before .before .before .before .before .before .before .before .before .before .before .before .before .loop in
+    let after-mark = c .before .before .before .before .before in
+    let after-lead-on = after-mark .before .before .before .before .before .before .before .before .before .before .before .before in
+    let at-loop = after-lead-on .before .before .before .before .before in
+    let start = at-loop .before .before .before .before .before .before .before .before in
+    let a = start .args in
+    let l = at-loop .loop in
     let zl : l .z < a .n = omega arith in
-    let f = after (c .before .before .before .before .before .before .before .before .before .before .before .before .before .before .before .before .before) in (
+    let f = after after-lead-on in (
       f .0,
       f .1,
-      long (c .before .before .before .before .before),
+      long after-mark,
       unfold firstRows in (c .fresh2 .ensures),
       searching-more (a .n) (a .w) (a .x) (l .z) (bitAt (a .closed .now)) (bitAt (l .seen)) (a .cells .now) (a .masks .now) (l .cells) (l .masks) _ _
-          (c .before .before .before .before .before .before .before .before .before .before .before .before .before .before .before .before .before .before .before .before .before .before .before .before .before .before .before .before .before .before .pre .2) (c .before .before .before .before .before .before .before .before .before .before .before .before .before .before .before .before .before .before .before .before .before .before .before .before .before .before .before .before .before .before .pre .5) zl (c .before .before .before .before .before .before .before .before .before .before .before .before .before .before .before .before .before .lead-on .ensures) (l .inv .3 .found zl .0) (l .inv .4) _ (marked (c .before .before .before .before .before))
+          (start .pre .2) (start .pre .5) zl (after-lead-on .lead-on .ensures) (l .inv .3 .found zl .0) (l .inv .4) _ (marked after-mark)
           (bit-lt (a .closed .now)) (bit-lt (l .seen)),
     )
 
@@ -162,10 +198,11 @@ same-length-4 c = c .before .loop .inv .1
 
 returns-2 : tie.Need-returns-2 Inv-loop μ-loop
 returns-2 c =
-    let a = c .before .before .before .before .before .before .before .before .before .args in
+    let start = c .before .before .before .before .before .before .before .before .before in
+    let a = start .args in
     let l = c .before .loop in
     row-done (a .n) (a .w) (a .x) (l .z) _ (bitAt (l .seen)) (a .cells .now) (a .masks .now) (l .cells) (l .masks)
-    (c .before .before .before .before .before .before .before .before .before .pre .2) (omega arith) (l .inv .3) (l .inv .4)
+    (start .pre .2) (omega arith) (l .inv .3) (l .inv .4)
 
 pub close-row-spec : {M : Type 1} → statement M
 close-row-spec =

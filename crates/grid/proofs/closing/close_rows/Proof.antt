@@ -1,7 +1,6 @@
 -- `close_rows` closes the rows with masks of the words that are not empty: clean words, which are the rows of the set (`masked-clean`, `clean-flat`). Assumes
 -- nothing.
 use mathlib.Core.Path.{ap, _∙_}
-use native.Mathlib.Omega.{arith}
 use borrow.Author.Needs.{needs}
 use Rattle.k2.specs.PairSets.{closure}
 use Rattle.rows.specs.Rows.{flat}
@@ -25,11 +24,15 @@ same-length : tie.Need-same-length
 same-length c = search needs
 
 returns : tie.Need-returns
-returns c = λ x S e.
-    let a = c .before .before .before .before .before .before .before .before .before .before .before .args in
-    let nl = c .before .before .before .before .before .before .before .before .before .before .before .pre .0 in
-    let M = c .before .before .before .before .before .before .before .mask-rows .ensures in
-    let z = c .before .before .before .close-all .ensures in
+returns c =
+    let after-close-all = c .before .before .before in
+    let after-mask-rows = after-close-all .before .before .before .before in
+    let start = after-mask-rows .before .before .before .before in
+    λ x S e.
+    let a = start .args in
+    let nl = start .pre .0 in
+    let M = after-mask-rows .mask-rows .ensures in
+    let z = after-close-all .close-all .ensures in
     clean-flat (a .n) _ _ (z .1 (masked-clean (a .n) x (a .rows .now) _ nl S e M))
     ∙ ap flat (z .0 ∙ ap (closure (a .n)) (masked-set (a .n) x (a .rows .now) _ nl S e M))
 

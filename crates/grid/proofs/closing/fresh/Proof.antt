@@ -37,8 +37,12 @@ loop-holds c =
     )
 
 -- row x ends before the words do
-row-ends : (c : tie.In-loop Inv-loop μ-loop) → let a = c .before .before .before .before .before .before .args in (a .n * a .w ≤ 16384) × (a .x * a .w + a .w ≤ a .n * a .w)
-row-ends c = let a = c .before .before .before .before .before .before .args in (unit-fits (a .n) (a .w) (omega arith) (omega arith), rows-apart (a .x) (a .n) (a .w) (omega arith))
+row-ends : (c : tie.In-loop Inv-loop μ-loop)
+    → let start = c .before .before .before .before .before .before in
+    let a = start .args in (a .n * a .w ≤ 16384) × (a .x * a .w + a .w ≤ a .n * a .w)
+row-ends c =
+    let start = c .before .before .before .before .before .before in
+    let a = start .args in (unit-fits (a .n) (a .w) (omega arith) (omega arith), rows-apart (a .x) (a .n) (a .w) (omega arith))
 
 add-cut : tie.Need-add-cut Inv-loop μ-loop
 add-cut c = omega (arith, row-ends c .0, row-ends c .1)
@@ -78,7 +82,10 @@ add-if3 : tie.Need-add-if3 Inv-loop μ-loop
 add-if3 c = omega arith
 
 -- what is found once word c was looked at
-looked : (c : tie.After-found-or Inv-loop μ-loop) → let a = c .before .before .before .before .before .before .before .before .before .before .before .args in let l = c .before .before .before .before .before .before .loop in
+looked : (c : tie.After-found-or Inv-loop μ-loop)
+    → let at-loop = c .before .before .before .before .before .before in
+    let start = at-loop .before .before .before .before .before in
+    let a = start .args in let l = at-loop .loop in
     LookedTo (a .n) ((l .c + 1) * 64) (rowOf (a .cells .now) (a .x * a .w) (a .mask)) (bitAt (a .seen .now)) (c .found-or .result)
 looked c =
     let a = c .before .before .before .before .before .before .before .before .before .before .before .args in

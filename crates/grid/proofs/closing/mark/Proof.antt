@@ -26,7 +26,9 @@ returns c = λ y h.
     ap (λ (f : ℕ → ℕ). f y) (c .before .before .before .set-bit .ensures) ∙ sym (ap (max (put (a .z) 1 (bitAt (a .seen .now)) y)) none ∙ omega arith)
 
 mul-add-row : tie.Need-mul-add-row
-mul-add-row c = let a = c .before .before .before .before .before .before .before .args in omega (arith, c .before .before .before .before .before .before .before .pre)
+mul-add-row c =
+    let start = c .before .before .before .before .before .before .before in
+    let a = start .args in omega (arith, start .pre)
 
 add-row-requires : tie.Need-add-row-requires
 add-row-requires c κs = search needs
@@ -35,12 +37,16 @@ same-length-2 : tie.Need-same-length-2
 same-length-2 c = search needs
 
 returns-2 : tie.Need-returns-2
-returns-2 c = λ y h.
-    let a = c .before .before .before .before .before .before .before .before .before .before .before .args in
-    let one : a .whole ≡ 1 = omega (arith, c .before .before .before .before .if1 .left) in
+returns-2 c =
+    let else1 = c .before .before .before .before in
+    let after-set-bit = else1 .before .before .before in
+    let start = after-set-bit .before .before .before .before in
+    λ y h.
+    let a = start .args in
+    let one : a .whole ≡ 1 = omega (arith, else1 .if1 .left) in
     let all : pick (eqb (a .whole) 1) (rowOf (a .cells .now) (a .z * a .w) (a .mask) y) 0 ≡ rowOf (a .cells .now) (a .z * a .w) (a .mask) y =
     rw (eq-eqb (a .whole) 1 one) refl in
-    c .before .before .add-row .ensures y h ∙ ap₂ max (ap (λ (f : ℕ → ℕ). f y) (c .before .before .before .before .before .before .before .set-bit .ensures)) (sym all)
+    c .before .before .add-row .ensures y h ∙ ap₂ max (ap (λ (f : ℕ → ℕ). f y) (after-set-bit .set-bit .ensures)) (sym all)
 
 pub mark-spec : {M : Type 1} → statement M
 mark-spec =

@@ -1,4 +1,4 @@
--- `mask_rows` has the squares of each row in turn. The loop's invariant: the rows below x have their masks. The measure is the rows left. Assumes nothing.
+-- `mask_rows` has the squares of each row in turn. The loop's invariant: the rows below have their masks. The measure is the rows left. Assumes nothing.
 use mathlib.Core.Path.{_≡_, refl}
 use mathlib.Core.List.{List}
 use Prim.Native.Nat.{ℕ, _+_, _-_, _≤_, _<_}
@@ -20,10 +20,10 @@ next f ms x v l new old u h = go (ℕ-discrete u x)
     go (no e) = rw (getD-set-other ms x u v 0 e) (old u (omega (arith, e)))
 
 abbrev Inv-loop : tie.InvT-loop
-Inv-loop rows n masks₀ x₀ masks x = (x ≤ n) × (length masks ≡ length masks₀) × ((u : ℕ) → u < x → Masked (bitAt rows) u (getD masks u 0))
+Inv-loop rows n masks₀ row₀ masks row = (row ≤ n) × (length masks ≡ length masks₀) × ((u : ℕ) → u < row → Masked (bitAt rows) u (getD masks u 0))
 
 abbrev μ-loop : tie.MeasureT-loop
-μ-loop rows n masks₀ x₀ masks x = n - x
+μ-loop rows n masks₀ row₀ masks row = n - row
 
 loop-holds : tie.Need-loop-holds Inv-loop μ-loop
 loop-holds c = (omega arith, refl, λ u h. absurd (omega arith))
@@ -40,8 +40,8 @@ mul-masks c = omega arith
 slice-write-masks : tie.Need-slice-write-masks Inv-loop μ-loop
 slice-write-masks c = omega (arith, c .before .before .loop .inv .1)
 
-add-x : tie.Need-add-x Inv-loop μ-loop
-add-x c = omega arith
+add-row : tie.Need-add-row Inv-loop μ-loop
+add-row c = omega arith
 
 loop-less : tie.Need-loop-less Inv-loop μ-loop
 loop-less c = omega arith
@@ -52,7 +52,7 @@ loop-again c =
     let a = c .before .before .before .before .before .args in (
       omega arith,
       simp length-set (l .inv .1),
-      λ u h. next (bitAt (a .rows .now)) (l .masks) (l .x) (c .squares .result) (omega (arith, l .inv .1)) (c .squares .ensures .1) (l .inv .2) u h,
+      λ u h. next (bitAt (a .rows .now)) (l .masks) (l .row) (c .squares .result) (omega (arith, l .inv .1)) (c .squares .ensures .1) (l .inv .2) u h,
     )
 
 same-length : tie.Need-same-length Inv-loop μ-loop
@@ -72,7 +72,7 @@ mask-rows-spec =
     cast-masks
     mul-masks
     slice-write-masks
-    add-x
+    add-row
     loop-less
     loop-again
     same-length
