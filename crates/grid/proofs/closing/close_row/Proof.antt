@@ -120,11 +120,17 @@ mark-requires c κs =
 mul-fresh-2 : tie.Need-mul-fresh-2 Inv-loop μ-loop
 mul-fresh-2 c = omega arith
 
+-- record x has a mask still
+has-mask : (x n k m : ℕ) → x < n → n ≤ k → m ≡ k → x < m
+has-mask x n k m h l e = omega arith
+
 slice-read-fresh-2 : tie.Need-slice-read-fresh-2 Inv-loop μ-loop
 slice-read-fresh-2 c =
     let earlier = c .before .before .before .before .before .before .before in
     let after-lead-on = earlier .before .before .before .before .before .before .before .before in
-    omega (arith, after after-lead-on .1)
+    let at-loop = after-lead-on .before .before .before .before .before in
+    let start = at-loop .before .before .before .before .before .before .before .before in
+    has-mask _ _ _ _ (start .pre .5) (start .pre .4) (after after-lead-on .1)
 
 -- what is seen then
 long : (c : tie.After-mark Inv-loop μ-loop) → length (c .mark .last .1 .1 .1 .1 .1 .0) ≡ 16
