@@ -87,7 +87,7 @@ fn first_returning(words: &[u32], set: u32, n: usize) -> usize
 {
     let mut rows = [0u64; 16384];
     rows::put_letters(words, set, 0, &mut rows);
-    rows::close(&mut rows, n);
+    grid::close_rows(&mut rows, n);
     first_joined(&rows, n)
 }
 
