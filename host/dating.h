@@ -117,8 +117,10 @@ uint32_t dating_withdrawn(const uint32_t *state, size_t state_len, uint16_t reco
 /* The number of links with the label, which the register keeps: none is counted. A label above 25 is refused with 3. */
 uint64_t dating_total(const uint32_t *state, size_t state_len, uint8_t label);
 
-/* Questions. The text of an expression has no zero at its end: text_len is its bytes alone. Refused with 16, then with the first of 2, 10 for bytes, 9,
- * 10 for letters and depth, 12, 13. */
+/* Questions. The text of an expression has no zero at its end: text_len is its bytes alone. Loosest is | between alternatives, then / between the parts of a
+ * sequence. A part is an optional ^ (inverse), a letter, a negated set or a group in parentheses, and at most one of * + ?. A negated set with plain members,
+ * !a or !(a|b), crosses forward any link whose letter is none of them; one with ^ members, !^a, crosses against its sense any link whose letter is none of
+ * those; one with both, !(a|^b), does either. Refused with 16, then with the first of 2, 10 for bytes, 9, 10 for letters and depth, 12, 13. */
 /* The pairs that the expression joins, ascending, each once, a word to a pair: from * 1024 + to. A list of n * n words takes them all. Work of 32 * D words,
  * where D is 4 * (s * s - 1) / 3 / 64, rounded up, and s the smallest power of two that is at least n, and at least 2. dating_pairs_by_rows gives the same
  * faster. */

@@ -233,7 +233,7 @@ mod tests {
 
     const WRONG: Peer = Peer { name: "wrong", load: |n, links| Ok(Box::new(Wrong((plain::PEER.load)(n, links)?))) };
 
-    const SHEET: &str = "n 3\nlink 0 a 1\nlink 1 a 2\npairs p a\nedit 0 b 1\nchain c 0 1 a\nchain c 0 2 a\n";
+    const SHEET: &str = "open 3\nadd 0 a 1\nadd 1 a 2\npairs p a\nedit 0 b 1\nchain c 0 1 a\nchain c 0 2 a\n";
 
     fn differences(peers: &[Peer], stored: Option<&str>) -> Vec<String> {
         let stored = stored.map(|text| Answers::parse(text).unwrap());

@@ -58,7 +58,7 @@ mod tests {
 
     #[test]
     fn result_lines_in_order() {
-        let text = "n 4\nlink 0 a 1\nedit 1 b 1\nchain c 0 0 a?\nchain c 1 0 a\npairs p b\nchain c 0 1 a\n";
+        let text = "open 4\nadd 0 a 1\nedit 1 b 1\nchain c 0 0 a?\nchain c 1 0 a\npairs p b\nchain c 0 1 a\n";
         let expected =
             ["peer plain", "load", "edit 0", "chain 1 0 00000000", "chain 2 none -", "pairs 3 0 00000000", "chain 4 1 00000002"];
         assert_eq!(lines(text).unwrap(), expected);
@@ -66,7 +66,7 @@ mod tests {
 
     #[test]
     fn a_refusal_is_an_error() {
-        assert_eq!(lines("n 2\nlink 0 a 2\n"), Err("load refused 2".into()));
-        assert_eq!(lines("n 2\npairs p a**\n"), Err("pairs 0 refused 9".into()));
+        assert_eq!(lines("open 2\nadd 0 a 2\n"), Err("load refused 2".into()));
+        assert_eq!(lines("open 2\npairs p a**\n"), Err("pairs 0 refused 9".into()));
     }
 }

@@ -46,7 +46,7 @@ impl Question {
     }
 }
 
-/// `NAME.txt`. A question's place in `questions` is its index.
+/// A sheet as the shell writes it, `NAME.txt`, and the questions beside it, `NAME.questions`. A question's place in `questions` is its index.
 #[derive(Clone, Debug, Default, PartialEq, Eq)]
 pub struct Sheet {
     pub name: String,
@@ -55,25 +55,51 @@ pub struct Sheet {
     pub questions: Vec<Question>,
 }
 
+/// The first line of a sheet.
+const HEAD: &str = "# sheet of a dating register, version 1";
+
 impl Sheet {
+    /// The sheet at `path`, and its questions.
     pub fn read(path: &Path) -> Result<Sheet, String> {
-        let name = path.file_stem().unwrap_or_default().to_string_lossy();
-        Sheet::parse(&name, &text(path)?)
+        let mut sheet = Sheet::load(path)?;
+        let questions = path.with_extension("questions");
+        let name = format!("{}.questions", sheet.name);
+        sheet.take_all(&name, &text(&questions)?)?;
+        Ok(sheet)
     }
 
+    /// The sheet at `path`, which is any that the shell wrote without locks and withdrawn records.
+    pub fn load(path: &Path) -> Result<Sheet, String> {
+        let name = path.file_stem().unwrap_or_default().to_string_lossy();
+        let text = text(path)?;
+        let sheet = Sheet::parse(&name, &text)?;
+        let counts = format!("# {} records, {} links, 0 locked, 0 withdrawn", sheet.n, sheet.links.len());
+        match (text.lines().next(), text.lines().last()) {
+            (Some(HEAD), Some(last)) if last == counts => Ok(sheet),
+            _ => Err(format!("{name}.txt: no whole sheet: it begins with '{HEAD}' and ends with '{counts}'")),
+        }
+    }
+
+    /// The lines of a sheet, of its questions, or of both.
     pub fn parse(name: &str, text: &str) -> Result<Sheet, String> {
         let mut sheet = Sheet { name: name.into(), ..Sheet::default() };
-        for (at, line) in text.lines().enumerate() {
-            sheet.take(line).ok_or_else(|| format!("{name}.txt, line {}: {line}", at + 1))?;
-        }
+        sheet.take_all(&format!("{name}.txt"), text)?;
         Ok(sheet)
+    }
+
+    fn take_all(&mut self, file: &str, text: &str) -> Result<(), String> {
+        for (at, line) in text.lines().enumerate() {
+            self.take(line).ok_or_else(|| format!("{file}, line {}: {line}", at + 1))?;
+        }
+        Ok(())
     }
 
     /// None if the line is not of the format.
     fn take(&mut self, line: &str) -> Option<()> {
         match *line.split(' ').collect::<Vec<_>>() {
-            ["n", count] => self.n = count.parse().ok()?,
-            ["link", from, letter, to] => self.links.push(link(from, letter, to)?),
+            ["#", ..] => {}
+            ["open", count] => self.n = count.parse().ok()?,
+            ["add", from, letter, to] => self.links.push(link(from, letter, to)?),
             ["pairs", class, expression] => {
                 self.questions.push(Question::Pairs { class: class.into(), expression: expression.into() })
             }
@@ -136,7 +162,7 @@ mod tests {
 
     #[test]
     fn a_sheet_is_read_line_by_line() {
-        let sheet = Sheet::parse("s", "n 4\nlink 0 a 1\npairs single ^a\nedit 2 z 3\nchain far 0 3 a+/b\n").unwrap();
+        let sheet = Sheet::parse("s", "open 4\nadd 0 a 1\npairs single ^a\nedit 2 z 3\nchain far 0 3 a+/b\n").unwrap();
         assert_eq!((sheet.n, &sheet.links[..]), (4, &[Link { from: 0, label: 0, to: 1 }][..]));
         let kinds: Vec<_> = sheet.questions.iter().map(|question| (question.kind(), question.class())).collect();
         assert_eq!(kinds, [("pairs", Some("single")), ("edit", None), ("chain", Some("far"))]);
@@ -145,9 +171,19 @@ mod tests {
 
     #[test]
     fn a_malformed_line_is_named() {
-        for line in ["link 0 A 1", "link 0 ab 1", "link 0 a", "pairs a", "chain c 0 x a", "", "other 1"] {
-            assert_eq!(Sheet::parse("s", &format!("n 4\n{line}\n")), Err(format!("s.txt, line 2: {line}")));
+        for line in ["add 0 A 1", "add 0 ab 1", "add 0 a", "lock 0", "pairs a", "chain c 0 x a", "", "other 1"] {
+            assert_eq!(Sheet::parse("s", &format!("open 4\n{line}\n")), Err(format!("s.txt, line 2: {line}")));
         }
+    }
+
+    #[test]
+    fn a_cut_sheet_is_no_sheet() {
+        let path = std::env::temp_dir().join(format!("sheet-{}.txt", std::process::id()));
+        for (lines, whole) in [("open 4\nadd 0 a 1\n", true), ("open 4\n", false)] {
+            fs::write(&path, format!("{HEAD}\n{lines}# 4 records, 1 links, 0 locked, 0 withdrawn\n")).unwrap();
+            assert_eq!(Sheet::load(&path).is_ok(), whole, "{lines}");
+        }
+        fs::remove_file(&path).unwrap();
     }
 
     #[test]

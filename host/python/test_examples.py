@@ -1,4 +1,4 @@
-"""The examples in the docstrings and in README, the one beside this file, and that every public name has a docstring and type hints."""
+"""The examples in the docstrings, the one beside this file, and that every public name has a docstring and type hints."""
 
 from __future__ import annotations
 
@@ -25,11 +25,6 @@ class Examples(unittest.TestCase):
             self.assertEqual(failed, 0, module.__name__)
             ran += tried
         self.assertGreater(ran, 80)
-
-    def test_readme(self) -> None:
-        failed, tried = doctest.testfile(str(HERE.parents[1] / "README.md"), module_relative=False, encoding="utf-8")
-        self.assertEqual(failed, 0)
-        self.assertGreater(tried, 5)
 
     def test_example(self) -> None:
         environment = {"DATING_LIBRARY": dating.calls._LIBRARY._name, "PYTHONDONTWRITEBYTECODE": "1"}

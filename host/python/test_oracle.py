@@ -13,7 +13,7 @@ import unittest
 from pathlib import Path
 from typing import Callable, Optional
 
-from dating import Cause, Edit, Pairs, Refusal, Register, Steps
+from dating import Cause, Edit, Pairs, Refusal, Register, Steps, sheets
 
 ROOT = Path(__file__).resolve().parents[2]
 ORACLE = ROOT / "target/oracle/release"
@@ -216,12 +216,9 @@ class Sheets(unittest.TestCase):
         questions = 0
         for name in ("small", "sheet", "ring"):
             with self.subTest(name):
-                lines = [line.split() for line in (ROOT / f"bench/sheets/{name}.txt").read_text().splitlines()]
+                register = sheets.read((ROOT / f"bench/sheets/{name}.txt").read_text()).register()
+                asked = [line.split() for line in (ROOT / f"bench/sheets/{name}.questions").read_text().splitlines()]
                 answers = (ROOT / f"bench/sheets/{name}.answers").read_text().splitlines()
-                register = Register(int(lines[0][1]))
-                for _, from_, of, to in (line for line in lines if line[0] == "link"):
-                    register.add(int(from_), of, int(to))
-                asked = [line for line in lines if line[0] in ("pairs", "chain", "edit")]
                 given = [self.answer(register, at, line) for at, line in enumerate(asked) if line[0] != "edit"]
                 self.assertEqual(given, answers)
                 questions += len(given)

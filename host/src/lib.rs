@@ -19,8 +19,23 @@
 //! ```
 //!
 //! Expressions, from loosest to closest: `|` between alternatives; `/` between the parts of a sequence; a part is an optional `^`
-//! (inverse), a letter, a negated set (`!a`, `!(a|^b)`: any letter but those) or a group in parentheses, and at most one of `*`, `+`, `?`.
+//! (inverse), a letter, a negated set (`!a`, `!^a`, `!(a|^b)`) or a group in parentheses, and at most one of `*`, `+`, `?`.
 //! At most 256 bytes, 63 letters, groups 8 deep.
+//!
+//! A negated set with plain members crosses forward any link whose letter is none of them; one with `^` members crosses against its sense
+//! any link whose letter is none of those; one with both does either. So `!(a|^b)` crosses `a` backward and `b` forward. To keep off `a`
+//! and `b` in both senses, write `!(a|b|^a|^b)`.
+//!
+//! ```
+//! # use dating::Register;
+//! let mut register = Register::fresh(3)?;
+//! register.add(0, 'a', 1)?;
+//! register.add(1, 'b', 2)?;
+//! let pairs = |expression: &str| Ok::<_, dating::Refusal>(register.pairs(expression)?.collect::<Vec<(u16, u16)>>());
+//! assert_eq!(pairs("!(a|^b)")?, [(1, 0), (1, 2)]);
+//! assert_eq!(pairs("!(a|b|^a|^b)")?, []);
+//! # Ok::<(), dating::Refusal>(())
+//! ```
 //!
 //! A call that cannot be done is refused with the first of its causes, a [`Refusal`], and then nothing is changed.
 //!
@@ -31,7 +46,7 @@
 //! * [`Trees`] and [`Tree`]: sets of pairs as k2-trees, and their algebra
 //! * [`calls`]: the engine's functions as they are exported, on plain slices
 //!
-//! A call takes at most 464 KB of stack (listing a tree), sole support 448, a pair question 352, a chain question 144, an edit or undo 128.
+//! A call takes at most 464 KB of stack, which listing a tree does; a thread of 512 KB is enough for every call.
 
 mod by_rows;
 pub mod calls;

@@ -21,9 +21,9 @@ static void load(const char *name) {
     if (!file)
         exit(2);
     while (fgets(line, sizeof line, file)) {
-        if (sscanf(line, "n %d", &n) == 1)
+        if (sscanf(line, "open %d", &n) == 1)
             dating_fresh(n, state, STATE);
-        else if (sscanf(line, "link %d %c %d", &from, &label, &to) == 3)
+        else if (sscanf(line, "add %d %c %d", &from, &label, &to) == 3)
             dating_add(state, STATE, from, label - 'a', to);
     }
     fclose(file);

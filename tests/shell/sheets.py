@@ -1,6 +1,6 @@
 #!/usr/bin/env python3
-"""sheets.py SHELL SHEET ..: types each sheet of bench/sheets into the shell, links, questions and edits, and holds the answers to those stored beside it:
-how many pairs or steps, and the checksum over them (bench/sheets/README.md), read back from what the shell prints."""
+"""sheets.py SHELL SHEET ..: reads each sheet of bench/sheets in the shell, then types it, links, questions and edits, and holds the answers to those stored
+beside it: how many pairs or steps, and the checksum over them (bench/sheets/README.md), read back from what the shell prints."""
 import pathlib
 import re
 import subprocess
@@ -13,24 +13,27 @@ MASK = 0xFFFFFFFF
 TIMEOUT = 120  # seconds
 
 
-def requests(sheet):
-    """The typed requests of a sheet, each with its index among the questions, or none."""
-    index = 0
-    for line in sheet.splitlines():
+def requests(path):
+    """The typed requests of a sheet and of its questions, each with its index among the questions, or none."""
+    for line in path.read_text().splitlines():
+        if not line.startswith("#"):
+            yield None, line
+    for index, line in enumerate(path.with_suffix(".questions").read_text().splitlines()):
         word, *rest = line.split(" ")
-        if word == "n":
-            yield None, f"open {rest[0]}"
-        elif word == "link":
-            yield None, "add " + " ".join(rest)
-        elif word == "edit":
+        if word == "edit":
             yield None, "add " + " ".join(rest)
             yield None, "remove " + " ".join(rest)
-            index += 1
         elif word in ("pairs", "chain"):
             yield index, " ".join([word] + rest[1:])
-            index += 1
         else:
-            sys.exit(f"sheets.py: {line} is no line of a sheet")
+            sys.exit(f"sheets.py: {line} is no question")
+
+
+def opened(shell, path):
+    """The sheet is read whole by the shell, as it stands."""
+    run = subprocess.run([shell], input=f"read {path}\n", capture_output=True, text=True, timeout=TIMEOUT)
+    if run.returncode != 0 or run.stderr:
+        sys.exit(f"sheets.py: {path.name} cannot be read: {run.stdout}{run.stderr}")
 
 
 def mix(word):
@@ -57,7 +60,8 @@ def result(question, lines):
 
 
 def check(shell, path):
-    typed = list(requests(path.read_text()))
+    opened(shell, path)
+    typed = list(requests(path))
     stored = path.with_suffix(".answers").read_text().splitlines()
     text = "".join(line + "\n" for _, line in typed)
     begun = time.monotonic()

@@ -17,7 +17,7 @@ type Answer = (bool, Vec<u32>);
 fn main() -> ExitCode {
     let mut differences = 0;
     for file in std::env::args().skip(1) {
-        let sheet = match Sheet::read(Path::new(&file)) {
+        let sheet = match Sheet::load(Path::new(&file)) {
             Ok(sheet) => sheet,
             Err(message) => {
                 eprintln!("{message}");

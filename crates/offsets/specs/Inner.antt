@@ -1,6 +1,5 @@
 -- What the functions within the crate promise each other.
 --   Records, Plan         what of a register the ties are judged by; how the passes go
---   SizeIn ws n           what `size_in` promises: n is the size of the register whose words are ws
 --   OpenNumber ws k       what `open_number` promises: 0 for the words of a register, else 16
 --   isWithdrawnIn ws k    whether a record is withdrawn, by its mark among the words
 --   sooner a b            of two numbers of causes the one that is looked for first: 2 before 18 before 19; 0 is none
@@ -18,16 +17,16 @@
 use mathlib.Core.Path.{_≡_}
 use mathlib.Core.List.{List, [], _∷_, _++_}
 use mathlib.Core.Bool.{Bool, true, false, _||_}
-use Prim.Native.Nat.{ℕ, zero, suc, _+_, _*_, _≤_, _<_}
+use Prim.Native.Nat.{ℕ, zero, suc, _*_, _≤_, _<_}
 use lib.Dec.{leb, ltb, eqb}
 use lib.IntN.{ℤ}
-use lib.ListN.{length, drop, getD}
+use lib.ListN.{length, drop}
 use Rattle.book.specs.Basics.{pick}
 use Rattle.book.specs.Causes.{no-record, withdrawn-record, bad-tie, short-work, short-list, not-open, number, firstNumber, maxRecords}
 use Rattle.answers.specs.Answers.{counted, Contained}
-use Rattle.register.specs.Marks.{freeMark, withdrawnMark}
-use Rattle.register.specs.Questions.{Sized}
-use Rattle.register.specs.Words.{marksAt, Keeps, Foreign}
+use Rattle.register.specs.Inner.{markIn}
+use Rattle.register.specs.Marks.{withdrawnMark}
+use Rattle.register.specs.Words.{Keeps, Foreign}
 use Rattle.register.specs.declared.Register.{Register}
 use Rattle.offsets.specs.declared.Tie.{Tie}
 use Rattle.offsets.specs.Answers.{OffsetsAnswer, Limits, CannotHold, Refused, toldOffsets, maxTies, outside, offsetsWork, OffsetsFor, offsetsCounted}
@@ -45,16 +44,12 @@ pub record Plan : Type 0 where
   pub cause : ℕ
   pub rounds : ℕ
 
-pub record SizeIn (ws : List ℕ) (n : ℕ) : Type 0 where
-  pub small : n ≤ maxRecords
-  pub kept : (r : Register) → Keeps ws r → Sized r n
-
 pub record OpenNumber (ws : List ℕ) (k : ℕ) : Type 0 where
   pub kept : (r : Register) → Keeps ws r → k ≡ 0
   pub foreign : Foreign ws → k ≡ number not-open
 
 unfoldable pub isWithdrawnIn : List ℕ → ℕ → Bool
-isWithdrawnIn ws k = pick (ltb k maxRecords) (eqb (getD ws (marksAt + k) freeMark) withdrawnMark) false
+isWithdrawnIn ws k = eqb (markIn ws k) withdrawnMark
 
 unfoldable pub sooner : ℕ → ℕ → ℕ
 sooner zero b = b

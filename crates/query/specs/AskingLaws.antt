@@ -6,12 +6,13 @@
 --                   the outcome of a pair question by either engine: the verdict's number; 12; how many pairs there are, and the first of them
 --   asks-faulty, asks-short, asks-pairs
 --                   so it promises of any register
+--   tells-same      equal outcomes are told alike
 --   engines-outcome with both works enough both engines have the same outcome
 --   engines-same    asked of a register that represents a book, with both works enough: both give the same answer and the same list
 --   relation-refused, relation-short, relation-few, relation-paired
 --                   the outcome of the relation as rows: the verdict's number; 12 for the work or for the rows; how many pairs there are
---   relates-refused, relates-made
---                   so it is promised: refused, or the rows made
+--   relates-faulty, relates-short, relates-few, relates-made
+--                   so it promises of any register: refused, or the rows made
 --   handed-tells    what is handed over is told by its outcome
 --   whole-contained what is handed over whole is contained in its list
 -- Assumes nothing.
@@ -112,6 +113,12 @@ module _ (d : Engine) (r : Register) (work : ℕ) (before : List ℕ) where
         ∙ ap (λ (x : List ℕ). paired (length x) (take (length before) x)) (sym (value b R))))
 
 -- ---- both engines
+-- equal outcomes are told alike
+pub tells-same : {o o′ : Outcome} {before after after′ : List ℕ} {a a′ : Counted} → o ≡ o′ → Tells o before after a → Tells o′ before after′ a′
+    → (a ≡ a′) × (after ≡ after′)
+tells-same {before = before} e t t′ =
+    (t .answer ∙ ap countOf e ∙ sym (t′ .answer), t .list ∙ ap (λ (x : Outcome). listAfter x before) e ∙ sym (t′ .list))
+
 module _ (d d′ : Engine) (b : Book) (work work′ : ℕ) (h : workFor d (b .n) ≤ work) (h′ : workFor d′ (b .n) ≤ work′) where
   pub engines-outcome : (v : Verdict) (room : ℕ) → pairsAnswer d b v work room ≡ pairsAnswer d′ b v work′ room
   unfolding pairsAnswer pairsCauses verdictCause
@@ -119,15 +126,11 @@ module _ (d d′ : Engine) (b : Book) (work work′ : ℕ) (h : workFor d (b .n)
 
   pub engines-same : (r : Register) (v : Verdict) (before after after′ : List ℕ) (a a′ : Counted) → Represents r b
       → AsksFor d r v work before after a → AsksFor d′ r v work′ before after′ a′ → (a ≡ a′) × (after ≡ after′)
-  engines-same r v before after after′ a a′ R A A′ =
-      let o = engines-outcome v (length before) in
-      let t = A .book b R in
-      let t′ = A′ .book b R in
-      (t .answer ∙ ap countOf o ∙ sym (t′ .answer), t .list ∙ ap (λ (x : Outcome). listAfter x before) o ∙ sym (t′ .list))
+  engines-same r v before after after′ a a′ R A A′ = tells-same (engines-outcome v (length before)) (A .book b R) (A′ .book b R)
 
 -- ---- the relation as rows
 module _ (b : Book) (work rows : ℕ) where
-  pub relation-refused : (v : Verdict) (k : ℕ) → readAnswer v ≡ Faulty k → relationAnswer b v work rows ≡ refused k
+  relation-refused : (v : Verdict) (k : ℕ) → readAnswer v ≡ Faulty k → relationAnswer b v work rows ≡ refused k
   unfolding relationAnswer relationCauses verdictCause firstNumber number readAnswer
   relation-refused (accepted e) k q = absurd (let z : _≡_ {A = ℕ} 0 1 = cc in omega arith)
   relation-refused long k q = let z : 10 ≡ k = cc in ap refused z
@@ -139,7 +142,7 @@ module _ (b : Book) (work rows : ℕ) where
   relation-short e h = rw (lt-ltb work (pairsWork (b .n)) h)
 
   module _ (e : Expr) (h : pairsWork (b .n) ≤ work) where
-    pub relation-few : rows < rowWords → relationAnswer b (accepted e) work rows ≡ refused 12
+    relation-few : rows < rowWords → relationAnswer b (accepted e) work rows ≡ refused 12
     unfolding relationAnswer relationCauses verdictCause firstNumber number
     relation-few l = rw (le-ltb work (pairsWork (b .n)) h, lt-ltb rows rowWords l)
 
@@ -151,13 +154,29 @@ accepted-same : {e f : Expr} → accepted e ≡ accepted f → e ≡ f
 accepted-same e = cc
 
 module _ (r : Register) (v : Verdict) (work : ℕ) (before : List ℕ) where
-  pub relates-refused : (k : ℕ) → Caused k → ((b : Book) → Represents r b → relationAnswer b v work (length before) ≡ refused k)
+  relates-refused : (k : ℕ) → Caused k → ((b : Book) → Represents r b → relationAnswer b v work (length before) ≡ refused k)
       → RelatesFor r v work before before (Refused k)
   unfolding countOf
   relates-refused k z f = record {
     contained = contained-refused maxPairs rowWords before before k z refl;
     book = λ b R. record { answer = ap countOf (sym (f b R)); rows = λ e s i q. absurd (let y : _≡_ {A = ℕ} 0 1 = cc in omega arith) };
   }
+
+  pub relates-faulty : (k : ℕ) → readAnswer v ≡ Faulty k → RelatesFor r v work before before (Refused k)
+  relates-faulty k e = relates-refused k (faulty-caused v k e) (λ b R. relation-refused b work (length before) v k e)
+
+  module _ (e : Expr) (is : v ≡ accepted e) (n : ℕ) (size : (b : Book) → Represents r b → n ≡ b .n) where
+    pub relates-short : work < pairsWork n → RelatesFor r v work before before (Refused 12)
+    unfolding number
+    relates-short h =
+        relates-refused 12 (short-work, refl) (λ b R. ap (λ (w : Verdict). relationAnswer b w work (length before)) is
+        ∙ relation-short b work (length before) e (subst (λ (i : ℕ). work < pairsWork i) (size b R) h))
+
+    pub relates-few : pairsWork n ≤ work → length before < rowWords → RelatesFor r v work before before (Refused 12)
+    unfolding number
+    relates-few h l =
+        relates-refused 12 (short-work, refl) (λ b R. ap (λ (w : Verdict). relationAnswer b w work (length before)) is
+        ∙ relation-few b work (length before) e (subst (λ (i : ℕ). pairsWork i ≤ work) (size b R) h) l)
 
   -- the rows of an expression, and how many pairs it has, in the first words of a list
   pub relates-made : (e : Expr) (n t : ℕ) (part : List ℕ) → v ≡ accepted e → ((b : Book) → Represents r b → n ≡ b .n)

@@ -76,11 +76,11 @@ pub fn put_answer(k: u32, out: &mut [u8], at: usize) -> usize
     put_refused(k, out, at)
 }
 
-pub fn put_total(t: u32, out: &mut [u8], at: usize) -> usize
+pub fn put_total(t: u64, out: &mut [u8], at: usize) -> usize
     requires { ⌜ at + 27 ≤ length (now out) ⌝ }
     ensures { λ r. ⌜ Wrote at (totalText 0 t) (now (out .entry)) (now (out .exit)) r ⌝ }
 {
-    put_counted(b"total ", t as u64, out, at)
+    put_counted(b"total ", t, out, at)
 }
 
 fn put_pair(w: u32, out: &mut [u8], at: usize) -> usize

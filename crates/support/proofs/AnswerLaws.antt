@@ -191,13 +191,12 @@ module _ (b : Book) (core : ℕ) (v : Verdict) (anchors : List ℕ) (work whole 
 -- ---- refusals
 book-refused : {b : Book} {core : ℕ} {v : Verdict} {anchors : List ℕ} {work k : ℕ} {before : List ℕ} → 0 < k
     → supportNumber b core v anchors work (length before) ≡ k → Tells (supportOutcome b core v anchors work (length before)) before before (Refused k)
-unfolding supportOutcome
+unfolding supportOutcome countOf listAfter
 book-refused {k = zero} h e = absurd (omega arith)
 book-refused {b} {core} {v} {anchors} {k = suc k} {before} h e =
     subst (λ (i : ℕ). Tells (unless i (paired (length (fallenOf b v core anchors)) (fallenOf b v core anchors))) before before (Refused (suc k))) (sym e) told
   where
     told : Tells (refused (suc k)) before before (Refused (suc k))
-    unfolding countOf listAfter
     told = record { answer = refl; list = refl }
 
 module _ {r : Register} (core : ℕ) {n : ℕ} (v : Verdict) (anchors : List ℕ) (work : ℕ) {before : List ℕ} (size : (b : Book) → Represents r b → n ≡ b .n) where

@@ -20,9 +20,18 @@ function of it is proved to meet its contract; this package lends it memory and 
     refused 5: the link is there already
 
 Expressions, from loosest to closest: `|` between alternatives; `/` between the parts of a sequence;
-a part is an optional `^` (inverse), then a letter, a negated set (`!a`, `!^a`, `!(a|^b)`: any
-letter but those) or a group in parentheses, then at most one of `*`, `+`, `?`. At most 256 bytes,
-63 letters, groups 8 deep; no spaces.
+a part is an optional `^` (inverse), then a letter, a negated set (`!a`, `!^a`, `!(a|^b)`) or a
+group in parentheses, then at most one of `*`, `+`, `?`. At most 256 bytes, 63 letters, groups 8
+deep; no spaces.
+
+A negated set with plain members crosses forward any link whose letter is none of them; one with
+`^` members crosses against its sense any link whose letter is none of those; one with both does
+either. To keep off `a` and `b` in both senses, write `!(a|b|^a|^b)`.
+
+    >>> list(register.pairs("!(a|^b)"))
+    [(1, 0), (1, 2)]
+    >>> list(register.pairs("!(a|b|^a|^b)"))
+    []
 
 `Register`                 edits, undo, drafts, both questions, previews, explanations,
                            generations, sole support, pages, offsets
