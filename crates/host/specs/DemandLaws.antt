@@ -8,7 +8,7 @@ use mathlib.Core.List.{List}
 use Prim.Native.Nat.{ℕ, suc, _+_, _≤_, _<_}
 use native.Mathlib.Omega.{arith}
 use lib.ListN.{length, take}
-use Rattle.book.specs.Basics.{In, here, there, Rises, ended, rises}
+use Rattle.book.specs.Basics.{bit, In, here, there, Rises, ended, rises}
 use Rattle.book.specs.Causes.{maxRecords}
 use Rattle.book.specs.Book.{Book, Call, fresh, after}
 use Rattle.answers.specs.Answers.{counted, answered, overUnless, FirstPart}
@@ -45,14 +45,16 @@ exported-demand-3 i K =
     let l = K .links .answers r w in
     let p = K .pairs .answers r w in
     let c = K .chain .answers r w in
+    let x = K .locked .kept r w in
+    let y = K .withdrawn .kept r w in
     record {
       answers = m .0;
       givens = m .1;
       around = calls-past (K .calls) ∙ K .opens .past;
-      size = K .size .size r w .size b R;
+      size = K .size .kept r w .size b R;
       links = links-told b (i .links) (i .count) (take (l .1 .0 .count) (l .1 .0 .words)) (l .0) (l .1 .1 .linked b R) (l .1 .2) (l .2);
-      locked = K .locked .locked b (m .2);
-      withdrawn = K .withdrawn .withdrawn b (m .2);
+      locked = x .2 ∙ ap bit (x .1 .locked b R);
+      withdrawn = y .2 ∙ ap bit (y .1 .withdrawn b R);
       total = total-book (K .total) b (m .2);
       pairs = (p .0, pairs-claim R (pairsHeard (i .engine) (i .pairs) (p .0)) (p .1), p .2);
       chain = (c .0, (c .1 .contained .fits, chain-claim R (chainHeard (i .from) (i .to) (i .chain) (c .0)) (c .1)), c .2);

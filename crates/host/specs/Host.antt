@@ -24,19 +24,19 @@
 use mathlib.Core.Path.{_≡_}
 use mathlib.Core.List.{List, [], _∷_}
 use mathlib.Core.Bool.{_||_}
-use Prim.Native.Nat.{ℕ, _≤_}
+use Prim.Native.Nat.{ℕ}
 use lib.ListN.{length, take, drop}
 use lib.Dec.{ltb}
 use Rattle.book.specs.Basics.{bit}
 use Rattle.book.specs.Causes.{bad-size, short-work, not-open, number, firstNumber, maxRecords}
-use Rattle.book.specs.Book.{Book, Call, isLocked, isWithdrawn, fresh}
+use Rattle.book.specs.Book.{Book, Call, fresh}
 use Rattle.answers.specs.Answers.{FirstPart}
 pub use Rattle.answers.specs.Answers.{pastCounts, refusal, toldCounted}
 use Rattle.answers.specs.declared.Counted.{Counted}
 use Rattle.register.specs.Representation.{Represents}
 use Rattle.register.specs.Calls.{answerNumber, Steps}
-use Rattle.register.specs.Questions.{Sized, Listing, Totals}
-use Rattle.register.specs.Words.{stateWords, Keeps, Foreign}
+use Rattle.register.specs.Questions.{Sized, Listing, Locking, Withdrawal, Totals}
+use Rattle.register.specs.Words.{stateWords, Keeps, Foreign, OfWords}
 use Rattle.register.specs.declared.Register.{Register}
 use Rattle.register.specs.declared.Outcome.{Outcome}
 use Rattle.register.specs.declared.Links.{Links}
@@ -76,20 +76,15 @@ pub record Asked {A : Type 0} (ws : List ℕ) (P : Register → A → Type 0) (f
 abbrev pub Lists : List ℕ → List ℕ → Register → Counted → Type 0
 Lists before after r a = (ls : Links) × Listing r ls × FirstPart (take (ls .count) (ls .words)) before after a
 
-pub record Sizes (ws : List ℕ) (k : ℕ) : Type 0 where
-  pub size : (r : Register) → Keeps ws r → Sized r k
-  pub foreign : Foreign ws → k ≡ 0
+abbrev pub Sizes : List ℕ → ℕ → Type 0
+Sizes ws k = OfWords ws Sized 0 k
 
-pub record TellsLock (ws : List ℕ) (x k : ℕ) : Type 0 where
-  pub small : k ≤ 1
-  pub locked : (b : Book) → KeepsBook ws b → k ≡ bit (isLocked (b .sheet) x)
-  pub foreign : Foreign ws → k ≡ 0
+-- by 1 or 0
+abbrev pub TellsLock : List ℕ → ℕ → ℕ → Type 0
+TellsLock ws x k = OfWords ws (λ r. Told (Locking r x) bit) 0 k
 
-pub record TellsWithdrawn (ws : List ℕ) (x k : ℕ) : Type 0 where
-  pub small : k ≤ 1
-  pub withdrawn : (b : Book) → KeepsBook ws b → k ≡ bit (isWithdrawn (b .sheet) x)
-  pub foreign : Foreign ws → k ≡ 0
+abbrev pub TellsWithdrawn : List ℕ → ℕ → ℕ → Type 0
+TellsWithdrawn ws x k = OfWords ws (λ r. Told (Withdrawal r x) bit) 0 k
 
-pub record TellsTotal (ws : List ℕ) (l k : ℕ) : Type 0 where
-  pub total : (r : Register) → Keeps ws r → Told (Totals r l) toldCounted k
-  pub foreign : Foreign ws → k ≡ refusal (number not-open)
+abbrev pub TellsTotal : List ℕ → ℕ → ℕ → Type 0
+TellsTotal ws l k = OfWords ws (λ r. Told (Totals r l) toldCounted) (refusal (number not-open)) k

@@ -74,7 +74,7 @@ module _ {ws before after′ : List ℕ} {k : ℕ} where
   chain-book x y text work q b h = let t = q .answers (h .0) (h .1) in (t .0, t .1 .answers b (h .2), t .2)
 
 pub total-book : {ws : List ℕ} {l k : ℕ} → TellsTotal ws l k → (b : Book) → KeepsBook ws b → k ≡ toldCounted (totalAnswer (b .sheet) l)
-total-book q b h = let t = q .total (h .0) (h .1) in t .2 ∙ ap toldCounted (t .1 .told b (h .2))
+total-book q b h = let t = q .kept (h .0) (h .1) in t .2 ∙ ap toldCounted (t .1 .told b (h .2))
 
 pub count-told : (a : Counted) (k : ℕ) → toldCounted a ≡ k → k < 2 * pastCounts → a ≡ Count k
 count-told (Count j) k e l = ap Count e

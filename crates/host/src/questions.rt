@@ -1,11 +1,9 @@
-// What is read of a register that the caller keeps as words, and both questions.
-ghost use mathlib.Core.Path.{_≡_};
-ghost use Prim.Native.Nat.{_≤_};
-ghost use lib.ListN.{length, take};
+// What is told by one number of a register that the caller keeps as words, and both questions.
+ghost use lib.ListN.{length};
 ghost use Rattle.query.specs.Asking.{AsksPairs};
 ghost use Rattle.chains.specs.Replies.{Replies};
 ghost use Rattle.ends.specs.Asking.{AsksEnds, AsksStarts};
-ghost use Rattle.host.specs.Host.{toldCounted, toldChain, Asked, Lists, Sizes, TellsLock, TellsWithdrawn, TellsTotal};
+ghost use Rattle.host.specs.Host.{toldCounted, toldChain, Asked, Sizes, TellsLock, TellsWithdrawn, TellsTotal};
 use crate::told::told_chain;
 use answers::told;
 use answers::told_refusal;
@@ -16,46 +14,7 @@ use register::Register;
 pub extern "C" fn dating_size(state: &[u32]) -> u32
     ensures { λ k. ⌜ Sizes (now (state .entry)) k ⌝ }
 {
-    let loaded = Register::load(state);
-    let answer = loaded.answer;
-    if register::number_of(answer) != 0 {
-        return 0;
-    }
-    let register = loaded.register;
-    let n = engine::size(register);
-    if book::MAX_RECORDS < n {
-        return 0;
-    }
-    n as u32
-}
-
-// How many of some words a list of so many takes.
-pub fn fitting(words: &[u32], room: usize) -> usize
-    ensures { λ r. ⌜ (r ≤ length (now (words .entry))) × (r ≤ room) × (take r (now (words .entry)) ≡ take room (now (words .entry))) ⌝ }
-{
-    if room < words.len() {
-        return room;
-    }
-    words.len()
-}
-
-// The links' words, ascending, as many as the list takes; how many they are in all.
-#[no_mangle]
-pub extern "C" fn dating_links(state: &[u32], list: &mut [u32]) -> u64
-    ensures { λ k. ⌜ Asked (now (state .entry)) (Lists (now (list .entry)) (now (list .exit))) toldCounted (now (list .entry)) (now (list .exit)) k ⌝ }
-{
-    let loaded = Register::load(state);
-    let answer = loaded.answer;
-    if register::number_of(answer) != 0 {
-        return told_refusal(book::NOT_OPEN);
-    }
-    let register = loaded.register;
-    let links = engine::links(register);
-    let count = links.count;
-    let words = links.words;
-    let first = fitting(&words[..count], list.len());
-    register::copy(&words[..first], list, 0);
-    count as u64
+    register::size_in(state) as u32
 }
 
 // Whether a record is locked: 1 or 0; 0 if the words are no register's.
@@ -63,13 +22,7 @@ pub extern "C" fn dating_links(state: &[u32], list: &mut [u32]) -> u64
 pub extern "C" fn dating_locked(state: &[u32], record: u16) -> u32
     ensures { λ k. ⌜ TellsLock (now (state .entry)) «record» k ⌝ }
 {
-    let loaded = Register::load(state);
-    let answer = loaded.answer;
-    if register::number_of(answer) != 0 {
-        return 0;
-    }
-    let register = loaded.register;
-    engine::is_locked(register, record) as u32
+    register::has_mark(state, record, register::LOCK_MARK) as u32
 }
 
 // Whether a record is withdrawn: 1 or 0; 0 if the words are no register's.
@@ -77,13 +30,7 @@ pub extern "C" fn dating_locked(state: &[u32], record: u16) -> u32
 pub extern "C" fn dating_withdrawn(state: &[u32], record: u16) -> u32
     ensures { λ k. ⌜ TellsWithdrawn (now (state .entry)) «record» k ⌝ }
 {
-    let loaded = Register::load(state);
-    let answer = loaded.answer;
-    if register::number_of(answer) != 0 {
-        return 0;
-    }
-    let register = loaded.register;
-    engine::is_withdrawn(register, record) as u32
+    register::has_mark(state, record, register::WITHDRAWN_MARK) as u32
 }
 
 // The number of links of a label.
@@ -91,13 +38,7 @@ pub extern "C" fn dating_withdrawn(state: &[u32], record: u16) -> u32
 pub extern "C" fn dating_total(state: &[u32], label: u8) -> u64
     ensures { λ k. ⌜ TellsTotal (now (state .entry)) label k ⌝ }
 {
-    let loaded = Register::load(state);
-    let answer = loaded.answer;
-    if register::number_of(answer) != 0 {
-        return told_refusal(book::NOT_OPEN);
-    }
-    let register = loaded.register;
-    told(engine::total(register, label))
+    told(register::total_in(state, label))
 }
 
 // The pairs that have a chain, ascending, each once, as many as the list takes; how many they are in all.
