@@ -29,10 +29,10 @@ use lib.ListN.{length, take, drop}
 use lib.Dec.{ltb}
 use Rattle.book.specs.Basics.{bit}
 use Rattle.book.specs.Causes.{bad-size, short-work, not-open, number, firstNumber, maxRecords}
+use Rattle.book.specs.Book.{Book, Call, fresh}
 use Rattle.answers.specs.Answers.{FirstPart}
 pub use Rattle.answers.specs.Answers.{pastCounts, refusal, toldCounted}
 use Rattle.answers.specs.declared.Counted.{Counted}
-use Rattle.book.specs.Book.{Book, Call, fresh}
 use Rattle.register.specs.Representation.{Represents}
 use Rattle.register.specs.Calls.{answerNumber, Steps}
 use Rattle.register.specs.Questions.{Sized, Listing, Locking, Withdrawal, Totals}

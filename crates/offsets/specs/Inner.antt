@@ -22,8 +22,8 @@ use lib.Dec.{leb, ltb, eqb}
 use lib.IntN.{ℤ}
 use lib.ListN.{length, drop}
 use Rattle.book.specs.Basics.{pick}
+use Rattle.book.specs.Causes.{no-record, withdrawn-record, bad-tie, short-work, short-list, not-open, number, firstNumber, maxRecords}
 use Rattle.answers.specs.Answers.{counted, Contained}
-use Rattle.book.specs.Causes.{no-record, withdrawn-record, bad-tie, short-work, short-list, not-open, number, Caused, firstNumber, maxRecords}
 use Rattle.register.specs.Inner.{markIn}
 use Rattle.register.specs.Marks.{withdrawnMark}
 use Rattle.register.specs.Words.{Keeps, Foreign}

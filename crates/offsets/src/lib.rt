@@ -20,11 +20,6 @@ const MIN_RINGS: i32 = -20000;
 
 const WORK_WORDS: usize = 64;
 
-// What is told in place of a count: that no placing meets all ties, and, with the number of its cause added, a refusal.
-const CANNOT_HOLD: u64 = 4294967296;
-
-const REFUSAL: u64 = 8589934592;
-
 // A number from LOW to below FAR is a distance; any other one stands for "not known".
 const FAR: i64 = 4611686018427387904;
 
