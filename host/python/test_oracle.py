@@ -7,6 +7,7 @@ are not counted.
 
 from __future__ import annotations
 
+import os
 import random
 import subprocess
 import unittest
@@ -18,9 +19,12 @@ from dating import Cause, Edit, Pairs, Refusal, Register, Steps, sheets
 ROOT = Path(__file__).resolve().parents[2]
 ORACLE = ROOT / "target/oracle/release"
 
-# Each is seed and frames. One of 5,000 frames or more fills a register.
+# Each is seed and frames. One of 5,000 frames or more fills a register. If SEED is in the environment, others from it on in their place.
 SESSIONS = [(101, 1500), (102, 1500), (103, 1500), (104, 1500), (105, 1500), (106, 6000)]
-PREVIEWS = range(201, 231)
+PREVIEWS = [*range(201, 231)]
+if "SEED" in os.environ:
+    SESSIONS = [(int(os.environ["SEED"]), 1500), (int(os.environ["SEED"]) + 1, 6000)]
+    PREVIEWS = [*range(int(os.environ["SEED"]), int(os.environ["SEED"]) + 10)]
 
 
 def run(program: str, given: bytes = b"", *arguments: object) -> bytes:

@@ -3,6 +3,7 @@
 from __future__ import annotations
 
 import copy
+import os
 import pickle
 import random
 import threading
@@ -129,7 +130,7 @@ class Registers(unittest.TestCase):
 
     def test_damaged_words(self) -> None:
         """Over words that no register had every call ends, and answers or refuses."""
-        chance = random.Random(5)
+        chance = random.Random(int(os.environ.get("SEED", 5)))
         words = made(8, "0a1 1a2 2b0 3c4").words()
         for _ in range(200):
             damaged = words[:]
@@ -209,7 +210,7 @@ class Calls(unittest.TestCase):
 
     def test_sole_support(self) -> None:
         """Against its meaning by pair questions."""
-        chance = random.Random(11)
+        chance = random.Random(int(os.environ.get("SEED", 11)))
         fallen = 0
         for _ in range(300):
             n = chance.randrange(1, 9)
@@ -260,7 +261,7 @@ class Calls(unittest.TestCase):
 
     def test_trees(self) -> None:
         """The algebra against Python's sets."""
-        chance = random.Random(7)
+        chance = random.Random(int(os.environ.get("SEED", 7)))
         for n in [1, 2, 3, 5, 16, 33]:
             some = lambda: {(chance.randrange(n), chance.randrange(n)) for _ in range(chance.randrange(2 * n + 1))}  # noqa: E731
             a, b = some(), some()

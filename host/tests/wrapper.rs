@@ -1,6 +1,7 @@
 //! The wrapper over the engine: the cases of S8.1 through ordinary types, and what is refused.
 
-use dating::{Link, Refusal, Register, Sense, Tree, Trees};
+use dating::{Edit, Link, Refusal, Register, Sense, Tree, Trees};
+use std::error::Error;
 
 /// The links of the cases of S8.1.
 fn cases() -> Result<Register, Refusal> {
@@ -180,4 +181,21 @@ fn questions_at_once() {
             });
         }
     });
+}
+
+/// Each kind of edit as text, and each made by `apply` and taken back; a refused list tells why by its source too.
+#[test]
+fn every_kind_of_edit() {
+    let link = Link { from: 0, letter: 'a', to: 1 };
+    let edits = [Edit::Remove(link), Edit::Add(link), Edit::Lock(3), Edit::Unlock(3), Edit::Withdraw(3), Edit::Reinstate(3), Edit::Undo];
+    let texts = ["remove 0 a 1", "add 0 a 1", "lock 3", "unlock 3", "withdraw 3", "reinstate 3", "undo"];
+    let mut register = cases().unwrap();
+    for (edit, text) in edits.into_iter().zip(texts) {
+        assert_eq!(edit.to_string(), text);
+        register.apply(&edit).unwrap();
+    }
+    assert!(register.is_withdrawn(3));
+    let refused = register.apply_all(&[Edit::Reinstate(3), Edit::Reinstate(3)]).unwrap_err();
+    assert_eq!((refused.place, refused.source().unwrap().to_string()), (1, refused.refusal.to_string()));
+    assert_eq!(format!("{register:?}"), "Register { size: 4, .. }");
 }

@@ -350,7 +350,7 @@ class Safe(Page):
             ("Content-Length: 99999999999\r\n\r\n", b"413"),
         ):
             self.assertIn(status, self.raw((head + more).encode()).split(b"\r\n")[0], more)
-        chance = random.Random(44)
+        chance = random.Random(int(os.environ.get("SEED", 44)))
         for _ in range(40):
             self.raw(bytes(chance.randrange(256) for _ in range(chance.randrange(1, 400))) + b"\r\n\r\n")
         for _ in range(60):
@@ -467,7 +467,7 @@ class Killed(unittest.TestCase):
         """Killed while it saves: every save that was answered is in the history, each once and in order, and at most one more for each time."""
         folder = Folder()
         self.addCleanup(folder.cleanup)
-        chance = random.Random(7)
+        chance = random.Random(int(os.environ.get("SEED", 7)))
         answered, rounds = [], 20
         links = iter([f"add {a} {letter} {b}" for letter in "bcdefgh" for a in range(1, 9) for b in range(1, 9)])
         for turn in range(rounds):

@@ -1,6 +1,6 @@
 #!/usr/bin/env python3
 """anything.py [LINES]: lines of any kind, from requests half right to bytes at random, get an answer in words, and none changes what it should not: after each
-line that is refused, fails or is no request the register is as it was."""
+line that is refused, fails or is no request the register is as it was. Half of them are of a fixed seed, and half of SEED, if it is in the environment."""
 import os
 import random
 import sys
@@ -38,7 +38,7 @@ def key(register):
 
 
 def main():
-    rng = random.Random(17)
+    rng, drawn = random.Random(17), random.Random(int(os.environ.get("SEED", 18)))
     os.chdir(tempfile.mkdtemp())
     with open("links.csv", "w") as file:
         file.write("from,letter,to\n0,a,1\n1,b,2\nx,y,z\n")
@@ -46,7 +46,7 @@ def main():
     session = Session(Kept(), said.append)
     counts = {"done": 0, "failed": 0, "silent": 0}
     for place in range(int(sys.argv[1]) if sys.argv[1:] else LINES):
-        text = line(rng)
+        text = line(drawn if place % 2 else rng)
         if place % 100 == 0:
             text = "open 5"
         session.mode = "text"

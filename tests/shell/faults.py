@@ -26,6 +26,7 @@ from dating.history import HEAD
 from dating.shell.main import main as command
 
 ROUNDS = 2000
+SEED = int(os.environ.get("SEED", 7))  # of what is edited, and when it is killed
 ROUNDS_A_FILE = 100
 ACCEPTED = 3  # calls, at most, before a process is killed
 TIMED = 1500  # microseconds, at most, after them
@@ -118,7 +119,7 @@ def waited(reader, calls):
 
 
 def killed(folder, rounds):
-    rng = random.Random(7)
+    rng = random.Random(SEED)
     accepted = cut = in_flight = 0
     path = ""
     for round in range(rounds):
@@ -129,7 +130,7 @@ def killed(folder, rounds):
         child = os.fork()
         if child == 0:
             try:
-                editor(path, round, writer)
+                editor(path, SEED + round, writer)
             except BaseException as error:
                 print(f"faults.py: {type(error).__name__}: {error}", file=sys.stderr, flush=True)
             os._exit(3)

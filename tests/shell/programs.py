@@ -1,6 +1,7 @@
 #!/usr/bin/env python3
 """programs.py SHELL LINES DATING SESSION ..: what the shell says is what the programs print, for the requests that they know: each typed SESSION, and
 random ones, made here, with faulty expressions and records that are not there. The shell's words are read back into the programs' lines."""
+import os
 import random
 import re
 import subprocess
@@ -8,7 +9,7 @@ import sys
 
 import answers
 
-SEEDS = range(1, 9)
+SEEDS = [*range(1, 9), *([int(os.environ["SEED"])] if "SEED" in os.environ else [])]
 REQUESTS = 1500  # of each random session
 WORDS = ["add"] * 8 + ["remove"] * 3 + ["undo", "pairs", "chain"] * 2 + ["lock", "unlock", "withdraw", "reinstate", "total"]  # by how often they come
 REFUSED = re.compile(r"line \d+, .*: refused (\d+): .*")

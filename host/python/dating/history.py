@@ -34,6 +34,8 @@ _CHECK = 9
 _KINDS = {word.encode(): kind << 40 for word, kind in KINDS.items()}
 _LETTERS = {bytes([ord("a") + label]): label << 16 for label in range(26)}
 _MOST = 65535
+# The most bytes of a call, which are far more than any has that is written.
+_LONGEST = 100
 _STAMP = "%Y-%m-%dT%H:%M:%SZ"
 # The most of a line that is shown.
 _SHOWN = 100
@@ -134,7 +136,7 @@ class _Replay:
             self.call(line, call)
 
     def call(self, line: bytes, call: bytes) -> None:
-        words = call.split(b" ")
+        words = call.split(b" ") if len(call) <= _LONGEST else []
         if len(words) == 4 and words[0] in (b"add", b"remove") and words[1].isdigit() and words[3].isdigit() and words[2] in _LETTERS:
             self.edit(line, _KINDS[words[0]] | min(int(words[1]), _MOST) << 24 | _LETTERS[words[2]] | min(int(words[3]), _MOST))
         elif len(words) == 2 and words[1].isdigit() and words[0] in (b"lock", b"unlock", b"withdraw", b"reinstate"):

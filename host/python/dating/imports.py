@@ -12,6 +12,7 @@ from .refusal import Refusal
 from .register import Register
 from .sheets import Fault
 from .terms import Edit
+from .texts import is_figures, number_of
 
 COLUMNS = ("from", "letter", "to")
 # What heads call these columns.
@@ -98,9 +99,9 @@ def _places(cells: list[str], columns: dict[str, str], names: Names) -> tuple[di
     is_head = False
     for column in COLUMNS:
         wish = columns.get(column, "")
-        if wish.isdigit():
-            places[column] = int(wish) - 1
-            if not 1 <= int(wish) <= len(cells):
+        if is_figures(wish):
+            places[column] = number_of(wish) - 1
+            if not 1 <= number_of(wish) <= len(cells):
                 raise NoImport(f"column {wish} is not there: the first row has {len(cells)}")
         elif wish:
             if wish.lower() not in heads:
@@ -114,11 +115,7 @@ def _places(cells: list[str], columns: dict[str, str], names: Names) -> tuple[di
         raise NoImport(f"the column {missing[0]} is not named: the first row has {', '.join(cells)}; type {missing[0]}=NAME or {missing[0]}=PLACE")
     # Columns by place may stand under a head all the same.
     cell = cells[places["from"]]
-    return places, is_head or not (_figures(cell) or names.number(cell) is not None)
-
-
-def _figures(cell: str) -> bool:
-    return cell.isascii() and cell.isdigit()
+    return places, is_head or not (is_figures(cell) or names.number(cell) is not None)
 
 
 def _link(cells: list[str], places: dict[str, int], names: Names) -> Edit | str:
@@ -128,7 +125,7 @@ def _link(cells: list[str], places: dict[str, int], names: Names) -> Edit | str:
         return f"the row has {len(cells)} values, and {most + 1} are wanted"
     for column in ("from", "to"):
         cell = cells[places[column]]
-        number = int(cell) if _figures(cell) else names.number(cell)
+        number = number_of(cell) if is_figures(cell) else names.number(cell)
         if number is None:
             return f"{column} is a record's number{' or name' if names else ''}, not {cell!r}"
         found[column] = number

@@ -15,7 +15,7 @@ from .files import because, named, whole
 from .sheets import Fault
 from .texts import shown
 
-_LINE = re.compile(r"(\d{1,9}|[a-z])[ \t]+(\S.*?)[ \t]*")
+_LINE = re.compile(r"([0-9]{1,9}|[a-z])[ \t]+(\S.*?)[ \t]*")
 _LONGEST = 60
 
 

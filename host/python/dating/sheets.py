@@ -20,8 +20,8 @@ from .terms import KINDS, Edit
 
 FORMAT = "# sheet of a dating register, version"
 VERSION = 1
-_LINK = re.compile(r"(add) (\d{1,9}) ([a-z]) (\d{1,9})")
-_RECORD = re.compile(r"(lock|withdraw) (\d{1,9})")
+_LINK = re.compile(r"(add) ([0-9]{1,9}) ([a-z]) ([0-9]{1,9})")
+_RECORD = re.compile(r"(lock|withdraw) ([0-9]{1,9})")
 
 
 class Fault(NamedTuple):
@@ -128,7 +128,7 @@ def read(written: str) -> Sheet:
 
 def _opened(number: int, line: str) -> Register:
     try:
-        if not re.fullmatch(r"open \d{1,9}", line):
+        if not re.fullmatch(r"open [0-9]{1,9}", line):
             raise NoSheet([Fault(number, line, "a sheet begins with open N")])
         return Register(int(line[5:]))
     except Refusal as refusal:

@@ -17,6 +17,17 @@ Named = Callable[[int], str]
 """How a record is shown: its number, with its name where there is one."""
 
 
+def is_figures(word: str) -> bool:
+    """Whether a word is a number as it is typed: figures from 0 to 9 alone."""
+    return word.isascii() and word.isdigit()
+
+
+def number_of(figures: str) -> int:
+    """The number of some figures; of more than twelve that count, one that is too large for all."""
+    some = figures.lstrip("0")
+    return int(some or "0") if len(some) <= 12 else 10**12
+
+
 def count(number: int, one: str) -> str:
     """How many there are.
 

@@ -1,8 +1,9 @@
-//! `differences [long | heap]`: the engine's exported calls against the oracle, and over damaged words. Every slice that is
-//! lent ends right before a page that may not be touched; with `heap`, which is for valgrind, each is a block of the heap,
-//! and there are few cases. Every case is made from its seed, and is the same in every run. Fails if there is a difference.
-//! All calls are made on a stack of 1 MB. With VERBOSE in the environment each case is named before it is run; SEED is the
-//! first seed of each kind.
+//! `differences [long | heap | quick | few]`: the engine's exported calls against the oracle, and over damaged words. Every
+//! slice that is lent ends right before a page that may not be touched; with `heap`, which is for valgrind, each is a block
+//! of the heap, and there are few cases; with `quick` there are a tenth as many, with `few` a sixtieth. Every case is made
+//! from its seed: those of seeds from 0 on are the same in every run, and if SEED is in the environment there are a tenth as
+//! many from it on. Fails if there is a difference. All calls are made on a stack of 1 MB. With VERBOSE in the environment
+//! each case is named before it is run.
 
 mod damage;
 mod engine;
@@ -72,19 +73,28 @@ fn run_all() -> ExitCode {
         [] => ("short", 0),
         ["long"] => ("long", 1),
         ["heap"] => ("heap", 2),
+        ["quick"] => ("quick", 0),
+        ["few"] => ("few", 0),
         _ => {
-            eprintln!("usage: differences [long | heap]");
+            eprintln!("usage: differences [long | heap | quick | few]");
             return ExitCode::from(2);
         }
     };
     let verbose = std::env::var_os("VERBOSE").is_some();
-    let first = std::env::var("SEED").map_or(0, |seed| seed.parse().expect("SEED is a number"));
+    let drawn: Option<u64> = std::env::var("SEED").ok().map(|seed| seed.parse().expect("SEED is a number"));
     let mut run = Run::new(name == "heap");
     let mut cases = 0;
     trees::sizes(&mut run);
     for &(kind, case, size, counts) in KINDS {
         let start = Instant::now();
-        for seed in first..first + counts[place] {
+        let count = match name {
+            "quick" => counts[place].div_ceil(10),
+            "few" => counts[place].div_ceil(60),
+            _ => counts[place],
+        };
+        let new = drawn.map_or(0..0, |seed| seed..seed.saturating_add(count.div_ceil(10)));
+        let made = count + new.end - new.start;
+        for seed in (0..count).chain(new) {
             run.case = format!("{kind}, seed {seed}");
             if verbose {
                 eprintln!("{}", run.case);
@@ -92,13 +102,13 @@ fn run_all() -> ExitCode {
             case(&mut run, seed, size);
             run.same("what every call keeps to", &(), &());
         }
-        cases += counts[place];
-        if counts[place] > 0 {
+        cases += made;
+        if made > 0 {
             println!(
                 "{kind} (n {} to {}): {} cases, {:.1} s",
                 size.0,
                 size.1,
-                counts[place],
+                made,
                 start.elapsed().as_secs_f64()
             );
         }

@@ -21,6 +21,11 @@ fn on_small_stack(name: &str, body: fn()) {
     println!("{name}: {} cases", CASES.load(Ordering::Relaxed));
 }
 
+/// A generator of a fixed seed; or of another, if SEED is in the environment.
+fn draws(fixed: u64) -> Random {
+    Random(std::env::var("SEED").map_or(0, |seed| seed.parse::<u64>().expect("SEED is a number")).wrapping_add(fixed))
+}
+
 fn case() {
     CASES.fetch_add(1, Ordering::Relaxed);
 }
@@ -194,7 +199,7 @@ fn check_inner(n: usize, a: &Set, b: &Set, random: &mut Random) {
 #[test]
 fn random_sets() {
     on_small_stack("random sets", || {
-        let mut random = Random(1);
+        let mut random = draws(1);
         for n in SIZES {
             let sets = shapes(n, &mut random);
             // each with some others
@@ -211,7 +216,7 @@ fn random_sets() {
 #[test]
 fn all_sets_of_one_and_two_records() {
     on_small_stack("all sets of one and two records", || {
-        let mut random = Random(2);
+        let mut random = draws(2);
         for n in [1, 2] {
             let sets: Vec<Set> = (0..1 << (n * n)).map(|bits: u32| Set::of(n, |x, y| bits >> (x * n + y) & 1 == 1)).collect();
             for a in &sets {
@@ -253,7 +258,7 @@ fn damage(n: usize, tree: &[u64], bits: impl Iterator<Item = usize>, random: &mu
 #[test]
 fn damaged_trees() {
     on_small_stack("damaged trees", || {
-        let mut random = Random(3);
+        let mut random = draws(3);
         for n in SIZES.into_iter().filter(|&n| n <= 65) {
             for a in shapes(n, &mut random) {
                 let tree = a.tree();
@@ -281,7 +286,7 @@ fn damaged_trees() {
 #[test]
 fn pairs_at_or_beyond_n() {
     on_small_stack("pairs at or beyond n", || {
-        let mut random = Random(4);
+        let mut random = draws(4);
         for n in SIZES.into_iter().filter(|&n| n < side(n)) {
             let good = random.pairs(n, n).tree();
             for (x, y) in [(n, 0), (0, n), (n, n), (n - 1, n), (side(n) - 1, 0), (0, side(n) - 1), (side(n) - 1, side(n) - 1)] {
@@ -313,7 +318,7 @@ fn calls(random: &mut Random, a: &Set, b: &Set) -> Vec<Call> {
 #[test]
 fn short_spaces() {
     on_small_stack("short spaces", || {
-        let mut random = Random(5);
+        let mut random = draws(5);
         for n in SIZES {
             let (a, b) = (random.pairs(n, 2 * n), random.pairs(n, 2 * n));
             for call in calls(&mut random, &a, &b) {
@@ -353,7 +358,7 @@ fn short_spaces() {
 #[test]
 fn order_of_refusals() {
     on_small_stack("order of refusals", || {
-        let mut random = Random(6);
+        let mut random = draws(6);
         // of the causes 1, 2, 11, 12 and 13 any may be there at once
         for causes in 0..16 {
             let there = |k: u32| causes >> k & 1 == 1;

@@ -102,6 +102,8 @@ class Handler(BaseHTTPRequestHandler):
 
     server: Server
     server_version, sys_version = "dating.page", ""
+    # A first line that cannot be read is answered with a status too.
+    default_request_version = "HTTP/1.0"
     timeout = _SECONDS
 
     def setup(self) -> None:

@@ -6,7 +6,7 @@ import re
 
 from ..names import Names
 from ..terms import KINDS, UNDO, Edit, Tie
-from ..texts import quoted
+from ..texts import is_figures, number_of, quoted
 
 BLANKS = " \t\r"
 _ABOVE_RECORDS = 65535
@@ -43,9 +43,9 @@ class Words:
     def number(self, name: str) -> int:
         """A number. One too large is the greatest there is, which the engine refuses too."""
         word = self.word(name)
-        if not _figures(word):
+        if not is_figures(word):
             raise _no_number(name, word)
-        return min(_number(word), _ABOVE_RECORDS)
+        return min(number_of(word), _ABOVE_RECORDS)
 
     def record(self, name: str) -> int:
         """A record, by its number or its name."""
@@ -53,7 +53,7 @@ class Words:
             return self.number(name)
         before = self.rest
         word = self.word(name)
-        if _figures(word):
+        if is_figures(word):
             self.rest = before
             return self.number(name)
         known = self.names.number(word.strip('"'))
@@ -65,9 +65,9 @@ class Words:
         """A number of rings, which may be negative. One too large either way is the outermost there is, which the engine refuses too."""
         word = self.word(name)
         size = word[1:] if word[:1] in ("-", "+") else word
-        if not _figures(size):
+        if not is_figures(size):
             raise _no_number(name, word)
-        return min(_MOST_RINGS, _number(size)) * (-1 if word.startswith("-") else 1)
+        return min(_MOST_RINGS, number_of(size)) * (-1 if word.startswith("-") else 1)
 
     def letter(self, name: str) -> str:
         """One character; whether it is a letter from a to z is for the engine to say."""
@@ -131,22 +131,12 @@ def _is_edit(text: str) -> bool:
     return bool(words) and words[0] in KINDS
 
 
-def _figures(word: str) -> bool:
-    return word.isascii() and word.isdigit()
-
-
-def _number(figures: str) -> int:
-    """The number of some figures; of more than twelve that count, one that is too large for all."""
-    some = figures.lstrip("0")
-    return int(some or "0") if len(some) <= 12 else 10**12
-
-
 def _no_number(name: str, word: str) -> Fault:
     threes = word.split(",")
     grouped = len(threes[0]) <= 3 and all(len(three) == 3 for three in threes[1:])
     hint = ""
-    if grouped and _figures("".join(threes)):
+    if grouped and is_figures("".join(threes)):
         hint = f": type {''.join(threes)}"
-    elif word.startswith("-") and _figures(word[1:]):
+    elif word.startswith("-") and is_figures(word[1:]):
         hint = ": records are numbered from 0"
     return Fault(f"{name} is a number, not {quoted(word)}{hint}")
