@@ -13,7 +13,6 @@ use borrow.Author.Tests.{lt-ltb, le-ltb}
 use Rattle.book.specs.Basics.{over}
 use Rattle.book.specs.Causes.{Caused, number, firstNumber}
 use Rattle.answers.specs.Answers.{counted, answered, overUnless, Whole, FirstPart, Contained}
-use Rattle.answers.specs.declared.Counted.{Counted}
 use Rattle.answers.specs.declared.Counted.the-variants.{Count, Refused}
 
 module _ {A : Type 0} (most words : ℕ) (before after : List A) where

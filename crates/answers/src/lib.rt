@@ -49,19 +49,6 @@ pub fn copy_u8(from: &[u8], to: &mut [u8], at: usize) -> usize
     at + i
 }
 
-// Words of 32 bits, likewise.
-pub fn copy_u32(from: &[u32], to: &mut [u32], at: usize) -> usize
-    requires { ⌜ at + length (now from) ≤ length (now to) ⌝ }
-    ensures { λ r. ⌜ Wrote at (now (from .entry)) (now (to .entry)) (now (to .exit)) r ⌝ }
-{
-    let mut i = 0;
-    while i < from.len() {
-        to[at + i] = from[i];
-        i += 1;
-    }
-    at + i
-}
-
 // Words of 64 bits, likewise.
 pub fn copy_u64(from: &[u64], to: &mut [u64], at: usize) -> usize
     requires { ⌜ at + length (now from) ≤ length (now to) ⌝ }

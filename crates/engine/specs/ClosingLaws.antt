@@ -51,7 +51,8 @@ module _ {r : Register} {before after : List ℕ} {out : Outcome} (c : Closes r 
       let n = q .book (next b (close (length before))) (c .steps .follows b h) in
       let e = closing-pairs b (represents-sound h) (length before) accepted engine (verdict text) work (length l) w in (
         n .answer ∙ ap countOf e ∙ renamed-count (newNumber b) (pairsAnswer engine b (verdict text) work (length l))
-            (not-replied (firstNumber (pairsCauses engine b (verdict text) work)) (length (pairsOf b (verdict text))) (take (length l) (pairsOf b (verdict text))))
+            (not-replied (firstNumber (pairsCauses engine b (verdict text) work)) (length (pairsOf b (verdict text)))
+            (take (length l) (pairsOf b (verdict text))))
             ∙ sym (o .answer),
         n .list ∙ ap (λ (u : Question·Outcome). listAfter u l) e,
       )

@@ -54,7 +54,8 @@ list-long (refused k) l = omega arith
 list-long (paired total ws) l = over-long ws l
 list-long (replied t) l = over-long (steps t) l
 
-outcome-tell : (a b : ChainAnswer) (l : List ℕ) → counted (chainCounted a) ≤ length l → counted (chainCounted b) ≤ length l → outcomeOf a l ≡ outcomeOf b l → a ≡ b
+outcome-tell : (a b : ChainAnswer) (l : List ℕ) → counted (chainCounted a) ≤ length l → counted (chainCounted b) ≤ length l
+    → outcomeOf a l ≡ outcomeOf b l → a ≡ b
 unfolding outcomeOf counted chainCounted
 outcome-tell (Chain k) (Chain j) l h g e =
     let t : take k l ≡ take j l = cc in

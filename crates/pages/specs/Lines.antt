@@ -36,10 +36,9 @@ use lib.ListN.{length, take, drop, getD}
 use Rattle.book.specs.Basics.{pick}
 use Rattle.k2.specs.PairSets.{ifSet}
 use Rattle.k2.specs.PairSetLaws.{Within}
-use Rattle.paths.specs.Questions.{over}
 use Rattle.report.specs.Report.{space}
 use Rattle.answers.specs.Written.{Wrote}
-use Rattle.pages.specs.Pages.{joined, parts, linePairs, pagePairs, recordWidth, pairLine, headLine, pages, IsPages}
+use Rattle.pages.specs.Pages.{joined, parts, linePairs, pagePairs, recordWidth, pairLine, headLine, IsPages}
 use Rattle.pages.specs.declared.Judgement.{Judgement}
 use Rattle.pages.specs.declared.Judgement.the-variants.{Listing, Broken}
 

@@ -30,7 +30,8 @@ use Rattle.register.specs.declared.Register.{Register}
 use Rattle.query.specs.Asking.{relationAnswer, relationCauses, rowWords}
 use Rattle.query.specs.AskingLaws.{relation-short}
 use Rattle.pages.specs.Pages.{pages, IsPages}
-use Rattle.pages.specs.PageCalls.{filled, printOutcome, Prints, Content, listing, nothing, Holds, are-pages, no-pages, readCauses, readOutcome, ReadsPages}
+use Rattle.pages.specs.PageCalls.{filled, printOutcome, Prints, Content, listing, nothing, Holds, are-pages, no-pages, readCauses, readOutcome}
+use Rattle.pages.specs.PageCalls.{ReadsPages}
 use Rattle.pages.specs.PageCallLaws.{print-refused, print-short, print-filled, read-broken, read-short, read-filled}
 use Rattle.pages.specs.Lines.{linesOf, wordsBefore}
 use Rattle.pages.specs.ReadLaws.{pages-stand}

@@ -248,7 +248,8 @@ module _ (n forward against : ℕ) (ws used work : List ℕ) (S : Stack) where
       let o : operands (itemOf i) ≡ 0 = ap operands e in
       let z : S .end + 0 ≡ S .end = omega arith in
       room-next R (subst (λ (j : ℕ). Placed (treeUnit n) (pushed letters (S .count) j S)) z
-      (placed-put (S .end) (S .count) letters (R .placed) (R .placed .totals) (omega arith) (let q = height-ready (R .height) in omega (arith, q .room)))) (omega arith)
+      (placed-put (S .end) (S .count) letters (R .placed) (R .placed .totals) (omega arith) (let q =
+      height-ready (R .height) in omega (arith, q .room)))) (omega arith)
 
   letters-waits : (b : Book) → Lettered b n ws (bitAt used) → (e : Expr) (i : ℕ) (c : List ℕ) (st : List Cells)
       → itemOf i ≡ Letters forward against → length (S .operands) ≡ 19 → S .count < 19

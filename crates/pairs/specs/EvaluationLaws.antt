@@ -86,7 +86,9 @@ pub begins : (g : Graph) {s c : List ℕ} {e : Expr} → Coded s e c → (ws wor
     → Waiting g e c ws work (record { operands = os; count = 0; end = 0 }) []
 begins g k ws work os = record {
   rest = coded-value g k;
-  runs = subst (λ (x : List ℕ). Runs (relations g) most-waiting x []) (sym (k .is)) (runs-code (relations g) (k .syntax) most-waiting [] (omega (arith, k .shallow)));
+  runs =
+      subst (λ (x : List ℕ). Runs (relations g) most-waiting x []) (sym (k .is))
+      (runs-code (relations g) (k .syntax) most-waiting [] (omega (arith, k .shallow)));
   stand = none-waits;
 }
 

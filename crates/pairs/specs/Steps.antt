@@ -55,12 +55,14 @@ pub record Takes (d : ℕ) (y : Item) (S : Stack) (q : Taken) : Type 0 where
 
 pub record Goes (n : ℕ) (ws used : List ℕ) (y : Item) (work work′ : List ℕ) (S S′ : Stack) : Type 0 where
   pub room : (i : ℕ) (c : List ℕ) → itemOf i ≡ y → Room (treeUnit n) (i ∷ c) S → Room (treeUnit n) c S′
-  pub waits : (b : Book) → Lettered b n ws (bitAt used) → (e : Expr) (i : ℕ) (c : List ℕ) (st : List Cells) → itemOf i ≡ y → Waiting (asked b) e (i ∷ c) ws work S st
+  pub waits : (b : Book) → Lettered b n ws (bitAt used) → (e : Expr) (i : ℕ) (c : List ℕ) (st : List Cells)
+      → itemOf i ≡ y → Waiting (asked b) e (i ∷ c) ws work S st
       → (st′ : List Cells) × Waiting (asked b) e c ws work′ S′ st′
 
 pub record Going (n : ℕ) (ws used c work : List ℕ) (S : Stack) (i : ℕ) : Type 0 where
   pub room : Room (treeUnit n) (drop i c) S
-  pub waits : (b : Book) → Lettered b n ws (bitAt used) → (s : List ℕ) (e : Expr) → Coded s e c → (st : List Cells) × Waiting (asked b) e (drop i c) ws work S st
+  pub waits : (b : Book) → Lettered b n ws (bitAt used) → (s : List ℕ) (e : Expr)
+      → Coded s e c → (st : List Cells) × Waiting (asked b) e (drop i c) ws work S st
 
 pub record Ends (n : ℕ) (ws used : List ℕ) (y : Item) (work : List ℕ) (S : Stack) (rows : List ℕ) : Type 0 where
   pub value : (b : Book) → Lettered b n ws (bitAt used) → (e : Expr) (i : ℕ) (st : List Cells)

@@ -26,7 +26,8 @@ use Rattle.paths.specs.Expressions.{Expr}
 use Rattle.paths.specs.Grammar.{Verdict, accepted, long, outside, large, verdictCause}
 use Rattle.paths.specs.Chains.{asked, Reply, none, chain, ChainIs}
 use Rattle.paths.specs.Relations.{pairs}
-use Rattle.paths.specs.Questions.{Outcome, Engine, by-trees, by-rows, paired, replied, unless, rowWidth, chainWork, workFor, pairsOf, pairsCauses, pairsAnswer, ReplyTo, steps, chainCauses}
+use Rattle.paths.specs.Questions.{Outcome, Engine, by-trees, by-rows, paired, replied, unless, rowWidth, chainWork, workFor, pairsOf, pairsCauses}
+use Rattle.paths.specs.Questions.{pairsAnswer, ReplyTo, steps, chainCauses}
 use Rattle.paths.specs.Questions.{chainAnswer}
 use Rattle.paths.specs.ChainLaws.{Inside}
 use Rattle.paths.specs.PairLaws.{pairs-are, pairs-only, fit-inside}

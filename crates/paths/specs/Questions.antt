@@ -1,5 +1,6 @@
 -- The answers of the two questions, refusals included, as functions of the book, the text's verdict and the lengths that are lent.
---   Outcome         refused with a number; how many there are of what a question lists, and the words of them that are written; or the reply to a chain question
+--   Outcome         refused with a number; how many there are of what a question lists, and the words of them that are written; or the reply to a chain
+--                   question
 --   Engine          which engine answers a pair question: that on trees or that on rows of bits
 --   pairsWork n, rowWidth n, rowsWork n, chainWork n
 --                   the words of work that a pair question by trees needs; the words of a row of n columns, 64 to a word; those of work that a pair question by

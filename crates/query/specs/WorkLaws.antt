@@ -48,7 +48,8 @@ rows-fit n h = go (decLt (height n) 6)
     fits u t s e l p =
         let a : 64 * t * t ≡ 64 * (t * t) = mul-assoc 64 t t in
         let q : s * s ≡ 4096 * (t * t) =
-        ap (λ (k : ℕ). k * k) e ∙ mul-assoc 64 t (64 * t) ∙ ap (λ (k : ℕ). 64 * k) (sym (mul-assoc t 64 t) ∙ ap (λ (k : ℕ). k * t) (mul-comm t 64) ∙ mul-assoc 64 t t)
+        ap (λ (k : ℕ). k * k) e ∙ mul-assoc 64 t (64 * t)
+        ∙ ap (λ (k : ℕ). 64 * k) (sym (mul-assoc t 64 t) ∙ ap (λ (k : ℕ). k * t) (mul-comm t 64) ∙ mul-assoc 64 t t)
         ∙ sym (mul-assoc 64 64 (t * t)) in
         let o : 1 * 1 ≤ t * t = mul-le-mul p p in
         omega (arith, a, q, o, l)

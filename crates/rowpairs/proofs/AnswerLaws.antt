@@ -49,7 +49,8 @@ module _ (n w : ℕ) (links marks code ws ms : List ℕ) (width : w ≡ rowWidth
     value = λ b L s e C. ap₂ listed (L .size) (value b L s e C);
   }
 
-  pub spread-value : (rows : List ℕ) (t : ℕ) → bitAt rows ≡ flat (first n w ws ms) → t ≡ length (listed n (first n w ws ms)) → ValueInRows n links marks code rows t
+  pub spread-value : (rows : List ℕ) (t : ℕ) → bitAt rows ≡ flat (first n w ws ms)
+      → t ≡ length (listed n (first n w ws ms)) → ValueInRows n links marks code rows t
   unfolding pairs asked
   spread-value rows t spread total = record {
     few = omega (arith, total, value-few n w ws ms small);

@@ -20,7 +20,7 @@ use Prim.Native.Nat.{ℕ, zero, suc, _+_, _-_, _*_, _≤_, _<_, min}
 use native.Mathlib.Decide.{decLt}
 use native.Mathlib.Omega.{arith}
 use lib.ListN.{length, take, drop, getD, length-drop}
-use lib.Seq.{length-take-le, take-all, drop-at}
+use lib.Seq.{length-take-le, take-all}
 use lib.Dec.{leb, ltb, eqb}
 use borrow.Author.Tests.{lt-ltb, le-ltb, le-leb, lt-leb, leb-false}
 use Rattle.book.specs.Basics.{pick}
@@ -184,7 +184,8 @@ module _ (b : Book) (core : ℕ) (v : Verdict) (anchors : List ℕ) (work whole 
   unfolding pairsCauses
   number-pairs e z = as-pairs ∙ first-alike v (ltb work (pairsWork (b .n))) follows (λ y. z (e ∙ y)) ∙ sym e
 
-  number-list : 0 ≡ firstNumber (pairsCauses by-trees b v work) → ((e : Expr) × (v ≡ accepted e)) × (supportNumber b core v anchors whole room ≡ firstNumber follows)
+  number-list : 0 ≡ firstNumber (pairsCauses by-trees b v work)
+      → ((e : Expr) × (v ≡ accepted e)) × (supportNumber b core v anchors whole room ≡ firstNumber follows)
   unfolding pairsCauses
   number-list e = let p = first-passed v (ltb work (pairsWork (b .n))) follows (sym e) in (p .0, as-pairs ∙ p .1)
 

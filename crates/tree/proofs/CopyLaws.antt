@@ -6,14 +6,13 @@
 --                        a test does not come out both ways
 --   settled              an answer of so many words
 -- Assumes nothing.
-use mathlib.Core.Path.{_≡_, refl, sym, ap, subst, _∙_}
+use mathlib.Core.Path.{_≡_, refl, sym, ap, _∙_}
 use mathlib.Core.Bool.{Bool, true, false}
 use mathlib.Core.List.{List, [], _∷_, _++_}
-use Prim.Native.Nat.{ℕ, zero, suc, _+_, _-_, _/_, _%_, _≤_, _<_}
-use native.Mathlib.Decide.{decLt, ℕ-discrete}
+use Prim.Native.Nat.{ℕ, zero, suc, _+_, _/_, _%_, _≤_, _<_}
 use native.Mathlib.Omega.{arith}
-use lib.ListN.{length, take, drop, getD, set, length-take, length-drop, length-append, List·getD-append}
-use lib.Seq.{ext-getD, getD-append-add, getD-take, getD-drop, getD-set-same, getD-set-other, take-append-le, take-length, take-at, drop-at}
+use lib.ListN.{length, take, drop, getD, length-take}
+use lib.Seq.{take-append-le, take-length, take-at, drop-at}
 use Rattle.book.specs.Basics.{In, here, there}
 use Rattle.k2.specs.PairSets.{PairsBelow}
 use Rattle.answers.specs.declared.Counted.the-variants.{Count}

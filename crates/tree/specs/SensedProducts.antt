@@ -20,7 +20,8 @@ use Rattle.tree.specs.Calls.{productSensed, allFormed, Answered, treeOfO
 
 pub data Transposed (n : ℕ) (t t′ : List ℕ) : Sense → Type 0 where
   as-it-is : t′ ≡ t → Transposed n t t′ Plain
-  written : {k m : ℕ} {out out′ : List ℕ} → Answered n [] (t ∷ []) k (treeOfOne transpose n t) out out′ (Count m) → t′ ≡ take m out′ → Transposed n t t′ Inverted
+  written : {k m : ℕ} {out out′ : List ℕ} → Answered n [] (t ∷ []) k (treeOfOne transpose n t) out out′ (Count m) → t′ ≡ take m out′
+      → Transposed n t t′ Inverted
 
 abbrev pub ProductSensed : Type 0
 ProductSensed = (n k : ℕ) (t u t′ u′ out after after′ : List ℕ) (s q : Sense) (r r′ : Counted) → Transposed n t t′ s → Transposed n u u′ q

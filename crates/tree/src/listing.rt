@@ -8,7 +8,7 @@ ghost use Rattle.answers.specs.Answers.{FirstPart};
 use answers::Counted;
 
 // The pairs of the first n rows written, ascending, as many as the list takes; how many they are in all.
-pub fn hand_over(rows: &[u64], n: usize, out: &mut [u32]) -> Counted
+pub(crate) fn hand_over(rows: &[u64], n: usize, out: &mut [u32]) -> Counted
     requires { ⌜ (n ≤ maxRecords) × (length (now rows) ≡ 16384) ⌝ }
     ensures { λ r. ⌜ FirstPart (pairsIn n (now (rows .entry))) (now (out .entry)) (now (out .exit)) r ⌝ }
 {

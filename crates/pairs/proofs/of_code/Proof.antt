@@ -22,11 +22,17 @@ in-words : (c : tie.After-links) → c .links .result .count ≤ length (c .link
 in-words c = let o = c .links .ensures in omega (arith, o .few, o .long)
 
 -- what was read of the register
-lettered : (c : tie.After-in-use) (b : Book) → Represents (c .before .before .before .before .before .before .before .before .before .before .args .register) b
-    → Lettered b (c .before .before .before .before .before .before .before .size .result) (take (c .before .before .before .before .links .result .count) (c .before .before .before .before .links .result .words)) (bitAt (c .in-use .result))
+lettered : (c : tie.After-in-use) (b : Book)
+    → let after-links = c .before .before .before .before in
+    let after-size = after-links .before .before .before in
+    let start = after-size .before .before .before in
+    Represents (start .args .register) b
+    → Lettered b (after-size .size .result) (take (after-links .links .result .count) (after-links .links .result .words)) (bitAt (c .in-use .result))
 lettered c b R =
-    subst (λ (u : ℕ → ℕ). Lettered b (c .before .before .before .before .before .before .before .size .result) (take (c .before .before .before .before .links .result .count) (c .before .before .before .before .links .result .words)) u)
-    (sym (c .in-use .ensures)) (read-lettered (c .before .before .marks .ensures) b R (c .before .before .before .before .before .before .before .size .ensures) (c .before .before .before .before .links .ensures))
+    let after-links = c .before .before .before .before in
+    let after-size = after-links .before .before .before in
+    subst (λ (u : ℕ → ℕ). Lettered b (after-size .size .result) (take (after-links .links .result .count) (after-links .links .result .words)) u)
+    (sym (c .in-use .ensures)) (read-lettered (c .before .before .marks .ensures) b R (after-size .size .ensures) (after-links .links .ensures))
 
 -- src/lib.rt:282:9
 size-requires : tie.Need-size-requires
@@ -39,8 +45,10 @@ pairs-work-requires c κs = search needs
 -- src/lib.rt:284:9
 returns : tie.Need-returns
 returns c =
-    λ s e q. asks-short by-trees (c .before .before .before .before .before .args .register) _ _ e refl (c .before .before .size .result) (c .before .before .size .ensures .size)
-    (subst (λ (i : ℕ). length (c .before .before .before .before .before .args .work .now) < i) (c .before .pairs-work .ensures) (c .if1 .taken))
+    let after-size = c .before .before in
+    let start = after-size .before .before .before in
+    λ s e q. asks-short by-trees (start .args .register) _ _ e refl (after-size .size .result) (after-size .size .ensures .size)
+    (subst (λ (i : ℕ). length (start .args .work .now) < i) (c .before .pairs-work .ensures) (c .if1 .taken))
 
 -- src/lib.rt:286:9
 links-requires : tie.Need-links-requires
@@ -80,7 +88,10 @@ array-share-prefix-code c = search needs
 
 -- src/lib.rt:292:53
 slice-aggregate-run-4 : tie.Need-slice-aggregate-run-4
-slice-aggregate-run-4 c = sym (length-take-le _ _ (c .before .before .before .before .before .before .before .before .before .before .before .before .before .before .before .pre .0))
+slice-aggregate-run-4 c =
+    let earlier = c .before .before .before .before .before .before .before in
+    let start = earlier .before .before .before .before .before .before .before .before in
+    sym (length-take-le _ _ (start .pre .0))
 
 -- src/lib.rt:292:5
 run-requires : tie.Need-run-requires
@@ -113,15 +124,19 @@ same-length-2 c = search needs
 -- src/lib.rt:271:1
 returns-2 : tie.Need-returns-2
 returns-2 c =
-    let after-in-use = c .before .before .before .before .before .before .before .before .before .before .before .before .before .before .before .before in
-    let after-size = c .before .before .before .before .before .before .before .before .before .before .before .before .before .before .before .before .before .before .before .before .before .before .before in
+    let after-count-pairs = c .before .before .before .before .before in
+    let after-run = after-count-pairs .before .before .before .before .before in
+    let else1 = after-run .before .before .before .before .before .before .before .before .before .before .before in
+    let start = else1 .before .before .before .before .before in
+    let after-in-use = after-run .before .before .before .before .before .before in
+    let after-size = else1 .before .before in
     let n = after-size .size in
-    let a = c .before .before .before .before .before .before .before .before .before .before .before .before .before .before .before .before .before .before .before .before .before .before .before .before .before .before .args in
-    let m = c .before .before .before .before .before .before .before .before .before .before .run in
+    let a = start .args in
+    let m = after-run .run in
     let rows : List ℕ = m .last .1 .1 .1 .1 .0 in
     λ s e q. asks-pairs by-trees (a .register) _ _ e refl (n .result) (n .ensures .size)
-    (subst (λ (i : ℕ). i ≤ length (a .work .now)) (c .before .before .before .before .before .before .before .before .before .before .before .before .before .before .before .before .before .before .before .before .before .before .pairs-work .ensures) (omega (arith, c .before .before .before .before .before .before .before .before .before .before .before .before .before .before .before .before .before .before .before .before .before .if1 .left)))
-    (pairsIn (n .result) rows) _ _ (c .before .before .before .before .before .count-pairs .ensures) (pairs-few (n .result) rows (n .ensures .small))
+    (subst (λ (i : ℕ). i ≤ length (a .work .now)) (else1 .before .pairs-work .ensures) (omega (arith, else1 .if1 .left)))
+    (pairsIn (n .result) rows) _ _ (after-count-pairs .count-pairs .ensures) (pairs-few (n .result) rows (n .ensures .small))
     (c .before .before .write-pairs .ensures)
     (λ b R. let L = lettered after-in-use b R in pairs-rows b (n .result) _ _ e rows L (m .ensures b L s e q))
 

@@ -33,8 +33,11 @@ enum-known-answer-2 c = search needs
 -- src/lib.rt:312:42
 of-code-requires : tie.Need-of-code-requires
 of-code-requires c κs =
-    let q = read-coded (c .before .before .before .before .before .before .read .ensures) (c .before .before .before .answer2 .given .1) in
-    (omega (arith, code-length (c .before .before .before .before .before .before), q .3), (c .before .before .before .before .before .before .before .before .before .before .args .text .now, q .0, q .2))
+    let after-answer2 = c .before .before .before in
+    let after-read = after-answer2 .before .before .before in
+    let start = after-read .before .before .before .before in
+    let q = read-coded (after-read .read .ensures) (after-answer2 .answer2 .given .1) in
+    (omega (arith, code-length after-read, q .3), (start .args .text .now, q .0, q .2))
 
 -- src/lib.rt:299:1
 returns : tie.Need-returns
@@ -51,9 +54,13 @@ same-length-2 c = search needs
 -- src/lib.rt:299:1
 returns-2 : tie.Need-returns-2
 returns-2 c =
-    let a = c .before .before .before .before .before .before .before .before .before .before .before .before .before .before .before .args in
-    let q = read-coded (c .before .before .before .before .before .before .before .before .before .before .before .read .ensures) (c .before .before .before .before .before .before .before .before .answer2 .given .1) in
-    let m = c .before .before .before .before .of-code in
+    let after-of-code = c .before .before .before .before in
+    let after-answer2 = after-of-code .before .before .before .before in
+    let after-read = after-answer2 .before .before .before in
+    let start = after-read .before .before .before .before in
+    let a = start .args in
+    let q = read-coded (after-read .read .ensures) (after-answer2 .answer2 .given .1) in
+    let m = after-of-code .of-code in
     subst (λ (v : Verdict). AsksFor by-trees (a .register) v (length (a .work .now)) (a .list .now) (m .last .1 .1 .1 .1 .0) (m .result)) (sym (q .1))
     (m .ensures (a .text .now) (q .0) (q .2))
 

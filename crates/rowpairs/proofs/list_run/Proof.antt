@@ -10,7 +10,9 @@ use Rattle.rowpairs.proofs.list_run.Statement.{statement}
 use Rattle.rowpairs.proofs.list_run.Tie as tie
 
 -- the work and the masks are as long as they were
-lent : (c : tie.After-run) → Lent (c .before .before .before .before .before .before .before .before .before .args .n) 0 (length (c .run .last .1 .1 .0)) (length (c .run .last .1 .1 .1 .0))
+lent : (c : tie.After-run)
+    → let start = c .before .before .before .before .before .before .before .before .before in
+    Lent (start .args .n) 0 (length (c .run .last .1 .1 .0)) (length (c .run .last .1 .1 .1 .0))
 lent c =
     let start = c .before .before .before .before .before .before .before .before .before in
     let k : length (c .run .last .1 .1 .0) ≡ length (start .args .work .now) = c .run .kept .1 .1 .0 in
@@ -22,7 +24,10 @@ run-requires : tie.Need-run-requires
 run-requires c κs = search needs
 
 row-width-requires : tie.Need-row-width-requires
-row-width-requires c κs = c .before .before .before .before .before .before .before .before .before .before .before .before .before .before .before .pre .0 0 (omega arith) (omega arith) .small
+row-width-requires c κs =
+    let earlier = c .before .before .before .before .before .before .before in
+    let start = earlier .before .before .before .before .before .before .before .before in
+    start .pre .0 0 (omega arith) (omega arith) .small
 
 list-requires : tie.Need-list-requires
 list-requires c κs = list-space _ _ 0 _ _ (c .before .row-width .ensures) (lent (c .before .before .before .before .before .before .before .before))
@@ -38,12 +43,15 @@ same-length-3 c = search needs
 
 returns : tie.Need-returns
 returns c =
-    let after-run = c .before .before .before .before .before .before .before .before .before .before .before in
+    let after-row-width = c .before .before .before .before in
+    let earlier = after-row-width .before .before .before .before .before .before .before .before in
+    let start = earlier .before .before .before .before .before .before .before .before in
+    let after-run = after-row-width .before .before .before .before .before .before .before in
     let m = after-run .run in
-    let a = c .before .before .before .before .before .before .before .before .before .before .before .before .before .before .before .before .before .before .before .before .args in
+    let a = start .args in
     let t = c .before .before .list in
     listed-value (a .n) _ (a .links .now) (a .marks .now) (a .code .now) (m .last .1 .1 .0) (m .last .1 .1 .1 .0)
-    (c .before .before .before .before .row-width .ensures) (lent after-run .small) (m .ensures) _ _ _ (t .ensures .0) (t .ensures .1)
+    (after-row-width .row-width .ensures) (lent after-run .small) (m .ensures) _ _ _ (t .ensures .0) (t .ensures .1)
 
 pub list-run-spec : {M : Type 1} → statement M
 list-run-spec =

@@ -19,10 +19,12 @@ same-length c = search needs
 
 returns : tie.Need-returns
 returns c =
-    let a = c .before .before .before .before .before .before .before .before .before .before .before .args in
+    let then1 = c .before .before .before .before in
+    let start = then1 .before .before .before .before .before .before .before in
+    let a = start .args in
     let t = c .before .before .list-letter in
-    alone-listed (a .n) _ (a .links .now) (a .marks .now) (a .code .now) _ _ _ (c .before .before .before .before .before .letter-alone .ensures (c .before .before .before .before .if1 .taken))
-    (c .before .before .before .before .before .before .before .before .before .before .before .pre .3) (t .ensures)
+    alone-listed (a .n) _ (a .links .now) (a .marks .now) (a .code .now) _ _ _ (then1 .before .letter-alone .ensures (then1 .if1 .taken))
+    (start .pre .3) (t .ensures)
 
 rows-work-requires : tie.Need-rows-work-requires
 rows-work-requires c κs = search needs
@@ -32,9 +34,15 @@ slice-aggregate-list-within c = search needs
 
 list-within-requires : tie.Need-list-within-requires
 list-within-requires c κs =
-    let P = c .before .before .before .before .before .before .before .before .before .before .before .pre in
-    let a = c .before .before .before .before .before .before .before .before .before .before .before .args in
-    (P .0, rows-few (a .n) (P .1 (subst (λ (i : ℕ). length (a .work .now) < i) (c .before .before .before .rows-work .ensures) (c .before .before .if2 .taken))), P .2, P .4)
+    let after-rows-work = c .before .before .before in
+    let start = after-rows-work .before .before .before .before .before .before .before .before in
+    let P = start .pre in
+    let a = start .args in (
+      P .0,
+      rows-few (a .n) (P .1 (subst (λ (i : ℕ). length (a .work .now) < i) (after-rows-work .rows-work .ensures) (c .before .before .if2 .taken))),
+      P .2,
+      P .4,
+    )
 
 same-length-2 : tie.Need-same-length-2
 same-length-2 c = search needs

@@ -14,8 +14,15 @@ slice-aggregate-list-run c = search needs
 
 list-run-requires : tie.Need-list-run-requires
 list-run-requires c κs =
-    let P = c .before .before .before .before .before .before .before .before .before .before .pre in
-    (λ k h l. record { small = P .0; words = P .1; marks = c .before .before .before .before .few-masks .ensures (c .before .before .before .if1 .taken) k h l }, P .2, P .3)
+    let P = c .before .before .before .before .before .before .before .before .before .before .pre in (
+      λ k h l. record {
+        small = P .0;
+        words = P .1;
+        marks = c .before .before .before .before .few-masks .ensures (c .before .before .before .if1 .taken) k h l;
+      },
+      P .2,
+      P .3,
+    )
 
 same-length : tie.Need-same-length
 same-length c = search needs
@@ -31,8 +38,13 @@ slice-aggregate-list-run-2 c = search needs
 
 list-run-requires-2 : tie.Need-list-run-requires-2
 list-run-requires-2 c κs =
-    let P = c .before .before .before .before .before .before .before .before .before .before .pre in (
-      λ k h l. record { small = P .0; words = P .1; marks = let p : k * c .before .before .before .before .before .before .before .before .before .before .args .n ≤ 19456 = mul-le-mul {n₂ = 19} {m₂ = 1024} h (P .0) in omega (arith, p, P .0) },
+    let start = c .before .before .before .before .before .before .before .before .before .before in
+    let P = start .pre in (
+      λ k h l. record {
+        small = P .0;
+        words = P .1;
+        marks = let p : k * start .args .n ≤ 19456 = mul-le-mul {n₂ = 19} {m₂ = 1024} h (P .0) in omega (arith, p, P .0);
+      },
       P .2,
       P .3,
     )

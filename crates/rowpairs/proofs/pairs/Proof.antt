@@ -25,8 +25,10 @@ code-length c = search needs
 
 -- an accepted text
 read : (c : tie.After-answer2)
-    → (e : Expr) × (verdict (c .before .before .before .before .before .before .before .args .text .now) ≡ accepted e)
-    × Coded (c .before .before .before .before .before .before .before .args .text .now) e (take (c .answer2 .given .0 .0) (c .before .before .before .read .result .code)) × (c .answer2 .given .0 .0 ≤ 256)
+    → let after-read = c .before .before .before in
+    let start = after-read .before .before .before .before in
+    (e : Expr) × (verdict (start .args .text .now) ≡ accepted e)
+    × Coded (start .args .text .now) e (take (c .answer2 .given .0 .0) (after-read .read .result .code)) × (c .answer2 .given .0 .0 ≤ 256)
 read c = read-coded (c .before .before .before .read .ensures) (c .answer2 .given .1)
 
 in-words : (c : tie.After-links) → c .links .result .count ≤ length (c .links .result .words)
@@ -36,9 +38,13 @@ few-words : (c : tie.After-links) → length (take (c .links .result .count) (c 
 few-words c = omega (arith, length-take-le (c .links .result .count) (c .links .result .words) (in-words c), c .links .ensures .few)
 
 -- what was read of the register
-lettered : (c : tie.After-marks) (b : Book) → Represents (c .before .before .before .before .before .before .before .before .before .before .before .before .before .before .args .register) b
-    → Lettered b (c .before .before .before .before .before .size .result) (take (c .before .before .links .result .count) (c .before .before .links .result .words))
-    (usedBelow (c .before .before .before .before .before .size .result) (c .marks .result))
+lettered : (c : tie.After-marks) (b : Book)
+    → let after-links = c .before .before in
+    let after-size = after-links .before .before .before in
+    let start = after-size .before .before .before .before .before .before .before .before .before in
+    Represents (start .args .register) b
+    → Lettered b (after-size .size .result) (take (after-links .links .result .count) (after-links .links .result .words))
+    (usedBelow (after-size .size .result) (c .marks .result))
 lettered c b R = read-lettered (c .marks .ensures) b R (c .before .before .before .before .before .size .ensures) (c .before .before .links .ensures)
 
 read-requires : tie.Need-read-requires
@@ -61,10 +67,12 @@ pairs-work-requires c κs = search needs
 
 returns : tie.Need-returns
 returns c =
+    let after-answer2 = c .before .before .before .before in
+    let start = after-answer2 .before .before .before .before .before .before .before in
     let n = c .before .before .size in
-    let q = read (c .before .before .before .before) in
+    let q = read after-answer2 in
     asks-short by-trees _ _ _ (q .0) (q .1) (n .result) (n .ensures .size)
-    (subst (λ (i : ℕ). length (c .before .before .before .before .before .before .before .before .before .before .before .args .work .now) < i) (c .before .pairs-work .ensures) (c .if1 .taken))
+    (subst (λ (i : ℕ). length (start .args .work .now) < i) (c .before .pairs-work .ensures) (c .if1 .taken))
 
 links-requires : tie.Need-links-requires
 links-requires c κs = search needs
@@ -82,23 +90,33 @@ slice-aggregate-list-value-2 : tie.Need-slice-aggregate-list-value-2
 slice-aggregate-list-value-2 c = search needs
 
 array-share-prefix-code : tie.Need-array-share-prefix-code
-array-share-prefix-code c = omega (arith, code-length (c .before .before .before .before .before .before .before .before .before .before .before .before), read (c .before .before .before .before .before .before .before .before .before) .3)
+array-share-prefix-code c =
+    let after-answer2 = c .before .before .before .before .before .before .before .before .before in
+    let after-read = after-answer2 .before .before .before in
+    omega (arith, code-length after-read, read after-answer2 .3)
 
 slice-aggregate-list-value-3 : tie.Need-slice-aggregate-list-value-3
-slice-aggregate-list-value-3 c = sym (length-take-le _ _ (omega (arith, code-length (c .before .before .before .before .before .before .before .before .before .before .before .before .before), read (c .before .before .before .before .before .before .before .before .before .before) .3)))
+slice-aggregate-list-value-3 c =
+    let after-answer2 = c .before .before .before .before .before .before .before .before .before .before in
+    let after-read = after-answer2 .before .before .before in
+    sym (length-take-le _ _ (omega (arith, code-length after-read, read after-answer2 .3)))
 
 list-value-requires : tie.Need-list-value-requires
 list-value-requires c κs =
-    let n = c .before .before .before .before .before .before .before .before .before .before .size in
-    let q = read (c .before .before .before .before .before .before .before .before .before .before .before .before) in
-    let k : length (c .before .before .before .before .before .marks .result) ≡ 1024 = c .before .before .before .before .before .marks .ensures .long in
-    let enough : pairsWork (n .result) ≤ length (c .before .before .before .before .before .before .before .before .before .before .before .before .before .before .before .before .before .before .before .args .work .now) =
-    subst (λ (i : ℕ). i ≤ length (c .before .before .before .before .before .before .before .before .before .before .before .before .before .before .before .before .before .before .before .args .work .now)) (c .before .before .before .before .before .before .before .before .before .pairs-work .ensures) (omega (arith, c .before .before .before .before .before .before .before .before .if1 .left)) in (
+    let after-marks = c .before .before .before .before .before in
+    let else1 = after-marks .before .before .before in
+    let after-answer2 = else1 .before .before .before .before in
+    let start = after-answer2 .before .before .before .before .before .before .before in
+    let n = else1 .before .before .size in
+    let q = read after-answer2 in
+    let k : length (after-marks .marks .result) ≡ 1024 = after-marks .marks .ensures .long in
+    let enough : pairsWork (n .result) ≤ length (start .args .work .now) =
+    subst (λ (i : ℕ). i ≤ length (start .args .work .now)) (else1 .before .pairs-work .ensures) (omega (arith, else1 .if1 .left)) in (
       n .ensures .small,
       λ h. own-words _ _ enough h,
       omega (arith, n .ensures .small, k),
-      few-words (c .before .before .before .before .before .before .before),
-      (c .before .before .before .before .before .before .before .before .before .before .before .before .before .before .before .before .before .before .before .args .text .now, q .0, q .2),
+      few-words (after-marks .before .before),
+      (start .args .text .now, q .0, q .2),
     )
 
 returns-2 : tie.Need-returns-2
@@ -112,12 +130,17 @@ same-length-2 c = search needs
 
 returns-3 : tie.Need-returns-3
 returns-3 c =
-    let n = c .before .before .before .before .before .before .before .before .before .before .before .before .before .before .before .size in
-    let q = read (c .before .before .before .before .before .before .before .before .before .before .before .before .before .before .before .before .before) in
-    let v = c .before .before .before .before .list-value .ensures in
+    let after-list-value = c .before .before .before .before in
+    let after-marks = after-list-value .before .before .before .before .before .before in
+    let else1 = after-marks .before .before .before in
+    let after-answer2 = else1 .before .before .before .before in
+    let start = after-answer2 .before .before .before .before .before .before .before in
+    let n = else1 .before .before .size in
+    let q = read after-answer2 in
+    let v = after-list-value .list-value .ensures in
     asks-pairs by-trees _ _ _ (q .0) (q .1) (n .result) (n .ensures .size)
-    (subst (λ (i : ℕ). i ≤ length (c .before .before .before .before .before .before .before .before .before .before .before .before .before .before .before .before .before .before .before .before .before .before .before .before .args .work .now)) (c .before .before .before .before .before .before .before .before .before .before .before .before .before .before .pairs-work .ensures) (omega (arith, c .before .before .before .before .before .before .before .before .before .before .before .before .before .if1 .left)))
-    (v .all) _ _ (v .total) (v .few) (v .written) (λ b R. v .value b (lettered (c .before .before .before .before .before .before .before .before .before .before) b R) _ (q .0) (q .2))
+    (subst (λ (i : ℕ). i ≤ length (start .args .work .now)) (else1 .before .pairs-work .ensures) (omega (arith, else1 .if1 .left)))
+    (v .all) _ _ (v .total) (v .few) (v .written) (λ b R. v .value b (lettered after-marks b R) _ (q .0) (q .2))
 
 pub pairs-spec : {M : Type 1} → statement M
 pairs-spec =

@@ -1,4 +1,5 @@
--- `relation` reads the text; a refused one gives its number, too little work or too few rows 12; else the code of the text is run, and its value spread. Assumes nothing.
+-- `relation` reads the text; a refused one gives its number, too little work or too few rows 12; else the code of the text is run,
+-- and its value spread. Assumes nothing.
 use native.Mathlib.Omega.{arith}
 use mathlib.Core.Path.{_≡_, sym, subst, _∙_}
 use Prim.Native.Nat.{ℕ, _≤_, _<_}
@@ -24,22 +25,32 @@ code-length c = search needs
 
 -- an accepted text
 read : (c : tie.After-answer2)
-    → (e : Expr) × (verdict (c .before .before .before .before .before .before .before .args .text .now) ≡ accepted e)
-    × Coded (c .before .before .before .before .before .before .before .args .text .now) e (take (c .answer2 .given .0 .0) (c .before .before .before .read .result .code)) × (c .answer2 .given .0 .0 ≤ 256)
+    → let after-read = c .before .before .before in
+    let start = after-read .before .before .before .before in
+    (e : Expr) × (verdict (start .args .text .now) ≡ accepted e)
+    × Coded (start .args .text .now) e (take (c .answer2 .given .0 .0) (after-read .read .result .code)) × (c .answer2 .given .0 .0 ≤ 256)
 read c = read-coded (c .before .before .before .read .ensures) (c .answer2 .given .1)
 
 in-words : (c : tie.After-links) → c .links .result .count ≤ length (c .links .result .words)
 in-words c = let o = c .links .ensures in omega (arith, o .few, o .long)
 
 -- what was read of the register
-lettered : (c : tie.After-marks) (b : Book) → Represents (c .before .before .before .before .before .before .before .before .before .before .before .before .before .before .before .args .register) b
-    → Lettered b (c .before .before .before .before .before .before .size .result) (take (c .before .before .links .result .count) (c .before .before .links .result .words))
-    (usedBelow (c .before .before .before .before .before .before .size .result) (c .marks .result))
+lettered : (c : tie.After-marks) (b : Book)
+    → let after-links = c .before .before in
+    let after-size = after-links .before .before .before .before in
+    let start = after-size .before .before .before .before .before .before .before .before .before in
+    Represents (start .args .register) b
+    → Lettered b (after-size .size .result) (take (after-links .links .result .count) (after-links .links .result .words))
+    (usedBelow (after-size .size .result) (c .marks .result))
 lettered c b R = read-lettered (c .marks .ensures) b R (c .before .before .before .before .before .before .size .ensures) (c .before .before .links .ensures)
 
 -- the work is enough for trees, whatever book the register stands for
-enough : (c : tie.Else1) → pairsWork (c .before .before .size .result) ≤ length (c .before .before .before .before .before .before .before .before .before .before .before .args .work .now)
-enough c = subst (λ (i : ℕ). i ≤ length (c .before .before .before .before .before .before .before .before .before .before .before .args .work .now)) (c .before .pairs-work .ensures) (omega (arith, c .if1 .left))
+enough : (c : tie.Else1)
+    → let start = c .before .before .before .before .before .before .before .before .before .before .before in
+    pairsWork (c .before .before .size .result) ≤ length (start .args .work .now)
+enough c =
+    let start = c .before .before .before .before .before .before .before .before .before .before .before in
+    subst (λ (i : ℕ). i ≤ length (start .args .work .now)) (c .before .pairs-work .ensures) (omega (arith, c .if1 .left))
 
 read-requires : tie.Need-read-requires
 read-requires c κs = search needs
@@ -89,27 +100,40 @@ slice-aggregate-spread-value-2 : tie.Need-slice-aggregate-spread-value-2
 slice-aggregate-spread-value-2 c = search needs
 
 array-share-prefix-code : tie.Need-array-share-prefix-code
-array-share-prefix-code c = omega (arith, code-length (c .before .before .before .before .before .before .before .before .before .before .before .before .before), read (c .before .before .before .before .before .before .before .before .before .before) .3)
+array-share-prefix-code c =
+    let after-answer2 = c .before .before .before .before .before .before .before .before .before .before in
+    let after-read = after-answer2 .before .before .before in
+    omega (arith, code-length after-read, read after-answer2 .3)
 
 slice-aggregate-spread-value-3 : tie.Need-slice-aggregate-spread-value-3
-slice-aggregate-spread-value-3 c = sym (length-take-le _ _ (omega (arith, code-length (c .before .before .before .before .before .before .before .before .before .before .before .before .before .before), read (c .before .before .before .before .before .before .before .before .before .before .before) .3)))
+slice-aggregate-spread-value-3 c =
+    let after-answer2 = c .before .before .before .before .before .before .before .before .before .before .before in
+    let after-read = after-answer2 .before .before .before in
+    sym (length-take-le _ _ (omega (arith, code-length after-read, read after-answer2 .3)))
 
 slice-relend-prefix-spread-value : tie.Need-slice-relend-prefix-spread-value
 slice-relend-prefix-spread-value c = search needs
 
 slice-aggregate-spread-value-4 : tie.Need-slice-aggregate-spread-value-4
-slice-aggregate-spread-value-4 c = sym (length-take-le 16384 (c .before .before .before .before .before .before .before .before .before .before .before .before .before .before .before .before .before .before .before .before .args .rows .now) (omega (arith, c .before .before .before .before .before .before .before .before .if2 .left)))
+slice-aggregate-spread-value-4 c =
+    let else2 = c .before .before .before .before .before .before .before .before in
+    let start = else2 .before .before .before .before .before .before .before .before .before .before .before .before in
+    sym (length-take-le 16384 (start .args .rows .now) (omega (arith, else2 .if2 .left)))
 
 spread-value-requires : tie.Need-spread-value-requires
 spread-value-requires c κs =
-    let n = c .before .before .before .before .before .before .before .before .before .before .before .size in
-    let q = read (c .before .before .before .before .before .before .before .before .before .before .before .before .before) in
-    let k : length (c .before .before .before .before .before .marks .result) ≡ 1024 = c .before .before .before .before .before .marks .ensures .long in (
+    let after-marks = c .before .before .before .before .before in
+    let else2 = after-marks .before .before .before in
+    let after-size = else2 .before .before .before in
+    let start = after-size .before .before .before .before .before .before .before .before .before in
+    let n = after-size .size in
+    let q = read (after-size .before .before) in
+    let k : length (after-marks .marks .result) ≡ 1024 = after-marks .marks .ensures .long in (
       n .ensures .small,
-      own-words _ _ (enough (c .before .before .before .before .before .before .before .before .before)),
+      own-words _ _ (enough (else2 .before)),
       omega (arith, n .ensures .small, k),
-      length-take-le 16384 (c .before .before .before .before .before .before .before .before .before .before .before .before .before .before .before .before .before .before .before .before .args .rows .now) (omega (arith, c .before .before .before .before .before .before .before .before .if2 .left)),
-      (c .before .before .before .before .before .before .before .before .before .before .before .before .before .before .before .before .before .before .before .before .args .text .now, q .0, q .2),
+      length-take-le 16384 (start .args .rows .now) (omega (arith, else2 .if2 .left)),
+      (start .args .text .now, q .0, q .2),
     )
 
 returns-3 : tie.Need-returns-3
@@ -123,13 +147,18 @@ same-length-2 c = search needs
 
 returns-4 : tie.Need-returns-4
 returns-4 c =
-    let n = c .before .before .before .before .before .before .before .before .before .before .before .before .before .before .before .before .size in
-    let q = read (c .before .before .before .before .before .before .before .before .before .before .before .before .before .before .before .before .before .before) in
-    let m = c .before .before .before .before .spread-value in
-    let k : length (m .last .1 .1 .1 .1 .1 .0) ≡ length (take 16384 (c .before .before .before .before .before .before .before .before .before .before .before .before .before .before .before .before .before .before .before .before .before .before .before .before .before .args .rows .now)) = m .kept .1 .1 .1 .1 .1 .0 in
-    relates-made _ _ _ _ (q .0) (n .result) _ (m .last .1 .1 .1 .1 .1 .0) (q .1) (n .ensures .size) (enough (c .before .before .before .before .before .before .before .before .before .before .before .before .before .before)) (omega (arith, c .before .before .before .before .before .before .before .before .before .before .before .before .before .if2 .left))
-    (k ∙ length-take-le 16384 (c .before .before .before .before .before .before .before .before .before .before .before .before .before .before .before .before .before .before .before .before .before .before .before .before .before .args .rows .now) (omega (arith, c .before .before .before .before .before .before .before .before .before .before .before .before .before .if2 .left))) (m .ensures .few)
-    (λ b R. m .ensures .value b (lettered (c .before .before .before .before .before .before .before .before .before .before) b R) _ (q .0) (q .2))
+    let after-spread-value = c .before .before .before .before in
+    let after-marks = after-spread-value .before .before .before .before .before .before in
+    let else2 = after-marks .before .before .before in
+    let after-size = else2 .before .before .before in
+    let start = after-size .before .before .before .before .before .before .before .before .before in
+    let n = after-size .size in
+    let q = read (after-size .before .before) in
+    let m = after-spread-value .spread-value in
+    let k : length (m .last .1 .1 .1 .1 .1 .0) ≡ length (take 16384 (start .args .rows .now)) = m .kept .1 .1 .1 .1 .1 .0 in
+    relates-made _ _ _ _ (q .0) (n .result) _ (m .last .1 .1 .1 .1 .1 .0) (q .1) (n .ensures .size) (enough (else2 .before)) (omega (arith, else2 .if2 .left))
+    (k ∙ length-take-le 16384 (start .args .rows .now) (omega (arith, else2 .if2 .left))) (m .ensures .few)
+    (λ b R. m .ensures .value b (lettered after-marks b R) _ (q .0) (q .2))
 
 pub relation-spec : {M : Type 1} → statement M
 relation-spec =

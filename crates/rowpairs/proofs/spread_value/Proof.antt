@@ -15,9 +15,16 @@ slice-aggregate-spread-within c = search needs
 
 spread-within-requires : tie.Need-spread-within-requires
 spread-within-requires c κs =
-    let P = c .before .before .before .before .before .before .before .before .before .pre in
-    let a = c .before .before .before .before .before .before .before .before .before .args in
-    (P .0, rows-few (a .n) (P .1 (subst (λ (i : ℕ). length (a .work .now) < i) (c .before .before .before .rows-work .ensures) (c .before .before .if1 .taken))), P .2, P .3, P .4)
+    let after-rows-work = c .before .before .before in
+    let start = after-rows-work .before .before .before .before .before .before in
+    let P = start .pre in
+    let a = start .args in (
+      P .0,
+      rows-few (a .n) (P .1 (subst (λ (i : ℕ). length (a .work .now) < i) (after-rows-work .rows-work .ensures) (c .before .before .if1 .taken))),
+      P .2,
+      P .3,
+      P .4,
+    )
 
 same-length : tie.Need-same-length
 same-length c = search needs

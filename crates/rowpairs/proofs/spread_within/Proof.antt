@@ -12,7 +12,9 @@ use Rattle.rowpairs.proofs.spread_within.Statement.{statement}
 use Rattle.rowpairs.proofs.spread_within.Tie as tie
 
 -- the work and the masks are as long as they were
-lent : (c : tie.After-run) → Lent (c .before .before .before .before .before .before .before .before .args .n) 0 (length (c .run .last .1 .1 .0)) (length (c .run .last .1 .1 .1 .0))
+lent : (c : tie.After-run)
+    → let start = c .before .before .before .before .before .before .before .before in
+    Lent (start .args .n) 0 (length (c .run .last .1 .1 .0)) (length (c .run .last .1 .1 .1 .0))
 lent c =
     let start = c .before .before .before .before .before .before .before .before in
     let k : length (c .run .last .1 .1 .0) ≡ length (start .args .work .now) = c .run .kept .1 .1 .0 in
@@ -24,8 +26,13 @@ slice-aggregate-run c = search needs
 
 run-requires : tie.Need-run-requires
 run-requires c κs =
-    let P = c .before .before .before .before .before .before .before .pre in (
-      λ k h l. record { small = P .0; words = P .1; marks = let p : k * c .before .before .before .before .before .before .before .args .n ≤ 19456 = mul-le-mul {n₂ = 19} {m₂ = 1024} h (P .0) in omega (arith, p, P .0) },
+    let start = c .before .before .before .before .before .before .before in
+    let P = start .pre in (
+      λ k h l. record {
+        small = P .0;
+        words = P .1;
+        marks = let p : k * start .args .n ≤ 19456 = mul-le-mul {n₂ = 19} {m₂ = 1024} h (P .0) in omega (arith, p, P .0);
+      },
       P .2,
       P .4,
     )
@@ -38,8 +45,10 @@ row-width-requires c κs = search needs
 
 spread-requires : tie.Need-spread-requires
 spread-requires c κs =
-    let s = list-space _ _ 0 _ _ (c .before .row-width .ensures) (lent (c .before .before .before .before .before .before .before)) in
-    (s .0, s .1, s .2, s .3, s .4, c .before .before .before .before .before .before .before .before .before .before .before .before .before .before .before .pre .3)
+    let after-run = c .before .before .before .before .before .before .before in
+    let start = after-run .before .before .before .before .before .before .before .before in
+    let s = list-space _ _ 0 _ _ (c .before .row-width .ensures) (lent after-run) in
+    (s .0, s .1, s .2, s .3, s .4, start .pre .3)
 
 same-length : tie.Need-same-length
 same-length c = search needs
@@ -49,12 +58,14 @@ same-length-2 c = search needs
 
 returns : tie.Need-returns
 returns c =
-    let after-run = c .before .before .before .before .before .before .before .before .before .before in
+    let after-row-width = c .before .before .before .before in
+    let start = after-row-width .before .before .before .before .before .before .before .before .before .before .before .before .before .before in
+    let after-run = after-row-width .before .before .before .before .before .before in
     let m = after-run .run in
-    let a = c .before .before .before .before .before .before .before .before .before .before .before .before .before .before .before .before .before .before .args in
+    let a = start .args in
     let t = c .before .before .spread in
     spread-value (a .n) _ (a .links .now) (a .marks .now) (a .code .now) (m .last .1 .1 .0) (m .last .1 .1 .1 .0)
-    (c .before .before .before .before .row-width .ensures) (c .before .before .before .before .before .before .before .before .before .before .before .before .before .before .before .before .before .before .pre .0) (m .ensures) _ _ (t .ensures .1) (t .ensures .0)
+    (after-row-width .row-width .ensures) (start .pre .0) (m .ensures) _ _ (t .ensures .1) (t .ensures .0)
 
 pub spread-within-spec : {M : Type 1} → statement M
 spread-within-spec =
