@@ -21,5 +21,5 @@ module _ {ws before after : List ℕ} {k : ℕ} (text : List ℕ) (work : ℕ) (
   exported-round {list} {list′} {j} l r room =
       let t = q .answers (h .0) (h .1) in
       let P : Prints (h .0) text work before after (Count k) = subst (Prints (h .0) text work before after) (count-told (t .0) k (sym (t .2)) l) (t .1) in
-      let d = print-read (h .2) P (r .1) room in
+      let d = print-read work (h .2) P (r .1) room in
       (r .2 ∙ ap toldCounted (d .0), d .1)

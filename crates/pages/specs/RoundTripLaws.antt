@@ -55,13 +55,13 @@ holds-only (no-pages n) (are-pages {l = l} P) = absurd (n l P)
 holds-only (no-pages n) (no-pages m) = refl
 
 -- ---- what was printed
-not-refused : {o : Outcome} {a : Counted} {j k : ℕ} → a ≡ countOf o → a ≡ Count k → o ≡ refused j → ⊥
+not-refused : (o : Outcome) {j k : ℕ} → Count k ≡ countOf o → o ≡ refused j → ⊥
 unfolding countOf
-not-refused {j = j} {k} T e q = let y : Count k ≡ Refused j = sym e ∙ T ∙ ap countOf q in let z : _≡_ {A = ℕ} 0 1 = cc in omega arith
+not-refused o {j} {k} T q = let y : Count k ≡ Refused j = T ∙ ap countOf q in let z : _≡_ {A = ℕ} 0 1 = cc in omega arith
 
-count-told : {o : Outcome} {a : Counted} {k : ℕ} {ws : List ℕ} → a ≡ countOf o → a ≡ Count k → o ≡ filled ws → k ≡ length ws
+count-told : (o : Outcome) {k : ℕ} {ws : List ℕ} → Count k ≡ countOf o → o ≡ filled ws → k ≡ length ws
 unfolding countOf
-count-told {k = k} {ws} T e q = let y : Count k ≡ Count (length ws) = sym e ∙ T ∙ ap countOf q in cc
+count-told o {k} {ws} T q = let y : Count k ≡ Count (length ws) = T ∙ ap countOf q in cc
 
 record Printed (b : Book) (text : List ℕ) (work room k : ℕ) : Type 0 where
   pub syntax : Expr
@@ -72,17 +72,17 @@ record Printed (b : Book) (text : List ℕ) (work room k : ℕ) : Type 0 where
 printed : (b : Book) (text : List ℕ) (work room k : ℕ) (v : Verdict) → verdict text ≡ v
     → Count k ≡ countOf (printOutcome b text work room) → Printed b text work room k
 unfolding relationAnswer relationCauses verdictCause firstNumber number
-printed b text work room k long v T = absurd (not-refused T refl (print-refused b text work room 10 long v refl))
-printed b text work room k outside v T = absurd (not-refused T refl (print-refused b text work room 9 outside v refl))
-printed b text work room k large v T = absurd (not-refused T refl (print-refused b text work room 10 large v refl))
+printed b text work room k long v T = absurd (not-refused _ T (print-refused b text work room 10 long v refl))
+printed b text work room k outside v T = absurd (not-refused _ T (print-refused b text work room 9 outside v refl))
+printed b text work room k large v T = absurd (not-refused _ T (print-refused b text work room 10 large v refl))
 printed b text work room k (accepted e) v T = go (decLt work (32 * treeUnit (b .n))) (decLt room (length (pages text (pairs (asked b) e))))
   where
     go : Dec (work < 32 * treeUnit (b .n)) → Dec (room < length (pages text (pairs (asked b) e))) → Printed b text work room k
-    go (yes h) d = absurd (not-refused T refl (print-refused b text work room 12 (accepted e) v (relation-short b work rowWords e h)))
-    go (no h) (yes d) = absurd (not-refused T refl (print-short b text work room e v (omega arith) d))
+    go (yes h) d = absurd (not-refused _ T (print-refused b text work room 12 (accepted e) v (relation-short b work rowWords e h)))
+    go (no h) (yes d) = absurd (not-refused _ T (print-short b text work room e v (omega arith) d))
     go (no h) (no d) =
         let q = print-filled b text work room e v (omega arith) (omega arith) in
-        record { syntax = e; is = v; outcome = q; size = count-told T refl q }
+        record { syntax = e; is = v; outcome = q; size = count-told _ T q }
 
 -- the pairs of a book that is represented are an ascending list of different pairs below 1,024
 pairs-pages : {r : Register} (b : Book) (text : List ℕ) (e : Expr) → Represents r b → IsPages text (pages text (pairs (asked b) e)) (pairs (asked b) e)
@@ -92,11 +92,11 @@ pairs-pages b text e R =
     let q = listed-below (b .n) (cells (asked b) e) n in
     record { ascending = listed-rises (b .n) (cells (asked b) e) n; below = λ w i. let z = q w i in (omega (arith, z .0), omega (arith, z .1)); are = refl }
 
-pub print-read : {r : Register} {b : Book} {text before after : List ℕ} {work k : ℕ} → Represents r b → Prints r text work before after (Count k)
+pub print-read : {r : Register} {b : Book} {text before after : List ℕ} (work : ℕ) {k : ℕ} → Represents r b → Prints r text work before after (Count k)
     → {list list′ : List ℕ} {a : Counted} → ReadsPages text (take k after) list list′ a → length (pairsOf b (verdict text)) ≤ length list
     → (a ≡ Count (length (pairsOf b (verdict text)))) × (list′ ≡ over (pairsOf b (verdict text)) list)
 unfolding countOf listAfter pairsOf
-print-read {r} {b} {text} {before} {after} {work} {k} R P {list} {list′} {a} Q room =
+print-read {r} {b} {text} {before} {after} work {k} R P {list} {list′} {a} Q room =
     let B = P .book b R in
     let p = printed b text work (length before) k (verdict text) refl (B .answer) in
     let e = p .syntax in
@@ -124,17 +124,17 @@ record Found (v : Verdict) (c : Content) (room k : ℕ) : Type 0 where
 
 found : (v : Verdict) (c : Content) (room k : ℕ) → Count k ≡ countOf (readOutcome v c room) → Found v c room k
 unfolding readOutcome readCauses verdictCause firstNumber number
-found long c room k T = absurd (not-refused T refl refl)
-found outside c room k T = absurd (not-refused T refl refl)
-found large c room k T = absurd (not-refused T refl refl)
-found (accepted e) nothing room k T = absurd (not-refused T refl (read-broken e room))
+found long c room k T = absurd (not-refused _ T refl)
+found outside c room k T = absurd (not-refused _ T refl)
+found large c room k T = absurd (not-refused _ T refl)
+found (accepted e) nothing room k T = absurd (not-refused _ T (read-broken e room))
 found (accepted e) (listing l) room k T = go (decLt room (length l))
   where
     go : Dec (room < length l) → Found (accepted e) (listing l) room k
-    go (yes h) = absurd (not-refused T refl (read-short e l room h))
+    go (yes h) = absurd (not-refused _ T (read-short e l room h))
     go (no h) =
         let q = read-filled e l room (omega arith) in
-        record { syntax = e; words = l; is = refl; content = refl; outcome = q; size = count-told T refl q }
+        record { syntax = e; words = l; is = refl; content = refl; outcome = q; size = count-told _ T q }
 
 held : {text bytes : List ℕ} {c : Content} {l : List ℕ} → Holds text bytes c → c ≡ listing l → IsPages text bytes l
 held {text} {bytes} {l = l} (are-pages {l = m} P) e = let z : m ≡ l = cc in subst (IsPages text bytes) z P

@@ -190,11 +190,11 @@ module _ (b : Book) (core : ℕ) (v : Verdict) (anchors : List ℕ) (work whole 
   number-list e = let p = first-passed v (ltb work (pairsWork (b .n))) follows (sym e) in (p .0, as-pairs ∙ p .1)
 
 -- ---- refusals
-book-refused : {b : Book} {core : ℕ} {v : Verdict} {anchors : List ℕ} {work k : ℕ} {before : List ℕ} → 0 < k
+book-refused : (b : Book) (core : ℕ) (v : Verdict) (anchors : List ℕ) (work : ℕ) {k : ℕ} {before : List ℕ} → 0 < k
     → supportNumber b core v anchors work (length before) ≡ k → Tells (supportOutcome b core v anchors work (length before)) before before (Refused k)
 unfolding supportOutcome countOf listAfter
-book-refused {k = zero} h e = absurd (omega arith)
-book-refused {b} {core} {v} {anchors} {k = suc k} {before} h e =
+book-refused b core v anchors work {k = zero} h e = absurd (omega arith)
+book-refused b core v anchors work {k = suc k} {before} h e =
     subst (λ (i : ℕ). Tells (unless i (paired (length (fallenOf b v core anchors)) (fallenOf b v core anchors))) before before (Refused (suc k))) (sym e) told
   where
     told : Tells (refused (suc k)) before before (Refused (suc k))
@@ -205,7 +205,7 @@ module _ {r : Register} (core : ℕ) {n : ℕ} (v : Verdict) (anchors : List ℕ
       → SupportsFor r core v anchors work before before (Refused k)
   unfolding counted
   refuses {k} c f =
-      record { contained = contained-refused (length before) 0 before before k c refl; book = λ b R. book-refused (caused-positive c) (f b R) }
+      record { contained = contained-refused (length before) 0 before before k c refl; book = λ b R. book-refused b core v anchors work (caused-positive c) (f b R) }
 
   pub refuses-core : n ≤ core → SupportsFor r core v anchors work before before (Refused 2)
   unfolding number
@@ -251,7 +251,7 @@ module _ (r : Register) (core n : ℕ) (v : Verdict) (anchors : List ℕ) (work 
   unfolding counted
   declines {k} c f = record {
     contained = contained-refused (length before) 0 before before k c refl;
-    book = λ b R z whole w. book-refused (caused-positive c) (f b R z whole w);
+    book = λ b R z whole w. book-refused b core v anchors whole (caused-positive c) (f b R z whole w);
   }
 
   -- by the text or the work
