@@ -82,7 +82,7 @@ printed b text work room k (accepted e) v T = go (decLt work (32 * treeUnit (b .
     go (no h) (yes d) = absurd (not-refused _ T (print-short b text work room e v (omega arith) d))
     go (no h) (no d) =
         let q = print-filled b text work room e v (omega arith) (omega arith) in
-        record { syntax = e; is = v; outcome = q; size = count-told _ T q }
+        record { syntax = e; is = v; outcome = q; size = count-told (printOutcome b text work room) {ws = pages text (pairs (asked b) e)} T q }
 
 -- the pairs of a book that is represented are an ascending list of different pairs below 1,024
 pairs-pages : {r : Register} (b : Book) (text : List ℕ) (e : Expr) → Represents r b → IsPages text (pages text (pairs (asked b) e)) (pairs (asked b) e)
@@ -134,7 +134,7 @@ found (accepted e) (listing l) room k T = go (decLt room (length l))
     go (yes h) = absurd (not-refused _ T (read-short e l room h))
     go (no h) =
         let q = read-filled e l room (omega arith) in
-        record { syntax = e; words = l; is = refl; content = refl; outcome = q; size = count-told _ T q }
+        record { syntax = e; words = l; is = refl; content = refl; outcome = q; size = count-told (readOutcome (accepted e) (listing l) room) {ws = l} T q }
 
 held : {text bytes : List ℕ} {c : Content} {l : List ℕ} → Holds text bytes c → c ≡ listing l → IsPages text bytes l
 held {text} {bytes} {l = l} (are-pages {l = m} P) e = let z : m ≡ l = cc in subst (IsPages text bytes) z P

@@ -14,7 +14,8 @@ ghost use Rattle.register.specs.History.{kindCall};
 ghost use Rattle.report.specs.Report.{refusedText, outcomeText};
 ghost use Rattle.answers.specs.Written.{Wrote};
 ghost use Rattle.session.specs.Listing.{listing, AnswersPairs, totalSaid};
-ghost use Rattle.chains.specs.Replies.{outcomeOf, stepsLength};
+ghost use Rattle.answers.specs.Answers.{counted};
+ghost use Rattle.chains.specs.Replies.{outcomeOf, chainCounted};
 use answers::Counted;
 use chains::ChainAnswer;
 use register::Call;
@@ -272,7 +273,7 @@ fn edit(state: State, call: Call, out: &mut [u8]) -> Framed
 }
 
 fn put_reply(answer: ChainAnswer, list: &[u32], out: &mut [u8]) -> usize
-    requires { ⌜ (stepsLength answer ≤ length (now list)) × (room (length (now list)) ≤ length (now out)) ⌝ }
+    requires { ⌜ (counted (chainCounted answer) ≤ length (now list)) × (room (length (now list)) ≤ length (now out)) ⌝ }
     ensures { λ r. ⌜ Wrote 0 (outcomeText (outcomeOf answer (now (list .entry)))) (now (out .entry)) (now (out .exit)) r ⌝ }
 {
     match answer {
