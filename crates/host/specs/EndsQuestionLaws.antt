@@ -32,12 +32,12 @@ module _ {n : ℕ} {space ws : List ℕ} {opened : ℕ} (F : Freshens n space ws
       → (l : List ℕ) × EndsAre (asked (after (fresh n) cs)) e x l × (k ≡ length l) × (after′ ≡ over (take (length before) l) before)
   ends-made q =
       let t = asked-book q (after (fresh n) cs) kept in
-      let z = ends-of-book (inside (kept .2)) hx v (t .1) in
+      let z = ends-of-book (after (fresh n) cs) (inside (kept .2)) hx v (t .1) in
       (z .0, z .1, t .2 ∙ ap toldCounted (z .2), z .3)
 
   pub starts-made : Asked vs (λ r. AsksStarts r x text before after′) toldCounted before after′ k
       → (l : List ℕ) × StartsAre (asked (after (fresh n) cs)) e x l × (k ≡ length l) × (after′ ≡ over (take (length before) l) before)
   starts-made q =
       let t = asked-book q (after (fresh n) cs) kept in
-      let z = starts-of-book (inside (kept .2)) hx v (t .1) in
+      let z = starts-of-book (after (fresh n) cs) (inside (kept .2)) hx v (t .1) in
       (z .0, z .1, t .2 ∙ ap toldCounted (z .2), z .3)
