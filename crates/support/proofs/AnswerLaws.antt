@@ -205,7 +205,10 @@ module _ {r : Register} (core : ℕ) {n : ℕ} (v : Verdict) (anchors : List ℕ
       → SupportsFor r core v anchors work before before (Refused k)
   unfolding counted
   refuses {k} c f =
-      record { contained = contained-refused (length before) 0 before before k c refl; book = λ b R. book-refused b core v anchors work (caused-positive c) (f b R) }
+      record {
+        contained = contained-refused (length before) 0 before before k c refl;
+        book = λ b R. book-refused b core v anchors work (caused-positive c) (f b R);
+      }
 
   pub refuses-core : n ≤ core → SupportsFor r core v anchors work before before (Refused 2)
   unfolding number

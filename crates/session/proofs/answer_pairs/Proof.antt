@@ -42,7 +42,8 @@ unfolding engineFor
 returns-2 c =
     let after-pairs = c .before .before .before .before in
     let else1 = after-pairs .before .before .before in
-    engine-answers by-trees (else1 .before .size .ensures) (rw (lt-leb (else1 .before .size .result) 32 (omega (arith, else1 .if1 .left))) refl) (after-pairs .pairs .ensures)
+    engine-answers by-trees (else1 .before .size .ensures) (rw (lt-leb (else1 .before .size .result) 32 (omega (arith, else1 .if1 .left))) refl)
+    (after-pairs .pairs .ensures)
 
 pub answer-pairs-spec : {M : Type 1} → statement M
 answer-pairs-spec =
