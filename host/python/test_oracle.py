@@ -19,10 +19,12 @@ from dating import Cause, Edit, Pairs, Refusal, Register, Steps, sheets
 ROOT = Path(__file__).resolve().parents[2]
 ORACLE = ROOT / "target/oracle/release"
 
-# Each is seed and frames. One of 5,000 frames or more fills a register. If SEED is in the environment, others from it on in their place.
+# Each is seed and frames. One of 5,000 frames or more fills a register. If SEED is in the environment, others from it on in their place; how many calls,
+# refusals and edits there must be is known of the fixed ones alone.
 SESSIONS = [(101, 1500), (102, 1500), (103, 1500), (104, 1500), (105, 1500), (106, 6000)]
 PREVIEWS = [*range(201, 231)]
-if "SEED" in os.environ:
+DRAWN = "SEED" in os.environ
+if DRAWN:
     SESSIONS = [(int(os.environ["SEED"]), 1500), (int(os.environ["SEED"]) + 1, 6000)]
     PREVIEWS = [*range(int(os.environ["SEED"]), int(os.environ["SEED"]) + 10)]
 
@@ -155,8 +157,11 @@ class Oracle(unittest.TestCase):
                 calls += session.calls
                 refused |= session.refused
         # 15, 14 and 16 are the test's own; 17 and 18 are of withdrawn records.
-        self.assertEqual(refused - {14, 15, 16}, {1, 2, 3, 4, 5, 6, 7, 8, 9, 10, 17, 18})
-        self.assertGreater(calls, 10_000)
+        known = {1, 2, 3, 4, 5, 6, 7, 8, 9, 10, 17, 18}
+        self.assertLessEqual(refused - {14, 15, 16}, known)
+        if not DRAWN:
+            self.assertLessEqual(known, refused)
+            self.assertGreater(calls, 10_000)
         print(f"python: {calls:,} calls of random sessions as the independent program answers them")
 
     def test_previews(self) -> None:
@@ -192,8 +197,9 @@ class Oracle(unittest.TestCase):
                 except Refusal as refusal:
                     printed.append(f"refused {refusal.number}")
             self.assertEqual(printed, run("oracle-program", frames).decode().splitlines(), f"seed {seed}")
-        self.assertGreater(accepted, 300)
-        self.assertGreater(previews - accepted, 300)
+        if not DRAWN:
+            self.assertGreater(accepted, 300)
+            self.assertGreater(previews - accepted, 300)
         print(f"python: {previews:,} previews as the independent program answers them, {accepted:,} of edits that can be made")
 
     def previewed(self, register: Register, edit: Edit, text: str) -> list[str]:
