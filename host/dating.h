@@ -39,7 +39,7 @@
 extern "C" {
 #endif
 
-/* The words of a register. Words saved before the totals were kept, 5,380 of them, are refused with 16: a register is built again by its edits. */
+/* The words of a register. Words saved before the totals were kept, which are fewer, are refused with 16: a register is built again by its edits. */
 #define DATING_STATE_WORDS 5406
 /* The words of work that are enough for every call with n records up to 1,024. */
 #define DATING_WORK_WORDS 764608

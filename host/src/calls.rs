@@ -108,8 +108,8 @@
 
 use crate::{Refusal, Tie};
 
-/// The words of a register: n, the number of links, the place of the next held edit, the number of held edits, then 4,096 words of links,
-/// 256 of held edits, 1,024 of marks (1 locked, 2 withdrawn), 26 of totals. Words saved before the totals, 5,380 of them, are refused with 16.
+/// The words of a register. What stands where among them is the engine's alone: calls read it. Words saved before the totals were kept, which are fewer,
+/// are refused with 16.
 pub const STATE_WORDS: usize = 5406;
 
 /// The mark of a withdrawn record.

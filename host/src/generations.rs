@@ -1,9 +1,9 @@
 //! Generations: how long the longest run of links to each record is, or the first loop.
 
-use crate::calls::{self, WITHDRAWN};
-use crate::register::{MARKS, label};
+use crate::calls;
+use crate::register::label;
 use crate::space::{chain_work, longest_chain};
-use crate::{Refusal, Register, Steps};
+use crate::{Mark, Refusal, Register, Steps};
 use std::borrow::Cow;
 
 /// The answer to [`Register::generations`].
@@ -104,7 +104,7 @@ impl Register {
         if looped {
             return Ok(Generations::Loop(Steps::new(list, length)));
         }
-        let in_use = self.words()[MARKS].iter().zip(0..).filter(|&(&mark, _)| mark != WITHDRAWN);
+        let in_use = self.marks()?.into_iter().zip(0..).filter(|&(mark, _)| mark != Mark::Withdrawn);
         let records: Vec<u16> = in_use.map(|(_, record)| record).take(length).collect();
         Ok(Generations::Numbers(Numbers { words: Cow::Borrowed(&list[..records.len()]), records: records.into_iter() }))
     }

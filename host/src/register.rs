@@ -2,16 +2,12 @@
 
 use crate::calls::{self, STATE_WORDS, WITHDRAWN, counted, done, told};
 use crate::space::{chain_work, longest_chain};
-use crate::{Links, Pairs, Records, Refusal, Steps};
+use crate::{Link, Links, Pairs, Records, Refusal, Steps};
 use std::fmt::{self, Debug, Formatter};
-use std::ops::Range;
 use std::sync::Mutex;
 
-/// Where links, held edits, marks and totals stand among a register's words, after the four counters (see [`STATE_WORDS`]).
-const LINKS: Range<usize> = 4..4100;
-const HELD: Range<usize> = 4100..4356;
-pub(crate) const MARKS: Range<usize> = 4356..5380;
-const TOTALS: Range<usize> = 5380..STATE_WORDS;
+/// The most links that a register has.
+const MAX_LINKS: usize = 4096;
 
 /// The letters.
 const LETTERS: usize = 26;
@@ -106,13 +102,9 @@ impl Register {
         &mut self.words
     }
 
-    /// What makes registers equal: marks, links and totals, and the words of the edits that are held, the latest first.
-    fn parts(&self) -> (&[u32], &[u32], &[u32], Vec<u32>) {
-        let counter = |place: usize| self.words[place] as usize;
-        let (n, count, next, held) = (counter(0), counter(1), counter(2), counter(3));
-        let ring = &self.words[HELD];
-        let latest = (1..=held).map(|back| ring[(next + ring.len() - back) % ring.len()]).collect();
-        (&self.words[MARKS][..n], &self.words[LINKS][..count], &self.words[TOTALS], latest)
+    /// What is shown of a register: its marks, links and totals.
+    fn shown(&self) -> Result<(Vec<Mark>, Vec<Link>, [u32; LETTERS]), Refusal> {
+        Ok((self.marks()?, self.links()?.collect(), self.totals()?))
     }
 
     /// What is asked in space of so many words of work and of a list: that of the register, or fresh space if another question has it.
@@ -284,7 +276,7 @@ impl Register {
     /// # Ok::<(), dating::Refusal>(())
     /// ```
     pub fn links(&self) -> Result<Links<'static>, Refusal> {
-        self.in_space(0, LINKS.len(), |words, _, list| {
+        self.in_space(0, MAX_LINKS, |words, _, list| {
             let total = counted(calls::links(words, list))?;
             Ok(Links::new(list, total).own())
         })
@@ -436,10 +428,24 @@ impl Clone for Register {
     }
 }
 
-/// What a register is to whoever asks and undoes; words that no call reads play no part.
+/// What a register is to whoever asks and undoes: two are equal if they show the same, and so after each undo, until neither has an edit held. Words that
+/// no call reads play no part.
 impl PartialEq for Register {
     fn eq(&self, other: &Register) -> bool {
-        self.words == other.words || self.parts() == other.parts()
+        let (mut one, mut two) = (self.clone(), other.clone());
+        while one.words != two.words {
+            if one.shown() != two.shown() {
+                return false;
+            }
+            let undone = one.undo();
+            if two.undo() != undone {
+                return false;
+            }
+            if undone.is_err() {
+                break;
+            }
+        }
+        true
     }
 }
 

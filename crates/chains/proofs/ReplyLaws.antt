@@ -20,6 +20,8 @@ use borrow.Author.Tests.{le-leb, lt-leb, le-ltb, lt-ltb}
 use Rattle.book.specs.Causes.{no-record, short-work, short-list, number, Caused, firstNumber}
 use Rattle.book.specs.Book.{Book}
 use Rattle.book.specs.SetLaws.{or-true}
+use Rattle.answers.specs.Answers.{counted}
+use Rattle.answers.specs.AnswerLaws.{contained-refused, contained-count}
 use Rattle.paths.specs.Expressions.{Expr}
 use Rattle.paths.specs.Grammar.{Verdict, accepted, long, outside, large, verdictCause}
 use Rattle.paths.specs.Verdicts.{verdict}
@@ -36,7 +38,7 @@ use Rattle.search.specs.declared.Found.{Found}
 use Rattle.search.specs.declared.Found.the-variants.{Steps, Nowhere, Short}
 use Rattle.chains.specs.declared.ChainAnswer.{ChainAnswer}
 use Rattle.chains.specs.declared.ChainAnswer.the-variants.{Chain, NoChain, Refused}
-use Rattle.chains.specs.Replies.{outcomeOf, stepsLength, Replies}
+use Rattle.chains.specs.Replies.{outcomeOf, chainCounted, Replies}
 
 -- what is no chain's is nowhere found
 nowhere : {g : Graph} {e : Expr} {x y : ℕ} {list : List ℕ} → ChainIs g e x y no-reply → Answered g e x y list list Nowhere
@@ -98,10 +100,6 @@ reply-long (no-chain h) ss s l = absurd (h ss s)
 reply-long (first-chain ts F) ss s l = let z = l ts (F .answers) in let y = length-stepWords ts in omega arith
 
 -- ---- the promise
--- the number of a refusal is its own
-refused-as : {k : ℕ} → Caused k → (j : ℕ) → Refused k ≡ Refused j → Caused j
-refused-as {k} c j e = let z : k ≡ j = cc in subst Caused z c
-
 module _ {self : Register} {x y : ℕ} {text : List ℕ} {work : ℕ} {list : List ℕ} where
   -- what was found, by another equation
   pub replies-as : {list′ : List ℕ} {r r′ : Found} → r ≡ r′ → Replies self x y text work list list′ (foundAnswer r)
@@ -112,8 +110,8 @@ module _ {self : Register} {x y : ℕ} {text : List ℕ} {work : ℕ} {list : Li
   pub refuses : (k : ℕ) → Caused k
       → ((b : Book) → Represents self b → (t : Reply) → ReplyTo (asked b) (verdict text) x y t
       → chainAnswer b x y (verdict text) t work (length list) ≡ refused k) → Replies self x y text work list list (Refused k)
-  unfolding outcomeOf stepsLength listAfter
-  refuses k c h = record { fits = omega arith; past = refl; caused = refused-as c; answers = λ b R t q. (let e = h b R t q in (sym e, rw e refl)) }
+  unfolding outcomeOf chainCounted counted listAfter
+  refuses k c h = record { contained = contained-refused (length list) 0 list list k c refl; answers = λ b R t q. (let e = h b R t q in (sym e, rw e refl)) }
 
   module _ {n : ℕ} (size : (b : Book) → Represents self b → n ≡ b .n) where
     pub refuses-record : (n ≤ x) ⊎ (n ≤ y) → Replies self x y text work list list (Refused 2)
@@ -147,8 +145,8 @@ module _ {self : Register} {x y : ℕ} {text : List ℕ} {work : ℕ} {list : Li
               go (short ss s l m) i c = let z = reply-long c ss s l in omega arith
 
           replies-none : ((b : Book) → Represents self b → Answered (asked b) e x y list list Nowhere) → Replies self x y text work list list NoChain
-          unfolding outcomeOf stepsLength listAfter steps
-          replies-none h = record { fits = omega arith; past = refl; caused = λ k q. absurd (let z : _≡_ {A = ℕ} 0 1 = cc in omega arith); answers = ans }
+          unfolding outcomeOf chainCounted counted listAfter steps
+          replies-none h = record { contained = contained-count (length list) 0 list list 0 (omega arith) refl; answers = ans }
             where
               is-none : {g : Graph} {t : Reply} {r : Found} → Answered g e x y list list r → r ≡ Nowhere → ChainIs g e x y t → t ≡ no-reply
               is-none (first ss F z) i c = absurd (let z : _≡_ {A = ℕ} 0 1 = cc in omega arith)
@@ -166,9 +164,9 @@ module _ {self : Register} {x y : ℕ} {text : List ℕ} {work : ℕ} {list : Li
 
           replies-chain : {list′ : List ℕ} {k : ℕ} → k ≤ length list → length list′ ≡ length list → drop k list′ ≡ drop k list
               → ((b : Book) → Represents self b → Answered (asked b) e x y list list′ (Steps k)) → Replies self x y text work list list′ (Chain k)
-          unfolding outcomeOf stepsLength listAfter steps
+          unfolding outcomeOf chainCounted counted listAfter steps
           replies-chain {list′} {k} hk same rest h =
-              record { fits = hk; past = rest; caused = λ k q. absurd (let z : _≡_ {A = ℕ} 0 1 = cc in omega arith); answers = ans }
+              record { contained = contained-count (length list) k list list′ k hk rest; answers = ans }
             where
               is-chain : {g : Graph} {t : Reply} {r : Found} → Answered g e x y list list′ r → r ≡ Steps k → ChainIs g e x y t → t ≡ chain-reply (take k list′)
               is-chain (none z) i c = absurd (let z : _≡_ {A = ℕ} 0 1 = cc in omega arith)

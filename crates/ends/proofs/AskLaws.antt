@@ -7,7 +7,7 @@
 --                  a refusal keeps the promise, by each cause
 --   asks-ends      so does the answer
 -- Assumes nothing.
-use mathlib.Core.Path.{_≡_, refl, sym, ap, _∙_, subst}
+use mathlib.Core.Path.{_≡_, refl, sym, ap, _∙_}
 use mathlib.Core.List.{List, []}
 use mathlib.Core.Bool.{Bool, true, false≢true}
 use Prim.Native.Nat.{ℕ, _≤_, _<_}
@@ -26,7 +26,12 @@ use Rattle.paths.specs.ChainLaws.{Inside}
 use Rattle.paths.specs.Relations.{cells}
 use Rattle.paths.specs.RelationLaws.{cells-has}
 use Rattle.paths.specs.PairLaws.{withdrawn-out, verdict-caused}
-use Rattle.paths.specs.Questions.{refused, listAfter}
+use Rattle.answers.specs.Answers.{counted}
+use Rattle.answers.specs.AnswerLaws.{contained-refused, contained-count}
+use Rattle.answers.specs.Listing.{Shown}
+use Rattle.answers.specs.ListingLaws.{shown-over, shown-past}
+use Rattle.answers.specs.declared.Counted.the-variants.{Count, Refused}
+use Rattle.paths.specs.Questions.{refused, countOf, listAfter}
 use Rattle.register.specs.declared.Register.{Register}
 use Rattle.register.specs.Representation.{Represents}
 use Rattle.register.specs.Questions.{Withdrawal}
@@ -36,10 +41,8 @@ use Rattle.search.specs.Reaching.{Ended}
 use Rattle.ends.specs.Ends.{places, ends, joinedBy, endsCauses, endsAnswer}
 use Rattle.ends.specs.EndsLaws.{places-same, ends-only, joined-as}
 use Rattle.ends.specs.MadeLaws.{answer-ends}
-use Rattle.ends.specs.declared.EndsAnswer.the-variants.{Ends, Refused}
-use Rattle.ends.specs.Asking.{endsLength, told-number, told-ends, Asks}
-use Rattle.ends.specs.Listing.{Shown, meets}
-use Rattle.ends.proofs.ListLaws.{shown-over, shown-past}
+use Rattle.ends.specs.Asking.{AsksJoined}
+use Rattle.ends.specs.Listing.{meets}
 
 -- ---- the ends
 module _ (against : Bool) {self : Register} {b : Book} (R : Represents self b) where
@@ -76,46 +79,36 @@ module _ (against : Bool) (b : Book) (x room : ℕ) where
   answer-text hx large k q h = rw (lt-leb (b .n) x hx) (ap refused q)
 
 -- ---- the promise
--- the number of a refusal is its own
-refused-as : {k : ℕ} → Caused k → (j : ℕ) → Refused k ≡ Refused j → Caused j
-refused-as {k} c j e = let z : k ≡ j = cc in subst Caused z c
-
-module _ {against : Bool} {self : Register} {x : ℕ} {text before : List ℕ} where
+module _ (against : Bool) {self : Register} (x : ℕ) (text : List ℕ) {before : List ℕ} where
   refuses : (k : ℕ) → Caused k → ((b : Book) → Represents self b → endsAnswer against b x (verdict text) (length before) ≡ refused k)
-      → Asks against self x text before before (Refused k)
-  unfolding endsLength listAfter
+      → AsksJoined against self x text before before (Refused k)
+  unfolding counted countOf listAfter
   refuses k c h = record {
-    most = omega arith;
-    past = refl;
-    unchanged = λ j q. refl;
-    caused = refused-as c;
-    book = λ b R. (let e = h b R in record { tells = rw e told-number; list = rw e refl });
+    contained = contained-refused maxRecords 0 before before k c refl;
+    book = λ b R. (let e = h b R in record { answer = rw e refl; list = rw e refl });
   }
 
   module _ {n : ℕ} (size : (b : Book) → Represents self b → n ≡ b .n) where
-    pub refuses-record : n ≤ x → Asks against self x text before before (Refused 2)
+    pub refuses-record : n ≤ x → AsksJoined against self x text before before (Refused 2)
     unfolding number
     refuses-record h =
         refuses 2 (no-record, refl) (λ b R. (let s = size b R in answer-record against b x (length before) (verdict text) (omega arith)))
 
     module _ (hx : x < n) where
-      pub refuses-text : (k : ℕ) → firstNumber (verdictCause (verdict text)) ≡ k → 0 < k → Asks against self x text before before (Refused k)
+      pub refuses-text : (k : ℕ) → firstNumber (verdictCause (verdict text)) ≡ k → 0 < k → AsksJoined against self x text before before (Refused k)
       refuses-text k e h =
           refuses k (verdict-caused (verdict text) k e h) (λ b R. (let s = size b R in
           answer-text against b x (length before) (omega arith) (verdict text) k e h))
 
       module _ (e : Expr) (a : verdict text ≡ accepted e) where
         pub asks-ends : {after l : List ℕ} {r : ℕ} → r ≡ length l → r ≤ maxRecords → Shown l before after
-            → ((b : Book) → Represents self b → l ≡ joinedBy against (asked b) e x) → Asks against self x text before after (Ends r)
-        unfolding endsLength listAfter
+            → ((b : Book) → Represents self b → l ≡ joinedBy against (asked b) e x) → AsksJoined against self x text before after (Count r)
+        unfolding counted countOf listAfter
         asks-ends {after} {l} {r} q m S h = rw q (record {
-          most = rw q at m;
-          past = ap (drop (length l)) S ∙ shown-past l before;
-          unchanged = λ k z. absurd (let y : _≡_ {A = ℕ} 0 1 = cc in omega arith);
-          caused = λ k z. absurd (let y : _≡_ {A = ℕ} 0 1 = cc in omega arith);
+          contained = contained-count maxRecords (length l) before after (length l) (rw q at m) (ap (drop (length l)) S ∙ shown-past l before);
           book = λ b R.
               (let s = size b R in
               let i = h b R in
               let o = answer-ends against b x (length before) (omega arith) (verdict text) e a in
-              record { tells = rw (o, sym i) told-ends; list = rw (o, sym i) (S ∙ shown-over l before) });
+              record { answer = rw (o, sym i) refl; list = rw (o, sym i) (S ∙ shown-over l before) });
         })

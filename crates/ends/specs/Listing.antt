@@ -1,22 +1,10 @@
--- Writing the ends: what the functions give.
---   Shown l before after
---                   the list that held `before` holds of l what it takes, and then what was there
+-- The records that were seen in a final state.
 --   meets seen f y  the states of f that were seen at the record y
---   Grown t s ks before after
---                   a list that shows t words, and then ks, shows s words
 -- Assumes nothing: these are definitions.
-use mathlib.Core.Path.{_≡_}
-use mathlib.Core.List.{List, _++_}
+use mathlib.Core.List.{List}
 use Prim.Native.Nat.{ℕ}
 use lib.Bits.{bitAnd}
-use lib.ListN.{length, getD, take, drop}
-
-abbrev pub Shown : List ℕ → List ℕ → List ℕ → Type 0
-Shown l before after = after ≡ take (length before) l ++ drop (length l) before
+use lib.ListN.{getD}
 
 unfoldable pub meets : List ℕ → ℕ → ℕ → ℕ
 meets seen f y = bitAnd (getD seen y 0) f
-
-abbrev pub Grown : (t s : ℕ) → List ℕ → List ℕ → List ℕ → Type 0
-Grown t s ks before after = (l e : List ℕ) → length l ≡ t → length e ≡ length before → Shown l e before
-    → (s ≡ length (l ++ ks)) × Shown (l ++ ks) e after

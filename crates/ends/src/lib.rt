@@ -13,16 +13,12 @@ ghost use Rattle.reader.specs.Code.{code};
 ghost use Rattle.register.specs.Representation.{Represents};
 ghost use Rattle.arcs.specs.Arcs.{Spans};
 ghost use Rattle.ends.specs.Ends.{places, joinedBy};
-ghost use Rattle.ends.specs.Asking.{Asks, AsksEnds, AsksStarts};
-ghost use Rattle.ends.specs.Listing.{Shown, meets, Grown};
+ghost use Rattle.answers.specs.Listing.{Shown, Grown};
+ghost use Rattle.ends.specs.Asking.{AsksJoined, AsksEnds, AsksStarts};
+ghost use Rattle.ends.specs.Listing.{meets};
+use answers::Counted;
 use reader::Answer;
 use register::Register;
-
-// How many ends or starts there are in all, of which the list has as many as it takes; or the number of a cause.
-pub enum EndsAnswer {
-    Ends(usize),
-    Refused(u32),
-}
 
 // The record y written at place t, if the states are not none and the list is that long. The place after it.
 fn write(out: &mut [u32], t: usize, states: u64, y: u32) -> usize
@@ -32,10 +28,7 @@ fn write(out: &mut [u32], t: usize, states: u64, y: u32) -> usize
     if states == 0 {
         return t;
     }
-    if out.len() <= t {
-        return t + 1;
-    }
-    out[t] = y;
+    answers::put_u32(out, t, y);
     t + 1
 }
 
@@ -82,19 +75,19 @@ fn sought(
 }
 
 // The records that a chain joins to the one, in either sense.
-fn joined(register: Register, to: u16, text: &[u8], against: bool, out: &mut [u32]) -> EndsAnswer
-    ensures { λ r. ⌜ Asks against register to (now (text .entry)) (now (out .entry)) (now (out .exit)) r ⌝ }
+fn joined(register: Register, to: u16, text: &[u8], against: bool, out: &mut [u32]) -> Counted
+    ensures { λ r. ⌜ AsksJoined against register to (now (text .entry)) (now (out .entry)) (now (out .exit)) r ⌝ }
 {
     let n = register.size();
     let x = to as usize;
     if n <= x {
-        return EndsAnswer::Refused(book::NO_RECORD);
+        return Counted::Refused(book::NO_RECORD);
     }
     let reading = reader::read(text);
     let code = reading.code;
     let answer = reading.answer;
     match answer {
-        Answer::Refused(number) => EndsAnswer::Refused(number as u32),
+        Answer::Refused(number) => Counted::Refused(number as u32),
         Answer::Accepted(k) => {
             let links = register.links();
             let total = sought(
@@ -107,20 +100,20 @@ fn joined(register: Register, to: u16, text: &[u8], against: bool, out: &mut [u3
                 x,
                 out,
             );
-            EndsAnswer::Ends(total)
+            Counted::Count(total)
         }
     }
 }
 
 // Every record that a chain leads to from the one, spelling a word of the expression: ascending, as many as the list takes.
-pub fn ends(register: Register, from: u16, text: &[u8], out: &mut [u32]) -> EndsAnswer
+pub fn ends(register: Register, from: u16, text: &[u8], out: &mut [u32]) -> Counted
     ensures { λ r. ⌜ AsksEnds register from (now (text .entry)) (now (out .entry)) (now (out .exit)) r ⌝ }
 {
     joined(register, from, text, false, out)
 }
 
 // Every record from which a chain leads to the one, likewise.
-pub fn starts(register: Register, to: u16, text: &[u8], out: &mut [u32]) -> EndsAnswer
+pub fn starts(register: Register, to: u16, text: &[u8], out: &mut [u32]) -> Counted
     ensures { λ r. ⌜ AsksStarts register to (now (text .entry)) (now (out .entry)) (now (out .exit)) r ⌝ }
 {
     joined(register, to, text, true, out)

@@ -1,12 +1,10 @@
 -- Demand 3, undivided: what is claimed of every history, and of the questions asked after it. It speaks of the plain book, of chains and of words.
---   Engine               which engine answers a pair question: that on trees or that on rows
 --   PairsAsked           a pair question: its engine, its text, how many words of work were lent, the list as it was and as it is then, and the answer
 --   ChainAsked           a chain question: from, to, and the same but for the engine
 --   Transcript           a history and the questions after it: n, the calls, the number told to each, the list that each closing up was lent, at the end the
 --                        number of records, the words of the links, the mark of each record (register `Marks`) and the total of each label, and
 --                        the two questions asked then
 --   bookAfter i          the plain book after the calls of i, from a fresh one
---   workFor d n          the words of work that the engine d needs for n records
 --   PairsAccepted b q e  the pair question q about the book b is accepted: its text is the expression e, and work is enough
 --   PairsSay b e q       the question q is answered by the number of all pairs with a chain, and the list has the smallest of them, ascending, each once, as
 --                        many as it takes: every pair in it is smaller than every other (paths/PairLaws `first-part`)
@@ -26,32 +24,27 @@ use lib.ListN.{length, take, getD}
 use Rattle.book.specs.Basics.{In}
 use Rattle.book.specs.Causes.{labels}
 use Rattle.book.specs.Book.{Book, Call, total, fresh, answers, after, givens}
+use Rattle.answers.specs.declared.Counted.{Counted}
+use Rattle.answers.specs.declared.Counted.the-variants.{Count}
 use Rattle.paths.specs.Expressions.{Expr}
 use Rattle.paths.specs.Grammar.{accepted, Judged}
 use Rattle.paths.specs.Chains.{Graph, asked, Step, stepWords, Answers, First}
 use Rattle.paths.specs.Relations.{PairsAre}
-use Rattle.paths.specs.Questions.{pairsWork, chainWork, over}
-use Rattle.rowpairs.specs.Asking.{rowsWork}
+use Rattle.paths.specs.Questions.{Engine, workFor, chainWork, over}
 use Rattle.register.specs.History.{Lent, Gives}
 use Rattle.register.specs.Links.{Linked}
 use Rattle.register.specs.Marks.{freeMark, markOf}
-use Rattle.pairs.specs.declared.PairsAnswer.{PairsAnswer}
-use Rattle.pairs.specs.declared.PairsAnswer.the-variants.{Pairs}
 use Rattle.chains.specs.declared.ChainAnswer.{ChainAnswer}
 use Rattle.chains.specs.declared.ChainAnswer.the-variants.{Chain, NoChain}
 
 -- ---- what was lent, and what came back
-pub data Engine : Type 0 where
-  by-trees : Engine
-  by-rows : Engine
-
 pub record PairsAsked : Type 0 where
   pub engine : Engine
   pub text : List ℕ
   pub work : ℕ
   pub before : List ℕ
   pub after : List ℕ
-  pub answer : PairsAnswer
+  pub answer : Counted
 
 pub record ChainAsked : Type 0 where
   pub from : ℕ
@@ -78,22 +71,18 @@ abbrev pub bookAfter : Transcript → Book
 bookAfter i = after (fresh (i .n)) (i .calls)
 
 -- ---- pair questions
-abbrev pub workFor : Engine → ℕ → ℕ
-workFor by-trees n = pairsWork n
-workFor by-rows n = rowsWork n
-
 pub record PairsAccepted (b : Book) (q : PairsAsked) (e : Expr) : Type 0 where
   pub expression : Judged (q .text) (accepted e)
   pub work : workFor (q .engine) (b .n) ≤ q .work
 
 abbrev pub PairsSay : Book → Expr → PairsAsked → Type 0
 PairsSay b e q =
-    (l : List ℕ) × PairsAre (asked b) e l × (q .answer ≡ Pairs (length l)) × (q .after ≡ over (take (length (q .before)) l) (q .before))
+    (l : List ℕ) × PairsAre (asked b) e l × (q .answer ≡ Count (length l)) × (q .after ≡ over (take (length (q .before)) l) (q .before))
     × ((w v : ℕ) → In w (take (length (q .before)) l) → In v l → (In v (take (length (q .before)) l) → ⊥) → w < v)
 
 pub record PairsClaim (b : Book) (q : PairsAsked) : Type 0 where
   pub says : (e : Expr) → PairsAccepted b q e → PairsSay b e q
-  pub handed : (k : ℕ) → q .answer ≡ Pairs k → (e : Expr) × Judged (q .text) (accepted e) × PairsSay b e q
+  pub handed : (k : ℕ) → q .answer ≡ Count k → (e : Expr) × Judged (q .text) (accepted e) × PairsSay b e q
 
 -- ---- chain questions
 pub record ChainAccepted (b : Book) (q : ChainAsked) (e : Expr) : Type 0 where

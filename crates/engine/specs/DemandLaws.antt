@@ -10,14 +10,18 @@ use mathlib.Core.Path.{_≡_, refl, sym, ap, _∙_, subst}
 use mathlib.Core.List.{List, [], _∷_, _++_}
 use mathlib.Core.Bool.{Bool, true, false, _||_}
 use Prim.Native.Nat.{ℕ, zero, suc, _+_, _*_, _≤_, _<_}
+use native.Mathlib.Decide.{decLt}
 use native.Mathlib.Omega.{arith}
 use lib.ListN.{length, take, drop, length-append, length-drop}
 use lib.Seq.{length-take-le}
-use lib.Dec.{leb, ltb}
-use borrow.Author.Tests.{lt-leb, le-ltb, ltb-false}
+use lib.Dec.{leb}
+use borrow.Author.Tests.{lt-leb, le-ltb}
 use Rattle.book.specs.Basics.{pick, bit, here, has}
-use Rattle.book.specs.Causes.{number, short-work, too-many-bytes, no-expression, too-large, firstNumber, maxRecords}
+use Rattle.book.specs.Causes.{number, too-many-bytes, no-expression, too-large, firstNumber, maxRecords}
 use Rattle.book.specs.Book.{Book, fresh, answers, givens, freshAnswer}
+use Rattle.answers.specs.Answers.{counted}
+use Rattle.answers.specs.declared.Counted.{Counted}
+use Rattle.answers.specs.declared.Counted.the-variants.{Count}
 use Rattle.paths.specs.Expressions.{Expr}
 use Rattle.paths.specs.Grammar.{Verdict, accepted, long, outside, large, Judged, verdictCause}
 use Rattle.paths.specs.Chains.{asked, Step, stepWords, Answers, First, Reply, none, chain, ChainIs, no-chain, first-chain}
@@ -26,8 +30,8 @@ use Rattle.paths.specs.PairLaws.{fit-inside, pairs-are, first-part}
 use Rattle.paths.specs.FirstChainLaws.{has-first}
 use Rattle.paths.specs.GraphLaws.{some-reply}
 use Rattle.paths.specs.Verdicts.{verdict, verdict-right, verdict-only}
-use Rattle.paths.specs.Questions.{Outcome, refused, paired, replied, unless, pairsWork, chainWork, pairsOf, ReplyTo, steps, chainCauses, chainAnswer}
-use Rattle.paths.specs.Questions.{pairsCauses, pairsAnswer, over, listAfter}
+use Rattle.paths.specs.Questions.{Outcome, refused, replied, unless, workFor, chainWork, ReplyTo, steps, chainCauses, chainAnswer}
+use Rattle.paths.specs.Questions.{pairsCauses, pairsAnswer, over, listAfter, countOf, Tells}
 use Rattle.register.specs.Links.{Linked}
 use Rattle.register.specs.Representation.{Represents}
 use Rattle.register.specs.Calls.{Opens}
@@ -35,16 +39,14 @@ use Rattle.register.specs.History.{Gives, CallsMade, wordCall, wordAnswers, isC
 use Rattle.register.specs.HistoryLaws.{history, word-answers-length, told-calls}
 use Rattle.register.specs.declared.Register.{Register}
 use Rattle.register.specs.declared.Outcome.{Outcome as Told}
-use Rattle.pairs.specs.Asking.{Tells, told-number, told-pairs}
-use Rattle.rowpairs.specs.Asking.{rowsWork, rowsCauses, rowsAnswer}
-use Rattle.pairs.specs.declared.PairsAnswer.{PairsAnswer}
-use Rattle.pairs.specs.declared.PairsAnswer.the-variants.{Pairs}
+use Rattle.query.specs.Asking.{AsksFor}
+use Rattle.query.specs.AskingLaws.{outcome-short, outcome-paired}
 use Rattle.automaton.specs.WalkLaws.{length-stepWords}
-use Rattle.chains.specs.Replies.{outcomeOf, stepsLength, Replies}
+use Rattle.chains.specs.Replies.{outcomeOf, chainCounted, Replies}
 use Rattle.chains.specs.declared.ChainAnswer.{ChainAnswer}
 use Rattle.chains.specs.declared.ChainAnswer.the-variants.{Chain, NoChain, Refused as NotAnswered}
-use Rattle.engine.specs.Inquiries.{AskedBy, Gave}
-use Rattle.engine.specs.Demand.{Engine, by-trees, by-rows, PairsAsked, ChainAsked, Transcript, bookAfter, workFor}
+use Rattle.engine.specs.Inquiries.{Gave}
+use Rattle.engine.specs.Demand.{PairsAsked, ChainAsked, Transcript, bookAfter}
 use Rattle.engine.specs.Demand.{PairsSay, PairsClaim, FirstHanded, ChainClaim, Demand}
 
 -- what a register shows lies within its records
@@ -52,87 +54,50 @@ small : {e : Register} {b : Book} → Represents e b → b .n ≤ 1024
 small R = let q = R .size in let l = R .ranged .size in omega arith
 
 -- ---- pair questions
-told-as : {o : Outcome} {a : PairsAnswer} (total : ℕ) (ws : List ℕ) → Tells o a → o ≡ paired total ws → a ≡ Pairs total
-told-as total ws (told-number {k}) e = absurd (let z : _≡_ {A = ℕ} 0 1 = cc in omega arith)
-told-as total ws (told-pairs {total = k}) e = let z : k ≡ total = cc in ap Pairs z
+refused-uncounted : {o : Outcome} {a : Counted} (k : ℕ) → a ≡ countOf o → o ≡ refused k → (m : ℕ) → a ≡ Count m → ⊥
+unfolding countOf
+refused-uncounted k t e m p = let z : Count m ≡ countOf (refused k) = sym p ∙ t ∙ ap countOf e in let y : _≡_ {A = ℕ} 0 1 = cc in omega arith
 
-not-told : {o : Outcome} {a : PairsAnswer} (c k : ℕ) → Tells o a → o ≡ refused c → a ≡ Pairs k → ⊥
-not-told c k told-number e p = let z : _≡_ {A = ℕ} 0 1 = cc in omega arith
-not-told c k told-pairs e p = let z : _≡_ {A = ℕ} 0 1 = cc in omega arith
+module _ {r : Register} {b : Book} (R : Represents r b) (q : PairsAsked)
+    (T : Tells (pairsAnswer (q .engine) b (verdict (q .text)) (q .work) (length (q .before))) (q .before) (q .after) (q .answer)) where
+  at : (u : Verdict) → verdict (q .text) ≡ u
+      → pairsAnswer (q .engine) b (verdict (q .text)) (q .work) (length (q .before)) ≡ pairsAnswer (q .engine) b u (q .work) (length (q .before))
+  at u v = ap (λ (u : Verdict). pairsAnswer (q .engine) b u (q .work) (length (q .before))) v
 
--- what either engine answers, by the words of work that it needs
-abbrev outcomeFor : Book → Verdict → ℕ → ℕ → ℕ → Outcome
-outcomeFor b v need work room =
-    unless (firstNumber (verdictCause v ++ ((short-work, ltb work need) ∷ []))) (paired (length (pairsOf b v)) (take room (pairsOf b v)))
-
-tree-outcome : (b : Book) (v : Verdict) (work room : ℕ) → pairsAnswer b v work room ≡ outcomeFor b v (pairsWork (b .n)) work room
-unfolding pairsAnswer pairsCauses
-tree-outcome b v work room = refl
-
-row-outcome : (b : Book) (v : Verdict) (work room : ℕ) → rowsAnswer b v work room ≡ outcomeFor b v (rowsWork (b .n)) work room
-unfolding rowsAnswer rowsCauses
-row-outcome b v work room = refl
-
-module _ {r : Register} {b : Book} (R : Represents r b) (q : PairsAsked) (need : ℕ)
-    (T : Tells (outcomeFor b (verdict (q .text)) need (q .work) (length (q .before))) (q .answer))
-    (L : q .after ≡ listAfter (outcomeFor b (verdict (q .text)) need (q .work) (length (q .before))) (q .before)) where
-  pairs-say : (e : Expr) → Judged (q .text) (accepted e) → need ≤ q .work → PairsSay b e q
-  unfolding listAfter asked verdictCause firstNumber number pairsOf
-  pairs-say e J h =
-      let v : accepted e ≡ verdict (q .text) = verdict-only J in
+  pairs-say : (e : Expr) → verdict (q .text) ≡ accepted e → workFor (q .engine) (b .n) ≤ q .work → PairsSay b e q
+  unfolding listAfter countOf asked
+  pairs-say e v h =
       let l = pairs (asked b) e in
       let are = pairs-are (asked b) (fit-inside b (R .sheet .fit)) (small R) e in
-      let room = length (q .before) in
-      let p : outcomeFor b (accepted e) need (q .work) room ≡ paired (length l) (take room l) = rw (le-ltb (q .work) need h) in
-      let o : outcomeFor b (verdict (q .text)) need (q .work) room ≡ paired (length l) (take room l) =
-      ap (λ (u : Verdict). outcomeFor b u need (q .work) room) (sym v) ∙ p in (
+      let o = at (accepted e) v ∙ outcome-paired (q .engine) b (q .work) (length (q .before)) e h in (
         l,
         are,
-        told-as (length l) (take room l) T o,
-        L ∙ ap (λ (u : Outcome). listAfter u (q .before)) o,
-        λ w v. first-part room w v l (are .ascending),
+        T .answer ∙ ap countOf o,
+        T .list ∙ ap (λ (u : Outcome). listAfter u (q .before)) o,
+        λ w v. first-part (length (q .before)) w v l (are .ascending),
       )
 
-  pairs-handed : (k : ℕ) → q .answer ≡ Pairs k → (e : Expr) × Judged (q .text) (accepted e) × PairsSay b e q
-  unfolding verdictCause firstNumber number
+  pairs-handed : (k : ℕ) → q .answer ≡ Count k → (e : Expr) × Judged (q .text) (accepted e) × PairsSay b e q
+  unfolding pairsAnswer pairsCauses verdictCause firstNumber number
   pairs-handed k p = go (verdict (q .text)) refl
     where
-      enough : (e : Expr) → verdict (q .text) ≡ accepted e → (t : Bool) → ltb (q .work) need ≡ t → need ≤ q .work
-      enough e v true t = absurd (not-told (number short-work) k T (ap (λ (u : Verdict). outcomeFor b u need (q .work) (length (q .before))) v ∙ rw t) p)
-      enough e v false t = ltb-false (q .work) need t
+      not-refused : (c : ℕ) (u : Verdict) → verdict (q .text) ≡ u → pairsAnswer (q .engine) b u (q .work) (length (q .before)) ≡ refused c → ⊥
+      not-refused c u v o = refused-uncounted c (T .answer) (at u v ∙ o) k p
 
-      refused-as : (c : ℕ) → outcomeFor b (verdict (q .text)) need (q .work) (length (q .before)) ≡ refused c → ⊥
-      refused-as c o = not-told c k T o p
-
-      at : (u : Verdict) → verdict (q .text) ≡ u
-          → outcomeFor b (verdict (q .text)) need (q .work) (length (q .before)) ≡ outcomeFor b u need (q .work) (length (q .before))
-      at u v = ap (λ (u : Verdict). outcomeFor b u need (q .work) (length (q .before))) v
+      enough : (e : Expr) → verdict (q .text) ≡ accepted e → Dec (q .work < workFor (q .engine) (b .n)) → workFor (q .engine) (b .n) ≤ q .work
+      enough e v (yes h) = absurd (not-refused 12 (accepted e) v (outcome-short (q .engine) b (q .work) (length (q .before)) e h))
+      enough e v (no h) = omega arith
 
       go : (u : Verdict) → verdict (q .text) ≡ u → (e : Expr) × Judged (q .text) (accepted e) × PairsSay b e q
-      go (accepted e) v =
-          let J : Judged (q .text) (accepted e) = subst (Judged (q .text)) v (verdict-right (q .text)) in
-          (e, J, pairs-say e J (enough e v (ltb (q .work) need) refl))
-      go long v = absurd (refused-as (number too-many-bytes) (at long v))
-      go outside v = absurd (refused-as (number no-expression) (at outside v))
-      go large v = absurd (refused-as (number too-large) (at large v))
+      go (accepted e) v = (e, subst (Judged (q .text)) v (verdict-right (q .text)), pairs-say e v (enough e v (decLt (q .work) (workFor (q .engine) (b .n)))))
+      go long v = absurd (not-refused (number too-many-bytes) long v refl)
+      go outside v = absurd (not-refused (number no-expression) outside v refl)
+      go large v = absurd (not-refused (number too-large) large v refl)
 
-pub pairs-claim : {r : Register} {b : Book} → Represents r b → (q : PairsAsked) → AskedBy (q .engine) r q → PairsClaim b q
-pairs-claim {r} {b} R q Q = go (q .engine) refl Q
-  where
-    made : (need : ℕ) → need ≡ workFor (q .engine) (b .n) → Tells (outcomeFor b (verdict (q .text)) need (q .work) (length (q .before))) (q .answer)
-        → q .after ≡ listAfter (outcomeFor b (verdict (q .text)) need (q .work) (length (q .before))) (q .before) → PairsClaim b q
-    made need n T L =
-        record { says = λ e A. pairs-say R q need T L e (A .expression) (subst (λ (j : ℕ). j ≤ q .work) (sym n) (A .work)); handed = pairs-handed R q need T L }
-
-    go : (d : Engine) → q .engine ≡ d → AskedBy d r q → PairsClaim b q
-    go by-trees d Q =
-        let o = tree-outcome b (verdict (q .text)) (q .work) (length (q .before)) in
-        made (pairsWork (b .n)) (ap (λ (d : Engine). workFor d (b .n)) (sym d)) (subst (λ (u : Outcome). Tells u (q .answer)) o (Q .book b R .tells))
-        (Q .book b R .list ∙ ap (λ (u : Outcome). listAfter u (q .before)) o)
-    go by-rows d Q =
-        let o = row-outcome b (verdict (q .text)) (q .work) (length (q .before)) in
-        made (rowsWork (b .n)) (ap (λ (d : Engine). workFor d (b .n)) (sym d)) (subst (λ (u : Outcome). Tells u (q .answer)) o (Q .book b R .tells))
-        (Q .book b R .list ∙ ap (λ (u : Outcome). listAfter u (q .before)) o)
+pub pairs-claim : {r : Register} {b : Book} → Represents r b → (q : PairsAsked)
+    → AsksFor (q .engine) r (verdict (q .text)) (q .work) (q .before) (q .after) (q .answer) → PairsClaim b q
+pairs-claim {b = b} R q Q = let T = Q .book b R in
+    record { says = λ e A. pairs-say R q T e (sym (verdict-only (A .expression))) (A .work); handed = pairs-handed R q T }
 
 -- ---- chain questions
 module _ {e : Register} {b : Book} (R : Represents e b) (x y : ℕ) (text : List ℕ) (work : ℕ)
@@ -158,15 +123,15 @@ module _ {e : Register} {b : Book} (R : Represents e b) (x y : ℕ) (text : List
 
   -- the answer that says a chain, and the one that says none
   says-chain : (ws : List ℕ) → outcomeOf a after′ ≡ replied (chain ws) → after′ ≡ over ws before → length ws ≤ length before → a ≡ Chain (length ws)
-  unfolding outcomeOf stepsLength
-  says-chain ws o l h = go a o (Q .fits)
+  unfolding outcomeOf counted chainCounted
+  says-chain ws o l h = go a o (Q .contained .fits)
     where
       long : length after′ ≡ length before
       long =
           ap length l ∙ length-append ws (drop (length ws) before)
           ∙ (let d = length-drop (length ws) before in let z : length ws + length (drop (length ws) before) ≡ length before = omega arith in z)
 
-      go : (r : ChainAnswer) → outcomeOf r after′ ≡ replied (chain ws) → stepsLength r ≤ length before → r ≡ Chain (length ws)
+      go : (r : ChainAnswer) → outcomeOf r after′ ≡ replied (chain ws) → counted (chainCounted r) ≤ length before → r ≡ Chain (length ws)
       go (Chain k) o q =
           let t : take k after′ ≡ ws = cc in
           let m : k ≡ length ws = sym (length-take-le k after′ (omega (arith, long))) ∙ ap length t in
@@ -238,7 +203,7 @@ steps-told k ws before after′ h t l =
 chain-handed : {r : Register} {b : Book} → Represents r b → (q : ChainAsked)
     → Replies r (q .from) (q .to) (q .text) (q .work) (q .before) (q .after) (q .answer) → (k : ℕ) → q .answer ≡ Chain k
     → (e : Expr) × Judged (q .text) (accepted e) × FirstHanded b e q k
-unfolding outcomeOf stepsLength chainAnswer listAfter steps
+unfolding outcomeOf counted chainCounted chainAnswer listAfter steps
 chain-handed {r} {b} R q Q k p = go (some .0) refl (J .0) (subst (λ (v : Verdict). Judged (q .text) v) (J .1) (verdict-right (q .text))) (some .1 (J .0) (J .1))
   where
     some : (t : Reply) × ReplyTo (asked b) (verdict (q .text)) (q .from) (q .to) t
@@ -257,7 +222,7 @@ chain-handed {r} {b} R q Q k p = go (some .0) refl (J .0) (subst (λ (v : Verdic
     J = no-cause-read b (q .from) (q .to) (verdict (q .text)) (some .0) (q .work) (length (q .before)) (came .0)
 
     fits : k ≤ length (q .before)
-    fits = subst (λ (a : ChainAnswer). stepsLength a ≤ length (q .before)) p (Q .fits)
+    fits = subst (λ (a : ChainAnswer). counted (chainCounted a) ≤ length (q .before)) p (Q .contained .fits)
 
     written : q .after ≡ listAfter (replied (some .0)) (q .before)
     written = both .1 ∙ ap (λ (c : ℕ). listAfter (unless c (replied (some .0))) (q .before)) (came .0)

@@ -1,5 +1,4 @@
 -- What `inquire` promises: a history and the questions after it, made by one function; and what any calls gave, of which demand 3 is a theorem.
---   AskedBy d r q   the register r was asked the pair question q by the engine d
 --   Gave r t        the register r at the end of a history gave, read and asked, what the transcript t says (DemandLaws `demand-3`)
 --   linksShown r    the words of the links that an inquiry shows
 --   Unasked k heard lists p c r
@@ -19,31 +18,27 @@ use Prim.Native.Nat.{ℕ, _<_}
 use lib.ListN.{length, take, drop, getD}
 use Rattle.book.specs.Causes.{labels}
 use Rattle.book.specs.Book.{fresh, after, givens}
+use Rattle.answers.specs.declared.Counted.the-variants.{Refused}
 use Rattle.paths.specs.Verdicts.{verdict}
+use Rattle.paths.specs.Questions.{pairsAnswer, Tells}
 use Rattle.register.specs.Calls.{answerOf}
 use Rattle.register.specs.History.{Lent, wordAnswers, callsOf, toldCalls, closings, laid, parts, replayNumber}
 use Rattle.register.specs.Marks.{freeMark}
 use Rattle.register.specs.Questions.{Sized, Listing, MarkList, TotalList}
 use Rattle.register.specs.declared.Register.{Register}
 use Rattle.register.specs.declared.Links.{Links}
-use Rattle.pairs.specs.Asking.{BookPairs, AsksPairs}
-use Rattle.pairs.specs.declared.PairsAnswer.the-variants.{Refused}
-use Rattle.rowpairs.specs.Asking.{AsksRows}
+use Rattle.query.specs.Asking.{AsksFor}
 use Rattle.chains.specs.Replies.{BookReplies, Replies}
 use Rattle.chains.specs.declared.ChainAnswer.the-variants.{Refused as Unanswered}
-use Rattle.engine.specs.Demand.{Engine, by-trees, by-rows, PairsAsked, ChainAsked, Transcript, Demand}
+use Rattle.engine.specs.Demand.{PairsAsked, ChainAsked, Transcript, Demand}
 use Rattle.engine.specs.declared.Inquiry.{Inquiry}
-
-abbrev pub AskedBy : Engine → Register → PairsAsked → Type 0
-AskedBy by-trees r q = AsksPairs r (q .text) (q .work) (q .before) (q .after) (q .answer)
-AskedBy by-rows r q = AsksRows r (q .text) (q .work) (q .before) (q .after) (q .answer)
 
 pub record Gave (r : Register) (t : Transcript) : Type 0 where
   pub size : Sized r (t .size)
   pub links : (ls : Links) × Listing r ls × (t .links ≡ take (ls .count) (ls .words))
   pub marks : MarkList r (t .marks)
   pub totals : TotalList r (t .totals)
-  pub pairs : AskedBy (t .pairs .engine) r (t .pairs)
+  pub pairs : AsksFor (t .pairs .engine) r (verdict (t .pairs .text)) (t .pairs .work) (t .pairs .before) (t .pairs .after) (t .pairs .answer)
   pub chain : Replies r (t .chain .from) (t .chain .to) (t .chain .text) (t .chain .work) (t .chain .before) (t .chain .after) (t .chain .answer)
 
 abbrev pub linksShown : Inquiry → List ℕ
@@ -64,7 +59,8 @@ pub record Unasked (k : ℕ) (heard lists : Lent) (p : PairsAsked) (c : ChainAsk
 pub record Inquired (n : ℕ) (words : List ℕ) (heard lists : Lent) (p : PairsAsked) (c : ChainAsked) (r : Inquiry) : Type 0 where
   pub told : heard .after ≡ wordAnswers (fresh n) words ++ drop (length words) (heard .before)
   pub given : lists .after ≡ laid (givens (fresh n) (callsOf words)) (lists .before)
-  pub pairs : BookPairs (after (fresh n) (callsOf words)) (verdict (p .text)) (p .work) (p .before) (p .after) (p .answer)
+  pub pairs : Tells (pairsAnswer (p .engine) (after (fresh n) (callsOf words)) (verdict (p .text)) (p .work) (length (p .before)))
+      (p .before) (p .after) (p .answer)
   pub chain : BookReplies (after (fresh n) (callsOf words)) (c .from) (c .to) (c .text) (c .work) (c .before) (c .after) (c .answer)
   pub demand : Demand (record {
     n = n;

@@ -1,5 +1,4 @@
 -- Laws of previews.
---   tells-only       an outcome is told by one answer
 --   by-number        an answer by its number
 --   accepted-as      an accepted call is accepted by every book that the register represents
 --   preview-refused  a refused call's number, with the list as it was, is what a preview promises
@@ -17,8 +16,10 @@ use lib.ListN.{length}
 use Rattle.book.specs.Causes.{Caused}
 use Rattle.book.specs.Book.{Book, Call, answer, next, fresh, after}
 use Rattle.book.specs.BookLaws.{caused-positive}
+use Rattle.answers.specs.declared.Counted.{Counted}
+use Rattle.answers.specs.declared.Counted.the-variants.{Refused}
 use Rattle.paths.specs.Verdicts.{verdict}
-use Rattle.paths.specs.Questions.{refused, Outcome as Question·Outcome, unless, pairsWork, pairsAnswer, listAfter}
+use Rattle.paths.specs.Questions.{refused, Outcome as Question·Outcome, by-trees, by-rows, unless, pairsWork, rowsWork, pairsAnswer, listAfter, countOf, Tells}
 use Rattle.register.specs.Representation.{Represents}
 use Rattle.register.specs.Calls.{answerNumber, Steps}
 use Rattle.register.specs.HistoryLaws.{number-answer}
@@ -27,19 +28,10 @@ use Rattle.register.specs.declared.Register.{Register}
 use Rattle.register.specs.declared.Outcome.{Outcome}
 use Rattle.register.specs.declared.Answer.{Answer}
 use Rattle.register.specs.declared.Answer.the-variants.{Done, Refused as Turned-down}
-use Rattle.pairs.specs.Asking.{pairsLength, Tells, told-number, told-pairs, AsksPairs}
-use Rattle.pairs.specs.declared.PairsAnswer.{PairsAnswer}
-use Rattle.pairs.specs.declared.PairsAnswer.the-variants.{Pairs, Refused}
-use Rattle.rowpairs.specs.Asking.{rowsWork, AsksRows}
-use Rattle.rowpairs.specs.AskingLaws.{rows-outcome}
+use Rattle.query.specs.Asking.{maxPairs, AsksPairs, AsksRows}
+use Rattle.query.specs.AskingLaws.{asks-refused, engines-outcome, tells-same}
 use Rattle.engine.specs.BookLaws.{made-book}
-use Rattle.engine.specs.Previews.{previewAnswer, BookPreviews, Previews}
-
-pub tells-only : {o p : Question·Outcome} {a a′ : PairsAnswer} → o ≡ p → Tells o a → Tells p a′ → a ≡ a′
-tells-only e (told-number {k = j}) (told-number {k = k}) = let z : j ≡ k = cc in ap Refused z
-tells-only e (told-number {k = j}) (told-pairs {total} {ws}) = absurd (let z : _≡_ {A = ℕ} 0 1 = cc in omega arith)
-tells-only e (told-pairs {total} {ws}) (told-number {k = k}) = absurd (let z : _≡_ {A = ℕ} 0 1 = cc in omega arith)
-tells-only e (told-pairs {total} {ws}) (told-pairs {total = m} {ws = vs}) = let z : total ≡ m = cc in ap Pairs z
+use Rattle.engine.specs.Previews.{previewAnswer, Previews}
 
 -- an answer by its number: no cause has the number 0
 pub by-number : (a : Answer) (k : ℕ) → k ≡ answerNumber a → (k ≡ 0 → ⊥) → a ≡ Turned-down k
@@ -67,66 +59,46 @@ module _ {r : Register} {c : Call} {o : Outcome} (s : Steps r c o) where
     refused-outcome : (k : ℕ) → o .answer ≡ Turned-down k → (b : Book) → Represents r b → previewAnswer b c (verdict text) work (length before) ≡ refused k
     unfolding previewAnswer
     refused-outcome k e b R =
-        rw (refused-as k e b R) (unless-refused k (pairsAnswer (next b c) (verdict text) work (length before)) (caused-positive (s .caused k e)))
+        rw (refused-as k e b R) (unless-refused k (pairsAnswer by-trees (next b c) (verdict text) work (length before)) (caused-positive (s .caused k e)))
 
     accepted-outcome : o .answer ≡ Done → (b : Book) → Represents r b
-        → previewAnswer b c (verdict text) work (length before) ≡ pairsAnswer (next b c) (verdict text) work (length before)
+        → previewAnswer b c (verdict text) work (length before) ≡ pairsAnswer by-trees (next b c) (verdict text) work (length before)
     unfolding previewAnswer
     accepted-outcome e b R = rw (accepted-as e b R)
 
     pub preview-refused : (k : ℕ) → k ≡ answerNumber (o .answer) → (k ≡ 0 → ⊥) → Previews r c text work before before (Refused k)
-    unfolding listAfter pairsLength
-    preview-refused k n z =
-        let e = by-number (o .answer) k n z in
-        record {
-          past = refl;
-          fits = omega arith;
-          unchanged = λ j q. refl;
-          caused = λ j q. let z : k ≡ j = cc in rw (← z) (s .caused k e);
-          book = λ b R. record { tells = rw (refused-outcome k e b R) told-number; list = rw (refused-outcome k e b R) };
-        }
+    preview-refused k n z = let e = by-number (o .answer) k n z in asks-refused maxPairs r _ before k (s .caused k e) (refused-outcome k e)
 
-    pub preview-asked : {after : List ℕ} {a : PairsAnswer} (k : ℕ) → k ≡ answerNumber (o .answer) → k ≡ 0 → AsksPairs (o .register) text work before after a
+    pub preview-asked : {after : List ℕ} {a : Counted} (k : ℕ) → k ≡ answerNumber (o .answer) → k ≡ 0 → AsksPairs (o .register) text work before after a
         → Previews r c text work before after a
     preview-asked k n z Q =
         let e = by-zero (o .answer) k (s .caused) n z in
         record {
-          past = Q .past;
-          fits = Q .fits;
-          unchanged = Q .unchanged;
-          caused = Q .caused;
-          book = λ b R.
-              let q = Q .book (next b c) (s .follows b R) in
-              record { tells = rw (accepted-outcome e b R) (q .tells); list = rw (accepted-outcome e b R) (q .list) };
+          contained = Q .contained;
+          book = λ b R. rw (accepted-outcome e b R) (Q .book (next b c) (s .follows b R));
         }
 
-    pub preview-same : {after : List ℕ} {a : PairsAnswer} → Previews r c text work before after a → (b : Book) → Represents r b
-        → (o .answer ≡ Done → (after′ : List ℕ) (a′ : PairsAnswer) → AsksPairs (o .register) text work before after′ a′ → (a ≡ a′) × (after ≡ after′))
+    pub preview-same : {after : List ℕ} {a : Counted} → Previews r c text work before after a → (b : Book) → Represents r b
+        → (o .answer ≡ Done → (after′ : List ℕ) (a′ : Counted) → AsksPairs (o .register) text work before after′ a′ → (a ≡ a′) × (after ≡ after′))
         × ((k : ℕ) → o .answer ≡ Turned-down k → (a ≡ Refused k) × (after ≡ before))
-    unfolding listAfter
+    unfolding listAfter countOf
     preview-same P b R = (
-      λ e after′ a′ Q.
-          let p = P .book b R in
-          let q = Q .book (next b c) (s .follows b R) in
-          let u = accepted-outcome e b R in
-          (tells-only u (p .tells) (q .tells), p .list ∙ ap (λ (t : Question·Outcome). listAfter t before) u ∙ sym (q .list)),
+      λ e after′ a′ Q. tells-same (accepted-outcome e b R) (P .book b R) (Q .book (next b c) (s .follows b R)),
       λ k e.
           let p = P .book b R in
           let u = refused-outcome k e b R in
-          (tells-only u (p .tells) told-number, p .list ∙ ap (λ (t : Question·Outcome). listAfter t before) u),
+          (p .answer ∙ ap countOf u, p .list ∙ ap (λ (t : Question·Outcome). listAfter t before) u),
     )
 
     -- and what the question by rows gives there, with work enough for either
-    pub preview-rows : {after : List ℕ} {a : PairsAnswer} → Previews r c text work before after a → (b : Book) → Represents r b
+    pub preview-rows : {after : List ℕ} {a : Counted} → Previews r c text work before after a → (b : Book) → Represents r b
         → o .answer ≡ Done → pairsWork (next b c .n) ≤ work → (rows : ℕ) → rowsWork (next b c .n) ≤ rows
-        → (after′ : List ℕ) (a′ : PairsAnswer) → AsksRows (o .register) text rows before after′ a′ → (a ≡ a′) × (after ≡ after′)
+        → (after′ : List ℕ) (a′ : Counted) → AsksRows (o .register) text rows before after′ a′ → (a ≡ a′) × (after ≡ after′)
     preview-rows P b R e h rows l after′ a′ Q =
-        let p = P .book b R in
-        let q = Q .book (next b c) (s .follows b R) in
-        let u = accepted-outcome e b R ∙ sym (rows-outcome (next b c) (verdict text) work rows (length before) h l) in
-        (tells-only u (p .tells) (q .tells), p .list ∙ ap (λ (t : Question·Outcome). listAfter t before) u ∙ sym (q .list))
+        tells-same (accepted-outcome e b R ∙ engines-outcome by-trees by-rows (next b c) work rows h l (verdict text) (length before))
+        (P .book b R) (Q .book (next b c) (s .follows b R))
 
 -- of every register that calls made
-pub preview-made : {n : ℕ} {cs : List Call} {r : Register} → MadeBy n cs r → (c : Call) (text : List ℕ) (work : ℕ) (before after′ : List ℕ) (a : PairsAnswer)
-    → Previews r c text work before after′ a → BookPreviews (after (fresh n) cs) c (verdict text) work before after′ a
+pub preview-made : {n : ℕ} {cs : List Call} {r : Register} → MadeBy n cs r → (c : Call) (text : List ℕ) (work : ℕ) (before after′ : List ℕ) (a : Counted)
+    → Previews r c text work before after′ a → Tells (previewAnswer (after (fresh n) cs) c (verdict text) work (length before)) before after′ a
 preview-made {n} {cs} M c text work before after′ a P = P .book (after (fresh n) cs) (made-book M)

@@ -14,16 +14,16 @@ use mathlib.Core.Bool.{Bool}
 use Prim.Native.Nat.{ℕ}
 use lib.ListN.{take}
 use Rattle.book.specs.Book.{Edit, edit}
+use Rattle.answers.specs.declared.Counted.{Counted}
+use Rattle.paths.specs.Questions.{Engine}
+use Rattle.paths.specs.Verdicts.{verdict}
 use Rattle.register.specs.Calls.{Steps}
 use Rattle.register.specs.Questions.{Sized, Listing, MarkList, Locking, Withdrawal, TotalList, Totals}
 use Rattle.register.specs.declared.Register.{Register}
 use Rattle.register.specs.declared.Links.{Links}
 use Rattle.register.specs.declared.Outcome.{Outcome}
 use Rattle.register.specs.declared.Answer.the-variants.{Done}
-use Rattle.register.specs.declared.TotalAnswer.{TotalAnswer}
-use Rattle.pairs.specs.Asking.{AsksPairs}
-use Rattle.pairs.specs.declared.PairsAnswer.{PairsAnswer}
-use Rattle.rowpairs.specs.Asking.{AsksRows}
+use Rattle.query.specs.Asking.{AsksFor}
 use Rattle.chains.specs.Replies.{Replies}
 use Rattle.chains.specs.declared.ChainAnswer.{ChainAnswer}
 
@@ -39,12 +39,10 @@ pub record SameAnswers (p q : Register) : Type 0 where
   pub locked : (x : ℕ) (t u : Bool) → Locking p x t → Locking q x u → t ≡ u
   pub withdrawn : (x : ℕ) (t u : Bool) → Withdrawal p x t → Withdrawal q x u → t ≡ u
   pub marks : (k l : List ℕ) → MarkList p k → MarkList q l → k ≡ l
-  pub total : (l : ℕ) (t u : TotalAnswer) → Totals p l t → Totals q l u → t ≡ u
+  pub total : (l : ℕ) (t u : Counted) → Totals p l t → Totals q l u → t ≡ u
   pub totals : (k l : List ℕ) → TotalList p k → TotalList q l → k ≡ l
-  pub pairs : (text : List ℕ) (work : ℕ) (before after after′ : List ℕ) (a a′ : PairsAnswer)
-      → AsksPairs p text work before after a → AsksPairs q text work before after′ a′ → (a ≡ a′) × (after ≡ after′)
-  pub rows : (text : List ℕ) (work : ℕ) (before after after′ : List ℕ) (a a′ : PairsAnswer)
-      → AsksRows p text work before after a → AsksRows q text work before after′ a′ → (a ≡ a′) × (after ≡ after′)
+  pub pairs : (d : Engine) (text : List ℕ) (work : ℕ) (before after after′ : List ℕ) (a a′ : Counted)
+      → AsksFor d p (verdict text) work before after a → AsksFor d q (verdict text) work before after′ a′ → (a ≡ a′) × (after ≡ after′)
   pub chain : (x y : ℕ) (text : List ℕ) (work : ℕ) (before after after′ : List ℕ) (a a′ : ChainAnswer)
       → Replies p x y text work before after a → Replies q x y text work before after′ a′ → (a ≡ a′) × (after ≡ after′)
 

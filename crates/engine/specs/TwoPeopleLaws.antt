@@ -15,10 +15,10 @@ use Rattle.book.specs.Book.{Link, Sheet, Book, Edit, Call, edit, present, total
 use Rattle.book.specs.ListLaws.{rises-same}
 use Rattle.book.specs.Orders.{Single, linkIn, Alike}
 use Rattle.book.specs.OrderLaws.{exchange-free, exchange-same}
-use Rattle.paths.specs.Grammar.{Verdict, accepted, long, outside, large}
+use Rattle.answers.specs.Answers.{counted, answered}
 use Rattle.paths.specs.Verdicts.{verdict}
 use Rattle.paths.specs.Chains.{Graph, asked, chain}
-use Rattle.paths.specs.Questions.{Outcome as Question·Outcome, refused, paired, replied, pairsOf, steps, ReplyTo, chainAnswer, over, listAfter}
+use Rattle.paths.specs.Questions.{Outcome as Question·Outcome, refused, paired, replied, steps, ReplyTo, chainAnswer, over, listAfter}
 use Rattle.paths.specs.PairLaws.{fit-inside}
 use Rattle.paths.specs.GraphLaws.{same-graph, same-pairs, same-chain, some-reply}
 use Rattle.register.specs.Links.{Linked}
@@ -26,18 +26,15 @@ use Rattle.register.specs.Marks.{freeMark, markOf}
 use Rattle.register.specs.Representation.{Represents}
 use Rattle.register.specs.Calls.{answerOf, Steps}
 use Rattle.register.specs.Made.{MadeBy}
-use Rattle.register.specs.Questions.{totalOf}
 use Rattle.register.specs.declared.Register.{Register}
 use Rattle.register.specs.declared.Outcome.{Outcome}
 use Rattle.register.specs.declared.Answer.the-variants.{Done}
-use Rattle.pairs.specs.Asking.{BookPairs}
-use Rattle.pairs.specs.declared.PairsAnswer.{PairsAnswer}
-use Rattle.rowpairs.specs.Asking.{rowsCauses, rowsAnswer, BookRows}
-use Rattle.chains.specs.Replies.{outcomeOf, stepsLength, Replies}
+use Rattle.query.specs.AskingLaws.{tells-same}
+use Rattle.chains.specs.Replies.{outcomeOf, chainCounted, Replies}
 use Rattle.chains.specs.declared.ChainAnswer.{ChainAnswer}
 use Rattle.chains.specs.declared.ChainAnswer.the-variants.{Chain, NoChain, Refused}
 use Rattle.engine.specs.BookLaws.{made-book}
-use Rattle.engine.specs.PreviewLaws.{tells-only, accepted-as}
+use Rattle.engine.specs.PreviewLaws.{accepted-as}
 use Rattle.engine.specs.TwoPeople.{Entered, SameAnswers, NoAccount}
 
 -- ---- the words of the links, by the links that are present
@@ -57,8 +54,9 @@ list-long (refused k) l = omega arith
 list-long (paired total ws) l = over-long ws l
 list-long (replied t) l = over-long (steps t) l
 
-outcome-tell : (a b : ChainAnswer) (l : List ℕ) → stepsLength a ≤ length l → stepsLength b ≤ length l → outcomeOf a l ≡ outcomeOf b l → a ≡ b
-unfolding outcomeOf stepsLength
+outcome-tell : (a b : ChainAnswer) (l : List ℕ) → counted (chainCounted a) ≤ length l → counted (chainCounted b) ≤ length l
+    → outcomeOf a l ≡ outcomeOf b l → a ≡ b
+unfolding outcomeOf counted chainCounted
 outcome-tell (Chain k) (Chain j) l h g e =
     let t : take k l ≡ take j l = cc in
     let z : k ≡ j = sym (length-take-le k l h) ∙ ap length t ∙ length-take-le j l g in
@@ -77,25 +75,6 @@ module _ {p q : Register} {b c : Book} (P : Represents p b) (Q : Represents q c)
   graphs : asked b ≡ asked c
   graphs = same-graph b c (A .size) (A .links) (A .withdrawn)
 
-  pairs-alike : (v : Verdict) (work : ℕ) (before after after′ : List ℕ) (a a′ : PairsAnswer) → BookPairs b v work before after a
-      → BookPairs c v work before after′ a′ → (a ≡ a′) × (after ≡ after′)
-  pairs-alike v work before after after′ a a′ B C =
-      let o = same-pairs b c (A .size) graphs v work (length before) in
-      (tells-only o (B .tells) (C .tells), B .list ∙ ap (λ (u : Question·Outcome). listAfter u before) o ∙ sym (C .list))
-
-  same-rows : (v : Verdict) (work room : ℕ) → rowsAnswer b v work room ≡ rowsAnswer c v work room
-  unfolding rowsAnswer rowsCauses pairsOf
-  same-rows (accepted e) work room = rw (graphs, A .size)
-  same-rows long work room = rw (A .size)
-  same-rows outside work room = rw (A .size)
-  same-rows large work room = rw (A .size)
-
-  rows-alike : (v : Verdict) (work : ℕ) (before after after′ : List ℕ) (a a′ : PairsAnswer) → BookRows b v work before after a
-      → BookRows c v work before after′ a′ → (a ≡ a′) × (after ≡ after′)
-  rows-alike v work before after after′ a a′ B C =
-      let o = same-rows v work (length before) in
-      (tells-only o (B .tells) (C .tells), B .list ∙ ap (λ (u : Question·Outcome). listAfter u before) o ∙ sym (C .list))
-
   chain-alike : (x y : ℕ) (text : List ℕ) (work : ℕ) (before after after′ : List ℕ) (a a′ : ChainAnswer) → Replies p x y text work before after a
       → Replies q x y text work before after′ a′ → (a ≡ a′) × (after ≡ after′)
   chain-alike x y text work before after after′ a a′ B C =
@@ -107,8 +86,8 @@ module _ {p q : Register} {b c : Book} (P : Represents p b) (Q : Represents q c)
       let l : after ≡ after′ = m .1 ∙ ap (λ (u : Question·Outcome). listAfter u before) o ∙ sym (n .1) in
       let j = list-long (chainAnswer b x y (verdict text) t work (length before)) before in
       let h : length before ≤ length after = subst (λ (u : List ℕ). length before ≤ length u) (sym (m .1)) j in
-      let f = B .fits in
-      let g = C .fits in
+      let f = B .contained .fits in
+      let g = C .contained .fits in
       (outcome-tell a a′ after (omega arith) (omega arith) (m .0 ∙ o ∙ sym (n .0) ∙ ap (outcomeOf a′) (sym l)), l)
 
   marks-alike : (x : ℕ) → markOf (b .sheet) x ≡ markOf (c .sheet) x
@@ -121,14 +100,14 @@ module _ {p q : Register} {b c : Book} (P : Represents p b) (Q : Represents q c)
     locked = λ x t u s r. s .locked b P ∙ A .locks x ∙ sym (r .locked c Q);
     withdrawn = λ x t u s r. s .withdrawn b P ∙ A .withdrawn x ∙ sym (r .withdrawn c Q);
     marks = λ k l s t. ext-getD freeMark k l (s .long ∙ sym (t .long)) (λ x h. s .marks b P x ∙ marks-alike x ∙ sym (t .marks c Q x));
-    total = λ l t u s r. s .told b P ∙ ap (totalOf (totalNumber l)) (A .totals l) ∙ sym (r .told c Q);
+    total = λ l t u s r. s .told b P ∙ ap (answered (totalNumber l)) (A .totals l) ∙ sym (r .told c Q);
     totals = λ k l s t.
         let m = s .long in
         ext-getD 0 k l (m ∙ sym (t .long)) (λ i h.
         let h′ : i < labels = omega (arith, h, m) in
         s .totals b P i h′ ∙ A .totals i ∙ sym (t .totals c Q i h′));
-    pairs = λ text work before after after′ a a′ s t. pairs-alike (verdict text) work before after after′ a a′ (s .book b P) (t .book c Q);
-    rows = λ text work before after after′ a a′ s t. rows-alike (verdict text) work before after after′ a a′ (s .book b P) (t .book c Q);
+    pairs = λ d text work before after after′ a a′ s t.
+        tells-same (same-pairs b c (A .size) graphs d (verdict text) work (length before)) (s .book b P) (t .book c Q);
     chain = λ x y text work before after after′ a a′ s t. chain-alike x y text work before after after′ a a′ s t;
   }
 

@@ -1,36 +1,41 @@
 // The dating register: the calls that programs make. A register is a value; an edit hands the next one back, and a question changes nothing.
 // Every call takes any contents and any arguments, and what it promises is the whole of what it does: the answer, and everything that it was lent.
-// previews.rt has the preview of an edit, drafts.rt a list of edits made all or none.
+// previews.rt has the preview of an edit, drafts.rt a list of edits made all or none; the questions and the tree calls are those of the crates below.
 mod drafts;
 mod previews;
 
+pub use chains::chain;
 pub use drafts::Applied;
 pub use drafts::DraftAnswer;
 pub use drafts::apply_all;
+pub use ends::ends as ends_of;
+pub use ends::starts as starts_of;
+pub use pairs::pairs;
 pub use previews::preview;
-ghost use mathlib.Core.List.{[], _∷_};
+pub use rowpairs::pairs_by_rows;
+pub use rowpairs::relation;
+pub use tree::closure as tree_closure;
+pub use tree::difference as tree_difference;
+pub use tree::intersection as tree_intersection;
+pub use tree::list as tree_list;
+pub use tree::make as tree_make;
+pub use tree::product as tree_product;
+pub use tree::transpose as tree_transpose;
+pub use tree::union as tree_union;
 ghost use lib.ListN.{length};
 ghost use Rattle.book.specs.Book.{add, remove, lock, unlock, withdraw, reinstate, edit, undo};
-ghost use Rattle.k2.specs.PairSets.{union, intersection, difference, transpose, closure};
-ghost use Rattle.tree.specs.Calls.{productSensed, Answered, Listed, treeOf, listOf, treeOfOne, treeOfTwo};
 ghost use Rattle.register.specs.Calls.{callOf, Opens, Steps, Closes};
 ghost use Rattle.register.specs.Parting.{Without};
 ghost use Rattle.register.specs.Questions.{Sized, Listing, Locking, Withdrawal, Totals};
-ghost use Rattle.pairs.specs.Asking.{AsksPairs, Relates};
-ghost use Rattle.rowpairs.specs.Asking.{AsksRows};
-ghost use Rattle.chains.specs.Replies.{Replies};
-ghost use Rattle.ends.specs.Asking.{AsksEnds, AsksStarts};
-ghost use Rattle.engine.specs.Demand.{by-trees};
+ghost use Rattle.paths.specs.Questions.{by-trees};
 ghost use Rattle.engine.specs.Inquiries.{Inquires};
+use answers::Counted;
 use chains::ChainAnswer;
-use ends::EndsAnswer;
-use pairs::PairsAnswer;
 use register::Answer;
 use register::Call;
 use register::Links;
 use register::Outcome;
 use register::Register;
-use register::TotalAnswer;
 
 // A fresh register of n records.
 pub fn open(n: u16) -> Outcome
@@ -138,148 +143,10 @@ pub fn is_withdrawn(register: Register, record: u16) -> bool
 }
 
 // The number of links of a label, as the register keeps it.
-pub fn total(register: Register, label: u8) -> TotalAnswer
+pub fn total(register: Register, label: u8) -> Counted
     ensures { λ a. ⌜ Totals register label a ⌝ }
 {
     register.total(label)
-}
-
-// The pairs of an expression, ascending, each once, as many as the list takes; how many they are in all.
-pub fn pairs(register: Register, text: &[u8], work: &mut [u64], list: &mut [u32]) -> PairsAnswer
-    ensures { λ a. ⌜ AsksPairs register (now (text .entry)) (length (now (work .entry))) (now (list .entry)) (now (list .exit)) a ⌝ }
-{
-    pairs::pairs(register, text, work, list)
-}
-
-// The same answer by the engine on rows of bits, which needs work of its own: 32 relations of n rows, 64 columns to a word.
-pub fn pairs_by_rows(
-    register: Register,
-    text: &[u8],
-    work: &mut [u64],
-    list: &mut [u32],
-) -> PairsAnswer
-    ensures { λ a. ⌜ AsksRows register (now (text .entry)) (length (now (work .entry))) (now (list .entry)) (now (list .exit)) a ⌝ }
-{
-    rowpairs::pairs_by_rows(register, text, work, list)
-}
-
-// The relation of an expression as rows of bits: bit from * 1024 + to of the first 16,384 words is 1 if the pair has a chain. The number of pairs is told.
-pub fn relation(register: Register, text: &[u8], work: &mut [u64], rows: &mut [u64]) -> PairsAnswer
-    ensures { λ a. ⌜ Relates register (now (text .entry)) (length (now (work .entry))) (now (rows .entry)) (now (rows .exit)) a ⌝ }
-{
-    rowpairs::relation(register, text, work, rows)
-}
-
-// The first chain of an expression between two records.
-pub fn chain(
-    register: Register,
-    from: u16,
-    to: u16,
-    text: &[u8],
-    work: &mut [u64],
-    list: &mut [u32],
-) -> ChainAnswer
-    ensures { λ a. ⌜ Replies register from to (now (text .entry)) (length (now (work .entry))) (now (list .entry)) (now (list .exit)) a ⌝ }
-{
-    chains::chain(register, from, to, text, work, list)
-}
-
-// The ends of a record: those that a chain of an expression leads to from it, ascending, as many as the list takes. How many they are in all is told.
-pub fn ends_of(register: Register, from: u16, text: &[u8], list: &mut [u32]) -> EndsAnswer
-    ensures { λ a. ⌜ AsksEnds register from (now (text .entry)) (now (list .entry)) (now (list .exit)) a ⌝ }
-{
-    ends::ends(register, from, text, list)
-}
-
-// The starts of a record, from which a chain leads to it, likewise.
-pub fn starts_of(register: Register, to: u16, text: &[u8], list: &mut [u32]) -> EndsAnswer
-    ensures { λ a. ⌜ AsksStarts register to (now (text .entry)) (now (list .entry)) (now (list .exit)) a ⌝ }
-{
-    ends::starts(register, to, text, list)
-}
-
-// The tree of a list of pair words, in any order and with repeats.
-pub fn tree_make(n: usize, pairs: &[u32], out: &mut [u64], work: &mut [u64]) -> tree::Answer
-    ensures { λ r. ⌜ Answered n (now (pairs .entry)) [] (length (now (work .entry)))
-        (treeOf n (now (pairs .entry))) (now (out .entry)) (now (out .exit)) r ⌝ }
-{
-    tree::make(n, pairs, out, work)
-}
-
-// The pairs of a tree, ascending, as many as the list takes; how many they are in all.
-pub fn tree_list(n: usize, a: &[u64], out: &mut [u32], work: &mut [u64]) -> tree::Answer
-    ensures { λ r. ⌜ Listed n (now (a .entry) ∷ []) (length (now (work .entry)))
-        (listOf n (now (a .entry))) (now (out .entry)) (now (out .exit)) r ⌝ }
-{
-    tree::list(n, a, out, work)
-}
-
-// The tree of the pairs in either.
-pub fn tree_union(n: usize, a: &[u64], b: &[u64], out: &mut [u64], work: &mut [u64]) -> tree::Answer
-    ensures { λ r. ⌜ Answered n [] (now (a .entry) ∷ now (b .entry) ∷ []) (length (now (work .entry)))
-        (treeOfTwo union n (now (a .entry)) (now (b .entry))) (now (out .entry)) (now (out .exit)) r ⌝ }
-{
-    tree::union(n, a, b, out, work)
-}
-
-// The tree of the pairs in both.
-pub fn tree_intersection(
-    n: usize,
-    a: &[u64],
-    b: &[u64],
-    out: &mut [u64],
-    work: &mut [u64],
-) -> tree::Answer
-    ensures { λ r. ⌜ Answered n [] (now (a .entry) ∷ now (b .entry) ∷ []) (length (now (work .entry)))
-        (treeOfTwo intersection n (now (a .entry)) (now (b .entry))) (now (out .entry)) (now (out .exit)) r ⌝ }
-{
-    tree::intersection(n, a, b, out, work)
-}
-
-// The tree of the pairs in the first and not in the second.
-pub fn tree_difference(
-    n: usize,
-    a: &[u64],
-    b: &[u64],
-    out: &mut [u64],
-    work: &mut [u64],
-) -> tree::Answer
-    ensures { λ r. ⌜ Answered n [] (now (a .entry) ∷ now (b .entry) ∷ []) (length (now (work .entry)))
-        (treeOfTwo difference n (now (a .entry)) (now (b .entry))) (now (out .entry)) (now (out .exit)) r ⌝ }
-{
-    tree::difference(n, a, b, out, work)
-}
-
-// The tree of the product, each operand read with its sense: the pairs for which some middle record serves.
-pub fn tree_product(
-    n: usize,
-    a: &[u64],
-    a_sense: tree::Sense,
-    b: &[u64],
-    b_sense: tree::Sense,
-    out: &mut [u64],
-    work: &mut [u64],
-) -> tree::Answer
-    ensures { λ r. ⌜ Answered n [] (now (a .entry) ∷ now (b .entry) ∷ []) (length (now (work .entry)))
-        (treeOfTwo (productSensed n «a_sense» «b_sense») n (now (a .entry)) (now (b .entry))) (now (out .entry)) (now (out .exit)) r ⌝ }
-{
-    tree::product(n, a, a_sense, b, b_sense, out, work)
-}
-
-// The tree of the pairs exchanged.
-pub fn tree_transpose(n: usize, a: &[u64], out: &mut [u64], work: &mut [u64]) -> tree::Answer
-    ensures { λ r. ⌜ Answered n [] (now (a .entry) ∷ []) (length (now (work .entry)))
-        (treeOfOne transpose n (now (a .entry))) (now (out .entry)) (now (out .exit)) r ⌝ }
-{
-    tree::transpose(n, a, out, work)
-}
-
-// The tree of the closure: one or more pairs that lead from one to the other.
-pub fn tree_closure(n: usize, a: &[u64], out: &mut [u64], work: &mut [u64]) -> tree::Answer
-    ensures { λ r. ⌜ Answered n [] (now (a .entry) ∷ []) (length (now (work .entry)))
-        (treeOfOne (closure n) n (now (a .entry))) (now (out .entry)) (now (out .exit)) r ⌝ }
-{
-    tree::closure(n, a, out, work)
 }
 
 // What a history and the questions asked after it gave.
@@ -289,7 +156,7 @@ pub struct Inquiry {
     pub links: Links,
     pub marks: [u32; book::MAX_RECORDS],
     pub totals: [u32; book::LABELS],
-    pub pairs: PairsAnswer,
+    pub pairs: Counted,
     pub chain: ChainAnswer,
 }
 
@@ -349,7 +216,7 @@ pub fn inquire(
             links,
             marks,
             totals,
-            pairs: PairsAnswer::Refused(number),
+            pairs: Counted::Refused(number),
             chain: ChainAnswer::Refused(number),
         };
     }

@@ -3,7 +3,7 @@
 ghost use lib.ListN.{length};
 ghost use Rattle.register.specs.Calls.{callOf};
 ghost use Rattle.engine.specs.Previews.{Previews};
-use pairs::PairsAnswer;
+use answers::Counted;
 use register::Call;
 use register::Register;
 
@@ -15,14 +15,14 @@ pub fn preview(
     text: &[u8],
     work: &mut [u64],
     list: &mut [u32],
-) -> PairsAnswer
+) -> Counted
     ensures { λ a. ⌜ Previews register (callOf call) (now (text .entry)) (length (now (work .entry))) (now (list .entry)) (now (list .exit)) a ⌝ }
 {
     let outcome = register.apply(call);
     let answer = outcome.answer;
     let number = register::number_of(answer);
     if number != 0 {
-        return PairsAnswer::Refused(number);
+        return Counted::Refused(number);
     }
     let edited = outcome.register;
     rowpairs::pairs(edited, text, work, list)

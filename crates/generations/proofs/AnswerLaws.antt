@@ -42,17 +42,19 @@ use Rattle.register.specs.MarkLaws.{listed-withdrawn}
 use Rattle.register.specs.Representation.{Represents}
 use Rattle.register.specs.Questions.{Sized, MarkList}
 use Rattle.rows.specs.Rows.{labelled, places, crossedWords}
-use Rattle.report.specs.Written.{written as text-written, Wrote}
+use Rattle.answers.specs.Answers.{counted, Contained}
+use Rattle.answers.specs.AnswerLaws.{contained-refused, contained-count}
+use Rattle.answers.specs.Written.{written as text-written, Wrote}
 use Rattle.chains.specs.declared.ChainAnswer.{ChainAnswer}
 use Rattle.chains.specs.declared.ChainAnswer.the-variants.{Chain, NoChain, Refused as ChainRefused}
-use Rattle.chains.specs.Replies.{outcomeOf as replyOf, stepsLength, Replies}
+use Rattle.chains.specs.Replies.{outcomeOf as replyOf, chainCounted, Replies}
 use Rattle.generations.specs.Generations.{Longest, Returns, FirstLoop, Numbered, no-record, not-in-use, in-use, Outcome, refused, numbers, loop}
 use Rattle.generations.specs.Generations.{GenerationsAre, no-loop, first-loop, above, generationsWork, argumentCauses, generationsCauses, unless}
 use Rattle.generations.specs.Generations.{OutcomeIs, not-asked, answered, written, listAfter}
 use Rattle.generations.specs.GenerationsLaws.{returns-longer}
 use Rattle.generations.specs.LoopLaws.{loopExpr, loop-in-use, loop-answers, loop-is-first, first-is-loop, loop-labels, set-verdict}
 use Rattle.generations.specs.Inner.{Contains, Right, Leads, chosen, Smallest, Closed, loopText}
-use Rattle.generations.specs.Generating.{outcomeOf, answerLength, Generates, loopOutcome, Looped}
+use Rattle.generations.specs.Generating.{outcomeOf, generationsCounted, Generates, loopOutcome, Looped}
 use Rattle.generations.specs.declared.GenerationsAnswer.{GenerationsAnswer}
 use Rattle.generations.specs.declared.GenerationsAnswer.the-variants.{Numbers, Loop, Refused}
 use Rattle.generations.proofs.RunLaws.{top-longest, leads-returns, links-set, closed-returns, returns-closed}
@@ -132,14 +134,11 @@ module _ (b : Book) (ls : List ℕ) (work room : ℕ) where
       told h = subst (OutcomeIs b ls work room) (ap (λ (k : ℕ). unless k o) (by-room false (le-ltb room (length (written o)) h))) (answered no-cause G)
 
 -- ---- the promise
-refused-as : {k : ℕ} → Caused k → (j : ℕ) → Refused k ≡ Refused j → Caused j
-refused-as {k} c j e = let z : k ≡ j = cc in subst Caused z c
-
 -- a refusal
 pub refuses : {self : Register} {ls : List ℕ} {work : ℕ} {list : List ℕ} (k : ℕ) → Caused k
     → ((b : Book) → Represents self b → OutcomeIs b ls work (length list) (refused k)) → Generates self ls work list list (Refused k)
-unfolding outcomeOf answerLength written
-refuses k c h = record { fits = omega arith; past = refl; caused = refused-as c; outcome = h; after = λ b R. refl }
+unfolding outcomeOf generationsCounted counted written
+refuses {list = list} k c h = record { contained = contained-refused (length list) 0 list list k c refl; book = λ b R. (h b R, refl) }
 
 -- the words are in the list
 over-taken : (ws l : List ℕ) → take (length ws) (over ws l) ≡ ws
@@ -150,17 +149,16 @@ over-past ws l = drop-at ws (drop (length ws) l) (length ws) refl
 
 pub tells-numbers : {self : Register} {ls : List ℕ} {work : ℕ} {list list′ : List ℕ} {k : ℕ} (l : List ℕ) → Wrote 0 l list list′ k
     → ((b : Book) → Represents self b → OutcomeIs b ls work (length list) (numbers l)) → Generates self ls work list list′ (Numbers k)
-unfolding outcomeOf answerLength written text-written
+unfolding outcomeOf generationsCounted counted written text-written
 tells-numbers {self} {ls} {work} {list} {list′} {k} l w h =
     let e : k ≡ length l = (let z = w .place in omega arith) in
     let c : list′ ≡ over l list = w .contents ∙ ap (λ (i : ℕ). l ++ drop i list) (let z : 0 + length l ≡ length l = omega arith in z) in
     let t : take k list′ ≡ l = ap (λ (i : ℕ). take i list′) e ∙ ap (take (length l)) c ∙ over-taken l list in
     record {
-      fits = w .fits;
-      past = ap (λ (i : ℕ). drop i list′) e ∙ ap (drop (length l)) c ∙ over-past l list ∙ ap (λ (i : ℕ). drop i list) (sym e);
-      caused = λ j q. absurd (let z : _≡_ {A = ℕ} 0 1 = cc in omega arith);
-      outcome = λ b R. subst (OutcomeIs b ls work (length list)) (ap numbers (sym t)) (h b R);
-      after = λ b R. c ∙ ap (λ (v : List ℕ). over v list) (sym t);
+      contained =
+          contained-count (length list) k list list′ k (w .fits)
+          (ap (λ (i : ℕ). drop i list′) e ∙ ap (drop (length l)) c ∙ over-past l list ∙ ap (λ (i : ℕ). drop i list) (sym e));
+      book = λ b R. (subst (OutcomeIs b ls work (length list)) (ap numbers (sym t)) (h b R), c ∙ ap (λ (v : List ℕ). over v list) (sym t));
     }
 
 -- the loop's outcome
@@ -179,14 +177,11 @@ pub tells-loop : {self : Register} {ls : List ℕ} {m x work : ℕ} {list list�
     × ((ss : List Step) × FirstLoop (asked b) ls x ss × GenerationsAre (asked b) ls (loop (stepWords ss))))
     → Generates self ls work list list′ r
 tells-loop {self} {ls} {m} {x} {work} {list} {list′} {r} P low C h = record {
-  fits = P .fits;
-  past = P .past;
-  caused = P .caused;
-  outcome =
-      λ b R. (let z = h b R in
-      subst (OutcomeIs b ls work (length list)) (sym (P .first b R (z .0) ls C (z .1 .0) (z .1 .1) .0))
-      (loop-told b ls work (length list) low (z .0) (stepWords (z .1 .0)) (z .1 .2)));
-  after = λ b R. (let z = h b R in P .first b R (z .0) ls C (z .1 .0) (z .1 .1) .1);
+  contained = P .contained;
+  book = λ b R.
+      let z = h b R in
+      let f = P .first b R (z .0) ls C (z .1 .0) (z .1 .1) in
+      (subst (OutcomeIs b ls work (length list)) (sym (f .0)) (loop-told b ls work (length list) low (z .0) (stepWords (z .1 .0)) (z .1 .2)), f .1);
 }
 
 -- ---- the chain question that finds the loop
@@ -213,17 +208,12 @@ module _ (b : Book) (x : ℕ) (hx : x < b .n) (work room : ℕ) (enough : chainW
   told-loop false list list′ NoChain p q = absurd (let z : _≡_ {A = ℕ} 0 1 = cc in omega arith)
   told-loop false list list′ (ChainRefused k) p q = absurd (let z : _≡_ {A = ℕ} 0 1 = cc in omega arith)
 
-fits-loop : (r : ChainAnswer) → answerLength (loopAnswer r) ≡ stepsLength r
-unfolding answerLength stepsLength
-fits-loop (Chain k) = refl
-fits-loop NoChain = refl
-fits-loop (ChainRefused k) = refl
-
-caused-loop : (r : ChainAnswer) → ((k : ℕ) → r ≡ ChainRefused k → Caused k) → (k : ℕ) → loopAnswer r ≡ Refused k → Caused k
-unfolding number
-caused-loop (Chain j) h k e = absurd (let z : _≡_ {A = ℕ} 0 1 = cc in omega arith)
-caused-loop NoChain h k e = let z : 16 ≡ k = cc in (not-open, sym z)
-caused-loop (ChainRefused j) h k e = let z : j ≡ k = cc in h k (ap ChainRefused z)
+contained-loop : {list list′ : List ℕ} (r : ChainAnswer) → Contained (length list) (counted (chainCounted r)) list list′ (chainCounted r)
+    → Contained (length list) (counted (generationsCounted (loopAnswer r))) list list′ (generationsCounted (loopAnswer r))
+unfolding counted chainCounted generationsCounted number
+contained-loop (Chain k) c = c
+contained-loop {list} {list′} NoChain c = contained-refused (length list) 0 list list′ 16 (not-open, refl) (c .past)
+contained-loop (ChainRefused k) c = c
 
 -- a verdict accepts one expression
 accepts-one : {v : Verdict} {d e : Expr} → v ≡ accepted d → v ≡ accepted e → d ≡ e
@@ -242,9 +232,7 @@ pub looped : {self : Register} {m x work : ℕ} {text list list′ : List ℕ} {
     → Replies self x x text work list list′ r → text ≡ loopText (places (digit m) 26)
     → Looped self m x work list list′ (loopAnswer r)
 looped {self} {m} {x} {work} {text} {list} {list′} {r} P e = record {
-  fits = rw (fits-loop r) (P .fits);
-  past = rw (fits-loop r) (P .past);
-  caused = caused-loop r (P .caused);
+  contained = contained-loop r (P .contained);
   first = one;
 }
   where

@@ -14,8 +14,8 @@ use Rattle.rows.specs.Rows.{flat}
 use Rattle.rows.specs.RowLaws.{flat-at}
 use Rattle.automaton.specs.LevelLaws.{Which, less, same, more, which}
 use Rattle.register.specs.Marks.{hasMark, withdrawnMark}
-use Rattle.report.specs.Written.{Wrote}
-use Rattle.report.specs.WrittenLaws.{wrote-byte, wrote-then, wrote-as}
+use Rattle.answers.specs.Written.{Wrote}
+use Rattle.answers.specs.WrittenLaws.{wrote-byte, wrote-then, wrote-as}
 use Rattle.generations.specs.Inner.{chosen, Smallest, Joined, Closed}
 
 -- ---- the numbers

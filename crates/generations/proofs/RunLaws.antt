@@ -6,25 +6,23 @@
 --   closed-returns, returns-closed
 --                  the closure of these pairs joins a record to itself exactly if it returns
 -- Assumes nothing.
-use mathlib.Core.Path.{_≡_, refl, sym, ap, _∙_, subst, fun-ext}
+use mathlib.Core.Path.{_≡_, refl, sym, ap, _∙_, subst}
 use mathlib.Core.Logic.{_⊎_, inl, inr, ⊎-elim}
 use mathlib.Core.List.{List, [], _∷_}
 use mathlib.Core.Bool.{Bool, true, false}
 use Prim.Native.Nat.{ℕ, _/_, _%_, _<_, _≤_}
 use native.Mathlib.Omega.{arith}
-use native.Mathlib.Decide.{decLt}
 use lib.Dec.{eqb}
 use lib.ListN.{length, getD}
-use borrow.Author.Tests.{eq-eqb, eqb-true, le-ltb}
+use borrow.Author.Tests.{eq-eqb, eqb-true}
 use Rattle.book.specs.Basics.{pick, bit, has, In, here, there, All, all-none, all-more}
 use Rattle.book.specs.Book.{Link, Book, present}
 use Rattle.book.specs.Sheets.{Fit}
 use Rattle.book.specs.ListLaws.{in-none, in-front, at-in, in-at}
-use Rattle.k2.specs.Bits.{digit, bitAt, packed}
-use Rattle.k2.specs.BitLaws.{bit-out, packed-length, packed-bits}
+use Rattle.k2.specs.Bits.{digit}
 use Rattle.k2.specs.DigitLaws.{digit-none}
 use Rattle.k2.specs.PairSets.{Cells, IsSet, OneOrMore, once as once-pair, more as more-pairs}
-use Rattle.k2.specs.PairSetLaws.{bit-small, on-bit, bit-on, closure-leads, leads-closure}
+use Rattle.k2.specs.PairSetLaws.{on-bit, bit-on, closure-leads, leads-closure}
 use Rattle.paths.specs.Expressions.{Letter}
 use Rattle.paths.specs.Chains.{asked, Step, Chain, stay, cross}
 use Rattle.paths.specs.ChainLaws.{Inside}
@@ -35,8 +33,7 @@ use Rattle.reader.specs.Letters.{lettersIn}
 use Rattle.register.specs.Links.{linkWord, linkOf, Linked}
 use Rattle.register.specs.LinkLaws.{linkOf-word}
 use Rattle.rows.specs.Rows.{labelled, crossedWords}
-use Rattle.pairs.specs.Steps.{Lettered}
-use Rattle.pairs.specs.LetterLaws.{letters-crossed}
+use Rattle.query.specs.LetterLaws.{letters-crossed}
 use Rattle.arcs.specs.Arcs.{arcFrom, arcTo}
 use Rattle.generations.specs.Generations.{Run, stop as stop-run, on as on-run, Longest, Over, Returns}
 use Rattle.generations.specs.GenerationsLaws.{forward-link}
@@ -149,25 +146,9 @@ module _ (b : Book) (F : Fit (b .n) (b .sheet)) (small : b .n ≤ 1024) (ws : Li
   I : Inside (asked b)
   I = fit-inside b F
 
-  -- the records in use, as bits
-  abbrev used : List ℕ
-  used = packed 16 (λ x. bit (asked b .inUse x))
-
-  used-bits : bitAt used ≡ (λ x. bit (asked b .inUse x))
-  unfolding asked
-  used-bits = fun-ext (λ x. go x (decLt x 1024))
-    where
-      go : (x : ℕ) → Dec (x < 1024) → bitAt used x ≡ bit (asked b .inUse x)
-      go x (yes h) = packed-bits 16 (λ x. bit (asked b .inUse x)) x (λ k. bit-small (asked b .inUse k)) (omega arith)
-      go x (no h) =
-          let e = packed-length 16 (λ x. bit (asked b .inUse x)) in
-          bit-out used x (omega (arith, e)) ∙ rw (le-ltb x (b .n) (omega arith))
-
-  abbrev lettered : Lettered b (b .n) ws used
-  lettered = record { size = refl; small = small; fit = F; linked = L; in-use = used-bits }
-
   crossed-links : crossedWords ws m 0 ≡ crossedBy (asked b) (lettersIn m 0)
-  crossed-links = letters-crossed b (b .n) ws used lettered m 0
+  crossed-links =
+      letters-crossed b (b .n) ws (λ x. bit (asked b .inUse x)) (record { size = refl; small = small; fit = F; linked = L; in-use = refl }) m 0
 
   pub links-set : IsSet (b .n) (crossedWords ws m 0)
   unfolding asked

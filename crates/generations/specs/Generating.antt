@@ -1,6 +1,7 @@
 -- What the call promises.
 --   outcomeOf r l   the outcome that the answer r says, with its words in the first of the list l
---   answerLength r  how many words of the list are the answer's
+--   generationsCounted r
+--                   the answer as one that counts: how many numbers, or how many steps of the loop, or refused
 --   BookGenerates b ls work list list′ r
 --                   asked of the book b: the outcome is the book's, and so is the list
 --   Generates self ls work list list′ r
@@ -13,10 +14,13 @@
 use mathlib.Core.Path.{_≡_}
 use mathlib.Core.List.{List, [], _∷_}
 use Prim.Native.Nat.{ℕ, _≤_}
-use lib.ListN.{length, take, drop}
+use lib.ListN.{length, take}
 use lib.Dec.{ltb}
-use Rattle.book.specs.Causes.{Caused, short-list, firstNumber}
+use Rattle.book.specs.Causes.{short-list, firstNumber}
 use Rattle.book.specs.Book.{Book}
+use Rattle.answers.specs.Answers.{counted, Contained}
+use Rattle.answers.specs.declared.Counted.{Counted}
+use Rattle.answers.specs.declared.Counted.the-variants.{Count, Refused as Untold}
 use Rattle.paths.specs.Chains.{asked, Step, stepWords}
 use Rattle.paths.specs.Questions.{chainWork}
 use Rattle.register.specs.declared.Register.{Register}
@@ -31,27 +35,22 @@ outcomeOf (Numbers k) l = numbers (take k l)
 outcomeOf (Loop k) l = loop (take k l)
 outcomeOf (Refused k) l = refused k
 
-unfoldable pub answerLength : GenerationsAnswer → ℕ
-answerLength (Numbers k) = k
-answerLength (Loop k) = k
-answerLength (Refused k) = 0
+unfoldable pub generationsCounted : GenerationsAnswer → Counted
+generationsCounted (Numbers k) = Count k
+generationsCounted (Loop k) = Count k
+generationsCounted (Refused k) = Untold k
 
 abbrev pub BookGenerates : Book → List ℕ → ℕ → List ℕ → List ℕ → GenerationsAnswer → Type 0
 BookGenerates b ls work list list′ r = OutcomeIs b ls work (length list) (outcomeOf r list′) × (list′ ≡ listAfter (outcomeOf r list′) list)
 
 pub record Generates (self : Register) (ls : List ℕ) (work : ℕ) (list list′ : List ℕ) (r : GenerationsAnswer) : Type 0 where
-  pub fits : answerLength r ≤ length list
-  pub past : drop (answerLength r) list′ ≡ drop (answerLength r) list
-  pub caused : (k : ℕ) → r ≡ Refused k → Caused k
-  pub outcome : (b : Book) → Represents self b → OutcomeIs b ls work (length list) (outcomeOf r list′)
-  pub after : (b : Book) → Represents self b → list′ ≡ listAfter (outcomeOf r list′) list
+  pub contained : Contained (length list) (counted (generationsCounted r)) list list′ (generationsCounted r)
+  pub book : (b : Book) → Represents self b → BookGenerates b ls work list list′ r
 
 abbrev pub loopOutcome : ℕ → List ℕ → Outcome
 loopOutcome room ws = unless (firstNumber ((short-list, ltb room (length ws)) ∷ [])) (loop ws)
 
 pub record Looped (self : Register) (m x work : ℕ) (list list′ : List ℕ) (r : GenerationsAnswer) : Type 0 where
-  pub fits : answerLength r ≤ length list
-  pub past : drop (answerLength r) list′ ≡ drop (answerLength r) list
-  pub caused : (k : ℕ) → r ≡ Refused k → Caused k
+  pub contained : Contained (length list) (counted (generationsCounted r)) list list′ (generationsCounted r)
   pub first : (b : Book) → Represents self b → chainWork (b .n) ≤ work → (ls : List ℕ) → Contains m ls → (ss : List Step) → FirstLoop (asked b) ls x ss
       → (outcomeOf r list′ ≡ loopOutcome (length list) (stepWords ss)) × (list′ ≡ listAfter (outcomeOf r list′) list)

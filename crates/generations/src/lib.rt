@@ -11,7 +11,7 @@ ghost use lib.ListN.{length, getD};
 ghost use Rattle.book.specs.Causes.{maxRecords};
 ghost use Rattle.k2.specs.PairSets.{IsSet};
 ghost use Rattle.rows.specs.Rows.{crossedWords};
-ghost use Rattle.report.specs.Written.{Wrote};
+ghost use Rattle.answers.specs.Written.{Wrote};
 ghost use Rattle.generations.specs.Inner.{chosen, Smallest, Joined, Closed};
 ghost use Rattle.generations.specs.Generating.{Generates, Looped};
 use chains::ChainAnswer;
@@ -87,7 +87,7 @@ fn first_returning(words: &[u32], set: u32, n: usize) -> usize
 {
     let mut rows = [0u64; 16384];
     rows::put_letters(words, set, 0, &mut rows);
-    rows::close(&mut rows, n);
+    grid::close_rows(&mut rows, n);
     first_joined(&rows, n)
 }
 
@@ -104,7 +104,7 @@ fn first_loop(
 {
     let mut text = [0u8; TEXT_BYTES];
     let bytes = put_text(set, &mut text);
-    let answer = engine::chain(
+    let answer = chains::chain(
         register,
         record as u16,
         record as u16,

@@ -1,4 +1,4 @@
--- Laws of listing: the columns of a row, word by word, and what is written of them.
+-- Laws of listing: the columns of a row, word by word.
 --   columns-none, columns-hit, columns-gap, columns-same, columns-split, columns-row
 --                  the columns of a row: none, one more, over a gap, of equal rows, in two parts; they are its pair words
 --   word-inside, word-found, word-rest, word-done
@@ -7,12 +7,8 @@
 --                  a row cut to n, word by word: past n, words that are not in the mask, one that is, past the last
 --   rows-none, rows-next, rows-all
 --                  the rows: none, the next, all are the list of the set
---   shown-none, shown-in, shown-out
---                  what is written of a list: nothing, a number more where there is room, one beyond it
---   grown-none, grown-more, grown-to, grown-all
---                  one part after another, up to the whole list
 -- Assumes nothing.
-use mathlib.Core.Path.{_≡_, refl, sym, ap, ap₂, subst, _∙_}
+use mathlib.Core.Path.{_≡_, refl, sym, ap, ap₂, _∙_}
 use mathlib.Core.List.{List, [], _∷_, _++_, append-nil, append-assoc}
 use Prim.Native.Nat.{ℕ, zero, suc, _+_, _-_, _*_, _/_, _%_, _^_, _≤_, _<_}
 use native.Mathlib.Nat.{add-zero, add-suc}
@@ -20,9 +16,8 @@ use native.Mathlib.Numerals.{add-one}
 use native.Mathlib.Decide.{decLt}
 use native.Mathlib.Omega.{arith}
 use lib.Dec.{ltb}
-use lib.ListN.{length, getD, set, take, drop, length-append, drop-of-length-le}
+use lib.ListN.{getD}
 use lib.Pow.{shr-shr}
-use lib.Seq.{drop-cons, set-at, take-all, take-append-le}
 use borrow.Author.Tests.{lt-ltb, le-ltb}
 use Rattle.book.specs.Basics.{pick}
 use Rattle.k2.specs.Bits.{digit}
@@ -31,7 +26,7 @@ use Rattle.k2.specs.PairSets.{Cells, ifSet, rowPairs, rowsPairs, listed}
 use Rattle.bits.specs.BitSets.{Gap}
 use Rattle.grid.specs.Grid.{rowOf, firstRows, within}
 use Rattle.grid.specs.GridLaws.{within-in}
-use Rattle.grid.specs.Steps.{Lowest, cutRow, columns, Shown, Grown}
+use Rattle.grid.specs.Steps.{Lowest, cutRow, columns}
 use Rattle.grid.proofs.RowLaws.{row-in, row-empty}
 use Rattle.grid.proofs.ColumnLaws.{lowest-some}
 
@@ -161,48 +156,3 @@ rows-next n w x ws ms l =
 pub rows-all : (n x : ℕ) (a : Cells) → x ≡ n → rowsPairs a n x ≡ listed n a
 unfolding listed
 rows-all n x a e = ap (rowsPairs a n) e
-
--- ---- written
-pub shown-none : (e : List ℕ) → Shown [] e e
-shown-none e = go (length e)
-  where
-    go : (k : ℕ) → e ≡ take k [] ++ drop 0 e
-    go zero = refl
-    go (suc k) = refl
-
-module _ (l e now : List ℕ) (v : ℕ) (S : Shown l e now) where
-  long : length (l ++ (v ∷ [])) ≡ suc (length l)
-  long = length-append l (v ∷ []) ∙ add-one (length l)
-
-  pub shown-in : length l < length e → Shown (l ++ (v ∷ [])) e (set now (length l) v)
-  shown-in h =
-      ap (λ (t : List ℕ). set t (length l) v) (S ∙ ap₂ (λ (s t : List ℕ). s ++ t) (take-all (length e) l (omega arith)) (drop-cons e (length l) 0 h))
-      ∙ set-at l (getD e (length l) 0) (drop (suc (length l)) e) v (length l) refl
-      ∙ sym (ap₂ (λ (s : List ℕ) (k : ℕ). s ++ drop k e) (take-all (length e) (l ++ (v ∷ [])) (omega (arith, long))) long
-      ∙ append-assoc l (v ∷ []) (drop (suc (length l)) e))
-
-  pub shown-out : length e ≤ length l → Shown (l ++ (v ∷ [])) e now
-  shown-out h =
-      S ∙ ap₂ (λ (s t : List ℕ). s ++ t) (sym (take-append-le (length e) l (v ∷ []) h))
-      (drop-of-length-le e {i = length l} h ∙ sym (drop-of-length-le e {i = length (l ++ (v ∷ []))} (omega (arith, long))))
-
--- ---- one part after another
-pub grown-none : (t : ℕ) (ks now : List ℕ) → ks ≡ [] → Grown t t ks now now
-grown-none t ks now z l e h k S =
-    let q : l ≡ l ++ ks = sym (ap (λ (x : List ℕ). l ++ x) z ∙ append-nil l) in
-    (sym h ∙ ap length q, subst (λ (x : List ℕ). Shown x e now) q S)
-
-pub grown-more : (t s r : ℕ) (ks js all now now′ now″ : List ℕ) → length now′ ≡ length now → Grown t s ks now now′ → Grown s r js now′ now″ → all ≡ ks ++ js
-    → Grown t r all now now″
-grown-more t s r ks js all now now′ now″ k G H a l e h m S =
-    let o = G l e h m S in
-    let p = H (l ++ ks) e (sym (o .0)) (m ∙ sym k) (o .1) in
-    let q : (l ++ ks) ++ js ≡ l ++ all = append-assoc l ks js ∙ ap (λ (x : List ℕ). l ++ x) (sym a) in
-    (p .0 ∙ ap length q, subst (λ (x : List ℕ). Shown x e now″) q (p .1))
-
-pub grown-to : (t s : ℕ) (ks js now now′ : List ℕ) → ks ≡ js → Grown t s ks now now′ → Grown t s js now now′
-grown-to t s ks js now now′ e G = subst (λ (x : List ℕ). Grown t s x now now′) e G
-
--- the whole list
-pub grown-all : (t : ℕ) (ks e now : List ℕ) → Grown 0 t ks e now → (t ≡ length ks) × (now ≡ take (length e) ks ++ drop (length ks) e)
-grown-all t ks e now G = G [] e refl refl (shown-none e)

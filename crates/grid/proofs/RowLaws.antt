@@ -2,6 +2,8 @@
 --   word-in, word-off  the bits of one word at its place in a row
 --   row-same, row-at, row-empty, row-in
 --                      a row depends on its mask and its own words; its bits, in a word that is not in the mask and in one that is
+--   row-held, held-same, held-none
+--                      what the words hold of a column is what the row has: in a word that is in the mask, in one that is as it was, and where it is nothing
 --   Join m c old v r   r is word c of a row with the mask m, whose word was old, with v put in
 --   join-in, join-new  by `|` if the word is in use, else v alone
 --   Joined w b f c m s ws ws′
@@ -11,8 +13,8 @@
 --   joined-more, joined-all
 --                      a word more, and all of them: the row is merged in
 --   put-is             one word put in is a row merged in
---   merged-none, merged-more, merged-to
---                      merging nothing, one row after another, as an equal row
+--   merged-none, merged-more
+--                      merging nothing, one row after another
 --   one-mask           `1 << c` in a mask is a power of two
 -- Assumes nothing.
 use mathlib.Core.Path.{_≡_, refl, sym, ap, ap₂, _∙_}
@@ -33,7 +35,7 @@ use Rattle.k2.specs.DigitLaws.{digit-lt, digit-or}
 use Rattle.bits.specs.BitSets.{put}
 use Rattle.bits.specs.BitSetLaws.{digit-or-pow, put-at, put-off}
 use Rattle.grid.specs.Grid.{rowOf}
-use Rattle.grid.specs.Steps.{Lowest, wordAt, Merged}
+use Rattle.grid.specs.Steps.{Lowest, wordAt, held, Merged}
 
 -- ---- one word
 pub word-in : (c v y : ℕ) → y / 64 ≡ c → wordAt c v y ≡ digit v (y % 64)
@@ -62,6 +64,21 @@ row-empty ws b m y e = rw e (omega arith)
 pub row-in : (ws : List ℕ) (b m c y : ℕ) → y / 64 ≡ c → digit m c ≡ 1 → rowOf ws b m y ≡ digit (getD ws (b + c) 0) (y % 64)
 unfolding rowOf
 row-in ws b m c y e d = rw (e, d) (omega (arith, digit-lt (getD ws (b + c) 0) (y % 64)))
+
+-- ---- what the words hold
+pub row-held : (ws : List ℕ) (b m y : ℕ) → digit m (y / 64) ≡ 1 → held ws b y ≡ rowOf ws b m y
+unfolding rowOf held
+row-held ws b m y d = rw d (omega (arith, digit-lt (getD ws (b + y / 64) 0) (y % 64)))
+
+pub held-same : (ws ws′ : List ℕ) (b m m′ y : ℕ) → digit m′ (y / 64) ≡ digit m (y / 64) → getD ws′ (b + y / 64) 0 ≡ getD ws (b + y / 64) 0
+    → held ws b y ≡ rowOf ws b m y → held ws′ b y ≡ rowOf ws′ b m′ y
+unfolding rowOf held
+held-same ws ws′ b m m′ y d e h =
+    ap (λ (v : ℕ). digit v (y % 64)) e ∙ h ∙ sym (ap₂ (λ (k v : ℕ). min k (digit v (y % 64))) d e)
+
+pub held-none : (ws : List ℕ) (b m y : ℕ) → held ws b y ≡ 0 → rowOf ws b m y ≡ 0
+unfolding rowOf held
+held-none ws b m y e = rw e (omega arith)
 
 -- ---- a word
 -- word c of a row with the mask m, v put in
@@ -130,6 +147,7 @@ joined-all w t b f c m s ws ws′ ms wc tl e J = record {
   below = J .below;
   above = λ k h. let q : k ≡ b + (k - b) = omega arith in rw q (J .above (k - b) (omega arith));
   masks = λ k n. getD-set-other ms t k (bitOr m s) 0 n;
+  clean = λ y h k. clean y k (ℕ-discrete (digit s (y / 64)) 1);
 }
   where
     m′ : ℕ
@@ -162,6 +180,13 @@ joined-all w t b f c m s ws ws′ ms wc tl e J = record {
         let z : digit s (y / 64) ≡ 0 = omega (arith, digit-lt s (y / 64), g) in
         shown y (keeps (digit m (y / 64)) (digit s (y / 64)) (old y) (new y) _ _ (mask (y / 64)) z (ap (λ (x : ℕ). digit x (y % 64)) (J .empty (y / 64) z)))
 
+    clean : (y : ℕ) → held ws b y ≡ rowOf ws b (getD ms t 0) y → Dec (digit s (y / 64) ≡ 1) → held ws′ b y ≡ rowOf ws′ b m′ y
+    clean y k (yes g) = row-held ws′ b m′ y (omega (arith, mask (y / 64), g, digit-lt m (y / 64)))
+    clean y k (no g) =
+        let z : digit s (y / 64) ≡ 0 = omega (arith, digit-lt s (y / 64), g) in
+        let d : digit m′ (y / 64) ≡ digit m (y / 64) = omega (arith, mask (y / 64), z) in
+        held-same ws ws′ b (getD ms t 0) m′ y (d ∙ ap (λ (x : ℕ). digit x (y / 64)) e) (J .empty (y / 64) z) k
+
 -- one word
 pub put-is : (w t b c v m r : ℕ) (ws ms : List ℕ) → c < w → b + c < length ws → t < length ms → m ≡ getD ms t 0 → Join m c (getD ws (b + c) 0) v r
     → Merged w t b (wordAt c v) ws ms (set ws (b + c) r) (set ms t (bitOr m (2 ^ c)))
@@ -170,6 +195,7 @@ put-is w t b c v m r ws ms cl bl tl e J = record {
   below = λ k h. getD-set-other ws (b + c) k r 0 (λ q. absurd (omega arith));
   above = λ k h. getD-set-other ws (b + c) k r 0 (λ q. absurd (omega arith));
   masks = λ k n. getD-set-other ms t k (bitOr m (2 ^ c)) 0 n;
+  clean = λ y h k. clean y k (ℕ-discrete (y / 64) c);
 }
   where
     m′ : ℕ
@@ -190,6 +216,11 @@ put-is w t b c v m r ws ms cl bl tl e J = record {
         ∙ ap₂ (λ (d x : ℕ). min d (digit x (y % 64))) (digits y n) (getD-set-other ws (b + c) (b + y / 64) r 0 (λ q. n (omega arith)))
         ∙ sym (row-at ws b (getD ms t 0) y) ∙ sym (ap (max (rowOf ws b (getD ms t 0) y)) (word-off c v y n) ∙ omega arith)
 
+    clean : (y : ℕ) → held ws b y ≡ rowOf ws b (getD ms t 0) y → Dec (y / 64 ≡ c) → held (set ws (b + c) r) b y ≡ rowOf (set ws (b + c) r) b m′ y
+    clean y k (yes q) = row-held (set ws (b + c) r) b m′ y (ap (digit m′) q ∙ mask c ∙ put-at c 1 (digit m))
+    clean y k (no n) =
+        held-same ws (set ws (b + c) r) b (getD ms t 0) m′ y (digits y n) (getD-set-other ws (b + c) (b + y / 64) r 0 (λ q. n (omega arith))) k
+
 -- ---- merging
 pub merged-none : (w t b : ℕ) (src : ℕ → ℕ) (ws ms : List ℕ) → ((y : ℕ) → src y ≡ 0) → Merged w t b src ws ms ws ms
 merged-none w t b src ws ms z = record {
@@ -197,6 +228,7 @@ merged-none w t b src ws ms z = record {
   below = λ k h. refl;
   above = λ k h. refl;
   masks = λ k n. refl;
+  clean = λ y h k. k;
 }
 
 module _ {w t b : ℕ} {s : ℕ → ℕ} {ws ms ws′ ms′ : List ℕ} (M : Merged w t b s ws ms ws′ ms′) where
@@ -209,18 +241,11 @@ module _ {w t b : ℕ} {s : ℕ → ℕ} {ws ms ws′ ms′ : List ℕ} (M : Mer
     below = λ k h. N .below k h ∙ M .below k h;
     above = λ k h. N .above k h ∙ M .above k h;
     masks = λ k n. N .masks k n ∙ M .masks k n;
+    clean = λ y h k. N .clean y h (M .clean y h k);
   }
     where
       assoc : (x y z : ℕ) → max (max x y) z ≡ max x (max y z)
       assoc x y z = omega arith
-
-  pub merged-to : (g : ℕ → ℕ) → ((y : ℕ) → y < w * 64 → s y ≡ g y) → Merged w t b g ws ms ws′ ms′
-  merged-to g e = record {
-    row = λ y h. M .row y h ∙ ap (max (rowOf ws b (getD ms t 0) y)) (e y h);
-    below = M .below;
-    above = M .above;
-    masks = M .masks;
-  }
 
 -- `1 << c` in a mask
 pub one-mask : (c : ℕ) → c < 16 → (1 * 2 ^ c) % 65536 ≡ 2 ^ c

@@ -31,7 +31,7 @@ use Rattle.rows.specs.RowLaws.{union-none}
 use Rattle.bits.specs.BitSets.{Gap}
 use Rattle.grid.specs.Grid.{rowOf, firstRows, secondRows, within, first, second}
 use Rattle.grid.specs.GridLaws.{within-in, within-row, within-column, within-same, second-part}
-use Rattle.grid.specs.Steps.{Lowest, wordAt, onePair, onlyRow, Merged, Replaced, Turned}
+use Rattle.grid.specs.Steps.{Lowest, wordAt, onePair, onlyRow, held, Merged, Replaced, Turned}
 use Rattle.grid.proofs.RowLaws.{row-same, row-empty}
 use Rattle.grid.proofs.RelationLaws.{rows-apart, Through, through-more, second-row, within-union}
 use Rattle.grid.proofs.PairLaws.{pair-put, one-at, one-off, none-left, union-empty, put-more}
@@ -50,14 +50,22 @@ module _ (n w t b : ℕ) (src : ℕ → ℕ) (ws ms ws′ ms′ : List ℕ) (M :
       let e : n * w + (b + y / 64) ≡ n * w + b + y / 64 = omega arith in
       ap (λ (v : ℕ). min (digit m (y / 64)) (digit v (y % 64))) (getD-drop (n * w) vs (b + y / 64) 0 ∙ ap (λ (k : ℕ). getD vs k 0) e)
 
+  part-at : (vs ks : List ℕ) (y : ℕ) → rowOf (drop (n * w) vs) b (getD (drop n ks) t 0) y ≡ rowOf vs (n * w + b) (getD ks (n + t) 0) y
+  part-at vs ks y = part-row vs (getD (drop n ks) t 0) y ∙ ap (λ (m : ℕ). rowOf vs (n * w + b) m y) (getD-drop n ks t 0)
+
+  part-held : (vs : List ℕ) (y : ℕ) → held (drop (n * w) vs) b y ≡ held vs (n * w + b) y
+  unfolding held
+  part-held vs y =
+      let e : n * w + (b + y / 64) ≡ n * w + b + y / 64 = omega arith in
+      ap (λ (v : ℕ). digit v (y % 64)) (getD-drop (n * w) vs (b + y / 64) 0 ∙ ap (λ (k : ℕ). getD vs k 0) e)
+
   pub merged-part : Merged w t b src (drop (n * w) ws) (drop n ms) (drop (n * w) ws′) (drop n ms′)
   merged-part = record {
-    row = λ y h.
-        part-row ws′ (getD (drop n ms′) t 0) y ∙ ap (λ (m : ℕ). rowOf ws′ (n * w + b) m y) (getD-drop n ms′ t 0) ∙ M .row y h
-        ∙ ap (λ (v : ℕ). max v (src y)) (sym (part-row ws (getD (drop n ms) t 0) y ∙ ap (λ (m : ℕ). rowOf ws (n * w + b) m y) (getD-drop n ms t 0)));
+    row = λ y h. part-at ws′ ms′ y ∙ M .row y h ∙ ap (λ (v : ℕ). max v (src y)) (sym (part-at ws ms y));
     below = λ k h. getD-drop (n * w) ws′ k 0 ∙ M .below (n * w + k) (omega arith) ∙ sym (getD-drop (n * w) ws k 0);
     above = λ k h. getD-drop (n * w) ws′ k 0 ∙ M .above (n * w + k) (omega arith) ∙ sym (getD-drop (n * w) ws k 0);
     masks = λ k h. getD-drop n ms′ k 0 ∙ M .masks (n + k) (λ e. h (omega arith)) ∙ sym (getD-drop n ms k 0);
+    clean = λ y h k. part-held ws′ y ∙ M .clean y h (sym (part-held ws y) ∙ k ∙ part-at ws ms y) ∙ sym (part-at ws′ ms′ y);
   }
 
 -- ---- a row's pairs

@@ -1,27 +1,32 @@
 // The closure of the first relation of a part, in place, record by record: each row is closed by a search over the rows as they are, where the row
 // of a record that is closed stands for all that it leads to.
 use crate::row::merge;
-use crate::row::put;
 use crate::words::above;
 use crate::words::cut;
-use crate::words::lacking;
 use crate::words::lowest;
 ghost use mathlib.Core.Path.{_≡_};
 ghost use mathlib.Core.Logic.{_⊎_};
-ghost use Prim.Native.Nat.{ℕ, _+_, _*_, _/_, _%_, _^_, _≤_, _<_, max};
+ghost use mathlib.Core.Bool.{true};
+ghost use Prim.Native.Nat.{ℕ, _+_, _*_, _/_, _≤_, _<_, max};
 ghost use lib.Dec.{eqb};
-ghost use lib.ListN.{length};
+ghost use lib.ListN.{length, getD};
 ghost use Rattle.book.specs.Basics.{pick};
 ghost use Rattle.k2.specs.Bits.{digit, bitAt};
 ghost use Rattle.k2.specs.PairSets.{Cells, IsSet, closure};
+ghost use Rattle.bits.specs.BitSets.{put};
+ghost use Rattle.rows.specs.Rows.{flat};
+ghost use Rattle.rows.specs.Steps.{Masked};
 ghost use Rattle.grid.specs.Grid.{rowOf, firstRows, first};
-ghost use Rattle.grid.specs.Steps.{wordAt, Merged, Fresh, Half};
+ghost use Rattle.grid.specs.Steps.{Clean, Merged, Fresh, RowClosed, Onward};
 
-// The place found, if it is below n; else the lowest bit of word c of a row, if it has one.
-fn found_or(found: usize, n: usize, left: u64, c: usize) -> usize
-    requires { ⌜ c < 16 ⌝ }
-    ensures { λ r. ⌜ ((r ≡ found) × ((found < n) ⊎ (left ≡ 0))) ⊎ ((n ≤ found) × (k : ℕ) × (k < 64) × (digit left k ≡ 1) × (r ≡ c * 64 + k)) ⌝ }
+// A column of a closed record in word c of a row, if one is left there; else the column found, if it is below n; else one that is left in the word.
+fn found_or(found: usize, n: usize, left: u64, best: u64, c: usize) -> usize
+    requires { ⌜ (c < 16) × ((k : ℕ) → digit best k ≡ 1 → digit left k ≡ 1) ⌝ }
+    ensures { λ r. ⌜ ((r ≡ found) × ((found < n) ⊎ (left ≡ 0))) ⊎ ((k : ℕ) × (k < 64) × (digit left k ≡ 1) × (r ≡ c * 64 + k)) ⌝ }
 {
+    if best != 0 {
+        return c * 64 + lowest(best);
+    }
     if found < n {
         return found;
     }
@@ -31,47 +36,84 @@ fn found_or(found: usize, n: usize, left: u64, c: usize) -> usize
     c * 64 + lowest(left)
 }
 
-// A column below n of the row at place b with the mask that is not seen, that is, not in the row after the relation; n or more if there is none. That
-// of a closed record, where there is one: all that it leads to is then seen at once. Nothing but speed rests on that choice.
-fn fresh(cells: &[u64], mask: u16, seen: u16, n: usize, w: usize, b: usize, closed: &[u64]) -> usize
-    requires { ⌜ (n ≤ 1024) × (w ≤ 16) × (n ≤ w * 64) × (n * w + w ≤ length (now cells)) × (b + w ≤ n * w) × (16 ≤ length (now closed)) ⌝ }
-    ensures { λ r. ⌜ Fresh n (rowOf (now (cells .entry)) b mask) (rowOf (now (cells .entry)) (n * w) seen) r ⌝ }
+// A column below n of row x, with the mask, that is not seen; n or more if there is none. That of a closed record, where there is one, all that it leads
+// to being then seen at once, and of those one near column x. Nothing but speed rests on that choice.
+fn fresh(
+    cells: &[u64],
+    mask: u16,
+    n: usize,
+    w: usize,
+    x: usize,
+    seen: &[u64],
+    closed: &[u64],
+) -> usize
+    requires { ⌜ (n ≤ 1024) × (w ≤ 16) × (n ≤ w * 64) × (n * w ≤ length (now cells)) × (x < n) × (16 ≤ length (now seen)) × (16 ≤ length (now closed)) ⌝ }
+    ensures { λ r. ⌜ Fresh n (rowOf (now (cells .entry)) (x * w) mask) (bitAt (now (seen .entry))) r ⌝ }
 {
     let words = mask as u64;
-    let at = n * w;
+    let b = x * w;
     let mut found = n;
     let mut c = lowest(words);
     while c < w {
-        let word = lacking(cells[b + c], seen, c, cells[at + c]);
-        let left = cut(word, c, n);
+        let left = cut(cells[b + c] & !seen[c], c, n);
         let best = left & closed[c];
+        found = found_or(found, n, left, best, c);
         if best != 0 {
-            return c * 64 + lowest(best);
+            if found < n {
+                if x < c * 64 + 64 {
+                    return found;
+                }
+            }
         }
-        found = found_or(found, n, left, c);
         c = above(words, c);
     }
     found
 }
 
-// Record z is seen, and, if its row is whole, all that it leads to.
-fn mark(cells: &mut [u64], masks: &mut [u16], n: usize, w: usize, z: usize, whole: u64)
-    requires { ⌜ (n ≤ 1024) × (w ≤ 16) × (n ≤ w * 64) × (n * w + w ≤ length (now cells)) × (n < length (now masks)) × (z < n) ⌝ }
-    ensures { λ _. ⌜ Merged w n (n * w)
-        (λ y. max (pick (eqb whole 1) (firstRows w (now (cells .entry)) (now (masks .entry)) z y) 0) (wordAt (z / 64) (2 ^ (z % 64)) y))
-        (now (cells .entry)) (now (masks .entry)) (now (cells .exit)) (now (masks .exit)) ⌝ }
+// The columns of the row at place b, with the mask, put into a set.
+fn add_row(cells: &[u64], mask: u16, w: usize, b: usize, set: &mut [u64])
+    requires { ⌜ (w ≤ 16) × (b + w ≤ length (now cells)) × (16 ≤ length (now set)) ⌝ }
+    ensures { λ _. ⌜ ((y : ℕ) → y < w * 64 → bitAt (now (set .exit)) y ≡ max (bitAt (now (set .entry)) y) (rowOf (now (cells .entry)) b mask y)) ⌝ }
 {
-    let at = n * w;
-    if whole == 1 {
-        let source = masks[z];
-        merge(cells, masks, w, n, at, source, z * w);
+    let words = mask as u64;
+    let mut c = lowest(words);
+    while c < w {
+        set[c] = set[c] | cells[b + c];
+        c = above(words, c);
     }
-    put(cells, masks, n, at, z / 64, 1 << (z % 64));
+}
+
+// Record z is seen, and, if its row, with the mask, is whole, all that it leads to.
+fn mark(cells: &[u64], mask: u16, w: usize, z: usize, whole: u64, seen: &mut [u64])
+    requires { ⌜ (w ≤ 16) × (z < 1024) × (z * w + w ≤ length (now cells)) × (16 ≤ length (now seen)) ⌝ }
+    ensures { λ _. ⌜ ((y : ℕ) → y < w * 64 → bitAt (now (seen .exit)) y
+        ≡ max (put z 1 (bitAt (now (seen .entry))) y) (pick (eqb whole 1) (rowOf (now (cells .entry)) (z * w) mask y) 0)) ⌝ }
+{
+    bits::set_bit(seen, z);
+    if whole != 1 {
+        return;
+    }
+    add_row(cells, mask, w, z * w, seen);
+}
+
+// Is the row at place b, with the mask, whole, and does it lead to x?
+fn leads_back(cells: &[u64], mask: u16, b: usize, x: usize, whole: u64) -> bool
+    requires { ⌜ (x < 1024) × (b + x / 64 < length (now cells)) ⌝ }
+    ensures { λ r. ⌜ (r ≡ true → (whole ≡ 1) × (rowOf (now (cells .entry)) b mask x ≡ 1)) ⌝ }
+{
+    if whole != 1 {
+        return false;
+    }
+    let c = x / 64;
+    if (mask >> c) % 2 != 1 {
+        return false;
+    }
+    (cells[b + c] >> (x % 64)) % 2 == 1
 }
 
 // Row z put into row x.
 fn lead_on(cells: &mut [u64], masks: &mut [u16], n: usize, w: usize, x: usize, z: usize)
-    requires { ⌜ (n ≤ 1024) × (w ≤ 16) × (n ≤ w * 64) × (n * w + w ≤ length (now cells)) × (n < length (now masks)) × (x < n) × (z < n) ⌝ }
+    requires { ⌜ (n ≤ 1024) × (w ≤ 16) × (n ≤ w * 64) × (n * w ≤ length (now cells)) × (n ≤ length (now masks)) × (x < n) × (z < n) ⌝ }
     ensures { λ _. ⌜ Merged w x (x * w) (firstRows w (now (cells .entry)) (now (masks .entry)) z)
         (now (cells .entry)) (now (masks .entry)) (now (cells .exit)) (now (masks .exit)) ⌝ }
 {
@@ -82,21 +124,21 @@ fn lead_on(cells: &mut [u64], masks: &mut [u16], n: usize, w: usize, x: usize, z
     merge(cells, masks, w, x, x * w, source, z * w);
 }
 
-// Row x closed, if the rows of the records that are closed are. The row after the relation has what the search has seen.
+// Row x closed, if the rows of the records that are closed are. A closed row that leads back to x, and that x leads to, is that of x.
 fn close_row(cells: &mut [u64], masks: &mut [u16], n: usize, w: usize, x: usize, closed: &[u64])
-    requires { ⌜ (n ≤ 1024) × (w ≤ 16) × (n ≤ w * 64) × (n * w + w ≤ length (now cells)) × (n < length (now masks)) × (x < n) × (16 ≤ length (now closed)) ⌝ }
-    ensures { λ _. ⌜ ((u y : ℕ) → u < n → y < n → (u ≡ x → ⊥)
-        → firstRows w (now (cells .exit)) (now (masks .exit)) u y ≡ firstRows w (now (cells .entry)) (now (masks .entry)) u y)
-        × ((a : Cells) → IsSet n a → Half n a (bitAt (now (closed .entry))) (firstRows w (now (cells .entry)) (now (masks .entry)))
-        → bitAt (now (closed .entry)) x ≡ 0 → (y : ℕ) → y < n → firstRows w (now (cells .exit)) (now (masks .exit)) x y ≡ closure n a x y) ⌝ }
+    requires { ⌜ (n ≤ 1024) × (w ≤ 16) × (n ≤ w * 64) × (n * w ≤ length (now cells)) × (n ≤ length (now masks)) × (x < n) × (16 ≤ length (now closed)) ⌝ }
+    ensures { λ _. ⌜ RowClosed n w x (bitAt (now (closed .entry))) (now (cells .entry)) (now (masks .entry)) (now (cells .exit)) (now (masks .exit)) ⌝ }
 {
-    masks[n] = 0;
-    let b = x * w;
-    let mut z = fresh(cells, masks[x], masks[n], n, w, b, closed);
+    let mut seen: [u64; 16] = [0; 16];
+    let mut z = fresh(cells, masks[x], n, w, x, &seen, closed);
     while z < n {
-        mark(cells, masks, n, w, z, bits::bit(closed, z));
+        let whole = bits::bit(closed, z);
         lead_on(cells, masks, n, w, x, z);
-        z = fresh(cells, masks[x], masks[n], n, w, b, closed);
+        if leads_back(cells, masks[z], z * w, x, whole) {
+            return;
+        }
+        mark(cells, masks[z], w, z, whole, &mut seen);
+        z = fresh(cells, masks[x], n, w, x, &seen, closed);
     }
 }
 
@@ -109,10 +151,9 @@ fn close_once(
     x: usize,
     closed: &mut [u64],
 )
-    requires { ⌜ (n ≤ 1024) × (w ≤ 16) × (n ≤ w * 64) × (n * w + w ≤ length (now cells)) × (n < length (now masks)) × (16 ≤ length (now closed)) ⌝ }
-    ensures { λ _. ⌜ ((a : Cells) → IsSet n a → Half n a (bitAt (now (closed .entry))) (firstRows w (now (cells .entry)) (now (masks .entry)))
-        → Half n a (bitAt (now (closed .exit))) (firstRows w (now (cells .exit)) (now (masks .exit))))
-        × ((u : ℕ) → bitAt (now (closed .entry)) u ≡ 1 → bitAt (now (closed .exit)) u ≡ 1) × (x < n → bitAt (now (closed .exit)) x ≡ 1) ⌝ }
+    requires { ⌜ (n ≤ 1024) × (w ≤ 16) × (n ≤ w * 64) × (n * w ≤ length (now cells)) × (n ≤ length (now masks)) × (16 ≤ length (now closed)) ⌝ }
+    ensures { λ _. ⌜ Onward n w (now (closed .entry)) (now (cells .entry)) (now (masks .entry)) (now (closed .exit)) (now (cells .exit)) (now (masks .exit))
+        × (x < n → bitAt (now (closed .exit)) x ≡ 1) ⌝ }
 {
     if n <= x {
         return;
@@ -150,10 +191,9 @@ fn deeper(
     x: usize,
     marks: &mut [u64],
 ) -> usize
-    requires { ⌜ (n ≤ 1024) × (w ≤ 16) × (n ≤ w * 64) × (n * w + w ≤ length (now cells)) × (n < length (now masks)) × (length (now marks) ≡ 32) ⌝ }
-    ensures { λ r. ⌜ (r ≤ n) × ((a : Cells) → IsSet n a → Half n a (bitAt (now (marks .entry))) (firstRows w (now (cells .entry)) (now (masks .entry)))
-        → Half n a (bitAt (now (marks .exit))) (firstRows w (now (cells .exit)) (now (masks .exit))))
-        × ((u : ℕ) → bitAt (now (marks .entry)) u ≡ 1 → bitAt (now (marks .exit)) u ≡ 1) ⌝ }
+    requires { ⌜ (n ≤ 1024) × (w ≤ 16) × (n ≤ w * 64) × (n * w ≤ length (now cells)) × (n ≤ length (now masks)) × (length (now marks) ≡ 32) ⌝ }
+    ensures { λ r. ⌜ (r ≤ n) × Onward n w (now (marks .entry)) (now (cells .entry))
+        (now (masks .entry)) (now (marks .exit)) (now (cells .exit)) (now (masks .exit)) ⌝ }
 {
     if n <= x {
         return n;
@@ -191,11 +231,10 @@ fn advance(
     stack: &mut [u16],
     depth: usize,
 ) -> usize
-    requires { ⌜ (n ≤ 1024) × (w ≤ 16) × (n ≤ w * 64) × (n * w + w ≤ length (now cells)) × (n < length (now masks)) × (length (now marks) ≡ 32)
+    requires { ⌜ (n ≤ 1024) × (w ≤ 16) × (n ≤ w * 64) × (n * w ≤ length (now cells)) × (n ≤ length (now masks)) × (length (now marks) ≡ 32)
         × (length (now stack) ≡ 2050) × (0 < depth) × (depth < 2050) ⌝ }
-    ensures { λ r. ⌜ (r ≤ depth + 1) × ((a : Cells) → IsSet n a → Half n a (bitAt (now (marks .entry))) (firstRows w (now (cells .entry)) (now (masks .entry)))
-        → Half n a (bitAt (now (marks .exit))) (firstRows w (now (cells .exit)) (now (masks .exit))))
-        × ((u : ℕ) → bitAt (now (marks .entry)) u ≡ 1 → bitAt (now (marks .exit)) u ≡ 1) ⌝ }
+    ensures { λ r. ⌜ (r ≤ depth + 1) × Onward n w (now (marks .entry)) (now (cells .entry))
+        (now (masks .entry)) (now (marks .exit)) (now (cells .exit)) (now (masks .exit)) ⌝ }
 {
     let x = stack[depth - 1] as usize;
     let z = deeper(cells, masks, n, w, x, marks);
@@ -212,11 +251,9 @@ fn search_on(
     marks: &mut [u64],
     stack: &mut [u16],
 )
-    requires { ⌜ (n ≤ 1024) × (w ≤ 16) × (n ≤ w * 64) × (n * w + w ≤ length (now cells)) × (n < length (now masks)) × (length (now marks) ≡ 32)
+    requires { ⌜ (n ≤ 1024) × (w ≤ 16) × (n ≤ w * 64) × (n * w ≤ length (now cells)) × (n ≤ length (now masks)) × (length (now marks) ≡ 32)
         × (length (now stack) ≡ 2050) ⌝ }
-    ensures { λ _. ⌜ ((a : Cells) → IsSet n a → Half n a (bitAt (now (marks .entry))) (firstRows w (now (cells .entry)) (now (masks .entry)))
-        → Half n a (bitAt (now (marks .exit))) (firstRows w (now (cells .exit)) (now (masks .exit))))
-        × ((u : ℕ) → bitAt (now (marks .entry)) u ≡ 1 → bitAt (now (marks .exit)) u ≡ 1) ⌝ }
+    ensures { λ _. ⌜ Onward n w (now (marks .entry)) (now (cells .entry)) (now (masks .entry)) (now (marks .exit)) (now (cells .exit)) (now (masks .exit)) ⌝ }
 {
     let mut depth = 1;
     let mut step: usize = 0;
@@ -240,11 +277,9 @@ fn close_from(
     marks: &mut [u64],
     stack: &mut [u16],
 )
-    requires { ⌜ (n ≤ 1024) × (w ≤ 16) × (n ≤ w * 64) × (n * w + w ≤ length (now cells)) × (n < length (now masks)) × (length (now marks) ≡ 32)
+    requires { ⌜ (n ≤ 1024) × (w ≤ 16) × (n ≤ w * 64) × (n * w ≤ length (now cells)) × (n ≤ length (now masks)) × (length (now marks) ≡ 32)
         × (length (now stack) ≡ 2050) × (x < n) ⌝ }
-    ensures { λ _. ⌜ ((a : Cells) → IsSet n a → Half n a (bitAt (now (marks .entry))) (firstRows w (now (cells .entry)) (now (masks .entry)))
-        → Half n a (bitAt (now (marks .exit))) (firstRows w (now (cells .exit)) (now (masks .exit))))
-        × ((u : ℕ) → bitAt (now (marks .entry)) u ≡ 1 → bitAt (now (marks .exit)) u ≡ 1) ⌝ }
+    ensures { λ _. ⌜ Onward n w (now (marks .entry)) (now (cells .entry)) (now (masks .entry)) (now (marks .exit)) (now (cells .exit)) (now (masks .exit)) ⌝ }
 {
     if bits::bit(marks, 1024 + x) == 1 {
         return;
@@ -254,17 +289,69 @@ fn close_from(
     search_on(cells, masks, n, w, marks, stack);
 }
 
-// One or more steps of the first relation. The row and the mask after it are used.
-pub fn close(cells: &mut [u64], masks: &mut [u16], n: usize, w: usize)
-    requires { ⌜ (n ≤ 1024) × (w ≤ 16) × (n ≤ w * 64) × (n * w + w ≤ length (now cells)) × (n < length (now masks)) ⌝ }
-    ensures { λ _. ⌜ first n w (now (cells .exit)) (now (masks .exit)) ≡ closure n (first n w (now (cells .entry)) (now (masks .entry))) ⌝ }
+// Row x closed, unless it is empty, and before it the rows that it leads to.
+fn close_record(
+    cells: &mut [u64],
+    masks: &mut [u16],
+    n: usize,
+    w: usize,
+    x: usize,
+    marks: &mut [u64],
+    stack: &mut [u16],
+)
+    requires { ⌜ (n ≤ 1024) × (w ≤ 16) × (n ≤ w * 64) × (n * w ≤ length (now cells)) × (n ≤ length (now masks)) × (length (now marks) ≡ 32)
+        × (length (now stack) ≡ 2050) × (x < n) ⌝ }
+    ensures { λ _. ⌜ Onward n w (now (marks .entry)) (now (cells .entry)) (now (masks .entry)) (now (marks .exit)) (now (cells .exit)) (now (masks .exit))
+        × ((getD (now (masks .entry)) x 0 ≡ 0) ⊎ (bitAt (now (marks .exit)) x ≡ 1)) ⌝ }
+{
+    if masks[x] == 0 {
+        return;
+    }
+    close_from(cells, masks, n, w, x, marks, stack);
+    close_once(cells, masks, n, w, x, marks);
+}
+
+// One or more steps of the first relation. Clean words stay so.
+fn close_all(cells: &mut [u64], masks: &mut [u16], n: usize, w: usize)
+    requires { ⌜ (n ≤ 1024) × (w ≤ 16) × (n ≤ w * 64) × (n * w ≤ length (now cells)) × (n ≤ length (now masks)) ⌝ }
+    ensures { λ _. ⌜ (first n w (now (cells .exit)) (now (masks .exit)) ≡ closure n (first n w (now (cells .entry)) (now (masks .entry))))
+        × (Clean n w (now (cells .entry)) (now (masks .entry)) → Clean n w (now (cells .exit)) (now (masks .exit))) ⌝ }
 {
     let mut marks: [u64; 32] = [0; 32];
     let mut stack: [u16; 2050] = [0; 2050];
     let mut x = 0;
     while x < n {
-        close_from(cells, masks, n, w, x, &mut marks, &mut stack);
-        close_once(cells, masks, n, w, x, &mut marks);
+        close_record(cells, masks, n, w, x, &mut marks, &mut stack);
         x += 1;
     }
+}
+
+// One or more steps of the first relation.
+pub fn close(cells: &mut [u64], masks: &mut [u16], n: usize, w: usize)
+    requires { ⌜ (n ≤ 1024) × (w ≤ 16) × (n ≤ w * 64) × (n * w ≤ length (now cells)) × (n ≤ length (now masks)) ⌝ }
+    ensures { λ _. ⌜ first n w (now (cells .exit)) (now (masks .exit)) ≡ closure n (first n w (now (cells .entry)) (now (masks .entry))) ⌝ }
+{
+    close_all(cells, masks, n, w);
+}
+
+// The masks of rows of 1,024 bits.
+fn mask_rows(rows: &[u64], n: usize, masks: &mut [u16])
+    requires { ⌜ (n ≤ 1024) × (length (now rows) ≡ 16384) × (n ≤ length (now masks)) ⌝ }
+    ensures { λ _. ⌜ ((x : ℕ) → x < n → Masked (bitAt (now (rows .entry))) x (getD (now (masks .exit)) x 0)) ⌝ }
+{
+    let mut row = 0;
+    while row < n {
+        masks[row] = rows::squares(rows, row) as u16;
+        row += 1;
+    }
+}
+
+// One or more steps of rows of 1,024 bits, in place.
+pub fn close_rows(rows: &mut [u64], n: usize)
+    requires { ⌜ (n ≤ 1024) × (length (now rows) ≡ 16384) ⌝ }
+    ensures { λ _. ⌜ ((x : Cells) → IsSet n x → bitAt (now (rows .entry)) ≡ flat x → bitAt (now (rows .exit)) ≡ flat (closure n x)) ⌝ }
+{
+    let mut masks: [u16; 1024] = [0; 1024];
+    mask_rows(rows, n, &mut masks);
+    close_all(rows, &mut masks, n, 16);
 }

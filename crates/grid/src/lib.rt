@@ -16,6 +16,7 @@ pub use algebra::compose;
 pub use algebra::transpose;
 pub use algebra::unite;
 pub use closing::close;
+pub use closing::close_rows;
 pub use listing::list;
 pub use putting::put_diagonal;
 pub use putting::put_letters;

@@ -3,22 +3,14 @@ use crate::words::above;
 use crate::words::cut;
 use crate::words::lowest;
 ghost use mathlib.Core.Path.{_≡_};
-ghost use mathlib.Core.List.{[], _∷_, _++_};
+ghost use mathlib.Core.List.{_++_};
 ghost use Prim.Native.Nat.{_+_, _*_, _≤_, _<_, _^_};
 ghost use lib.ListN.{length, take, drop};
 ghost use Rattle.k2.specs.Bits.{digit};
 ghost use Rattle.k2.specs.PairSets.{listed};
 ghost use Rattle.grid.specs.Grid.{rowOf, first};
-ghost use Rattle.grid.specs.Steps.{cutRow, columns, Grown};
-
-// A word written at place t, if the list is that long.
-fn write(out: &mut [u32], t: usize, v: u32)
-    ensures { λ _. ⌜ Grown t (t + 1) (v ∷ []) (now (out .entry)) (now (out .exit)) ⌝ }
-{
-    if t < out.len() {
-        out[t] = v;
-    }
-}
+ghost use Rattle.answers.specs.Listing.{Grown};
+ghost use Rattle.grid.specs.Steps.{cutRow, columns};
 
 // The bits of a word, each as `at` + its place, written from place t on. The place after them.
 fn list_word(word: u64, at: usize, out: &mut [u32], t: usize) -> usize
@@ -31,7 +23,7 @@ fn list_word(word: u64, at: usize, out: &mut [u32], t: usize) -> usize
     while rest != 0 {
         let k = lowest(rest);
         p += k;
-        write(out, s, p as u32);
+        answers::put_u32(out, s, p as u32);
         s += 1;
         p += 1;
         rest = (rest >> k) >> 1;

@@ -1,6 +1,6 @@
 // The bits of one word: the lowest, the next above one, and a word put into another.
 ghost use mathlib.Core.Path.{_≡_};
-ghost use Prim.Native.Nat.{ℕ, _+_, _-_, _*_, _≤_, _<_, max, min};
+ghost use Prim.Native.Nat.{ℕ, _+_, _*_, _≤_, _<_, max, min};
 ghost use lib.Dec.{ltb};
 ghost use lib.ListN.{length};
 ghost use Rattle.book.specs.Basics.{pick};
@@ -54,15 +54,4 @@ pub fn cut(word: u64, c: usize, n: usize) -> u64
         return word;
     }
     word % (1 << (n - at))
-}
-
-// The bits of a word that word c of a row with the mask, which is old, lacks.
-pub fn lacking(word: u64, mask: u16, c: usize, old: u64) -> u64
-    requires { ⌜ c < 16 ⌝ }
-    ensures { λ r. ⌜ ((j : ℕ) → j < 64 → digit r j ≡ min (digit word j) (1 - min (digit mask c) (digit old j))) ⌝ }
-{
-    if (mask >> c) % 2 != 0 {
-        return word & !old;
-    }
-    word
 }

@@ -12,11 +12,9 @@
 --                         what asking for one promises, in each case
 --   asked-foreign, asked  a question over words that are no register's, and over a register's
 --   copied                words copied to the front of a list, the first that it takes
---   links-handed          the links, copied so
---   size-foreign, sized, total-foreign, totalled
---                         the number of records, and the total of a label
---   lock-foreign, locked-word, withdrawn-foreign, withdrawn-word
---                         whether a record is locked, or withdrawn
+--   asked-list            a part of the words handed over so, which is what a register has there
+--   told-word             what is read of words, told as a number
+--   mark-told             whether a record has a mark, told so
 -- Assumes nothing.
 use mathlib.Core.Path.{_≡_, refl, sym, ap, subst, _∙_}
 use mathlib.Core.Bool.{Bool, true, false, _||_}
@@ -31,24 +29,24 @@ use borrow.Author.Tests.{lt-ltb, le-ltb}
 use Rattle.book.specs.Basics.{pick, bit}
 use Rattle.book.specs.Causes.{short-work, not-open, number, firstNumber, maxRecords}
 use Rattle.book.specs.Book.{Book, Call, close, freshAnswer}
+use Rattle.answers.specs.Answers.{FirstPart}
+use Rattle.answers.specs.AnswerLaws.{part-given}
+use Rattle.answers.specs.declared.Counted.{Counted}
+use Rattle.answers.specs.declared.Counted.the-variants.{Count}
 use Rattle.register.specs.Representation.{Represents}
-use Rattle.register.specs.Marks.{Marked}
+use Rattle.register.specs.Marks.{hasMark, Marked}
 use Rattle.register.specs.Counters.{InRange}
 use Rattle.register.specs.Calls.{answerOf, answerNumber, Opens, Steps, Closes}
 use Rattle.register.specs.HistoryLaws.{number-answer}
-use Rattle.register.specs.Questions.{Sized, Listing, Locking, Withdrawal, Totals}
-use Rattle.register.specs.declared.TotalAnswer.{TotalAnswer}
-use Rattle.register.specs.Words.{stateWords, Keeps, Foreign, Copies, Loads, Stores}
+use Rattle.register.specs.Inner.{Shown}
+use Rattle.register.specs.Words.{stateWords, Keeps, Foreign, OfWords, Copies, Loads, Stores}
 use Rattle.register.specs.MarkLaws.{represents-marked}
 use Rattle.register.specs.WordLaws.{keeps-long, keeps-same, load-done}
 use Rattle.register.specs.declared.Register.{Register}
 use Rattle.register.specs.declared.Outcome.{Outcome}
-use Rattle.register.specs.declared.Links.{Links}
 use Rattle.register.specs.declared.Answer.{Answer}
 use Rattle.register.specs.declared.Answer.the-variants.{Done, Refused}
-use Rattle.pairs.specs.Asking.{Handed, handed}
-use Rattle.pairs.specs.declared.PairsAnswer.the-variants.{Pairs}
-use Rattle.host.specs.Host.{freshNumber, Freshens, Edits, refusal, toldPairs, toldTotal, Told, Asked, Lists, Sizes, TellsLock, TellsWithdrawn, TellsTotal}
+use Rattle.host.specs.Host.{freshNumber, Freshens, Edits, refusal, toldCounted, Told, Asked}
 use Rattle.host.specs.Histories.{Renumbers}
 use Rattle.host.specs.Inner.{Finishes, refused, kept, lost}
 
@@ -211,58 +209,32 @@ module _ {A : Type 0} {ws : List ℕ} {P : Register → A → Type 0} {f : A →
 
 -- words copied to the front of a list, the first that it takes
 pub copied : {before after : List ℕ} (l xs : List ℕ) {ok : Bool} → Copies xs 0 before after ok → length xs ≤ length before → xs ≡ take (length before) l
-    → Handed l before after (Pairs (length l))
-copied {before} l xs c h q =
+    → FirstPart l before after (Count (length l))
+copied {before} {after} l xs c h q =
     let z : 0 + length xs ≡ length xs = omega arith in
-    handed (c .fits (omega (arith, h)) .1 ∙ ap (λ (j : ℕ). xs ++ drop j before) z ∙ ap (λ (ys : List ℕ). ys ++ drop (length ys) before) q)
+    part-given l before after (length l) refl
+    (c .fits (omega (arith, h)) .1 ∙ ap (λ (j : ℕ). xs ++ drop j before) z ∙ ap (λ (ys : List ℕ). ys ++ drop (length ys) before) q)
 
--- the links: the first words of an array
-abbrev front : Links → List ℕ
-front ls = take (ls .count) (ls .words)
+pub asked-list : {ws before after part : List ℕ} {k : ℕ} {Q : Register → Counted → Type 0} (f : Register → List ℕ) → Shown ws f part
+    → Asked ws (λ _. FirstPart part before after) toldCounted before after k
+    → ((r : Register) → Keeps ws r → (a : Counted) → FirstPart (f r) before after a → Q r a) → Asked ws Q toldCounted before after k
+asked-list {before = before} {after} f s q g = record {
+  answers = λ r w.
+      let t = q .answers r w in
+      (t .0, g r w (t .0) (subst (λ (l : List ℕ). FirstPart l before after (t .0)) (s r w) (t .1)), t .2);
+  foreign = q .foreign;
+}
 
-pub links-handed : {ws before after : List ℕ} {r : Register} → Keeps ws r → (ls : Links)
-    → Listing r ls → (xs : List ℕ) {ok : Bool} → Copies xs 0 before after ok → length xs ≤ length before
-    → xs ≡ take (length before) (front ls) → {k : ℕ} → k ≡ length (front ls) → Asked ws (Lists before after) toldPairs before after k
-links-handed w ls g xs c h q e = asked w (Pairs (length (front ls))) (ls, g, copied (front ls) xs c h q) e
+-- what is read of words, told as a number
+pub told-word : {A : Type 0} {ws : List ℕ} {P Q : Register → A → Type 0} {f : A → ℕ} {none a : A} {k : ℕ}
+    → ((r : Register) → Keeps ws r → P r a → Q r a) → OfWords ws P none a → k ≡ f a → OfWords ws (λ r. Told (Q r) f) (f none) k
+told-word {f = f} {a = a} g o e = record { kept = λ r w. (a, g r w (o .kept r w), e); foreign = λ z. e ∙ ap f (o .foreign z) }
 
-byte : (l : Bool) → boolByte l ≡ bit l
+byte : (t : Bool) → boolByte t ≡ bit t
 byte true = refl
 byte false = refl
 
-byte-small : (l : Bool) → boolByte l ≤ 1
-byte-small true = omega arith
-byte-small false = omega arith
-
-module _ {ws : List ℕ} where
-  pub size-foreign : Foreign ws → Sizes ws 0
-  size-foreign g = record { size = λ r w. absurd (g r w); foreign = λ _. refl }
-
-  pub sized : {r : Register} {k : ℕ} → Keeps ws r → Sized r k → Sizes ws k
-  sized {r} {k} w z = record { size = λ s v. subst (λ (t : Register). Sized t k) (keeps-same w v) z; foreign = λ g. absurd (g r w) }
-
-  pub total-foreign : {l k : ℕ} → Foreign ws → k ≡ refusal (number not-open) → TellsTotal ws l k
-  total-foreign g e = record { total = λ r w. absurd (g r w); foreign = λ _. e }
-
-  pub totalled : {r : Register} {l k : ℕ} → Keeps ws r → (a : TotalAnswer) → Totals r l a → k ≡ toldTotal a → TellsTotal ws l k
-  totalled {r} {l} {k} w a p e =
-      record { total = λ s v. subst (λ (t : Register). Told (Totals t l) toldTotal k) (keeps-same w v) (a, p, e); foreign = λ g. absurd (g r w) }
-
-  pub lock-foreign : (x : ℕ) → Foreign ws → TellsLock ws x 0
-  lock-foreign x g = record { small = omega arith; locked = λ b h. absurd (g (h .0) (h .1)); foreign = λ _. refl }
-
-  pub locked-word : {r : Register} {x : ℕ} (l : Bool) → Keeps ws r → Locking r x l → TellsLock ws x (boolByte l)
-  locked-word {r} {x} l w z = record {
-    small = byte-small l;
-    locked = λ b h. byte l ∙ ap bit (subst (λ (t : Register). Locking t x l) (keeps-same w (h .1)) z .locked b (h .2));
-    foreign = λ g. absurd (g r w);
-  }
-
-  pub withdrawn-foreign : (x : ℕ) → Foreign ws → TellsWithdrawn ws x 0
-  withdrawn-foreign x g = record { small = omega arith; withdrawn = λ b h. absurd (g (h .0) (h .1)); foreign = λ _. refl }
-
-  pub withdrawn-word : {r : Register} {x : ℕ} (l : Bool) → Keeps ws r → Withdrawal r x l → TellsWithdrawn ws x (boolByte l)
-  withdrawn-word {r} {x} l w z = record {
-    small = byte-small l;
-    withdrawn = λ b h. byte l ∙ ap bit (subst (λ (t : Register). Withdrawal t x l) (keeps-same w (h .1)) z .withdrawn b (h .2));
-    foreign = λ g. absurd (g r w);
-  }
+-- by a bit
+pub mark-told : {ws : List ℕ} {Q : Register → Bool → Type 0} (m x : ℕ) (t : Bool) → ((r : Register) → Keeps ws r → Q r (hasMark m (r .marks) x))
+    → OfWords ws (λ r u. u ≡ hasMark m (r .marks) x) false t → OfWords ws (λ r. Told (Q r) bit) 0 (boolByte t)
+mark-told {Q = Q} m x t g o = told-word (λ r w e. subst (Q r) (sym e) (g r w)) o (byte t)

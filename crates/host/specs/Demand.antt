@@ -21,16 +21,19 @@ use Prim.Native.Nat.{ℕ, _≤_}
 use lib.ListN.{length, take, drop}
 use Rattle.book.specs.Basics.{bit, over}
 use Rattle.book.specs.Book.{Book, Call, isLocked, isWithdrawn, fresh, answers, after, givens}
+use Rattle.answers.specs.Answers.{counted}
+use Rattle.answers.specs.declared.Counted.{Counted}
+use Rattle.paths.specs.Verdicts.{verdict}
+use Rattle.paths.specs.Questions.{Engine}
 use Rattle.register.specs.History.{Lent, Gives}
 use Rattle.register.specs.Links.{Linked}
 use Rattle.register.specs.Questions.{totalAnswer}
 use Rattle.register.specs.Words.{stateWords}
-use Rattle.pairs.specs.declared.PairsAnswer.{PairsAnswer}
-use Rattle.chains.specs.Replies.{stepsLength, Replies}
+use Rattle.query.specs.Asking.{AsksFor}
+use Rattle.chains.specs.Replies.{chainCounted, Replies}
 use Rattle.chains.specs.declared.ChainAnswer.{ChainAnswer}
-use Rattle.engine.specs.Demand.{Engine, PairsAsked, ChainAsked, PairsClaim, ChainClaim}
-use Rattle.engine.specs.Inquiries.{AskedBy}
-use Rattle.host.specs.Host.{Freshens, toldPairs, toldChain, toldTotal, Told, Asked, Lists, Sizes, TellsLock, TellsWithdrawn, TellsTotal}
+use Rattle.engine.specs.Demand.{PairsAsked, ChainAsked, PairsClaim, ChainClaim}
+use Rattle.host.specs.Host.{Freshens, toldCounted, toldChain, Told, Asked, Lists, Sizes, TellsLock, TellsWithdrawn, TellsTotal}
 use Rattle.host.specs.Histories.{Calls}
 
 -- ---- what was lent, and what came back
@@ -64,17 +67,17 @@ abbrev pub bookThen : Dealings → Book
 bookThen i = after (fresh (i .n)) (i .calls)
 
 -- ---- the questions
-abbrev pub pairsHeard : Engine → Question → PairsAnswer → PairsAsked
+abbrev pub pairsHeard : Engine → Question → Counted → PairsAsked
 pairsHeard d q a = record { engine = d; text = q .text; work = q .work; before = q .list .before; after = q .list .after; answer = a }
 
 abbrev pub chainHeard : ℕ → ℕ → Question → ChainAnswer → ChainAsked
 chainHeard x y q a = record { from = x; to = y; text = q .text; work = q .work; before = q .list .before; after = q .list .after; answer = a }
 
 abbrev pub PairsTold : Book → Engine → Question → Type 0
-PairsTold b d q = Told (λ a. PairsClaim b (pairsHeard d q a)) toldPairs (q .told)
+PairsTold b d q = Told (λ a. PairsClaim b (pairsHeard d q a)) toldCounted (q .told)
 
 abbrev pub ChainTold : Book → ℕ → ℕ → Question → Type 0
-ChainTold b x y q = Told (λ a. (stepsLength a ≤ length (q .list .before)) × ChainClaim b (chainHeard x y q a)) toldChain (q .told)
+ChainTold b x y q = Told (λ a. (counted (chainCounted a) ≤ length (q .list .before)) × ChainClaim b (chainHeard x y q a)) toldChain (q .told)
 
 abbrev pub LinksTold : Book → Lent → ℕ → Type 0
 LinksTold b l k = (ws : List ℕ) × Linked ws (b .sheet) × (k ≡ length ws) × (l .after ≡ over (take (length (l .before)) ws) (l .before))
@@ -85,11 +88,12 @@ pub record Kept (i : Dealings) : Type 0 where
   pub opens : Freshens (i .n) (i .state .before) opened 0
   pub calls : Calls (i .calls) opened (i .state .after) (i .told) (i .lists)
   pub size : Sizes (i .state .after) (i .size)
-  pub links : Asked (i .state .after) (Lists (i .links .before) (i .links .after)) toldPairs (i .links .before) (i .links .after) (i .count)
+  pub links : Asked (i .state .after) (Lists (i .links .before) (i .links .after)) toldCounted (i .links .before) (i .links .after) (i .count)
   pub locked : TellsLock (i .state .after) (i .named) (i .locked)
   pub withdrawn : TellsWithdrawn (i .state .after) (i .named) (i .withdrawn)
   pub total : TellsTotal (i .state .after) (i .label) (i .total)
-  pub pairs : Asked (i .state .after) (λ r a. AskedBy (i .engine) r (pairsHeard (i .engine) (i .pairs) a)) toldPairs
+  pub pairs : Asked (i .state .after)
+      (λ r. AsksFor (i .engine) r (verdict (i .pairs .text)) (i .pairs .work) (i .pairs .list .before) (i .pairs .list .after)) toldCounted
       (i .pairs .list .before) (i .pairs .list .after) (i .pairs .told)
   pub chain : Asked (i .state .after)
       (λ r. Replies r (i .from) (i .to) (i .chain .text) (i .chain .work) (i .chain .list .before) (i .chain .list .after)) toldChain
@@ -104,6 +108,6 @@ pub record ExportedDemand (i : Dealings) : Type 0 where
   pub links : LinksTold (bookThen i) (i .links) (i .count)
   pub locked : i .locked ≡ bit (isLocked (bookThen i .sheet) (i .named))
   pub withdrawn : i .withdrawn ≡ bit (isWithdrawn (bookThen i .sheet) (i .named))
-  pub total : i .total ≡ toldTotal (totalAnswer (bookThen i .sheet) (i .label))
+  pub total : i .total ≡ toldCounted (totalAnswer (bookThen i .sheet) (i .label))
   pub pairs : PairsTold (bookThen i) (i .engine) (i .pairs)
   pub chain : ChainTold (bookThen i) (i .from) (i .to) (i .chain)

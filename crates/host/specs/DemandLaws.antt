@@ -8,30 +8,32 @@ use mathlib.Core.List.{List}
 use Prim.Native.Nat.{ℕ, suc, _+_, _≤_, _<_}
 use native.Mathlib.Omega.{arith}
 use lib.ListN.{length, take}
-use Rattle.book.specs.Basics.{In, here, there, Rises, ended, rises}
+use Rattle.book.specs.Basics.{bit, In, here, there, Rises, ended, rises}
 use Rattle.book.specs.Causes.{maxRecords}
 use Rattle.book.specs.Book.{Book, Call, fresh, after}
+use Rattle.answers.specs.Answers.{counted, answered, overUnless, FirstPart}
+use Rattle.answers.specs.declared.Counted.{Counted}
+use Rattle.answers.specs.declared.Counted.the-variants.{Count, Refused}
 use Rattle.k2.specs.PairSets.{pairWord}
 use Rattle.paths.specs.Chains.{asked, Has}
 use Rattle.paths.specs.Expressions.{Expr}
 use Rattle.paths.specs.PairLaws.{history-inside, history-small}
+use Rattle.paths.specs.Questions.{Engine}
 use Rattle.register.specs.Links.{Linked}
 use Rattle.register.specs.History.{Lent}
-use Rattle.pairs.specs.Asking.{Handed, handed}
-use Rattle.pairs.specs.declared.PairsAnswer.{PairsAnswer}
-use Rattle.pairs.specs.declared.PairsAnswer.the-variants.{Pairs, Refused}
-use Rattle.chains.specs.Replies.{stepsLength}
+use Rattle.chains.specs.Replies.{chainCounted}
 use Rattle.chains.specs.declared.ChainAnswer.{ChainAnswer}
 use Rattle.chains.specs.declared.ChainAnswer.the-variants.{Chain, NoChain, Refused as Unchained}
-use Rattle.engine.specs.Demand.{Engine, PairsClaim}
+use Rattle.engine.specs.Demand.{PairsClaim}
 use Rattle.engine.specs.DemandLaws.{pairs-claim, chain-claim}
-use Rattle.host.specs.Host.{pastCounts, toldPairs, toldChain}
+use Rattle.host.specs.Host.{pastCounts, toldCounted, toldChain}
 use Rattle.host.specs.HostLaws.{words-made, calls-past, total-book}
 use Rattle.host.specs.Demand.{Question, Dealings, bookThen, pairsHeard, chainHeard, PairsTold, ChainTold, LinksTold, Kept, ExportedDemand}
 
-links-told : (b : Book) (l : Lent) (k : ℕ) (ws : List ℕ) (a : PairsAnswer) → Linked ws (b .sheet) → Handed ws (l .before) (l .after) a → k ≡ toldPairs a
+links-told : (b : Book) (l : Lent) (k : ℕ) (ws : List ℕ) (a : Counted) → Linked ws (b .sheet) → FirstPart ws (l .before) (l .after) a → k ≡ toldCounted a
     → LinksTold b l k
-links-told b l k ws a L (handed e) t = (ws, L, t, e)
+unfolding answered overUnless
+links-told b l k ws a L h t = (ws, L, t ∙ ap toldCounted (h .answer), h .list)
 
 pub exported-demand-3 : (i : Dealings) → Kept i → ExportedDemand i
 exported-demand-3 i K =
@@ -43,17 +45,19 @@ exported-demand-3 i K =
     let l = K .links .answers r w in
     let p = K .pairs .answers r w in
     let c = K .chain .answers r w in
+    let x = K .locked .kept r w in
+    let y = K .withdrawn .kept r w in
     record {
       answers = m .0;
       givens = m .1;
       around = calls-past (K .calls) ∙ K .opens .past;
-      size = K .size .size r w .size b R;
+      size = K .size .kept r w .size b R;
       links = links-told b (i .links) (i .count) (take (l .1 .0 .count) (l .1 .0 .words)) (l .0) (l .1 .1 .linked b R) (l .1 .2) (l .2);
-      locked = K .locked .locked b (m .2);
-      withdrawn = K .withdrawn .withdrawn b (m .2);
+      locked = x .2 ∙ ap bit (x .1 .locked b R);
+      withdrawn = y .2 ∙ ap bit (y .1 .withdrawn b R);
       total = total-book (K .total) b (m .2);
       pairs = (p .0, pairs-claim R (pairsHeard (i .engine) (i .pairs) (p .0)) (p .1), p .2);
-      chain = (c .0, (c .1 .fits, chain-claim R (chainHeard (i .from) (i .to) (i .chain) (c .0)) (c .1)), c .2);
+      chain = (c .0, (c .1 .contained .fits, chain-claim R (chainHeard (i .from) (i .to) (i .chain) (c .0)) (c .1)), c .2);
     }
 
 -- ---- which answer a number tells
@@ -70,26 +74,26 @@ module _ (n : ℕ) (few : n ≤ maxRecords) (cs : List Call) (d : Engine) (q : Q
       let I = history-inside n few cs in
       omega (arith, p, I .below x (h .1 .begins), I .below y (h .1 .ends), history-small n few cs)
 
-  pairs-few : (k : ℕ) → PairsClaim (after (fresh n) cs) (pairsHeard d q (Pairs k)) → k ≤ 1048576
+  pairs-few : (k : ℕ) → PairsClaim (after (fresh n) cs) (pairsHeard d q (Count k)) → k ≤ 1048576
   pairs-few k C =
       let c = C .handed k refl in
       let l = c .2 .0 in
-      let e : k ≡ length l = (let z : Pairs k ≡ Pairs (length l) = c .2 .2 in cc) in
+      let e : k ≡ length l = (let z : Count k ≡ Count (length l) = c .2 .2 in cc) in
       let b = rises-few {t = 1048576} (c .2 .1 .ascending) (omega arith) (λ w i. let s = c .2 .1 .sound w i in below (c .0) (s .0) (s .1) (s .2) (s .3)) in
       omega (arith, e, b)
 
-  one-answer : (a a′ : PairsAnswer) → PairsClaim (after (fresh n) cs) (pairsHeard d q a) → PairsClaim (after (fresh n) cs) (pairsHeard d q a′)
-      → toldPairs a ≡ toldPairs a′ → a ≡ a′
-  one-answer (Pairs j) (Pairs k) C D e = ap Pairs e
-  one-answer (Pairs j) (Refused k) C D e = absurd (omega (arith, e, pairs-few j C))
-  one-answer (Refused j) (Pairs k) C D e = absurd (omega (arith, e, pairs-few k D))
+  one-answer : (a a′ : Counted) → PairsClaim (after (fresh n) cs) (pairsHeard d q a) → PairsClaim (after (fresh n) cs) (pairsHeard d q a′)
+      → toldCounted a ≡ toldCounted a′ → a ≡ a′
+  one-answer (Count j) (Count k) C D e = ap Count e
+  one-answer (Count j) (Refused k) C D e = absurd (omega (arith, e, pairs-few j C))
+  one-answer (Refused j) (Count k) C D e = absurd (omega (arith, e, pairs-few k D))
   one-answer (Refused j) (Refused k) C D e = let z : j ≡ k = omega (arith, e) in ap Refused z
 
   pub pairs-apart : (s t : PairsTold (after (fresh n) cs) d q) → s .0 ≡ t .0
   pairs-apart s t = one-answer (s .0) (t .0) (s .1) (t .1) (sym (s .2) ∙ t .2)
 
-one-reply : (a a′ : ChainAnswer) → stepsLength a < pastCounts → stepsLength a′ < pastCounts → toldChain a ≡ toldChain a′ → a ≡ a′
-unfolding stepsLength
+one-reply : (a a′ : ChainAnswer) → counted (chainCounted a) < pastCounts → counted (chainCounted a′) < pastCounts → toldChain a ≡ toldChain a′ → a ≡ a′
+unfolding counted chainCounted
 one-reply (Chain j) (Chain k) g h e = ap Chain e
 one-reply (Chain j) NoChain g h e = absurd (omega (arith, e))
 one-reply (Chain j) (Unchained k) g h e = absurd (omega (arith, e))

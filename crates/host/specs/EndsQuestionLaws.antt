@@ -1,19 +1,14 @@
 -- What the exported questions for the ends and the starts of a record say of the plain book.
---   ends-book, starts-book
---                   asked of words that keep a book: the number tells the book's answer, and the list is as that answer leaves it
---   ends-told       a number below 2³³ is how many there are
 --   ends-made, starts-made
 --                   asked of words that exported calls made, with expression and record accepted: the number is how many ends or starts there are, and the
 --                   list has as many of them as it takes, the smallest
 -- Assumes nothing.
 use mathlib.Core.Path.{_≡_, ap, _∙_}
 use mathlib.Core.List.{List}
-use mathlib.Core.Bool.{Bool, true, false}
-use Prim.Native.Nat.{ℕ, _*_, _<_}
-use native.Mathlib.Omega.{arith}
+use Prim.Native.Nat.{ℕ, _<_}
 use lib.ListN.{length, take}
 use Rattle.book.specs.Basics.{over}
-use Rattle.book.specs.Book.{Book, Call, fresh, after}
+use Rattle.book.specs.Book.{Call, fresh, after}
 use Rattle.paths.specs.Expressions.{Expr}
 use Rattle.paths.specs.Grammar.{accepted}
 use Rattle.paths.specs.Verdicts.{verdict}
@@ -21,29 +16,11 @@ use Rattle.paths.specs.Chains.{asked}
 use Rattle.register.specs.History.{Lent}
 use Rattle.arcs.specs.SpanLaws.{inside}
 use Rattle.ends.specs.Ends.{EndsAre, StartsAre}
-use Rattle.ends.specs.Asking.{BookEnds, Asks, AsksEnds, AsksStarts}
+use Rattle.ends.specs.Asking.{AsksEnds, AsksStarts}
 use Rattle.ends.specs.MadeLaws.{book-ends as ends-of-book, book-starts as starts-of-book}
-use Rattle.ends.specs.declared.EndsAnswer.{EndsAnswer}
-use Rattle.ends.specs.declared.EndsAnswer.the-variants.{Ends, Refused}
-use Rattle.host.specs.Host.{KeepsBook, Freshens, pastCounts, toldEnds, Told, Asked}
+use Rattle.host.specs.Host.{KeepsBook, Freshens, toldCounted, Asked}
 use Rattle.host.specs.Histories.{Calls}
-use Rattle.host.specs.HostLaws.{calls-book}
-
-module _ {ws before after′ : List ℕ} {k : ℕ} (x : ℕ) (text : List ℕ) (b : Book) (h : KeepsBook ws b) where
-  joined-book : (against : Bool) → Asked ws (λ r. Asks against r x text before after′) toldEnds before after′ k
-      → Told (BookEnds against b x (verdict text) before after′) toldEnds k
-  joined-book against q = let t = q .answers (h .0) (h .1) in (t .0, t .1 .book b (h .2), t .2)
-
-  pub ends-book : Asked ws (λ r. AsksEnds r x text before after′) toldEnds before after′ k → Told (BookEnds false b x (verdict text) before after′) toldEnds k
-  ends-book = joined-book false
-
-  pub starts-book : Asked ws (λ r. AsksStarts r x text before after′) toldEnds before after′ k
-      → Told (BookEnds true b x (verdict text) before after′) toldEnds k
-  starts-book = joined-book true
-
-pub ends-told : (a : EndsAnswer) (k : ℕ) → toldEnds a ≡ k → k < 2 * pastCounts → a ≡ Ends k
-ends-told (Ends j) k e l = ap Ends e
-ends-told (Refused j) k e l = absurd (omega arith)
+use Rattle.host.specs.HostLaws.{calls-book, asked-book}
 
 -- of a fresh register's words and any calls
 module _ {n : ℕ} {space ws : List ℕ} {opened : ℕ} (F : Freshens n space ws opened) (ok : opened ≡ 0) {cs : List Call} {vs ks : List ℕ} {ls : List Lent}
@@ -51,16 +28,16 @@ module _ {n : ℕ} {space ws : List ℕ} {opened : ℕ} (F : Freshens n space ws
   kept : KeepsBook vs (after (fresh n) cs)
   kept = calls-book C (fresh n) (F .made ok) .2
 
-  pub ends-made : Asked vs (λ r. AsksEnds r x text before after′) toldEnds before after′ k
+  pub ends-made : Asked vs (λ r. AsksEnds r x text before after′) toldCounted before after′ k
       → (l : List ℕ) × EndsAre (asked (after (fresh n) cs)) e x l × (k ≡ length l) × (after′ ≡ over (take (length before) l) before)
   ends-made q =
-      let t = ends-book x text (after (fresh n) cs) kept q in
-      let z = ends-of-book (inside (kept .2)) hx v (t .1) in
-      (z .0, z .1, t .2 ∙ ap toldEnds (z .2), z .3)
+      let t = asked-book q (after (fresh n) cs) kept in
+      let z = ends-of-book (after (fresh n) cs) (inside (kept .2)) hx v (t .1) in
+      (z .0, z .1, t .2 ∙ ap toldCounted (z .2), z .3)
 
-  pub starts-made : Asked vs (λ r. AsksStarts r x text before after′) toldEnds before after′ k
+  pub starts-made : Asked vs (λ r. AsksStarts r x text before after′) toldCounted before after′ k
       → (l : List ℕ) × StartsAre (asked (after (fresh n) cs)) e x l × (k ≡ length l) × (after′ ≡ over (take (length before) l) before)
   starts-made q =
-      let t = starts-book x text (after (fresh n) cs) kept q in
-      let z = starts-of-book (inside (kept .2)) hx v (t .1) in
-      (z .0, z .1, t .2 ∙ ap toldEnds (z .2), z .3)
+      let t = asked-book q (after (fresh n) cs) kept in
+      let z = starts-of-book (after (fresh n) cs) (inside (kept .2)) hx v (t .1) in
+      (z .0, z .1, t .2 ∙ ap toldCounted (z .2), z .3)

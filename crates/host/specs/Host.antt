@@ -8,10 +8,7 @@
 --   Edits c before after k
 --                   what an edit or undo promises: over any words a refused one leaves them; words that are no register's are refused with 16; of a
 --                   register's words the number and the words after it are those of an outcome that the call c promises
---   pastCounts      2^32, which no count reaches; told in place of one
---   refusal k       a refusal told as a number of 64 bits
---   toldPairs, toldChain, toldEnds, toldTotal, toldTree
---                   an answer told as a number of 64 bits: a count, `pastCounts` for no chain, or a refusal
+--   toldChain a     the answer of a chain question told as a number of 64 bits: a count, `pastCounts` for no chain, or a refusal
 --   Told P f k      k tells an answer, by f, that P promises
 --   Asked ws P f before after k
 --                   what a question promises: of a register's words the answer is one that P promises of that register; words that are no register's
@@ -27,30 +24,24 @@
 use mathlib.Core.Path.{_≡_}
 use mathlib.Core.List.{List, [], _∷_}
 use mathlib.Core.Bool.{_||_}
-use Prim.Native.Nat.{ℕ, _+_, _*_, _≤_}
+use Prim.Native.Nat.{ℕ}
 use lib.ListN.{length, take, drop}
 use lib.Dec.{ltb}
 use Rattle.book.specs.Basics.{bit}
 use Rattle.book.specs.Causes.{bad-size, short-work, not-open, number, firstNumber, maxRecords}
-use Rattle.book.specs.Book.{Book, Call, isLocked, isWithdrawn, fresh}
+use Rattle.book.specs.Book.{Book, Call, fresh}
+use Rattle.answers.specs.Answers.{FirstPart}
+pub use Rattle.answers.specs.Answers.{pastCounts, refusal, toldCounted}
+use Rattle.answers.specs.declared.Counted.{Counted}
 use Rattle.register.specs.Representation.{Represents}
 use Rattle.register.specs.Calls.{answerNumber, Steps}
-use Rattle.register.specs.Questions.{Sized, Listing, Totals}
-use Rattle.register.specs.Words.{stateWords, Keeps, Foreign}
+use Rattle.register.specs.Questions.{Sized, Listing, Locking, Withdrawal, Totals}
+use Rattle.register.specs.Words.{stateWords, Keeps, Foreign, OfWords}
 use Rattle.register.specs.declared.Register.{Register}
 use Rattle.register.specs.declared.Outcome.{Outcome}
 use Rattle.register.specs.declared.Links.{Links}
-use Rattle.register.specs.declared.TotalAnswer.{TotalAnswer}
-use Rattle.register.specs.declared.TotalAnswer.the-variants.{Total, Refused as Untotalled}
-use Rattle.pairs.specs.Asking.{Handed}
-use Rattle.pairs.specs.declared.PairsAnswer.{PairsAnswer}
-use Rattle.pairs.specs.declared.PairsAnswer.the-variants.{Pairs, Refused}
 use Rattle.chains.specs.declared.ChainAnswer.{ChainAnswer}
-use Rattle.chains.specs.declared.ChainAnswer.the-variants.{Chain, NoChain, Refused as Unchained}
-use Rattle.ends.specs.declared.EndsAnswer.{EndsAnswer}
-use Rattle.ends.specs.declared.EndsAnswer.the-variants.{Ends, Refused as Unended}
-use Rattle.tree.specs.declared.listing.Answer.{Answer}
-use Rattle.tree.specs.declared.listing.Answer.the-variants.{Done, Refused as Untreed}
+use Rattle.chains.specs.declared.ChainAnswer.the-variants.{Chain, NoChain, Refused}
 
 abbrev pub KeepsBook : List ℕ → Book → Type 0
 KeepsBook ws b = (r : Register) × Keeps ws r × Represents r b
@@ -70,32 +61,10 @@ pub record Edits (c : Call) (before after : List ℕ) (k : ℕ) : Type 0 where
   pub foreign : Foreign before → k ≡ number not-open
   pub steps : (r : Register) → Keeps before r → (o : Outcome) × Steps r c o × (k ≡ answerNumber (o .answer)) × Keeps after (o .register)
 
-abbrev pub pastCounts : ℕ
-pastCounts = 4294967296
-
-abbrev pub refusal : ℕ → ℕ
-refusal k = 2 * pastCounts + k
-
-abbrev pub toldPairs : PairsAnswer → ℕ
-toldPairs (Pairs k) = k
-toldPairs (Refused k) = refusal k
-
 abbrev pub toldChain : ChainAnswer → ℕ
 toldChain (Chain k) = k
 toldChain NoChain = pastCounts
-toldChain (Unchained k) = refusal k
-
-abbrev pub toldEnds : EndsAnswer → ℕ
-toldEnds (Ends k) = k
-toldEnds (Unended k) = refusal k
-
-abbrev pub toldTotal : TotalAnswer → ℕ
-toldTotal (Total t) = t
-toldTotal (Untotalled k) = refusal k
-
-abbrev pub toldTree : Answer → ℕ
-toldTree (Done k) = k
-toldTree (Untreed k) = refusal k
+toldChain (Refused k) = refusal k
 
 abbrev pub Told : {A : Type 0} → (A → Type 0) → (A → ℕ) → ℕ → Type 0
 Told {A} P f k = (a : A) × P a × (k ≡ f a)
@@ -104,23 +73,18 @@ pub record Asked {A : Type 0} (ws : List ℕ) (P : Register → A → Type 0) (f
   pub answers : (r : Register) → Keeps ws r → Told (P r) f k
   pub foreign : Foreign ws → (k ≡ refusal (number not-open)) × (after ≡ before)
 
-abbrev pub Lists : List ℕ → List ℕ → Register → PairsAnswer → Type 0
-Lists before after r a = (ls : Links) × Listing r ls × Handed (take (ls .count) (ls .words)) before after a
+abbrev pub Lists : List ℕ → List ℕ → Register → Counted → Type 0
+Lists before after r a = (ls : Links) × Listing r ls × FirstPart (take (ls .count) (ls .words)) before after a
 
-pub record Sizes (ws : List ℕ) (k : ℕ) : Type 0 where
-  pub size : (r : Register) → Keeps ws r → Sized r k
-  pub foreign : Foreign ws → k ≡ 0
+abbrev pub Sizes : List ℕ → ℕ → Type 0
+Sizes ws k = OfWords ws Sized 0 k
 
-pub record TellsLock (ws : List ℕ) (x k : ℕ) : Type 0 where
-  pub small : k ≤ 1
-  pub locked : (b : Book) → KeepsBook ws b → k ≡ bit (isLocked (b .sheet) x)
-  pub foreign : Foreign ws → k ≡ 0
+-- by 1 or 0
+abbrev pub TellsLock : List ℕ → ℕ → ℕ → Type 0
+TellsLock ws x k = OfWords ws (λ r. Told (Locking r x) bit) 0 k
 
-pub record TellsWithdrawn (ws : List ℕ) (x k : ℕ) : Type 0 where
-  pub small : k ≤ 1
-  pub withdrawn : (b : Book) → KeepsBook ws b → k ≡ bit (isWithdrawn (b .sheet) x)
-  pub foreign : Foreign ws → k ≡ 0
+abbrev pub TellsWithdrawn : List ℕ → ℕ → ℕ → Type 0
+TellsWithdrawn ws x k = OfWords ws (λ r. Told (Withdrawal r x) bit) 0 k
 
-pub record TellsTotal (ws : List ℕ) (l k : ℕ) : Type 0 where
-  pub total : (r : Register) → Keeps ws r → Told (Totals r l) toldTotal k
-  pub foreign : Foreign ws → k ≡ refusal (number not-open)
+abbrev pub TellsTotal : List ℕ → ℕ → ℕ → Type 0
+TellsTotal ws l k = OfWords ws (λ r. Told (Totals r l) toldCounted) (refusal (number not-open)) k

@@ -3,10 +3,10 @@
 --   calls-book      so for a whole history of calls, each given the words that the call before left, with the lists that its closings up give
 --   words-made      so from a fresh register on
 --   calls-past      and the words past a register's are as they were
---   pairs-book, chain-book
---                   a question asked of words that keep a book: the number tells the book's answer, and the list is as that answer leaves it
+--   asked-book      a question that counts, asked of words that keep a book: the number tells the book's answer, and the list is as that answer leaves it
+--   chain-book      so a chain question
 --   total-book      the total asked of words that keep a book
---   pairs-told, chain-told, none-told, total-told, tree-told
+--   count-told, chain-told, none-told
 --                   which answer a number tells
 use mathlib.Core.Path.{_≡_, refl, ap, _∙_}
 use mathlib.Core.List.{List, _∷_}
@@ -14,24 +14,21 @@ use Prim.Native.Nat.{ℕ, _*_, _<_}
 use native.Mathlib.Omega.{arith}
 use lib.ListN.{drop}
 use Rattle.book.specs.Book.{Book, Call, answer, next, fresh, answers, after, givens}
-use Rattle.paths.specs.Verdicts.{verdict}
+use Rattle.answers.specs.Answers.{counted}
+use Rattle.answers.specs.declared.Counted.{Counted}
+use Rattle.answers.specs.declared.Counted.the-variants.{Count, Refused}
+use Rattle.paths.specs.Questions.{Outcome, Tells}
 use Rattle.register.specs.Calls.{answerNumber}
 use Rattle.register.specs.History.{Lent, Gives, none-given, more-given}
 use Rattle.register.specs.HistoryLaws.{number-answer}
 use Rattle.register.specs.Questions.{totalAnswer}
 use Rattle.register.specs.Words.{stateWords}
-use Rattle.register.specs.declared.TotalAnswer.{TotalAnswer}
-use Rattle.register.specs.declared.TotalAnswer.the-variants.{Total, Refused as Untotalled}
-use Rattle.pairs.specs.Asking.{BookPairs, AsksPairs}
-use Rattle.chains.specs.Replies.{BookReplies, Replies, stepsLength}
-use Rattle.pairs.specs.declared.PairsAnswer.{PairsAnswer}
-use Rattle.pairs.specs.declared.PairsAnswer.the-variants.{Pairs, Refused}
+use Rattle.query.specs.Asking.{Asks}
+use Rattle.chains.specs.Replies.{BookReplies, Replies, chainCounted}
 use Rattle.chains.specs.declared.ChainAnswer.{ChainAnswer}
 use Rattle.chains.specs.declared.ChainAnswer.the-variants.{Chain, NoChain, Refused as Unchained}
-use Rattle.tree.specs.declared.listing.Answer.{Answer}
-use Rattle.tree.specs.declared.listing.Answer.the-variants.{Done, Refused as Untreed}
 use Rattle.host.specs.Histories.{Calls, none, then-edit, then-undo, then-close, WordsMade}
-use Rattle.host.specs.Host.{KeepsBook, Edits, pastCounts, toldPairs, toldChain, toldTotal, toldTree, Told, Asked, TellsTotal}
+use Rattle.host.specs.Host.{KeepsBook, Edits, pastCounts, toldCounted, toldChain, Told, Asked, TellsTotal}
 
 pub edits-book : {c : Call} {ws vs : List ℕ} {k : ℕ} → Edits c ws vs k → (b : Book) → KeepsBook ws b → (k ≡ answer b c) × KeepsBook vs (next b c)
 edits-book e b h =
@@ -67,37 +64,29 @@ calls-past (then-edit e r) = calls-past r ∙ e .past
 calls-past (then-undo e r) = calls-past r ∙ e .past
 calls-past (then-close l e r) = calls-past r ∙ e .edits .past
 
-module _ {ws before after′ : List ℕ} {k : ℕ} (text : List ℕ) (work : ℕ) (b : Book) (h : KeepsBook ws b) where
-  pub pairs-book : Asked ws (λ r. AsksPairs r text work before after′) toldPairs before after′ k
-      → Told (BookPairs b (verdict text) work before after′) toldPairs k
-  pairs-book q = let t = q .answers (h .0) (h .1) in (t .0, t .1 .book b (h .2), t .2)
+module _ {ws before after′ : List ℕ} {k : ℕ} where
+  pub asked-book : {most : ℕ} {o : Book → Outcome} → Asked ws (λ r. Asks most r o before after′) toldCounted before after′ k
+      → (b : Book) → KeepsBook ws b → Told (Tells (o b) before after′) toldCounted k
+  asked-book q b h = let t = q .answers (h .0) (h .1) in (t .0, t .1 .book b (h .2), t .2)
 
-  pub chain-book : (x y : ℕ) → Asked ws (λ r. Replies r x y text work before after′) toldChain before after′ k
-      → Told (BookReplies b x y text work before after′) toldChain k
-  chain-book x y q = let t = q .answers (h .0) (h .1) in (t .0, t .1 .answers b (h .2), t .2)
+  pub chain-book : (x y : ℕ) (text : List ℕ) (work : ℕ) → Asked ws (λ r. Replies r x y text work before after′) toldChain before after′ k
+      → (b : Book) → KeepsBook ws b → Told (BookReplies b x y text work before after′) toldChain k
+  chain-book x y text work q b h = let t = q .answers (h .0) (h .1) in (t .0, t .1 .answers b (h .2), t .2)
 
-pub total-book : {ws : List ℕ} {l k : ℕ} → TellsTotal ws l k → (b : Book) → KeepsBook ws b → k ≡ toldTotal (totalAnswer (b .sheet) l)
-total-book q b h = let t = q .total (h .0) (h .1) in t .2 ∙ ap toldTotal (t .1 .told b (h .2))
+pub total-book : {ws : List ℕ} {l k : ℕ} → TellsTotal ws l k → (b : Book) → KeepsBook ws b → k ≡ toldCounted (totalAnswer (b .sheet) l)
+total-book q b h = let t = q .kept (h .0) (h .1) in t .2 ∙ ap toldCounted (t .1 .told b (h .2))
 
-pub total-told : (a : TotalAnswer) (k : ℕ) → toldTotal a ≡ k → k < 2 * pastCounts → a ≡ Total k
-total-told (Total j) k e l = ap Total e
-total-told (Untotalled j) k e l = absurd (omega arith)
-
-pub pairs-told : (a : PairsAnswer) (k : ℕ) → toldPairs a ≡ k → k < 2 * pastCounts → a ≡ Pairs k
-pairs-told (Pairs j) k e l = ap Pairs e
-pairs-told (Refused j) k e l = absurd (omega arith)
+pub count-told : (a : Counted) (k : ℕ) → toldCounted a ≡ k → k < 2 * pastCounts → a ≡ Count k
+count-told (Count j) k e l = ap Count e
+count-told (Refused j) k e l = absurd (omega arith)
 
 pub chain-told : (a : ChainAnswer) (k : ℕ) → toldChain a ≡ k → k < pastCounts → a ≡ Chain k
 chain-told (Chain j) k e l = ap Chain e
 chain-told NoChain k e l = absurd (omega arith)
 chain-told (Unchained j) k e l = absurd (omega arith)
 
-pub none-told : (a : ChainAnswer) → toldChain a ≡ pastCounts → stepsLength a < pastCounts → a ≡ NoChain
-unfolding stepsLength
+pub none-told : (a : ChainAnswer) → toldChain a ≡ pastCounts → counted (chainCounted a) < pastCounts → a ≡ NoChain
+unfolding counted chainCounted
 none-told (Chain j) e l = absurd (omega arith)
 none-told NoChain e l = refl
 none-told (Unchained j) e l = absurd (omega arith)
-
-pub tree-told : (a : Answer) (k : ℕ) → toldTree a ≡ k → k < 2 * pastCounts → a ≡ Done k
-tree-told (Done j) k e l = ap Done e
-tree-told (Untreed j) k e l = absurd (omega arith)

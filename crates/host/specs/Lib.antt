@@ -8,12 +8,8 @@ pub mod Previews
 pub mod PreviewLaws
 pub mod Generations
 pub mod GenerationsLaws
-pub mod Support
-pub mod SupportLaws
 pub mod OffsetsLaws
-pub mod PageHost
 pub mod PageHostLaws
-pub mod RowQuestionLaws
 pub mod MadeLaws
 pub mod EndsQuestionLaws
 pub mod Drafts

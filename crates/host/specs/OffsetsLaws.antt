@@ -9,7 +9,8 @@ use Prim.Native.Nat.{ℕ, _<_}
 use native.Mathlib.Omega.{arith}
 use lib.IntN.{ℤ}
 use Rattle.book.specs.Book.{Book, isWithdrawn}
-use Rattle.offsets.specs.Answers.{OffsetsAnswer, Limits, CannotHold, Refused, OffsetsFor, toldWords, toldOffsets, OffsetsTold}
+use Rattle.answers.specs.Answers.{counted}
+use Rattle.offsets.specs.Answers.{OffsetsAnswer, Limits, CannotHold, Refused, OffsetsFor, offsetsCounted, toldOffsets, OffsetsTold}
 use Rattle.offsets.specs.declared.Tie.{Tie}
 use Rattle.host.specs.Host.{KeepsBook, pastCounts, Told}
 
@@ -22,8 +23,8 @@ limits-told (Limits j) k e l = ap Limits e
 limits-told CannotHold k e l = absurd (omega arith)
 limits-told (Refused j) k e l = absurd (omega arith)
 
-pub cannot-told : (a : OffsetsAnswer) → toldOffsets a ≡ pastCounts → toldWords a < pastCounts → a ≡ CannotHold
-unfolding toldWords
+pub cannot-told : (a : OffsetsAnswer) → toldOffsets a ≡ pastCounts → counted (offsetsCounted a) < pastCounts → a ≡ CannotHold
+unfolding counted offsetsCounted
 cannot-told (Limits j) e l = absurd (omega arith)
 cannot-told CannotHold e l = refl
 cannot-told (Refused j) e l = absurd (omega arith)

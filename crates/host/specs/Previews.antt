@@ -12,10 +12,10 @@ use Rattle.book.specs.Causes.{unknown-kind, number}
 use Rattle.book.specs.Book.{Call}
 use Rattle.register.specs.History.{Entry, is-call, no-call}
 use Rattle.engine.specs.Previews.{Previews}
-use Rattle.host.specs.Host.{refusal, toldPairs, Asked}
+use Rattle.host.specs.Host.{refusal, toldCounted, Asked}
 
 abbrev pub Foresees : Call → List ℕ → List ℕ → ℕ → List ℕ → List ℕ → ℕ → Type 0
-Foresees c ws text work before after k = Asked ws (λ r. Previews r c text work before after) toldPairs before after k
+Foresees c ws text work before after k = Asked ws (λ r. Previews r c text work before after) toldCounted before after k
 
 pub data Previewed (ws text : List ℕ) (work : ℕ) (before after : List ℕ) (k : ℕ) : Entry → Type 0 where
   foreseen : {c : Call} → Foresees c ws text work before after k → Previewed ws text work before after k (is-call c)

@@ -14,17 +14,17 @@ use Prim.Native.Nat.{ℕ, zero, suc}
 use lib.ListN.{take}
 use Rattle.book.specs.Causes.{labels}
 use Rattle.book.specs.Book.{Book, total}
+use Rattle.answers.specs.Answers.{FirstPart}
+use Rattle.answers.specs.declared.Counted.{Counted}
 use Rattle.register.specs.Marks.{markOf}
 use Rattle.register.specs.Questions.{Sized, MarkList, TotalList}
 use Rattle.register.specs.declared.Register.{Register}
-use Rattle.pairs.specs.Asking.{Handed}
-use Rattle.pairs.specs.declared.PairsAnswer.{PairsAnswer}
 
-abbrev pub ReadsTotals : List ℕ → List ℕ → Register → PairsAnswer → Type 0
-ReadsTotals before after r a = (ts : List ℕ) × TotalList r ts × Handed ts before after a
+abbrev pub ReadsTotals : List ℕ → List ℕ → Register → Counted → Type 0
+ReadsTotals before after r a = (ts : List ℕ) × TotalList r ts × FirstPart ts before after a
 
-abbrev pub ReadsMarks : List ℕ → List ℕ → Register → PairsAnswer → Type 0
-ReadsMarks before after r a = (n : ℕ) × (ms : List ℕ) × Sized r n × MarkList r ms × Handed (take n ms) before after a
+abbrev pub ReadsMarks : List ℕ → List ℕ → Register → Counted → Type 0
+ReadsMarks before after r a = (n : ℕ) × (ms : List ℕ) × Sized r n × MarkList r ms × FirstPart (take n ms) before after a
 
 unfoldable pub valuesBelow : (ℕ → ℕ) → ℕ → List ℕ
 valuesBelow f zero = []

@@ -14,10 +14,10 @@ use lib.ListN.{length, take, getD, length-append, List·getD-append}
 use lib.Seq.{ext-getD, getD-append-add, getD-take, length-take-le}
 use Rattle.book.specs.Causes.{labels}
 use Rattle.book.specs.Book.{Book, Call, fresh, after, total}
+use Rattle.answers.specs.Answers.{FirstPart}
+use Rattle.answers.specs.declared.Counted.{Counted}
 use Rattle.register.specs.Marks.{markOf}
-use Rattle.pairs.specs.Asking.{Handed}
-use Rattle.pairs.specs.declared.PairsAnswer.{PairsAnswer}
-use Rattle.host.specs.Host.{KeepsBook, toldPairs, Told, Asked}
+use Rattle.host.specs.Host.{KeepsBook, toldCounted, Told, Asked}
 use Rattle.host.specs.Histories.{WordsMade}
 use Rattle.host.specs.HostLaws.{words-made}
 use Rattle.host.specs.Reading.{ReadsTotals, ReadsMarks, valuesBelow, totalsOf, marksOf}
@@ -45,18 +45,18 @@ module _ (f : ℕ → ℕ) where
       ext-getD 0 l (valuesBelow f n) (e ∙ sym (values-length n)) (λ i h.
       let s : i < n = omega (arith, h, e) in v i s ∙ sym (values-at n i s))
 
-handed-as : {l m before after′ : List ℕ} {a : PairsAnswer} → l ≡ m → Handed l before after′ a → Handed m before after′ a
-handed-as {before = before} {after′} {a} e t = subst (λ (x : List ℕ). Handed x before after′ a) e t
+part-as : {l m before after′ : List ℕ} {a : Counted} → l ≡ m → FirstPart l before after′ a → FirstPart m before after′ a
+part-as {before = before} {after′} {a} e t = subst (λ (x : List ℕ). FirstPart x before after′ a) e t
 
 module _ {ws before after′ : List ℕ} {k : ℕ} (b : Book) (h : KeepsBook ws b) where
-  pub totals-book : Asked ws (ReadsTotals before after′) toldPairs before after′ k → Told (Handed (totalsOf b) before after′) toldPairs k
+  pub totals-book : Asked ws (ReadsTotals before after′) toldCounted before after′ k → Told (FirstPart (totalsOf b) before after′) toldCounted k
   totals-book q =
       let t = q .answers (h .0) (h .1) in
       let ts = t .1 .0 in
       let p = t .1 .1 in
-      (t .0, handed-as (values-only (total (b .sheet)) labels ts (p .long) (p .totals b (h .2))) (t .1 .2), t .2)
+      (t .0, part-as (values-only (total (b .sheet)) labels ts (p .long) (p .totals b (h .2))) (t .1 .2), t .2)
 
-  pub marks-book : Asked ws (ReadsMarks before after′) toldPairs before after′ k → Told (Handed (marksOf b) before after′) toldPairs k
+  pub marks-book : Asked ws (ReadsMarks before after′) toldCounted before after′ k → Told (FirstPart (marksOf b) before after′) toldCounted k
   marks-book q =
       let t = q .answers (h .0) (h .1) in
       let n = t .1 .0 in
@@ -67,13 +67,13 @@ module _ {ws before after′ : List ℕ} {k : ℕ} (b : Book) (h : KeepsBook ws 
       let g : length (take n ms) ≡ n = length-take-le n ms (omega (arith, z .small, p .long)) in
       let e : take n ms ≡ valuesBelow (markOf (b .sheet)) n =
       values-only (markOf (b .sheet)) n (take n ms) g (λ i l. getD-take n ms i 0 l ∙ p .marks b (h .2) i) in
-      (t .0, handed-as (e ∙ ap (valuesBelow (markOf (b .sheet))) s) (t .1 .4), t .2)
+      (t .0, part-as (e ∙ ap (valuesBelow (markOf (b .sheet))) s) (t .1 .4), t .2)
 
 module _ {n : ℕ} {cs : List Call} {vs : List ℕ} (M : WordsMade n cs vs) {before after′ : List ℕ} {k : ℕ} where
-  pub totals-exported : Asked vs (ReadsTotals before after′) toldPairs before after′ k
-      → Told (Handed (totalsOf (after (fresh n) cs)) before after′) toldPairs k
+  pub totals-exported : Asked vs (ReadsTotals before after′) toldCounted before after′ k
+      → Told (FirstPart (totalsOf (after (fresh n) cs)) before after′) toldCounted k
   totals-exported q = totals-book (after (fresh n) cs) (words-made M .2) q
 
-  pub marks-exported : Asked vs (ReadsMarks before after′) toldPairs before after′ k
-      → Told (Handed (marksOf (after (fresh n) cs)) before after′) toldPairs k
+  pub marks-exported : Asked vs (ReadsMarks before after′) toldCounted before after′ k
+      → Told (FirstPart (marksOf (after (fresh n) cs)) before after′) toldCounted k
   marks-exported q = marks-book (after (fresh n) cs) (words-made M .2) q

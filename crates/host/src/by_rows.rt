@@ -1,9 +1,9 @@
 // The pair question by the engine on rows of bits, of a register that the caller keeps as words.
 ghost use lib.ListN.{length};
-ghost use Rattle.rowpairs.specs.Asking.{AsksRows};
-ghost use Rattle.host.specs.Host.{toldPairs, Asked};
-use crate::told::told_pairs;
-use crate::told::told_refusal;
+ghost use Rattle.query.specs.Asking.{AsksRows};
+ghost use Rattle.host.specs.Host.{toldCounted, Asked};
+use answers::told;
+use answers::told_refusal;
 use register::Register;
 
 // The pairs that have a chain, as `dating_pairs` gives them, by rows of bits: the work is 32 relations of n rows, 64 columns to a word.
@@ -15,12 +15,12 @@ pub extern "C" fn dating_pairs_by_rows(
     list: &mut [u32],
 ) -> u64
     ensures { λ k. ⌜ Asked (now (state .entry)) (λ r. AsksRows r (now (text .entry)) (length (now (work .entry))) (now (list .entry)) (now (list .exit)))
-        toldPairs (now (list .entry)) (now (list .exit)) k ⌝ }
+        toldCounted (now (list .entry)) (now (list .exit)) k ⌝ }
 {
     let loaded = Register::load(state);
     let answer = loaded.answer;
     if register::number_of(answer) != 0 {
         return told_refusal(book::NOT_OPEN);
     }
-    told_pairs(engine::pairs_by_rows(loaded.register, text, work, list))
+    told(engine::pairs_by_rows(loaded.register, text, work, list))
 }

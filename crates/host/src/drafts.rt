@@ -3,8 +3,8 @@ ghost use mathlib.Core.Path.{_≡_};
 ghost use Prim.Native.Nat.{_+_, _*_, _<_};
 ghost use Rattle.host.specs.Host.{pastCounts, refusal};
 ghost use Rattle.host.specs.Drafts.{placeUnit, Applies};
-use crate::told::PAST_COUNTS;
-use crate::told::told_refusal;
+use answers::PAST_COUNTS;
+use answers::told_refusal;
 use engine::DraftAnswer;
 use register::Register;
 

@@ -2,17 +2,18 @@
 ghost use mathlib.Core.Path.{_≡_};
 ghost use Prim.Native.Nat.{_^_, _≤_};
 ghost use lib.ListN.{length};
-ghost use Rattle.generations.specs.Generating.{answerLength, Generates};
+ghost use Rattle.answers.specs.Answers.{counted};
+ghost use Rattle.generations.specs.Generating.{generationsCounted, Generates};
 ghost use Rattle.host.specs.Host.{Asked};
 ghost use Rattle.host.specs.Generations.{toldGenerations};
-use crate::told::PAST_COUNTS;
-use crate::told::told_refusal;
+use answers::PAST_COUNTS;
+use answers::told_refusal;
 use generations::GenerationsAnswer;
 use register::Register;
 
 // The answer told as 64 bits.
 fn told_generations(answer: GenerationsAnswer) -> u64
-    requires { ⌜ answerLength answer ≤ 2 ^ 62 ⌝ }
+    requires { ⌜ counted (generationsCounted answer) ≤ 2 ^ 62 ⌝ }
     ensures { λ k. ⌜ k ≡ toldGenerations answer ⌝ }
 {
     match answer {

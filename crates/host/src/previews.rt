@@ -3,8 +3,8 @@ ghost use lib.ListN.{length};
 ghost use Rattle.register.specs.Calls.{callOf};
 ghost use Rattle.register.specs.History.{kindCall};
 ghost use Rattle.host.specs.Previews.{Foresees, Previewed};
-use crate::told::told_pairs;
-use crate::told::told_refusal;
+use answers::told;
+use answers::told_refusal;
 use register::Call;
 use register::Entry;
 use register::Register;
@@ -19,7 +19,7 @@ fn preview(state: &[u32], call: Call, text: &[u8], work: &mut [u64], list: &mut 
         return told_refusal(book::NOT_OPEN);
     }
     let register = loaded.register;
-    told_pairs(engine::preview(register, call, text, work, list))
+    told(engine::preview(register, call, text, work, list))
 }
 
 // The pairs of an expression if an edit or undo were made, as many as the list takes; how many they are in all. The kind is a frame's, and of a record alone

@@ -1,33 +1,10 @@
 // The printed page: the pages of a pair question's answer, and the pairs read back from them.
-ghost use mathlib.Core.Path.{_≡_};
 ghost use lib.ListN.{length};
 ghost use Rattle.pages.specs.PageCalls.{Prints, ReadsPages};
-ghost use Rattle.host.specs.Host.{Told, Asked};
-ghost use Rattle.host.specs.PageHost.{toldBytes, toldRead};
-use crate::told::told_refusal;
-use pages::PagesAnswer;
-use pages::ReadAnswer;
+ghost use Rattle.host.specs.Host.{toldCounted, Told, Asked};
+use answers::told;
+use answers::told_refusal;
 use register::Register;
-
-// How many bytes were written, told as 64 bits.
-fn told_bytes(answer: PagesAnswer) -> u64
-    ensures { λ k. ⌜ k ≡ toldBytes answer ⌝ }
-{
-    match answer {
-        PagesAnswer::Bytes(count) => count as u64,
-        PagesAnswer::Refused(number) => told_refusal(number),
-    }
-}
-
-// How many pairs were read.
-fn told_read(answer: ReadAnswer) -> u64
-    ensures { λ k. ⌜ k ≡ toldRead answer ⌝ }
-{
-    match answer {
-        ReadAnswer::Pairs(count) => count as u64,
-        ReadAnswer::Refused(number) => told_refusal(number),
-    }
-}
 
 // The pages of a pair question's answer; how many bytes they are.
 #[no_mangle]
@@ -38,20 +15,20 @@ pub extern "C" fn dating_pages(
     pages: &mut [u8],
 ) -> u64
     ensures { λ k. ⌜ Asked (now (state .entry)) (λ r. Prints r (now (text .entry)) (length (now (work .entry))) (now (pages .entry)) (now (pages .exit)))
-        toldBytes (now (pages .entry)) (now (pages .exit)) k ⌝ }
+        toldCounted (now (pages .entry)) (now (pages .exit)) k ⌝ }
 {
     let loaded = Register::load(state);
     let answer = loaded.answer;
     if register::number_of(answer) != 0 {
         return told_refusal(book::NOT_OPEN);
     }
-    told_bytes(pages::print(loaded.register, text, work, pages))
+    told(pages::print(loaded.register, text, work, pages))
 }
 
 // The pairs that pages of an expression show, ascending; how many they are. No register is asked.
 #[no_mangle]
 pub extern "C" fn dating_read_pages(text: &[u8], pages: &[u8], list: &mut [u32]) -> u64
-    ensures { λ k. ⌜ Told (ReadsPages (now (text .entry)) (now (pages .entry)) (now (list .entry)) (now (list .exit))) toldRead k ⌝ }
+    ensures { λ k. ⌜ Told (ReadsPages (now (text .entry)) (now (pages .entry)) (now (list .entry)) (now (list .exit))) toldCounted k ⌝ }
 {
-    told_read(pages::read_pages(text, pages, list))
+    told(pages::read_pages(text, pages, list))
 }

@@ -1,16 +1,12 @@
-// What is read of a register that the caller keeps as words, and both questions.
-ghost use mathlib.Core.Path.{_≡_};
-ghost use Prim.Native.Nat.{_≤_};
-ghost use lib.ListN.{length, take};
-ghost use Rattle.pairs.specs.Asking.{AsksPairs};
+// What is told by one number of a register that the caller keeps as words, and both questions.
+ghost use lib.ListN.{length};
+ghost use Rattle.query.specs.Asking.{AsksPairs};
 ghost use Rattle.chains.specs.Replies.{Replies};
 ghost use Rattle.ends.specs.Asking.{AsksEnds, AsksStarts};
-ghost use Rattle.host.specs.Host.{toldPairs, toldChain, toldEnds, Asked, Lists, Sizes, TellsLock, TellsWithdrawn, TellsTotal};
+ghost use Rattle.host.specs.Host.{toldCounted, toldChain, Asked, Sizes, TellsLock, TellsWithdrawn, TellsTotal};
 use crate::told::told_chain;
-use crate::told::told_ends;
-use crate::told::told_pairs;
-use crate::told::told_refusal;
-use crate::told::told_total;
+use answers::told;
+use answers::told_refusal;
 use register::Register;
 
 // The number of records; 0 if the words are no register's.
@@ -18,46 +14,7 @@ use register::Register;
 pub extern "C" fn dating_size(state: &[u32]) -> u32
     ensures { λ k. ⌜ Sizes (now (state .entry)) k ⌝ }
 {
-    let loaded = Register::load(state);
-    let answer = loaded.answer;
-    if register::number_of(answer) != 0 {
-        return 0;
-    }
-    let register = loaded.register;
-    let n = engine::size(register);
-    if book::MAX_RECORDS < n {
-        return 0;
-    }
-    n as u32
-}
-
-// How many of some words a list of so many takes.
-pub fn fitting(words: &[u32], room: usize) -> usize
-    ensures { λ r. ⌜ (r ≤ length (now (words .entry))) × (r ≤ room) × (take r (now (words .entry)) ≡ take room (now (words .entry))) ⌝ }
-{
-    if room < words.len() {
-        return room;
-    }
-    words.len()
-}
-
-// The links' words, ascending, as many as the list takes; how many they are in all.
-#[no_mangle]
-pub extern "C" fn dating_links(state: &[u32], list: &mut [u32]) -> u64
-    ensures { λ k. ⌜ Asked (now (state .entry)) (Lists (now (list .entry)) (now (list .exit))) toldPairs (now (list .entry)) (now (list .exit)) k ⌝ }
-{
-    let loaded = Register::load(state);
-    let answer = loaded.answer;
-    if register::number_of(answer) != 0 {
-        return told_refusal(book::NOT_OPEN);
-    }
-    let register = loaded.register;
-    let links = engine::links(register);
-    let count = links.count;
-    let words = links.words;
-    let first = fitting(&words[..count], list.len());
-    register::copy(&words[..first], list, 0);
-    count as u64
+    register::size_in(state) as u32
 }
 
 // Whether a record is locked: 1 or 0; 0 if the words are no register's.
@@ -65,13 +22,7 @@ pub extern "C" fn dating_links(state: &[u32], list: &mut [u32]) -> u64
 pub extern "C" fn dating_locked(state: &[u32], record: u16) -> u32
     ensures { λ k. ⌜ TellsLock (now (state .entry)) «record» k ⌝ }
 {
-    let loaded = Register::load(state);
-    let answer = loaded.answer;
-    if register::number_of(answer) != 0 {
-        return 0;
-    }
-    let register = loaded.register;
-    engine::is_locked(register, record) as u32
+    register::has_mark(state, record, register::LOCK_MARK) as u32
 }
 
 // Whether a record is withdrawn: 1 or 0; 0 if the words are no register's.
@@ -79,13 +30,7 @@ pub extern "C" fn dating_locked(state: &[u32], record: u16) -> u32
 pub extern "C" fn dating_withdrawn(state: &[u32], record: u16) -> u32
     ensures { λ k. ⌜ TellsWithdrawn (now (state .entry)) «record» k ⌝ }
 {
-    let loaded = Register::load(state);
-    let answer = loaded.answer;
-    if register::number_of(answer) != 0 {
-        return 0;
-    }
-    let register = loaded.register;
-    engine::is_withdrawn(register, record) as u32
+    register::has_mark(state, record, register::WITHDRAWN_MARK) as u32
 }
 
 // The number of links of a label.
@@ -93,13 +38,7 @@ pub extern "C" fn dating_withdrawn(state: &[u32], record: u16) -> u32
 pub extern "C" fn dating_total(state: &[u32], label: u8) -> u64
     ensures { λ k. ⌜ TellsTotal (now (state .entry)) label k ⌝ }
 {
-    let loaded = Register::load(state);
-    let answer = loaded.answer;
-    if register::number_of(answer) != 0 {
-        return told_refusal(book::NOT_OPEN);
-    }
-    let register = loaded.register;
-    told_total(engine::total(register, label))
+    told(register::total_in(state, label))
 }
 
 // The pairs that have a chain, ascending, each once, as many as the list takes; how many they are in all.
@@ -111,14 +50,14 @@ pub extern "C" fn dating_pairs(
     list: &mut [u32],
 ) -> u64
     ensures { λ k. ⌜ Asked (now (state .entry)) (λ r. AsksPairs r (now (text .entry)) (length (now (work .entry))) (now (list .entry)) (now (list .exit)))
-        toldPairs (now (list .entry)) (now (list .exit)) k ⌝ }
+        toldCounted (now (list .entry)) (now (list .exit)) k ⌝ }
 {
     let loaded = Register::load(state);
     let answer = loaded.answer;
     if register::number_of(answer) != 0 {
         return told_refusal(book::NOT_OPEN);
     }
-    told_pairs(engine::pairs(loaded.register, text, work, list))
+    told(engine::pairs(loaded.register, text, work, list))
 }
 
 // The first of the shortest chains from one record to another.
@@ -146,26 +85,26 @@ pub extern "C" fn dating_chain(
 #[no_mangle]
 pub extern "C" fn dating_ends(state: &[u32], from: u16, text: &[u8], list: &mut [u32]) -> u64
     ensures { λ k. ⌜ Asked (now (state .entry)) (λ r. AsksEnds r from (now (text .entry)) (now (list .entry)) (now (list .exit)))
-        toldEnds (now (list .entry)) (now (list .exit)) k ⌝ }
+        toldCounted (now (list .entry)) (now (list .exit)) k ⌝ }
 {
     let loaded = Register::load(state);
     let answer = loaded.answer;
     if register::number_of(answer) != 0 {
         return told_refusal(book::NOT_OPEN);
     }
-    told_ends(engine::ends_of(loaded.register, from, text, list))
+    told(engine::ends_of(loaded.register, from, text, list))
 }
 
 // The starts of a record, likewise.
 #[no_mangle]
 pub extern "C" fn dating_starts(state: &[u32], to: u16, text: &[u8], list: &mut [u32]) -> u64
     ensures { λ k. ⌜ Asked (now (state .entry)) (λ r. AsksStarts r to (now (text .entry)) (now (list .entry)) (now (list .exit)))
-        toldEnds (now (list .entry)) (now (list .exit)) k ⌝ }
+        toldCounted (now (list .entry)) (now (list .exit)) k ⌝ }
 {
     let loaded = Register::load(state);
     let answer = loaded.answer;
     if register::number_of(answer) != 0 {
         return told_refusal(book::NOT_OPEN);
     }
-    told_ends(engine::starts_of(loaded.register, to, text, list))
+    told(engine::starts_of(loaded.register, to, text, list))
 }

@@ -1,22 +1,10 @@
 // Sole support, of a register that the caller keeps as words.
-ghost use mathlib.Core.Path.{_≡_};
 ghost use lib.ListN.{length};
 ghost use Rattle.support.specs.Support.{Supports};
-ghost use Rattle.host.specs.Host.{Asked};
-ghost use Rattle.host.specs.Support.{toldSupport};
-use crate::told::told_refusal;
+ghost use Rattle.host.specs.Host.{toldCounted, Asked};
+use answers::told;
+use answers::told_refusal;
 use register::Register;
-use support::SupportAnswer;
-
-// The answer told as 64 bits.
-fn told_support(answer: SupportAnswer) -> u64
-    ensures { λ k. ⌜ k ≡ toldSupport answer ⌝ }
-{
-    match answer {
-        SupportAnswer::Records(count) => count as u64,
-        SupportAnswer::Refused(number) => told_refusal(number),
-    }
-}
 
 // The records that lose every chain to the anchors when the links of the core are gone, ascending; how many they are.
 #[no_mangle]
@@ -30,12 +18,12 @@ pub extern "C" fn dating_sole_support(
 ) -> u64
     ensures { λ k. ⌜ Asked (now (state .entry))
         (λ r. Supports r core (now (text .entry)) (now (anchors .entry)) (length (now (work .entry))) (now (list .entry)) (now (list .exit)))
-        toldSupport (now (list .entry)) (now (list .exit)) k ⌝ }
+        toldCounted (now (list .entry)) (now (list .exit)) k ⌝ }
 {
     let loaded = Register::load(state);
     let answer = loaded.answer;
     if register::number_of(answer) != 0 {
         return told_refusal(book::NOT_OPEN);
     }
-    told_support(support::sole_support(loaded.register, core, text, anchors, work, list))
+    told(support::sole_support(loaded.register, core, text, anchors, work, list))
 }

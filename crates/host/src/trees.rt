@@ -3,8 +3,8 @@ ghost use mathlib.Core.List.{[], _∷_};
 ghost use lib.ListN.{length};
 ghost use Rattle.k2.specs.PairSets.{union, intersection, difference, transpose, closure};
 ghost use Rattle.tree.specs.Calls.{senseOf, productSensed, Answered, Listed, treeOf, listOf, treeOfOne, treeOfTwo};
-ghost use Rattle.host.specs.Host.{toldTree, Told};
-use crate::told::told_tree;
+ghost use Rattle.host.specs.Host.{toldCounted, Told};
+use answers::told;
 
 // The tree of a list of pair words, in any order and with repeats.
 #[no_mangle]
@@ -15,9 +15,10 @@ pub extern "C" fn dating_tree_make(
     work: &mut [u64],
 ) -> u64
     ensures { λ k. ⌜ Told
-        (Answered n (now (pairs .entry)) [] (length (now (work .entry))) (treeOf n (now (pairs .entry))) (now (tree .entry)) (now (tree .exit))) toldTree k ⌝ }
+        (Answered n (now (pairs .entry)) [] (length (now (work .entry))) (treeOf n (now (pairs .entry))) (now (tree .entry)) (now (tree .exit)))
+        toldCounted k ⌝ }
 {
-    told_tree(engine::tree_make(n, pairs, tree, work))
+    told(engine::tree_make(n, pairs, tree, work))
 }
 
 // The pairs of a tree, ascending, as many as the list takes; how many they are in all.
@@ -29,9 +30,9 @@ pub extern "C" fn dating_tree_list(
     work: &mut [u64],
 ) -> u64
     ensures { λ k. ⌜ Told (Listed n (now (tree .entry) ∷ []) (length (now (work .entry))) (listOf n (now (tree .entry))) (now (list .entry)) (now (list .exit)))
-        toldTree k ⌝ }
+        toldCounted k ⌝ }
 {
-    told_tree(engine::tree_list(n, tree, list, work))
+    told(engine::tree_list(n, tree, list, work))
 }
 
 // The tree of the pairs in either.
@@ -45,9 +46,9 @@ pub extern "C" fn dating_tree_union(
 ) -> u64
     ensures { λ k. ⌜ Told
         (Answered n [] (now (a .entry) ∷ now (b .entry) ∷ []) (length (now (work .entry)))
-        (treeOfTwo union n (now (a .entry)) (now (b .entry))) (now (out .entry)) (now (out .exit))) toldTree k ⌝ }
+        (treeOfTwo union n (now (a .entry)) (now (b .entry))) (now (out .entry)) (now (out .exit))) toldCounted k ⌝ }
 {
-    told_tree(engine::tree_union(n, a, b, out, work))
+    told(engine::tree_union(n, a, b, out, work))
 }
 
 // The tree of the pairs in both.
@@ -61,9 +62,9 @@ pub extern "C" fn dating_tree_intersection(
 ) -> u64
     ensures { λ k. ⌜ Told
         (Answered n [] (now (a .entry) ∷ now (b .entry) ∷ []) (length (now (work .entry)))
-        (treeOfTwo intersection n (now (a .entry)) (now (b .entry))) (now (out .entry)) (now (out .exit))) toldTree k ⌝ }
+        (treeOfTwo intersection n (now (a .entry)) (now (b .entry))) (now (out .entry)) (now (out .exit))) toldCounted k ⌝ }
 {
-    told_tree(engine::tree_intersection(n, a, b, out, work))
+    told(engine::tree_intersection(n, a, b, out, work))
 }
 
 // The tree of the pairs in the first and not in the second.
@@ -77,9 +78,9 @@ pub extern "C" fn dating_tree_difference(
 ) -> u64
     ensures { λ k. ⌜ Told
         (Answered n [] (now (a .entry) ∷ now (b .entry) ∷ []) (length (now (work .entry)))
-        (treeOfTwo difference n (now (a .entry)) (now (b .entry))) (now (out .entry)) (now (out .exit))) toldTree k ⌝ }
+        (treeOfTwo difference n (now (a .entry)) (now (b .entry))) (now (out .entry)) (now (out .exit))) toldCounted k ⌝ }
 {
-    told_tree(engine::tree_difference(n, a, b, out, work))
+    told(engine::tree_difference(n, a, b, out, work))
 }
 
 // The tree of the product, each operand read with its sense, 0 plain and any other inverted: the pairs for which some middle record serves.
@@ -96,11 +97,11 @@ pub extern "C" fn dating_tree_product(
     ensures { λ k. ⌜ Told
         (Answered n [] (now (a .entry) ∷ now (b .entry) ∷ []) (length (now (work .entry)))
         (treeOfTwo (productSensed n (senseOf «a_sense») (senseOf «b_sense»)) n (now (a .entry)) (now (b .entry)))
-        (now (out .entry)) (now (out .exit))) toldTree k ⌝ }
+        (now (out .entry)) (now (out .exit))) toldCounted k ⌝ }
 {
     let s = tree::sense_of(a_sense);
     let t = tree::sense_of(b_sense);
-    told_tree(engine::tree_product(n, a, s, b, t, out, work))
+    told(engine::tree_product(n, a, s, b, t, out, work))
 }
 
 // The tree of the pairs exchanged.
@@ -113,9 +114,9 @@ pub extern "C" fn dating_tree_transpose(
 ) -> u64
     ensures { λ k. ⌜ Told
         (Answered n [] (now (a .entry) ∷ []) (length (now (work .entry))) (treeOfOne transpose n (now (a .entry))) (now (out .entry)) (now (out .exit)))
-        toldTree k ⌝ }
+        toldCounted k ⌝ }
 {
-    told_tree(engine::tree_transpose(n, a, out, work))
+    told(engine::tree_transpose(n, a, out, work))
 }
 
 // The tree of the closure: one or more pairs that lead from one to the other.
@@ -123,7 +124,7 @@ pub extern "C" fn dating_tree_transpose(
 pub extern "C" fn dating_tree_closure(n: usize, a: &[u64], out: &mut [u64], work: &mut [u64]) -> u64
     ensures { λ k. ⌜ Told
         (Answered n [] (now (a .entry) ∷ []) (length (now (work .entry))) (treeOfOne (closure n) n (now (a .entry))) (now (out .entry)) (now (out .exit)))
-        toldTree k ⌝ }
+        toldCounted k ⌝ }
 {
-    told_tree(engine::tree_closure(n, a, out, work))
+    told(engine::tree_closure(n, a, out, work))
 }

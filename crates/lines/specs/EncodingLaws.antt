@@ -1,153 +1,157 @@
 -- Laws of the frames of lines.
---   decode-request  the program takes the frame of a request for that request
---   typed-sends     a line says nothing, a request whose text is within its limit, or one of two faults
---   decode-line     for every line: the program takes the frame that is sent for what the line says
+--   typed-sends     a line says nothing, or a frame whose body is within its limit
+--   saying t        what the program takes the frame of t for, if there is one
+--   meant h k r     what the bytes r after the word of a request of kind k ask for, if its body has the shape h
+--   decode-line     for every request: the program takes its frame for what is asked, by kind and arguments
 --   frame-parts     a frame from its parts
 --   run-lines       for all lines of a session: on the frames that are sent the program prints what the lines ask for, line by line
 -- Assumes nothing.
-use mathlib.Core.Path.{_≡_, refl, subst, _∙_}
+use mathlib.Core.Path.{_≡_, refl, ap, ap₂, subst, _∙_}
 use mathlib.Core.List.{List, [], _∷_, _++_, append-assoc}
 use mathlib.Core.Bool.{Bool, true, false, _&&_}
 use Prim.Native.Nat.{ℕ, suc, _+_, _-_, _*_, _/_, _%_, _≤_, _<_}
 use native.Mathlib.Omega.{arith}
 use lib.ListN.{length, drop, length-append}
 use lib.Seq.{take-at, drop-at}
-use lib.Dec.{leb, ltb, eqb}
+use lib.Dec.{ltb, eqb}
 use borrow.Author.Tests.{le-leb}
 use Rattle.book.specs.Basics.{pick}
-use Rattle.book.specs.Causes.{number, broken-frame, unknown-kind}
-use Rattle.book.specs.Book.{Link, Edit, edit, undo, close, add, remove, lock, unlock, withdraw, reinstate}
+use Rattle.book.specs.Causes.{broken-frame, unknown-kind}
 use Rattle.paths.specs.Grammar.{Verdict}
 use Rattle.paths.specs.Chains.{Reply}
-use Rattle.report.specs.Report.{bytes}
-use Rattle.session.specs.Program.{number16, twoBytes, frameOf, linkIn, Request, Frame, asks, faulty, opening, call, pairs, chain, totalling, decode, Session}
-use Rattle.session.specs.Program.{nextSession, Right, printed, listLeft, frameIn, Run, ended}
+use Rattle.register.specs.History.{kindCall}
+use Rattle.session.specs.Program.{number16, twoBytes, frameOf, Frame, asks, faulty, opening, pairs, chain, totalling, shapeOf, fits, called, taken, decode}
+use Rattle.session.specs.Program.{Session, nextSession, Right, printed, listLeft, frameIn, Run, ended}
 use Rattle.session.specs.RunLaws.{framed-as}
-use Rattle.lines.specs.Typed.{Typed, nothing, saying, fitting, word, rest, skip, sameBytes, empty, isNumber, numberOf, isLabel, labelOf, text, maxText}
-use Rattle.lines.specs.Typed.{maxLine, hash, numbered, linked, alone, chained, lettered, requested, begun, typed}
+use Rattle.session.specs.declared.Shape.{Shape}
+use Rattle.session.specs.declared.Shape.the-variants.{Empty, Record, Link, Size, Label, Expression, Ends, Unknown}
+use Rattle.lines.specs.Typed.{Typed, nothing, framed, unknown, fitting, word, rest, skip, empty, isNumber, numberOf, isLabel, labelOf, text, maxLine}
+use Rattle.lines.specs.Typed.{hash, kindNamed, argued, requested, begun, typed}
 use Rattle.lines.specs.TypedLaws.{length-text}
-use Rattle.lines.specs.Encoding.{linkBytes, kindOf, bodyOf, frameFor, sent, maxBody, afterTyped, printedTyped, leftTyped, RightTyped, sentAll, TypedRun}
-use Rattle.lines.specs.Encoding.{no-lines, next-line}
+use Rattle.lines.specs.Encoding.{sent, maxBody, sentAll, TypedRun, no-lines, silent-line, request-line}
 
 -- a number from its two bytes
 both : (n : ℕ) → n % 256 + 256 * (n / 256) ≡ n
 both n = omega arith
 
--- a request that a frame can ask for: any but closing up
-abbrev pub Framed : Request → Type 0
-Framed (opening n) = Unit
-Framed (call (edit e)) = Unit
-Framed (call undo) = Unit
-Framed (call (close room)) = ⊥
-Framed (pairs t) = Unit
-Framed (chain x y t) = Unit
-Framed (totalling l) = Unit
-
-pub decode-request : (q : Request) → Framed q → decode (kindOf (asks q)) (bodyOf (asks q)) ≡ asks q
-unfolding decode kindOf bodyOf linkBytes twoBytes number16 linkIn
-decode-request (opening n) f = rw (both n)
-decode-request (call (edit (add k))) f = rw (both (k .from), both (k .to))
-decode-request (call (edit (remove k))) f = rw (both (k .from), both (k .to))
-decode-request (call (edit (lock r))) f = rw (both r)
-decode-request (call (edit (unlock r))) f = rw (both r)
-decode-request (call (edit (withdraw r))) f = rw (both r)
-decode-request (call (edit (reinstate r))) f = rw (both r)
-decode-request (call undo) f = refl
-decode-request (call (close room)) f = absurd f
-decode-request (pairs t) f = refl
-decode-request (chain x y t) f =
-    let enough : leb 4 (suc (suc (suc (suc (length t))))) ≡ true = le-leb 4 (suc (suc (suc (suc (length t))))) (omega arith) in
-    rw (both x, both y, enough)
-decode-request (totalling l) f = refl
-
 -- ---- what lines say
--- a request whose text is within its limit, or one of the two faults
-pub data Sendable : Frame → Type 0 where
-  request : {q : Request} → Framed q → length (bodyOf (asks q)) ≤ maxText + 4 → Sendable (asks q)
-  misfits : Sendable (faulty broken-frame)
-  unknowns : Sendable (faulty unknown-kind)
-
 pub data Sends : Typed → Type 0 where
   none : Sends nothing
-  one : {f : Frame} → Sendable f → Sends (saying f)
+  one : {k : ℕ} {s : List ℕ} → length s ≤ maxBody → Sends (framed k s)
 
-fits : (b : Bool) (q : Request) → Framed q → length (bodyOf (asks q)) ≤ maxText + 4 → Sends (fitting b q)
-fits true q f h = one (request f h)
-fits false q f h = one misfits
+fitting-sends : (b : Bool) (k : ℕ) (s : List ℕ) → length s ≤ maxBody → Sends (fitting b k s)
+fitting-sends true k s h = one h
+fitting-sends false k s h = one {s = 0 ∷ []} (omega arith)
+
+argued-sends : (h : Shape) (k : ℕ) (r : List ℕ) → Sends (argued h k r)
+unfolding argued twoBytes
+argued-sends Empty k r = fitting-sends (empty r) k [] (omega arith)
+argued-sends Record k r = fitting-sends (isNumber (word r) && empty (rest r)) k (twoBytes (numberOf (word r))) (omega arith)
+argued-sends Size k r = fitting-sends (isNumber (word r) && empty (rest r)) k (twoBytes (numberOf (word r))) (omega arith)
+argued-sends Link k r =
+    let x = word r in
+    let l = word (rest r) in
+    let y = word (rest (rest r)) in
+    fitting-sends (isNumber x && (isLabel l && (isNumber y && empty (rest (rest (rest r)))))) k
+    (twoBytes (numberOf x) ++ (labelOf l ∷ twoBytes (numberOf y))) (omega arith)
+argued-sends Label k r = fitting-sends (isLabel (word r) && empty (rest r)) k (labelOf (word r) ∷ []) (omega arith)
+argued-sends Expression k r = one {s = text r} (omega (arith, length-text r))
+argued-sends Ends k r =
+    let x = word r in
+    let y = word (rest r) in
+    fitting-sends (isNumber x && isNumber y) k (twoBytes (numberOf x) ++ (twoBytes (numberOf y) ++ text (rest (rest r))))
+    (omega (arith, length-text (rest (rest r))))
+argued-sends Unknown k r = one {s = []} (omega arith)
 
 choose : (b : Bool) (t u : Typed) → Sends t → Sends u → Sends (pick b t u)
 choose true t u x y = x
 choose false t u x y = y
 
-length-link : (k : Link) → length (linkBytes k) ≡ 5
-unfolding linkBytes twoBytes
-length-link k = refl
-
-numbered-sends : (f : ℕ → Request) (r : List ℕ) → ((n : ℕ) → Framed (f n)) → ((n : ℕ) → length (bodyOf (asks (f n))) ≡ 2) → Sends (numbered f r)
-unfolding numbered
-numbered-sends f r g h = fits (isNumber (word r) && empty (rest r)) (f (numberOf (word r))) (g (numberOf (word r))) (omega (arith, h (numberOf (word r))))
-
-linked-sends : (f : Link → Edit) (r : List ℕ) → ((k : Link) → length (bodyOf (asks (call (edit (f k))))) ≡ 5) → Sends (linked f r)
-unfolding linked
-linked-sends f r h =
-    let x = word r in
-    let l = word (rest r) in
-    let y = word (rest (rest r)) in
-    let k : Link = record { from = numberOf x; label = labelOf l; to = numberOf y } in
-    fits (isNumber x && (isLabel l && (isNumber y && empty (rest (rest (rest r)))))) (call (edit (f k))) tt (omega (arith, h k))
-
-chained-sends : (r : List ℕ) → Sends (chained r)
-unfolding chained bodyOf twoBytes
-chained-sends r =
-    let t = text (rest (rest r)) in
-    fits (isNumber (word r) && isNumber (word (rest r))) (chain (numberOf (word r)) (numberOf (word (rest r))) t)
-    tt (omega (arith, length-text (rest (rest r))))
-
-lettered-sends : (r : List ℕ) → Sends (lettered r)
-unfolding lettered bodyOf
-lettered-sends r = fits (isLabel (word r) && empty (rest r)) (totalling (labelOf (word r))) tt (omega arith)
-
-requested-sends : (w r : List ℕ) → Sends (requested w r)
-unfolding requested alone bodyOf twoBytes
-requested-sends w r =
-    choose (sameBytes w (bytes "open")) _ _ (numbered-sends opening r (λ n. tt) (λ n. refl))
-    (choose (sameBytes w (bytes "add")) _ _ (linked-sends add r length-link)
-    (choose (sameBytes w (bytes "remove")) _ _ (linked-sends remove r length-link)
-    (choose (sameBytes w (bytes "lock")) _ _ (numbered-sends (λ x. call (edit (lock x))) r (λ n. tt) (λ n. refl))
-    (choose (sameBytes w (bytes "unlock")) _ _ (numbered-sends (λ x. call (edit (unlock x))) r (λ n. tt) (λ n. refl))
-    (choose (sameBytes w (bytes "undo")) _ _ (fits (empty r) (call undo) tt (omega arith))
-    (choose (sameBytes w (bytes "pairs")) _ _ (one (request {q = pairs (text r)} tt (omega (arith, length-text r))))
-    (choose (sameBytes w (bytes "chain")) _ _ (chained-sends r)
-    (choose (sameBytes w (bytes "total")) _ _ (lettered-sends r)
-    (choose (sameBytes w (bytes "withdraw")) _ _ (numbered-sends (λ x. call (edit (withdraw x))) r (λ n. tt) (λ n. refl))
-    (choose (sameBytes w (bytes "reinstate")) _ _ (numbered-sends (λ x. call (edit (reinstate x))) r (λ n. tt) (λ n. refl))
-    (one unknowns)))))))))))
-
 begun-sends : (s : List ℕ) → Sends (begun s)
-unfolding begun
+unfolding begun requested
 begun-sends [] = none
-begun-sends (c ∷ s) = choose (eqb c hash) _ _ none (requested-sends _ _)
+begun-sends (c ∷ s) = choose (eqb c hash) _ _ none (argued-sends _ _ _)
 
 pub typed-sends : (s : List ℕ) → Sends (typed s)
 unfolding typed
-typed-sends s = choose (ltb maxLine (length s)) _ _ (one misfits) (begun-sends (skip s))
+typed-sends s = choose (ltb maxLine (length s)) _ _ (one {s = 0 ∷ []} (omega arith)) (begun-sends (skip s))
+
+-- ---- what the program takes their frames for
+unfoldable pub saying : Typed → List Frame
+saying nothing = []
+saying (framed k s) = decode k s ∷ []
+
+abbrev fitted : Bool → Frame → Frame
+fitted fits f = pick fits f (faulty broken-frame)
+
+unfoldable pub meant : Shape → ℕ → List ℕ → Frame
+meant Empty k r = fitted (empty r) (called (kindCall k 0 0 0))
+meant Record k r = fitted (isNumber (word r) && empty (rest r)) (called (kindCall k (numberOf (word r)) 0 0))
+meant Size k r = fitted (isNumber (word r) && empty (rest r)) (asks (opening (numberOf (word r))))
+meant Link k r =
+    let x = word r in
+    let l = word (rest r) in
+    let y = word (rest (rest r)) in
+    fitted (isNumber x && (isLabel l && (isNumber y && empty (rest (rest (rest r)))))) (called (kindCall k (numberOf x) (labelOf l) (numberOf y)))
+meant Label k r = fitted (isLabel (word r) && empty (rest r)) (asks (totalling (labelOf (word r))))
+meant Expression k r = asks (pairs (text r))
+meant Ends k r =
+    let x = word r in
+    let y = word (rest r) in
+    fitted (isNumber x && isNumber y) (asks (chain (numberOf x) (numberOf y) (text (rest (rest r)))))
+meant Unknown k r = faulty unknown-kind
+
+fitting-taken : (b : Bool) (k : ℕ) (s : List ℕ) (f : Frame) → decode k s ≡ f → saying (fitting b k s) ≡ fitted b f ∷ []
+unfolding saying decode shapeOf fits
+fitting-taken true k s f e = ap (λ (g : Frame). g ∷ []) e
+fitting-taken false k s f e = refl
+
+unknown-taken : saying unknown ≡ faulty unknown-kind ∷ []
+unfolding saying decode shapeOf fits taken
+unknown-taken = refl
+
+-- a body by the shape of its kind, if it fits
+shape-taken : (h : Shape) (k : ℕ) (s : List ℕ) → shapeOf k ≡ h → fits h (length s) ≡ true → decode k s ≡ taken h k s
+unfolding decode
+shape-taken h k s e f = rw (e, f)
+
+argued-taken : (h : Shape) (k : ℕ) (r : List ℕ) → shapeOf k ≡ h → saying (argued h k r) ≡ meant h k r ∷ []
+unfolding argued meant taken fits twoBytes number16
+argued-taken Empty k r e = fitting-taken (empty r) k [] _ (shape-taken Empty k [] e refl)
+argued-taken Record k r e =
+    let x = numberOf (word r) in
+    fitting-taken (isNumber (word r) && empty (rest r)) k (twoBytes x) (called (kindCall k x 0 0))
+    (shape-taken Record k (twoBytes x) e refl ∙ ap (λ (n : ℕ). called (kindCall k n 0 0)) (both x))
+argued-taken Size k r e =
+    let x = numberOf (word r) in
+    fitting-taken (isNumber (word r) && empty (rest r)) k (twoBytes x) (asks (opening x))
+    (shape-taken Size k (twoBytes x) e refl ∙ ap (λ (n : ℕ). asks (opening n)) (both x))
+argued-taken Link k r e =
+    let third = rest (rest r) in
+    let x = numberOf (word r) in
+    let l = labelOf (word (rest r)) in
+    let y = numberOf (word third) in
+    fitting-taken (isNumber (word r) && (isLabel (word (rest r)) && (isNumber (word third) && empty (rest third)))) k
+    (twoBytes x ++ (l ∷ twoBytes y)) (called (kindCall k x l y))
+    (shape-taken Link k (twoBytes x ++ (l ∷ twoBytes y)) e refl ∙ ap₂ (λ (n m : ℕ). called (kindCall k n l m)) (both x) (both y))
+argued-taken Label k r e =
+    let l = labelOf (word r) in
+    fitting-taken (isLabel (word r) && empty (rest r)) k (l ∷ []) (asks (totalling l)) (shape-taken Label k (l ∷ []) e refl)
+argued-taken Expression k r e = fitting-taken true k (text r) (asks (pairs (text r))) (shape-taken Expression k (text r) e refl)
+argued-taken Ends k r e =
+    let x = numberOf (word r) in
+    let y = numberOf (word (rest r)) in
+    let u = text (rest (rest r)) in
+    let long = le-leb 4 (suc (suc (suc (suc (length u))))) (omega arith) in
+    fitting-taken (isNumber (word r) && isNumber (word (rest r))) k (twoBytes x ++ (twoBytes y ++ u)) (asks (chain x y u))
+    (shape-taken Ends k (twoBytes x ++ (twoBytes y ++ u)) e long ∙ ap₂ (λ (n m : ℕ). asks (chain n m u)) (both x) (both y))
+argued-taken Unknown k r e = unknown-taken
+
+pub decode-line : (w r : List ℕ) → saying (requested w r) ≡ meant (shapeOf (kindNamed w)) (kindNamed w) r ∷ []
+unfolding requested
+decode-line w r = argued-taken (shapeOf (kindNamed w)) (kindNamed w) r refl
 
 -- ---- frames
-decode-sendable : {f : Frame} → Sendable f → decode (kindOf f) (bodyOf f) ≡ f
-unfolding decode kindOf bodyOf number
-decode-sendable (request {q} f h) = decode-request q f
-decode-sendable misfits = refl
-decode-sendable unknowns = refl
-
-says-sendable : {f : Frame} (t : Typed) → Sends t → t ≡ saying f → Sendable f
-says-sendable nothing none e = absurd (let z : _≡_ {A = ℕ} 0 1 = cc in omega arith)
-says-sendable {f} (saying g) (one x) e = let h : g ≡ f = cc in subst (λ (k : Frame). Sendable k) h x
-
-pub decode-line : (s : List ℕ) (f : Frame) → typed s ≡ saying f
-    → (sent (typed s) ≡ frameOf (kindOf f) (bodyOf f)) × (decode (kindOf f) (bodyOf f) ≡ f)
-unfolding sent frameFor
-decode-line s f e = (rw e, decode-sendable (says-sendable (typed s) (typed-sends s) e))
-
 -- a frame from its four bytes in front and the two parts of its body
 pub frame-parts : (k : ℕ) (h t : List ℕ) → k < 256
     → (((length h + length t + 2) % 256 ∷ (length h + length t + 2) / 256 ∷ k ∷ 0 ∷ []) ++ h) ++ t ≡ frameOf k (h ++ t)
@@ -170,34 +174,26 @@ frame-out n a b s i h =
     let size : n ≡ suc (suc (length s)) = omega arith in
     rw size (drop-at s i (length s) refl)
 
-length-body : {f : Frame} → Sendable f → length (bodyOf f) ≤ maxBody
-unfolding bodyOf number
-length-body (request f h) = omega arith
-length-body misfits = omega arith
-length-body unknowns = omega arith
-
-run-frame : (work : ℕ) (s s′ : Session) (k k′ : List ℕ) (f : Frame) (i o : List ℕ) (v : Verdict) (u : Reply) → Sendable f → Right s f v u
-    → Run work (nextSession s f) (listLeft work k s f v u) i o s′ k′ → Run work s k (frameFor f ++ i) (printed work (length k) s f v u ++ o) s′ k′
-unfolding frameFor frameOf twoBytes
-run-frame work s s′ k k′ f i o v u x right run =
-    let b = bodyOf f in
-    let c = kindOf f in
+-- the bytes i after a frame of kind c with the body b
+run-frame : (work : ℕ) (s s′ : Session) (k k′ : List ℕ) (c : ℕ) (b i o : List ℕ) (v : Verdict) (u : Reply) → length b ≤ maxBody
+    → Right s (decode c b) v u → Run work (nextSession s (decode c b)) (listLeft work k s (decode c b) v u) i o s′ k′
+    → Run work s k (frameOf c b ++ i) (printed work (length k) s (decode c b) v u ++ o) s′ k′
+unfolding frameOf twoBytes
+run-frame work s s′ k k′ c b i o v u short right run =
     let n = length b + 2 in
     let size : n % 256 + 256 * (n / 256) ≡ n = both n in
-    let short = length-body x in
-    framed-as work {l = k} {l′ = k′} (n % 256) (n / 256) (c % 256 ∷ c / 256 ∷ (b ++ i)) i o f v u
-    (frame-in (n % 256 + 256 * (n / 256)) c b i size ∙ decode-sendable x)
+    framed-as work {l = k} {l′ = k′} (n % 256) (n / 256) (c % 256 ∷ c / 256 ∷ (b ++ i)) i o (decode c b) v u
+    (frame-in (n % 256 + 256 * (n / 256)) c b i size)
     (frame-out (n % 256 + 256 * (n / 256)) (c % 256) (c / 256) b i size)
     (omega arith) (omega arith) (omega (arith, length-append b i)) right run
 
-run-sends : (work : ℕ) (s s′ : Session) (k k′ : List ℕ) (t : Typed) (i o : List ℕ) (v : Verdict) (u : Reply) → Sends t → RightTyped s t v u
-    → Run work (afterTyped s t) (leftTyped work k s t v u) i o s′ k′ → Run work s k (sent t ++ i) (printedTyped work (length k) s t v u ++ o) s′ k′
-unfolding sent
-run-sends work s s′ k k′ nothing i o v u none right run = run
-run-sends work s s′ k k′ (saying f) i o v u (one x) right run = run-frame work s s′ k k′ f i o v u x right run
+sends-short : (t : Typed) (c : ℕ) (b : List ℕ) → Sends t → t ≡ framed c b → length b ≤ maxBody
+sends-short nothing c b none e = absurd (let z : _≡_ {A = ℕ} 0 1 = cc in omega arith)
+sends-short (framed k s) c b (one h) e = let q : s ≡ b = cc in subst (λ (m : List ℕ). length m ≤ maxBody) q h
 
 pub run-lines : {work : ℕ} {s s′ : Session} {k k′ : List ℕ} {ls : List (List ℕ)} {o : List ℕ} → TypedRun work s k ls o s′ k′ → Run work s k (sentAll ls) o s′ k′
-unfolding sentAll
+unfolding sentAll sent
 run-lines no-lines = ended
-run-lines {work} {s} {s′} {k} {k′} (next-line {ls = ls} {o = o} l v u right run) =
-    run-sends work s s′ k k′ (typed l) (sentAll ls) o v u (typed-sends l) right (run-lines run)
+run-lines (silent-line l e run) = rw e (run-lines run)
+run-lines {work} {s} {s′} {k} {k′} (request-line {ls = ls} {o = o} l c b v u e right run) =
+    rw e (run-frame work s s′ k k′ c b (sentAll ls) o v u (sends-short (typed l) c b (typed-sends l) e) right (run-lines run))

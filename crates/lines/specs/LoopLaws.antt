@@ -2,19 +2,14 @@
 -- Assumes nothing.
 use mathlib.Core.Path.{_≡_, refl, sym, ap, subst, _∙_}
 use mathlib.Core.List.{List, [], _∷_, _++_, append-nil}
-use Prim.Native.Nat.{ℕ, suc, _+_, _-_, _<_}
+use Prim.Native.Nat.{ℕ, suc, _-_, _<_}
 use native.Mathlib.Omega.{arith}
-use lib.ListN.{length, take, drop}
-use lib.Seq.{take-at}
-use Rattle.report.specs.Written.{written, Wrote}
+use lib.ListN.{take}
+use Rattle.answers.specs.Written.{Wrote}
+use Rattle.session.specs.RunsLaws.{wrote-front}
 use Rattle.session.specs.Runs.{End, ended, unsent, spent, allSent, mostTurns}
 use Rattle.lines.specs.Typed.{typed}
 use Rattle.lines.specs.Encoding.{sent, sentAll, Sends, no-turns, last-line, not-sent, one-more, SentAll}
-
--- what stands at the front of out is the text
-wrote-front : {t out out′ : List ℕ} {w : ℕ} → Wrote 0 t out out′ w → take w out′ ≡ t
-unfolding written
-wrote-front {t} {out} {out′} {w} h = ap (λ (l : List ℕ). take w l) (h .contents) ∙ take-at t (drop (0 + length t) out) w (omega (arith, h .place))
 
 -- in all it writes the frames of its lines
 pub sends-all : {n : ℕ} {ls : List (List ℕ)} {o : List ℕ} {e : End} → Sends n ls o e → o ≡ sentAll ls

@@ -13,26 +13,29 @@
 --   isNumber w            whether the word w is figures, one or more, of a number up to 65,535
 --   isLabel w, labelOf w  whether the word w is one letter, a to z; its label, 0 to 25
 --   text s                what is sent of a question's text: s without the blanks at its end, at most 1,018 bytes
---   Typed                 what a line says: nothing, or what a frame says, a request or the cause why it is none
---   unknown, misfit       what a first word says that is none of the requests, and arguments that do not fit
---   fitting b q           the request q, if its arguments fit
---   numbered f r, linked f r, alone q r, chained r, lettered r
---                         a request, if the bytes r after its word are: a number and no more; FROM LETTER TO and no more; none; FROM TO EXPRESSION; LETTER and
---                         no more
+--   Typed                 what a line says: nothing, or a frame of a kind with a body
+--   unknown, misfit       the frame of a first word that is none of the requests, of kind 0, to which the program answers 15; and of arguments that do not
+--                         fit, an undo with a body, to which it answers 14
+--   fitting b k s         the frame of kind k with the body s, if the arguments fit
+--   kindNamed w           the kind of the request that the word w names, or 0
+--   argued h k r          the frame of kind k, whose body has the shape h, for the bytes r after its word: none; a number and no more; FROM LETTER TO and no
+--                         more; LETTER and no more; EXPRESSION; FROM TO EXPRESSION
 --   requested w r         what the word w says with the bytes r after it
 --   begun s               what the bytes s say from the first word on: nothing, a comment, or a request
 --   typed s               what the line s says
 -- Assumes nothing: these are definitions.
-use mathlib.Core.List.{List, [], _∷_, reverse}
+use mathlib.Core.List.{List, [], _∷_, _++_, reverse}
 use mathlib.Core.Bool.{Bool, true, false, _&&_, _||_}
 use Prim.Native.Nat.{ℕ, _+_, _-_, _*_}
 use lib.ListN.{length, take, drop}
 use lib.Dec.{leb, ltb, eqb}
 use Rattle.book.specs.Basics.{pick}
-use Rattle.book.specs.Causes.{broken-frame, unknown-kind, labels}
-use Rattle.book.specs.Book.{Link, Edit, edit, undo, add, remove, lock, unlock, withdraw, reinstate}
+use Rattle.book.specs.Causes.{labels}
+use Rattle.register.specs.History.{addKind, removeKind, lockKind, unlockKind, undoKind, withdrawKind, reinstateKind}
 use Rattle.report.specs.Report.{bytes, figure-0, letter-a, space}
-use Rattle.session.specs.Program.{Request, Frame, asks, faulty, opening, call, pairs, chain, totalling}
+use Rattle.session.specs.Program.{openKind, pairsKind, chainKind, totalKind, twoBytes, shapeOf}
+use Rattle.session.specs.declared.Shape.{Shape}
+use Rattle.session.specs.declared.Shape.the-variants.{Empty, Record, Link, Size, Label, Expression, Ends, Unknown}
 
 -- the bytes tab, carriage return and #
 abbrev pub tab : ℕ
@@ -116,51 +119,51 @@ text s = take maxText (trim s)
 -- ---- requests
 pub data Typed : Type 0 where
   nothing : Typed
-  saying : Frame → Typed
+  framed : ℕ → List ℕ → Typed
 
 abbrev pub unknown : Typed
-unknown = saying (faulty unknown-kind)
+unknown = framed 0 []
 
 abbrev pub misfit : Typed
-misfit = saying (faulty broken-frame)
+misfit = framed undoKind (0 ∷ [])
 
-abbrev pub fitting : Bool → Request → Typed
-fitting fits q = pick fits (saying (asks q)) misfit
+abbrev pub fitting : Bool → ℕ → List ℕ → Typed
+fitting fits k s = pick fits (framed k s) misfit
 
-unfoldable pub numbered : (ℕ → Request) → List ℕ → Typed
-numbered f r = fitting (isNumber (word r) && empty (rest r)) (f (numberOf (word r)))
+unfoldable pub kindNamed : List ℕ → ℕ
+kindNamed w =
+    pick (sameBytes w (bytes "open")) openKind
+    (pick (sameBytes w (bytes "add")) addKind
+    (pick (sameBytes w (bytes "remove")) removeKind
+    (pick (sameBytes w (bytes "lock")) lockKind
+    (pick (sameBytes w (bytes "unlock")) unlockKind
+    (pick (sameBytes w (bytes "undo")) undoKind
+    (pick (sameBytes w (bytes "pairs")) pairsKind
+    (pick (sameBytes w (bytes "chain")) chainKind
+    (pick (sameBytes w (bytes "total")) totalKind
+    (pick (sameBytes w (bytes "withdraw")) withdrawKind
+    (pick (sameBytes w (bytes "reinstate")) reinstateKind
+    0))))))))))
 
-unfoldable pub linked : (Link → Edit) → List ℕ → Typed
-linked f r =
+unfoldable pub argued : Shape → ℕ → List ℕ → Typed
+argued Empty k r = fitting (empty r) k []
+argued Record k r = fitting (isNumber (word r) && empty (rest r)) k (twoBytes (numberOf (word r)))
+argued Size k r = fitting (isNumber (word r) && empty (rest r)) k (twoBytes (numberOf (word r)))
+argued Link k r =
     let x = word r in
     let l = word (rest r) in
     let y = word (rest (rest r)) in
-    fitting (isNumber x && (isLabel l && (isNumber y && empty (rest (rest (rest r))))))
-    (call (edit (f (record { from = numberOf x; label = labelOf l; to = numberOf y }))))
-
-unfoldable pub alone : Request → List ℕ → Typed
-alone q r = fitting (empty r) q
-
-unfoldable pub chained : List ℕ → Typed
-chained r = fitting (isNumber (word r) && isNumber (word (rest r))) (chain (numberOf (word r)) (numberOf (word (rest r))) (text (rest (rest r))))
-
-unfoldable pub lettered : List ℕ → Typed
-lettered r = fitting (isLabel (word r) && empty (rest r)) (totalling (labelOf (word r)))
+    fitting (isNumber x && (isLabel l && (isNumber y && empty (rest (rest (rest r)))))) k (twoBytes (numberOf x) ++ (labelOf l ∷ twoBytes (numberOf y)))
+argued Label k r = fitting (isLabel (word r) && empty (rest r)) k (labelOf (word r) ∷ [])
+argued Expression k r = framed k (text r)
+argued Ends k r =
+    let x = word r in
+    let y = word (rest r) in
+    fitting (isNumber x && isNumber y) k (twoBytes (numberOf x) ++ (twoBytes (numberOf y) ++ text (rest (rest r))))
+argued Unknown k r = unknown
 
 unfoldable pub requested : List ℕ → List ℕ → Typed
-requested w r =
-    pick (sameBytes w (bytes "open")) (numbered opening r)
-    (pick (sameBytes w (bytes "add")) (linked add r)
-    (pick (sameBytes w (bytes "remove")) (linked remove r)
-    (pick (sameBytes w (bytes "lock")) (numbered (λ x. call (edit (lock x))) r)
-    (pick (sameBytes w (bytes "unlock")) (numbered (λ x. call (edit (unlock x))) r)
-    (pick (sameBytes w (bytes "undo")) (alone (call undo) r)
-    (pick (sameBytes w (bytes "pairs")) (saying (asks (pairs (text r))))
-    (pick (sameBytes w (bytes "chain")) (chained r)
-    (pick (sameBytes w (bytes "total")) (lettered r)
-    (pick (sameBytes w (bytes "withdraw")) (numbered (λ x. call (edit (withdraw x))) r)
-    (pick (sameBytes w (bytes "reinstate")) (numbered (λ x. call (edit (reinstate x))) r)
-    unknown))))))))))
+requested w r = argued (shapeOf (kindNamed w)) (kindNamed w) r
 
 unfoldable pub begun : List ℕ → Typed
 begun [] = nothing

@@ -1,32 +1,36 @@
--- Lines and what they say, as a table, and one theorem: each says it, by computation.
---   Case            a line, and what it says
+-- Lines and what the program takes their frames for, as a table, and one theorem: each is taken so, by computation.
+--   Case            a line, and what its frame is taken for, if it has one
 --   table           every request; blank lines and comments; a word that is none; arguments that do not fit; blanks; leading zeros
---   Hold cs         every line of the table cs says what stands beside it
+--   Hold cs         every line of the table cs is taken for what stands beside it
 -- Assumes nothing.
 use mathlib.Core.Path.{_≡_, refl}
 use mathlib.Core.List.{List, [], _∷_}
 use Prim.Native.String.{String}
+use Rattle.book.specs.Causes.{broken-frame, unknown-kind}
 use Rattle.book.specs.Book.{edit, undo, add, remove, lock, unlock, withdraw, reinstate}
+use Rattle.register.specs.History.{kindCall}
 use Rattle.report.specs.Report.{bytes}
-use Rattle.session.specs.Program.{Request, asks, opening, call, pairs, chain, totalling}
+use Rattle.session.specs.Program.{number16, twoBytes, Request, Frame, asks, faulty, opening, call, pairs, chain, totalling, shapeOf, fits, called, taken}
+use Rattle.session.specs.Program.{decode}
 use Rattle.lines.specs.Typed.{blank, skip, trim, word, rest, sameBytes, empty, figure, allFigures, numberAfter, numberOf, isNumber, isLabel, labelOf}
-use Rattle.lines.specs.Typed.{text, Typed, nothing, saying, unknown, misfit, numbered, linked, alone, chained, lettered, requested, begun, typed}
+use Rattle.lines.specs.Typed.{text, kindNamed, argued, requested, begun, typed}
+use Rattle.lines.specs.EncodingLaws.{saying}
 
 pub record Case : Type 0 where
   pub line : String
-  pub what : Typed
+  pub what : List Frame
 
 abbrev pub request : String → Request → Case
-request t q = record { line = t; what = saying (asks q) }
+request t q = record { line = t; what = asks q ∷ [] }
 
 abbrev pub no-word : String → Case
-no-word t = record { line = t; what = unknown }
+no-word t = record { line = t; what = faulty unknown-kind ∷ [] }
 
 abbrev pub no-fit : String → Case
-no-fit t = record { line = t; what = misfit }
+no-fit t = record { line = t; what = faulty broken-frame ∷ [] }
 
 abbrev pub silent : String → Case
-silent t = record { line = t; what = nothing }
+silent t = record { line = t; what = [] }
 
 unfoldable pub table : List Case
 table =
@@ -68,11 +72,11 @@ table =
 
 pub data Hold : List Case → Type 0 where
   none-left : Hold []
-  also : {c : Case} {cs : List Case} → typed (bytes (c .line)) ≡ c .what → Hold cs → Hold (c ∷ cs)
+  also : {c : Case} {cs : List Case} → saying (typed (bytes (c .line))) ≡ c .what → Hold cs → Hold (c ∷ cs)
 
 pub typed-cases : Hold table
-unfolding table bytes blank skip trim word rest sameBytes empty figure allFigures numberAfter numberOf isNumber isLabel labelOf text numbered linked alone
-    chained lettered requested begun typed
+unfolding table bytes blank skip trim word rest sameBytes empty figure allFigures numberAfter numberOf isNumber isLabel labelOf text kindNamed
+    argued requested begun typed number16 twoBytes shapeOf fits kindCall called taken decode saying
 typed-cases =
     also refl (also refl (also refl (also refl (also refl (also refl (also refl (also refl (also refl (also refl (also refl (also refl (also refl
     (also refl (also refl (also refl (also refl (also refl (also refl (also refl (also refl (also refl (also refl (also refl (also refl (also refl

@@ -13,8 +13,7 @@
 --   length-text    what is sent of a text is within its limit
 --   same-next, same-not, same-none, same-length
 --                  two texts byte by byte
---   same-equal, equal-same
---                  they are the same exactly if they are equal
+--   equal-same     they are the same exactly if they are equal
 --   decimal-typed  a number as the program prints it is that number when it is typed
 -- Assumes nothing.
 use mathlib.Core.Path.{_≡_, refl, sym, ap, subst, _∙_}
@@ -141,7 +140,7 @@ same-length [] (d ∷ t) h = refl
 same-length (c ∷ s) [] h = refl
 same-length (c ∷ s) (d ∷ t) h = rw (same-length s t (λ e. h (ap suc e))) (and-false (eqb c d))
 
-pub same-equal : (s t : List ℕ) → sameBytes s t ≡ true → s ≡ t
+same-equal : (s t : List ℕ) → sameBytes s t ≡ true → s ≡ t
 unfolding sameBytes
 same-equal [] [] h = refl
 same-equal [] (d ∷ t) h = cc
@@ -151,10 +150,13 @@ same-equal (c ∷ s) (d ∷ t) h =
     let b : s ≡ t = same-equal s t (and-right (eqb c d) (sameBytes s t) h) in
     cc
 
-pub equal-same : (s : List ℕ) → sameBytes s s ≡ true
+same-self : (s : List ℕ) → sameBytes s s ≡ true
 unfolding sameBytes
-equal-same [] = refl
-equal-same (c ∷ s) = rw (eq-eqb c c refl, equal-same s)
+same-self [] = refl
+same-self (c ∷ s) = rw (eq-eqb c c refl, same-self s)
+
+pub equal-same : (s t : List ℕ) → (sameBytes s t ≡ true → s ≡ t) × (s ≡ t → sameBytes s t ≡ true)
+equal-same s t = (same-equal s t, λ e. subst (λ (u : List ℕ). sameBytes s u ≡ true) e (same-self s))
 
 -- ---- a number as the program prints it is that number when it is typed
 number-more : (v : ℕ) (w : List ℕ) (c : ℕ) → numberAfter v (w ++ (c ∷ [])) ≡ numberAfter v w * 10 + (c - figure-0)

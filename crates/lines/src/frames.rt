@@ -2,13 +2,10 @@
 ghost use mathlib.Core.List.{_∷_, _++_};
 ghost use Prim.Native.Nat.{_+_, _≤_};
 ghost use lib.ListN.{length};
-ghost use Rattle.report.specs.Written.{Wrote};
-ghost use Rattle.session.specs.Program.{twoBytes, frameOf, chainKind};
+ghost use Rattle.answers.specs.Written.{Wrote};
+ghost use Rattle.session.specs.Program.{twoBytes, frameOf};
 ghost use Rattle.lines.specs.Typed.{maxText};
 ghost use Rattle.lines.specs.Encoding.{maxBody, frameRoom};
-
-// The kind of a chain question, in one byte.
-const CHAIN: u8 = session::CHAIN as u8;
 
 // A frame whose body is two texts one after the other.
 pub fn put_frame(kind: u8, head: &[u8], text: &[u8], out: &mut [u8]) -> usize
@@ -44,10 +41,10 @@ pub fn put_link(kind: u8, x: u16, l: u8, y: u16, out: &mut [u8]) -> usize
     put_frame(kind, &body, b"", out)
 }
 
-pub fn put_chain(x: u16, y: u16, text: &[u8], out: &mut [u8]) -> usize
+pub fn put_ends(kind: u8, x: u16, y: u16, text: &[u8], out: &mut [u8]) -> usize
     requires { ⌜ length (now text) ≤ maxText ⌝ }
     requires { ⌜ frameRoom ≤ length (now out) ⌝ }
-    ensures { λ r. ⌜ Wrote 0 (frameOf chainKind (twoBytes x ++ (twoBytes y ++ now (text .entry)))) (now (out .entry)) (now (out .exit)) r ⌝ }
+    ensures { λ r. ⌜ Wrote 0 (frameOf kind (twoBytes x ++ (twoBytes y ++ now (text .entry)))) (now (out .entry)) (now (out .exit)) r ⌝ }
 {
     let head = [
         (x % 256) as u8,
@@ -55,5 +52,5 @@ pub fn put_chain(x: u16, y: u16, text: &[u8], out: &mut [u8]) -> usize
         (y % 256) as u8,
         (y / 256) as u8,
     ];
-    put_frame(CHAIN, &head, text, out)
+    put_frame(kind, &head, text, out)
 }

@@ -23,7 +23,7 @@ use libc::STDOUT_FILENO;
 ghost use mathlib.Core.Path.{_≡_};
 ghost use Prim.Native.Nat.{_≤_, _<_};
 ghost use lib.ListN.{length, take};
-ghost use Rattle.report.specs.Written.{Wrote};
+ghost use Rattle.answers.specs.Written.{Wrote};
 ghost use Rattle.lines.specs.Typed.{maxLine, typed};
 ghost use Rattle.lines.specs.Encoding.{sent, frameRoom, SentAll};
 

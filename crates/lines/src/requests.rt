@@ -1,17 +1,20 @@
 // What a line says, as a frame. Each function takes the bytes after the words that are read, and hands back how many bytes it wrote.
-use crate::frames::put_chain;
+use crate::frames::put_ends;
 use crate::frames::put_frame;
 use crate::frames::put_link;
 use crate::frames::put_number;
 use crate::words;
 use crate::words::NONE;
-ghost use Prim.Native.Nat.{ℕ, _≤_};
+use session::Shape;
+ghost use mathlib.Core.Path.{_≡_};
+ghost use Prim.Native.Nat.{_≤_};
 ghost use lib.ListN.{length};
-ghost use Rattle.book.specs.Book.{Link, Edit, undo};
-ghost use Rattle.report.specs.Written.{Wrote};
-ghost use Rattle.session.specs.Program.{Request, asks, call, pairs};
-ghost use Rattle.lines.specs.Typed.{saying, misfit, numbered, linked, alone, chained, lettered, text, requested, typed};
-ghost use Rattle.lines.specs.Encoding.{sent, OfNumber, OfLink, frameRoom};
+ghost use Rattle.book.specs.Basics.{pick};
+ghost use Rattle.answers.specs.Written.{Wrote};
+ghost use Rattle.session.specs.Program.{shapeOf};
+ghost use Rattle.session.specs.declared.Shape.the-variants.{Empty, Record, Link, Label, Expression, Ends};
+ghost use Rattle.lines.specs.Typed.{misfit, sameBytes, kindNamed, argued, typed};
+ghost use Rattle.lines.specs.Encoding.{sent, frameRoom};
 
 // The kinds of frames, in one byte; and one that there is not.
 const OPEN: u8 = session::OPEN as u8;
@@ -27,6 +30,8 @@ const UNLOCK: u8 = session::UNLOCK as u8;
 const UNDO: u8 = session::UNDO as u8;
 
 const PAIRS: u8 = session::PAIRS as u8;
+
+const CHAIN: u8 = session::CHAIN as u8;
 
 const TOTAL: u8 = session::TOTAL as u8;
 
@@ -50,10 +55,21 @@ fn broken(out: &mut [u8]) -> usize
     put_frame(UNDO, &[0], b"", out)
 }
 
-// A request of one number.
+// A request of no argument.
+fn alone(kind: u8, s: &[u8], out: &mut [u8]) -> usize
+    requires { ⌜ frameRoom ≤ length (now out) ⌝ }
+    ensures { λ r. ⌜ Wrote 0 (sent (argued Empty kind (now (s .entry)))) (now (out .entry)) (now (out .exit)) r ⌝ }
+{
+    if s.len() > 0 {
+        return broken(out);
+    }
+    put_frame(kind, b"", b"", out)
+}
+
+// A request of one number, a record or a size.
 fn numbered(kind: u8, s: &[u8], out: &mut [u8]) -> usize
     requires { ⌜ frameRoom ≤ length (now out) ⌝ }
-    ensures { λ r. ⌜ ((f : ℕ → Request) → OfNumber kind f → Wrote 0 (sent (numbered f (now (s .entry)))) (now (out .entry)) (now (out .exit)) r) ⌝ }
+    ensures { λ r. ⌜ Wrote 0 (sent (argued Record kind (now (s .entry)))) (now (out .entry)) (now (out .exit)) r ⌝ }
 {
     let n = words::number(s);
     let left = words::rest(s);
@@ -66,10 +82,10 @@ fn numbered(kind: u8, s: &[u8], out: &mut [u8]) -> usize
     put_number(kind, n as u16, out)
 }
 
-// An edit of a link.
+// A request of a link.
 fn linked(kind: u8, s: &[u8], out: &mut [u8]) -> usize
     requires { ⌜ frameRoom ≤ length (now out) ⌝ }
-    ensures { λ r. ⌜ ((f : Link → Edit) → OfLink kind f → Wrote 0 (sent (linked f (now (s .entry)))) (now (out .entry)) (now (out .exit)) r) ⌝ }
+    ensures { λ r. ⌜ Wrote 0 (sent (argued Link kind (now (s .entry)))) (now (out .entry)) (now (out .exit)) r ⌝ }
 {
     let from = words::number(s);
     let second = words::rest(s);
@@ -92,26 +108,34 @@ fn linked(kind: u8, s: &[u8], out: &mut [u8]) -> usize
     put_link(kind, from as u16, label as u8, to as u16, out)
 }
 
-fn undo(s: &[u8], out: &mut [u8]) -> usize
+// A request of a label.
+fn lettered(kind: u8, s: &[u8], out: &mut [u8]) -> usize
     requires { ⌜ frameRoom ≤ length (now out) ⌝ }
-    ensures { λ r. ⌜ Wrote 0 (sent (alone (call undo) (now (s .entry)))) (now (out .entry)) (now (out .exit)) r ⌝ }
+    ensures { λ r. ⌜ Wrote 0 (sent (argued Label kind (now (s .entry)))) (now (out .entry)) (now (out .exit)) r ⌝ }
 {
-    if s.len() > 0 {
+    let label = words::label(s);
+    let left = words::rest(s);
+    if label >= NONE {
         return broken(out);
     }
-    put_frame(UNDO, b"", b"", out)
+    if left.len() > 0 {
+        return broken(out);
+    }
+    put_frame(kind, &[label as u8], b"", out)
 }
 
-fn pairs(s: &[u8], out: &mut [u8]) -> usize
+// A request of an expression.
+fn expressed(kind: u8, s: &[u8], out: &mut [u8]) -> usize
     requires { ⌜ frameRoom ≤ length (now out) ⌝ }
-    ensures { λ r. ⌜ Wrote 0 (sent (saying (asks (pairs (text (now (s .entry))))))) (now (out .entry)) (now (out .exit)) r ⌝ }
+    ensures { λ r. ⌜ Wrote 0 (sent (argued Expression kind (now (s .entry)))) (now (out .entry)) (now (out .exit)) r ⌝ }
 {
-    put_frame(PAIRS, b"", words::text(s), out)
+    put_frame(kind, b"", words::text(s), out)
 }
 
-fn chain(s: &[u8], out: &mut [u8]) -> usize
+// A request of two ends and an expression.
+fn chained(kind: u8, s: &[u8], out: &mut [u8]) -> usize
     requires { ⌜ frameRoom ≤ length (now out) ⌝ }
-    ensures { λ r. ⌜ Wrote 0 (sent (chained (now (s .entry)))) (now (out .entry)) (now (out .exit)) r ⌝ }
+    ensures { λ r. ⌜ Wrote 0 (sent (argued Ends kind (now (s .entry)))) (now (out .entry)) (now (out .exit)) r ⌝ }
 {
     let from = words::number(s);
     let second = words::rest(s);
@@ -123,63 +147,49 @@ fn chain(s: &[u8], out: &mut [u8]) -> usize
     if to >= NONE {
         return broken(out);
     }
-    put_chain(from as u16, to as u16, text, out)
+    put_ends(kind, from as u16, to as u16, text, out)
 }
 
-fn total(s: &[u8], out: &mut [u8]) -> usize
+// A request of a kind, by the shape of its body.
+fn request(kind: u8, s: &[u8], out: &mut [u8]) -> usize
     requires { ⌜ frameRoom ≤ length (now out) ⌝ }
-    ensures { λ r. ⌜ Wrote 0 (sent (lettered (now (s .entry)))) (now (out .entry)) (now (out .exit)) r ⌝ }
+    ensures { λ r. ⌜ Wrote 0 (sent (argued (shapeOf kind) kind (now (s .entry)))) (now (out .entry)) (now (out .exit)) r ⌝ }
 {
-    let label = words::label(s);
-    let left = words::rest(s);
-    if label >= NONE {
-        return broken(out);
+    let shape = session::shape_of(kind as u16);
+    match shape {
+        Shape::Empty => alone(kind, s, out),
+        Shape::Record => numbered(kind, s, out),
+        Shape::Link => linked(kind, s, out),
+        Shape::Size => numbered(kind, s, out),
+        Shape::Label => lettered(kind, s, out),
+        Shape::Expression => expressed(kind, s, out),
+        Shape::Ends => chained(kind, s, out),
+        Shape::Unknown => put_frame(NO_KIND, b"", b"", out),
     }
-    if left.len() > 0 {
-        return broken(out);
-    }
-    put_frame(TOTAL, &[label as u8], b"", out)
 }
 
-// What a word says with the bytes after it.
-fn request(word: &[u8], s: &[u8], out: &mut [u8]) -> usize
-    requires { ⌜ frameRoom ≤ length (now out) ⌝ }
-    ensures { λ r. ⌜ Wrote 0 (sent (requested (now (word .entry)) (now (s .entry)))) (now (out .entry)) (now (out .exit)) r ⌝ }
+// A kind, if the word is its name, else another.
+fn named(word: &[u8], name: &[u8], kind: u8, other: u8) -> u8
+    ensures { λ r. ⌜ r ≡ pick (sameBytes (now (word .entry)) (now (name .entry))) kind other ⌝ }
 {
-    if words::same(word, b"open") {
-        return numbered(OPEN, s, out);
-    }
-    if words::same(word, b"add") {
-        return linked(ADD, s, out);
-    }
-    if words::same(word, b"remove") {
-        return linked(REMOVE, s, out);
-    }
-    if words::same(word, b"lock") {
-        return numbered(LOCK, s, out);
-    }
-    if words::same(word, b"unlock") {
-        return numbered(UNLOCK, s, out);
-    }
-    if words::same(word, b"undo") {
-        return undo(s, out);
-    }
-    if words::same(word, b"pairs") {
-        return pairs(s, out);
-    }
-    if words::same(word, b"chain") {
-        return chain(s, out);
-    }
-    if words::same(word, b"total") {
-        return total(s, out);
-    }
-    if words::same(word, b"withdraw") {
-        return numbered(WITHDRAW, s, out);
-    }
-    if words::same(word, b"reinstate") {
-        return numbered(REINSTATE, s, out);
-    }
-    put_frame(NO_KIND, b"", b"", out)
+    if words::same(word, name) { kind } else { other }
+}
+
+// The kind of the request that a word names.
+fn kind_of(word: &[u8]) -> u8
+    ensures { λ r. ⌜ r ≡ kindNamed (now (word .entry)) ⌝ }
+{
+    let kind = named(word, b"reinstate", REINSTATE, NO_KIND);
+    let kind = named(word, b"withdraw", WITHDRAW, kind);
+    let kind = named(word, b"total", TOTAL, kind);
+    let kind = named(word, b"chain", CHAIN, kind);
+    let kind = named(word, b"pairs", PAIRS, kind);
+    let kind = named(word, b"undo", UNDO, kind);
+    let kind = named(word, b"unlock", UNLOCK, kind);
+    let kind = named(word, b"lock", LOCK, kind);
+    let kind = named(word, b"remove", REMOVE, kind);
+    let kind = named(word, b"add", ADD, kind);
+    named(word, b"open", OPEN, kind)
 }
 
 // Writes the frame of a line.
@@ -197,5 +207,5 @@ pub fn frame(line: &[u8], out: &mut [u8]) -> usize
     if s[0] == b'#' {
         return 0;
     }
-    request(words::word(s), words::rest(s), out)
+    request(kind_of(words::word(s)), words::rest(s), out)
 }

@@ -12,34 +12,35 @@ use Prim.Native.Nat.{ℕ, suc, _+_, _*_, _≤_, _<_, _^_}
 use native.Mathlib.Nat.{not-suc-le-zero}
 use native.Mathlib.Omega.{arith}
 use lib.Dec.{ltb, eqb}
-use borrow.Author.Tests.{ltb-true, ltb-false}
 use lib.IntN.{ℤ, pos}
-use lib.ListN.{length, take, getD, length-append, List·getD-append, List·getD-eq-default}
-use lib.Seq.{getD-take, getD-append-add}
+use lib.ListN.{length, take, List·getD-append}
 use lib.Signed.{mag}
-use Rattle.book.specs.Causes.{short-work, short-list, number, Caused, firstNumber, maxRecords}
+use Rattle.book.specs.Causes.{short-work, short-list, number, firstNumber, maxRecords}
 use Rattle.book.specs.Book.{isWithdrawn}
 use Rattle.book.specs.BookLaws.{first-caused}
-use Rattle.register.specs.Marks.{freeMark, withdrawnMark, hasMark}
+use Rattle.answers.specs.Answers.{counted}
+use Rattle.answers.specs.AnswerLaws.{contained-refused, contained-count}
+use Rattle.register.specs.Inner.{SizeIn}
+use Rattle.register.specs.Marks.{withdrawnMark, hasMark}
 use Rattle.register.specs.MarkLaws.{shows-withdrawn}
-use Rattle.register.specs.Words.{marksAt, stateWords, numbersOf, Keeps}
+use Rattle.register.specs.Words.{Keeps}
+use Rattle.register.specs.WordLaws.{keeps-mark}
 use Rattle.register.specs.declared.Register.{Register}
 use Rattle.offsets.specs.declared.Tie.{Tie}
 use Rattle.offsets.specs.Relax.{State, dist, settled}
 use Rattle.offsets.specs.Offsets.{Placing, Places, cannot, limits, OffsetsAre}
 use Rattle.offsets.specs.ThirdLaws.{Ready}
 use Rattle.offsets.specs.Thirds.{Starts}
-use Rattle.offsets.specs.ArcLaws.{arcs3, by-test}
+use Rattle.offsets.specs.ArcLaws.{arcs3}
 use Rattle.offsets.specs.PassLaws.{settled-is, passes-length}
 use Rattle.offsets.specs.Finds.{ran, least-word, most-word, Told, Fits, cannot-exactly, cannot-are, told-are}
 use Rattle.offsets.specs.BoundLaws.{words-fit}
 use Rattle.offsets.specs.FrontLaws.{beside, ran-front}
-use Rattle.offsets.specs.Answers.{OffsetsAnswer, Limits, CannotHold, Refused, toldOffsets, OffsetsTold, offsetsCauses, OffsetsFor, toldWords}
+use Rattle.offsets.specs.Answers.{OffsetsAnswer, Refused, toldOffsets, OffsetsTold, offsetsCauses, OffsetsFor, offsetsCounted}
 use Rattle.offsets.specs.Answers as answers
-use Rattle.offsets.specs.Inner.{Records, Plan, SizeIn, Begins, roundsOf, isWithdrawnIn, judgeAll, orElse, Filled, Plans, HandsOver, Among}
+use Rattle.offsets.specs.Inner.{Records, Plan, Begins, roundsOf, isWithdrawnIn, judgeAll, orElse, Filled, Plans, HandsOver, Among}
 use Rattle.offsets.specs.Inner as inner
 use Rattle.offsets.specs.JudgeLaws.{causes-are, no-cause-ready}
-use Rattle.offsets.proofs.NumberLaws.{mark-none, mark-here}
 
 -- ---- the front of the work
 -- the words of a record read the front alone
@@ -166,93 +167,39 @@ module _ (g : Records) (base : ℕ) (ts : List Tie) (work₀ work₁ work₂ bef
 
   pub calls-among : (a : OffsetsAnswer) → length after ≡ length before
       → HandsOver (p .cause) n on work₂ before after a → Among g base ts (length work₀) before after a
-  unfolding toldWords
+  unfolding offsetsCounted counted
   calls-among a kept (inner.refused {k} e q) = record {
-    fits = omega arith;
-    past = q;
     refused = λ j r. (ap Refused (sym e ∙ refused-is j r), q);
-    caused = λ z j r. subst Caused (refused-tell r) (first-caused (offsetsCauses n w base ts (length work₀)) (sym e ∙ cause-is z) (λ b. no-number b));
+    contained = λ z. contained-refused (length before) 0 before after (suc k)
+        (first-caused (offsetsCauses n w base ts (length work₀)) (sym e ∙ cause-is z) (λ b. no-number b)) q;
     found = λ z few. answers.refused (sym (cause-is z) ∙ e) q;
   }
-    where
-      refused-tell : {i j : ℕ} → Refused i ≡ Refused j → i ≡ j
-      refused-tell r = cc
   calls-among a kept (inner.cannot-hold e o q) = record {
-    fits = omega arith;
-    past = q;
     refused = λ j r. no-number (sym (refused-is j r) ∙ e);
-    caused = λ z j r. absurd (not-refused r);
+    contained = λ z. contained-count (length before) 0 before after 0 (omega arith) q;
     found = λ z few. answers.cannot-hold (none z few e) (cannot-case z few e o) q;
   }
-    where
-      not-refused : {j : ℕ} → CannotHold ≡ Refused j → ⊥
-      not-refused r = let z : _≡_ {A = ℕ} 0 1 = cc in let none′ : 1 ≤ 0 = omega (arith, z) in not-suc-le-zero none′
   calls-among a kept (inner.scant e h q) = record {
-    fits = omega arith;
-    past = q;
     refused = λ j r. no-number (sym (refused-is j r) ∙ e);
-    caused = λ z j r. subst Caused (refused-tell r) (short-work, refl);
+    contained = λ z. contained-refused (length before) 0 before after (number short-work) (short-work, refl) q;
     found = λ z few. absurd (scant-not z few e h);
   }
-    where
-      refused-tell : {i j : ℕ} → Refused i ≡ Refused j → i ≡ j
-      refused-tell r = cc
   calls-among a kept (inner.short e o h q) = record {
-    fits = omega arith;
-    past = q;
     refused = λ j r. no-number (sym (refused-is j r) ∙ e);
-    caused = λ z j r. subst Caused (refused-tell r) (short-list, refl);
+    contained = λ z. contained-refused (length before) 0 before after (number short-list) (short-list, refl) q;
     found = λ z few. let s = placed z few e o in answers.short (none z few e) (s .0) (s .1) h q;
   }
-    where
-      refused-tell : {i j : ℕ} → Refused i ≡ Refused j → i ≡ j
-      refused-tell r = cc
   calls-among a kept (inner.told e o h t q) = record {
-    fits = h;
-    past = q;
     refused = λ j r. no-number (sym (refused-is j r) ∙ e);
-    caused = λ z j r. absurd (not-refused r);
+    contained = λ z. contained-count (length before) (n * 2) before after (n * 2) h q;
     found = λ z few. answers.told (none z few e) h (told-case z few e o (subst (λ (m : ℕ). n * 2 ≤ m) (sym kept) h) t) q;
   }
-    where
-      not-refused : {k j : ℕ} → Limits k ≡ Refused j → ⊥
-      not-refused r = let z : _≡_ {A = ℕ} 0 1 = cc in let none′ : 1 ≤ 0 = omega (arith, z) in not-suc-le-zero none′
 
 -- ---- of words that a caller keeps
--- a record's mark among a register's words is the register's
-module _ (ws : List ℕ) (r : Register) (k : Keeps ws r) where
-  front : List ℕ
-  front = numbersOf r ++ r .links ++ r .ring
-
-  front-long : length front ≡ marksAt
-  unfolding front
-  front-long =
-      let a = length-append (numbersOf r ++ r .links) (r .ring) in
-      let b = length-append (numbersOf r) (r .links) in
-      let c = k .links in
-      let d = k .ring in
-      omega (arith, a, b, c, d)
-
-  words-at : (j : ℕ) → j < maxRecords → getD ws (marksAt + j) freeMark ≡ getD (r .marks) j freeMark
-  unfolding front
-  words-at j h =
-      sym (getD-take stateWords ws (marksAt + j) freeMark (omega (arith, h))) ∙ ap (λ (l : List ℕ). getD l (marksAt + j) freeMark) (k .words)
-      ∙ List·getD-append (front ++ r .marks) (r .totals) freeMark (marksAt + j) inside
-      ∙ ap (λ (m : ℕ). getD (front ++ r .marks) (m + j) freeMark) (sym front-long) ∙ getD-append-add front (r .marks) j freeMark
-    where
-      inside : marksAt + j < length (front ++ r .marks)
-      inside = let e = length-append front (r .marks) in let f = front-long in let m = k .marks in omega (arith, e, f, m, h)
-
-  withdrawn-in : (j : ℕ) → isWithdrawnIn ws j ≡ hasMark withdrawnMark (r .marks) j
-  withdrawn-in j = by-test (ltb j maxRecords) (λ e. within (ltb-true j maxRecords e)) (λ e. past (ltb-false j maxRecords e))
-    where
-      within : j < maxRecords → isWithdrawnIn ws j ≡ hasMark withdrawnMark (r .marks) j
-      within h = sym (mark-here ws j h) ∙ ap (λ (z : ℕ). eqb z withdrawnMark) (words-at j h)
-
-      past : maxRecords ≤ j → isWithdrawnIn ws j ≡ hasMark withdrawnMark (r .marks) j
-      past h =
-          sym (mark-none ws j h)
-          ∙ sym (ap (λ (z : ℕ). eqb z withdrawnMark) (List·getD-eq-default (r .marks) freeMark (let m = k .marks in omega (arith, h, m))))
+-- a record is withdrawn among a register's words if it is in the register
+withdrawn-in : (ws : List ℕ) (r : Register) → Keeps ws r → (j : ℕ) → isWithdrawnIn ws j ≡ hasMark withdrawnMark (r .marks) j
+unfolding isWithdrawnIn
+withdrawn-in ws r k j = ap (λ (m : ℕ). eqb m withdrawnMark) (keeps-mark k j)
 
 pub calls-told : (ws : List ℕ) (n base : ℕ) (ts : List Tie) (work₀ work₁ work₂ before after : List ℤ)
     (found cause rounds : ℕ) (on : Bool) (a : OffsetsAnswer) (answer : ℕ) → SizeIn ws n → found ≡ judgeAll n ws ts 0
@@ -271,13 +218,11 @@ calls-told ws n base ts work₀ work₁ work₂ before after found cause rounds 
             a,
             (
               record {
-                fits = m .fits;
-                past = m .past;
-                caused = m .caused z;
+                contained = m .contained z;
                 book = λ b rep.
-                    subst (λ (j : ℕ). OffsetsFor j (isWithdrawn (b .sheet)) base ts (length work₀) before after a) (sized .kept r w .size b rep)
+                    subst (λ (j : ℕ). OffsetsFor j (isWithdrawn (b .sheet)) base ts (length work₀) before after a) (sized .1 .kept r w .size b rep)
                     (subst (λ (v : ℕ → Bool). OffsetsFor n v base ts (length work₀) before after a)
-                    (fun-ext (λ j. withdrawn-in ws r w j ∙ shows-withdrawn (rep .sheet) j)) (m .found z (sized .small)));
+                    (fun-ext (λ j. withdrawn-in ws r w j ∙ shows-withdrawn (rep .sheet) j)) (m .found z (sized .0)));
               },
               tells,
             ),

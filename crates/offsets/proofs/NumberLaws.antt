@@ -1,6 +1,4 @@
 -- The numbers against the base and the ties, on each way through the code. A signed number that the code reads from its bits is `toZ w32 (ofZ w32 z)`.
---   mark-none, mark-here, mark-past
---                  whether a record is withdrawn, by its mark among the words: no record, its mark, words too short
 --   sooner-none, sooner-alone, sooner-second, sooner-first
 --                  the sooner of two numbers
 --   three-record, three-withdrawn, three-tie, three-none
@@ -14,35 +12,20 @@
 use mathlib.Core.Path.{_≡_, refl, sym, ap, subst, _∙_}
 use mathlib.Core.Bool.{Bool, true, false, _||_}
 use mathlib.Core.List.{List}
-use Prim.Native.Nat.{ℕ, zero, suc, _+_, _≤_, _<_}
+use Prim.Native.Nat.{ℕ, zero, suc, _≤_, _<_}
 use native.Mathlib.Omega.{arith}
-use lib.Dec.{leb, ltb, eqb}
+use lib.Dec.{leb, ltb}
 use lib.IntN.{ℤ, pos, negsuc}
-use lib.ListN.{length, getD, List·getD-eq-default}
 use lib.Signed.{ltZ}
 use mir.Syntax.{w32}
 use mir.Val.{SFits, toZ, ofZ}
 use borrow.Author.Tests.{le-leb, lt-leb, lt-ltb, le-ltb}
-use Rattle.book.specs.Causes.{number, firstNumber, maxRecords}
+use Rattle.book.specs.Causes.{number, firstNumber}
 use Rattle.book.specs.Basics.{pick}
-use Rattle.register.specs.Marks.{freeMark, withdrawnMark}
-use Rattle.register.specs.Words.{marksAt}
 use Rattle.offsets.specs.declared.Tie.{Tie}
 use Rattle.offsets.specs.Answers.{maxTies, outside}
 use Rattle.offsets.specs.Inner.{isWithdrawnIn, sooner, three, tieNumber, baseNumber}
 use Rattle.offsets.proofs.IntegerLaws.{bits-back}
-
--- ---- a mark among the words
-pub mark-none : (ws : List ℕ) (k : ℕ) → maxRecords ≤ k → false ≡ isWithdrawnIn ws k
-unfolding isWithdrawnIn
-mark-none ws k h = sym (ap (λ (t : Bool). pick t (eqb (getD ws (marksAt + k) freeMark) withdrawnMark) false) (le-ltb k maxRecords h))
-
-pub mark-here : (ws : List ℕ) (k : ℕ) → k < maxRecords → eqb (getD ws (marksAt + k) freeMark) withdrawnMark ≡ isWithdrawnIn ws k
-unfolding isWithdrawnIn
-mark-here ws k h = sym (ap (λ (t : Bool). pick t (eqb (getD ws (marksAt + k) freeMark) withdrawnMark) false) (lt-ltb k maxRecords h))
-
-pub mark-past : (ws : List ℕ) (k : ℕ) → k < maxRecords → length ws ≤ marksAt + k → false ≡ isWithdrawnIn ws k
-mark-past ws k g h = sym (ap (λ (z : ℕ). eqb z withdrawnMark) (List·getD-eq-default ws 0 h)) ∙ mark-here ws k g
 
 -- ---- the sooner of two
 pub sooner-none : (a b : ℕ) → a ≡ 0 → b ≡ sooner a b

@@ -13,6 +13,7 @@ use borrow.Author.Tests.{leb-false, lt-ltb, le-ltb}
 use Rattle.book.specs.Basics.{pick}
 use Rattle.book.specs.Causes.{no-record, short-work, firstNumber, number}
 use Rattle.book.specs.BookLaws.{first-none}
+use Rattle.answers.specs.Answers.{refusal}
 use Rattle.offsets.specs.Answers.{Refused, offsetsWork}
 use Rattle.offsets.specs.Thirds.{Starts}
 use Rattle.offsets.specs.Inner.{Records, sooner, three, baseNumber, orElse, roundsOf, Plans, TellsOver, refused}
@@ -75,9 +76,9 @@ module _ (g : Records) (base found count : ℕ) (l : List ℤ) where
       plan-made h x y s = record { cause = long-is h ∙ work-is; filled = λ _. ((x, (y, (refl, s))), refl) }
 
 -- ---- a number that is handed over
-pub hand-refused : (cause n : ℕ) (on : Bool) (work l : List ℤ) → (cause ≡ 0 → ⊥) → TellsOver cause n on work l l (8589934592 + cause)
-hand-refused zero n on work l z = absurd (z refl)
-hand-refused (suc k) n on work l z = (Refused (suc k), (refused refl refl, refl))
+pub hand-refused : (cause n : ℕ) (on : Bool) (work l : List ℤ) {k : ℕ} → (cause ≡ 0 → ⊥) → k ≡ refusal cause → TellsOver cause n on work l l k
+hand-refused zero n on work l z e = absurd (z refl)
+hand-refused (suc j) n on work l z e = (Refused (suc j), (refused refl refl, e))
 
 -- ---- how many passes
 pub rounds-none : (cause n : ℕ) → (cause ≡ 0 → ⊥) → 0 ≡ roundsOf cause n

@@ -10,13 +10,13 @@
 --   OffsetsAnswer   the answer: so many words of the list, two to a record; no placing meets all ties; or refused with the number of the first cause
 --   OffsetsFor n w base ts work before after a
 --                   asked of those records, with so many words of work and a list that held `before`: the answer a, and the list, which holds `after`
---   toldWords a     how many words of the list are the answer's
+--   offsetsCounted a
+--                   the answer as one that counts: how many words, none for "cannot all hold", or refused
 --   AsksOffsets r base ts work before after a
 --                   asked of the register r. Over any contents: the answer fits the list, the words past it are as they were, all of them with a refusal or
 --                   "cannot all hold", and a refusal has the number of a cause. For every book that the register represents: answer and list are those of
 --                   its records
---   refusal k, toldOffsets a
---                   a refusal, and an answer, told as a number of 64 bits: the words written, 2^32 for "cannot all hold", 2^33 and the number for a refusal
+--   toldOffsets a   the answer told as a number of 64 bits: the words written, 2^32 for "cannot all hold", or a refusal
 --   OffsetsTold ws base ts work before after k
 --                   what is promised of words that a caller keeps: of a register's words k tells an answer that is promised of that register; words that are
 --                   no register's are refused with 16, and the list is left
@@ -24,13 +24,16 @@
 use mathlib.Core.Path.{_≡_}
 use mathlib.Core.List.{List, [], _∷_}
 use mathlib.Core.Bool.{Bool, false, _||_}
-use Prim.Native.Nat.{ℕ, suc, _+_, _*_, _≤_, _<_}
+use Prim.Native.Nat.{ℕ, suc, _*_, _≤_, _<_}
 use lib.Dec.{leb, ltb}
 use lib.IntN.{ℤ, pos, negℤ}
 use lib.ListN.{length, take, drop}
 use lib.Signed.{ltZ}
-use Rattle.book.specs.Causes.{Cause, no-record, withdrawn-record, bad-tie, short-work, short-list, not-open, number, Caused, firstNumber}
+use Rattle.book.specs.Causes.{Cause, no-record, withdrawn-record, bad-tie, short-work, short-list, not-open, number, firstNumber}
 use Rattle.book.specs.Book.{Book, isWithdrawn}
+use Rattle.answers.specs.Answers.{counted, Contained, pastCounts, refusal}
+use Rattle.answers.specs.declared.Counted.{Counted}
+use Rattle.answers.specs.declared.Counted.the-variants.{Count, Refused as Untold}
 use Rattle.register.specs.Representation.{Represents}
 use Rattle.register.specs.Words.{Keeps, Foreign}
 use Rattle.register.specs.declared.Register.{Register}
@@ -74,24 +77,19 @@ pub data OffsetsFor (n : ℕ) (w : ℕ → Bool) (base : ℕ) (ts : List Tie) (w
   told : firstNumber (offsetsCauses n w base ts work) ≡ 0 → n * 2 ≤ length before → OffsetsAre n base ts (limits (take (n * 2) after))
       → drop (n * 2) after ≡ drop (n * 2) before → OffsetsFor n w base ts work before after (Limits (n * 2))
 
-unfoldable pub toldWords : OffsetsAnswer → ℕ
-toldWords (Limits k) = k
-toldWords CannotHold = 0
-toldWords (Refused k) = 0
+unfoldable pub offsetsCounted : OffsetsAnswer → Counted
+offsetsCounted (Limits k) = Count k
+offsetsCounted CannotHold = Count 0
+offsetsCounted (Refused k) = Untold k
 
 pub record AsksOffsets (r : Register) (base : ℕ) (ts : List Tie) (work : ℕ) (before after : List ℤ) (a : OffsetsAnswer) : Type 0 where
-  pub fits : toldWords a ≤ length before
-  pub past : drop (toldWords a) after ≡ drop (toldWords a) before
-  pub caused : (k : ℕ) → a ≡ Refused k → Caused k
+  pub contained : Contained (length before) (counted (offsetsCounted a)) before after (offsetsCounted a)
   pub book : (b : Book) → Represents r b → OffsetsFor (b .n) (isWithdrawn (b .sheet)) base ts work before after a
 
 -- ---- told as 64 bits, of words that a caller keeps
-abbrev pub refusal : ℕ → ℕ
-refusal k = 8589934592 + k
-
 abbrev pub toldOffsets : OffsetsAnswer → ℕ
 toldOffsets (Limits k) = k
-toldOffsets CannotHold = 4294967296
+toldOffsets CannotHold = pastCounts
 toldOffsets (Refused k) = refusal k
 
 pub record OffsetsTold (ws : List ℕ) (base : ℕ) (ts : List Tie) (work : ℕ) (before after : List ℤ) (k : ℕ) : Type 0 where

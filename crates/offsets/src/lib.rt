@@ -10,7 +10,6 @@ ghost use Rattle.offsets.specs.Thirds as three;
 ghost use Rattle.offsets.specs.Finds as found;
 ghost use Rattle.offsets.specs.Answers.{OffsetsTold};
 ghost use Rattle.offsets.specs.Inner as inner;
-use register::Register;
 
 // The limits: so many ties, and so many rings either way; the words of work for each record.
 const MAX_TIES: usize = 1024;
@@ -20,16 +19,6 @@ const MAX_RINGS: i32 = 20000;
 const MIN_RINGS: i32 = -20000;
 
 const WORK_WORDS: usize = 64;
-
-// The mark of a withdrawn record, and where the marks stand among a register's words: `is_withdrawn` ties both to those of `register`.
-const WITHDRAWN_MARK: u32 = 2;
-
-const MARKS_AT: usize = 4356;
-
-// What is told in place of a count: that no placing meets all ties, and, with the number of its cause added, a refusal.
-const CANNOT_HOLD: u64 = 4294967296;
-
-const REFUSAL: u64 = 8589934592;
 
 // A number from LOW to below FAR is a distance; any other one stands for "not known".
 const FAR: i64 = 4611686018427387904;
@@ -47,37 +36,21 @@ pub struct Tie {
 
 // ---- judging
 
-// The size of a register that a caller keeps as words; 0 of words that are no register's.
-pub fn size_in(state: &[u32]) -> u16
-    ensures { λ r. ⌜ inner.SizeIn (now (state .entry)) r ⌝ }
-{
-    let loaded = Register::load(state);
-    let register = loaded.register;
-    register.size() as u16
-}
-
 // 0 of the words of a register, and 16 of any others.
 fn open_number(state: &[u32]) -> u32
     ensures { λ r. ⌜ inner.OpenNumber (now (state .entry)) r ⌝ }
 {
-    let loaded = Register::load(state);
-    let answer = loaded.answer;
-    register::number_of(answer)
+    if register::is_register(state) {
+        return 0;
+    }
+    book::NOT_OPEN
 }
 
 // Whether a record is withdrawn, by its mark among the words of its register.
 fn is_withdrawn(state: &[u32], record: u16) -> bool
     ensures { λ r. ⌜ r ≡ inner.isWithdrawnIn (now (state .entry)) «record» ⌝ }
 {
-    let k = record as usize;
-    if k >= book::MAX_RECORDS {
-        return false;
-    }
-    let i = MARKS_AT + k;
-    if i >= state.len() {
-        return false;
-    }
-    state[i] == WITHDRAWN_MARK
+    register::mark_in(state, record) == register::WITHDRAWN_MARK
 }
 
 // Of two numbers of causes the one that is looked for first; 0 is none.
@@ -392,17 +365,17 @@ fn hand_over(cause: u32, n: u16, on: bool, work: &mut [i64], list: &mut [i32]) -
     ensures { λ r. ⌜ inner.TellsOver cause n on (now (work .entry)) (now (list .entry)) (now (list .exit)) r ⌝ }
 {
     if cause != 0 {
-        return REFUSAL + cause as u64;
+        return answers::told_refusal(cause);
     }
     if on {
-        return CANNOT_HOLD;
+        return answers::PAST_COUNTS;
     }
     let k = n as usize;
     if work.len() < k * 3 {
-        return REFUSAL + book::SHORT_WORK as u64;
+        return answers::told_refusal(book::SHORT_WORK);
     }
     if list.len() < k * 2 {
-        return REFUSAL + book::SHORT_LIST as u64;
+        return answers::told_refusal(book::SHORT_LIST);
     }
     tell(k, work, list);
     (k * 2) as u64
@@ -413,7 +386,7 @@ fn hand_over(cause: u32, n: u16, on: bool, work: &mut [i64], list: &mut [i32]) -
 pub fn offsets(state: &[u32], base: u16, ties: &[Tie], work: &mut [i64], list: &mut [i32]) -> u64
     ensures { λ k. ⌜ OffsetsTold (now (state .entry)) base (now (ties .entry)) (length (now (work .entry))) (now (list .entry)) (now (list .exit)) k ⌝ }
 {
-    let n = size_in(state);
+    let n = register::size_in(state);
     let found = judge(ties, state, n);
     let cause = begin(state, n, base, found, ties.len(), work);
     let rounds = rounds_of(cause, n);

@@ -9,9 +9,7 @@ use mathlib.Core.Path.{_≡_, refl, sym, ap, subst, _∙_}
 use mathlib.Core.List.{List}
 use Prim.Native.Nat.{ℕ, _*_, _/_, _%_, _≤_, _<_}
 use native.Mathlib.Omega.{arith}
-use lib.ListN.{length, take, drop}
-use lib.Seq.{drop-at}
-use Rattle.book.specs.Causes.{short-list, number, Caused}
+use lib.ListN.{length, take}
 use Rattle.book.specs.Book.{Book}
 use Rattle.k2.specs.Bits.{bitAt}
 use Rattle.k2.specs.PairSets.{IsSet}
@@ -22,26 +20,24 @@ use Rattle.paths.specs.Relations.{cells, pairs}
 use Rattle.paths.specs.RelationLaws.{cells-set}
 use Rattle.paths.specs.PairLaws.{fit-inside}
 use Rattle.paths.specs.Verdicts.{verdict}
-use Rattle.paths.specs.Questions.{over}
+use Rattle.answers.specs.Answers.{counted, Whole}
+use Rattle.answers.specs.AnswerLaws.{contained-refused}
+use Rattle.answers.specs.declared.Counted.{Counted}
+use Rattle.answers.specs.declared.Counted.the-variants.{Count, Refused}
+use Rattle.paths.specs.Questions.{Outcome, refused, over, listAfter, countOf, Tells}
 use Rattle.reader.specs.Reads.{readAnswer}
 use Rattle.reader.specs.declared.Answer.the-variants.{Accepted as Read, Refused as Faulty}
 use Rattle.register.specs.Representation.{Represents}
 use Rattle.register.specs.declared.Register.{Register}
 use Rattle.rows.specs.Rows.{flat, pairsIn}
 use Rattle.rows.specs.RowLaws.{places-gap, pairs-in}
-use Rattle.pairs.specs.declared.PairsAnswer.{PairsAnswer}
-use Rattle.pairs.specs.declared.PairsAnswer.the-variants.{Pairs as Told, Refused as Turned}
-use Rattle.pairs.specs.Asking.{Tells, rowWords, relationAnswer, RelatesFor}
+use Rattle.query.specs.Asking.{rowWords, relationAnswer, RelatesFor}
+use Rattle.query.specs.AskingLaws.{handed-tells, whole-contained}
 use Rattle.pages.specs.Pages.{pages}
-use Rattle.pages.specs.PageCalls.{Filled, refused, filled, spaceAfter, printOutcome, told-number, told-bytes, BookPrints, bytesWritten, Prints, Content}
-use Rattle.pages.specs.PageCalls.{listing, nothing, are-pages, no-pages, readOutcome, TellsPairs, told-refusal, told-pairs, ReadsPages}
-use Rattle.pages.specs.PageCallLaws.{tells-number, Asked, asked-enough, print-refused, print-short, print-filled, read-refused, read-broken, read-short}
+use Rattle.pages.specs.PageCalls.{printOutcome, Prints, Content, listing, nothing, are-pages, no-pages, readOutcome, ReadsPages}
+use Rattle.pages.specs.PageCallLaws.{tells-number, Asked, asked-enough, print-refused, print-asked, read-refused, read-broken, read-short}
 use Rattle.pages.specs.PageCallLaws.{read-filled}
-use Rattle.pages.specs.Lines.{wordsBefore, LaidOut, no-room, laid-out, Judged, good, bad}
-use Rattle.pages.specs.declared.PagesAnswer.{PagesAnswer}
-use Rattle.pages.specs.declared.PagesAnswer.the-variants.{Refused}
-use Rattle.pages.specs.declared.ReadAnswer.{ReadAnswer}
-use Rattle.pages.specs.declared.ReadAnswer.the-variants.{Pairs, Refused as Declined}
+use Rattle.pages.specs.Lines.{wordsBefore, Judged, good, bad}
 use Rattle.pages.specs.declared.Judgement.{Judgement}
 use Rattle.pages.specs.declared.Judgement.the-variants.{Listing, Broken}
 
@@ -56,63 +52,31 @@ all-rows b r e rows R m =
     ∙ pairs-in (b .n) (cells (asked b) e) n S rows m
 
 module _ (r : Register) (text : List ℕ) (work : ℕ) (none rows before : List ℕ) (wide : length none ≡ rowWords) where
-  pub prints-refused : {k : ℕ} {q : PairsAnswer} → q ≡ Turned k → RelatesFor r (verdict text) work none rows q → Prints r text work before before (Refused k)
-  unfolding bytesWritten spaceAfter
+  pub prints-refused : {k : ℕ} {q : Counted} → q ≡ Refused k → RelatesFor r (verdict text) work none rows q → Prints r text work before before (Refused k)
+  unfolding counted countOf listAfter
   prints-refused {k} {q} e A = record {
-    fits = omega arith;
-    past = refl;
-    unchanged = λ j d. refl;
-    caused = λ j d. let z : k ≡ j = cc in A .caused j (e ∙ ap Turned z);
+    contained = contained-refused (length before) 0 before before k (A .contained .caused k e) refl;
     book = λ b R.
         let o : printOutcome b text work (length before) ≡ refused k =
         print-refused b text work (length before) k (verdict text) refl
-        (tells-number e (subst (λ (i : ℕ). Tells (relationAnswer b (verdict text) work i) q) wide (A .book b R .tells))) in
-        record { tells = rw o told-number; space = rw o refl };
+        (tells-number _ e (subst (λ (i : ℕ). q ≡ countOf (relationAnswer b (verdict text) work i)) wide (A .book b R .answer))) in
+        record { answer = rw o refl; list = rw o refl };
   }
 
-  laid-fits : {ws after : List ℕ} {a : PagesAnswer} → LaidOut text ws before after a → bytesWritten a ≤ length before
-  unfolding bytesWritten
-  laid-fits (no-room h e) = omega arith
-  laid-fits (laid-out h e) = h
+  laid-book : (b : Book) (e : Expr) → verdict text ≡ accepted e → Asked b (verdict text) work → {ws after : List ℕ} {a : Counted}
+      → ws ≡ pairs (asked b) e → Whole (pages text ws) before after a → Tells (printOutcome b text work (length before)) before after a
+  laid-book b e v q {ws} {after} {a} w L =
+      subst (λ (o : Outcome). Tells o before after a) (sym (print-asked b text work (length before) e v (q .enough)))
+      (handed-tells _ (subst (λ (l : List ℕ). Whole (pages text l) before after a) w L))
 
-  laid-past : {ws after : List ℕ} {a : PagesAnswer} → LaidOut text ws before after a → drop (bytesWritten a) after ≡ drop (bytesWritten a) before
-  unfolding bytesWritten
-  laid-past (no-room h e) = e
-  laid-past {ws} (laid-out h e) =
-      ap (drop (length (pages text ws))) e ∙ drop-at (pages text ws) (drop (length (pages text ws)) before) (length (pages text ws)) refl
-
-  laid-unchanged : {ws after : List ℕ} {a : PagesAnswer} (k : ℕ) → LaidOut text ws before after a → a ≡ Refused k → after ≡ before
-  laid-unchanged k (no-room h e) d = e
-  laid-unchanged k (laid-out h e) d = absurd (let z : _≡_ {A = ℕ} 0 1 = cc in omega arith)
-
-  laid-caused : {ws after : List ℕ} {a : PagesAnswer} (k : ℕ) → LaidOut text ws before after a → a ≡ Refused k → Caused k
-  unfolding number
-  laid-caused k (no-room h e) d = let z : k ≡ 13 = cc in (short-list, z)
-  laid-caused k (laid-out h e) d = absurd (let z : _≡_ {A = ℕ} 0 1 = cc in omega arith)
-
-  laid-book : (b : Book) (e : Expr) → verdict text ≡ accepted e → Asked b (verdict text) work → {ws after : List ℕ} {a : PagesAnswer}
-      → ws ≡ pairs (asked b) e → LaidOut text ws before after a → BookPrints b text work before after a
-  unfolding spaceAfter
-  laid-book b e v q w (no-room h z) =
-      let o = print-short b text work (length before) e v (q .enough) (subst (λ (l : List ℕ). length before < length (pages text l)) w h) in
-      record { tells = rw o told-number; space = rw o z }
-  laid-book b e v q {ws} {after} w (laid-out h z) =
-      let o : printOutcome b text work (length before) ≡ filled (pages text ws) =
-      print-filled b text work (length before) e v (q .enough) (subst (λ (l : List ℕ). length (pages text l) ≤ length before) w h)
-      ∙ ap (λ (l : List ℕ). filled (pages text l)) (sym w) in
-      record { tells = rw o told-bytes; space = rw o z }
-
-  pub prints-laid : {t : ℕ} {q : PairsAnswer} {after : List ℕ} {a : PagesAnswer}
-      → q ≡ Told t → take rowWords rows ≡ rows → RelatesFor r (verdict text) work none rows q
-      → LaidOut text (pairsIn 1024 rows) before after a → Prints r text work before after a
+  pub prints-laid : {t : ℕ} {q : Counted} {after : List ℕ} {a : Counted}
+      → q ≡ Count t → take rowWords rows ≡ rows → RelatesFor r (verdict text) work none rows q
+      → Whole (pages text (pairsIn 1024 rows)) before after a → Prints r text work before after a
   prints-laid {t} {q} {after} {a} d whole A L = record {
-    fits = laid-fits L;
-    past = laid-past L;
-    unchanged = λ k e. laid-unchanged k L e;
-    caused = λ k e. laid-caused k L e;
+    contained = whole-contained L;
     book = λ b R.
         let B = A .book b R in
-        let s = asked-enough b (verdict text) work t d (subst (λ (i : ℕ). Tells (relationAnswer b (verdict text) work i) q) wide (B .tells)) in
+        let s = asked-enough b (verdict text) work t d (subst (λ (i : ℕ). q ≡ countOf (relationAnswer b (verdict text) work i)) wide (B .answer)) in
         let m : bitAt rows ≡ flat (cells (asked b) (s .syntax)) = ap bitAt (sym whole) ∙ B .rows (s .syntax) (s .is) t d in
         laid-book b (s .syntax) (s .is) s (all-rows b r (s .syntax) rows R m) L;
   }
@@ -123,43 +87,46 @@ not-faulty : {v : Verdict} {k : ℕ} (e : Expr) → v ≡ accepted e → readAns
 unfolding readAnswer
 not-faulty e v q = let a = sym (ap readAnswer v) ∙ q in let z : _≡_ {A = ℕ} 0 1 = cc in omega arith
 
-pub reads-refused : (text bytes list : List ℕ) (k : ℕ) → readAnswer (verdict text) ≡ Faulty k → ReadsPages text bytes list list (Declined k)
-unfolding spaceAfter
+pub reads-refused : (text bytes list : List ℕ) (k : ℕ) → readAnswer (verdict text) ≡ Faulty k → ReadsPages text bytes list list (Refused k)
+unfolding countOf listAfter
 reads-refused text bytes list k e =
     let o = read-refused (verdict text) k nothing (length list) e in
-    record { content = nothing; holds = λ x v. absurd (not-faulty x v e); tells = rw o told-refusal; list = rw o refl }
+    record { content = nothing; holds = λ x v. absurd (not-faulty x v e); tells = record { answer = rw o refl; list = rw o refl } }
 
 module _ (text bytes list : List ℕ) (e : Expr) (v : verdict text ≡ accepted e) where
-  outcome : (c : Content) {o : Filled} → readOutcome (accepted e) c (length list) ≡ o → readOutcome (verdict text) c (length list) ≡ o
+  outcome : (c : Content) {o : Outcome} → readOutcome (accepted e) c (length list) ≡ o → readOutcome (verdict text) c (length list) ≡ o
   outcome c q = ap (λ (w : Verdict). readOutcome w c (length list)) v ∙ q
 
-  pub reads-broken : {j : Judgement} → j ≡ Broken → Judged text bytes j → ReadsPages text bytes list list (Declined 14)
-  unfolding spaceAfter
+  pub reads-broken : {j : Judgement} → j ≡ Broken → Judged text bytes j → ReadsPages text bytes list list (Refused 14)
+  unfolding countOf listAfter
   reads-broken q (good l s P) = absurd (let z : _≡_ {A = ℕ} 0 1 = cc in omega arith)
   reads-broken q (bad n) =
       let o = outcome nothing (read-broken e (length list)) in
-      record { content = nothing; holds = λ x u. no-pages n; tells = rw o told-refusal; list = rw o refl }
+      record { content = nothing; holds = λ x u. no-pages n; tells = record { answer = rw o refl; list = rw o refl } }
 
-  pub reads-short : {j : Judgement} {k : ℕ} → j ≡ Listing k → Judged text bytes j → length list < k → ReadsPages text bytes list list (Declined 13)
-  unfolding spaceAfter
+  pub reads-short : {j : Judgement} {k : ℕ} → j ≡ Listing k → Judged text bytes j → length list < k → ReadsPages text bytes list list (Refused 13)
+  unfolding countOf listAfter
   reads-short q (bad n) h = absurd (let z : _≡_ {A = ℕ} 0 1 = cc in omega arith)
   reads-short {k = k} q (good l s P) h =
       let z : length l ≡ k = cc in
       let o = outcome (listing l) (read-short e l (length list) (omega arith)) in
-      record { content = listing l; holds = λ x u. are-pages P; tells = rw o told-refusal; list = rw o refl }
+      record { content = listing l; holds = λ x u. are-pages P; tells = record { answer = rw o refl; list = rw o refl } }
 
   pub reads-pairs : {j : Judgement} {k : ℕ} {after : List ℕ} → j ≡ Listing k → Judged text bytes j → k ≤ length list
-      → after ≡ over (wordsBefore bytes (length bytes / 73)) list → ReadsPages text bytes list after (Pairs k)
-  unfolding spaceAfter
+      → after ≡ over (wordsBefore bytes (length bytes / 73)) list → ReadsPages text bytes list after (Count k)
+  unfolding countOf listAfter
   reads-pairs q (bad n) h w = absurd (let z : _≡_ {A = ℕ} 0 1 = cc in omega arith)
   reads-pairs {k = k} {after} q (good l s P) h w =
       let z : length l ≡ k = cc in
       let o = outcome (listing l) (read-filled e l (length list) (omega arith)) in
-      let t : TellsPairs (filled l) (Pairs k) = subst (λ (i : ℕ). TellsPairs (filled l) (Pairs i)) z told-pairs in
-      record { content = listing l; holds = λ x u. are-pages P; tells = rw o t; list = rw o (w ∙ ap (λ (m : List ℕ). over m list) (sym s)) }
+      record {
+        content = listing l;
+        holds = λ x u. are-pages P;
+        tells = record { answer = rw o (ap Count (sym z)); list = rw o (w ∙ ap (λ (m : List ℕ). over m list) (sym s)) };
+      }
 
 -- an accepted text is an expression's
-pub reads-accepted : (text bytes list : List ℕ) {after : List ℕ} {a : ReadAnswer} {n : ℕ} → readAnswer (verdict text) ≡ Read n
+pub reads-accepted : (text bytes list : List ℕ) {after : List ℕ} {a : Counted} {n : ℕ} → readAnswer (verdict text) ≡ Read n
     → ((e : Expr) → verdict text ≡ accepted e → ReadsPages text bytes list after a) → ReadsPages text bytes list after a
 unfolding readAnswer
 reads-accepted text bytes list q f = let v = read-expression (verdict text) q in f (v .0) (v .1)

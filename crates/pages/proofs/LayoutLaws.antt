@@ -10,8 +10,8 @@ use Rattle.k2.specs.Bits.{bitAt}
 use Rattle.k2.specs.PairSets.{ifSet}
 use Rattle.k2.specs.PairSetLaws.{Within, ends, goes, within-append, within-length}
 use Rattle.rows.specs.Rows.{pairsIn}
-use Rattle.report.specs.Written.{Wrote}
-use Rattle.report.specs.WrittenLaws.{wrote-as}
+use Rattle.answers.specs.Written.{Wrote}
+use Rattle.answers.specs.WrittenLaws.{wrote-as}
 use Rattle.pages.specs.Pages.{pairLine, headLine, pages}
 use Rattle.pages.specs.Lines.{pairWords, mostLines, linesOf, pairsBefore, lineOf, ahead, Gathered, Laid}
 use Rattle.pages.specs.LineLaws.{line-head, line-pairs, length-head-line, length-pair-line, length-pages}

@@ -11,7 +11,7 @@ use lib.Seq.{take-suc, take-take, split-at, getD-drop, getD-take, drop-drop, len
 use Rattle.k2.specs.PairSetLaws.{Within, ends, goes, within-length}
 use Rattle.paths.specs.Questions.{over}
 use Rattle.report.specs.Report.{space}
-use Rattle.report.specs.Written.{Wrote, written}
+use Rattle.answers.specs.Written.{Wrote, written}
 use Rattle.pages.specs.Pages.{joined}
 use Rattle.pages.specs.Lines.{pairWords, valueFrom, value, cellWord, cellWords, after}
 use Rattle.pages.specs.LineLaws.{joined-add, joined-next}

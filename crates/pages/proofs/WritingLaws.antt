@@ -8,8 +8,8 @@ use native.Mathlib.Omega.{arith}
 use lib.ListN.{length, take, drop, getD, set, length-append, length-take, drop-of-length-le, replicate-append-replicate}
 use lib.Seq.{take-all, length-take-le, getD-take}
 use Rattle.report.specs.Report.{space, newline, line, lines}
-use Rattle.report.specs.Written.{Wrote, written}
-use Rattle.report.specs.WrittenLaws.{wrote-byte, wrote-then, wrote-as}
+use Rattle.answers.specs.Written.{Wrote, written}
+use Rattle.answers.specs.WrittenLaws.{wrote-byte, wrote-then, wrote-as}
 use Rattle.pages.specs.Pages.{blanks, padded, rightAligned, pairCell, pairLine, headLine}
 use Rattle.pages.specs.Lines.{pairWords, Small}
 use Rattle.pages.specs.LineLaws.{length-cells}

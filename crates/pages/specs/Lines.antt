@@ -23,8 +23,6 @@
 --   Laid f text i p before after q
 --                        line i was laid where it belongs, for every list whose pairs from this line on are the places of f from p on; those of the next lines
 --                        are from q on
---   LaidOut text ws before after a
---                        the pages of the text and the words were laid over the front of the space, or it cannot hold them and is as it was
 --   Rising low ws r      the words ws ascend from `low` on below `pairWords` and r is the number after them; or they do not, and r is above every number
 --   Line text bytes i last low count next
 --                        the line stands, `count` pairs are on it and `next` is the number after them; or it does not, and `next` is above every number
@@ -38,12 +36,9 @@ use lib.ListN.{length, take, drop, getD}
 use Rattle.book.specs.Basics.{pick}
 use Rattle.k2.specs.PairSets.{ifSet}
 use Rattle.k2.specs.PairSetLaws.{Within}
-use Rattle.paths.specs.Questions.{over}
 use Rattle.report.specs.Report.{space}
-use Rattle.report.specs.Written.{Wrote}
-use Rattle.pages.specs.Pages.{joined, parts, linePairs, pagePairs, recordWidth, pairLine, headLine, pages, IsPages}
-use Rattle.pages.specs.declared.PagesAnswer.{PagesAnswer}
-use Rattle.pages.specs.declared.PagesAnswer.the-variants.{Bytes, Refused}
+use Rattle.answers.specs.Written.{Wrote}
+use Rattle.pages.specs.Pages.{joined, parts, linePairs, pagePairs, recordWidth, pairLine, headLine, IsPages}
 use Rattle.pages.specs.declared.Judgement.{Judgement}
 use Rattle.pages.specs.declared.Judgement.the-variants.{Listing, Broken}
 
@@ -118,10 +113,6 @@ pub record Laid (f : ℕ → ℕ) (text : List ℕ) (i p : ℕ) (before after : 
   pub in-range : q ≤ pairWords
   pub lays : (ws : List ℕ) → drop (pairsBefore i) ws ≡ ahead f p (pairWords - p)
       → Wrote (lineBytes * i) (lineOf text ws i) before after (lineBytes * i + lineBytes) × (drop (pairsBefore (i + 1)) ws ≡ ahead f q (pairWords - q))
-
-pub data LaidOut (text ws before after : List ℕ) : PagesAnswer → Type 0 where
-  no-room : length before < length (pages text ws) → after ≡ before → LaidOut text ws before after (Refused 13)
-  laid-out : length (pages text ws) ≤ length before → after ≡ over (pages text ws) before → LaidOut text ws before after (Bytes (length (pages text ws)))
 
 pub data Rising (low : ℕ) (ws : List ℕ) : ℕ → Type 0 where
   up : Within low ws pairWords → Rising low ws (after low ws)

@@ -1,8 +1,8 @@
 -- Laws of the two calls: which outcome it is, by the verdict, the lent lengths and what the bytes hold.
 --   tells-number         the number of a refused question
 --   Asked, asked-enough  what is so where a relation's pairs are told
---   print-short, print-filled
---                        13, or the pages
+--   print-asked, print-short, print-filled
+--                        the pages handed over whole: 13, or the pages
 --   print-refused        refused as the pair question is
 --   print-in-order, read-in-order
 --                        the causes stand in their order
@@ -26,33 +26,35 @@ use Rattle.paths.specs.Grammar.{Verdict, accepted, long, outside, large, verdic
 use Rattle.paths.specs.Chains.{asked}
 use Rattle.paths.specs.Relations.{pairs}
 use Rattle.paths.specs.Verdicts.{verdict}
-use Rattle.paths.specs.Questions.{Outcome, refused as turned, paired, pairsOf, pairsCauses}
+use Rattle.answers.specs.declared.Counted.{Counted}
+use Rattle.answers.specs.declared.Counted.the-variants.{Count, Refused}
+use Rattle.paths.specs.Questions.{Outcome, refused, paired, replied, unless, pairsOf, pairsCauses, countOf}
 use Rattle.reader.specs.Reads.{readAnswer}
 use Rattle.reader.specs.declared.Answer.the-variants.{Refused as Faulty}
-use Rattle.pairs.specs.declared.PairsAnswer.{PairsAnswer}
-use Rattle.pairs.specs.declared.PairsAnswer.the-variants.{Pairs, Refused}
-use Rattle.pairs.specs.Asking.{Tells, told-number, told-pairs, rowWords, relationAnswer, relationCauses}
-use Rattle.pairs.specs.AskingLaws.{relation-short, relation-paired}
+use Rattle.query.specs.Asking.{rowWords, relationAnswer, relationCauses}
+use Rattle.query.specs.AskingLaws.{relation-short, relation-paired}
 use Rattle.pages.specs.Pages.{pages}
-use Rattle.pages.specs.PageCalls.{refused, filled, printCauses, printOutcome, Content, listing, nothing, wordsIn, isNothing, readOrder, readCauses}
+use Rattle.pages.specs.PageCalls.{filled, printCauses, printOutcome, Content, listing, nothing, wordsIn, isNothing, readOrder, readCauses}
 use Rattle.pages.specs.PageCalls.{readOutcome}
 
 -- ---- printing
-pub tells-number : {o : Outcome} {a : PairsAnswer} {k : ℕ} → a ≡ Refused k → Tells o a → o ≡ turned k
-tells-number {k = k} e (told-number {k = j}) = let z : j ≡ k = cc in ap turned z
-tells-number e told-pairs = absurd (let z : _≡_ {A = ℕ} 0 1 = cc in omega arith)
+pub tells-number : (o : Outcome) {a : Counted} {k : ℕ} → a ≡ Refused k → a ≡ countOf o → o ≡ refused k
+unfolding countOf
+tells-number (refused j) {k = k} e T = let z : j ≡ k = cc in ap refused z
+tells-number (paired t ws) e T = absurd (let z : _≡_ {A = ℕ} 0 1 = cc in omega arith)
+tells-number (replied t) e T = absurd (let z : _≡_ {A = ℕ} 0 1 = cc in omega arith)
 
 pub record Asked (b : Book) (v : Verdict) (work : ℕ) : Type 0 where
   pub syntax : Expr
   pub is : v ≡ accepted syntax
   pub enough : 32 * treeUnit (b .n) ≤ work
 
-tells-pairs : {o : Outcome} {a : PairsAnswer} {t k : ℕ} → a ≡ Pairs t → Tells o a → o ≡ turned k → ⊥
-tells-pairs e told-number q = let z : _≡_ {A = ℕ} 0 1 = cc in omega arith
-tells-pairs e told-pairs q = let z : _≡_ {A = ℕ} 0 1 = cc in omega arith
+tells-pairs : {o : Outcome} {a : Counted} {t k : ℕ} → a ≡ Count t → a ≡ countOf o → o ≡ refused k → ⊥
+unfolding countOf
+tells-pairs {t = t} {k} e T q = let y : Count t ≡ Refused k = sym e ∙ T ∙ ap countOf q in let z : _≡_ {A = ℕ} 0 1 = cc in omega arith
 
 -- where the pairs of a relation are told, the text is an expression and the work enough
-pub asked-enough : (b : Book) (v : Verdict) (work t : ℕ) {a : PairsAnswer} → a ≡ Pairs t → Tells (relationAnswer b v work rowWords) a → Asked b v work
+pub asked-enough : (b : Book) (v : Verdict) (work t : ℕ) {a : Counted} → a ≡ Count t → a ≡ countOf (relationAnswer b v work rowWords) → Asked b v work
 unfolding relationAnswer relationCauses verdictCause firstNumber number
 asked-enough b (accepted e) work t q T = go (decLt work (32 * treeUnit (b .n)))
   where
@@ -63,10 +65,10 @@ asked-enough b long work t q T = absurd (tells-pairs q T refl)
 asked-enough b outside work t q T = absurd (tells-pairs q T refl)
 asked-enough b large work t q T = absurd (tells-pairs q T refl)
 
-number-same : {j k : ℕ} → turned j ≡ turned k → j ≡ k
+number-same : {j k : ℕ} → refused j ≡ refused k → j ≡ k
 number-same e = cc
 
-paired-refused : {t k : ℕ} {ws : List ℕ} → paired t ws ≡ turned k → ⊥
+paired-refused : {t k : ℕ} {ws : List ℕ} → paired t ws ≡ refused k → ⊥
 paired-refused e = let z : _≡_ {A = ℕ} 0 1 = cc in omega arith
 
 module _ (b : Book) (text : List ℕ) (work room : ℕ) where
@@ -76,16 +78,21 @@ module _ (b : Book) (text : List ℕ) (work room : ℕ) where
     print-little h = rw (v, lt-ltb work (32 * treeUnit (b .n)) h)
 
     module _ (h : 32 * treeUnit (b .n) ≤ work) where
-      pub print-short : room < length (pages text (pairs (asked b) e)) → printOutcome b text work room ≡ refused 13
+      pub print-asked : printOutcome b text work room
+          ≡ unless (firstNumber ((short-list, ltb room (length (pages text (pairs (asked b) e)))) ∷ [])) (filled (pages text (pairs (asked b) e)))
       unfolding printOutcome printCauses pairsCauses verdictCause firstNumber number pairsOf
-      print-short l = rw (v, le-ltb work (32 * treeUnit (b .n)) h, lt-ltb room (length (pages text (pairs (asked b) e))) l)
+      print-asked = rw (v, le-ltb work (32 * treeUnit (b .n)) h)
+
+      pub print-short : room < length (pages text (pairs (asked b) e)) → printOutcome b text work room ≡ refused 13
+      unfolding firstNumber number
+      print-short l = print-asked ∙ rw (lt-ltb room (length (pages text (pairs (asked b) e))) l)
 
       pub print-filled : length (pages text (pairs (asked b) e)) ≤ room → printOutcome b text work room ≡ filled (pages text (pairs (asked b) e))
-      unfolding printOutcome printCauses pairsCauses verdictCause firstNumber number pairsOf
-      print-filled l = rw (v, le-ltb work (32 * treeUnit (b .n)) h, le-ltb room (length (pages text (pairs (asked b) e))) l)
+      unfolding firstNumber number
+      print-filled l = print-asked ∙ rw (le-ltb room (length (pages text (pairs (asked b) e))) l)
 
   -- printing is refused as the relation is
-  pub print-refused : (k : ℕ) (v : Verdict) → verdict text ≡ v → relationAnswer b v work rowWords ≡ turned k → printOutcome b text work room ≡ refused k
+  pub print-refused : (k : ℕ) (v : Verdict) → verdict text ≡ v → relationAnswer b v work rowWords ≡ refused k → printOutcome b text work room ≡ refused k
   unfolding relationAnswer relationCauses printOutcome printCauses pairsCauses verdictCause firstNumber number
   print-refused k long v q = let z : 10 ≡ k = number-same q in rw v (ap refused z)
   print-refused k outside v q = let z : 9 ≡ k = number-same q in rw v (ap refused z)

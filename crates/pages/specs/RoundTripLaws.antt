@@ -22,21 +22,19 @@ use Rattle.paths.specs.Grammar.{Verdict, accepted, long, outside, large, verdic
 use Rattle.paths.specs.Chains.{asked}
 use Rattle.paths.specs.Relations.{cells, pairs}
 use Rattle.paths.specs.Verdicts.{verdict}
-use Rattle.paths.specs.Questions.{pairsOf, over}
+use Rattle.answers.specs.declared.Counted.{Counted}
+use Rattle.answers.specs.declared.Counted.the-variants.{Count, Refused}
+use Rattle.paths.specs.Questions.{Outcome, refused, pairsOf, over, listAfter, countOf}
 use Rattle.register.specs.Representation.{Represents}
 use Rattle.register.specs.declared.Register.{Register}
-use Rattle.pairs.specs.Asking.{relationAnswer, relationCauses, rowWords}
-use Rattle.pairs.specs.AskingLaws.{relation-short}
+use Rattle.query.specs.Asking.{relationAnswer, relationCauses, rowWords}
+use Rattle.query.specs.AskingLaws.{relation-short}
 use Rattle.pages.specs.Pages.{pages, IsPages}
-use Rattle.pages.specs.PageCalls.{Filled, refused, filled, spaceAfter, printOutcome, TellsBytes, told-number, told-bytes, Prints, Content, listing}
-use Rattle.pages.specs.PageCalls.{nothing, Holds, are-pages, no-pages, readCauses, readOutcome, TellsPairs, told-refusal, told-pairs, ReadsPages}
+use Rattle.pages.specs.PageCalls.{filled, printOutcome, Prints, Content, listing, nothing, Holds, are-pages, no-pages, readCauses, readOutcome}
+use Rattle.pages.specs.PageCalls.{ReadsPages}
 use Rattle.pages.specs.PageCallLaws.{print-refused, print-short, print-filled, read-broken, read-short, read-filled}
 use Rattle.pages.specs.Lines.{linesOf, wordsBefore}
 use Rattle.pages.specs.ReadLaws.{pages-stand}
-use Rattle.pages.specs.declared.PagesAnswer.{PagesAnswer}
-use Rattle.pages.specs.declared.PagesAnswer.the-variants.{Bytes}
-use Rattle.pages.specs.declared.ReadAnswer.{ReadAnswer}
-use Rattle.pages.specs.declared.ReadAnswer.the-variants.{Pairs}
 
 -- ---- one list
 pages-only : {text bytes l m : List ℕ} → IsPages text bytes l → IsPages text bytes m → l ≡ m
@@ -57,16 +55,13 @@ holds-only (no-pages n) (are-pages {l = l} P) = absurd (n l P)
 holds-only (no-pages n) (no-pages m) = refl
 
 -- ---- what was printed
-not-refused : {o : Filled} {a : PagesAnswer} {j k : ℕ} → TellsBytes o a → a ≡ Bytes k → o ≡ refused j → ⊥
-not-refused told-number e q = let z : _≡_ {A = ℕ} 0 1 = cc in omega arith
-not-refused told-bytes e q = let z : _≡_ {A = ℕ} 0 1 = cc in omega arith
+not-refused : (o : Outcome) {j k : ℕ} → Count k ≡ countOf o → o ≡ refused j → ⊥
+unfolding countOf
+not-refused o {j} {k} T q = let y : Count k ≡ Refused j = T ∙ ap countOf q in let z : _≡_ {A = ℕ} 0 1 = cc in omega arith
 
-bytes-told : {o : Filled} {a : PagesAnswer} {k : ℕ} {ws : List ℕ} → TellsBytes o a → a ≡ Bytes k → o ≡ filled ws → k ≡ length ws
-bytes-told told-number e q = absurd (let z : _≡_ {A = ℕ} 0 1 = cc in omega arith)
-bytes-told {k = k} {ws} (told-bytes {ws = vs}) e q =
-    let y : length vs ≡ k = cc in
-    let z : vs ≡ ws = cc in
-    sym y ∙ ap length z
+count-told : (o : Outcome) {k : ℕ} {ws : List ℕ} → Count k ≡ countOf o → o ≡ filled ws → k ≡ length ws
+unfolding countOf
+count-told o {k} {ws} T q = let y : Count k ≡ Count (length ws) = T ∙ ap countOf q in cc
 
 record Printed (b : Book) (text : List ℕ) (work room k : ℕ) : Type 0 where
   pub syntax : Expr
@@ -75,19 +70,19 @@ record Printed (b : Book) (text : List ℕ) (work room k : ℕ) : Type 0 where
   pub size : k ≡ length (pages text (pairs (asked b) syntax))
 
 printed : (b : Book) (text : List ℕ) (work room k : ℕ) (v : Verdict) → verdict text ≡ v
-    → TellsBytes (printOutcome b text work room) (Bytes k) → Printed b text work room k
+    → Count k ≡ countOf (printOutcome b text work room) → Printed b text work room k
 unfolding relationAnswer relationCauses verdictCause firstNumber number
-printed b text work room k long v T = absurd (not-refused T refl (print-refused b text work room 10 long v refl))
-printed b text work room k outside v T = absurd (not-refused T refl (print-refused b text work room 9 outside v refl))
-printed b text work room k large v T = absurd (not-refused T refl (print-refused b text work room 10 large v refl))
+printed b text work room k long v T = absurd (not-refused _ T (print-refused b text work room 10 long v refl))
+printed b text work room k outside v T = absurd (not-refused _ T (print-refused b text work room 9 outside v refl))
+printed b text work room k large v T = absurd (not-refused _ T (print-refused b text work room 10 large v refl))
 printed b text work room k (accepted e) v T = go (decLt work (32 * treeUnit (b .n))) (decLt room (length (pages text (pairs (asked b) e))))
   where
     go : Dec (work < 32 * treeUnit (b .n)) → Dec (room < length (pages text (pairs (asked b) e))) → Printed b text work room k
-    go (yes h) d = absurd (not-refused T refl (print-refused b text work room 12 (accepted e) v (relation-short b work rowWords e h)))
-    go (no h) (yes d) = absurd (not-refused T refl (print-short b text work room e v (omega arith) d))
+    go (yes h) d = absurd (not-refused _ T (print-refused b text work room 12 (accepted e) v (relation-short b work rowWords e h)))
+    go (no h) (yes d) = absurd (not-refused _ T (print-short b text work room e v (omega arith) d))
     go (no h) (no d) =
         let q = print-filled b text work room e v (omega arith) (omega arith) in
-        record { syntax = e; is = v; outcome = q; size = bytes-told T refl q }
+        record { syntax = e; is = v; outcome = q; size = count-told (printOutcome b text work room) {ws = pages text (pairs (asked b) e)} T q }
 
 -- the pairs of a book that is represented are an ascending list of different pairs below 1,024
 pairs-pages : {r : Register} (b : Book) (text : List ℕ) (e : Expr) → Represents r b → IsPages text (pages text (pairs (asked b) e)) (pairs (asked b) e)
@@ -97,20 +92,16 @@ pairs-pages b text e R =
     let q = listed-below (b .n) (cells (asked b) e) n in
     record { ascending = listed-rises (b .n) (cells (asked b) e) n; below = λ w i. let z = q w i in (omega (arith, z .0), omega (arith, z .1)); are = refl }
 
-pairs-told : {o : Filled} {a : ReadAnswer} {ws : List ℕ} → TellsPairs o a → o ≡ filled ws → a ≡ Pairs (length ws)
-pairs-told told-refusal q = absurd (let z : _≡_ {A = ℕ} 0 1 = cc in omega arith)
-pairs-told {ws = ws} (told-pairs {ws = vs}) q = let z : vs ≡ ws = cc in ap (λ (l : List ℕ). Pairs (length l)) z
-
-pub print-read : {r : Register} {b : Book} {text before after : List ℕ} {work k : ℕ} → Represents r b → Prints r text work before after (Bytes k)
-    → {list list′ : List ℕ} {a : ReadAnswer} → ReadsPages text (take k after) list list′ a → length (pairsOf b (verdict text)) ≤ length list
-    → (a ≡ Pairs (length (pairsOf b (verdict text)))) × (list′ ≡ over (pairsOf b (verdict text)) list)
-unfolding spaceAfter pairsOf
-print-read {r} {b} {text} {before} {after} {work} {k} R P {list} {list′} {a} Q room =
+pub print-read : {r : Register} {b : Book} {text before after : List ℕ} (work : ℕ) {k : ℕ} → Represents r b → Prints r text work before after (Count k)
+    → {list list′ : List ℕ} {a : Counted} → ReadsPages text (take k after) list list′ a → length (pairsOf b (verdict text)) ≤ length list
+    → (a ≡ Count (length (pairsOf b (verdict text)))) × (list′ ≡ over (pairsOf b (verdict text)) list)
+unfolding countOf listAfter pairsOf
+print-read {r} {b} {text} {before} {after} work {k} R P {list} {list′} {a} Q room =
     let B = P .book b R in
-    let p = printed b text work (length before) k (verdict text) refl (B .tells) in
+    let p = printed b text work (length before) k (verdict text) refl (B .answer) in
     let e = p .syntax in
     let l = pairs (asked b) e in
-    let s : after ≡ over (pages text l) before = B .space ∙ ap (λ (o : Filled). spaceAfter o before) (p .outcome) in
+    let s : after ≡ over (pages text l) before = B .list ∙ ap (λ (o : Outcome). listAfter o before) (p .outcome) in
     let t : take k after ≡ pages text l = ap (take k) s ∙ take-at (pages text l) (drop (length (pages text l)) before) k (sym (p .size)) in
     let H : Holds text (take k after) (listing l) = subst (λ (bs : List ℕ). Holds text bs (listing l)) (sym t) (are-pages (pairs-pages b text e R)) in
     let c : Q .content ≡ listing l = holds-only (Q .holds e (p .is)) H in
@@ -118,18 +109,11 @@ print-read {r} {b} {text} {before} {after} {work} {k} R P {list} {list′} {a} Q
     let o : readOutcome (verdict text) (Q .content) (length list) ≡ filled l =
     ap (λ (v : Verdict). readOutcome v (Q .content) (length list)) (p .is) ∙ ap (λ (x : Content). readOutcome (accepted e) x (length list)) c
     ∙ read-filled e l (length list) (subst (λ (m : List ℕ). length m ≤ length list) w room) in (
-      pairs-told (Q .tells) o ∙ ap (λ (m : List ℕ). Pairs (length m)) (sym w),
-      Q .list ∙ ap (λ (x : Filled). spaceAfter x list) o ∙ ap (λ (m : List ℕ). over m list) (sym w),
+      Q .tells .answer ∙ ap countOf o ∙ ap (λ (m : List ℕ). Count (length m)) (sym w),
+      Q .tells .list ∙ ap (λ (x : Outcome). listAfter x list) o ∙ ap (λ (m : List ℕ). over m list) (sym w),
     )
 
 -- ---- what was read
-not-declined : {o : Filled} {a : ReadAnswer} {j k : ℕ} → TellsPairs o a → a ≡ Pairs k → o ≡ refused j → ⊥
-not-declined told-refusal e q = let z : _≡_ {A = ℕ} 0 1 = cc in omega arith
-not-declined told-pairs e q = let z : _≡_ {A = ℕ} 0 1 = cc in omega arith
-
-length-told : {k n : ℕ} → Pairs k ≡ Pairs n → k ≡ n
-length-told e = cc
-
 record Found (v : Verdict) (c : Content) (room k : ℕ) : Type 0 where
   pub syntax : Expr
   pub words : List ℕ
@@ -138,29 +122,29 @@ record Found (v : Verdict) (c : Content) (room k : ℕ) : Type 0 where
   pub outcome : readOutcome v c room ≡ filled words
   pub size : k ≡ length words
 
-found : (v : Verdict) (c : Content) (room k : ℕ) → TellsPairs (readOutcome v c room) (Pairs k) → Found v c room k
+found : (v : Verdict) (c : Content) (room k : ℕ) → Count k ≡ countOf (readOutcome v c room) → Found v c room k
 unfolding readOutcome readCauses verdictCause firstNumber number
-found long c room k T = absurd (not-declined T refl refl)
-found outside c room k T = absurd (not-declined T refl refl)
-found large c room k T = absurd (not-declined T refl refl)
-found (accepted e) nothing room k T = absurd (not-declined T refl (read-broken e room))
+found long c room k T = absurd (not-refused _ T refl)
+found outside c room k T = absurd (not-refused _ T refl)
+found large c room k T = absurd (not-refused _ T refl)
+found (accepted e) nothing room k T = absurd (not-refused _ T (read-broken e room))
 found (accepted e) (listing l) room k T = go (decLt room (length l))
   where
     go : Dec (room < length l) → Found (accepted e) (listing l) room k
-    go (yes h) = absurd (not-declined T refl (read-short e l room h))
+    go (yes h) = absurd (not-refused _ T (read-short e l room h))
     go (no h) =
         let q = read-filled e l room (omega arith) in
-        record { syntax = e; words = l; is = refl; content = refl; outcome = q; size = length-told (pairs-told T q) }
+        record { syntax = e; words = l; is = refl; content = refl; outcome = q; size = count-told (readOutcome (accepted e) (listing l) room) {ws = l} T q }
 
 held : {text bytes : List ℕ} {c : Content} {l : List ℕ} → Holds text bytes c → c ≡ listing l → IsPages text bytes l
 held {text} {bytes} {l = l} (are-pages {l = m} P) e = let z : m ≡ l = cc in subst (IsPages text bytes) z P
 held (no-pages n) e = absurd (let z : _≡_ {A = ℕ} 0 1 = cc in omega arith)
 
-pub read-print : {text bytes list list′ : List ℕ} {k : ℕ} → ReadsPages text bytes list list′ (Pairs k) → pages text (take k list′) ≡ bytes
-unfolding spaceAfter
+pub read-print : {text bytes list list′ : List ℕ} {k : ℕ} → ReadsPages text bytes list list′ (Count k) → pages text (take k list′) ≡ bytes
+unfolding listAfter
 read-print {text} {bytes} {list} {list′} {k} Q =
-    let f = found (verdict text) (Q .content) (length list) k (Q .tells) in
+    let f = found (verdict text) (Q .content) (length list) k (Q .tells .answer) in
     let l = f .words in
-    let s : list′ ≡ over l list = Q .list ∙ ap (λ (o : Filled). spaceAfter o list) (f .outcome) in
+    let s : list′ ≡ over l list = Q .tells .list ∙ ap (λ (o : Outcome). listAfter o list) (f .outcome) in
     let t : take k list′ ≡ l = ap (take k) s ∙ take-at l (drop (length l) list) k (sym (f .size)) in
     ap (pages text) t ∙ sym (held (Q .holds (f .syntax) (f .is)) (f .content) .are)

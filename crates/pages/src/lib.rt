@@ -5,17 +5,18 @@ ghost use mathlib.Core.Bool.{true};
 ghost use Prim.Native.Nat.{ℕ, _+_, _*_, _≤_, _<_, min};
 ghost use lib.ListN.{length, take, drop, getD};
 ghost use Rattle.k2.specs.Bits.{bitAt};
+ghost use Rattle.answers.specs.Answers.{Whole};
 ghost use Rattle.paths.specs.Expressions.{Expr};
 ghost use Rattle.paths.specs.Grammar.{accepted};
 ghost use Rattle.paths.specs.Verdicts.{verdict};
 ghost use Rattle.paths.specs.Questions.{over};
 ghost use Rattle.rows.specs.Rows.{pairsIn};
 ghost use Rattle.report.specs.Report.{decimal};
-ghost use Rattle.report.specs.Written.{Wrote};
+ghost use Rattle.answers.specs.Written.{Wrote};
 ghost use Rattle.pages.specs.Pages.{blanks, rightAligned, recordCell, pairCell, pairLine, headLine, pages};
 ghost use Rattle.pages.specs.PageCalls.{Prints, ReadsPages};
-ghost use Rattle.pages.specs.Lines.{linesOf, value, cellWord, cellWords, wordsAt, wordsBefore, Gathered, Laid, LaidOut, Rising, Line, Judged};
-use pairs::PairsAnswer;
+ghost use Rattle.pages.specs.Lines.{linesOf, value, cellWord, cellWords, wordsAt, wordsBefore, Gathered, Laid, Rising, Line, Judged};
+use answers::Counted;
 use register::Register;
 
 // The bytes of a line with its line feed; those of the expression, of a line's pairs, of a pair and of a page's number.
@@ -44,18 +45,6 @@ const PAIR_WORDS: usize = 1048576;
 const PAST_PAIRS: u32 = 1048576;
 
 const MOST_LINES: usize = 177726;
-
-// What printing gives: how many bytes the pages are, or the number of a refusal.
-pub enum PagesAnswer {
-    Bytes(usize),
-    Refused(u32),
-}
-
-// What reading gives: how many pairs there are, or the number of a refusal.
-pub enum ReadAnswer {
-    Pairs(usize),
-    Refused(u32),
-}
 
 fn put_blanks(count: usize, out: &mut [u8], at: usize) -> usize
     requires { ⌜ at + count ≤ length (now out) ⌝ }
@@ -213,26 +202,26 @@ fn put_pages(text: &[u8], rows: &[u64], lines: usize, out: &mut [u8])
 }
 
 // The same if the space can hold every page.
-fn lay_out(text: &[u8], rows: &[u64], out: &mut [u8]) -> PagesAnswer
-    ensures { λ a. ⌜ LaidOut (now (text .entry)) (pairsIn 1024 (now (rows .entry))) (now (out .entry)) (now (out .exit)) a ⌝ }
+fn lay_out(text: &[u8], rows: &[u64], out: &mut [u8]) -> Counted
+    ensures { λ a. ⌜ Whole (pages (now (text .entry)) (pairsIn 1024 (now (rows .entry)))) (now (out .entry)) (now (out .exit)) a ⌝ }
 {
     let lines = lines_of(rows::count_pairs(rows, book::MAX_RECORDS));
     if out.len() < LINE * lines {
-        return PagesAnswer::Refused(book::SHORT_LIST);
+        return Counted::Refused(book::SHORT_LIST);
     }
     put_pages(text, rows, lines, out);
-    PagesAnswer::Bytes(LINE * lines)
+    Counted::Count(LINE * lines)
 }
 
 // The pages of a pair question's answer, written into the space. No list of pairs is lent: they go from the relation's rows straight to bytes.
-pub fn print(register: Register, text: &[u8], work: &mut [u64], pages: &mut [u8]) -> PagesAnswer
+pub fn print(register: Register, text: &[u8], work: &mut [u64], pages: &mut [u8]) -> Counted
     ensures { λ a. ⌜ Prints register (now (text .entry)) (length (now (work .entry))) (now (pages .entry)) (now (pages .exit)) a ⌝ }
 {
     let mut rows: [u64; 16384] = [0; 16384];
     let related = engine::relation(register, text, work, &mut rows);
     match related {
-        PairsAnswer::Refused(k) => PagesAnswer::Refused(k),
-        PairsAnswer::Pairs(_) => lay_out(text, &rows, pages),
+        Counted::Refused(k) => Counted::Refused(k),
+        Counted::Count(_) => lay_out(text, &rows, pages),
     }
 }
 
@@ -459,31 +448,31 @@ fn list_lines(pages: &[u8], lines: usize, list: &mut [u32])
 }
 
 // The pairs of pages, the expression being accepted.
-fn read_accepted(text: &[u8], pages: &[u8], list: &mut [u32]) -> ReadAnswer
+fn read_accepted(text: &[u8], pages: &[u8], list: &mut [u32]) -> Counted
     ensures { λ a. ⌜ ((e : Expr) → verdict (now (text .entry)) ≡ accepted e
         → ReadsPages (now (text .entry)) (now (pages .entry)) (now (list .entry)) (now (list .exit)) a) ⌝ }
 {
     let judgement = judge(text, pages);
     match judgement {
-        Judgement::Broken => ReadAnswer::Refused(book::BROKEN_FRAME),
+        Judgement::Broken => Counted::Refused(book::BROKEN_FRAME),
         Judgement::Listing(count) => {
             if list.len() < count {
-                return ReadAnswer::Refused(book::SHORT_LIST);
+                return Counted::Refused(book::SHORT_LIST);
             }
             list_lines(pages, pages.len() / LINE, list);
-            ReadAnswer::Pairs(count)
+            Counted::Count(count)
         }
     }
 }
 
 // The pairs that pages show, ascending, if they are the pages of the expression and some list. The first pass judges, the second writes.
-pub fn read_pages(text: &[u8], pages: &[u8], list: &mut [u32]) -> ReadAnswer
+pub fn read_pages(text: &[u8], pages: &[u8], list: &mut [u32]) -> Counted
     ensures { λ a. ⌜ ReadsPages (now (text .entry)) (now (pages .entry)) (now (list .entry)) (now (list .exit)) a ⌝ }
 {
     let reading = reader::read(text);
     let answer = reading.answer;
     match answer {
-        reader::Answer::Refused(k) => ReadAnswer::Refused(k as u32),
+        reader::Answer::Refused(k) => Counted::Refused(k as u32),
         reader::Answer::Accepted(_) => read_accepted(text, pages, list),
     }
 }

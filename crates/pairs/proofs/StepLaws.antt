@@ -39,15 +39,17 @@ use Rattle.tree.specs.declared.operations.Operation.the-variants.{Union}
 use Rattle.tree.specs.declared.operations.Operand.{Operand}
 use Rattle.tree.specs.Inner.{nothing, treeAlone, flipped, valued, outcome, Room as Spaces, Lent, termSet, TreeAt, Operated}
 use Rattle.tree.specs.InnerLaws.{valued-flipped, valued-alone, valued-nothing, term-set}
+use Rattle.query.specs.Evaluation.{relations, Ready, Lettered}
+use Rattle.query.specs.EvaluationLaws.{height-ready}
+use Rattle.query.specs.LetterLaws.{links-below, letters-crossed, zero-used, used-below}
 use Rattle.pairs.specs.declared.Stack.{Stack}
 use Rattle.pairs.specs.declared.Taken.{Taken}
-use Rattle.pairs.specs.Evaluation.{relations, lettersOperand, pushed, turned, onTop, belowTop, takenNone, takenOne, takenTwo, Standing, Ready, Waiting}
+use Rattle.pairs.specs.Evaluation.{lettersOperand, pushed, turned, onTop, belowTop, takenNone, takenOne, takenTwo, Standing, Waiting}
 use Rattle.pairs.specs.Evaluation.{Totals, Placed, Room}
 use Rattle.pairs.specs.EvaluationLaws.{Unary, Binary, unary-one, binary-two, does-letters, does-inverse, does-one, does-two, standing-top, standing-kept}
 use Rattle.pairs.specs.EvaluationLaws.{standing-put, waits-next}
-use Rattle.pairs.specs.RoomLaws.{placed-put, room-operands, room-next, totals-below, totals-most}
-use Rattle.pairs.specs.LetterLaws.{links-below, letters-crossed, zero-used, used-below}
-use Rattle.pairs.specs.Steps.{Lettered, Taking, Takes, Goes}
+use Rattle.pairs.specs.RoomLaws.{placed-put, room-next, totals-below, totals-most}
+use Rattle.pairs.specs.Steps.{Taking, Takes, Goes}
 
 -- ---- work with a part of it, from a word on, changed
 module _ (work part : List ℕ) (start : ℕ) (h : start ≤ length work) where
@@ -246,16 +248,17 @@ module _ (n forward against : ℕ) (ws used work : List ℕ) (S : Stack) where
       let o : operands (itemOf i) ≡ 0 = ap operands e in
       let z : S .end + 0 ≡ S .end = omega arith in
       room-next R (subst (λ (j : ℕ). Placed (treeUnit n) (pushed letters (S .count) j S)) z
-      (placed-put (S .end) (S .count) letters (R .placed) (R .placed .totals) (omega arith) (let q = room-operands R in omega (arith, q .room)))) (omega arith)
+      (placed-put (S .end) (S .count) letters (R .placed) (R .placed .totals) (omega arith) (let q =
+      height-ready (R .height) in omega (arith, q .room)))) (omega arith)
 
-  letters-waits : (b : Book) → Lettered b n ws used → (e : Expr) (i : ℕ) (c : List ℕ) (st : List Cells)
+  letters-waits : (b : Book) → Lettered b n ws (bitAt used) → (e : Expr) (i : ℕ) (c : List ℕ) (st : List Cells)
       → itemOf i ≡ Letters forward against → length (S .operands) ≡ 19 → S .count < 19
       → Waiting (asked b) e (i ∷ c) ws work S st → (st′ : List Cells) × Waiting (asked b) e c ws work (pushed letters (S .count) (S .end) S) st′
   unfolding asked
   letters-waits b L e i c st is k m w =
       let g : Graph = asked b in
       let v : valued ws letters noPairs ≡ crossedBy g (lettersIn forward against) =
-      union-none (crossedWords ws forward against) ∙ letters-crossed b n ws used L forward against in
+      union-none (crossedWords ws forward against) ∙ letters-crossed b n ws (bitAt used) L forward against in
       let z : S .end + 0 ≡ S .end = omega arith in (
         valued ws letters noPairs ∷ st,
         waits-next (valued ws letters noPairs ∷ st) w
@@ -299,7 +302,7 @@ module _ (n : ℕ) (ws used work : List ℕ) (S : Stack) where
   inverse-room : (i : ℕ) (c : List ℕ) → itemOf i ≡ Inverse → Room (treeUnit n) (i ∷ c) S → Room (treeUnit n) c (turned S)
   inverse-room i c e R =
       let o : operands (itemOf i) ≡ 1 = ap operands e in
-      let Q = room-operands R in
+      let Q = height-ready (R .height) in
       let h = has-one (R .placed) Q (omega arith) in
       let t = top-totals (R .placed) Q (omega arith) in
       room-next R (turned-placed (h .0) (t .0) (placed-put (S .end - onTop S .size) top (flipped (onTop S)) (R .placed) (t .2) (t .1) (omega arith)))
@@ -329,11 +332,11 @@ module _ (n : ℕ) (ws used work : List ℕ) (S : Stack) where
 -- ---- an operator
 -- what is lent to the operation
 module _ (n : ℕ) (y : Item) (ws used work : List ℕ) (S : Stack) (q : Taken) (T : Takes (treeUnit n) y S q) where
-  pub lent : (b : Book) (L : Lettered b n ws used) (st : List Cells) → Standing (b .n) ws work (S .operands) (S .count) (S .end) st
+  pub lent : (b : Book) (L : Lettered b n ws (bitAt used)) (st : List Cells) → Standing (b .n) ws work (S .operands) (S .count) (S .end) st
       → (t : Taking (asked b) ws work (bitAt used) y S q st) × Lent (q .term) n ws (bitAt used) (drop (q .start) work) (t .a) (t .b)
   unfolding asked
   lent b L st s =
-      let t = T .taking (asked b) ws work (bitAt used) st (zero-used b n ws used L) (letters-crossed b n ws used L) s in
+      let t = T .taking (asked b) ws work (bitAt used) st (zero-used b n ws (bitAt used) L) (letters-crossed b n ws (bitAt used) L) s in
       let z = sym (L .size) in (
         t,
         record {
@@ -341,8 +344,8 @@ module _ (n : ℕ) (y : Item) (ws used work : List ℕ) (S : Stack) (q : Taken) 
           second = subst (λ (i : ℕ). IsSet i (t .b)) z (t .second);
           front = subst (λ (i : ℕ). take (q .term .first .size) (drop (q .start) work) ≡ treeWords i (t .a)) z (t .front);
           behind = subst (λ (i : ℕ). take (q .term .second .size) (drop (q .term .first .size) (drop (q .start) work)) ≡ treeWords i (t .b)) z (t .behind);
-          links = links-below b n ws used L;
-          used = used-below b n ws used L;
+          links = links-below b n ws (bitAt used) L;
+          used = used-below b n ws (bitAt used) L;
         },
       )
 
@@ -372,7 +375,7 @@ module _ (n : ℕ) (y : Item) (ws used work part : List ℕ) (S : Stack) (q : Ta
       let k = T .below in
       room-next R (placed-put (q .start) (q .below) (treeAlone size Plain) (R .placed) (T .totals) few (omega (arith, early))) (omega arith)
 
-  operator-waits : length (S .operands) ≡ 19 → (b : Book) → Lettered b n ws used
+  operator-waits : length (S .operands) ≡ 19 → (b : Book) → Lettered b n ws (bitAt used)
       → (e : Expr) (i : ℕ) (c : List ℕ) (st : List Cells) → itemOf i ≡ y → Waiting (asked b) e (i ∷ c) ws work S st
       → (st′ : List Cells) × Waiting (asked b) e c ws (changed work part (q .start) h) after st′
   unfolding asked

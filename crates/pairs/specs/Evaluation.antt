@@ -1,5 +1,4 @@
 -- How a pair question is evaluated: the operands still waiting, whose trees lie one after another at the front of the lent work.
---   relations g       the algebra of sets of pairs in a graph: running an expression's code in it gives the expression's set
 --   lettersOperand forward against
 --                     the operand of a symbol: the links of its letters, and no tree
 --   operandAt os k    the operand at place k of the list os, nothing past its end
@@ -7,53 +6,34 @@
 --   turned S          S with the operand on top read with the other sense
 --   takenNone o S, takenOne k S, takenTwo k S
 --                     what is taken off the stack S: nothing, the operand o being the term; the operand on top, or the two on top, with the operation k
---   usedBelow n ms    the bits of the records below n whose mark, of the marks ms, is not that of a withdrawn one
 --   Standing n ws work os k at st
 --                     the first k operands of os, whose trees lie one after another at the front of work and end at `at`, stand for the sets st of pairs below
 --                     n, the last one first; ws are the words of the links
---   Ready y k         k operands are as many as the item y asks, and there is room for its value
 --   Waiting g e c ws work S st
 --                     the code c is left to run on the operands of S, which stand for the sets st
---   heights           the algebra in which every value is 0: running a code in it tells how high the stack is
 --   Totals d os k at  the trees of the first k operands of os have at most d words each, and together `at`
 --   Placed d S        so it is of the operands of S, whatever they are
 --   Room d c S        and the code c is left to run on as many
 -- Assumes nothing: these are definitions.
 use mathlib.Core.Path.{_≡_}
 use mathlib.Core.List.{List, [], _∷_}
-use mathlib.Core.Bool.{not, _&&_}
 use Prim.Native.Nat.{ℕ, suc, _+_, _-_, _≤_}
-use lib.Dec.{ltb}
 use lib.ListN.{length, take, drop, getD, set}
-use Rattle.book.specs.Basics.{bit}
-use Rattle.k2.specs.PairSets.{Cells, IsSet, union, transpose, product, closure}
+use Rattle.k2.specs.PairSets.{Cells, IsSet}
 use Rattle.k2.specs.Trees.{treeWords}
 use Rattle.paths.specs.Expressions.{Expr}
 use Rattle.paths.specs.Chains.{Graph}
-use Rattle.paths.specs.Relations.{crossedBy, zeroSteps, cells}
-use Rattle.register.specs.Marks.{withdrawnMark, hasMark}
+use Rattle.paths.specs.Relations.{cells}
 use Rattle.packing.specs.declared.loading.Sense.the-variants.{Plain}
-use Rattle.reader.specs.declared.items.Item.{Item}
-use Rattle.reader.specs.Letters.{lettersIn}
-use Rattle.reader.specs.Code.{Algebra, run}
-use Rattle.reader.specs.Running.{operands, Runs}
+use Rattle.reader.specs.Code.{run}
+use Rattle.reader.specs.Running.{Runs}
+use Rattle.query.specs.Evaluation.{relations, most-waiting, Height}
 use Rattle.tree.specs.declared.operations.Operation.{Operation}
 use Rattle.tree.specs.declared.operations.Operation.the-variants.{Union}
 use Rattle.tree.specs.declared.operations.Operand.{Operand}
 use Rattle.tree.specs.Inner.{nothing, flipped, valued}
 use Rattle.pairs.specs.declared.Stack.{Stack}
 use Rattle.pairs.specs.declared.Taken.{Taken}
-
-unfoldable pub relations : Graph → Algebra Cells
-relations g = record {
-  of = λ forward against. crossedBy g (lettersIn forward against);
-  inverted = transpose;
-  starred = λ a. union (closure (g .n) a) (zeroSteps g);
-  repeated = closure (g .n);
-  maybe = λ a. union a (zeroSteps g);
-  either = union;
-  followed = product (g .n);
-}
 
 abbrev pub lettersOperand : ℕ → ℕ → Operand
 lettersOperand forward against = record { size = 0; sense = Plain; forward = forward; against = against }
@@ -88,23 +68,11 @@ takenTwo k S =
       below = S .count - 1 - 1;
     }
 
-unfoldable pub usedBelow : ℕ → List ℕ → ℕ → ℕ
-usedBelow n ms x = bit (ltb x n && not (hasMark withdrawnMark ms x))
-
 pub data Standing (n : ℕ) (ws work : List ℕ) (os : List Operand) : ℕ → ℕ → List Cells → Type 0 where
   none-waits : Standing n ws work os 0 0 []
   one-waits : {k at : ℕ} {st : List Cells} (a : Cells) → Standing n ws work os k at st → IsSet n a
       → take (operandAt os k .size) (drop at work) ≡ treeWords n a → operandAt os k .size ≡ length (treeWords n a)
       → Standing n ws work os (suc k) (at + operandAt os k .size) (valued ws (operandAt os k) a ∷ st)
-
--- at most 19 operands wait at once
-abbrev pub most-waiting : ℕ
-most-waiting = 19
-
-pub record Ready (y : Item) (k : ℕ) : Type 0 where
-  pub found : operands y ≤ k
-  pub few : k ≤ most-waiting
-  pub room : suc (k - operands y) ≤ most-waiting
 
 pub record Waiting (g : Graph) (e : Expr) (c ws work : List ℕ) (S : Stack) (st : List Cells) : Type 0 where
   pub rest : run (relations g) c st ≡ cells g e ∷ []
@@ -112,17 +80,6 @@ pub record Waiting (g : Graph) (e : Expr) (c ws work : List ℕ) (S : Stack) (st
   pub stand : Standing (g .n) ws work (S .operands) (S .count) (S .end) st
 
 -- ---- the same of any contents: where the operands lie, whatever they are
-unfoldable pub heights : Algebra ℕ
-heights = record {
-  of = λ forward against. 0;
-  inverted = λ a. 0;
-  starred = λ a. 0;
-  repeated = λ a. 0;
-  maybe = λ a. 0;
-  either = λ a b. 0;
-  followed = λ a b. 0;
-}
-
 pub data Totals (d : ℕ) (os : List Operand) : ℕ → ℕ → Type 0 where
   no-words : Totals d os 0 0
   more-words : {k at : ℕ} → Totals d os k at → operandAt os k .size ≤ d → Totals d os (suc k) (at + operandAt os k .size)
@@ -132,8 +89,5 @@ pub record Placed (d : ℕ) (S : Stack) : Type 0 where
   pub totals : Totals d (S .operands) (S .count) (S .end)
 
 pub record Room (d : ℕ) (c : List ℕ) (S : Stack) : Type 0 where
-  pub stack : List ℕ
-  pub rest : run heights c stack ≡ 0 ∷ []
-  pub runs : Runs heights most-waiting c stack
-  pub count : S .count ≡ length stack
+  pub height : Height c (S .count)
   pub placed : Placed d S

@@ -1,5 +1,4 @@
 -- Laws of the evaluation.
---   value-cells        an expression's value in the algebra of relations is its set
 --   Unary y k, Binary y k
 --                      the item y is an operator on one operand, or on two, by the operation k
 --   unary-one, binary-two
@@ -7,8 +6,6 @@
 --   does-inverse, does-one, does-two, does-letters
 --                      what an item does to the stack
 --   begins             with nothing waiting the whole code is left
---   runs-rest, runs-height
---                      what a code that runs asks of its next number
 --   Top, standing-top  the operand on top: where its tree lies, and what stands below it
 --   standing-kept, standing-store
 --                      what stands below a word stands if only words behind it change, and if only operands above are stored
@@ -22,39 +19,27 @@ use native.Mathlib.Numerals.{add-one}
 use native.Mathlib.Omega.{arith}
 use lib.ListN.{length, take, drop, set}
 use lib.Seq.{getD-set-same, getD-set-other, take-take}
-use Rattle.k2.specs.PairSets.{Cells, IsSet, union, transpose, product, closure, diagonal}
+use Rattle.k2.specs.PairSets.{Cells, IsSet, union, transpose, closure, diagonal}
 use Rattle.k2.specs.Trees.{treeWords}
-use Rattle.paths.specs.Expressions.{standsFor, Expr, symbol, group, inverse, star, plus, optional, alternative, sequence, depth}
-use Rattle.paths.specs.Grammar.{alternatives, Is}
+use Rattle.paths.specs.Expressions.{Expr}
 use Rattle.paths.specs.Chains.{Graph}
-use Rattle.paths.specs.Relations.{crossedBy, zeroSteps, cells}
-use Rattle.paths.specs.RelationLaws.{crossed-same}
+use Rattle.paths.specs.Relations.{crossedBy, zeroSteps}
 use Rattle.rows.specs.Rows.{noPairs}
 use Rattle.rows.specs.RowLaws.{union-none}
 use Rattle.reader.specs.declared.items.Item.{Item}
 use Rattle.reader.specs.declared.items.Item.the-variants.{Letters, Inverse, Star, Plus, Optional, Alternative, Sequence}
 use Rattle.reader.specs.Letters.{lettersIn}
-use Rattle.reader.specs.LetterLaws.{letters-in}
-use Rattle.reader.specs.Code.{itemOf, code, Algebra, value, does, run}
-use Rattle.reader.specs.Running.{operands, Runs, ended, next}
-use Rattle.reader.specs.CodeLaws.{run-code, runs-code}
+use Rattle.reader.specs.Code.{itemOf, does, run}
+use Rattle.reader.specs.Running.{operands, Runs, next}
+use Rattle.reader.specs.CodeLaws.{runs-code}
+use Rattle.query.specs.Evaluation.{relations, most-waiting, Coded}
+use Rattle.query.specs.EvaluationLaws.{coded-value}
 use Rattle.tree.specs.declared.operations.Operation.{Operation}
 use Rattle.tree.specs.declared.operations.Operation.the-variants.{Union, Product, Closure, Optional as Possible, Star as Starred}
 use Rattle.tree.specs.declared.operations.Operand.{Operand}
 use Rattle.tree.specs.Inner.{nothing, valued, outcome}
 use Rattle.pairs.specs.declared.Stack.{Stack}
-use Rattle.pairs.specs.Evaluation.{relations, operandAt, Standing, none-waits, one-waits, most-waiting, Waiting}
-
-pub value-cells : (g : Graph) (e : Expr) → value (relations g) e ≡ cells g e
-unfolding value relations cells
-value-cells g (symbol s) = crossed-same g _ _ (letters-in (standsFor s))
-value-cells g (group e) = value-cells g e
-value-cells g (inverse e) = ap transpose (value-cells g e)
-value-cells g (star e) = ap (λ (a : Cells). union (closure (g .n) a) (zeroSteps g)) (value-cells g e)
-value-cells g (plus e) = ap (closure (g .n)) (value-cells g e)
-value-cells g (optional e) = ap (λ (a : Cells). union a (zeroSteps g)) (value-cells g e)
-value-cells g (alternative e f) = ap₂ union (value-cells g e) (value-cells g f)
-value-cells g (sequence e f) = ap₂ (product (g .n)) (value-cells g e) (value-cells g f)
+use Rattle.pairs.specs.Evaluation.{operandAt, Standing, none-waits, one-waits, Waiting}
 
 -- ---- what an item does
 pub data Unary : Item → Operation → Type 0 where
@@ -97,22 +82,20 @@ module _ (g : Graph) (u : ℕ → ℕ) (z : diagonal u ≡ zeroSteps g) where
   does-two of-sequence x x′ st = refl
 
 -- ---- the beginning
-pub begins : (g : Graph) {s : List ℕ} (e : Expr) → Is alternatives s e → depth e ≤ 8 → (ws work : List ℕ) (os : List Operand)
-    → Waiting g e (code e) ws work (record { operands = os; count = 0; end = 0 }) []
-begins g e d h ws work os = record {
-  rest = run-code (relations g) d [] ∙ ap (λ (a : Cells). a ∷ []) (value-cells g e);
-  runs = runs-code (relations g) d most-waiting [] (omega arith);
+pub begins : (g : Graph) {s c : List ℕ} {e : Expr} → Coded s e c → (ws work : List ℕ) (os : List Operand)
+    → Waiting g e c ws work (record { operands = os; count = 0; end = 0 }) []
+begins g k ws work os = record {
+  rest = coded-value g k;
+  runs =
+      subst (λ (x : List ℕ). Runs (relations g) most-waiting x []) (sym (k .is))
+      (runs-code (relations g) (k .syntax) most-waiting [] (omega (arith, k .shallow)));
   stand = none-waits;
 }
 
 -- ---- what is left to run
-pub runs-rest : (g : Graph) {i : ℕ} {c : List ℕ} {st : List Cells} → Runs (relations g) most-waiting (i ∷ c) st
+runs-rest : (g : Graph) {i : ℕ} {c : List ℕ} {st : List Cells} → Runs (relations g) most-waiting (i ∷ c) st
     → Runs (relations g) most-waiting c (does (relations g) (itemOf i) st)
 runs-rest g (next b h r) = r
-
-pub runs-height : {D : Type 0} (A : Algebra D) {k : ℕ} {c : List ℕ} {st : List D} → Runs A k c st → length st ≤ k
-runs-height A (ended h) = h
-runs-height A (next b h r) = h
 
 -- ---- the operands
 -- the operand on top: its tree begins where those below it end

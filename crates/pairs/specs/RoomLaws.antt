@@ -2,33 +2,26 @@
 --   totals-below, totals-most
 --                  the numbers below the top one; their total
 --   placed-put     an operand put on top
---   value-heights, height-after
---                  every value is 0; an item takes its operands off the stack and puts one value on it
 --   room-begins    with nothing waiting
---   room-operands  the next number of the code finds its operands, and there is room for its value
 --   room-next      one number more: its operands give way to its value
---   room-ends      with no code left one operand waits
 -- Assumes nothing.
-use mathlib.Core.Path.{_≡_, refl, sym, ap, _∙_, subst}
-use mathlib.Core.List.{List, [], _∷_}
+use mathlib.Core.Path.{_≡_, _∙_, subst}
+use mathlib.Core.List.{List, _∷_}
 use Prim.Native.Nat.{ℕ, suc, _+_, _-_, _*_, _<_, _≤_}
 use native.Mathlib.Nat.{suc-mul}
 use native.Mathlib.Numerals.{add-one}
 use native.Mathlib.Omega.{arith}
 use lib.ListN.{length, set, length-set}
 use lib.Seq.{getD-set-same, getD-set-other}
-use Rattle.paths.specs.Expressions.{Expr, symbol, group, inverse, star, plus, optional, alternative, sequence, depth}
-use Rattle.paths.specs.Grammar.{alternatives, Is}
-use Rattle.reader.specs.declared.items.Item.{Item}
-use Rattle.reader.specs.declared.items.Item.the-variants.{Letters, Inverse, Star, Plus, Optional, Alternative, Sequence}
-use Rattle.reader.specs.Code.{itemOf, code, value, does, run}
-use Rattle.reader.specs.Running.{operands, Runs, next}
-use Rattle.reader.specs.CodeLaws.{run-code, runs-code}
+use Rattle.paths.specs.Expressions.{Expr}
+use Rattle.reader.specs.Code.{itemOf}
+use Rattle.reader.specs.Running.{operands}
+use Rattle.query.specs.Evaluation.{most-waiting, Coded}
+use Rattle.query.specs.EvaluationLaws.{height-begins, height-next}
 use Rattle.pairs.specs.declared.Stack.{Stack}
 use Rattle.tree.specs.declared.operations.Operand.{Operand}
 use Rattle.tree.specs.Inner.{nothing}
-use Rattle.pairs.specs.Evaluation.{heights, operandAt, most-waiting, Ready, Totals, no-words, more-words, Placed, Room}
-use Rattle.pairs.specs.EvaluationLaws.{runs-height}
+use Rattle.pairs.specs.Evaluation.{operandAt, Totals, no-words, more-words, Placed, Room}
 
 pub totals-below : {d k at : ℕ} {os : List Operand} → Totals d os k at → (j : ℕ) → k ≡ suc j
     → (operandAt os j .size ≤ at) × (operandAt os j .size ≤ d) × Totals d os j (at - operandAt os j .size)
@@ -62,65 +55,9 @@ placed-put {d} {S} start j o P t h l =
     }
 
 -- ---- the code
-pub value-heights : (e : Expr) → value heights e ≡ 0
-unfolding value heights
-value-heights (symbol s) = refl
-value-heights (group e) = value-heights e
-value-heights (inverse e) = refl
-value-heights (star e) = refl
-value-heights (plus e) = refl
-value-heights (optional e) = refl
-value-heights (alternative e f) = refl
-value-heights (sequence e f) = refl
-
-pub room-begins : (d : ℕ) {s : List ℕ} (e : Expr) → Is alternatives s e → depth e ≤ 8 → (os : List Operand) → length os ≡ most-waiting
-    → Room d (code e) (record { operands = os; count = 0; end = 0 })
-room-begins d e p h os l = record {
-  stack = [];
-  rest = run-code heights p [] ∙ ap (λ (v : ℕ). v ∷ []) (value-heights e);
-  runs = runs-code heights p most-waiting [] (omega arith);
-  count = refl;
-  placed = record { slots = l; totals = no-words };
-}
-
-pub height-after : (y : Item) (st : List ℕ) → operands y ≤ length st → length (does heights y st) ≡ suc (length st - operands y)
-unfolding does heights
-height-after (Letters forward against) st h = omega arith
-height-after Inverse [] h = absurd (omega arith)
-height-after Inverse (a ∷ st) h = omega arith
-height-after Star [] h = absurd (omega arith)
-height-after Star (a ∷ st) h = omega arith
-height-after Plus [] h = absurd (omega arith)
-height-after Plus (a ∷ st) h = omega arith
-height-after Optional [] h = absurd (omega arith)
-height-after Optional (a ∷ st) h = omega arith
-height-after Alternative [] h = absurd (omega arith)
-height-after Alternative (a ∷ []) h = absurd (omega arith)
-height-after Alternative (b ∷ a ∷ st) h = omega arith
-height-after Sequence [] h = absurd (omega arith)
-height-after Sequence (a ∷ []) h = absurd (omega arith)
-height-after Sequence (b ∷ a ∷ st) h = omega arith
-
-pub room-operands : {d i : ℕ} {c : List ℕ} {S : Stack} → Room d (i ∷ c) S → Ready (itemOf i) (S .count)
-room-operands {i = i} r = go (r .runs) (r .count)
-  where
-    go : {k : ℕ} {c : List ℕ} {st : List ℕ} → Runs heights most-waiting (i ∷ c) st → k ≡ length st → Ready (itemOf i) k
-    go {st = st} (next b h q) e = rw e (record { found = b; few = h; room = omega (arith, runs-height heights q, height-after (itemOf i) st b) })
+pub room-begins : (d : ℕ) {s c : List ℕ} {e : Expr} → Coded s e c → (os : List Operand) → length os ≡ most-waiting
+    → Room d c (record { operands = os; count = 0; end = 0 })
+room-begins d k os l = record { height = height-begins k; placed = record { slots = l; totals = no-words } }
 
 pub room-next : {d i : ℕ} {c : List ℕ} {S S′ : Stack} → Room d (i ∷ c) S → Placed d S′ → S′ .count ≡ suc (S .count - operands (itemOf i)) → Room d c S′
-unfolding run
-room-next {d} {i} {c} {S} {S′} R P e = go (R .runs) (R .rest) (R .count)
-  where
-    go : {st : List ℕ} → Runs heights most-waiting (i ∷ c) st → run heights (i ∷ c) st ≡ 0 ∷ [] → S .count ≡ length st → Room d c S′
-    go {st} (next b g q) f k =
-        record {
-          stack = does heights (itemOf i) st;
-          rest = f;
-          runs = q;
-          count = e ∙ ap (λ (x : ℕ). suc (x - operands (itemOf i))) k ∙ sym (height-after (itemOf i) st b);
-          placed = P;
-        }
-
-pub room-ends : {d : ℕ} {S : Stack} → Room d [] S → S .count ≡ 1
-unfolding run
-room-ends R = R .count ∙ ap length (R .rest)
+room-next R P e = record { height = height-next (R .height) e; placed = P }

@@ -1,6 +1,4 @@
 -- What the inner functions promise.
---   Lettered b n ws used
---                   the words ws are those of the links of the book b, of n records, and the bits of `used` are its records in use
 --   Taking g ws work u y S q st
 --                   of a graph whose records in use have the bits u: the item y takes q off the stack S, whose operands stand for st; its value is the term's,
 --                   and the operands that stay stand for the rest
@@ -8,7 +6,6 @@
 --   Goes n ws used y work work′ S S′
 --                   one number of the code, which is the item y: the operands that wait before it and after it, as Room for any
 --                   contents and as Waiting for a book
---   Coded s e c     s is a text of the expression e, not too deep, and c is its code
 --   Going n ws used c work S i
 --                   the first i numbers of the code c have been run
 --   Ends n ws used y work S rows
@@ -18,34 +15,23 @@ use mathlib.Core.Path.{_≡_}
 use mathlib.Core.List.{List, [], _∷_}
 use Prim.Native.Nat.{ℕ, _+_, _≤_}
 use lib.ListN.{take, drop}
-use Rattle.book.specs.Basics.{bit}
 use Rattle.book.specs.Book.{Book}
-use Rattle.book.specs.Causes.{maxRecords}
-use Rattle.book.specs.Sheets.{Fit}
 use Rattle.k2.specs.Bits.{bitAt}
 use Rattle.k2.specs.PairSets.{Cells, IsSet, diagonal}
 use Rattle.k2.specs.Trees.{treeUnit, treeWords}
-use Rattle.paths.specs.Expressions.{Expr, depth}
-use Rattle.paths.specs.Grammar.{alternatives, Is}
+use Rattle.paths.specs.Expressions.{Expr}
 use Rattle.paths.specs.Chains.{Graph, asked}
 use Rattle.paths.specs.Relations.{crossedBy, zeroSteps, cells}
 use Rattle.reader.specs.declared.items.Item.{Item}
 use Rattle.reader.specs.Letters.{lettersIn}
-use Rattle.reader.specs.Code.{itemOf, code, does}
+use Rattle.reader.specs.Code.{itemOf, does}
 use Rattle.reader.specs.Running.{operands}
-use Rattle.register.specs.Links.{Linked}
 use Rattle.rows.specs.Rows.{flat, crossedWords}
+use Rattle.query.specs.Evaluation.{relations, Coded, Lettered}
 use Rattle.tree.specs.Inner.{termSet}
 use Rattle.pairs.specs.declared.Stack.{Stack}
 use Rattle.pairs.specs.declared.Taken.{Taken}
-use Rattle.pairs.specs.Evaluation.{relations, Standing, Waiting, Totals, Room}
-
-pub record Lettered (b : Book) (n : ℕ) (ws used : List ℕ) : Type 0 where
-  pub size : n ≡ b .n
-  pub small : b .n ≤ maxRecords
-  pub fit : Fit (b .n) (b .sheet)
-  pub linked : Linked ws (b .sheet)
-  pub in-use : bitAt used ≡ (λ x. bit (asked b .inUse x))
+use Rattle.pairs.specs.Evaluation.{Standing, Waiting, Totals, Room}
 
 pub record Taking (g : Graph) (ws work : List ℕ) (u : ℕ → ℕ) (y : Item) (S : Stack) (q : Taken) (st : List Cells) : Type 0 where
   pub a : Cells
@@ -69,18 +55,15 @@ pub record Takes (d : ℕ) (y : Item) (S : Stack) (q : Taken) : Type 0 where
 
 pub record Goes (n : ℕ) (ws used : List ℕ) (y : Item) (work work′ : List ℕ) (S S′ : Stack) : Type 0 where
   pub room : (i : ℕ) (c : List ℕ) → itemOf i ≡ y → Room (treeUnit n) (i ∷ c) S → Room (treeUnit n) c S′
-  pub waits : (b : Book) → Lettered b n ws used → (e : Expr) (i : ℕ) (c : List ℕ) (st : List Cells) → itemOf i ≡ y → Waiting (asked b) e (i ∷ c) ws work S st
+  pub waits : (b : Book) → Lettered b n ws (bitAt used) → (e : Expr) (i : ℕ) (c : List ℕ) (st : List Cells)
+      → itemOf i ≡ y → Waiting (asked b) e (i ∷ c) ws work S st
       → (st′ : List Cells) × Waiting (asked b) e c ws work′ S′ st′
-
-pub record Coded (s : List ℕ) (e : Expr) (c : List ℕ) : Type 0 where
-  pub syntax : Is alternatives s e
-  pub shallow : depth e ≤ 8
-  pub is : c ≡ code e
 
 pub record Going (n : ℕ) (ws used c work : List ℕ) (S : Stack) (i : ℕ) : Type 0 where
   pub room : Room (treeUnit n) (drop i c) S
-  pub waits : (b : Book) → Lettered b n ws used → (s : List ℕ) (e : Expr) → Coded s e c → (st : List Cells) × Waiting (asked b) e (drop i c) ws work S st
+  pub waits : (b : Book) → Lettered b n ws (bitAt used) → (s : List ℕ) (e : Expr)
+      → Coded s e c → (st : List Cells) × Waiting (asked b) e (drop i c) ws work S st
 
 pub record Ends (n : ℕ) (ws used : List ℕ) (y : Item) (work : List ℕ) (S : Stack) (rows : List ℕ) : Type 0 where
-  pub value : (b : Book) → Lettered b n ws used → (e : Expr) (i : ℕ) (st : List Cells)
+  pub value : (b : Book) → Lettered b n ws (bitAt used) → (e : Expr) (i : ℕ) (st : List Cells)
       → itemOf i ≡ y → Waiting (asked b) e (i ∷ []) ws work S st → bitAt rows ≡ flat (cells (asked b) e)

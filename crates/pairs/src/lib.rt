@@ -1,38 +1,25 @@
-// Pair questions: an expression's code is run on a stack of operands, whose k2-trees lie one after another in the lent work. Its relation is to be had as
-// rows, or as a list of pairs.
+// Pair questions by trees: an expression's code is run on a stack of operands, whose k2-trees lie one after another in the lent work. The value of its last
+// number is left in rows of bits, whose pairs are counted and listed.
 ghost use mathlib.Core.Path.{_≡_};
 ghost use mathlib.Core.List.{List};
 ghost use Prim.Native.Nat.{ℕ, _*_, _-_, _<_, _≤_};
 ghost use lib.ListN.{length, take};
-ghost use Rattle.book.specs.Basics.{bit};
 ghost use Rattle.book.specs.Book.{Book};
 ghost use Rattle.book.specs.Causes.{maxRecords};
 ghost use Rattle.k2.specs.Bits.{bitAt};
 ghost use Rattle.k2.specs.Trees.{treeUnit};
 ghost use Rattle.paths.specs.Expressions.{Expr};
 ghost use Rattle.paths.specs.Grammar.{accepted};
-ghost use Rattle.paths.specs.Verdicts.{verdict};
 ghost use Rattle.paths.specs.Chains.{asked};
 ghost use Rattle.paths.specs.Relations.{cells};
-ghost use Rattle.register.specs.Representation.{Represents};
-ghost use Rattle.rows.specs.Rows.{flat, pairsIn};
-ghost use Rattle.pairs.specs.Evaluation.{lettersOperand, onTop, belowTop, takenOne, takenTwo, pushed, turned, Ready, Placed};
-ghost use Rattle.pairs.specs.Steps.{Lettered, Takes, Goes, Coded, Going, Ends};
-ghost use Rattle.pairs.specs.Relating.{RelatingFor};
-ghost use Rattle.pairs.specs.Asking.{Handed, Relates, AsksPairs};
+ghost use Rattle.paths.specs.Questions.{by-trees};
+ghost use Rattle.rows.specs.Rows.{flat};
+ghost use Rattle.query.specs.Evaluation.{Ready, Coded, Lettered};
+ghost use Rattle.query.specs.Asking.{AsksFor, AsksPairs};
+ghost use Rattle.pairs.specs.Evaluation.{lettersOperand, onTop, belowTop, takenOne, takenTwo, pushed, turned, Placed};
+ghost use Rattle.pairs.specs.Steps.{Takes, Goes, Going, Ends};
+use answers::Counted;
 use reader::Item;
-
-// The answer to a pair question: the number of pairs in all, or refused with the number of the cause.
-pub enum PairsAnswer {
-    Pairs(usize),
-    Refused(u32),
-}
-
-// What is known once the rows are made: the number of records, or refused with the number of the cause.
-enum Related {
-    Rows(usize),
-    Refused(u32),
-}
 
 // The operands that wait, the first put on in front; how many they are, and where their trees end in the work.
 struct Stack {
@@ -272,7 +259,7 @@ fn last(
 fn run(work: &mut [u64], n: usize, links: &[u32], used: &[u64], rows: &mut [u64], code: &[u64])
     requires { ⌜ (n ≤ maxRecords) × (32 * treeUnit n ≤ length (now work)) × (length (now used) ≡ 16) × (length (now rows) ≡ 16384)
         × ((s : List ℕ) × (e : Expr) × Coded s e (now code)) ⌝ }
-    ensures { λ _. ⌜ ((b : Book) → Lettered b n (now (links .entry)) (now (used .entry)) → (s : List ℕ) (e : Expr) → Coded s e (now (code .entry))
+    ensures { λ _. ⌜ ((b : Book) → Lettered b n (now (links .entry)) (bitAt (now (used .entry))) → (s : List ℕ) (e : Expr) → Coded s e (now (code .entry))
         → bitAt (now (rows .exit)) ≡ flat (cells (asked b) e)) ⌝ }
 {
     let stack = evaluate(work, n, links, used, rows, code);
@@ -280,97 +267,32 @@ fn run(work: &mut [u64], n: usize, links: &[u32], used: &[u64], rows: &mut [u64]
     last(work, n, links, used, rows, stack, item);
 }
 
-// The records in use, as 1,024 bits: those below n that are not withdrawn.
-pub fn in_use(register: register::Register, n: usize) -> [u64; 16]
-    requires { ⌜ n ≤ maxRecords ⌝ }
-    ensures { λ r. ⌜ ((b : Book) → Represents register b → n ≡ b .n → bitAt r ≡ (λ x. bit (asked b .inUse x))) ⌝ }
-{
-    let marks = register.marks();
-    let mut records: [u64; 16] = [0; 16];
-    let mut i = 0;
-    while i < n {
-        if marks[i] != register::WITHDRAWN_MARK {
-            bits::set_bit(&mut records, i);
-        }
-        i += 1;
-    }
-    records
-}
-
-// The relation of an expression as rows, by its code: the first len numbers of the array.
+// The answer by the code of an expression: the first len numbers of the array.
 fn of_code(
     register: register::Register,
     code: [u64; book::MAX_BYTES],
     len: usize,
     work: &mut [u64],
-    rows: &mut [u64],
-) -> Related
+    list: &mut [u32],
+) -> Counted
     requires { ⌜ (len ≤ length code) × ((s : List ℕ) × (e : Expr) × Coded s e (take len code)) ⌝ }
     ensures { λ a. ⌜ ((s : List ℕ) (e : Expr) → Coded s e (take len code)
-        → RelatingFor register (accepted e) (length (now (work .entry))) (now (rows .entry)) (now (rows .exit)) a) ⌝ }
+        → AsksFor by-trees register (accepted e) (length (now (work .entry))) (now (list .entry)) (now (list .exit)) a) ⌝ }
 {
     let n = register.size();
-    if work.len() < 32 * tree::tree_unit(n) {
-        return Related::Refused(book::SHORT_WORK);
-    }
-    if rows.len() < 16384 {
-        return Related::Refused(book::SHORT_WORK);
+    if work.len() < query::pairs_work(n) {
+        return Counted::Refused(book::SHORT_WORK);
     }
     let links = register.links();
     let count = links.count;
     let array = links.words;
-    let used = in_use(register, n);
-    run(
-        work,
-        n,
-        &array[..count],
-        &used,
-        &mut rows[..16384],
-        &code[..len],
-    );
-    Related::Rows(n)
-}
-
-// The same by its text.
-fn of_text(register: register::Register, text: &[u8], work: &mut [u64], rows: &mut [u64]) -> Related
-    ensures { λ a. ⌜ RelatingFor register (verdict (now (text .entry))) (length (now (work .entry))) (now (rows .entry)) (now (rows .exit)) a ⌝ }
-{
-    let reading = reader::read(text);
-    let answer = reading.answer;
-    let code = reading.code;
-    match answer {
-        reader::Answer::Refused(k) => Related::Refused(k as u32),
-        reader::Answer::Accepted(len) => of_code(register, code, len, work, rows),
-    }
-}
-
-// The relation of an expression, as rows of bits: bit from * 1024 + to of them is 1 if the pair has a chain. The number of pairs is told.
-pub fn relation(
-    register: register::Register,
-    text: &[u8],
-    work: &mut [u64],
-    rows: &mut [u64],
-) -> PairsAnswer
-    ensures { λ a. ⌜ Relates register (now (text .entry)) (length (now (work .entry))) (now (rows .entry)) (now (rows .exit)) a ⌝ }
-{
-    let related = of_text(register, text, work, rows);
-    match related {
-        Related::Refused(k) => PairsAnswer::Refused(k),
-        Related::Rows(n) => {
-            let found = rows::count_pairs(&rows[..16384], n);
-            PairsAnswer::Pairs(found)
-        }
-    }
-}
-
-// The pairs of the first n rows handed over, as many as the list takes; how many they are in all.
-fn hand_over(rows: &[u64], n: usize, list: &mut [u32]) -> PairsAnswer
-    requires { ⌜ (n ≤ maxRecords) × (length (now rows) ≡ 16384) ⌝ }
-    ensures { λ a. ⌜ Handed (pairsIn n (now (rows .entry))) (now (list .entry)) (now (list .exit)) a ⌝ }
-{
-    let total = rows::count_pairs(rows, n);
-    rows::write_pairs(rows, n, list);
-    PairsAnswer::Pairs(total)
+    let marks = register.marks();
+    let used = query::in_use(&marks, n);
+    let mut rows: [u64; 16384] = [0; 16384];
+    run(work, n, &array[..count], &used, &mut rows, &code[..len]);
+    let total = rows::count_pairs(&rows, n);
+    rows::write_pairs(&rows, n, list);
+    Counted::Count(total)
 }
 
 // The pairs that have a chain, ascending, each once, as many as the list takes; how many they are in all.
@@ -379,13 +301,14 @@ pub fn pairs(
     text: &[u8],
     work: &mut [u64],
     list: &mut [u32],
-) -> PairsAnswer
+) -> Counted
     ensures { λ a. ⌜ AsksPairs register (now (text .entry)) (length (now (work .entry))) (now (list .entry)) (now (list .exit)) a ⌝ }
 {
-    let mut rows: [u64; 16384] = [0; 16384];
-    let related = of_text(register, text, work, &mut rows);
-    match related {
-        Related::Refused(k) => PairsAnswer::Refused(k),
-        Related::Rows(n) => hand_over(&rows, n, list),
+    let reading = reader::read(text);
+    let answer = reading.answer;
+    let code = reading.code;
+    match answer {
+        reader::Answer::Refused(k) => Counted::Refused(k as u32),
+        reader::Answer::Accepted(len) => of_code(register, code, len, work, list),
     }
 }

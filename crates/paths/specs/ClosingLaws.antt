@@ -8,6 +8,7 @@ use mathlib.Core.Logic.{_↔_}
 use mathlib.Core.List.{List, [], _∷_, _++_, map}
 use mathlib.Core.Bool.{Bool, true, false, _||_}
 use Prim.Native.Nat.{ℕ, zero, suc, _≤_, _<_}
+use native.Mathlib.Nat.{mul-le-mul}
 use native.Mathlib.Omega.{arith}
 use lib.ListN.{length, take}
 use lib.Dec.{leb, ltb}
@@ -25,7 +26,8 @@ use Rattle.paths.specs.Expressions.{Expr}
 use Rattle.paths.specs.Grammar.{Verdict, accepted, long, outside, large, verdictCause}
 use Rattle.paths.specs.Chains.{asked, Reply, none, chain, ChainIs}
 use Rattle.paths.specs.Relations.{pairs}
-use Rattle.paths.specs.Questions.{Outcome, paired, replied, unless, pairsWork, chainWork, pairsOf, pairsCauses, pairsAnswer, ReplyTo, steps, chainCauses}
+use Rattle.paths.specs.Questions.{Outcome, Engine, by-trees, by-rows, paired, replied, unless, rowWidth, chainWork, workFor, pairsOf, pairsCauses}
+use Rattle.paths.specs.Questions.{pairsAnswer, ReplyTo, steps, chainCauses}
 use Rattle.paths.specs.Questions.{chainAnswer}
 use Rattle.paths.specs.ChainLaws.{Inside}
 use Rattle.paths.specs.PairLaws.{pairs-are, pairs-only, fit-inside}
@@ -49,6 +51,11 @@ steps-length f none = refl
 steps-length f (chain ws) = length-map (renamedStep f) ws
 
 -- ---- the graph of the closed sheet
+-- fewer records need no more work
+work-mono : (d : Engine) (m n : ℕ) → m ≤ n → workFor d m ≤ workFor d n
+work-mono by-trees m n h = omega (arith, treeUnit-mono m n h)
+work-mono by-rows m n h = let w : rowWidth m ≤ rowWidth n = omega arith in omega (arith, mul-le-mul h w)
+
 module _ (b : Book) (o : Sound b) where
   abbrev u : ℕ → Bool
   u = used (b .n) (b .sheet)
@@ -119,19 +126,19 @@ module _ (b : Book) (o : Sound b) where
   shut-pairs-of large = refl
 
   -- work that is enough for the old n is enough for the new one
-  shut-work : (work : ℕ) → pairsWork (b .n) ≤ work → ltb work (pairsWork (rank u (b .n))) ≡ ltb work (pairsWork (b .n))
-  shut-work work h =
-      le-ltb work (pairsWork (rank u (b .n))) (omega (arith, treeUnit-mono (rank u (b .n)) (b .n) (rank-le u (b .n)))) ∙ sym (le-ltb work (pairsWork (b .n)) h)
+  shut-work : (d : Engine) (work : ℕ) → workFor d (b .n) ≤ work → ltb work (workFor d (rank u (b .n))) ≡ ltb work (workFor d (b .n))
+  shut-work d work h =
+      le-ltb work (workFor d (rank u (b .n))) (omega (arith, work-mono d (rank u (b .n)) (b .n) (rank-le u (b .n)), h)) ∙ sym (le-ltb work (workFor d (b .n)) h)
 
-  shut-pairs-answer : (v : Verdict) (work room : ℕ) → pairsWork (b .n) ≤ work
-      → pairsAnswer shut v work room ≡ renamedOutcome (rank u) (pairsAnswer b v work room)
+  shut-pairs-answer : (d : Engine) (v : Verdict) (work room : ℕ) → workFor d (b .n) ≤ work
+      → pairsAnswer d shut v work room ≡ renamedOutcome (rank u) (pairsAnswer d b v work room)
   unfolding pairsAnswer pairsCauses renamedOutcome
-  shut-pairs-answer v work room h =
+  shut-pairs-answer d v work room h =
       ap₂ (λ (t : Bool) (l : List ℕ). unless (firstNumber (verdictCause v ++ ((short-work, t) ∷ []))) (paired (length l) (take room l)))
-      (shut-work work h) (shut-pairs-of v)
-      ∙ ap₂ (λ (k : ℕ) (l : List ℕ). unless (firstNumber (pairsCauses b v work)) (paired k l))
+      (shut-work d work h) (shut-pairs-of v)
+      ∙ ap₂ (λ (k : ℕ) (l : List ℕ). unless (firstNumber (pairsCauses d b v work)) (paired k l))
       (length-map (renamedPair (rank u)) (pairsOf b v)) (take-map (renamedPair (rank u)) room (pairsOf b v))
-      ∙ renamed-unless (rank u) (firstNumber (pairsCauses b v work)) (paired (length (pairsOf b v)) (take room (pairsOf b v)))
+      ∙ renamed-unless (rank u) (firstNumber (pairsCauses d b v work)) (paired (length (pairsOf b v)) (take room (pairsOf b v)))
 
   -- ---- chains
   module _ (x y : ℕ) (p : u x ≡ true) (q : u y ≡ true) where
@@ -184,9 +191,9 @@ module _ (b : Book) (o : Sound b) (room : ℕ) (a : answer b (close room) ≡ 0)
   unfolding answer next closed
   closed-is = ap (λ (k : ℕ). closed k b) a
 
-  pub closing-pairs : (v : Verdict) (work list : ℕ) → pairsWork (b .n) ≤ work
-      → pairsAnswer (next b (close room)) v work list ≡ renamedOutcome (newNumber b) (pairsAnswer b v work list)
-  closing-pairs v work list h = ap (λ (c : Book). pairsAnswer c v work list) closed-is ∙ shut-pairs-answer b o v work list h
+  pub closing-pairs : (d : Engine) (v : Verdict) (work list : ℕ) → workFor d (b .n) ≤ work
+      → pairsAnswer d (next b (close room)) v work list ≡ renamedOutcome (newNumber b) (pairsAnswer d b v work list)
+  closing-pairs d v work list h = ap (λ (c : Book). pairsAnswer d c v work list) closed-is ∙ shut-pairs-answer b o d v work list h
 
   module _ (x y : ℕ) (p : used (b .n) (b .sheet) x ≡ true) (q : used (b .n) (b .sheet) y ≡ true) where
     pub closing-chain : (v : Verdict) (t : Reply) (work list : ℕ) → chainWork (b .n) ≤ work → ReplyTo (asked b) v x y t

@@ -15,7 +15,7 @@ use Rattle.book.specs.Book.{Link, Book, present, isWithdrawn}
 use Rattle.paths.specs.Grammar.{Verdict, accepted, long, outside, large}
 use Rattle.paths.specs.Chains.{Graph, asked, Reply, none}
 use Rattle.paths.specs.Relations.{pairs}
-use Rattle.paths.specs.Questions.{paired, unless, pairsOf, pairsCauses, pairsAnswer, ReplyTo, chainCauses, chainAnswer}
+use Rattle.paths.specs.Questions.{Engine, paired, unless, pairsOf, pairsCauses, pairsAnswer, ReplyTo, chainCauses, chainAnswer}
 use Rattle.paths.specs.ChainLaws.{Inside}
 use Rattle.paths.specs.FirstChainLaws.{reply}
 
@@ -25,9 +25,9 @@ unfolding asked
 same-graph b c p q w = λ i. record { n = p i; inUse = λ x. ltb x (p i) && not (w x i); present = λ k. q k i }
 
 module _ (b c : Book) (p : b .n ≡ c .n) where
-  same-causes : (v : Verdict) (work : ℕ) → pairsCauses b v work ≡ pairsCauses c v work
+  same-causes : (d : Engine) (v : Verdict) (work : ℕ) → pairsCauses d b v work ≡ pairsCauses d c v work
   unfolding pairsCauses
-  same-causes v work = rw p
+  same-causes d v work = rw p
 
   same-members : asked b ≡ asked c → (v : Verdict) → pairsOf b v ≡ pairsOf c v
   unfolding pairsOf
@@ -36,10 +36,10 @@ module _ (b c : Book) (p : b .n ≡ c .n) where
   same-members g outside = refl
   same-members g large = refl
 
-  pub same-pairs : asked b ≡ asked c → (v : Verdict) (work room : ℕ) → pairsAnswer b v work room ≡ pairsAnswer c v work room
+  pub same-pairs : asked b ≡ asked c → (d : Engine) (v : Verdict) (work room : ℕ) → pairsAnswer d b v work room ≡ pairsAnswer d c v work room
   unfolding pairsAnswer
-  same-pairs g v work room =
-      ap₂ (λ (cs : List (Cause × Bool)) (l : List ℕ). unless (firstNumber cs) (paired (length l) (take room l))) (same-causes v work) (same-members g v)
+  same-pairs g d v work room =
+      ap₂ (λ (cs : List (Cause × Bool)) (l : List ℕ). unless (firstNumber cs) (paired (length l) (take room l))) (same-causes d v work) (same-members g v)
 
   pub same-chain : (x y : ℕ) (v : Verdict) (t : Reply) (work room : ℕ) → chainAnswer b x y v t work room ≡ chainAnswer c x y v t work room
   unfolding chainAnswer chainCauses

@@ -36,7 +36,7 @@ use Rattle.paths.specs.Expressions.{Expr}
 use Rattle.paths.specs.Grammar.{Verdict, accepted, long, outside, large, verdictCause}
 use Rattle.paths.specs.Chains.{Graph, asked, Reply, none, ChainIs, no-chain}
 use Rattle.paths.specs.Relations.{cells, PairsAre, pairs}
-use Rattle.paths.specs.Questions.{paired, unless, chainWork, pairsOf, pairsCauses, pairsAnswer, steps, chainCauses}
+use Rattle.paths.specs.Questions.{Engine, paired, unless, chainWork, pairsOf, pairsCauses, pairsAnswer, steps, chainCauses}
 use Rattle.paths.specs.ChainLaws.{Inside}
 use Rattle.paths.specs.RelationLaws.{cells-has}
 
@@ -66,11 +66,11 @@ first-from m (suc k) w v (x ∷ l) (rises h r) (there i) (there j) n = first-fro
 pub first-part : (k w v : ℕ) (l : List ℕ) → Rises 0 l → In w (take k l) → In v l → (In v (take k l) → ⊥) → w < v
 first-part k w v l = first-from 0 k w v l
 
-pub long-enough : (b : Book) (v : Verdict) (work room : ℕ) → length (pairsOf b v) ≤ room
-    → pairsAnswer b v work room ≡ unless (firstNumber (pairsCauses b v work)) (paired (length (pairsOf b v)) (pairsOf b v))
+pub long-enough : (d : Engine) (b : Book) (v : Verdict) (work room : ℕ) → length (pairsOf b v) ≤ room
+    → pairsAnswer d b v work room ≡ unless (firstNumber (pairsCauses d b v work)) (paired (length (pairsOf b v)) (pairsOf b v))
 unfolding pairsAnswer
-long-enough b v work room h =
-    ap (λ (ws : List ℕ). unless (firstNumber (pairsCauses b v work)) (paired (length (pairsOf b v)) ws)) (take-all room (pairsOf b v) h)
+long-enough d b v work room h =
+    ap (λ (ws : List ℕ). unless (firstNumber (pairsCauses d b v work)) (paired (length (pairsOf b v)) ws)) (take-all room (pairsOf b v) h)
 
 -- ---- the graph of a book
 pub withdrawn-out : (b : Book) (x : ℕ) → isWithdrawn (b .sheet) x ≡ true → asked b .inUse x ≡ false
@@ -117,12 +117,12 @@ text-in-order long t u = same-cause (passed-over (passed-over (same-cause (same-
 text-in-order outside t u = passed-over (same-cause (passed-over (same-cause (same-cause none-left))))
 text-in-order large t u = passed-over (passed-over (same-cause (same-cause (same-cause none-left))))
 
-pub pairs-in-order : (b : Book) (v : Verdict) (work : ℕ) → InOrder (pairsCauses b v work) questionOrder
+pub pairs-in-order : (d : Engine) (b : Book) (v : Verdict) (work : ℕ) → InOrder (pairsCauses d b v work) questionOrder
 unfolding pairsCauses verdictCause questionOrder
-pairs-in-order b (accepted e) work = passed-over (passed-over (passed-over (passed-over (same-cause none-left))))
-pairs-in-order b long work = passed-over (same-cause (passed-over (passed-over (same-cause none-left))))
-pairs-in-order b outside work = passed-over (passed-over (same-cause (passed-over (same-cause none-left))))
-pairs-in-order b large work = passed-over (passed-over (passed-over (same-cause (same-cause none-left))))
+pairs-in-order d b (accepted e) work = passed-over (passed-over (passed-over (passed-over (same-cause none-left))))
+pairs-in-order d b long work = passed-over (same-cause (passed-over (passed-over (same-cause none-left))))
+pairs-in-order d b outside work = passed-over (passed-over (same-cause (passed-over (same-cause none-left))))
+pairs-in-order d b large work = passed-over (passed-over (passed-over (same-cause (same-cause none-left))))
 
 pub chain-in-order : (b : Book) (x y : ℕ) (v : Verdict) (t : Reply) (work room : ℕ) → InOrder (chainCauses b x y v t work room) questionOrder
 unfolding chainCauses questionOrder

@@ -1,5 +1,8 @@
--- Laws of a register kept as words: `copy`, the words of marks, what `load` reads and what `store` writes.
+-- Laws of a register kept as words: `copy`, the words of marks, what is read, what `load` reads and what `store` writes.
 --   tested-not, tested  a test that fails, and one that passes
+--   of-others           what is read of words that were found to be no register's
+--   fitted-drop         the words past as many as fit
+--   front-shown         the first of the words of a part
 --   copied-all, copied-more, copied-none, copied-over
 --                       `copy`: all, one word more, no room, a whole array
 --   marked-all          words that are each one of the three marks
@@ -16,15 +19,15 @@ use native.Mathlib.Decide.{decLt}
 use native.Mathlib.Omega.{arith}
 use native.Mathlib.Numerals.{add-one}
 use lib.ListN.{length, take, drop, set, getD, length-append, drop-of-length-le, List·getD-eq-default}
-use lib.Seq.{take-at, drop-at, drop-drop, take-length, length-take-le, paste, paste-suc}
+use lib.Seq.{take-all, take-at, take-take, drop-at, drop-drop, take-length, length-take-le, paste, paste-suc}
 use Rattle.book.specs.Causes.{number, labels, maxRecords, maxLinks, maxHeld}
 use Rattle.book.specs.Book.{fresh}
 use Rattle.register.specs.Counters.{Ranged, InRange}
 use Rattle.register.specs.Representation.{Represents}
 use Rattle.register.specs.Marks.{freeMark, withdrawnMark, Marked}
-use Rattle.register.specs.Inner.{Formed, Tested}
-use Rattle.register.specs.Words.{stateWords, linksAt, ringAt, marksAt, totalsAt, numbersOf, stateOf, Keeps, Copies, Loads, Stores}
-use Rattle.register.specs.WordLaws.{keeps-formed}
+use Rattle.register.specs.Inner.{KeepsOne, Tested}
+use Rattle.register.specs.Words.{stateWords, linksAt, ringAt, marksAt, totalsAt, numbersOf, stateOf, Keeps, OfWords, Copies, Loads, Stores}
+use Rattle.register.specs.WordLaws.{of-foreign, formed-keeps, keeps-formed}
 use Rattle.register.specs.declared.Register.{Register}
 use Rattle.register.specs.declared.Answer.the-variants.{Done, Refused}
 
@@ -34,6 +37,27 @@ tested-not f = record { sure = λ e. absurd (false≢true e); none = λ _ p. f p
 
 pub tested : {P : Type 0} → P → Tested P true
 tested p = record { sure = λ _. p; none = λ e. absurd (true≢false e) }
+
+-- ---- reading
+pub of-others : {A : Type 0} {ws : List ℕ} {P : Register → A → Type 0} {none : A} {ok : Bool} → Tested (KeepsOne ws) ok → ok ≡ false → OfWords ws P none none
+of-others t e = of-foreign (λ r k. t .none e (r, k)) refl
+
+pub fitted-drop : (ws : List ℕ) (i at : ℕ) → i ≤ length ws → take i ws ≡ take at ws → drop i ws ≡ drop at ws
+fitted-drop ws i at h e = go (decLt (length ws) at)
+  where
+    long : length (take at ws) ≡ i
+    long = sym (ap length e) ∙ length-take-le i ws h
+
+    go : Dec (length ws < at) → drop i ws ≡ drop at ws
+    go (yes l) =
+        drop-of-length-le ws {i = i} (omega (arith, long, ap length (take-all at ws (omega (arith, l)))))
+        ∙ sym (drop-of-length-le ws {i = at} (omega (arith, l)))
+    go (no l) = let same : i ≡ at = omega (arith, long, length-take-le at ws (omega (arith, l))) in ap (λ (j : ℕ). drop j ws) same
+
+pub front-shown : (ws : List ℕ) (at most : ℕ) {out l : List ℕ} {c n : ℕ} → out ≡ take c (drop at ws) → c ≡ n → n ≤ most → take most (drop at ws) ≡ l
+    → out ≡ take n l
+front-shown ws at most {n = n} e q h s =
+    e ∙ ap (λ (k : ℕ). take k (drop at ws)) q ∙ sym (take-take n most (drop at ws) h) ∙ ap (take n) s
 
 -- ---- copy
 pub copied-all : (xs : List ℕ) (at : ℕ) (before after : List ℕ) → at + length xs ≤ length before
@@ -67,15 +91,18 @@ marked-all ms f i = go (decLt i (length ms))
 
 -- ---- load
 pub formed-by : (ws : List ℕ) (ok : Bool) → stateWords ≤ length ws → Ranged (getD ws 0 0) (getD ws 1 0) (getD ws 2 0) (getD ws 3 0)
-    → Tested (Marked (take maxRecords (drop marksAt ws))) ok → Tested (Formed ws) ok
-formed-by ws ok l r t = record { sure = λ e. record { long = l; ranged = r; marked = t .sure e }; none = λ e f. t .none e (f .marked) }
+    → Tested (Marked (take maxRecords (drop marksAt ws))) ok → Tested (KeepsOne ws) ok
+formed-by ws ok l r t = record {
+  sure = λ e. formed-keeps ws (record { long = l; ranged = r; marked = t .sure e });
+  none = λ e k. t .none e (keeps-formed ws k .marked);
+}
 
-pub load-refused : (ws : List ℕ) (ok : Bool) {r : Register} → Tested (Formed ws) ok → ok ≡ false → Represents r (fresh 0)
+pub load-refused : (ws : List ℕ) (ok : Bool) {r : Register} → Tested (KeepsOne ws) ok → ok ≡ false → Represents r (fresh 0)
     → Loads ws (record { register = r; answer = Refused 16 })
 unfolding number
 load-refused ws ok t e h = record {
   loaded = λ z. let u : _≡_ {A = ℕ} 0 1 = cc in absurd (omega arith);
-  refused = λ _. (refl, (λ r k. t .none e (keeps-formed ws r k)), h);
+  refused = λ _. (refl, (λ r k. t .none e (r, k)), h);
 }
 
 pub load-made : {ws : List ℕ} {r : Register} → Keeps ws r → Loads ws (record { register = r; answer = Done })

@@ -35,7 +35,7 @@ use Rattle.register.specs.Packed.{Packed, heldWord, takeBackKind, takeBa
 use Rattle.register.specs.Counters.{Ranged, InRange}
 use Rattle.register.specs.Representation.{heldWords, packedOf, Represents}
 use Rattle.register.specs.Calls.{answerOf, Opens, Steps}
-use Rattle.register.specs.Inner.{linkCauses, Guarded, Counted, Kept, Holding, Changed}
+use Rattle.register.specs.Inner.{linkCauses, Guarded, Tallied, Kept, Holding, Changed}
 use Rattle.register.specs.declared.Register.{Register}
 use Rattle.register.specs.declared.Answer.the-variants.{Done, Refused}
 use Rattle.register.proofs.TotalLaws.{held-counted, represents-counted, counted-totals}
@@ -210,7 +210,7 @@ pub record Restored (self : Register) (w : ℕ) (r : Register) : Type 0 where
   pub ranged : InRange r
   pub words : heldWords self ≡ w ∷ heldWords r
   pub sheet : Rises 0 (packedOf self .links) → length (takeBack w (packedOf self) .links) ≤ maxLinks → packedOf r ≡ takeBack w (packedOf self)
-  pub counted : Rises 0 (packedOf self .links) → Counted self → Counted r
+  pub counted : Rises 0 (packedOf self .links) → Tallied self → Tallied r
 
 module _ (self : Register) (inside : InRange self) (w : ℕ) (r : Register) (u : Restored self w r) where
   -- the pile has a top, and the register goes back to it

@@ -9,8 +9,12 @@
 --                         what `ranged`, `check_link`, `hold`, the inner edits and `taken_back` promise
 --   Raised l ts us, Lowered l ts us
 --                         what `raise` and `lower` promise: one more and one less of the label l, where the total has room for it
---   Counted r             the totals of the register are those of its links' words
+--   Tallied r             the totals of the register are those of its links' words
 --   Formed ws             the words of a register, as they are told: enough of them, the counters in range, each mark one of the three
+--   KeepsOne ws           the front of ws is the words of a register
+--   SizeIn ws n           n is the size of the register whose words are ws, 0 if they are no register's, and at most 1,024
+--   markIn ws x           the mark of the record x, as it stands among any words
+--   Shown ws f l          of a register's words l is f of that register
 --   Tested P ok           ok is whether P
 -- Assumes nothing: these are definitions.
 use mathlib.Core.Path.{_≡_}
@@ -24,11 +28,12 @@ use Rattle.book.specs.Causes.{Cause, no-record, bad-label, locked-end, not-open
 use Rattle.book.specs.Causes.{maxHeld}
 use Rattle.book.specs.Book.{Link}
 use Rattle.register.specs.Links.{linkWord, wordTotal}
-use Rattle.register.specs.Marks.{lockMark, withdrawnMark, hasMark, Marked}
+use Rattle.register.specs.Marks.{freeMark, lockMark, withdrawnMark, hasMark, Marked}
 use Rattle.register.specs.Packed.{Packed, takeBackKind}
 use Rattle.register.specs.Counters.{Ranged}
 use Rattle.register.specs.Representation.{heldWords, packedOf}
-use Rattle.register.specs.Words.{stateWords, marksAt}
+use Rattle.register.specs.Questions.{Sized}
+use Rattle.register.specs.Words.{stateWords, marksAt, Keeps, OfWords}
 use Rattle.register.specs.declared.Register.{Register}
 use Rattle.register.specs.declared.LinkCheck.{LinkCheck}
 use Rattle.register.specs.declared.LinkCheck.the-variants.{Word, Fault}
@@ -91,25 +96,37 @@ pub record Raised (l : ℕ) (ts us : List ℕ) : Type 0 where
 pub record Lowered (l : ℕ) (ts us : List ℕ) : Type 0 where
   pub less : (j : ℕ) → j < labels → bit (eqb l j) ≤ getD ts j 0 → getD ts j 0 ≡ bit (eqb l j) + getD us j 0
 
-abbrev pub Counted : Register → Type 0
-Counted r = (l : ℕ) → l < labels → getD (r .totals) l 0 ≡ wordTotal l (packedOf r .links)
+abbrev pub Tallied : Register → Type 0
+Tallied r = (l : ℕ) → l < labels → getD (r .totals) l 0 ≡ wordTotal l (packedOf r .links)
 
 -- where the words ascend, the sheet is changed to p, and the totals follow
 pub record Changed (self : Register) (p : Packed) (r : Register) : Type 0 where
   pub kept : Kept self r
   pub sheet : Rises 0 (packedOf self .links) → packedOf r ≡ p
-  pub counted : Rises 0 (packedOf self .links) → Counted self → Counted r
+  pub counted : Rises 0 (packedOf self .links) → Tallied self → Tallied r
 
 -- where the words ascend and there is room, an edit is taken back, and the totals follow
 pub record TakenBack (self : Register) (kind x : ℕ) (r : Register) : Type 0 where
   pub kept : Kept self r
   pub sheet : Rises 0 (packedOf self .links) → length (takeBackKind kind x (packedOf self) .links) ≤ maxLinks → packedOf r ≡ takeBackKind kind x (packedOf self)
-  pub counted : Rises 0 (packedOf self .links) → Counted self → Counted r
+  pub counted : Rises 0 (packedOf self .links) → Tallied self → Tallied r
 
 pub record Formed (ws : List ℕ) : Type 0 where
   pub long : stateWords ≤ length ws
   pub ranged : Ranged (getD ws 0 0) (getD ws 1 0) (getD ws 2 0) (getD ws 3 0)
   pub marked : Marked (take maxRecords (drop marksAt ws))
+
+abbrev pub KeepsOne : List ℕ → Type 0
+KeepsOne ws = (r : Register) × Keeps ws r
+
+abbrev pub SizeIn : List ℕ → ℕ → Type 0
+SizeIn ws n = (n ≤ maxRecords) × OfWords ws Sized 0 n
+
+unfoldable pub markIn : List ℕ → ℕ → ℕ
+markIn ws x = getD (take maxRecords (drop marksAt ws)) x freeMark
+
+abbrev pub Shown : List ℕ → (Register → List ℕ) → List ℕ → Type 0
+Shown ws f l = (r : Register) → Keeps ws r → l ≡ f r
 
 pub record Tested (P : Type 0) (ok : Bool) : Type 0 where
   pub sure : ok ≡ true → P

@@ -6,7 +6,6 @@
 --   Locking self k r     what `is_locked` promises: whether the record k is locked
 --   Withdrawal self k r  what `is_withdrawn` promises: whether it is withdrawn
 --   TotalList self r     what `totals` promises: for every book that the register represents, the total of each label
---   totalOf k t          the answer whose number is k: the total t if k is 0, else refused with k
 --   totalAnswer s l      the answer to asking for the total of the label l of the sheet s: the number of its links, or refused with 3
 --   Totals self l a      what `total` promises: for every book that the register represents, that answer; of other contents 16 or 3 on their causes, else some
 --                        number
@@ -14,18 +13,19 @@
 use mathlib.Core.Path.{_≡_}
 use mathlib.Core.List.{List}
 use mathlib.Core.Bool.{Bool, false}
-use Prim.Native.Nat.{ℕ, zero, suc, _≤_, _<_}
+use Prim.Native.Nat.{ℕ, _≤_, _<_}
 use lib.ListN.{length, take, getD, replicate}
 use Rattle.book.specs.Causes.{bad-label, not-open, number, labels, maxRecords, maxLinks}
 use Rattle.book.specs.Book.{Sheet, Book, isLocked, isWithdrawn, total, totalNumber}
+use Rattle.answers.specs.Answers.{answered}
+use Rattle.answers.specs.declared.Counted.{Counted}
+use Rattle.answers.specs.declared.Counted.the-variants.{Count, Refused}
 use Rattle.register.specs.Links.{Linked}
 use Rattle.register.specs.Marks.{freeMark, markOf}
 use Rattle.register.specs.Counters.{InRange}
 use Rattle.register.specs.Representation.{Represents}
 use Rattle.register.specs.declared.Register.{Register}
 use Rattle.register.specs.declared.Links.{Links}
-use Rattle.register.specs.declared.TotalAnswer.{TotalAnswer}
-use Rattle.register.specs.declared.TotalAnswer.the-variants.{Total, Refused}
 
 pub record Sized (self : Register) (n : ℕ) : Type 0 where
   pub small : n ≤ maxRecords
@@ -56,17 +56,13 @@ pub record TotalList (self : Register) (r : List ℕ) : Type 0 where
   pub foreign : (InRange self → ⊥) → r ≡ replicate labels 0
   pub totals : (b : Book) → Represents self b → (l : ℕ) → l < labels → getD r l 0 ≡ total (b .sheet) l
 
-abbrev pub totalOf : ℕ → ℕ → TotalAnswer
-totalOf zero t = Total t
-totalOf (suc k) t = Refused (suc k)
+abbrev pub totalAnswer : Sheet → ℕ → Counted
+totalAnswer s l = answered (totalNumber l) (total s l)
 
-abbrev pub totalAnswer : Sheet → ℕ → TotalAnswer
-totalAnswer s l = totalOf (totalNumber l) (total s l)
-
-pub record Totals (self : Register) (l : ℕ) (a : TotalAnswer) : Type 0 where
+pub record Totals (self : Register) (l : ℕ) (a : Counted) : Type 0 where
   -- over any contents
   pub foreign : (InRange self → ⊥) → a ≡ Refused (number not-open)
   pub refused : InRange self → labels ≤ l → a ≡ Refused (number bad-label)
-  pub given : InRange self → l < labels → (t : ℕ) × (a ≡ Total t)
+  pub given : InRange self → l < labels → (t : ℕ) × (a ≡ Count t)
   -- of a register that represents a book
   pub told : (b : Book) → Represents self b → a ≡ totalAnswer (b .sheet) l

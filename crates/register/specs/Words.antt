@@ -6,6 +6,8 @@
 --                   the words of a register: its counters, its links, its ring, its marks, its totals
 --   Keeps ws r      the front of ws is the words of the register r, whose counters are in range and whose marks are marks
 --   Foreign ws      the front of ws is the words of no register
+--   OfWords ws P none a
+--                   what is read of words: of a register's words a is what P promises of that register; of words that are no register's it is none
 --   Copies xs at before after ok
 --                   what `copy` promises: xs from place `at` on, or, if they do not fit there, false and nothing changed
 --   Loads ws out    what `load` promises: the register of the words, or, if they are no register's, 16 and the register of no records
@@ -61,6 +63,10 @@ pub record Keeps (ws : List ℕ) (r : Register) : Type 0 where
 
 abbrev pub Foreign : List ℕ → Type 0
 Foreign ws = (r : Register) → Keeps ws r → ⊥
+
+pub record OfWords {A : Type 0} (ws : List ℕ) (P : Register → A → Type 0) (none a : A) : Type 0 where
+  pub kept : (r : Register) → Keeps ws r → P r a
+  pub foreign : Foreign ws → a ≡ none
 
 pub record Copies (xs : List ℕ) (at : ℕ) (before after : List ℕ) (ok : Bool) : Type 0 where
   pub fits : at + length xs ≤ length before → (ok ≡ true) × (after ≡ take at before ++ xs ++ drop (at + length xs) before)

@@ -3,11 +3,13 @@
 use crate::Answer;
 use crate::FREE_MARK;
 use crate::FROM_UNIT;
-use crate::LABEL_UNIT;
 use crate::LOCK_MARK;
 use crate::Outcome;
 use crate::Register;
 use crate::WITHDRAWN_MARK;
+use crate::fields::from_of;
+use crate::fields::label_of;
+use crate::fields::to_of;
 use crate::state::ranged;
 ghost use mathlib.Core.Path.{_≡_};
 ghost use mathlib.Core.List.{map, _++_};
@@ -65,9 +67,9 @@ fn renamed(word: u32, ranks: &[u32]) -> u32
     requires { ⌜ Small (now ranks) ⌝ }
     ensures { λ r. ⌜ r ≡ renamedWord (newOf (now (ranks .entry))) «word» ⌝ }
 {
-    let from = ranks[(word / FROM_UNIT % FROM_UNIT) as usize];
-    let to = ranks[(word % FROM_UNIT) as usize];
-    (word / LABEL_UNIT * FROM_UNIT + from) * FROM_UNIT + to
+    let from = ranks[from_of(word) as usize];
+    let to = ranks[to_of(word) as usize];
+    (label_of(word) * FROM_UNIT + from) * FROM_UNIT + to
 }
 
 // The first count words with their records renamed.

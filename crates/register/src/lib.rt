@@ -1,9 +1,10 @@
-// The register: links, marks and held edits by value. This file has its types and its numbers, and passes the rest on: sorted.rt ascending words,
-// state.rt a fresh register, totals.rt the totals, edits.rt the calls that edit it, closing.rt closing up its numbers, parting.rt the register without
-// a record's links, history.rt a history as words, questions.rt what questions read, words.rt its words.
+// The register: links, marks and held edits by value. This file has its types and its numbers, and passes the rest on: sorted.rt ascending words, fields.rt
+// the parts of a link's word, state.rt a fresh register, totals.rt the totals, edits.rt the calls that edit it, closing.rt closing up its numbers,
+// parting.rt the register without a record's links, history.rt a history as words, questions.rt what questions read, words.rt its words.
 // What the calls promise is stated in specs/Calls.antt, specs/History.antt and specs/Questions.antt, about the plain book of the crate book.
 mod closing;
 mod edits;
+mod fields;
 mod history;
 mod parting;
 mod questions;
@@ -12,6 +13,8 @@ mod state;
 mod totals;
 mod words;
 
+pub use fields::from_of;
+pub use fields::to_of;
 pub use history::ADD_KIND;
 pub use history::Entry;
 pub use history::LOCK_KIND;
@@ -26,6 +29,15 @@ pub use questions::label_part;
 pub use state::number_of;
 pub use words::STATE_WORDS;
 pub use words::copy;
+pub use words::fitting;
+pub use words::has_mark;
+pub use words::is_register;
+pub use words::links_in;
+pub use words::mark_in;
+pub use words::marks_in;
+pub use words::size_in;
+pub use words::total_in;
+pub use words::totals_in;
 
 // The limits of the crate book, as wide as what is compared with them.
 const MAX_RECORDS: u16 = book::MAX_RECORDS as u16;
@@ -55,7 +67,7 @@ const REINSTATED: u32 = 5 * KIND_UNIT;
 // A record's mark: in use and not locked, locked, or withdrawn.
 const FREE_MARK: u32 = 0;
 
-const LOCK_MARK: u32 = 1;
+pub const LOCK_MARK: u32 = 1;
 
 pub const WITHDRAWN_MARK: u32 = 2;
 
@@ -102,12 +114,6 @@ pub struct Outcome {
 pub struct Links {
     pub words: [u32; book::MAX_LINKS],
     pub count: usize,
-}
-
-// The answer to asking for a total: the number of links, or refused with the number of its cause.
-pub enum TotalAnswer {
-    Total(u32),
-    Refused(u32),
 }
 
 // What is found of a link before its presence is: its word, or the number of a refusal.

@@ -1,6 +1,7 @@
 // The register without the links that touch a record. What it promises is stated in specs/Parting.antt.
-use crate::FROM_UNIT;
 use crate::Register;
+use crate::fields::from_of;
+use crate::fields::to_of;
 use crate::state::ranged;
 use crate::totals::lower;
 ghost use mathlib.Core.Path.{_≡_};
@@ -15,10 +16,10 @@ ghost use Rattle.register.specs.Apart.{apartWord, Kept};
 fn stands_apart(word: u32, record: u16) -> bool
     ensures { λ r. ⌜ r ≡ apartWord «record» «word» ⌝ }
 {
-    if word / FROM_UNIT % FROM_UNIT == record as u32 {
+    if from_of(word) == record as u32 {
         return false;
     }
-    word % FROM_UNIT != record as u32
+    to_of(word) != record as u32
 }
 
 // The totals with one link less of the label of a link's word.

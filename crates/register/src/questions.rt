@@ -8,10 +8,10 @@ use crate::Links;
 use crate::MAX_RECORDS;
 use crate::Register;
 use crate::TO_UNIT;
-use crate::TotalAnswer;
 use crate::WITHDRAWN_MARK;
 use crate::sorted::place;
 use crate::state::ranged;
+use answers::Counted;
 ghost use mathlib.Core.Path.{_≡_};
 ghost use mathlib.Core.List.{map};
 ghost use Prim.Native.Nat.{_≤_, _<_};
@@ -94,16 +94,17 @@ impl Register {
     }
 
     // The number of links of a label, as it is kept: 16 of contents out of range, then 3 for a label above 25.
-    pub fn total(self, label: u8) -> TotalAnswer
+    pub fn total(self, label: u8) -> Counted
         ensures { λ a. ⌜ Totals self label a ⌝ }
     {
         if !ranged(self.n, self.count, self.top, self.held) {
-            return TotalAnswer::Refused(book::NOT_OPEN);
+            return Counted::Refused(book::NOT_OPEN);
         }
         if LABELS <= label {
-            return TotalAnswer::Refused(book::BAD_LABEL);
+            return Counted::Refused(book::BAD_LABEL);
         }
-        TotalAnswer::Total(self.totals[label as usize])
+        let kept = self.totals[label as usize];
+        Counted::Count(kept as usize)
     }
 }
 

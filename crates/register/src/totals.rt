@@ -1,5 +1,5 @@
 // The totals of the labels: one more or one less of a word's label. Contents that no call of the engine made are left where there is no room.
-use crate::LABEL_UNIT;
+use crate::fields::label_of;
 ghost use mathlib.Core.Path.{_≡_};
 ghost use Prim.Native.Nat.{_/_};
 ghost use lib.ListN.{length};
@@ -15,7 +15,7 @@ pub fn raise(totals: &mut [u32; book::LABELS], x: u32)
     requires { ⌜ length (now totals) ≡ labels ⌝ }
     ensures { λ _. ⌜ Raised (x / labelUnit) (now (totals .entry)) (now (totals .exit)) ⌝ }
 {
-    let label = (x / LABEL_UNIT) as usize;
+    let label = label_of(x) as usize;
     if book::LABELS <= label {
         return;
     }
@@ -30,7 +30,7 @@ pub fn lower(totals: &mut [u32; book::LABELS], x: u32)
     requires { ⌜ length (now totals) ≡ labels ⌝ }
     ensures { λ _. ⌜ Lowered (x / labelUnit) (now (totals .entry)) (now (totals .exit)) ⌝ }
 {
-    let label = (x / LABEL_UNIT) as usize;
+    let label = label_of(x) as usize;
     if book::LABELS <= label {
         return;
     }

@@ -1,14 +1,24 @@
 // A register kept as words by its caller: n, count, top, held, 4,096 words of links, 256 of the ring, 1,024 of marks, 26 of totals, in the front of a slice
-// of at least so many. What reading and writing them promise is stated in specs/Words.antt.
+// of at least so many. Here alone stands where each of them is: what is read of such words without loading the register, and how it is loaded and stored.
+// What that promises is stated in specs/Words.antt.
 use crate::Answer;
+use crate::LABELS;
 use crate::Outcome;
 use crate::Register;
 use crate::WITHDRAWN_MARK;
 use crate::state::empty;
 use crate::state::ranged;
-ghost use Rattle.register.specs.Marks.{Marked};
-ghost use Rattle.register.specs.Inner.{Formed, Tested};
-ghost use Rattle.register.specs.Words.{Copies, Loads, Stores};
+use answers::Counted;
+ghost use mathlib.Core.Path.{_≡_};
+ghost use mathlib.Core.Bool.{false};
+ghost use Prim.Native.Nat.{_≤_};
+ghost use lib.ListN.{length, take, drop, getD};
+ghost use Rattle.book.specs.Causes.{not-open, number};
+ghost use Rattle.register.specs.Marks.{hasMark, Marked};
+ghost use Rattle.register.specs.Questions.{Totals};
+ghost use Rattle.register.specs.Inner.{KeepsOne, SizeIn, markIn, Shown, Tested};
+ghost use Rattle.register.specs.Words.{OfWords, Copies, Loads, Stores};
+ghost use Rattle.answers.specs.declared.Counted.the-variants.{Refused};
 
 // The places of the counters, and of the first link, the ring, the first mark and the first total; and how many words a register has.
 const SIZE_AT: usize = 0;
@@ -29,6 +39,9 @@ const TOTALS_AT: usize = MARKS_AT + book::MAX_RECORDS;
 
 pub const STATE_WORDS: usize = TOTALS_AT + book::LABELS;
 
+// The most records, as wide as a word.
+const MOST_SIZE: u32 = book::MAX_RECORDS as u32;
+
 // A part of words copied to a place from word `at` on; false, and nothing written, if it does not fit there.
 pub fn copy(from: &[u32], to: &mut [u32], at: usize) -> bool
     ensures { λ r. ⌜ Copies (now (from .entry)) at (now (to .entry)) (now (to .exit)) r ⌝ }
@@ -47,28 +60,59 @@ pub fn copy(from: &[u32], to: &mut [u32], at: usize) -> bool
     true
 }
 
-// Whether every word is a mark.
+// How many of some words there is room for.
+pub fn fitting(words: &[u32], room: usize) -> usize
+    ensures { λ r. ⌜ (r ≤ length (now (words .entry))) × (r ≤ room) × (take r (now (words .entry)) ≡ take room (now (words .entry))) ⌝ }
+{
+    if room < words.len() {
+        return room;
+    }
+    words.len()
+}
+
+// A part of words, so many from a place on, or as many as there are.
+fn part<'a>(words: &'a [u32], at: usize, count: usize) -> &'a [u32]
+    ensures { λ r. ⌜ now r ≡ take count (drop at (now (words .entry))) ⌝ }
+{
+    let from = fitting(words, at);
+    let rest = &words[from..];
+    let first = fitting(rest, count);
+    &rest[..first]
+}
+
+// The word at a place, 0 past the last.
+fn word_at(words: &[u32], i: usize) -> u32
+    ensures { λ r. ⌜ r ≡ getD (now (words .entry)) i 0 ⌝ }
+{
+    if words.len() <= i {
+        return 0;
+    }
+    words[i]
+}
+
+// Whether every word is a mark. It looks at each, with no way out before the last, so that several are looked at in one step.
 fn marked(words: &[u32]) -> bool
     ensures { λ r. ⌜ Tested (Marked (now (words .entry))) r ⌝ }
 {
+    let mut ok = true;
     let mut i = 0;
     while i < words.len() {
         if WITHDRAWN_MARK < words[i] {
-            return false;
+            ok = false;
         }
         i += 1;
     }
-    true
+    ok
 }
 
 // Whether the front of words is a register's: as many as it has, counters in range, marks that are marks.
-fn is_register(words: &[u32]) -> bool
-    ensures { λ r. ⌜ Tested (Formed (now (words .entry))) r ⌝ }
+pub fn is_register(words: &[u32]) -> bool
+    ensures { λ ok. ⌜ Tested (KeepsOne (now (words .entry))) ok ⌝ }
 {
     if words.len() < STATE_WORDS {
         return false;
     }
-    if 65536 <= words[SIZE_AT] {
+    if MOST_SIZE < words[SIZE_AT] {
         return false;
     }
     let n = words[SIZE_AT] as u16;
@@ -80,6 +124,72 @@ fn is_register(words: &[u32]) -> bool
     }
     marked(&words[MARKS_AT..TOTALS_AT])
 }
+
+// ---- what is read of words without loading the register
+
+// The number of records; 0 of words that are no register's.
+pub fn size_in(words: &[u32]) -> u16
+    ensures { λ n. ⌜ SizeIn (now (words .entry)) n ⌝ }
+{
+    if !is_register(words) {
+        return 0;
+    }
+    words[SIZE_AT] as u16
+}
+
+// The mark of a record, which is looked for among any words.
+pub fn mark_in(words: &[u32], record: u16) -> u32
+    ensures { λ m. ⌜ m ≡ markIn (now (words .entry)) «record» ⌝ }
+{
+    word_at(part(words, MARKS_AT, book::MAX_RECORDS), record as usize)
+}
+
+// Whether a record has a mark; none has of words that are no register's.
+pub fn has_mark(words: &[u32], record: u16, mark: u32) -> bool
+    ensures { λ t. ⌜ OfWords (now (words .entry)) (λ r u. u ≡ hasMark mark (r .marks) «record») false t ⌝ }
+{
+    if !is_register(words) {
+        return false;
+    }
+    mark_in(words, record) == mark
+}
+
+// The number of links of a label: 16 of words that are no register's, then 3 for a label above 25.
+pub fn total_in(words: &[u32], label: u8) -> Counted
+    ensures { λ a. ⌜ OfWords (now (words .entry)) (λ r. Totals r label) (Refused (number not-open)) a ⌝ }
+{
+    if !is_register(words) {
+        return Counted::Refused(book::NOT_OPEN);
+    }
+    if LABELS <= label {
+        return Counted::Refused(book::BAD_LABEL);
+    }
+    let kept = words[TOTALS_AT + label as usize];
+    Counted::Count(kept as usize)
+}
+
+// The links of a register, its marks of the records that there are, its totals: the words themselves; of other words some part of them.
+pub fn links_in<'a>(words: &'a [u32]) -> &'a [u32]
+    ensures { λ l. ⌜ Shown (now (words .entry)) (λ r. take (r .count) (r .links)) (now l) ⌝ }
+{
+    let count = word_at(words, COUNT_AT) as usize;
+    part(words, LINKS_AT, count)
+}
+
+pub fn marks_in<'a>(words: &'a [u32]) -> &'a [u32]
+    ensures { λ l. ⌜ Shown (now (words .entry)) (λ r. take (r .n) (r .marks)) (now l) ⌝ }
+{
+    let n = word_at(words, SIZE_AT) as usize;
+    part(words, MARKS_AT, n)
+}
+
+pub fn totals_in<'a>(words: &'a [u32]) -> &'a [u32]
+    ensures { λ l. ⌜ Shown (now (words .entry)) (λ r. r .totals) (now l) ⌝ }
+{
+    part(words, TOTALS_AT, book::LABELS)
+}
+
+// ---- loaded and stored
 
 impl Register {
     // The register of the words; words that are no register's are refused with 16, and the register handed back has no records.
@@ -126,7 +236,8 @@ impl Register {
         if !ranged(self.n, self.count, self.top, self.held) {
             return false;
         }
-        if !marked(&self.marks) {
+        let marks = self.marks;
+        if !marked(&marks) {
             return false;
         }
         let numbers: [u32; LINKS_AT] = [
@@ -138,7 +249,7 @@ impl Register {
         copy(&numbers, words, SIZE_AT);
         copy(&self.links, words, LINKS_AT);
         copy(&self.ring, words, RING_AT);
-        copy(&self.marks, words, MARKS_AT);
+        copy(&marks, words, MARKS_AT);
         copy(&self.totals, words, TOTALS_AT);
         true
     }

@@ -21,8 +21,8 @@ use native.Mathlib.Decide.{decLt}
 use borrow.Author.Tests.{lt-ltb, le-ltb}
 use lib.ListN.{length, take, getD, length-append}
 use lib.Seq.{take-suc, take-all}
-use Rattle.report.specs.Written.{Wrote}
-use Rattle.report.specs.WrittenLaws.{wrote-none, wrote-as, wrote-then}
+use Rattle.answers.specs.Written.{Wrote}
+use Rattle.answers.specs.WrittenLaws.{wrote-none, wrote-as, wrote-then}
 use Rattle.report.specs.Report.{figure-0, space, newline, figures, decimal, pairLine, stepLine, lines, counted, refusedText, answerText}
 
 -- figures in plenty: how many are asked for does not matter

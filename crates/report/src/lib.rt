@@ -5,7 +5,7 @@ ghost use Prim.Native.Nat.{_+_, _*_, _≤_, _<_};
 ghost use lib.ListN.{length};
 ghost use Rattle.report.specs.Report.{decimal, counted, pairLine, stepLine, labelLetter, senseSign, okText, noneText, refusedText, pairsText, chainText};
 ghost use Rattle.report.specs.Report.{answerText, totalText};
-ghost use Rattle.report.specs.Written.{Wrote};
+ghost use Rattle.answers.specs.Written.{Wrote};
 ghost use mathlib.Core.Path.{_≡_};
 
 pub fn put_byte(b: u8, out: &mut [u8], at: usize) -> usize
@@ -20,12 +20,7 @@ pub fn put_text(text: &[u8], out: &mut [u8], at: usize) -> usize
     requires { ⌜ at + length (now text) ≤ length (now out) ⌝ }
     ensures { λ r. ⌜ Wrote at (now (text .entry)) (now (out .entry)) (now (out .exit)) r ⌝ }
 {
-    let mut i = 0;
-    while i < text.len() {
-        out[at + i] = text[i];
-        i += 1;
-    }
-    at + i
+    answers::copy_u8(text, out, at)
 }
 
 pub fn put_decimal(n: u64, out: &mut [u8], at: usize) -> usize
@@ -81,11 +76,11 @@ pub fn put_answer(k: u32, out: &mut [u8], at: usize) -> usize
     put_refused(k, out, at)
 }
 
-pub fn put_total(t: u32, out: &mut [u8], at: usize) -> usize
+pub fn put_total(t: u64, out: &mut [u8], at: usize) -> usize
     requires { ⌜ at + 27 ≤ length (now out) ⌝ }
     ensures { λ r. ⌜ Wrote at (totalText 0 t) (now (out .entry)) (now (out .exit)) r ⌝ }
 {
-    put_counted(b"total ", t as u64, out, at)
+    put_counted(b"total ", t, out, at)
 }
 
 fn put_pair(w: u32, out: &mut [u8], at: usize) -> usize

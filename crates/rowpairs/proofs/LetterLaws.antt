@@ -35,8 +35,8 @@ use Rattle.reader.specs.Letters.{lettersIn}
 use Rattle.register.specs.Lookups.{PairsOf, LabelPart}
 use Rattle.grid.specs.Grid.{within, first}
 use Rattle.grid.specs.GridLaws.{within-set}
-use Rattle.pairs.specs.Steps.{Lettered}
-use Rattle.pairs.specs.LetterLaws.{links-below}
+use Rattle.query.specs.Evaluation.{Lettered}
+use Rattle.query.specs.LetterLaws.{links-below}
 use Rattle.rowpairs.specs.Labels.{everyLabel, everyIf, steppedBy, steppedBelow, PutBelow}
 
 -- ---- the members of a part
@@ -62,7 +62,7 @@ every-labelled [] h = refl
 every-labelled (w ∷ ws) h = rw (eq-eqb (digit everyLabel (w / 1048576)) 1 (every-digit (w / 1048576) (h w here)), every-labelled ws (λ v i. h v (there i)))
 
 -- ---- the pairs of a label's part
-module _ (b : Book) (n : ℕ) (links used : List ℕ) (L : Lettered b n links used) (l : ℕ) (part : List ℕ) (P : LabelPart links l part) where
+module _ (b : Book) (n : ℕ) (links : List ℕ) (used : ℕ → ℕ) (L : Lettered b n links used) (l : ℕ) (part : List ℕ) (P : LabelPart links l part) where
   abbrev g : Graph
   g = asked b
 
@@ -156,7 +156,7 @@ module _ (n w : ℕ) (links : List ℕ) (forward against : ℕ) (ws ms : List �
 
   module _ (l p t : ℕ) (vs ns : List ℕ) (plain : p ≡ everyIf forward l)
       (turned : t ≡ everyIf against l) (so-far : PutBelow n w links forward against ws ms vs ns l) where
-    next-label : (b : Book) (used vs′ ns′ : List ℕ) → Lettered b n links used
+    next-label : (b : Book) (used : ℕ → ℕ) (vs′ ns′ : List ℕ) → Lettered b n links used
         → first n w vs′ ns′ ≡ union (first n w vs ns) (steppedBy (asked b) (lettersIn forward against) l)
         → first n w vs′ ns′ ≡ union (first n w ws ms) (steppedBelow (asked b) (lettersIn forward against) (l + 1))
     next-label b used vs′ ns′ L made =
@@ -181,7 +181,7 @@ module _ (n w : ℕ) (links : List ℕ) (forward against : ℕ) (ws ms : List �
         ∙ union-right (first n w vs ns)))
 
   pub put-ends : (k : ℕ) (vs ns : List ℕ) → k ≡ 26 → PutBelow n w links forward against ws ms vs ns k
-      → (b : Book) (used : List ℕ) → Lettered b n links used → first n w vs ns ≡ union (first n w ws ms) (crossedBy (asked b) (lettersIn forward against))
+      → (b : Book) (used : ℕ → ℕ) → Lettered b n links used → first n w vs ns ≡ union (first n w ws ms) (crossedBy (asked b) (lettersIn forward against))
   put-ends k vs ns e made b used L =
       made b used L ∙ ap (λ (i : ℕ). union (first n w ws ms) (steppedBelow (asked b) (lettersIn forward against) i)) e
       ∙ ap (union (first n w ws ms)) (below-all (asked b) (lettersIn forward against))

@@ -3,7 +3,6 @@
 --   length-pairs, written-more, written-all
 --                  its pairs written to a list: so many, one more, all
 --   one-shifted    a set of one label as a number
---   some-used      the records in use of a book, as words
 -- Assumes nothing.
 use mathlib.Core.Path.{_≡_, refl, sym, ap, ap₂, _∙_, subst, fun-ext}
 use mathlib.Core.Logic.{_⊎_, ⊎-elim}
@@ -17,16 +16,14 @@ use lib.Pow.{pow-lt}
 use lib.Dec.{eqb}
 use lib.ListN.{length, take, drop, getD, set, drop-of-length-le}
 use lib.Seq.{take-all, drop-cons}
-use borrow.Author.Tests.{eqb-true, eq-eqb, le-ltb}
+use borrow.Author.Tests.{eqb-true, eq-eqb}
 use Rattle.book.specs.Basics.{pick, bit, In}
 use Rattle.book.specs.ListLaws.{rises-same}
-use Rattle.book.specs.Causes.{maxRecords}
 use Rattle.book.specs.Book.{Book, present}
-use Rattle.k2.specs.Bits.{digit, bitAt, packed}
-use Rattle.k2.specs.BitLaws.{packed-length, packed-bits, bit-out}
+use Rattle.k2.specs.Bits.{digit}
 use Rattle.k2.specs.DigitLaws.{digit-pow, digit-none}
 use Rattle.k2.specs.PairSets.{Cells, pairWord, listed, setOf, PairsBelow}
-use Rattle.k2.specs.PairSetLaws.{bit-small, set-in, in-set, in-listed, listed-in, listed-rises}
+use Rattle.k2.specs.PairSetLaws.{set-in, in-set, in-listed, listed-in, listed-rises}
 use Rattle.paths.specs.Expressions.{Letter, Expr}
 use Rattle.paths.specs.Chains.{Graph, asked}
 use Rattle.paths.specs.Relations.{crossedBy, cells, pairs}
@@ -35,12 +32,10 @@ use Rattle.paths.specs.PairLaws.{fit-inside}
 use Rattle.reader.specs.declared.items.Item.{Item}
 use Rattle.reader.specs.Letters.{lettersIn}
 use Rattle.reader.specs.Code.{does, run}
-use Rattle.reader.specs.CodeLaws.{run-code}
 use Rattle.rows.specs.Rows.{linkPair}
 use Rattle.register.specs.Lookups.{LabelPart}
-use Rattle.pairs.specs.Evaluation.{relations}
-use Rattle.pairs.specs.EvaluationLaws.{value-cells}
-use Rattle.pairs.specs.Steps.{Lettered, Coded}
+use Rattle.query.specs.Evaluation.{relations, Coded, Lettered}
+use Rattle.query.specs.EvaluationLaws.{coded-value}
 use Rattle.rowpairs.specs.Labels.{Alone}
 use Rattle.rowpairs.proofs.LetterLaws.{below, part-pairs, part-set}
 
@@ -53,11 +48,9 @@ unfolding run does relations
 alone-cells g l s e c C A =
     let one : c ≡ getD c 0 0 ∷ [] =
     drop-cons c 0 0 (omega (arith, A .single)) ∙ ap (λ (x : List ℕ). getD c 0 0 ∷ x) (drop-of-length-le c {i = 1} (omega (arith, A .single))) in
-    let r : run (relations g) c [] ≡ cells g e ∷ [] =
-    ap (λ (x : List ℕ). run (relations g) x []) (C .is) ∙ run-code (relations g) (C .syntax) [] ∙ ap (λ (a : Cells). a ∷ []) (value-cells g e) in
     let d : run (relations g) c [] ≡ crossedBy g (lettersIn (2 ^ l) 0) ∷ [] =
     ap (λ (x : List ℕ). run (relations g) x []) one ∙ ap (λ (y : Item). does (relations g) y []) (A .letter) in
-    head-same (sym r ∙ d)
+    head-same (sym (coded-value g C) ∙ d)
 
 -- a letter of the two sets is the plain one of the label
 only-letter : (l : ℕ) (a : Letter) → lettersIn (2 ^ l) 0 a ≡ true → (a .inverted ≡ false) × (a .label ≡ l)
@@ -76,7 +69,7 @@ plain-letter : (l : ℕ) → lettersIn (2 ^ l) 0 (record { label = l; inverted =
 unfolding lettersIn
 plain-letter l = eq-eqb (digit (2 ^ l) l) 1 (digit-pow l l ∙ ap (λ (t : Bool). pick t 1 0) (eq-eqb l l refl))
 
-module _ (b : Book) (n : ℕ) (links used : List ℕ) (L : Lettered b n links used) (l : ℕ) (part : List ℕ) (P : LabelPart links l part) where
+module _ (b : Book) (n : ℕ) (links : List ℕ) (used : ℕ → ℕ) (L : Lettered b n links used) (l : ℕ) (part : List ℕ) (P : LabelPart links l part) where
   abbrev ps : List ℕ
   ps = map linkPair part
 
@@ -159,15 +152,3 @@ written-all i c ws list l z h e = e ∙ ⊎-elim
 -- a set of one label
 pub one-shifted : (f t : ℕ) → t < 26 → f ≡ (1 * 2 ^ t) % 2 ^ 32 → f ≡ 2 ^ t
 one-shifted f t h e = e ∙ ap (λ (x : ℕ). x % 2 ^ 32) (let z : 1 * 2 ^ t ≡ 2 ^ t = omega arith in z) ∙ mod-eq-of-lt (pow-lt {j = 32} (omega arith))
-
--- ---- the records in use of a book, as words
-pub some-used : (b : Book) → b .n ≤ maxRecords → (used : List ℕ) × (bitAt used ≡ (λ x. bit (asked b .inUse x)))
-unfolding asked
-some-used b h = (packed 16 f, fun-ext (λ x. go x (decLt x 1024)))
-  where
-    f : ℕ → ℕ
-    f x = bit (asked b .inUse x)
-
-    go : (x : ℕ) → Dec (x < 1024) → bitAt (packed 16 f) x ≡ f x
-    go x (yes k) = packed-bits 16 f x (λ j. bit-small (asked b .inUse j)) (omega arith)
-    go x (no k) = bit-out (packed 16 f) x (rw (packed-length 16 f) (omega arith)) ∙ rw (le-ltb x (b .n) (omega arith)) refl

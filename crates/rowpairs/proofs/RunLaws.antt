@@ -2,11 +2,11 @@
 --   going-begins   before the first number
 --   going-ready, going-more
 --                  the next number finds its operands, and one number more is done
---   reading-used, reading-ready, reading-more
+--   reading-used, reading-few, reading-ready, reading-more
 --                  the same of letters and a `^` after them, read as one
 --   going-ends     one relation is left, and it is the value
 -- Assumes nothing.
-use mathlib.Core.Path.{_≡_, refl, sym, ap, ap₂, _∙_, subst, fun-ext}
+use mathlib.Core.Path.{_≡_, sym, ap, ap₂, _∙_, subst, fun-ext}
 use mathlib.Core.List.{List, [], _∷_}
 use Prim.Native.Nat.{ℕ, zero, suc, _+_, _-_, _*_, _<_, _≤_, max}
 use native.Mathlib.Numerals.{add-one}
@@ -18,39 +18,17 @@ use Rattle.k2.specs.PairSets.{Cells, transpose, most}
 use Rattle.paths.specs.Expressions.{Expr}
 use Rattle.paths.specs.Chains.{Graph, asked}
 use Rattle.paths.specs.Relations.{crossedBy}
+use Rattle.paths.specs.Questions.{rowWidth}
 use Rattle.reader.specs.declared.items.Item.{Item}
 use Rattle.reader.specs.declared.items.Item.the-variants.{Letters, Inverse}
 use Rattle.reader.specs.Letters.{lettersIn}
 use Rattle.reader.specs.Code.{itemOf, does, run}
-use Rattle.reader.specs.Running.{operands, Runs, next}
-use Rattle.reader.specs.CodeLaws.{run-code, runs-code}
+use Rattle.reader.specs.Running.{operands}
 use Rattle.grid.specs.Grid.{first}
-use Rattle.pairs.specs.Evaluation.{relations, heights, most-waiting, Ready}
-use Rattle.pairs.specs.EvaluationLaws.{value-cells, runs-height}
-use Rattle.pairs.specs.RoomLaws.{height-after}
-use Rattle.pairs.specs.Steps.{Coded}
-use Rattle.rowpairs.specs.Asking.{rowWidth}
-use Rattle.rowpairs.specs.Evaluation.{relationAt, lying, Goes, Reading, one-number, turned-letters, Height, Going, ValueFirst}
+use Rattle.query.specs.Evaluation.{relations, Ready, Coded, Height}
+use Rattle.query.specs.EvaluationLaws.{coded-value, height-begins, height-ready, height-next}
+use Rattle.rowpairs.specs.Evaluation.{relationAt, lying, Goes, Reading, one-number, turned-letters, Going, ValueFirst}
 use Rattle.rowpairs.specs.declared.Next.{Next}
-
--- ---- the height of the stack, whatever the contents are
--- the next number finds its operands, and there is room for its value
-height-ready : {i k : ℕ} {c : List ℕ} → Height (i ∷ c) k → Ready (itemOf i) k
-height-ready {i} {k} H = go (H .runs) (H .count)
-  where
-    go : {c st : List ℕ} → Runs heights most-waiting (i ∷ c) st → k ≡ length st → Ready (itemOf i) k
-    go {st = st} (next b h q) e = rw e (record { found = b; few = h; room = omega (arith, runs-height heights q, height-after (itemOf i) st b) })
-
-height-next : {i k k′ : ℕ} {c : List ℕ} → Height (i ∷ c) k → k′ ≡ suc (k - operands (itemOf i)) → Height c k′
-height-next {i} {k} {k′} {c} H e = go (H .runs) (H .count)
-  where
-    go : {st : List ℕ} → Runs heights most-waiting (i ∷ c) st → k ≡ length st → Height c k′
-    go {st} (next b h q) l =
-        record {
-          stack = does heights (itemOf i) st;
-          runs = q;
-          count = e ∙ ap (λ (x : ℕ). suc (x - operands (itemOf i))) l ∙ sym (height-after (itemOf i) st b);
-        }
 
 -- ---- letters and `^`
 turned-crossed : (g : Graph) (forward against : ℕ) → transpose (crossedBy g (lettersIn forward against)) ≡ crossedBy g (lettersIn against forward)
@@ -66,23 +44,12 @@ unfolding does relations
 turned-does g forward against st = ap (λ (a : Cells). a ∷ st) (turned-crossed g forward against)
 
 -- ---- the whole code
-module _ (n : ℕ) (links used c : List ℕ) where
-  pub going-begins : {s : List ℕ} {e : Expr} → Coded s e c → (ws ms : List ℕ) → Going n links used c ws ms 0 0
+module _ (n : ℕ) (links marks c : List ℕ) where
+  pub going-begins : {s : List ℕ} {e : Expr} → Coded s e c → (ws ms : List ℕ) → Going n links marks c ws ms 0 0
   unfolding lying
-  going-begins {s} {e} k ws ms = record {
-    height =
-        record {
-          stack = [];
-          runs =
-              subst (λ (x : List ℕ). Runs heights most-waiting x []) (sym (k .is)) (runs-code heights (k .syntax) most-waiting [] (omega (arith, k .shallow)));
-          count = refl;
-        };
-    rest =
-        λ b L t f q. ap (λ (x : List ℕ). run (relations (asked b)) x []) (q .is)
-        ∙ run-code (relations (asked b)) (q .syntax) [] ∙ ap (λ (a : Cells). a ∷ []) (value-cells (asked b) f);
-  }
+  going-begins k ws ms = record { height = height-begins k; few = omega arith; rest = λ b L t f q. coded-value (asked b) q }
 
-  module _ {ws ms : List ℕ} {k : ℕ} (i : ℕ) (h : i < length c) (G : Going n links used c ws ms k i) where
+  module _ {ws ms : List ℕ} {k : ℕ} (i : ℕ) (h : i < length c) (G : Going n links marks c ws ms k i) where
     next-number : drop i c ≡ getD c i 0 ∷ drop (suc i) c
     next-number = drop-cons c i 0 h
 
@@ -94,10 +61,11 @@ module _ (n : ℕ) (links used c : List ℕ) where
     going-ready is = subst (λ (z : Item). Ready z k) is (height-ready next-height)
 
     pub going-more : {y : Item} {ws′ ms′ : List ℕ} {k′ : ℕ} → itemOf (getD c i 0) ≡ y
-        → Goes n links used y ws ws′ ms ms′ k k′ → Going n links used c ws′ ms′ k′ (i + 1)
+        → Goes n links marks y ws ws′ ms ms′ k k′ → Going n links marks c ws′ ms′ k′ (i + 1)
     unfolding run
     going-more {y} {ws′} {ms′} {k′} is S = rw add-one (record {
       height = height-next next-height (S .count ∙ ap (λ (z : Item). suc (k - operands z)) (sym is));
+      few = omega (arith, G .few, S .count);
       rest = λ b L s e q.
           ap (run (relations (asked b)) (drop (suc i) c)) (sym (S .value b L) ∙ ap (λ (z : Item). does (relations (asked b)) z (lying n ws ms k)) (sym is))
           ∙ ap (λ (x : List ℕ). run (relations (asked b)) x (lying n ws ms k)) (sym next-number)
@@ -109,13 +77,17 @@ module _ (n : ℕ) (links used c : List ℕ) where
     reading-used (one-number is) = (omega arith, omega arith, omega arith)
     reading-used (turned-letters is more then) = (omega arith, omega arith, omega arith)
 
+    -- one relation more than there are waits at the most, and no more than numbers have been run
+    pub reading-few : {q : Next} → Reading c i q → suc (k - operands (q .item)) ≤ length c
+    reading-few r = omega (arith, G .few)
+
     pub reading-ready : {q : Next} → Reading c i q → Ready (q .item) k
     reading-ready (one-number is) = going-ready is
     reading-ready (turned-letters is more then) =
         let r = going-ready is in record { found = r .found; few = r .few; room = r .room }
 
     pub reading-more : {q : Next} {ws′ ms′ : List ℕ} {k′ : ℕ} → Reading c i q
-        → Goes n links used (q .item) ws ws′ ms ms′ k k′ → Going n links used c ws′ ms′ k′ (i + q .used)
+        → Goes n links marks (q .item) ws ws′ ms ms′ k k′ → Going n links marks c ws′ ms′ k′ (i + q .used)
     unfolding run
     reading-more (one-number is) S = going-more is S
     reading-more {ws′ = ws′} {ms′} {k′} (turned-letters {forward} {against} is more then) S =
@@ -126,8 +98,9 @@ module _ (n : ℕ) (links used c : List ℕ) where
         let o : operands (itemOf (getD c i 0)) ≡ 0 = ap operands is in
         let u : operands (itemOf (getD c (suc i) 0)) ≡ 1 = ap operands inverse in
         let H : Height (drop (suc i) c) (suc k) = height-next next-height (omega arith) in
-        subst (λ (j : ℕ). Going n links used c ws′ ms′ k′ j) (sym e) (record {
+        subst (λ (j : ℕ). Going n links marks c ws′ ms′ k′ j) (sym e) (record {
           height = height-next (subst (λ (x : List ℕ). Height x (suc k)) second H) (S .count ∙ omega arith);
+          few = omega (arith, G .few, S .count);
           rest = λ b L s f q.
               let g : Graph = asked b in
               let st : List Cells = lying n ws ms k in
@@ -140,7 +113,7 @@ module _ (n : ℕ) (links used c : List ℕ) where
         })
 
   -- one relation is left, and it is the value
-  pub going-ends : {ws ms : List ℕ} {k i : ℕ} → length c ≤ i → Going n links used c ws ms k i → ValueFirst n links used c ws ms
+  pub going-ends : {ws ms : List ℕ} {k i : ℕ} → length c ≤ i → Going n links marks c ws ms k i → ValueFirst n links marks c ws ms
   unfolding run lying relationAt
   going-ends {ws} {ms} {k} {i} h G =
       record {

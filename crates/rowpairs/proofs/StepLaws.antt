@@ -1,5 +1,4 @@
 -- One number of the code, in plain variables: where relations lie in the work, and what an item does to those that wait.
---   width-le, unit-le  a row has at most 16 words, a relation at most 16,384
 --   start-le, mark-le, space, list-space
 --                      what an item and the list are lent: at most 18 relations stand before, and there is room
 --   rest, part-length  the part that is lent is the rest, and its length
@@ -10,26 +9,25 @@
 use mathlib.Core.Path.{_≡_, refl, sym, ap, ap₂, _∙_, subst}
 use mathlib.Core.List.{List, _∷_, _++_, append-nil}
 use Prim.Native.Nat.{ℕ, zero, suc, _+_, _-_, _*_, _/_, _%_, _<_, _≤_, min}
-use native.Mathlib.Nat.{mul-le-mul, mul-le-mul-right, suc-mul}
+use native.Mathlib.Nat.{mul-le-mul-right, suc-mul}
 use native.Mathlib.Omega.{arith}
 use lib.ListN.{length, take, drop, getD, length-drop}
 use lib.Seq.{drop-at, drop-drop, length-take-le, drop-length, take-all, getD-take, getD-drop}
 use borrow.Rule.Slice.PartMut.{putMid, take-put, mid-len}
 use Rattle.book.specs.Book.{Book}
-use Rattle.book.specs.Causes.{maxRecords}
 use Rattle.k2.specs.Bits.{digit}
 use Rattle.k2.specs.PairSets.{Cells}
 use Rattle.paths.specs.Chains.{Graph, asked}
+use Rattle.paths.specs.Questions.{rowWidth}
 use Rattle.reader.specs.declared.items.Item.{Item}
 use Rattle.reader.specs.declared.items.Item.the-variants.{Letters, Inverse, Star, Plus, Optional, Alternative, Sequence}
 use Rattle.reader.specs.Code.{does}
 use Rattle.reader.specs.Running.{operands}
 use Rattle.grid.specs.Grid.{rowOf, firstRows, first, second}
 use Rattle.grid.specs.GridLaws.{within-same, second-part}
-use Rattle.pairs.specs.Evaluation.{relations}
-use Rattle.pairs.specs.Steps.{Lettered}
-use Rattle.rowpairs.specs.Asking.{rowWidth}
-use Rattle.rowpairs.specs.Evaluation.{Space, Lent, outcomeOf, Operates, relationAt, lying, Goes}
+use Rattle.query.specs.Evaluation.{relations}
+use Rattle.query.specs.WorkLaws.{width-le, width-wide}
+use Rattle.rowpairs.specs.Evaluation.{Space, Lent, Known, outcomeOf, Operates, relationAt, lying, Goes}
 
 -- ---- sizes
 product-le : (k m d : ℕ) → k ≤ m → k * d ≤ m * d
@@ -38,22 +36,13 @@ product-le k m d h = mul-le-mul-right d h
 next-le : (k m d : ℕ) → k < m → k * d + d ≤ m * d
 next-le k m d h = omega (arith, suc-mul k d, product-le (suc k) m d h)
 
-pub width-le : (n : ℕ) → n ≤ maxRecords → rowWidth n ≤ 16
-width-le n h = omega arith
-
-width-wide : (n : ℕ) → n ≤ rowWidth n * 64
-width-wide n = omega arith
-
--- a relation has a row's words at least, and 16,384 at most
+-- a relation has a row's words at least
 width-unit : (n : ℕ) → rowWidth n ≤ n * rowWidth n
 width-unit zero = omega arith
 width-unit (suc n) = omega (arith, suc-mul n (rowWidth (suc n)))
 
-pub unit-le : (n : ℕ) → n ≤ maxRecords → n * rowWidth n ≤ 16384
-unit-le n h = mul-le-mul {n₂ = 1024} {m₂ = 16} h (width-le n h)
-
 -- ---- what an item is lent: the part that begins with its operands, of which 18 relations at most stand before
-module _ (n k cells masks : ℕ) (L : Lent n cells masks) (early : k ≤ 18) where
+module _ (n k cells masks : ℕ) (L : Lent n (suc k) cells masks) (early : k ≤ 18) where
   pub start-le : k * (n * rowWidth n) ≤ 18 * (n * rowWidth n)
   start-le = product-le k 18 (n * rowWidth n) early
 
@@ -66,13 +55,14 @@ module _ (n k cells masks : ℕ) (L : Lent n cells masks) (early : k ≤ 18) whe
     narrow = width-le n (L .small);
     wide = width-wide n;
     words = omega (arith, start-le, L .words, width-unit n);
-    marks = omega (arith, mark-le, L .marks);
+    marks = omega (arith, L .marks, suc-mul k n);
   }
 
 -- what the list is lent
-pub list-space : (n w cells masks : ℕ) → w ≡ rowWidth n → n ≤ maxRecords → 32 * (n * w) ≤ cells → 20 * n < masks
+pub list-space : (n w k cells masks : ℕ) → w ≡ rowWidth n → Lent n k cells masks
     → (n ≤ 1024) × (w ≤ 16) × (n ≤ w * 64) × (n * w ≤ cells) × (n ≤ masks)
-list-space n w cells masks e h l m = (h, rw e (width-le n h), rw e (width-wide n), omega arith, omega arith)
+list-space n w k cells masks e L =
+    (L .small, rw e (width-le n (L .small)), rw e (width-wide n), rw e (omega (arith, L .words)), omega (arith, L .marks))
 
 -- ---- a slice with a part of it, from a place on, changed
 module _ (xs part : List ℕ) (start : ℕ) (h : start ≤ length xs) where
@@ -145,9 +135,9 @@ module _ (n : ℕ) (ws ms : List ℕ) (k : ℕ) where
   does-lying g Sequence m e = ap (λ (i : ℕ). does (relations g) Sequence (lying n ws ms i)) (let z : m ≡ suc (suc k) = omega arith in z)
 
 -- ---- one number: what the operation left at the front of the parts is the relation at the place of its first operand
-module _ (n : ℕ) (links used : List ℕ) (y : Item) (ws part ms marks : List ℕ) (m k : ℕ) (is : m ≡ k + operands y)
+module _ (n : ℕ) (links held : List ℕ) (y : Item) (ws part ms marks : List ℕ) (m k : ℕ) (is : m ≡ k + operands y)
     (a : k * (n * rowWidth n) ≤ length ws) (b : k * n ≤ length ms)
-    (made : (book : Book) → Lettered book n links used → first n (rowWidth n) part marks
+    (made : (book : Book) → Known book n links held → first n (rowWidth n) part marks
     ≡ outcomeOf (asked book) y (first n (rowWidth n) (drop (k * (n * rowWidth n)) ws) (drop (k * n) ms))
     (second n (rowWidth n) (drop (k * (n * rowWidth n)) ws) (drop (k * n) ms))) where
   abbrev ws′ : List ℕ
@@ -160,7 +150,7 @@ module _ (n : ℕ) (links used : List ℕ) (y : Item) (ws part ms marks : List �
   unfolding relationAt
   at-place = ap₂ (λ (l m : List ℕ). first n (rowWidth n) l m) (back ws part (k * (n * rowWidth n)) a) (back ms marks (k * n) b)
 
-  pub goes-step : Goes n links used y ws ws′ ms ms′ m (k + 1)
+  pub goes-step : Goes n links held y ws ws′ ms ms′ m (k + 1)
   unfolding lying relationAt
   goes-step = record {
     count = omega arith;
@@ -177,29 +167,29 @@ module _ (n : ℕ) (links used : List ℕ) (y : Item) (ws part ms marks : List �
   }
 
 -- ---- the same with the words of a row as a number, and the parts as they are lent
-pub lent-space : (n k w : ℕ) (ws ms : List ℕ) → w ≡ rowWidth n → Lent n (length ws) (length ms) → k ≤ 18
+pub lent-space : (n k w : ℕ) (ws ms : List ℕ) → w ≡ rowWidth n → Lent n (suc k) (length ws) (length ms) → k ≤ 18
     → Space n w (length (take (length ws - k * (n * w)) (drop (k * (n * w)) ws))) (length (take (length ms - k * n) (drop (k * n) ms)))
 lent-space n k w ws ms e L h =
     subst (λ (v : ℕ). Space n v (length (take (length ws - k * (n * v)) (drop (k * (n * v)) ws))) (length (take (length ms - k * n) (drop (k * n) ms)))) (sym e)
     (subst (λ (i : ℕ). Space n (rowWidth n) i (length (take (length ms - k * n) (drop (k * n) ms)))) (sym (part-length ws (k * (n * rowWidth n))))
     (subst (λ (i : ℕ). Space n (rowWidth n) (length ws - k * (n * rowWidth n)) i) (sym (part-length ms (k * n))) (space n k (length ws) (length ms) L h)))
 
-pub goes-part : (n : ℕ) (links used : List ℕ) (y : Item) (ws part ms marks : List ℕ) (m k w : ℕ)
-    → w ≡ rowWidth n → m ≡ k + operands y → Lent n (length ws) (length ms) → k ≤ 18
-    → Operates n w links used y (take (length ws - k * (n * w)) (drop (k * (n * w)) ws)) part (take (length ms - k * n) (drop (k * n) ms)) marks
-    → Goes n links used y ws (putMid (k * (n * w)) (length ws - k * (n * w)) ws part) ms (putMid (k * n) (length ms - k * n) ms marks) m (k + 1)
-goes-part n links used y ws part ms marks m k w e is L h made =
-    subst (λ (v : ℕ). Operates n v links used y (take (length ws - k * (n * v)) (drop (k * (n * v)) ws)) part (take (length ms - k * n) (drop (k * n) ms)) marks
-    → Goes n links used y ws (putMid (k * (n * v)) (length ws - k * (n * v)) ws part)
+pub goes-part : (n : ℕ) (links held : List ℕ) (y : Item) (ws part ms marks : List ℕ) (m k w : ℕ)
+    → w ≡ rowWidth n → m ≡ k + operands y → Lent n (suc k) (length ws) (length ms) → k ≤ 18
+    → Operates n w links held y (take (length ws - k * (n * w)) (drop (k * (n * w)) ws)) part (take (length ms - k * n) (drop (k * n) ms)) marks
+    → Goes n links held y ws (putMid (k * (n * w)) (length ws - k * (n * w)) ws part) ms (putMid (k * n) (length ms - k * n) ms marks) m (k + 1)
+goes-part n links held y ws part ms marks m k w e is L h made =
+    subst (λ (v : ℕ). Operates n v links held y (take (length ws - k * (n * v)) (drop (k * (n * v)) ws)) part (take (length ms - k * n) (drop (k * n) ms)) marks
+    → Goes n links held y ws (putMid (k * (n * v)) (length ws - k * (n * v)) ws part)
     ms (putMid (k * n) (length ms - k * n) ms marks) m (k + 1)) (sym e) whole made
   where
-    whole : Operates n (rowWidth n) links used y (take (length ws - k * (n * rowWidth n)) (drop (k * (n * rowWidth n)) ws))
+    whole : Operates n (rowWidth n) links held y (take (length ws - k * (n * rowWidth n)) (drop (k * (n * rowWidth n)) ws))
         part (take (length ms - k * n) (drop (k * n) ms)) marks
-        → Goes n links used y ws (putMid (k * (n * rowWidth n)) (length ws - k * (n * rowWidth n)) ws part)
+        → Goes n links held y ws (putMid (k * (n * rowWidth n)) (length ws - k * (n * rowWidth n)) ws part)
         ms (putMid (k * n) (length ms - k * n) ms marks) m (k + 1)
     whole o =
-        goes-step n links used y ws part ms marks m k is
-        (omega (arith, start-le n k (length ws) (length ms) L h, L .words)) (omega (arith, mark-le n k (length ws) (length ms) L h, L .marks))
-        (subst (λ (l : List ℕ). Operates n (rowWidth n) links used y (drop (k * (n * rowWidth n)) ws) part l marks) (rest ms (k * n))
-        (subst (λ (l : List ℕ). Operates n (rowWidth n) links used y l part (take (length ms - k * n) (drop (k * n) ms)) marks)
+        goes-step n links held y ws part ms marks m k is
+        (omega (arith, start-le n k (length ws) (length ms) L h, L .words)) (omega (arith, L .marks, suc-mul k n))
+        (subst (λ (l : List ℕ). Operates n (rowWidth n) links held y (drop (k * (n * rowWidth n)) ws) part l marks) (rest ms (k * n))
+        (subst (λ (l : List ℕ). Operates n (rowWidth n) links held y l part (take (length ms - k * n) (drop (k * n) ms)) marks)
         (rest ws (k * (n * rowWidth n))) o))

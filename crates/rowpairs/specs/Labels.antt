@@ -29,7 +29,7 @@ use Rattle.reader.specs.Letters.{lettersIn}
 use Rattle.register.specs.Lookups.{LabelPart}
 use Rattle.rows.specs.Rows.{linkPair}
 use Rattle.grid.specs.Grid.{first}
-use Rattle.pairs.specs.Steps.{Lettered}
+use Rattle.query.specs.Evaluation.{Lettered}
 
 abbrev pub everyLabel : ℕ
 everyLabel = 67108863
@@ -45,7 +45,7 @@ steppedBelow g f k x y = most k (λ l. steppedBy g f l x y)
 
 abbrev pub PutBelow : (n w : ℕ) → (links : List ℕ) → (forward against : ℕ) → (ws ms ws′ ms′ : List ℕ) → ℕ → Type 0
 PutBelow n w links forward against ws ms ws′ ms′ k =
-    (b : Book) (used : List ℕ) → Lettered b n links used → first n w ws′ ms′ ≡ union (first n w ws ms) (steppedBelow (asked b) (lettersIn forward against) k)
+    (b : Book) (used : ℕ → ℕ) → Lettered b n links used → first n w ws′ ms′ ≡ union (first n w ws ms) (steppedBelow (asked b) (lettersIn forward against) k)
 
 pub record Alone (l : ℕ) (c : List ℕ) : Type 0 where
   pub single : length c ≡ 1

@@ -1,4 +1,2 @@
-pub mod Asking
-pub mod AskingLaws
 pub mod Evaluation
 pub mod Labels

@@ -1,42 +1,45 @@
 // Pair questions by rows of bits: an expression's code is run on a stack of relations, which lie one after another in the lent work, each as n rows
-// of bits, 64 columns to a word, with a mask of each row's words in use (crate `grid`). The last one left is listed, or spread to
-// rows of 1,024 bits.
+// of bits, 64 columns to a word, with a mask of each row's words in use (crate `grid`). The last one left is listed, or spread to rows of 1,024 bits.
 ghost use mathlib.Core.Path.{_≡_};
 ghost use mathlib.Core.List.{List, map, _++_};
 ghost use mathlib.Core.Logic.{_⊎_};
-ghost use Prim.Native.Nat.{ℕ, _^_, _<_, _≤_};
+ghost use Prim.Native.Nat.{ℕ, suc, _+_, _-_, _*_, _^_, _<_, _≤_};
 ghost use lib.ListN.{length, take, drop, getD};
 ghost use mathlib.Core.Bool.{true};
 ghost use Rattle.book.specs.Book.{Book};
-ghost use Rattle.book.specs.Causes.{maxRecords};
-ghost use Rattle.k2.specs.PairSets.{union};
+ghost use Rattle.book.specs.Causes.{maxRecords, maxLinks};
+ghost use Rattle.k2.specs.PairSets.{union, diagonal};
 ghost use Rattle.paths.specs.Expressions.{Expr};
-ghost use Rattle.paths.specs.Grammar.{accepted};
 ghost use Rattle.paths.specs.Chains.{asked};
 ghost use Rattle.paths.specs.Relations.{crossedBy};
-ghost use Rattle.paths.specs.Questions.{pairsWork};
+ghost use Rattle.paths.specs.Questions.{rowsWork};
 ghost use Rattle.reader.specs.declared.items.Item.the-variants.{Inverse};
 ghost use Rattle.reader.specs.Code.{itemOf};
 ghost use Rattle.reader.specs.Letters.{lettersIn};
 ghost use Rattle.reader.specs.Running.{operands};
 ghost use Rattle.rows.specs.Rows.{linkPair};
-ghost use Rattle.grid.specs.Grid.{first};
-ghost use Rattle.pairs.specs.Evaluation.{Ready};
-ghost use Rattle.pairs.specs.Steps.{Lettered, Coded};
-ghost use Rattle.pairs.specs.Asking.{Relates, AsksPairs};
-ghost use Rattle.rowpairs.specs.Asking.{rowWidth, rowsWork, AsksRowsFor, AsksRows};
+ghost use Rattle.grid.specs.Grid.{within, first};
+ghost use Rattle.query.specs.Asking.{AsksPairs, AsksRows, Relates};
+ghost use Rattle.query.specs.Evaluation.{most-waiting, Ready, Coded, usedBelow, Lettered};
 ghost use Rattle.rowpairs.specs.Labels.{everyIf, Alone, LetterListed};
-ghost use Rattle.rowpairs.specs.Evaluation.{Space, Lent, Operates, Goes, Reading, ValueFirst, ValueInRows};
+ghost use Rattle.rowpairs.specs.Evaluation.{Space, Lent, LentFor, Operates, Goes, Reading, ValueFirst, ValueListed, ValueInRows};
+use answers::Counted;
 use reader::Item;
 
-// The work is that of so many relations.
-const RELATIONS: usize = 32;
+// So many relations wait at once at the most.
+const WAITING: usize = 19;
+
+// The words of the relations of 32 records, 32 of them: more than any question of fewer records needs.
+const FEW_WORDS: usize = 1024;
 
 // The words of a relation's rows: 1,024 rows of 1,024 bits.
 const ROW_WORDS: usize = 16384;
 
 // The masks of 20 relations of 1,024 rows, and one more: 19 that wait, one as scratch, and a row of a product.
 const MASKS: usize = 20481;
+
+// The masks of four relations of 1,024 rows, and one more: enough for a code of three numbers, or for few records.
+const FEW_MASKS: usize = 4097;
 
 // A link's word is label * LABEL_UNIT + its pair word.
 const LABEL_UNIT: u32 = 1048576;
@@ -51,14 +54,6 @@ const EVERY_LABEL: u32 = 67108863;
 struct Next {
     item: Item,
     used: usize,
-}
-
-// The words of a row of n columns.
-fn row_width(n: usize) -> usize
-    requires { ⌜ n ≤ maxRecords ⌝ }
-    ensures { λ r. ⌜ r ≡ rowWidth n ⌝ }
-{
-    (n + 63) / 64
 }
 
 // Every label if the set has this one, else none.
@@ -83,7 +78,7 @@ fn put_letters(
     w: usize,
 )
     requires { ⌜ Space n w (length (now cells)) (length (now masks)) ⌝ }
-    ensures { λ _. ⌜ ((b : Book) (used : List ℕ) → Lettered b n (now (links .entry)) used
+    ensures { λ _. ⌜ ((b : Book) (used : ℕ → ℕ) → Lettered b n (now (links .entry)) used
         → first n w (now (cells .exit)) (now (masks .exit))
         ≡ union (first n w (now (cells .entry)) (now (masks .entry))) (crossedBy (asked b) (lettersIn forward against))) ⌝ }
 {
@@ -99,18 +94,28 @@ fn put_letters(
     }
 }
 
+// Zero steps put into the first relation: each record in use joined to itself.
+fn put_zero_steps(marks: &[u32], cells: &mut [u64], masks: &mut [u16], n: usize, w: usize)
+    requires { ⌜ Space n w (length (now cells)) (length (now masks)) × (n ≤ length (now marks)) ⌝ }
+    ensures { λ _. ⌜ first n w (now (cells .exit)) (now (masks .exit))
+        ≡ union (first n w (now (cells .entry)) (now (masks .entry))) (within n (diagonal (usedBelow n (now (marks .entry))))) ⌝ }
+{
+    let used = query::in_use(marks, n);
+    grid::put_diagonal(&used, cells, masks, n, w);
+}
+
 // One item of the code, on the operands that lie at the front of the two parts; its value takes the place of the first.
 fn operate(
     links: &[u32],
-    used: &[u64],
+    marks: &[u32],
     cells: &mut [u64],
     masks: &mut [u16],
     n: usize,
     w: usize,
     item: Item,
 )
-    requires { ⌜ Space n w (length (now cells)) (length (now masks)) ⌝ }
-    ensures { λ _. ⌜ Operates n w (now (links .entry)) (now (used .entry)) item
+    requires { ⌜ Space n w (length (now cells)) (length (now masks)) × (n ≤ length (now marks)) ⌝ }
+    ensures { λ _. ⌜ Operates n w (now (links .entry)) (now (marks .entry)) item
         (now (cells .entry)) (now (cells .exit)) (now (masks .entry)) (now (masks .exit)) ⌝ }
 {
     match item {
@@ -121,10 +126,10 @@ fn operate(
         Item::Inverse => grid::transpose(cells, masks, n, w),
         Item::Star => {
             grid::close(cells, masks, n, w);
-            grid::put_diagonal(used, cells, masks, n, w);
+            put_zero_steps(marks, cells, masks, n, w);
         }
         Item::Plus => grid::close(cells, masks, n, w),
-        Item::Optional => grid::put_diagonal(used, cells, masks, n, w),
+        Item::Optional => put_zero_steps(marks, cells, masks, n, w),
         Item::Alternative => grid::unite(cells, masks, n, w),
         Item::Sequence => grid::compose(cells, masks, n, w),
     }
@@ -148,25 +153,25 @@ fn operands_of(item: Item) -> usize
 // One number of the code, with so many relations waiting; how many wait then.
 fn step(
     links: &[u32],
-    used: &[u64],
+    marks: &[u32],
     cells: &mut [u64],
     masks: &mut [u16],
     n: usize,
     count: usize,
     item: Item,
 ) -> usize
-    requires { ⌜ Lent n (length (now cells)) (length (now masks)) × Ready item count ⌝ }
-    ensures { λ r. ⌜ Goes n (now (links .entry)) (now (used .entry)) item (now (cells .entry))
+    requires { ⌜ Lent n (suc (count - operands item)) (length (now cells)) (length (now masks)) × Ready item count × (n ≤ length (now marks)) ⌝ }
+    ensures { λ r. ⌜ Goes n (now (links .entry)) (now (marks .entry)) item (now (cells .entry))
         (now (cells .exit)) (now (masks .entry)) (now (masks .exit)) count r ⌝ }
 {
-    let w = row_width(n);
+    let w = query::row_width(n);
     let unit = n * w;
     let below = count - operands_of(item);
     let start = below * unit;
     let mark = below * n;
     operate(
         links,
-        used,
+        marks,
         &mut cells[start..],
         &mut masks[mark..],
         n,
@@ -209,16 +214,17 @@ fn next_item(code: &[u64], i: usize) -> Next
 }
 
 // The whole code: its value is left as the first relation.
-fn run(links: &[u32], used: &[u64], cells: &mut [u64], masks: &mut [u16], n: usize, code: &[u64])
-    requires { ⌜ Lent n (length (now cells)) (length (now masks)) × ((s : List ℕ) × (e : Expr) × Coded s e (now code)) ⌝ }
-    ensures { λ _. ⌜ ValueFirst n (now (links .entry)) (now (used .entry)) (now (code .entry)) (now (cells .exit)) (now (masks .exit)) ⌝ }
+fn run(links: &[u32], marks: &[u32], cells: &mut [u64], masks: &mut [u16], n: usize, code: &[u64])
+    requires { ⌜ LentFor n (now code) (length (now cells)) (length (now masks)) × (n ≤ length (now marks))
+        × ((s : List ℕ) × (e : Expr) × Coded s e (now code)) ⌝ }
+    ensures { λ _. ⌜ ValueFirst n (now (links .entry)) (now (marks .entry)) (now (code .entry)) (now (cells .exit)) (now (masks .exit)) ⌝ }
 {
     let mut count = 0;
     let mut i = 0;
     while i < code.len() {
         let next = next_item(code, i);
         let item = next.item;
-        count = step(links, used, cells, masks, n, count, item);
+        count = step(links, marks, cells, masks, n, count, item);
         i += next.used;
     }
 }
@@ -286,130 +292,210 @@ fn list_letter(links: &[u32], label: u8, list: &mut [u32]) -> usize
     part.len()
 }
 
-// The answer by the code of an expression: the first len numbers of the array.
-fn of_code(
-    register: register::Register,
-    code: [u64; book::MAX_BYTES],
-    len: usize,
-    work: &mut [u64],
-    list: &mut [u32],
-) -> pairs::PairsAnswer
-    requires { ⌜ (len ≤ length code) × ((s : List ℕ) × (e : Expr) × Coded s e (take len code)) ⌝ }
-    ensures { λ a. ⌜ ((s : List ℕ) (e : Expr) → Coded s e (take len code)
-        → AsksRowsFor register (accepted e) (length (now (work .entry))) (now (list .entry)) (now (list .exit)) a) ⌝ }
+// Are the masks of a code of so many numbers few?
+fn few_masks(n: usize, long: usize) -> bool
+    requires { ⌜ n ≤ maxRecords ⌝ }
+    ensures { λ r. ⌜ (r ≡ true → (k : ℕ) → k ≤ most-waiting → k ≤ long → k * n + n < 4097) ⌝ }
 {
-    let n = register.size();
-    let w = row_width(n);
-    if work.len() < RELATIONS * (n * w) {
-        return pairs::PairsAnswer::Refused(book::SHORT_WORK);
-    }
-    let links = register.links();
-    let count = links.count;
-    let array = links.words;
-    let label = letter_alone(&code[..len]);
-    if label < LABELS {
-        let found = list_letter(&array[..count], label, list);
-        return pairs::PairsAnswer::Pairs(found);
-    }
-    let used = pairs::in_use(register, n);
-    let mut masks: [u16; MASKS] = [0; MASKS];
-    run(&array[..count], &used, work, &mut masks, n, &code[..len]);
-    let total = grid::list(work, &masks, n, w, list);
-    pairs::PairsAnswer::Pairs(total)
+    lesser(WAITING, long) * n + n < FEW_MASKS
 }
 
-// The pairs that have a chain, as `pairs::pairs` gives them: ascending, each once, as many as the list takes; how many they are in all.
+// The code run, and the pairs of its value listed; how many they are.
+fn list_run(
+    n: usize,
+    links: &[u32],
+    marks: &[u32],
+    code: &[u64],
+    work: &mut [u64],
+    masks: &mut [u16],
+    list: &mut [u32],
+) -> usize
+    requires { ⌜ LentFor n (now code) (length (now work)) (length (now masks)) × (n ≤ length (now marks))
+        × ((s : List ℕ) × (e : Expr) × Coded s e (now code)) ⌝ }
+    ensures { λ r. ⌜ ValueListed n (now (links .entry)) (now (marks .entry)) (now (code .entry)) (now (list .entry)) (now (list .exit)) r ⌝ }
+{
+    run(links, marks, work, masks, n, code);
+    grid::list(work, masks, n, query::row_width(n), list)
+}
+
+// The same with masks of its own: as many as there may be, or a few, which are cleared in a moment.
+fn list_within(
+    n: usize,
+    links: &[u32],
+    marks: &[u32],
+    code: &[u64],
+    work: &mut [u64],
+    list: &mut [u32],
+) -> usize
+    requires { ⌜ (n ≤ maxRecords) × (rowsWork n ≤ length (now work)) × (n ≤ length (now marks))
+        × ((s : List ℕ) × (e : Expr) × Coded s e (now code)) ⌝ }
+    ensures { λ r. ⌜ ValueListed n (now (links .entry)) (now (marks .entry)) (now (code .entry)) (now (list .entry)) (now (list .exit)) r ⌝ }
+{
+    if few_masks(n, code.len()) {
+        let mut few: [u16; FEW_MASKS] = [0; FEW_MASKS];
+        return list_run(n, links, marks, code, work, &mut few, list);
+    }
+    let mut masks: [u16; MASKS] = [0; MASKS];
+    list_run(n, links, marks, code, work, &mut masks, list)
+}
+
+// The pairs of the code's value listed; how many they are. A letter alone needs no relation; the work of trees, which may be lent, is too short for rows of
+// some numbers of records up to 32, whose relations then lie in words of its own.
+fn list_value(
+    n: usize,
+    links: &[u32],
+    marks: &[u32],
+    code: &[u64],
+    work: &mut [u64],
+    list: &mut [u32],
+) -> usize
+    requires { ⌜ (n ≤ maxRecords) × (length (now work) < rowsWork n → n ≤ 32) × (n ≤ length (now marks)) × (length (now links) ≤ maxLinks)
+        × ((s : List ℕ) × (e : Expr) × Coded s e (now code)) ⌝ }
+    ensures { λ r. ⌜ ValueListed n (now (links .entry)) (now (marks .entry)) (now (code .entry)) (now (list .entry)) (now (list .exit)) r ⌝ }
+{
+    let label = letter_alone(code);
+    if label < LABELS {
+        return list_letter(links, label, list);
+    }
+    if work.len() < query::rows_work(n) {
+        let mut own: [u64; FEW_WORDS] = [0; FEW_WORDS];
+        return list_within(n, links, marks, code, &mut own, list);
+    }
+    list_within(n, links, marks, code, work, list)
+}
+
+// The code run, and its value spread to rows of 1,024 bits; how many pairs it has.
+fn spread_within(
+    n: usize,
+    links: &[u32],
+    marks: &[u32],
+    code: &[u64],
+    work: &mut [u64],
+    rows: &mut [u64],
+) -> usize
+    requires { ⌜ (n ≤ maxRecords) × (rowsWork n ≤ length (now work)) × (n ≤ length (now marks)) × (length (now rows) ≡ 16384)
+        × ((s : List ℕ) × (e : Expr) × Coded s e (now code)) ⌝ }
+    ensures { λ r. ⌜ ValueInRows n (now (links .entry)) (now (marks .entry)) (now (code .entry)) (now (rows .exit)) r ⌝ }
+{
+    let mut masks: [u16; MASKS] = [0; MASKS];
+    run(links, marks, work, &mut masks, n, code);
+    grid::spread(work, &masks, n, query::row_width(n), rows)
+}
+
+// The same with words of its own where the work is too short.
+fn spread_value(
+    n: usize,
+    links: &[u32],
+    marks: &[u32],
+    code: &[u64],
+    work: &mut [u64],
+    rows: &mut [u64],
+) -> usize
+    requires { ⌜ (n ≤ maxRecords) × (length (now work) < rowsWork n → n ≤ 32) × (n ≤ length (now marks)) × (length (now rows) ≡ 16384)
+        × ((s : List ℕ) × (e : Expr) × Coded s e (now code)) ⌝ }
+    ensures { λ r. ⌜ ValueInRows n (now (links .entry)) (now (marks .entry)) (now (code .entry)) (now (rows .exit)) r ⌝ }
+{
+    if work.len() < query::rows_work(n) {
+        let mut own: [u64; FEW_WORDS] = [0; FEW_WORDS];
+        return spread_within(n, links, marks, code, &mut own, rows);
+    }
+    spread_within(n, links, marks, code, work, rows)
+}
+
+// The pairs that have a chain, ascending, each once, as many as the list takes; how many they are in all. Work of its own is needed: 32 relations of n rows.
 pub fn pairs_by_rows(
     register: register::Register,
     text: &[u8],
     work: &mut [u64],
     list: &mut [u32],
-) -> pairs::PairsAnswer
+) -> Counted
     ensures { λ a. ⌜ AsksRows register (now (text .entry)) (length (now (work .entry))) (now (list .entry)) (now (list .exit)) a ⌝ }
 {
     let reading = reader::read(text);
     let answer = reading.answer;
     let code = reading.code;
     match answer {
-        reader::Answer::Refused(k) => pairs::PairsAnswer::Refused(k as u32),
-        reader::Answer::Accepted(len) => of_code(register, code, len, work, list),
-    }
-}
-
-// Is so much work enough for a question by trees, and for one by rows?
-fn enough_for_both(n: usize, work: usize) -> bool
-    requires { ⌜ n ≤ maxRecords ⌝ }
-    ensures { λ r. ⌜ (r ≡ true → (pairsWork n ≤ work) × (rowsWork n ≤ work)) ⌝ }
-{
-    if work < RELATIONS * tree::tree_unit(n) {
-        return false;
-    }
-    RELATIONS * (n * row_width(n)) <= work
-}
-
-// The relation of an expression as rows of 1,024 bits, by its code, the first len numbers of the array; how many pairs it has.
-fn relate(
-    register: register::Register,
-    n: usize,
-    code: [u64; book::MAX_BYTES],
-    len: usize,
-    work: &mut [u64],
-    rows: &mut [u64],
-) -> usize
-    requires { ⌜ (n ≤ maxRecords) × (rowsWork n ≤ length (now work)) × (length (now rows) ≡ 16384) × (len ≤ length code)
-        × ((s : List ℕ) × (e : Expr) × Coded s e (take len code)) ⌝ }
-    ensures { λ r. ⌜ ValueInRows register n (take len code) (now (rows .exit)) r ⌝ }
-{
-    let w = row_width(n);
-    let links = register.links();
-    let count = links.count;
-    let array = links.words;
-    let used = pairs::in_use(register, n);
-    let mut masks: [u16; MASKS] = [0; MASKS];
-    run(&array[..count], &used, work, &mut masks, n, &code[..len]);
-    grid::spread(work, &masks, n, w, rows)
-}
-
-// The relation as `pairs::relation` gives it: by rows if the work is enough for them, which it is for more than 32 records, else by trees.
-pub fn relation(
-    register: register::Register,
-    text: &[u8],
-    work: &mut [u64],
-    rows: &mut [u64],
-) -> pairs::PairsAnswer
-    ensures { λ a. ⌜ Relates register (now (text .entry)) (length (now (work .entry))) (now (rows .entry)) (now (rows .exit)) a ⌝ }
-{
-    let n = register.size();
-    if !enough_for_both(n, work.len()) {
-        return pairs::relation(register, text, work, rows);
-    }
-    if rows.len() < ROW_WORDS {
-        return pairs::relation(register, text, work, rows);
-    }
-    let reading = reader::read(text);
-    let answer = reading.answer;
-    let code = reading.code;
-    match answer {
-        reader::Answer::Refused(k) => pairs::PairsAnswer::Refused(k as u32),
+        reader::Answer::Refused(k) => Counted::Refused(k as u32),
         reader::Answer::Accepted(len) => {
-            let found = relate(register, n, code, len, work, &mut rows[..ROW_WORDS]);
-            pairs::PairsAnswer::Pairs(found)
+            let n = register.size();
+            if work.len() < query::rows_work(n) {
+                return Counted::Refused(book::SHORT_WORK);
+            }
+            let links = register.links();
+            let count = links.count;
+            let array = links.words;
+            let marks = register.marks();
+            let found = list_value(n, &array[..count], &marks, &code[..len], work, list);
+            Counted::Count(found)
         }
     }
 }
 
-// The pairs as `pairs::pairs` gives them, by rows or by trees in the same way.
+// The same answer with the promise of trees, and so with their work, by rows.
 pub fn pairs(
     register: register::Register,
     text: &[u8],
     work: &mut [u64],
     list: &mut [u32],
-) -> pairs::PairsAnswer
+) -> Counted
     ensures { λ a. ⌜ AsksPairs register (now (text .entry)) (length (now (work .entry))) (now (list .entry)) (now (list .exit)) a ⌝ }
 {
-    let n = register.size();
-    if !enough_for_both(n, work.len()) {
-        return pairs::pairs(register, text, work, list);
+    let reading = reader::read(text);
+    let answer = reading.answer;
+    let code = reading.code;
+    match answer {
+        reader::Answer::Refused(k) => Counted::Refused(k as u32),
+        reader::Answer::Accepted(len) => {
+            let n = register.size();
+            if work.len() < query::pairs_work(n) {
+                return Counted::Refused(book::SHORT_WORK);
+            }
+            let links = register.links();
+            let count = links.count;
+            let array = links.words;
+            let marks = register.marks();
+            let found = list_value(n, &array[..count], &marks, &code[..len], work, list);
+            Counted::Count(found)
+        }
     }
-    pairs_by_rows(register, text, work, list)
+}
+
+// The relation of an expression as rows of bits: bit from * 1024 + to of the first 16,384 words is 1 if the pair has a chain. The number of pairs is told.
+// The work is that of trees.
+pub fn relation(
+    register: register::Register,
+    text: &[u8],
+    work: &mut [u64],
+    rows: &mut [u64],
+) -> Counted
+    ensures { λ a. ⌜ Relates register (now (text .entry)) (length (now (work .entry))) (now (rows .entry)) (now (rows .exit)) a ⌝ }
+{
+    let reading = reader::read(text);
+    let answer = reading.answer;
+    let code = reading.code;
+    match answer {
+        reader::Answer::Refused(k) => Counted::Refused(k as u32),
+        reader::Answer::Accepted(len) => {
+            let n = register.size();
+            if work.len() < query::pairs_work(n) {
+                return Counted::Refused(book::SHORT_WORK);
+            }
+            if rows.len() < ROW_WORDS {
+                return Counted::Refused(book::SHORT_WORK);
+            }
+            let links = register.links();
+            let count = links.count;
+            let array = links.words;
+            let marks = register.marks();
+            let found = spread_value(
+                n,
+                &array[..count],
+                &marks,
+                &code[..len],
+                work,
+                &mut rows[..ROW_WORDS],
+            );
+            Counted::Count(found)
+        }
+    }
 }

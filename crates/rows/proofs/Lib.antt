@@ -1,6 +1,5 @@
 pub mod WordwiseLaws
 pub mod SearchLaws
 pub mod EntryLaws
-pub mod ClosureLaws
 pub mod ListingLaws
 pub mod PutLaws

@@ -10,7 +10,6 @@
 --                  pair words read as links are their own; no label, no words; no words, no pairs
 --   crossed-none, crossed-turned, crossed-pairs, crossed-set
 --                  one step over link words: by no label, with the senses exchanged, over pair words as they are; it makes a set
---   diagonal-used  records below n, each joined to itself, are a set
 --   places-gap     places over a gap are those before it
 --   pairs-in       rows of a set hold its pairs
 -- Assumes nothing.
@@ -24,9 +23,8 @@ use lib.Dec.{eqb}
 use Rattle.book.specs.Basics.{pick, bit, has, In, here, there}
 use Rattle.k2.specs.Bits.{digit, bitAt}
 use Rattle.k2.specs.DigitLaws.{digit-none}
-use Rattle.k2.specs.BitLaws.{bit-lt}
-use Rattle.k2.specs.PairSets.{Cells, IsSet, ifSet, rowPairs, rowsPairs, listed, setOf, union, intersection, difference, transpose, diagonal, PairsBelow}
-use Rattle.k2.specs.PairSetLaws.{union-set, transpose-set, setOf-set, diagonal-set}
+use Rattle.k2.specs.PairSets.{Cells, IsSet, ifSet, rowPairs, rowsPairs, listed, setOf, union, intersection, difference, transpose, PairsBelow}
+use Rattle.k2.specs.PairSetLaws.{union-set, transpose-set, setOf-set}
 use Rattle.k2.specs.Trees.{treeWords}
 use Rattle.k2.specs.TreeLaws.{treeWords-none}
 use Rattle.bits.specs.BitSets.{none, both, minus, Gap}
@@ -160,8 +158,6 @@ crossed-set n ws f a nl b =
     part m = setOf-set n (map linkPair (labelled m ws)) nl (λ p h. b p (in-labelled m ws h))
 
 -- ---- a lent set of records, each joined to itself
-pub diagonal-used : (n : ℕ) (ws : List ℕ) → ((x : ℕ) → n ≤ x → bitAt ws x ≡ 0) → IsSet n (diagonal (bitAt ws))
-diagonal-used n ws z = diagonal-set n (bitAt ws) (bit-lt ws) z
 
 -- ---- the pairs that rows hold
 places-far : (f : ℕ → ℕ) (p d : ℕ) → Gap f p (p + d) → places f (p + d) ≡ places f p

@@ -10,13 +10,10 @@
 --   below b g         the bits g before place b
 --   withRow i g f     f with the bits g as row i
 --   rowsTo i a b      the set a in the rows below i, b in the others
---   plusRow i k a     a with the pairs of row k in row i besides
---   partRow i k w f   the same of bits, of the first w squares
 -- Assumes nothing: these are definitions.
 use mathlib.Core.Path.{_≡_}
-use mathlib.Core.Bool.{_&&_}
 use mathlib.Core.List.{List}
-use Prim.Native.Nat.{ℕ, _+_, _*_, _/_, _%_, _<_, min, max}
+use Prim.Native.Nat.{ℕ, _+_, _*_, _/_, _%_, _<_, min}
 use lib.Dec.{ltb, eqb}
 use lib.ListN.{getD}
 use Rattle.book.specs.Basics.{pick}
@@ -58,9 +55,3 @@ withRow i g f p = pick (eqb (p / 1024) i) (g (p % 1024)) (f p)
 
 unfoldable pub rowsTo : ℕ → Cells → Cells → Cells
 rowsTo i a b x y = pick (ltb x i) (a x y) (b x y)
-
-unfoldable pub plusRow : ℕ → ℕ → Cells → Cells
-plusRow i k a x y = pick (eqb x i) (max (a x y) (a k y)) (a x y)
-
-unfoldable pub partRow : ℕ → ℕ → ℕ → (ℕ → ℕ) → ℕ → ℕ
-partRow i k w f p = pick (eqb (p / 1024) i && ltb (p % 1024) (64 * w)) (max (f p) (f (k * 1024 + p % 1024))) (f p)

@@ -7,10 +7,10 @@ ghost use Prim.Native.Nat.{ℕ, _≤_, _<_};
 ghost use lib.Dec.{eqb};
 ghost use lib.ListN.{length, take, drop};
 ghost use Rattle.k2.specs.Bits.{digit, bitAt};
-ghost use Rattle.k2.specs.PairSets.{Cells, IsSet, union, intersection, difference, transpose, product, via, closure, diagonal};
+ghost use Rattle.k2.specs.PairSets.{Cells, IsSet, union, intersection, difference, transpose, product, diagonal};
 ghost use Rattle.bits.specs.BitSets.{none};
 ghost use Rattle.rows.specs.Rows.{flat, noPairs, crossedWords, RowsOf, pairsIn};
-ghost use Rattle.rows.specs.Steps.{Masked, rowAt, Occupied, Masks, Common, served, below, withRow, plusRow};
+ghost use Rattle.rows.specs.Steps.{Masked, rowAt, Occupied, Masks, Common, served, below, withRow};
 
 // The pairs of a that b lacks taken out of a.
 pub fn intersect(a: &mut [u64], b: &[u64])
@@ -147,7 +147,7 @@ pub fn within(rows: &[u64], n: usize) -> bool
 }
 
 // The squares of row i that are not empty, as bits.
-fn squares(rows: &[u64], i: usize) -> u32
+pub fn squares(rows: &[u64], i: usize) -> u32
     requires { ⌜ (length (now rows) ≡ 16384) × (i < 1024) ⌝ }
     ensures { λ r. ⌜ (r < 65536) × Masked (bitAt (now (rows .entry))) i r ⌝ }
 {
@@ -273,47 +273,5 @@ pub fn compose(a: &mut [u64], columns: &[u64], n: usize)
             store_row(&row, a, i);
         }
         i += 1;
-    }
-}
-
-// Row k put into row i.
-fn or_row(rows: &mut [u64], i: usize, k: usize)
-    requires { ⌜ (length (now rows) ≡ 16384) × (i < 1024) × (k < 1024) ⌝ }
-    ensures { λ _. ⌜ ((x : Cells) → bitAt (now (rows .entry)) ≡ flat x → bitAt (now (rows .exit)) ≡ flat (plusRow i k x)) ⌝ }
-{
-    let mut w = 0;
-    while w < 16 {
-        rows[i * 16 + w] = rows[i * 16 + w] | rows[k * 16 + w];
-        w += 1;
-    }
-}
-
-// The pairs that lead over k put in: row k into each row of the list that has column k.
-fn lead_over(rows: &mut [u64], k: usize, list: &[u32], m: usize)
-    requires { ⌜ (length (now rows) ≡ 16384) × (k < 1024) × (length (now list) ≡ 1024) × (m ≤ 1024) ⌝ }
-    ensures { λ _. ⌜ ((n : ℕ) (x : Cells) → n ≤ 1024 → IsSet n x → Occupied (flat x) n (rowAt n m (now (list .entry))) m
-        → bitAt (now (rows .entry)) ≡ flat x → bitAt (now (rows .exit)) ≡ flat (via k x)) ⌝ }
-{
-    let mut t = 0;
-    while t < m {
-        let i = (list[t] % 1024) as usize;
-        if bits::bit(rows, i * 1024 + k) == 1 {
-            or_row(rows, i, k);
-        }
-        t += 1;
-    }
-}
-
-// One or more steps, in place, by Warshall's rounds: over each record in turn whose row is not empty.
-pub fn close(rows: &mut [u64], n: usize)
-    requires { ⌜ (n ≤ 1024) × (length (now rows) ≡ 16384) ⌝ }
-    ensures { λ _. ⌜ ((x : Cells) → IsSet n x → bitAt (now (rows .entry)) ≡ flat x → bitAt (now (rows .exit)) ≡ flat (closure n x)) ⌝ }
-{
-    let mut list: [u32; 1024] = [0; 1024];
-    let m = occupied(rows, n, &mut list);
-    let mut round = 0;
-    while round < m {
-        lead_over(rows, (list[round] % 1024) as usize, &list, m);
-        round += 1;
     }
 }

@@ -7,4 +7,5 @@ pub mod TurnLaws
 pub mod ProgramLaws
 pub mod RunLaws
 pub mod Runs
+pub mod StepLaws
 pub mod RunsLaws

@@ -11,10 +11,14 @@
 --   Request         opening with n; a call of the book; a pair question with its text; a chain question with from, to and its text; asking for the
 --                   total of a label
 --   Frame           what a frame says: a request, or the cause why it says none
+--   shapeOf k       the shape of the body of kind k: empty, a record, a link, a size, a label, an expression, or two ends and an expression; or no kind's
+--   fits h n        whether a body of the shape h may have n bytes
+--   called e        what a frame says whose kind and arguments are the entry e of a history
+--   taken h k s     what a frame of kind k says whose body s has the shape h and fits
 --   decode k s      what a frame of kind k with the body s says: an unknown kind comes before a wrong body size
 --   Session         no register opened yet, or the book of the one that is
 --   openAnswer n    the answer to opening with n: in the program n is 1 to 64
---   rowRecords, programPairs b v work room
+--   rowRecords, engineFor n, programPairs b v work room
 --                   the most records whose pair questions are answered by rows; the outcome of a pair question: by rows up to so many records, by trees above
 --   nextSession s f the session after a frame
 --   Right s f v t   v is the verdict on the frame's text, and t the reply to its chain question, where it has them
@@ -28,19 +32,20 @@
 -- Assumes nothing: these are definitions.
 use mathlib.Core.List.{List, [], _∷_, _++_}
 use mathlib.Core.Logic.{_⊎_}
-use mathlib.Core.Bool.{Bool, _||_}
+use mathlib.Core.Bool.{Bool, true, _||_}
 use Prim.Native.Nat.{ℕ, _+_, _-_, _*_, _/_, _%_, _≤_, _<_}
 use lib.ListN.{length, getD, take, drop}
 use lib.Dec.{leb, ltb, eqb}
 use Rattle.book.specs.Basics.{pick}
 use Rattle.book.specs.Causes.{Cause, bad-size, broken-frame, unknown-kind, not-open, number, firstNumber}
-use Rattle.book.specs.Book.{Link, Book, Call, edit, undo, add, remove, lock, unlock, withdraw, reinstate, answer, next, fresh, total, totalNumber}
+use Rattle.book.specs.Book.{Book, Call, answer, next, fresh, total, totalNumber}
 use Rattle.paths.specs.Grammar.{Verdict, Judged}
 use Rattle.paths.specs.Chains.{asked, Reply}
-use Rattle.paths.specs.Questions.{Outcome, pairsAnswer, chainAnswer, ReplyTo, listAfter}
-use Rattle.register.specs.History.{addKind, removeKind, lockKind, unlockKind, undoKind, withdrawKind, reinstateKind}
-use Rattle.rowpairs.specs.Asking.{rowsAnswer}
+use Rattle.paths.specs.Questions.{Outcome, Engine, by-trees, by-rows, pairsAnswer, chainAnswer, ReplyTo, listAfter}
+use Rattle.register.specs.History.{addKind, removeKind, lockKind, unlockKind, undoKind, withdrawKind, reinstateKind, Entry, is-call, no-call, kindCall}
 use Rattle.report.specs.Report.{refusedText, answerText, totalText, outcomeText}
+use Rattle.session.specs.declared.Shape.{Shape}
+use Rattle.session.specs.declared.Shape.the-variants.{Empty, Record, Link, Size, Label, Expression, Ends, Unknown}
 
 abbrev pub programRecords : ℕ
 programRecords = 64
@@ -92,28 +97,44 @@ pub data Frame : Type 0 where
   asks : Request → Frame
   faulty : Cause → Frame
 
--- a link: from in two bytes, label in one, to in two
-unfoldable pub linkIn : List ℕ → Link
-linkIn s = record { from = number16 s 0; label = getD s 2 0; to = number16 s 3 }
+unfoldable pub shapeOf : ℕ → Shape
+shapeOf k =
+    pick (eqb k openKind) Size
+    (pick (eqb k addKind || eqb k removeKind) Link
+    (pick (eqb k lockKind || (eqb k unlockKind || (eqb k withdrawKind || eqb k reinstateKind))) Record
+    (pick (eqb k undoKind) Empty
+    (pick (eqb k pairsKind) Expression
+    (pick (eqb k chainKind) Ends
+    (pick (eqb k totalKind) Label
+    Unknown))))))
 
--- a request, if its body has the right size
-abbrev pub sized : Bool → Request → Frame
-sized fits r = pick fits (asks r) (faulty broken-frame)
+-- n and records have two bytes, labels one
+unfoldable pub fits : Shape → ℕ → Bool
+fits Empty n = eqb n 0
+fits Record n = eqb n 2
+fits Link n = eqb n 5
+fits Size n = eqb n 2
+fits Label n = eqb n 1
+fits Expression n = true
+fits Ends n = leb 4 n
+fits Unknown n = true
+
+unfoldable pub called : Entry → Frame
+called (is-call c) = asks (call c)
+called no-call = faulty unknown-kind
+
+unfoldable pub taken : Shape → ℕ → List ℕ → Frame
+taken Empty k s = called (kindCall k 0 0 0)
+taken Record k s = called (kindCall k (number16 s 0) 0 0)
+taken Link k s = called (kindCall k (number16 s 0) (getD s 2 0) (number16 s 3))
+taken Size k s = asks (opening (number16 s 0))
+taken Label k s = asks (totalling (getD s 0 0))
+taken Expression k s = asks (pairs s)
+taken Ends k s = asks (chain (number16 s 0) (number16 s 2) (drop 4 s))
+taken Unknown k s = faulty unknown-kind
 
 unfoldable pub decode : ℕ → List ℕ → Frame
-decode k s =
-    pick (eqb k openKind) (sized (eqb (length s) 2) (opening (number16 s 0)))
-    (pick (eqb k addKind) (sized (eqb (length s) 5) (call (edit (add (linkIn s)))))
-    (pick (eqb k removeKind) (sized (eqb (length s) 5) (call (edit (remove (linkIn s)))))
-    (pick (eqb k lockKind) (sized (eqb (length s) 2) (call (edit (lock (number16 s 0)))))
-    (pick (eqb k unlockKind) (sized (eqb (length s) 2) (call (edit (unlock (number16 s 0)))))
-    (pick (eqb k undoKind) (sized (eqb (length s) 0) (call undo))
-    (pick (eqb k pairsKind) (asks (pairs s))
-    (pick (eqb k chainKind) (sized (leb 4 (length s)) (chain (number16 s 0) (number16 s 2) (drop 4 s)))
-    (pick (eqb k totalKind) (sized (eqb (length s) 1) (totalling (getD s 0 0)))
-    (pick (eqb k withdrawKind) (sized (eqb (length s) 2) (call (edit (withdraw (number16 s 0)))))
-    (pick (eqb k reinstateKind) (sized (eqb (length s) 2) (call (edit (reinstate (number16 s 0)))))
-    (faulty unknown-kind)))))))))))
+decode k s = pick (fits (shapeOf k) (length s)) (taken (shapeOf k) k s) (faulty broken-frame)
 
 pub data Session : Type 0 where
   unopened : Session
@@ -125,8 +146,11 @@ openAnswer n = firstNumber ((bad-size, ltb n 1 || ltb programRecords n) ∷ [])
 abbrev pub rowRecords : ℕ
 rowRecords = 32
 
+unfoldable pub engineFor : ℕ → Engine
+engineFor n = pick (leb n rowRecords) by-rows by-trees
+
 unfoldable pub programPairs : Book → Verdict → ℕ → ℕ → Outcome
-programPairs b v work room = pick (leb (b .n) rowRecords) (rowsAnswer b v work room) (pairsAnswer b v work room)
+programPairs b v work room = pairsAnswer (engineFor (b .n)) b v work room
 
 -- a refused open keeps the old register
 unfoldable pub nextSession : Session → Frame → Session

@@ -38,9 +38,9 @@ use Rattle.paths.specs.AcceptanceLaws.{parted, many, accepts}
 use Rattle.paths.specs.FirstChainLaws.{reach, stepsBelow, before-each, after-each, walks, walksTo, end, best, firstTo, chainTo, chain-first}
 use Rattle.report.specs.Report.{bytes, figures, decimal, pairLine, labelLetter, senseSign, stepLine, lines, counted, okText, refusedText, noneText, pairsText}
 use Rattle.report.specs.Report.{chainText, answerText, totalText, outcomeText}
-use Rattle.rowpairs.specs.Asking.{rowsCauses, rowsAnswer}
-use Rattle.session.specs.Program.{programWords, minFrame, maxFrame, number16, twoBytes, frameOf, linkIn, decode, Session, unopened, openAnswer}
-use Rattle.session.specs.Program.{programPairs, nextSession, Right, printed, listLeft, frameIn, Run, framed, ended, lone-byte}
+use Rattle.register.specs.History.{kindCall}
+use Rattle.session.specs.Program.{programWords, minFrame, maxFrame, number16, twoBytes, frameOf, shapeOf, fits, called, taken, decode, Session, unopened}
+use Rattle.session.specs.Program.{openAnswer, engineFor, programPairs, nextSession, Right, printed, listLeft, frameIn, Run, framed, ended, lone-byte}
 use Rattle.session.specs.ProgramLaws.{length-left}
 
 unfoldable pub input : List ℕ
@@ -108,11 +108,11 @@ unfolding bytes verdict readAlternatives alternativesIn letters depth
 last-right = (verdict-right (bytes "a/b"), asked-last)
 
 pub sample : Prints unopened input output
-unfolding input output twoBytes frameOf bytes number16 linkIn decode openAnswer nextSession printed answerText outcomeText okText refusedText pairsText
-    chainText counted lines pairLine stepLine labelLetter senseSign decimal figures number firstNumber causes editAnswer edited turned undoAnswer undone answer
-    next fresh after has without verdict readAlternatives alternativesIn letters depth verdictCause standsFor asked most crossedBy zeroSteps diagonal transpose
-    union serves product via closure cells rowPairs rowsPairs listed pairs pairsOf pairsCauses pairsAnswer
-    rowsCauses rowsAnswer programPairs steps stepWords chainCauses chainAnswer rise height treeUnit
+unfolding input output twoBytes frameOf bytes number16 shapeOf fits kindCall called taken decode openAnswer nextSession printed answerText outcomeText okText
+    refusedText pairsText chainText counted lines pairLine stepLine labelLetter senseSign decimal figures number firstNumber causes editAnswer edited turned
+    undoAnswer undone answer next fresh after has without verdict readAlternatives alternativesIn letters depth verdictCause standsFor asked most crossedBy
+    zeroSteps diagonal transpose union serves product via closure cells rowPairs rowsPairs listed pairs pairsOf pairsCauses pairsAnswer engineFor
+    programPairs steps stepWords chainCauses chainAnswer rise height treeUnit
 sample =
     by (drop 3 output) long none refl refl refl tt
     (by (drop 6 output) long none refl refl refl tt
@@ -161,9 +161,10 @@ unfolding verdict readAlternatives alternativesIn
 none-asked = (verdict-right [], λ e h. absurd (outside-none e h))
 
 pub refused-run : Prints unopened faults refusals
-unfolding faults refusals twoBytes frameOf bytes number16 linkIn decode openAnswer nextSession printed answerText outcomeText okText refusedText counted decimal
-    figures number firstNumber causes editAnswer edited turned undoAnswer undone answer next fresh has without verdict readAlternatives
-    alternativesIn letters depth verdictCause asked pairsOf pairsCauses pairsAnswer rowsCauses rowsAnswer programPairs steps chainCauses chainAnswer
+unfolding faults refusals twoBytes frameOf bytes number16 shapeOf fits kindCall called taken decode openAnswer nextSession printed answerText outcomeText
+    okText refusedText counted decimal figures number firstNumber causes editAnswer edited turned undoAnswer undone answer next fresh has without verdict
+    readAlternatives alternativesIn letters depth verdictCause asked pairsOf pairsCauses pairsAnswer engineFor programPairs steps chainCauses
+    chainAnswer
 refused-run =
     by (drop 11 refusals) long none refl refl refl tt
     (by (drop 22 refusals) long none refl refl refl tt
@@ -208,8 +209,9 @@ totals =
     bytes "refused 16\nok\ntotal 0\nok\nok\nrefused 5\ntotal 2\nok\ntotal 1\nok\ntotal 2\ntotal 0\nrefused 3\nrefused 14\n"
 
 pub totalled-run : Prints unopened totalled totals
-unfolding totalled totals twoBytes frameOf bytes number16 linkIn decode openAnswer nextSession printed answerText totalText okText refusedText counted decimal
-    figures number firstNumber causes editAnswer edited turned undoAnswer undone answer next fresh has without total tally totalNumber
+unfolding totalled totals twoBytes frameOf bytes number16 shapeOf fits kindCall called taken decode openAnswer nextSession printed answerText totalText okText
+    refusedText counted decimal figures number firstNumber causes editAnswer edited turned undoAnswer undone answer next fresh has without total tally
+    totalNumber
 totalled-run =
     by (drop 11 totals) long none refl refl refl tt
     (by (drop 14 totals) long none refl refl refl tt
@@ -253,11 +255,11 @@ unfolding number firstNumber causes editAnswer edited turned undone next fresh a
 none-from-1 = (verdict-right (bytes "a*"), λ e h. withdrawn-none _ e 1 1 refl)
 
 pub struck-run : Prints unopened struck uses
-unfolding struck uses twoBytes frameOf bytes number16 linkIn decode openAnswer nextSession printed answerText outcomeText okText refusedText noneText pairsText
-    chainText counted lines pairLine stepLine labelLetter senseSign decimal figures number firstNumber causes editAnswer edited turned undoAnswer undone answer
-    next fresh after has without touched verdict readAlternatives alternativesIn letters depth verdictCause standsFor asked most crossedBy zeroSteps diagonal
-    transpose union serves product via closure cells rowPairs rowsPairs listed pairs pairsOf pairsCauses
-    pairsAnswer rowsCauses rowsAnswer programPairs steps stepWords chainCauses chainAnswer rise height treeUnit
+unfolding struck uses twoBytes frameOf bytes number16 shapeOf fits kindCall called taken decode openAnswer nextSession printed answerText outcomeText okText
+    refusedText noneText pairsText chainText counted lines pairLine stepLine labelLetter senseSign decimal figures number firstNumber causes editAnswer edited
+    turned undoAnswer undone answer next fresh after has without touched verdict readAlternatives alternativesIn letters depth verdictCause standsFor asked
+    most crossedBy zeroSteps diagonal transpose union serves product via closure cells rowPairs rowsPairs listed pairs pairsOf pairsCauses pairsAnswer
+    engineFor programPairs steps stepWords chainCauses chainAnswer rise height treeUnit
 struck-run =
     by (drop 3 uses) long none refl refl refl tt
     (by (drop 6 uses) long none refl refl refl tt

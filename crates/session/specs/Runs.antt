@@ -35,7 +35,7 @@ use mathlib.Core.Bool.{Bool, true, false}
 use Prim.Native.Nat.{ℕ, suc, _+_, _-_, _^_, _≤_, _<_}
 use lib.Dec.{ltb}
 use lib.ListN.{length, take, drop, replicate}
-use Rattle.report.specs.Written.{Wrote}
+use Rattle.answers.specs.Written.{Wrote}
 use Rattle.session.specs.Program.{programWords, following, wholeFront, Session, unopened, Run}
 use Rattle.session.specs.Turns.{StateOf, room, Spares}
 use Rattle.session.specs.declared.State.{State}

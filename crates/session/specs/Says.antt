@@ -1,10 +1,9 @@
 -- What a decoded frame says, as the code holds it.
 --   says d s        the frame that d says, if the body is s: the text of a question stays in the body
---   Long d s        the body s of a decoded chain question has room for its two record numbers
 -- Assumes nothing: these are definitions.
 use mathlib.Core.List.{List}
-use Prim.Native.Nat.{ℕ, _≤_}
-use lib.ListN.{length, drop}
+use Prim.Native.Nat.{ℕ}
+use lib.ListN.{drop}
 use Rattle.book.specs.Causes.{broken-frame, unknown-kind}
 use Rattle.register.specs.Calls.{callOf}
 use Rattle.session.specs.Program.{Frame, asks, faulty, opening, call, pairs, chain, totalling}
@@ -19,13 +18,3 @@ says (Chain x y) s = asks (chain x y (drop 4 s))
 says (Total l) s = asks (totalling l)
 says Broken s = faulty broken-frame
 says Unknown s = faulty unknown-kind
-
--- the body of a chain question has the two record numbers in front of its text
-abbrev pub Long : Decoded → List ℕ → Type 0
-Long (Open n) s = Unit
-Long (Edit c) s = Unit
-Long Pairs s = Unit
-Long (Chain x y) s = 4 ≤ length s
-Long (Total l) s = Unit
-Long Broken s = Unit
-Long Unknown s = Unit

@@ -3,6 +3,9 @@
 --   open-none, open-many, open-fine, fresh-fine
 --                  opening with n: 1 for none or more than 64, else accepted
 --   next-size      a call keeps n, or lowers it
+--   decode-taken, decode-unfit
+--                  a body that fits is taken by the shape of its kind; one that does not says that the frame is broken
+--   decode-long    the body of a chain question has its two record numbers in front of its text
 --   faulty-turns   a frame that says no request
 --   closed-turns   any request but open while no register is opened
 --   open-turns     a request while one is
@@ -23,8 +26,9 @@ use Prim.Native.Nat.{ℕ, zero, suc, _-_, _≤_, _<_}
 use native.Mathlib.Omega.{arith}
 use lib.ListN.{length, take, drop, length-drop}
 use lib.Seq.{take-all}
-use borrow.Author.Tests.{lt-ltb, le-ltb}
-use Rattle.book.specs.Causes.{Cause, bad-size, not-open, number, firstNumber, maxRecords}
+use borrow.Author.Tests.{lt-ltb, le-ltb, leb-true}
+use Rattle.book.specs.Basics.{pick}
+use Rattle.book.specs.Causes.{Cause, bad-size, broken-frame, not-open, number, firstNumber, maxRecords}
 use Rattle.book.specs.RankLaws.{rank-le}
 use Rattle.book.specs.Book.{Book, Sheet, Call, edit, undo, close, turned, undone, used, closed, editAnswer, edited, closeAnswer, answer, next, freshAnswer}
 use Rattle.book.specs.Book.{fresh, total, totalNumber}
@@ -36,15 +40,18 @@ use Rattle.register.specs.declared.Outcome.{Outcome as Told}
 use Rattle.register.specs.Representation.{Represents}
 use Rattle.register.specs.Calls.{answerNumber, Steps}
 use Rattle.register.specs.HistoryLaws.{number-answer}
+use Rattle.register.specs.History.{Entry, is-call, no-call}
 use Rattle.register.specs.Questions.{Totals}
-use Rattle.register.specs.declared.TotalAnswer.{TotalAnswer}
+use Rattle.answers.specs.declared.Counted.{Counted}
 use Rattle.report.specs.Report.{refusedText, answerText, okText, outcomeText}
-use Rattle.report.specs.Written.{Wrote}
-use Rattle.report.specs.WrittenLaws.{wrote-as}
-use Rattle.session.specs.Program.{programRecords, Frame, asks, faulty, opening, call, pairs, chain, totalling, Session, unopened, opened, openAnswer}
-use Rattle.session.specs.Program.{nextSession, programPairs, Right, printed, listLeft}
+use Rattle.answers.specs.Written.{Wrote}
+use Rattle.answers.specs.WrittenLaws.{wrote-as}
+use Rattle.session.specs.Program.{programRecords, Request, Frame, asks, faulty, opening, call, pairs, chain, totalling, Session, unopened, opened}
+use Rattle.session.specs.Program.{shapeOf, fits, called, taken, decode, openAnswer, nextSession, programPairs, Right, printed, listLeft}
 use Rattle.session.specs.Turns.{StateOf, is-closed, is-open, room, Spares, as-it-was, answered, Turns, Framing}
 use Rattle.session.specs.Listing.{totalSaid, total-said}
+use Rattle.session.specs.declared.Shape.{Shape}
+use Rattle.session.specs.declared.Shape.the-variants.{Empty, Record, Link, Size, Label, Expression, Ends, Unknown}
 use Rattle.session.specs.declared.State.{State}
 use Rattle.session.specs.declared.Framed.{Framed}
 
@@ -89,6 +96,41 @@ unfolding next
 next-size b (edit e) = omega (arith, turned-size (editAnswer (b .n) (b .sheet) e) b (edited e (b .sheet)))
 next-size b undo = omega (arith, undone-size b (b .pile))
 next-size b (close room) = closed-size (closeAnswer (b .n) (b .sheet) room) b
+
+-- ---- a body by the shape h of its kind
+module _ {h : Shape} (k : ℕ) (s : List ℕ) (e : h ≡ shapeOf k) where
+  pub decode-taken : fits h (length s) ≡ true → taken h k s ≡ decode k s
+  unfolding decode
+  decode-taken f = rw (← e, f)
+
+  pub decode-unfit : fits h (length s) ≡ false → faulty broken-frame ≡ decode k s
+  unfolding decode
+  decode-unfit f = rw (← e, f)
+
+-- ---- the body of a chain question
+picked : {f : Frame} {q : Request} (b : Bool) → pick b f (faulty broken-frame) ≡ asks q → (b ≡ true) × (f ≡ asks q)
+picked true e = (refl, e)
+picked false e = absurd (let z : _≡_ {A = ℕ} 0 1 = cc in omega arith)
+
+not-called : (e : Entry) (x y : ℕ) (u : List ℕ) → called e ≡ asks (chain x y u) → ⊥
+unfolding called
+not-called (is-call c) x y u e = let z : _≡_ {A = ℕ} 0 1 = cc in omega arith
+not-called no-call x y u e = let z : _≡_ {A = ℕ} 0 1 = cc in omega arith
+
+taken-long : (h : Shape) (k : ℕ) (s : List ℕ) (x y : ℕ) (u : List ℕ) → fits h (length s) ≡ true → taken h k s ≡ asks (chain x y u) → 4 ≤ length s
+unfolding fits taken
+taken-long Empty k s x y u f e = absurd (not-called _ x y u e)
+taken-long Record k s x y u f e = absurd (not-called _ x y u e)
+taken-long Link k s x y u f e = absurd (not-called _ x y u e)
+taken-long Size k s x y u f e = absurd (let z : _≡_ {A = ℕ} 0 1 = cc in omega arith)
+taken-long Label k s x y u f e = absurd (let z : _≡_ {A = ℕ} 0 1 = cc in omega arith)
+taken-long Expression k s x y u f e = absurd (let z : _≡_ {A = ℕ} 0 1 = cc in omega arith)
+taken-long Ends k s x y u f e = leb-true 4 (length s) f
+taken-long Unknown k s x y u f e = absurd (let z : _≡_ {A = ℕ} 0 1 = cc in omega arith)
+
+pub decode-long : (k : ℕ) (s : List ℕ) (x y : ℕ) (u : List ℕ) → decode k s ≡ asks (chain x y u) → 4 ≤ length s
+unfolding decode
+decode-long k s x y u e = let p = picked (fits (shapeOf k) (length s)) e in taken-long (shapeOf k) k s x y u (p .0) (p .1)
 
 -- ---- what a frame promises
 module _ (st : State) (work : ℕ) (l l′ out out′ : List ℕ) (r : Framed) where
@@ -185,7 +227,7 @@ module _ (st : State) (work : ℕ) (l l′ out out′ : List ℕ) (r : Framed) w
       (wrote-as (ap outcomeText (told .0 ∙ same)) w, told .1 ∙ ap (λ (a : Outcome). listAfter a l) same))
 
   -- asking for a total
-  pub total-turns : (x : ℕ) (a : TotalAnswer) → Totals (st .register) x a → st .opened ≡ true → r .state ≡ st → l′ ≡ l
+  pub total-turns : (x : ℕ) (a : Counted) → Totals (st .register) x a → st .opened ≡ true → r .state ≡ st → l′ ≡ l
       → Wrote 0 (totalSaid a) out out′ (r .written) → Turns st (asks (totalling x)) work l l′ out out′ r
   unfolding nextSession printed listLeft
   total-turns x a told up kept same w =

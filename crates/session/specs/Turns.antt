@@ -24,7 +24,7 @@ use Rattle.paths.specs.Chains.{Reply}
 use Rattle.paths.specs.Questions.{Outcome, listAfter}
 use Rattle.register.specs.Representation.{Represents}
 use Rattle.report.specs.Report.{outcomeText}
-use Rattle.report.specs.Written.{Wrote}
+use Rattle.answers.specs.Written.{Wrote}
 use Rattle.session.specs.Program.{programRecords, Frame, Session, unopened, opened, nextSession, Right, printed, listLeft}
 use Rattle.session.specs.declared.State.{State}
 use Rattle.session.specs.declared.Framed.{Framed}

@@ -4,20 +4,23 @@ ghost use mathlib.Core.List.{List};
 ghost use Prim.Native.Nat.{ℕ, _≤_, _<_};
 ghost use lib.ListN.{length, take, getD};
 ghost use Rattle.session.specs.Program.{decode as Program·decode, number16 as Program·number16, following as Program·following, wholeFront};
+ghost use Rattle.session.specs.Program.{shapeOf, fits, called};
 ghost use Rattle.session.specs.Program.{opening, call as Program·call, pairs, chain, totalling, asks, unopened as Program·unopened};
-ghost use Rattle.session.specs.Says.{says, Long};
+ghost use Rattle.session.specs.Says.{says};
 ghost use Rattle.session.specs.Turns.{StateOf, room, Turns, Framing};
 ghost use Rattle.session.specs.Runs.{OneTurn, RunsOn};
 ghost use Rattle.register.specs.Calls.{callOf};
+ghost use Rattle.register.specs.History.{kindCall};
 ghost use Rattle.report.specs.Report.{refusedText, outcomeText};
-ghost use Rattle.report.specs.Written.{Wrote};
+ghost use Rattle.answers.specs.Written.{Wrote};
 ghost use Rattle.session.specs.Listing.{listing, AnswersPairs, totalSaid};
-ghost use Rattle.chains.specs.Replies.{outcomeOf, stepsLength};
+ghost use Rattle.answers.specs.Answers.{counted};
+ghost use Rattle.chains.specs.Replies.{outcomeOf, chainCounted};
+use answers::Counted;
 use chains::ChainAnswer;
-use pairs::PairsAnswer;
 use register::Call;
+use register::Entry;
 use register::Register;
-use register::TotalAnswer;
 
 // The most records of the program.
 const MOST_RECORDS: u16 = 64;
@@ -90,6 +93,19 @@ pub struct Ran {
     pub more: bool,
 }
 
+// What the body of a kind holds; `Ends` are those of a chain question, with its expression after them.
+pub enum Shape {
+    Empty,
+    Record,
+    Link,
+    Size,
+    Label,
+    Expression,
+    Ends,
+    // That of no kind.
+    Unknown,
+}
+
 // A frame's request, or what is wrong with the frame. The text of a question stays in the body.
 pub enum Decoded {
     Open(u16),
@@ -119,76 +135,77 @@ pub fn number16(s: &[u8], p: usize) -> u16
     byte_at(s, p) + 256 * byte_at(s, p + 1)
 }
 
-pub fn decode(kind: u16, body: &[u8]) -> Decoded
-    ensures { λ r. ⌜ (says r (now (body .entry)) ≡ Program·decode kind (now (body .entry))) × Long r (now (body .entry)) ⌝ }
+// The shape of the body of a kind.
+pub fn shape_of(kind: u16) -> Shape
+    ensures { λ r. ⌜ r ≡ shapeOf kind ⌝ }
 {
-    let n = body.len();
     match kind {
-        OPEN => {
-            if n != NUMBER_BYTES {
-                return Decoded::Broken;
-            }
-            Decoded::Open(number16(body, 0))
-        }
-        ADD => {
-            if n != LINK_BYTES {
-                return Decoded::Broken;
-            }
+        OPEN => Shape::Size,
+        ADD => Shape::Link,
+        REMOVE => Shape::Link,
+        LOCK => Shape::Record,
+        UNLOCK => Shape::Record,
+        UNDO => Shape::Empty,
+        PAIRS => Shape::Expression,
+        CHAIN => Shape::Ends,
+        TOTAL => Shape::Label,
+        WITHDRAW => Shape::Record,
+        REINSTATE => Shape::Record,
+        _ => Shape::Unknown,
+    }
+}
+
+// Whether a body of a shape may have n bytes.
+fn fits(shape: Shape, n: usize) -> bool
+    ensures { λ r. ⌜ r ≡ fits shape n ⌝ }
+{
+    match shape {
+        Shape::Empty => n == 0,
+        Shape::Record => n == NUMBER_BYTES,
+        Shape::Link => n == LINK_BYTES,
+        Shape::Size => n == NUMBER_BYTES,
+        Shape::Label => n == 1,
+        Shape::Expression => true,
+        Shape::Ends => n >= ENDS_BYTES,
+        Shape::Unknown => true,
+    }
+}
+
+// The call of a kind with its arguments.
+fn called(kind: u16, from: u16, label: u8, to: u16) -> Decoded
+    ensures { λ r. ⌜ ((s : List ℕ) → says r s ≡ called (kindCall kind from label to)) ⌝ }
+{
+    let entry = register::entry_of(kind as u64, from, label, to);
+    match entry {
+        Entry::Call(call) => Decoded::Edit(call),
+        Entry::NoCall => Decoded::Unknown,
+    }
+}
+
+// What a frame says: its body is read by the shape of its kind, if it fits.
+pub fn decode(kind: u16, body: &[u8]) -> Decoded
+    ensures { λ r. ⌜ says r (now (body .entry)) ≡ Program·decode kind (now (body .entry)) ⌝ }
+{
+    let shape = shape_of(kind);
+    let fit = fits(shape, body.len());
+    if !fit {
+        return Decoded::Broken;
+    }
+    match shape {
+        Shape::Empty => called(kind, 0, 0, 0),
+        Shape::Record => called(kind, number16(body, 0), 0, 0),
+        Shape::Link => {
             let label = body[2];
-            Decoded::Edit(Call::Add(number16(body, 0), label, number16(body, 3)))
+            called(kind, number16(body, 0), label, number16(body, 3))
         }
-        REMOVE => {
-            if n != LINK_BYTES {
-                return Decoded::Broken;
-            }
-            let label = body[2];
-            Decoded::Edit(Call::Remove(number16(body, 0), label, number16(body, 3)))
-        }
-        LOCK => {
-            if n != NUMBER_BYTES {
-                return Decoded::Broken;
-            }
-            Decoded::Edit(Call::Lock(number16(body, 0)))
-        }
-        UNLOCK => {
-            if n != NUMBER_BYTES {
-                return Decoded::Broken;
-            }
-            Decoded::Edit(Call::Unlock(number16(body, 0)))
-        }
-        UNDO => {
-            if n != 0 {
-                return Decoded::Broken;
-            }
-            Decoded::Edit(Call::Undo)
-        }
-        PAIRS => Decoded::Pairs,
-        CHAIN => {
-            if n < ENDS_BYTES {
-                return Decoded::Broken;
-            }
-            Decoded::Chain(number16(body, 0), number16(body, 2))
-        }
-        TOTAL => {
-            if n != 1 {
-                return Decoded::Broken;
-            }
+        Shape::Size => Decoded::Open(number16(body, 0)),
+        Shape::Label => {
             let label = body[0];
             Decoded::Total(label)
         }
-        WITHDRAW => {
-            if n != NUMBER_BYTES {
-                return Decoded::Broken;
-            }
-            Decoded::Edit(Call::Withdraw(number16(body, 0)))
-        }
-        REINSTATE => {
-            if n != NUMBER_BYTES {
-                return Decoded::Broken;
-            }
-            Decoded::Edit(Call::Reinstate(number16(body, 0)))
-        }
-        _ => Decoded::Unknown,
+        Shape::Expression => Decoded::Pairs,
+        Shape::Ends => Decoded::Chain(number16(body, 0), number16(body, 2)),
+        Shape::Unknown => Decoded::Unknown,
     }
 }
 
@@ -256,7 +273,7 @@ fn edit(state: State, call: Call, out: &mut [u8]) -> Framed
 }
 
 fn put_reply(answer: ChainAnswer, list: &[u32], out: &mut [u8]) -> usize
-    requires { ⌜ (stepsLength answer ≤ length (now list)) × (room (length (now list)) ≤ length (now out)) ⌝ }
+    requires { ⌜ (counted (chainCounted answer) ≤ length (now list)) × (room (length (now list)) ≤ length (now out)) ⌝ }
     ensures { λ r. ⌜ Wrote 0 (outcomeText (outcomeOf answer (now (list .entry)))) (now (out .entry)) (now (out .exit)) r ⌝ }
 {
     match answer {
@@ -298,21 +315,21 @@ fn listed(total: usize, list: &[u32]) -> usize
 }
 
 // The number of all pairs, and those in the list.
-fn put_listing(answer: PairsAnswer, list: &[u32], out: &mut [u8]) -> usize
+fn put_listing(answer: Counted, list: &[u32], out: &mut [u8]) -> usize
     requires { ⌜ room (length (now list)) ≤ length (now out) ⌝ }
     ensures { λ r. ⌜ Wrote 0 (outcomeText (listing answer (now (list .entry)))) (now (out .entry)) (now (out .exit)) r ⌝ }
 {
     match answer {
-        PairsAnswer::Pairs(total) => {
+        Counted::Count(total) => {
             let count = listed(total, list);
             report::put_pairs(total as u64, &list[..count], out, 0)
         }
-        PairsAnswer::Refused(k) => report::put_refused(k, out, 0),
+        Counted::Refused(k) => report::put_refused(k, out, 0),
     }
 }
 
 // The answer to a pair question of an opened book: by rows of bits for up to 32 records, by trees above.
-fn answer_pairs(register: Register, text: &[u8], work: &mut [u64], list: &mut [u32]) -> PairsAnswer
+fn answer_pairs(register: Register, text: &[u8], work: &mut [u64], list: &mut [u32]) -> Counted
     ensures { λ a. ⌜ AnswersPairs register (now (text .entry)) (length (now (work .entry))) (now (list .entry)) (now (list .exit)) a ⌝ }
 {
     if engine::size(register) <= ROW_RECORDS {
@@ -340,13 +357,13 @@ fn ask_pairs(
     Framed { state, written }
 }
 
-fn put_total(answer: TotalAnswer, out: &mut [u8]) -> usize
+fn put_total(answer: Counted, out: &mut [u8]) -> usize
     requires { ⌜ 29 ≤ length (now out) ⌝ }
     ensures { λ r. ⌜ Wrote 0 (totalSaid answer) (now (out .entry)) (now (out .exit)) r ⌝ }
 {
     match answer {
-        TotalAnswer::Total(t) => report::put_total(t, out, 0),
-        TotalAnswer::Refused(k) => report::put_refused(k, out, 0),
+        Counted::Count(t) => report::put_total(t as u64, out, 0),
+        Counted::Refused(k) => report::put_refused(k, out, 0),
     }
 }
 
@@ -420,6 +437,29 @@ fn front(input: &[u8]) -> usize
     n + 2
 }
 
+// Where no whole frame stands the run ends: nothing is printed at the end of the input, else that the frame is broken.
+fn halt(state: State, input: &[u8], out: &mut [u8]) -> Ran
+    requires { ⌜ (wholeFront (now input) ≡ 0) × (29 ≤ length (now out)) ⌝ }
+    ensures { λ r. ⌜ ((work : ℕ) (l : List ℕ) → room (length l) ≤ length (now (out .entry))
+        → OneTurn state (now (input .entry)) work l l (now (out .entry)) (now (out .exit)) r) ⌝ }
+{
+    if input.len() == 0 {
+        return Ran {
+            state,
+            read: 0,
+            written: 0,
+            more: false,
+        };
+    }
+    let written = report::put_refused(book::BROKEN_FRAME, out, 0);
+    Ran {
+        state,
+        read: 0,
+        written,
+        more: false,
+    }
+}
+
 // One turn of a run: the frame at the front of the input, or the run's end. With too little room for what a frame may print, nothing.
 pub fn step(state: State, input: &[u8], work: &mut [u64], list: &mut [u32], out: &mut [u8]) -> Ran
     ensures { λ r. ⌜ OneTurn state (now (input .entry)) (length (now (work .entry)))
@@ -433,23 +473,9 @@ pub fn step(state: State, input: &[u8], work: &mut [u64], list: &mut [u32], out:
             more: true,
         };
     }
-    if input.len() == 0 {
-        return Ran {
-            state,
-            read: 0,
-            written: 0,
-            more: false,
-        };
-    }
     let read = front(input);
     if read == 0 {
-        let written = report::put_refused(book::BROKEN_FRAME, out, 0);
-        return Ran {
-            state,
-            read: 0,
-            written,
-            more: false,
-        };
+        return halt(state, input, out);
     }
     let kind = number16(input, 2);
     let framed = frame(state, kind, &input[4..read], work, list, out);

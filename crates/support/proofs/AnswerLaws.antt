@@ -20,7 +20,7 @@ use Prim.Native.Nat.{ℕ, zero, suc, _+_, _-_, _*_, _≤_, _<_, min}
 use native.Mathlib.Decide.{decLt}
 use native.Mathlib.Omega.{arith}
 use lib.ListN.{length, take, drop, getD, length-drop}
-use lib.Seq.{length-take-le, take-all, drop-at}
+use lib.Seq.{length-take-le, take-all}
 use lib.Dec.{leb, ltb, eqb}
 use borrow.Author.Tests.{lt-ltb, le-ltb, le-leb, lt-leb, leb-false}
 use Rattle.book.specs.Basics.{pick}
@@ -35,22 +35,23 @@ use Rattle.paths.specs.Expressions.{Expr}
 use Rattle.paths.specs.Grammar.{Verdict, accepted, long, outside, large, verdictCause}
 use Rattle.paths.specs.Chains.{Graph, asked}
 use Rattle.paths.specs.Relations.{cells}
-use Rattle.paths.specs.Questions.{Outcome, refused, paired, unless, pairsWork, chainWork, pairsCauses, over}
+use Rattle.answers.specs.Answers.{counted, Whole}
+use Rattle.answers.specs.AnswerLaws.{contained-refused, whole-refused, whole-given}
+use Rattle.answers.specs.declared.Counted.{Counted}
+use Rattle.answers.specs.declared.Counted.the-variants.{Count, Refused}
+use Rattle.paths.specs.Questions.{Outcome, by-trees, refused, paired, replied, unless, pairsWork, chainWork, pairsCauses, over, listAfter, countOf, Tells}
 use Rattle.rows.specs.RowLaws.{flat-at}
 use Rattle.register.specs.Representation.{Represents}
 use Rattle.register.specs.Parting.{touches, withoutLinks, withoutRecord, Without}
 use Rattle.register.specs.PartingLaws.{present-without}
 use Rattle.register.specs.declared.Register.{Register}
-use Rattle.pairs.specs.Asking.{Tells, told-number, told-pairs, rowWords, relationCauses, relationAnswer, RelatesFor}
-use Rattle.pairs.specs.declared.PairsAnswer.{PairsAnswer}
-use Rattle.pairs.specs.declared.PairsAnswer.the-variants.{Pairs, Refused as Declined}
-use Rattle.support.specs.declared.SupportAnswer.{SupportAnswer}
-use Rattle.support.specs.declared.SupportAnswer.the-variants.{Records, Refused}
+use Rattle.query.specs.Asking.{rowWords, relationCauses, relationAnswer, RelatesFor}
+use Rattle.query.specs.AskingLaws.{handed-tells, whole-contained}
 use Rattle.support.specs.declared.Marks.{Marks}
-use Rattle.support.specs.Support.{without, some, chosen, reaches, falls, fallen, orderly, supportWork, fallenOf, supportCauses, supportNumber, answered}
-use Rattle.support.specs.Support.{listed, BookSupports, recordsLength, SupportsFor}
+use Rattle.support.specs.Support.{without, some, chosen, reaches, falls, fallen, orderly, supportWork, fallenOf, supportCauses, supportNumber}
+use Rattle.support.specs.Support.{supportOutcome, SupportsFor}
 use Rattle.support.specs.SupportLaws.{some-same, some-none, chosen-same}
-use Rattle.support.specs.Inner.{joinedBy, lost, Marked, Handed, too-long, handed, Compares}
+use Rattle.support.specs.Inner.{joinedBy, lost, Marked, Compares}
 
 -- ---- a relation's number
 or-false : (t : Bool) → (t || false) ≡ t
@@ -58,46 +59,45 @@ or-false true = refl
 or-false false = refl
 
 -- with rows enough, a relation has the causes of its pair question
-relation-number : (b : Book) (v : Verdict) (work : ℕ) → firstNumber (relationCauses b v work rowWords) ≡ firstNumber (pairsCauses b v work)
+relation-number : (b : Book) (v : Verdict) (work : ℕ) → firstNumber (relationCauses b v work rowWords) ≡ firstNumber (pairsCauses by-trees b v work)
 unfolding relationCauses pairsCauses
 relation-number b v work =
     ap (λ (t : Bool). firstNumber (verdictCause v ++ ((short-work, t) ∷ [])))
     (ap (λ (u : Bool). ltb work (pairsWork (b .n)) || u) (le-ltb rowWords rowWords (omega arith)) ∙ or-false (ltb work (pairsWork (b .n))))
 
-told-refused : {o : Outcome} {a : PairsAnswer} {k : ℕ} → Tells o a → a ≡ Declined k → o ≡ refused k
-told-refused {k = k} (told-number {k = j}) e = let z : j ≡ k = cc in ap refused z
-told-refused (told-pairs {total}) e = absurd (let z : _≡_ {A = ℕ} 0 1 = cc in omega arith)
-
-told-some : {o : Outcome} {a : PairsAnswer} {k : ℕ} → Tells o a → a ≡ Pairs k → (ws : List ℕ) × (o ≡ paired k ws)
-told-some (told-number {k = j}) e = absurd (let z : _≡_ {A = ℕ} 0 1 = cc in omega arith)
-told-some {k = k} (told-pairs {total} {ws}) e = let z : total ≡ k = cc in (ws, ap (λ (t : ℕ). paired t ws) z)
+told-refused : (o : Outcome) {a : Counted} {k : ℕ} → a ≡ countOf o → a ≡ Refused k → o ≡ refused k
+unfolding countOf
+told-refused (refused j) {k = k} T e = let z : j ≡ k = cc in ap refused z
+told-refused (paired t ws) T e = absurd (let z : _≡_ {A = ℕ} 0 1 = cc in omega arith)
+told-refused (replied t) T e = absurd (let z : _≡_ {A = ℕ} 0 1 = cc in omega arith)
 
 unless-refused : (q k t : ℕ) (ws : List ℕ) → unless q (paired t ws) ≡ refused k → q ≡ k
 unless-refused zero k t ws e = absurd (let z : _≡_ {A = ℕ} 0 1 = cc in omega arith)
 unless-refused (suc q) k t ws e = cc
 
-unless-some : (q k t : ℕ) (ws vs : List ℕ) → unless q (paired t ws) ≡ paired k vs → q ≡ 0
-unless-some zero k t ws vs e = refl
-unless-some (suc q) k t ws vs e = absurd (let z : _≡_ {A = ℕ} 0 1 = cc in omega arith)
+unless-some : (q t : ℕ) (ws : List ℕ) {a : Counted} {k : ℕ} → a ≡ countOf (unless q (paired t ws)) → a ≡ Count k → q ≡ 0
+unfolding countOf
+unless-some zero t ws T e = refl
+unless-some (suc q) t ws T e = absurd (let z : _≡_ {A = ℕ} 0 1 = cc in omega arith)
 
 -- ---- the marks of a register's records
-module _ {r : Register} {v : Verdict} {anchors : List ℕ} {work n : ℕ} {before after : List ℕ} (wide : length before ≡ rowWords) {a : PairsAnswer}
+module _ {r : Register} {v : Verdict} {anchors : List ℕ} {work n : ℕ} {before after : List ℕ} (wide : length before ≡ rowWords) {a : Counted}
     (A : RelatesFor r v work before after a) where
-  pub marks-refused : {k : ℕ} → a ≡ Declined k → (rs : List Bool) → length rs ≡ maxRecords → Marked r v anchors work n (record { records = rs; number = k })
+  pub marks-refused : {k : ℕ} → a ≡ Refused k → (rs : List Bool) → length rs ≡ maxRecords → Marked r v anchors work n (record { records = rs; number = k })
   unfolding relationAnswer
   marks-refused {k} e rs l =
-      let c = A .caused k e in
+      let c = A .contained .caused k e in
       record {
         long = l;
         caused = λ _. c;
         number = λ b R.
-            let o = told-refused (A .book b R .tells) e in
+            let o = told-refused _ (A .book b R .answer) e in
             let q : firstNumber (relationCauses b v work (length before)) ≡ k = unless-refused _ k _ _ o in
             sym (sym (relation-number b v work) ∙ ap (λ (i : ℕ). firstNumber (relationCauses b v work i)) (sym wide) ∙ q);
         records = λ b R f s z. absurd (omega (arith, caused-positive c, z));
       }
 
-  pub marks-made : {k : ℕ} → a ≡ Pairs k → n ≤ maxRecords → some (leb n) anchors ≡ false
+  pub marks-made : {k : ℕ} → a ≡ Count k → n ≤ maxRecords → some (leb n) anchors ≡ false
       → length after ≡ length before → (rs : List Bool) → length rs ≡ maxRecords
       → ((x : ℕ) → x < n → getD rs x false ≡ reaches (joinedBy after) anchors x) → Marked r v anchors work n (record { records = rs; number = 0 })
   unfolding relationAnswer reaches joinedBy
@@ -105,8 +105,7 @@ module _ {r : Register} {v : Verdict} {anchors : List ℕ} {work n : ℕ} {befor
     long = l;
     caused = λ z. absurd (z refl);
     number = λ b R.
-        let o = told-some (A .book b R .tells) e in
-        let q : firstNumber (relationCauses b v work (length before)) ≡ 0 = unless-some _ k _ _ (o .0) (o .1) in
+        let q : firstNumber (relationCauses b v work (length before)) ≡ 0 = unless-some _ _ _ (A .book b R .answer) e in
         sym (sym (relation-number b v work) ∙ ap (λ (i : ℕ). firstNumber (relationCauses b v work i)) (sym wide) ∙ q);
     records = λ b R f s z x h. joined x h ∙ some-same _ _ anchors (λ y i.
         let w : bitAt after (pairWord x y) ≡ cells (asked b) f x y =
@@ -181,41 +180,36 @@ module _ (b : Book) (core : ℕ) (v : Verdict) (anchors : List ℕ) (work whole 
   as-pairs : supportNumber b core v anchors whole room ≡ firstNumber (verdictCause v ++ ((short-work, ltb work (pairsWork (b .n))) ∷ follows))
   as-pairs = number-rest b core v anchors whole room c a o ∙ ap (λ (t : Bool). firstNumber (verdictCause v ++ ((short-work, t) ∷ follows))) w
 
-  number-pairs : {k : ℕ} → k ≡ firstNumber (pairsCauses b v work) → (k ≡ 0 → ⊥) → supportNumber b core v anchors whole room ≡ k
+  number-pairs : {k : ℕ} → k ≡ firstNumber (pairsCauses by-trees b v work) → (k ≡ 0 → ⊥) → supportNumber b core v anchors whole room ≡ k
   unfolding pairsCauses
   number-pairs e z = as-pairs ∙ first-alike v (ltb work (pairsWork (b .n))) follows (λ y. z (e ∙ y)) ∙ sym e
 
-  number-list : 0 ≡ firstNumber (pairsCauses b v work) → ((e : Expr) × (v ≡ accepted e)) × (supportNumber b core v anchors whole room ≡ firstNumber follows)
+  number-list : 0 ≡ firstNumber (pairsCauses by-trees b v work)
+      → ((e : Expr) × (v ≡ accepted e)) × (supportNumber b core v anchors whole room ≡ firstNumber follows)
   unfolding pairsCauses
   number-list e = let p = first-passed v (ltb work (pairsWork (b .n))) follows (sym e) in (p .0, as-pairs ∙ p .1)
 
 -- ---- refusals
-answered-refused : (k : ℕ) (l : List ℕ) → 0 < k → answered k l ≡ Refused k
-answered-refused zero l h = absurd (omega arith)
-answered-refused (suc k) l h = refl
+book-refused : (b : Book) (core : ℕ) (v : Verdict) (anchors : List ℕ) (work : ℕ) {k : ℕ} {before : List ℕ} → 0 < k
+    → supportNumber b core v anchors work (length before) ≡ k → Tells (supportOutcome b core v anchors work (length before)) before before (Refused k)
+unfolding supportOutcome countOf listAfter
+book-refused b core v anchors work {k = zero} h e = absurd (omega arith)
+book-refused b core v anchors work {k = suc k} {before} h e =
+    subst (λ (i : ℕ). Tells (unless i (paired (length (fallenOf b v core anchors)) (fallenOf b v core anchors))) before before (Refused (suc k))) (sym e) told
+  where
+    told : Tells (refused (suc k)) before before (Refused (suc k))
+    told = record { answer = refl; list = refl }
 
-listed-refused : (k : ℕ) (l before : List ℕ) → 0 < k → listed k l before ≡ before
-listed-refused zero l before h = absurd (omega arith)
-listed-refused (suc k) l before h = refl
+module _ {r : Register} (core : ℕ) {n : ℕ} (v : Verdict) (anchors : List ℕ) (work : ℕ) {before : List ℕ} (size : (b : Book) → Represents r b → n ≡ b .n) where
+  refuses : {k : ℕ} → Caused k → ((b : Book) → Represents r b → supportNumber b core v anchors work (length before) ≡ k)
+      → SupportsFor r core v anchors work before before (Refused k)
+  unfolding counted
+  refuses {k} c f =
+      record {
+        contained = contained-refused (length before) 0 before before k c refl;
+        book = λ b R. book-refused b core v anchors work (caused-positive c) (f b R);
+      }
 
-book-refused : {b : Book} {core : ℕ} {v : Verdict} {anchors : List ℕ} {work k : ℕ} {before : List ℕ} → 0 < k
-    → supportNumber b core v anchors work (length before) ≡ k → BookSupports b core v anchors work before before (Refused k)
-book-refused {b} {core} {v} {anchors} {work} {k} {before} h e = record {
-  answer = sym (ap (λ (i : ℕ). answered i (fallenOf b v core anchors)) e ∙ answered-refused k (fallenOf b v core anchors) h);
-  list = sym (ap (λ (i : ℕ). listed i (fallenOf b v core anchors) before) e ∙ listed-refused k (fallenOf b v core anchors) before h);
-}
-
-refuses : {r : Register} {core : ℕ} {v : Verdict} {anchors : List ℕ} {work k : ℕ} {before : List ℕ} → Caused k
-    → ((b : Book) → Represents r b → supportNumber b core v anchors work (length before) ≡ k) → SupportsFor r core v anchors work before before (Refused k)
-unfolding recordsLength
-refuses {k = k} c f = record {
-  fits = omega arith;
-  past = refl;
-  caused = λ j e. let z : k ≡ j = cc in subst Caused z c;
-  book = λ b R. book-refused (caused-positive c) (f b R);
-}
-
-module _ {r : Register} {core n : ℕ} {v : Verdict} {anchors : List ℕ} {work : ℕ} {before : List ℕ} (size : (b : Book) → Represents r b → n ≡ b .n) where
   pub refuses-core : n ≤ core → SupportsFor r core v anchors work before before (Refused 2)
   unfolding number
   refuses-core h = refuses (no-record, refl) (λ b R. number-core b core v anchors work (length before) (subst (λ (i : ℕ). i ≤ core) (size b R) h))
@@ -233,16 +227,15 @@ module _ {r : Register} {core n : ℕ} {v : Verdict} {anchors : List ℕ} {work 
 
 -- ---- words handed over
 module _ (words : List ℕ) (count : ℕ) (fits : count ≤ length words) {l : List ℕ} (e : take count words ≡ l) where
-  counted : count ≡ length l
-  counted = sym (length-take-le count words fits) ∙ ap length e
+  long-as : count ≡ length l
+  long-as = sym (length-take-le count words fits) ∙ ap length e
 
-  pub handed-short : {before : List ℕ} → length before < count → Handed l before before (Refused 13)
-  unfolding number
-  handed-short {before} h = too-long (subst (λ (i : ℕ). length before < i) counted h) refl
+  pub handed-short : {before : List ℕ} → length before < count → Whole l before before (Refused 13)
+  handed-short {before} h = whole-refused l before before (subst (λ (i : ℕ). length before < i) long-as h) refl
 
-  pub handed-whole : {before after : List ℕ} → count ≤ length before → after ≡ over (take count words) before → Handed l before after (Records count)
-  handed-whole {before} {after} h q = subst (λ (i : ℕ). Handed l before after (Records i)) (sym counted)
-      (handed (subst (λ (i : ℕ). i ≤ length before) counted h) (q ∙ ap (λ (k : List ℕ). over k before) e))
+  pub handed-whole : {before after : List ℕ} → count ≤ length before → after ≡ over (take count words) before → Whole l before after (Count count)
+  handed-whole {before} {after} h q =
+      whole-given l before after count long-as (subst (λ (i : ℕ). i ≤ length before) long-as h) (q ∙ ap (λ (k : List ℕ). over k before) e)
 
 -- ---- the two marks compared
 module _ (r : Register) (core n : ℕ) (v : Verdict) (anchors : List ℕ) (work : ℕ) (before : List ℕ)
@@ -258,12 +251,10 @@ module _ (r : Register) (core n : ℕ) (v : Verdict) (anchors : List ℕ) (work 
       → ((b : Book) → Represents r b → n ≡ b .n → (whole : ℕ) → ltb whole (supportWork (b .n)) ≡ ltb work (pairsWork (b .n))
       → supportNumber b core v anchors whole (length before) ≡ k)
       → Compares r core n v anchors work before before (Refused k)
-  unfolding recordsLength
+  unfolding counted
   declines {k} c f = record {
-    fits = omega arith;
-    past = refl;
-    caused = λ j e. let z : k ≡ j = cc in subst Caused z c;
-    book = λ b R z whole w. book-refused (caused-positive c) (f b R z whole w);
+    contained = contained-refused (length before) 0 before before k c refl;
+    book = λ b R z whole w. book-refused b core v anchors whole (caused-positive c) (f b R z whole w);
   }
 
   -- by the text or the work
@@ -314,33 +305,16 @@ module _ (r : Register) (core n : ℕ) (v : Verdict) (anchors : List ℕ) (work 
         let q = number-list b core v anchors work whole (length before) w (here-core b s) (here-anchors b s) o (sym z ∙ M .number b R) in
         record { fallen = lost-fallen b R s (q .0 .0) (q .0 .1); number = q .1 }
 
-    pub handed-over : {after : List ℕ} {a : SupportAnswer} → Handed (chosen (lost (m .records) (p .records) core) n) before after a
+    pub handed-over : {after : List ℕ} {a : Counted} → Whole (chosen (lost (m .records) (p .records) core) n) before after a
         → Compares r core n v anchors work before after a
-    unfolding recordsLength firstNumber number
-    handed-over {after} (too-long h e) = subst (λ (l : List ℕ). Compares r core n v anchors work before l (Refused 13)) (sym e)
-        (declines (short-list, refl) (λ b R s whole w.
-        let K = known b R s whole w in
-        K .number ∙ ap (λ (t : Bool). pick t 13 0)
-        (lt-ltb (length before) (length (fallenOf b v core anchors)) (subst (λ (l : List ℕ). length before < length l) (K .fallen) h))))
-    handed-over {after} (handed h e) = record {
-      fits = h;
-      past = ap (drop (length lost-ones)) e ∙ drop-at lost-ones (drop (length lost-ones) before) (length lost-ones) refl;
-      caused = λ j q. absurd (let y : _≡_ {A = ℕ} 0 1 = cc in omega arith);
-      book = λ b R s whole w. given b whole (known b R s whole w);
+    unfolding supportOutcome
+    handed-over {after} {a} H = record {
+      contained = whole-contained H;
+      book = λ b R s whole w.
+          let K = known b R s whole w in
+          subst (λ (i : ℕ). Tells (unless i (paired (length (fallenOf b v core anchors)) (fallenOf b v core anchors))) before after a) (sym (K .number))
+          (handed-tells _ (subst (λ (l : List ℕ). Whole l before after a) (K .fallen) H));
     }
-      where
-        lost-ones : List ℕ
-        lost-ones = chosen (lost (m .records) (p .records) core) n
-
-        given : (b : Book) (whole : ℕ) → Known b whole → BookSupports b core v anchors whole before after (Records (length lost-ones))
-        given b whole K =
-            let y : supportNumber b core v anchors whole (length before) ≡ 0 =
-            K .number ∙ ap (λ (t : Bool). pick t 13 0)
-            (le-ltb (length before) (length (fallenOf b v core anchors)) (subst (λ (l : List ℕ). length l ≤ length before) (K .fallen) h)) in
-            record {
-              answer = ap (λ (l : List ℕ). Records (length l)) (K .fallen) ∙ sym (ap (λ (i : ℕ). answered i (fallenOf b v core anchors)) y);
-              list = e ∙ ap (λ (l : List ℕ). over l before) (K .fallen) ∙ sym (ap (λ (i : ℕ). listed i (fallenOf b v core anchors) before) y);
-            }
 
 -- ---- the whole work, and the part of it that is lent on
 part-short : (work u c : ℕ) → 1 ≤ u → ltb work (32 * u + c) ≡ ltb (work - min work c) (32 * u)
@@ -353,13 +327,11 @@ part-short work u c h = go (decLt work (32 * u + c))
 pub part-length : (ws : List ℕ) (s m : ℕ) → s ≡ min (length ws) m → length (take (length ws - s) (drop s ws)) ≡ length ws - min (length ws) m
 part-length ws s m e = length-take-le (length ws - s) (drop s ws) (omega (arith, length-drop s ws)) ∙ ap (λ (i : ℕ). length ws - i) e
 
-pub supports : {r : Register} {core n : ℕ} {v : Verdict} {anchors : List ℕ} {work part : ℕ} {before after : List ℕ} {a : SupportAnswer}
+pub supports : {r : Register} {core n : ℕ} {v : Verdict} {anchors : List ℕ} (work : ℕ) {part : ℕ} {before after : List ℕ} {a : Counted}
     → ((b : Book) → Represents r b → n ≡ b .n) → part ≡ work - min work (chainWork n) → Compares r core n v anchors part before after a
     → SupportsFor r core v anchors work before after a
-supports {n = n} {work = work} {part} size e C = record {
-  fits = C .fits;
-  past = C .past;
-  caused = C .caused;
+supports {n = n} work {part} size e C = record {
+  contained = C .contained;
   book = λ b R.
       let z = size b R in
       C .book b R z work

@@ -15,28 +15,21 @@
 --                        the answer asked of the book b, if the text is an expression
 --   supportCauses, supportNumber
 --                        the causes against the question, in their order, and the number of the first, or 0
---   answered k l, supportAnswer
---                        the answer whose number is k, if l fall: how many they are, or refused with k; so the answer of the question
---   listed k l before, supportList
---                        what the list holds then: the records that fall, and the words past them as they were; all as it was if the question is refused
---   BookSupports b core v anchors work before after a
---                        asked of the book b with a text of the verdict v, so many words of work and a list that held `before`: the answer a and the list,
---                        which holds `after`, are the book's
---   recordsLength a      how many words of the list are the answer's
+--   supportOutcome b core v anchors work room
+--                        its outcome with so many words of work and room for so many in the list: the records that fall, all of them
 --   SupportsFor r core v anchors work before after a
---                        asked of the register r. Over any contents: the answer fits the list, the words past it are as they were, all of them with a refusal,
---                        whose number is a cause's. For every book that the register represents: answer and list are the book's
+--                        asked of the register r with a text of the verdict v, so many words of work and a list that held `before`
 --   Supports r core text anchors work before after a
 --                        the same of a text
 -- Assumes nothing: these are definitions.
 use mathlib.Core.Path.{_≡_}
 use mathlib.Core.List.{List, [], _∷_, _++_}
 use mathlib.Core.Bool.{Bool, true, false, not, _||_, _&&_}
-use Prim.Native.Nat.{ℕ, zero, suc, _+_, _≤_}
-use lib.ListN.{length, drop}
+use Prim.Native.Nat.{ℕ, zero, suc, _+_}
+use lib.ListN.{length}
 use lib.Dec.{leb, ltb, eqb}
 use Rattle.book.specs.Basics.{pick, In, Rises}
-use Rattle.book.specs.Causes.{Cause, no-record, unordered-anchors, short-work, short-list, Caused, firstNumber}
+use Rattle.book.specs.Causes.{Cause, no-record, unordered-anchors, short-work, short-list, firstNumber}
 use Rattle.book.specs.Book.{Book}
 use Rattle.k2.specs.PairSets.{Cells}
 use Rattle.paths.specs.Expressions.{Expr}
@@ -44,12 +37,11 @@ use Rattle.paths.specs.Grammar.{Verdict, accepted, long, outside, large, verdic
 use Rattle.paths.specs.Verdicts.{verdict}
 use Rattle.paths.specs.Chains.{Graph, asked, Has}
 use Rattle.paths.specs.Relations.{cells}
-use Rattle.paths.specs.Questions.{pairsWork, chainWork, over}
+use Rattle.answers.specs.declared.Counted.{Counted}
+use Rattle.paths.specs.Questions.{Outcome, paired, unless, pairsWork, chainWork}
 use Rattle.register.specs.Parting.{touches}
-use Rattle.register.specs.Representation.{Represents}
 use Rattle.register.specs.declared.Register.{Register}
-use Rattle.support.specs.declared.SupportAnswer.{SupportAnswer}
-use Rattle.support.specs.declared.SupportAnswer.the-variants.{Records, Refused}
+use Rattle.query.specs.Asking.{Asks}
 
 -- ---- what falls
 unfoldable pub without : ℕ → Graph → Graph
@@ -112,34 +104,13 @@ module _ (b : Book) (core : ℕ) (v : Verdict) (anchors : List ℕ) (work room :
   unfoldable pub supportNumber : ℕ
   supportNumber = firstNumber supportCauses
 
-abbrev pub answered : ℕ → List ℕ → SupportAnswer
-answered zero l = Records (length l)
-answered (suc k) l = Refused (suc k)
-
-abbrev pub listed : ℕ → List ℕ → List ℕ → List ℕ
-listed zero l before = over l before
-listed (suc k) l before = before
-
-abbrev pub supportAnswer : Book → ℕ → Verdict → List ℕ → ℕ → ℕ → SupportAnswer
-supportAnswer b core v anchors work room = answered (supportNumber b core v anchors work room) (fallenOf b v core anchors)
-
-abbrev pub supportList : Book → ℕ → Verdict → List ℕ → ℕ → List ℕ → List ℕ
-supportList b core v anchors work before = listed (supportNumber b core v anchors work (length before)) (fallenOf b v core anchors) before
+unfoldable pub supportOutcome : Book → ℕ → Verdict → List ℕ → ℕ → ℕ → Outcome
+supportOutcome b core v anchors work room =
+    unless (supportNumber b core v anchors work room) (paired (length (fallenOf b v core anchors)) (fallenOf b v core anchors))
 
 -- ---- the promise
-pub record BookSupports (b : Book) (core : ℕ) (v : Verdict) (anchors : List ℕ) (work : ℕ) (before after : List ℕ) (a : SupportAnswer) : Type 0 where
-  pub answer : a ≡ supportAnswer b core v anchors work (length before)
-  pub list : after ≡ supportList b core v anchors work before
+abbrev pub SupportsFor : Register → ℕ → Verdict → List ℕ → ℕ → List ℕ → List ℕ → Counted → Type 0
+SupportsFor r core v anchors work before after a = Asks (length before) r (λ b. supportOutcome b core v anchors work (length before)) before after a
 
-unfoldable pub recordsLength : SupportAnswer → ℕ
-recordsLength (Records k) = k
-recordsLength (Refused k) = 0
-
-pub record SupportsFor (r : Register) (core : ℕ) (v : Verdict) (anchors : List ℕ) (work : ℕ) (before after : List ℕ) (a : SupportAnswer) : Type 0 where
-  pub fits : recordsLength a ≤ length before
-  pub past : drop (recordsLength a) after ≡ drop (recordsLength a) before
-  pub caused : (k : ℕ) → a ≡ Refused k → Caused k
-  pub book : (b : Book) → Represents r b → BookSupports b core v anchors work before after a
-
-abbrev pub Supports : Register → ℕ → List ℕ → List ℕ → ℕ → List ℕ → List ℕ → SupportAnswer → Type 0
+abbrev pub Supports : Register → ℕ → List ℕ → List ℕ → ℕ → List ℕ → List ℕ → Counted → Type 0
 Supports r core text anchors work before after a = SupportsFor r core (verdict text) anchors work before after a

@@ -8,9 +8,10 @@ ghost use lib.ListN.{length, take, getD};
 ghost use Rattle.book.specs.Causes.{maxRecords};
 ghost use Rattle.paths.specs.Questions.{chainWork, over};
 ghost use Rattle.paths.specs.Verdicts.{verdict};
+ghost use Rattle.answers.specs.Answers.{Whole};
 ghost use Rattle.support.specs.Support.{some, chosen, reaches, orderly, Supports};
-ghost use Rattle.support.specs.Inner.{joinedBy, lost as Lost, Marked, Handed, Compares};
-use pairs::PairsAnswer;
+ghost use Rattle.support.specs.Inner.{joinedBy, lost as Lost, Marked, Compares};
+use answers::Counted;
 use register::Register;
 
 // The rows of a relation: a bit for each pair, in words of 64.
@@ -20,12 +21,6 @@ const ROW_WORDS: usize = book::MAX_RECORDS * book::MAX_RECORDS / WORD_BITS;
 
 // The words of work for each record beside those of a pair question.
 const RECORD_WORDS: usize = 64;
-
-// The answer: how many records fall, which the list has; or the number of a cause.
-pub enum SupportAnswer {
-    Records(usize),
-    Refused(u32),
-}
 
 // Of each record, whether it has a chain to some anchor; the number of a refusal, or 0.
 struct Marks {
@@ -126,11 +121,11 @@ fn mark_records(
     let mut rows: [u64; ROW_WORDS] = [0; ROW_WORDS];
     let answer = engine::relation(register, text, work, &mut rows);
     match answer {
-        PairsAnswer::Refused(number) => Marks {
+        Counted::Refused(number) => Marks {
             records: [false; book::MAX_RECORDS],
             number,
         },
-        PairsAnswer::Pairs(_) => Marks {
+        Counted::Count(_) => Marks {
             records: joined_records(&rows, anchors, n),
             number: 0,
         },
@@ -194,18 +189,18 @@ fn hand_over(
     core: usize,
     n: usize,
     list: &mut [u32],
-) -> SupportAnswer
+) -> Counted
     requires { ⌜ (n ≤ maxRecords) × (length before ≡ maxRecords) × (length after ≡ maxRecords) ⌝ }
-    ensures { λ a. ⌜ Handed (chosen (Lost before after core) n) (now (list .entry)) (now (list .exit)) a ⌝ }
+    ensures { λ a. ⌜ Whole (chosen (Lost before after core) n) (now (list .entry)) (now (list .exit)) a ⌝ }
 {
     let found = fallen(before, after, core, n);
     let count = found.count;
     let words = found.words;
     if list.len() < count {
-        return SupportAnswer::Refused(book::SHORT_LIST);
+        return Counted::Refused(book::SHORT_LIST);
     }
     write(&words[..count], list);
-    SupportAnswer::Records(count)
+    Counted::Count(count)
 }
 
 // With a core and anchors that are not refused: the records of the register marked, and those of what is left of it without the core's links.
@@ -217,19 +212,19 @@ fn compared(
     anchors: &[u16],
     work: &mut [u64],
     list: &mut [u32],
-) -> SupportAnswer
+) -> Counted
     requires { ⌜ (n ≤ maxRecords) × (core < n) × (some (leb n) (now anchors) ≡ false) × (orderly 0 (now anchors) ≡ true) ⌝ }
     ensures { λ a. ⌜ Compares register core n (verdict (now (text .entry))) (now (anchors .entry))
         (length (now (work .entry))) (now (list .entry)) (now (list .exit)) a ⌝ }
 {
     let before = mark_records(register, text, anchors, work, n);
     if before.number != 0 {
-        return SupportAnswer::Refused(before.number);
+        return Counted::Refused(before.number);
     }
     let rest = engine::without(register, core);
     let after = mark_records(rest, text, anchors, work, n);
     if after.number != 0 {
-        return SupportAnswer::Refused(after.number);
+        return Counted::Refused(after.number);
     }
     let had = before.records;
     let has = after.records;
@@ -256,18 +251,18 @@ pub fn sole_support(
     anchors: &[u16],
     work: &mut [u64],
     list: &mut [u32],
-) -> SupportAnswer
+) -> Counted
     ensures { λ a. ⌜ Supports register core (now (text .entry)) (now (anchors .entry)) (length (now (work .entry))) (now (list .entry)) (now (list .exit)) a ⌝ }
 {
     let n = engine::size(register);
     if n <= core as usize {
-        return SupportAnswer::Refused(book::NO_RECORD);
+        return Counted::Refused(book::NO_RECORD);
     }
     if beyond(anchors, n) {
-        return SupportAnswer::Refused(book::NO_RECORD);
+        return Counted::Refused(book::NO_RECORD);
     }
     if !ascending(anchors) {
-        return SupportAnswer::Refused(book::UNORDERED_ANCHORS);
+        return Counted::Refused(book::UNORDERED_ANCHORS);
     }
     let start = spared(work.len(), n);
     compared(register, core, n, text, anchors, &mut work[start..], list)

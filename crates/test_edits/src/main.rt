@@ -12,6 +12,9 @@ const MORE: usize = register::STATE_WORDS + 1;
 
 const LESS: usize = register::STATE_WORDS - 1;
 
+// The marks of all records stand before the totals of the labels, which are last.
+const FIRST_MARK: usize = register::STATE_WORDS - book::LABELS - book::MAX_RECORDS;
+
 fn line(text: &[u8]) {
     io::write_all(STDOUT_FILENO, text);
     io::write_all(STDOUT_FILENO, b"\n");
@@ -55,7 +58,7 @@ fn pair(from: u32, to: u32) {
 fn pairs(part: &[u32]) {
     for i in 0..part.len() {
         let word = part[i];
-        pair(word / 1024 % 1024, word % 1024);
+        pair(register::from_of(word), register::to_of(word));
     }
 }
 
@@ -250,7 +253,7 @@ fn too_many_held(mut state: [u32; MORE]) -> [u32; MORE] {
 
 // The first record's mark.
 fn marked(mut state: [u32; MORE], mark: u32) -> [u32; MORE] {
-    state[4356] = mark;
+    state[FIRST_MARK] = mark;
     state
 }
 

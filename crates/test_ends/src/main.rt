@@ -1,5 +1,5 @@
 // Questions for the ends and the starts of a record over small registers, each printed with its answer.
-use ends::EndsAnswer;
+use answers::Counted;
 use register::Register;
 
 fn print(bytes: &[u8]) {
@@ -29,14 +29,14 @@ fn print_question(record: u16, text: &[u8]) {
     print(b"\n");
 }
 
-fn print_answer(answer: EndsAnswer) {
+fn print_answer(answer: Counted) {
     match answer {
-        EndsAnswer::Ends(total) => {
+        Counted::Count(total) => {
             print(b" ");
             print_number(total as u64);
             print(b":");
         }
-        EndsAnswer::Refused(number) => {
+        Counted::Refused(number) => {
             print(b" refused ");
             print_number(number as u64);
             print(b":");

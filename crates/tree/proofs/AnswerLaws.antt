@@ -16,19 +16,18 @@ use mathlib.Core.Bool.{Bool, true, false}
 use mathlib.Core.List.{List, [], _∷_}
 use Prim.Native.Nat.{ℕ, zero, suc, _*_, _≤_}
 use native.Mathlib.Omega.{arith}
-use lib.ListN.{length}
-use borrow.Author.Tests.{lt-ltb, le-ltb}
-use Rattle.book.specs.Causes.{number, firstNumber, maxRecords}
+use lib.ListN.{length, take}
+use Rattle.book.specs.Causes.{firstNumber, maxRecords}
 use Rattle.k2.specs.PairSets.{PairsBelow}
 use Rattle.k2.specs.Trees.{treeUnit, WellFormed}
 use Rattle.k2.specs.TreeSets.{formed}
 use Rattle.k2.specs.TreeSetLaws.{formed-tree, tree-formed}
 use Rattle.k2.specs.SizeLaws.{treeWords-most}
-use Rattle.tree.specs.declared.listing.Answer.{Answer}
-use Rattle.tree.specs.declared.listing.Answer.the-variants.{Refused}
-use Rattle.tree.specs.Settling.{Settled, too-long, given, Shown, shown}
-use Rattle.tree.specs.Calls.{allBelow, allFormed, lentCauses, treeCauses, treeAnswer, treeList, Answered, Listed}
-use Rattle.tree.specs.CallLaws.{all-below, below-all, two-formed, lent-met, tree-refused, tree-accepted, first-over}
+use Rattle.answers.specs.Answers.{answered, overUnless, Handed, Whole, FirstPart}
+use Rattle.answers.specs.declared.Counted.{Counted}
+use Rattle.answers.specs.declared.Counted.the-variants.{Refused}
+use Rattle.tree.specs.Calls.{allBelow, allFormed, lentCauses, treeCauses, Answered, Listed}
+use Rattle.tree.specs.CallLaws.{all-below, below-all, two-formed, lent-met, tree-refused, tree-accepted}
 
 -- ---- the tests, which are those of the causes
 same-test : {P : Type 0} (s t : Bool) → (s ≡ true → P) → (P → s ≡ true) → (t ≡ true → P) → (P → t ≡ true) → s ≡ t
@@ -63,43 +62,41 @@ unfolding lentCauses
 as-good n ps ts us k e = rw e refl
 
 module _ (n : ℕ) (ps : List ℕ) (ts : List (List ℕ)) (k : ℕ) (xs before after : List ℕ) where
-  by-cause : {r : Answer} (c : ℕ) → firstNumber (treeCauses n ps ts k xs (length before)) ≡ c → r ≡ treeAnswer c (length xs) → after ≡ treeList c xs before
+  by-cause : {r : Counted} (c : ℕ) → firstNumber (treeCauses n ps ts k xs (length before)) ≡ c → r ≡ answered c (length xs) → after ≡ overUnless c xs before
       → Answered n ps ts k xs before after r
-  by-cause c e a l = record { answer = rw e a; list = rw e l }
+  by-cause {r} c e a l = record { handed = subst (λ (d : ℕ). Handed d xs xs before after r) (sym e) (record { answer = a; list = l }) }
 
   -- a cause before the answer
   pub refuse : (r : ℕ) → r ≡ firstNumber (lentCauses n ps ts k) → (r ≡ 0 → ⊥) → after ≡ before → Answered n ps ts k xs before after (Refused r)
-  unfolding treeAnswer treeList
+  unfolding answered overUnless
   refuse zero e z q = absurd (z refl)
   refuse (suc c) e z q = by-cause (suc c) (tree-refused n ps ts k xs (length before) (sym e)) refl q
 
-  settle : {v : Answer} → firstNumber (lentCauses n ps ts k) ≡ 0 → Settled xs before after v → Answered n ps ts k xs before after v
-  unfolding treeAnswer treeList number
-  settle e (too-long h q) = by-cause 13 (tree-accepted n ps ts k xs (length before) e ∙ rw (lt-ltb (length before) (length xs) h) refl) refl q
-  settle e (given h q) = by-cause 0 (tree-accepted n ps ts k xs (length before) e ∙ rw (le-ltb (length before) (length xs) h) refl) refl q
+  settle : {v : Counted} → firstNumber (lentCauses n ps ts k) ≡ 0 → Whole xs before after v → Answered n ps ts k xs before after v
+  unfolding firstNumber
+  settle {v} e w = record { handed = subst (λ (c : ℕ). Handed c xs xs before after v) (sym (tree-accepted n ps ts k xs (length before) e)) w }
 
   -- none: the answer decides
-  pub accept : {r : ℕ} {v : Answer} → r ≡ firstNumber (lentCauses n ps ts k) → r ≡ 0
-      → (ys : List ℕ) → ys ≡ xs → Settled ys before after v → Answered n ps ts k xs before after v
-  accept {v = v} e z ys q s = settle (sym e ∙ z) (subst (λ (l : List ℕ). Settled l before after v) q s)
+  pub accept : {r : ℕ} {v : Counted} → r ≡ firstNumber (lentCauses n ps ts k) → r ≡ 0
+      → (ys : List ℕ) → ys ≡ xs → Whole ys before after v → Answered n ps ts k xs before after v
+  accept {v = v} e z ys q s = settle (sym e ∙ z) (subst (λ (l : List ℕ). Whole l before after v) q s)
 
 -- a list of pairs: a cause before the answer, or none
 module _ (n : ℕ) (ts : List (List ℕ)) (k : ℕ) (xs before after : List ℕ) where
   pub refuse-list : (r : ℕ) → r ≡ firstNumber (lentCauses n [] ts k) → (r ≡ 0 → ⊥) → after ≡ before → Listed n ts k xs before after (Refused r)
-  unfolding treeAnswer treeList
+  unfolding answered overUnless
   refuse-list zero e z q = absurd (z refl)
-  refuse-list (suc c) e z q = record { answer = rw (← e) refl; list = rw (← e) q }
+  refuse-list (suc c) e z q = record { handed = record { answer = rw (← e) refl; list = rw (← e) q } }
 
-  show : {v : Answer} → firstNumber (lentCauses n [] ts k) ≡ 0 → Shown xs before after v → Listed n ts k xs before after v
-  unfolding treeAnswer treeList
-  show e (shown p) = record { answer = rw e refl; list = rw e (p ∙ first-over xs before) }
+  show : {v : Counted} → firstNumber (lentCauses n [] ts k) ≡ 0 → FirstPart xs before after v → Listed n ts k xs before after v
+  show {v} e w = record { handed = subst (λ (c : ℕ). Handed c xs (take (length before) xs) before after v) (sym e) w }
 
-  pub accept-list : {r : ℕ} {v : Answer} → r ≡ firstNumber (lentCauses n [] ts k) → r ≡ 0
-      → (ys : List ℕ) → ys ≡ xs → Shown ys before after v → Listed n ts k xs before after v
-  accept-list {v = v} e z ys q s = show (sym e ∙ z) (subst (λ (l : List ℕ). Shown l before after v) q s)
+  pub accept-list : {r : ℕ} {v : Counted} → r ≡ firstNumber (lentCauses n [] ts k) → r ≡ 0
+      → (ys : List ℕ) → ys ≡ xs → FirstPart ys before after v → Listed n ts k xs before after v
+  accept-list {v = v} e z ys q s = show (sym e ∙ z) (subst (λ (l : List ℕ). FirstPart l before after v) q s)
 
 -- an equal answer
-pub answer-as : {n k : ℕ} {ps xs ys before after : List ℕ} {ts : List (List ℕ)} {r : Answer} → xs ≡ ys → Answered n ps ts k xs before after r
+pub answer-as : {n k : ℕ} {ps xs ys before after : List ℕ} {ts : List (List ℕ)} {r : Counted} → xs ≡ ys → Answered n ps ts k xs before after r
     → Answered n ps ts k ys before after r
 answer-as {n} {k} {ps} {before = before} {after} {ts} {r} e a = subst (λ (l : List ℕ). Answered n ps ts k l before after r) e a
 

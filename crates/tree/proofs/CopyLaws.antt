@@ -1,7 +1,4 @@
--- Laws of `copy` and of `pairs_below`.
---   Copied i zs          the first i words have been copied
---   copy-none, copy-more, copy-all
---                        so before the first, one more, all
+-- Laws of trees copied to the front of work, and of `pairs_below`.
 --   copied-one, copied-two
 --                        one tree at the front, and two one behind the other
 --   below-all, below-at  pairs below n, word by word
@@ -9,73 +6,28 @@
 --                        a test does not come out both ways
 --   settled              an answer of so many words
 -- Assumes nothing.
-use mathlib.Core.Path.{_≡_, refl, sym, ap, subst, _∙_}
+use mathlib.Core.Path.{_≡_, refl, sym, ap, _∙_}
 use mathlib.Core.Bool.{Bool, true, false}
 use mathlib.Core.List.{List, [], _∷_, _++_}
-use Prim.Native.Nat.{ℕ, zero, suc, _+_, _-_, _/_, _%_, _≤_, _<_}
-use native.Mathlib.Decide.{decLt, ℕ-discrete}
+use Prim.Native.Nat.{ℕ, zero, suc, _+_, _/_, _%_, _≤_, _<_}
 use native.Mathlib.Omega.{arith}
-use lib.ListN.{length, take, drop, getD, set, length-take, length-drop, length-append, List·getD-append}
-use lib.Seq.{ext-getD, getD-append-add, getD-take, getD-drop, getD-set-same, getD-set-other, take-append-le, take-length, take-at, drop-at}
+use lib.ListN.{length, take, drop, getD, length-take}
+use lib.Seq.{take-append-le, take-length, take-at, drop-at}
 use Rattle.book.specs.Basics.{In, here, there}
 use Rattle.k2.specs.PairSets.{PairsBelow}
-use Rattle.tree.specs.declared.listing.Answer.the-variants.{Done}
-use Rattle.tree.specs.Settling.{Settled, given}
-
--- ---- after i words
-module _ (xs ys : List ℕ) (at : ℕ) (fits : at + length xs ≤ length ys) where
-  abbrev pub Copied : ℕ → List ℕ → Type 0
-  Copied i zs =
-      (k : ℕ) → (at ≤ k → k < at + i → getD zs k 0 ≡ getD xs (k - at) 0) × ((k < at → getD zs k 0 ≡ getD ys k 0) × (at + i ≤ k → getD zs k 0 ≡ getD ys k 0))
-
-  pub copy-none : Copied 0 ys
-  copy-none k = (λ l h. absurd (omega arith), (λ l. refl, λ l. refl))
-
-  pub copy-more : (i : ℕ) (zs : List ℕ) → i < length xs → length zs ≡ length ys → Copied i zs → Copied (i + 1) (set zs (at + i) (getD xs i 0))
-  copy-more i zs l e c k =
-      (λ p q. put p q (ℕ-discrete k (at + i)), (λ p. off (λ s. omega arith) ∙ c k .1 .0 p, λ p. off (λ s. omega arith) ∙ c k .1 .1 (omega arith)))
-    where
-      off : (k ≡ at + i → ⊥) → getD (set zs (at + i) (getD xs i 0)) k 0 ≡ getD zs k 0
-      off n = getD-set-other zs (at + i) k (getD xs i 0) 0 n
-
-      put : at ≤ k → k < at + (i + 1) → Dec (k ≡ at + i) → getD (set zs (at + i) (getD xs i 0)) k 0 ≡ getD xs (k - at) 0
-      put p q (yes s) =
-          let d : k - at ≡ i = omega arith in
-          rw (s, getD-set-same zs (at + i) (getD xs i 0) 0 (omega arith)) (let f : at + i - at ≡ i = omega arith in rw f refl)
-      put p q (no s) = off s ∙ c k .0 p (omega (arith, s))
-
-  abbrev whole : List ℕ
-  whole = take at ys ++ (xs ++ drop (at + length xs) ys)
-
-  front : length (take at ys) ≡ at
-  front = rw length-take (omega arith)
-
-  pub copy-all : (zs : List ℕ) → length zs ≡ length ys → Copied (length xs) zs → zs ≡ whole
-  copy-all zs e c =
-      ext-getD 0 zs whole (rw (length-append, length-append, front, length-drop) (omega arith)) (λ k l. go k (decLt k at) (decLt k (at + length xs)))
-    where
-      go : (k : ℕ) → Dec (k < at) → Dec (k < at + length xs) → getD zs k 0 ≡ getD whole k 0
-      go k (yes p) q = c k .1 .0 p ∙ sym (List·getD-append (take at ys) (xs ++ drop (at + length xs) ys) 0 k (rw front p) ∙ getD-take at ys k 0 p)
-      go k (no p) (yes q) =
-          let d : k ≡ length (take at ys) + (k - at) = rw front (omega arith) in
-          c k .0 (omega arith) q
-          ∙ sym (ap (λ (j : ℕ). getD whole j 0) d ∙ getD-append-add (take at ys) (xs ++ drop (at + length xs) ys) (k - at) 0
-          ∙ List·getD-append xs (drop (at + length xs) ys) 0 (k - at) (omega arith))
-      go k (no p) (no q) =
-          let d : k ≡ length (take at ys) + (length xs + (k - (at + length xs))) = rw front (omega arith) in
-          let b : at + length xs + (k - (at + length xs)) ≡ k = omega arith in
-          c k .1 .1 (omega arith)
-          ∙ sym (ap (λ (j : ℕ). getD whole j 0) d ∙ getD-append-add (take at ys) (xs ++ drop (at + length xs) ys) (length xs + (k - (at + length xs))) 0
-          ∙ getD-append-add xs (drop (at + length xs) ys) (k - (at + length xs)) 0
-          ∙ getD-drop (at + length xs) ys (k - (at + length xs)) 0 ∙ ap (λ (j : ℕ). getD ys j 0) b)
+use Rattle.answers.specs.declared.Counted.the-variants.{Count}
+use Rattle.answers.specs.Answers.{Whole}
+use Rattle.answers.specs.AnswerLaws.{whole-given}
+use Rattle.answers.specs.Written.{written}
 
 -- ---- trees one behind the other at the front
-pub copied-one : (xs ws ws′ : List ℕ) → ws′ ≡ [] ++ (xs ++ drop (0 + length xs) ws) → take (length xs) ws′ ≡ xs
+pub copied-one : (xs ws ws′ : List ℕ) → ws′ ≡ written 0 xs ws → take (length xs) ws′ ≡ xs
+unfolding written
 copied-one xs ws ws′ e = rw e (take-append-le (length xs) xs (drop (0 + length xs) ws) (omega arith) ∙ take-length xs)
 
-pub copied-two : (xs ys ws ws′ ws″ : List ℕ) → ws′ ≡ [] ++ (xs ++ drop (0 + length xs) ws)
-    → ws″ ≡ take (length xs) ws′ ++ (ys ++ drop (length xs + length ys) ws′)
+pub copied-two : (xs ys ws ws′ ws″ : List ℕ) → ws′ ≡ written 0 xs ws → ws″ ≡ written (length xs) ys ws′
     → (take (length xs) ws″ ≡ xs) × (take (length ys) (drop (length xs) ws″) ≡ ys)
+unfolding written
 copied-two xs ys ws ws′ ws″ e f =
     let g : ws″ ≡ xs ++ (ys ++ drop (length xs + length ys) ws′) =
     f ∙ ap (λ (t : List ℕ). t ++ (ys ++ drop (length xs + length ys) ws′)) (copied-one xs ws ws′ e) in
@@ -109,14 +61,11 @@ false-absurd e = absurd (let y : _≡_ {A = ℕ} 0 1 = cc in omega arith)
 pub both-absurd : {b : Bool} → b ≡ false → b ≡ true → ⊥
 both-absurd e f = false-absurd (sym e ∙ f)
 
--- an answer of r words
-given-at : (xs before after : List ℕ) (r : ℕ) → r ≡ length xs → r ≤ length before → after ≡ xs ++ drop (length xs) before → Settled xs before after (Done r)
-given-at xs before after r k l e = subst (λ (t : ℕ). Settled xs before after (Done t)) (sym k) (given (omega arith) e)
-
-pub settled : (ws : List ℕ) (len : ℕ) (out out′ : List ℕ) → len ≤ length ws
-    → len ≤ length out → out′ ≡ [] ++ (take len ws ++ drop (0 + length (take len ws)) out)
-    → Settled (take len ws) out out′ (Done len)
+-- an answer of so many words
+pub settled : (ws : List ℕ) (len : ℕ) (out out′ : List ℕ) → len ≤ length ws → len ≤ length out → out′ ≡ written 0 (take len ws) out
+    → Whole (take len ws) out out′ (Count len)
+unfolding written
 settled ws len out out′ l h e =
     let k : length (take len ws) ≡ len = rw length-take (omega arith) in
     let z : 0 + length (take len ws) ≡ length (take len ws) = omega arith in
-    given-at (take len ws) out out′ len (sym k) h (rw z at e)
+    whole-given (take len ws) out out′ len (sym k) (omega arith) (rw z at e)

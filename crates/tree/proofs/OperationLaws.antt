@@ -34,7 +34,7 @@ use Rattle.rows.specs.RowLaws.{flat-none, none-set, none-tree, union-none, unio
 use Rattle.packing.specs.declared.loading.Sense.{Sense}
 use Rattle.packing.specs.Senses.{sensed}
 use Rattle.packing.specs.SenseLaws.{sensed-union, sensed-none}
-use Rattle.tree.specs.declared.listing.Answer.{Answer}
+use Rattle.answers.specs.declared.Counted.{Counted}
 use Rattle.tree.specs.declared.operations.Operand.{Operand}
 use Rattle.tree.specs.declared.operations.Term.{Term}
 use Rattle.tree.specs.declared.operations.Operation.{Operation}
@@ -43,7 +43,7 @@ use Rattle.tree.specs.Inner.{nothing, treeAlone, valued, LinksBelow, out
 use Rattle.tree.specs.Inner.{InRows}
 use Rattle.tree.specs.InnerLaws.{valued-alone, valued-nothing}
 use Rattle.tree.specs.Calls.{treeOfTwo}
-use Rattle.tree.specs.Settling.{Shown}
+use Rattle.answers.specs.Answers.{FirstPart}
 use Rattle.tree.proofs.CopyLaws.{both-absurd}
 
 -- ---- rows
@@ -55,9 +55,9 @@ pub from-none : (a : Cells) (f : ℕ → ℕ) → f ≡ flat (union noPairs a) �
 from-none a f e = e ∙ ap flat (union-none a)
 
 -- rows of a set show its pairs
-pub set-shown : (n : ℕ) (a : Cells) (rows before after : List ℕ) {r : Answer} → n ≤ 1024 → IsSet n a → bitAt rows ≡ flat a
-    → Shown (pairsIn n rows) before after r → Shown (listed n a) before after r
-set-shown n a rows before after {r} nl A e s = subst (λ (xs : List ℕ). Shown xs before after r) (pairs-in n a nl A rows e) s
+pub set-shown : (n : ℕ) (a : Cells) (rows before after : List ℕ) {r : Counted} → n ≤ 1024 → IsSet n a → bitAt rows ≡ flat a
+    → FirstPart (pairsIn n rows) before after r → FirstPart (listed n a) before after r
+set-shown n a rows before after {r} nl A e s = subst (λ (xs : List ℕ). FirstPart xs before after r) (pairs-in n a nl A rows e) s
 
 -- ---- operands
 union-nothing : (x a : Cells) → a ≡ noPairs → x ≡ union x a

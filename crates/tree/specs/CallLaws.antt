@@ -10,17 +10,14 @@
 --   tree-refused, tree-accepted
 --                         the number of the first cause of all
 --   causes-in-order       the causes are those of `treeOrder`, in that order
---   first-over            the first words of xs over a list, if it is too short for all of them too
 -- Assumes nothing.
-use mathlib.Core.Path.{_≡_, refl, sym, ap, _∙_}
-use mathlib.Core.List.{List, [], _∷_, _++_}
+use mathlib.Core.Path.{_≡_, refl}
+use mathlib.Core.List.{List, [], _∷_}
 use mathlib.Core.Bool.{Bool, true, false, _&&_, _||_, not}
 use Prim.Native.Nat.{ℕ, zero, suc, _*_, _/_, _%_, _≤_, _<_}
-use native.Mathlib.Decide.{decLt}
 use native.Mathlib.Omega.{arith}
 use lib.Dec.{ltb}
-use lib.ListN.{length, take, drop, drop-of-length-le}
-use lib.Seq.{take-all, length-take-le}
+use lib.ListN.{length}
 use borrow.Author.Tests.{lt-ltb, le-ltb, ltb-true, ltb-false, not-false}
 use Rattle.book.specs.Basics.{pick, In, here, there}
 use Rattle.book.specs.Causes.{Cause, bad-size, no-record, bad-tree, short-work, short-list, number, treeOrder, firstNumber, InOrder, none-left, same-cause}
@@ -159,13 +156,3 @@ module _ (n : ℕ) (ps : List ℕ) (ts : List (List ℕ)) (k : ℕ) where
 pub two-formed : (n : ℕ) (t u : List ℕ) → allFormed n (t ∷ u ∷ []) ≡ true → WellFormed n t × WellFormed n u
 unfolding allFormed
 two-formed n t u e = let v = and-both (formed n t) (formed n u && true) e in (formed-tree (v .0), formed-tree (and-both (formed n u) true (v .1) .0))
-
--- ---- the first words
-pub first-over : (xs l : List ℕ) → take (length l) xs ++ drop (length xs) l ≡ take (length l) xs ++ drop (length (take (length l) xs)) l
-first-over xs l = go (decLt (length l) (length xs))
-  where
-    go : Dec (length l < length xs) → take (length l) xs ++ drop (length xs) l ≡ take (length l) xs ++ drop (length (take (length l) xs)) l
-    go (yes h) =
-        ap (λ (t : List ℕ). take (length l) xs ++ t) (drop-of-length-le l {i =
-        length xs} (omega arith) ∙ sym (drop-of-length-le l {i = length (take (length l) xs)} (omega (arith, length-take-le (length l) xs (omega arith)))))
-    go (no h) = ap (λ (t : List ℕ). take (length l) xs ++ drop (length t) l) (sym (take-all (length l) xs (omega arith)))

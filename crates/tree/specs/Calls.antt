@@ -9,8 +9,6 @@
 --   lentCauses n ps ts k  the causes against what is lent: n, the pairs ps, the trees ts, and k words of work
 --   treeCauses n ps ts k xs room
 --                         these, and that the answer xs is longer than its list, which has room for so many words
---   treeAnswer c m        what a call returns: refused with the number c; if that is 0, done with m words
---   treeList c xs l       what it makes of a list that held l: nothing; if c is 0, the words xs over its front
 --   Answered n ps ts k xs before after r
 --                         the answer r of a call that was lent these and whose answer is xs, and its list, which held `before` and holds `after`
 --   Listed n ts k xs before after r
@@ -20,12 +18,11 @@
 --   treeOfOne op n t, treeOfTwo op n t u
 --                         the tree of what op makes of the set of the tree t, or of the sets of t and u
 -- Assumes nothing: these are definitions.
-use mathlib.Core.Path.{_≡_}
 use mathlib.Core.List.{List, [], _∷_, _++_}
 use mathlib.Core.Bool.{Bool, true, _&&_, _||_, not}
 use Prim.Native.Nat.{ℕ, zero, suc, _*_, _/_, _%_}
 use lib.Dec.{ltb}
-use lib.ListN.{length, take, drop}
+use lib.ListN.{length, take}
 use Rattle.book.specs.Causes.{Cause, bad-size, no-record, bad-tree, short-work, short-list, firstNumber, maxRecords}
 use Rattle.k2.specs.PairSets.{Cells, setOf, listed, product}
 use Rattle.k2.specs.Trees.{treeWords, treeUnit}
@@ -33,8 +30,8 @@ use Rattle.k2.specs.TreeSets.{setIn, formed}
 use Rattle.packing.specs.declared.loading.Sense.{Sense}
 use Rattle.packing.specs.declared.loading.Sense.the-variants.{Plain, Inverted}
 use Rattle.packing.specs.Senses.{sensed}
-use Rattle.tree.specs.declared.listing.Answer.{Answer}
-use Rattle.tree.specs.declared.listing.Answer.the-variants.{Done, Refused}
+use Rattle.answers.specs.Answers.{Handed}
+use Rattle.answers.specs.declared.Counted.{Counted}
 
 abbrev pub senseOf : ℕ → Sense
 senseOf zero = Plain
@@ -61,21 +58,11 @@ lentCauses n ps ts k =
 unfoldable pub treeCauses : ℕ → List ℕ → List (List ℕ) → ℕ → List ℕ → ℕ → List (Cause × Bool)
 treeCauses n ps ts k xs room = lentCauses n ps ts k ++ ((short-list, ltb room (length xs)) ∷ [])
 
-unfoldable pub treeAnswer : ℕ → ℕ → Answer
-treeAnswer zero m = Done m
-treeAnswer (suc c) m = Refused (suc c)
+pub record Answered (n : ℕ) (ps : List ℕ) (ts : List (List ℕ)) (k : ℕ) (xs before after : List ℕ) (r : Counted) : Type 0 where
+  pub handed : Handed (firstNumber (treeCauses n ps ts k xs (length before))) xs xs before after r
 
-unfoldable pub treeList : ℕ → List ℕ → List ℕ → List ℕ
-treeList zero xs l = xs ++ drop (length xs) l
-treeList (suc c) xs l = l
-
-pub record Answered (n : ℕ) (ps : List ℕ) (ts : List (List ℕ)) (k : ℕ) (xs before after : List ℕ) (r : Answer) : Type 0 where
-  pub answer : r ≡ treeAnswer (firstNumber (treeCauses n ps ts k xs (length before))) (length xs)
-  pub list : after ≡ treeList (firstNumber (treeCauses n ps ts k xs (length before))) xs before
-
-pub record Listed (n : ℕ) (ts : List (List ℕ)) (k : ℕ) (xs before after : List ℕ) (r : Answer) : Type 0 where
-  pub answer : r ≡ treeAnswer (firstNumber (lentCauses n [] ts k)) (length xs)
-  pub list : after ≡ treeList (firstNumber (lentCauses n [] ts k)) (take (length before) xs) before
+pub record Listed (n : ℕ) (ts : List (List ℕ)) (k : ℕ) (xs before after : List ℕ) (r : Counted) : Type 0 where
+  pub handed : Handed (firstNumber (lentCauses n [] ts k)) xs (take (length before) xs) before after r
 
 abbrev pub treeOf : ℕ → List ℕ → List ℕ
 treeOf n ps = treeWords n (setOf ps)

@@ -1,7 +1,6 @@
 pub mod Inner
 pub mod InnerLaws
 pub mod Calls
-pub mod Settling
 pub mod CallLaws
 pub mod RoundTrips
 pub mod RoundTripLaws

@@ -18,9 +18,10 @@ use Rattle.k2.specs.PairSets.{Cells, IsSet, listed, setOf, pairWord, PairsBelow
 use Rattle.k2.specs.PairSetLaws.{setOf-set, setOf-listed, set-in, in-set, in-listed, listed-in, listed-rises, listed-below}
 use Rattle.k2.specs.Trees.{treeWords, treeUnit, WellFormed}
 use Rattle.k2.specs.TreeSetLaws.{formed-set}
-use Rattle.tree.specs.declared.listing.Answer.{Answer}
-use Rattle.tree.specs.declared.listing.Answer.the-variants.{Done}
-use Rattle.tree.specs.Calls.{allFormed, lentCauses, treeCauses, treeAnswer, treeList, Answered, Listed, treeOf, listOf}
+use Rattle.answers.specs.Answers.{answered, overUnless}
+use Rattle.answers.specs.declared.Counted.{Counted}
+use Rattle.answers.specs.declared.Counted.the-variants.{Count}
+use Rattle.tree.specs.Calls.{allFormed, lentCauses, treeCauses, Answered, Listed, treeOf, listOf}
 use Rattle.tree.specs.CallLaws.{below-all, one-formed, lent-none, tree-accepted}
 use Rattle.tree.specs.RoundTrips.{answerWords, MakeList, ListMake}
 
@@ -28,25 +29,25 @@ use Rattle.tree.specs.RoundTrips.{answerWords, MakeList, ListMake}
 no-pair : {n : ℕ} → PairsBelow n []
 no-pair w i = absurd (in-none i refl)
 
-enough : {n : ℕ} {ps : List ℕ} {ts : List (List ℕ)} {k : ℕ} {xs before after : List ℕ} {v : Answer}
+enough : {n : ℕ} {ps : List ℕ} {ts : List (List ℕ)} {k : ℕ} {xs before after : List ℕ} {v : Counted}
     → 1 ≤ n → n ≤ maxRecords → PairsBelow n ps → allFormed n ts ≡ true
-    → 32 * treeUnit n ≤ k → length xs ≤ length before → Answered n ps ts k xs before after v → (v ≡ Done (length xs)) × (answerWords v after ≡ xs)
-unfolding treeAnswer treeList answerWords
+    → 32 * treeUnit n ≤ k → length xs ≤ length before → Answered n ps ts k xs before after v → (v ≡ Count (length xs)) × (answerWords v after ≡ xs)
+unfolding answered overUnless answerWords
 enough {n} {ps} {ts} {k} {xs} {before} {after} some few below trees wide fits A =
     let z : firstNumber (treeCauses n ps ts k xs (length before)) ≡ 0 =
     tree-accepted n ps ts k xs (length before) (lent-none n ps ts k some few (below-all n ps below) trees wide)
     ∙ rw (le-ltb (length before) (length xs) fits) refl in
-    let r = A .answer ∙ ap (λ (c : ℕ). treeAnswer c (length xs)) z in
-    let l : after ≡ xs ++ drop (length xs) before = A .list ∙ ap (λ (c : ℕ). treeList c xs before) z in
+    let r = A .handed .answer ∙ ap (λ (c : ℕ). answered c (length xs)) z in
+    let l : after ≡ xs ++ drop (length xs) before = A .handed .list ∙ ap (λ (c : ℕ). overUnless c xs before) z in
     (r, rw (r, l) (take-at xs (drop (length xs) before) (length xs) refl))
 
-enough-list : {n : ℕ} {ts : List (List ℕ)} {k : ℕ} {xs before after : List ℕ} {v : Answer} → 1 ≤ n → n ≤ maxRecords → allFormed n ts ≡ true
-    → 32 * treeUnit n ≤ k → length xs ≤ length before → Listed n ts k xs before after v → (v ≡ Done (length xs)) × (answerWords v after ≡ xs)
-unfolding treeAnswer treeList answerWords
+enough-list : {n : ℕ} {ts : List (List ℕ)} {k : ℕ} {xs before after : List ℕ} {v : Counted} → 1 ≤ n → n ≤ maxRecords → allFormed n ts ≡ true
+    → 32 * treeUnit n ≤ k → length xs ≤ length before → Listed n ts k xs before after v → (v ≡ Count (length xs)) × (answerWords v after ≡ xs)
+unfolding answered overUnless answerWords
 enough-list {n} {ts} {k} {xs} {before} {after} some few trees wide fits A =
     let z : firstNumber (lentCauses n [] ts k) ≡ 0 = lent-none n [] ts k some few (below-all n [] no-pair) trees wide in
-    let r = A .answer ∙ ap (λ (c : ℕ). treeAnswer c (length xs)) z in
-    let l : after ≡ xs ++ drop (length xs) before = A .list ∙ ap (λ (c : ℕ). treeList c (take (length before) xs) before) z
+    let r = A .handed .answer ∙ ap (λ (c : ℕ). answered c (length xs)) z in
+    let l : after ≡ xs ++ drop (length xs) before = A .handed .list ∙ ap (λ (c : ℕ). overUnless c (take (length before) xs) before) z
     ∙ ap (λ (w : List ℕ). w ++ drop (length w) before) (take-all (length before) xs fits) in
     (r, rw (r, l) (take-at xs (drop (length xs) before) (length xs) refl))
 
@@ -63,8 +64,8 @@ make-list n work work′ ps out out′ list list′ v u b E A B =
     let s : listOf n (answerWords v out′) ≡ listed n (setOf ps) = ap (listed n) (formed-set F) in
     let z =
     enough-list (E .some) (E .few) (one-formed n (answerWords v out′) F) (E .second) (subst (λ (l : List ℕ). length l ≤ length list) (sym s) (E .pairs)) B in
-    let y : (u ≡ Done (length (listed n (setOf ps)))) × (answerWords u list′ ≡ listed n (setOf ps)) =
-    (z .0 ∙ ap (λ (l : List ℕ). Done (length l)) s, z .1 ∙ s) in
+    let y : (u ≡ Count (length (listed n (setOf ps)))) × (answerWords u list′ ≡ listed n (setOf ps)) =
+    (z .0 ∙ ap (λ (l : List ℕ). Count (length l)) s, z .1 ∙ s) in
     record {
       made = x .0;
       told = y .0;
@@ -94,4 +95,4 @@ list-make n work work′ t out out′ list list′ u v F E A B =
     let s : treeOf n (answerWords u list′) ≡ t = ap (treeOf n) p ∙ ap (treeWords n) (setOf-listed n a (E .few) (F .is-set)) ∙ sym (F .tree) in
     let b : PairsBelow n (answerWords u list′) = subst (PairsBelow n) (sym p) (listed-below n a (E .few)) in
     let y = enough (E .some) (E .few) b (no-tree n) (E .second) (subst (λ (l : List ℕ). length l ≤ length out) (sym (s ∙ F .tree)) (E .words)) B in
-    record { told = x .0 ∙ ap (λ (l : List ℕ). Done (length l)) q; made = y .0 ∙ ap (λ (l : List ℕ). Done (length l)) s; pairs = p; tree = y .1 ∙ s }
+    record { told = x .0 ∙ ap (λ (l : List ℕ). Count (length l)) q; made = y .0 ∙ ap (λ (l : List ℕ). Count (length l)) s; pairs = p; tree = y .1 ∙ s }

@@ -18,12 +18,12 @@ use Rattle.book.specs.Basics.{In, Rises}
 use Rattle.book.specs.Causes.{maxRecords}
 use Rattle.k2.specs.PairSets.{Cells, listed, setOf, PairsBelow}
 use Rattle.k2.specs.Trees.{treeWords, treeUnit, WellFormed}
-use Rattle.tree.specs.declared.listing.Answer.{Answer}
-use Rattle.tree.specs.declared.listing.Answer.the-variants.{Done, Refused}
+use Rattle.answers.specs.declared.Counted.{Counted}
+use Rattle.answers.specs.declared.Counted.the-variants.{Count, Refused}
 use Rattle.tree.specs.Calls.{Answered, Listed, treeOf, listOf}
 
-unfoldable pub answerWords : Answer → List ℕ → List ℕ
-answerWords (Done k) l = take k l
+unfoldable pub answerWords : Counted → List ℕ → List ℕ
+answerWords (Count k) l = take k l
 answerWords (Refused k) l = []
 
 pub record Enough (n : ℕ) (a : Cells) (work work′ : ℕ) (out list : List ℕ) : Type 0 where
@@ -34,26 +34,26 @@ pub record Enough (n : ℕ) (a : Cells) (work work′ : ℕ) (out list : List �
   pub words : length (treeWords n a) ≤ length out
   pub pairs : length (listed n a) ≤ length list
 
-pub record MadeListed (n : ℕ) (ps out′ list′ : List ℕ) (v u : Answer) : Type 0 where
-  pub made : v ≡ Done (length (treeWords n (setOf ps)))
-  pub told : u ≡ Done (length (listed n (setOf ps)))
+pub record MadeListed (n : ℕ) (ps out′ list′ : List ℕ) (v u : Counted) : Type 0 where
+  pub made : v ≡ Count (length (treeWords n (setOf ps)))
+  pub told : u ≡ Count (length (listed n (setOf ps)))
   pub tree : answerWords v out′ ≡ treeWords n (setOf ps)
   pub pairs : answerWords u list′ ≡ listed n (setOf ps)
   pub rises : Rises 0 (answerWords u list′)
   pub same : (w : ℕ) → (In w (answerWords u list′) → In w ps) × (In w ps → In w (answerWords u list′))
 
-pub record ListedMade (n : ℕ) (t : List ℕ) (a : Cells) (list′ out′ : List ℕ) (u v : Answer) : Type 0 where
-  pub told : u ≡ Done (length (listed n a))
-  pub made : v ≡ Done (length t)
+pub record ListedMade (n : ℕ) (t : List ℕ) (a : Cells) (list′ out′ : List ℕ) (u v : Counted) : Type 0 where
+  pub told : u ≡ Count (length (listed n a))
+  pub made : v ≡ Count (length t)
   pub pairs : answerWords u list′ ≡ listed n a
   pub tree : answerWords v out′ ≡ t
 
 abbrev pub MakeList : Type 0
-MakeList = (n work work′ : ℕ) (ps out out′ list list′ : List ℕ) (v u : Answer) → PairsBelow n ps → Enough n (setOf ps) work work′ out list
+MakeList = (n work work′ : ℕ) (ps out out′ list list′ : List ℕ) (v u : Counted) → PairsBelow n ps → Enough n (setOf ps) work work′ out list
     → Answered n ps [] work (treeOf n ps) out out′ v → Listed n (answerWords v out′ ∷ []) work′ (listOf n (answerWords v out′)) list list′ u
     → MadeListed n ps out′ list′ v u
 
 abbrev pub ListMake : Type 0
-ListMake = (n work work′ : ℕ) (t out out′ list list′ : List ℕ) (u v : Answer) (F : WellFormed n t) → Enough n (F .set) work work′ out list
+ListMake = (n work work′ : ℕ) (t out out′ list list′ : List ℕ) (u v : Counted) (F : WellFormed n t) → Enough n (F .set) work work′ out list
     → Listed n (t ∷ []) work (listOf n t) list list′ u → Answered n (answerWords u list′) [] work′ (treeOf n (answerWords u list′)) out out′ v
     → ListedMade n t (F .set) list′ out′ u v

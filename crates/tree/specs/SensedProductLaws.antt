@@ -17,20 +17,21 @@ use Rattle.k2.specs.TreeSets.{setIn, formed}
 use Rattle.k2.specs.TreeSetLaws.{tree-tells-set, told-set, tree-formed}
 use Rattle.packing.specs.declared.loading.Sense.{Sense}
 use Rattle.packing.specs.Senses.{sensed}
-use Rattle.tree.specs.declared.listing.Answer.{Answer}
-use Rattle.tree.specs.declared.listing.Answer.the-variants.{Done, Refused}
-use Rattle.tree.specs.Calls.{allBelow, allFormed, lentCauses, treeCauses, treeAnswer, treeList, Answered}
+use Rattle.answers.specs.Answers.{answered, overUnless}
+use Rattle.answers.specs.declared.Counted.{Counted}
+use Rattle.answers.specs.declared.Counted.the-variants.{Count, Refused}
+use Rattle.tree.specs.Calls.{allBelow, allFormed, lentCauses, treeCauses, Answered}
 use Rattle.tree.specs.CallLaws.{one-more, two-formed, lent-trees, lent-met, tree-refused}
 use Rattle.tree.specs.SensedProducts.{Transposed, as-it-is, written, ProductSensed, DamagedRefused}
 
 -- ---- a call that is accepted
 -- 0 for a refusal
-abbrev done : Answer → ℕ
-done (Done m) = m + 1
+abbrev done : Counted → ℕ
+done (Count m) = m + 1
 done (Refused c) = 0
 
-accepted-words : (c m : ℕ) (xs before after : List ℕ) → Done m ≡ treeAnswer c (length xs) → after ≡ treeList c xs before → (c ≡ 0) × (take m after ≡ xs)
-unfolding treeAnswer treeList
+accepted-words : (c m : ℕ) (xs before after : List ℕ) → Count m ≡ answered c (length xs) → after ≡ overUnless c xs before → (c ≡ 0) × (take m after ≡ xs)
+unfolding answered overUnless
 accepted-words zero m xs before after e l =
     let q : m ≡ length xs = omega (arith, ap done e) in
     (refl, rw (l, q) (take-at xs (drop (length xs) before) (length xs) refl))
@@ -41,10 +42,10 @@ no-cause : (n k : ℕ) (ps xs : List ℕ) (ts : List (List ℕ)) (room c : ℕ)
 no-cause n k ps xs ts room zero e z = refl
 no-cause n k ps xs ts room (suc c) e z = absurd (omega (arith, tree-refused n ps ts k xs room e, z))
 
-accepted : {n k m : ℕ} {ps xs before after : List ℕ} {ts : List (List ℕ)} → Answered n ps ts k xs before after (Done m)
+accepted : {n k m : ℕ} {ps xs before after : List ℕ} {ts : List (List ℕ)} → Answered n ps ts k xs before after (Count m)
     → (firstNumber (lentCauses n ps ts k) ≡ 0) × (take m after ≡ xs)
 accepted {n} {k} {m} {ps} {xs} {before} {after} {ts} A =
-    let w = accepted-words (firstNumber (treeCauses n ps ts k xs (length before))) m xs before after (A .answer) (A .list) in
+    let w = accepted-words (firstNumber (treeCauses n ps ts k xs (length before))) m xs before after (A .handed .answer) (A .handed .list) in
     (no-cause n k ps xs ts (length before) (firstNumber (lentCauses n ps ts k)) refl (w .0), w .1)
 
 -- ---- an operand and its transpose
@@ -66,13 +67,13 @@ unfolding lentCauses allFormed
 same-causes n k t u t′ u′ e f = rw (e, f) refl
 
 -- ---- two calls with the same causes and the same answer
-same-answer : {n k : ℕ} {ps xs ys before after after′ : List ℕ} {ts us : List (List ℕ)} {r r′ : Answer} → lentCauses n ps ts k ≡ lentCauses n ps us k → xs ≡ ys
+same-answer : {n k : ℕ} {ps xs ys before after after′ : List ℕ} {ts us : List (List ℕ)} {r r′ : Counted} → lentCauses n ps ts k ≡ lentCauses n ps us k → xs ≡ ys
     → Answered n ps ts k xs before after r → Answered n ps us k ys before after′ r′ → (r ≡ r′) × (after ≡ after′)
 unfolding treeCauses
 same-answer {n} {k} {ps} {xs} {ys} {before} {ts = ts} {us} e f A B =
     let c : firstNumber (treeCauses n ps ts k xs (length before)) ≡ firstNumber (treeCauses n ps us k ys (length before)) = rw (e, f) refl in (
-      A .answer ∙ ap₂ (λ (c : ℕ) (l : List ℕ). treeAnswer c (length l)) c f ∙ sym (B .answer),
-      A .list ∙ ap₂ (λ (c : ℕ) (l : List ℕ). treeList c l before) c f ∙ sym (B .list),
+      A .handed .answer ∙ ap₂ (λ (c : ℕ) (l : List ℕ). answered c (length l)) c f ∙ sym (B .handed .answer),
+      A .handed .list ∙ ap₂ (λ (c : ℕ) (l : List ℕ). overUnless c l before) c f ∙ sym (B .handed .list),
     )
 
 -- ---- product with senses, and on the operands so transposed
@@ -82,7 +83,7 @@ product-sensed n k t u t′ u′ out after after′ s q r r′ x y A B =
     (ap₂ (λ (a b : Cells). treeWords n (product n a b)) (sym (transposed-set x)) (sym (transposed-set y))) A B
 
 pub damaged-refused : DamagedRefused
-unfolding treeAnswer treeList number allBelow
+unfolding answered overUnless number allBelow
 damaged-refused n k xs before after ts r some few bad A =
     let c = tree-refused n [] ts k xs (length before) (lent-trees n [] ts k some few refl bad) in
-    (A .answer ∙ ap (λ (c : ℕ). treeAnswer c (length xs)) c, A .list ∙ ap (λ (c : ℕ). treeList c xs before) c)
+    (A .handed .answer ∙ ap (λ (c : ℕ). answered c (length xs)) c, A .handed .list ∙ ap (λ (c : ℕ). overUnless c xs before) c)

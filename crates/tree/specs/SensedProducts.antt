@@ -14,20 +14,21 @@ use Rattle.book.specs.Causes.{bad-tree, number, maxRecords}
 use Rattle.k2.specs.PairSets.{transpose}
 use Rattle.packing.specs.declared.loading.Sense.{Sense}
 use Rattle.packing.specs.declared.loading.Sense.the-variants.{Plain, Inverted}
-use Rattle.tree.specs.declared.listing.Answer.{Answer}
-use Rattle.tree.specs.declared.listing.Answer.the-variants.{Done, Refused}
+use Rattle.answers.specs.declared.Counted.{Counted}
+use Rattle.answers.specs.declared.Counted.the-variants.{Count, Refused}
 use Rattle.tree.specs.Calls.{productSensed, allFormed, Answered, treeOfOne, treeOfTwo}
 
 pub data Transposed (n : ℕ) (t t′ : List ℕ) : Sense → Type 0 where
   as-it-is : t′ ≡ t → Transposed n t t′ Plain
-  written : {k m : ℕ} {out out′ : List ℕ} → Answered n [] (t ∷ []) k (treeOfOne transpose n t) out out′ (Done m) → t′ ≡ take m out′ → Transposed n t t′ Inverted
+  written : {k m : ℕ} {out out′ : List ℕ} → Answered n [] (t ∷ []) k (treeOfOne transpose n t) out out′ (Count m) → t′ ≡ take m out′
+      → Transposed n t t′ Inverted
 
 abbrev pub ProductSensed : Type 0
-ProductSensed = (n k : ℕ) (t u t′ u′ out after after′ : List ℕ) (s q : Sense) (r r′ : Answer) → Transposed n t t′ s → Transposed n u u′ q
+ProductSensed = (n k : ℕ) (t u t′ u′ out after after′ : List ℕ) (s q : Sense) (r r′ : Counted) → Transposed n t t′ s → Transposed n u u′ q
     → Answered n [] (t ∷ u ∷ []) k (treeOfTwo (productSensed n s q) n t u) out after r
     → Answered n [] (t′ ∷ u′ ∷ []) k (treeOfTwo (productSensed n Plain Plain) n t′ u′) out after′ r′ → (r ≡ r′) × (after ≡ after′)
 
 -- words that are no tree, in any call and with any sense
 abbrev pub DamagedRefused : Type 0
-DamagedRefused = (n k : ℕ) (xs before after : List ℕ) (ts : List (List ℕ)) (r : Answer) → 1 ≤ n → n ≤ maxRecords → allFormed n ts ≡ false
+DamagedRefused = (n k : ℕ) (xs before after : List ℕ) (ts : List (List ℕ)) (r : Counted) → 1 ≤ n → n ≤ maxRecords → allFormed n ts ≡ false
     → Answered n [] ts k xs before after r → (r ≡ Refused (number bad-tree)) × (after ≡ before)

@@ -1,18 +1,18 @@
 // The calls on lent trees and lists: each tests what it is lent, names the first cause against it, and hands over a tree or a list.
 // What they promise is stated in specs/Calls.antt.
-use crate::listing::Answer;
 use crate::listing::hand_over;
 use crate::operations::Operand;
 use crate::operations::Operation;
 use crate::operations::Term;
 use crate::operations::no_operand;
 use crate::operations::operate;
+use answers::Counted;
 use packing::Sense;
 ghost use mathlib.Core.Path.{_≡_};
 ghost use mathlib.Core.Bool.{true};
-ghost use mathlib.Core.List.{[], _∷_, _++_};
-ghost use Prim.Native.Nat.{_+_, _≤_};
-ghost use lib.ListN.{length, take, drop};
+ghost use mathlib.Core.List.{[], _∷_};
+ghost use Prim.Native.Nat.{_≤_};
+ghost use lib.ListN.{length, take};
 ghost use Rattle.book.specs.Causes.{firstNumber, maxRecords};
 ghost use Rattle.k2.specs.PairSets.{Cells, IsSet, listed, union, intersection, difference, transpose, closure, PairsBelow};
 ghost use Rattle.k2.specs.Trees.{treeWords};
@@ -20,7 +20,7 @@ ghost use Rattle.bits.specs.BitSets.{none};
 ghost use Rattle.rows.specs.Rows.{noPairs};
 ghost use Rattle.packing.specs.Senses.{sensed};
 ghost use Rattle.tree.specs.Inner.{treeAlone, outcome, Roomy, Lent, termSet, TreeAt};
-ghost use Rattle.tree.specs.Settling.{Settled, Shown};
+ghost use Rattle.answers.specs.Answers.{Whole, FirstPart};
 ghost use Rattle.tree.specs.Calls.{senseOf, productSensed, lentCauses, Answered, Listed, treeOf, listOf, treeOfOne, treeOfTwo};
 
 // Are both ends of each pair below n?
@@ -66,28 +66,16 @@ fn refusal(n: usize, pairs: &[u32], a: &[u64], b: &[u64], room: usize) -> u32
     0
 }
 
-// Words copied to a place from word `at` on.
-fn copy(from: &[u64], to: &mut [u64], at: usize)
-    requires { ⌜ at + length (now from) ≤ length (now to) ⌝ }
-    ensures { λ _. ⌜ now (to .exit) ≡ take at (now (to .entry)) ++ (now (from .entry) ++ drop (at + length (now (from .entry))) (now (to .entry))) ⌝ }
-{
-    let mut i = 0;
-    while i < from.len() {
-        to[at + i] = from[i];
-        i += 1;
-    }
-}
-
 // Refused if the tree at the front of work is longer than its list; otherwise it is handed over.
-fn settle(work: &[u64], len: usize, out: &mut [u64]) -> Answer
+fn settle(work: &[u64], len: usize, out: &mut [u64]) -> Counted
     requires { ⌜ len ≤ length (now work) ⌝ }
-    ensures { λ r. ⌜ Settled (take len (now (work .entry))) (now (out .entry)) (now (out .exit)) r ⌝ }
+    ensures { λ r. ⌜ Whole (take len (now (work .entry))) (now (out .entry)) (now (out .exit)) r ⌝ }
 {
     if out.len() < len {
-        return Answer::Refused(book::SHORT_LIST);
+        return Counted::Refused(book::SHORT_LIST);
     }
-    copy(&work[..len], out, 0);
-    Answer::Done(len)
+    answers::copy_u64(&work[..len], out, 0);
+    Counted::Count(len)
 }
 
 // A tree of so many words as an operand.
@@ -133,7 +121,7 @@ fn binary(
     b_sense: Sense,
     out: &mut [u64],
     work: &mut [u64],
-) -> Answer
+) -> Counted
     ensures { λ r. ⌜ Answered n [] (now (a .entry) ∷ now (b .entry) ∷ []) (length (now (work .entry)))
         (treeOfTwo (λ x y. outcome operation n none (sensed «a_sense» x) (sensed «b_sense» y)) n (now (a .entry)) (now (b .entry)))
         (now (out .entry)) (now (out .exit)) r ⌝ }
@@ -141,10 +129,10 @@ fn binary(
     let no_links: [u32; 1] = [0; 1];
     let cause = refusal(n, &no_links[..0], a, b, work.len());
     if cause != 0 {
-        return Answer::Refused(cause);
+        return Counted::Refused(cause);
     }
-    copy(a, work, 0);
-    copy(b, work, a.len());
+    answers::copy_u64(a, work, 0);
+    answers::copy_u64(b, work, a.len());
     let term = Term {
         operation,
         first: tree_of(a.len(), a_sense),
@@ -162,7 +150,7 @@ fn plain(
     b: &[u64],
     out: &mut [u64],
     work: &mut [u64],
-) -> Answer
+) -> Counted
     ensures { λ r. ⌜ Answered n [] (now (a .entry) ∷ now (b .entry) ∷ []) (length (now (work .entry)))
         (treeOfTwo (outcome operation n none) n (now (a .entry)) (now (b .entry))) (now (out .entry)) (now (out .exit)) r ⌝ }
 {
@@ -177,16 +165,16 @@ fn unary(
     sense: Sense,
     out: &mut [u64],
     work: &mut [u64],
-) -> Answer
+) -> Counted
     ensures { λ r. ⌜ Answered n [] (now (a .entry) ∷ []) (length (now (work .entry)))
         (treeOfOne (λ x. outcome operation n none noPairs (sensed sense x)) n (now (a .entry))) (now (out .entry)) (now (out .exit)) r ⌝ }
 {
     let no_links: [u32; 1] = [0; 1];
     let cause = refusal(n, &no_links[..0], a, &a[..0], work.len());
     if cause != 0 {
-        return Answer::Refused(cause);
+        return Counted::Refused(cause);
     }
-    copy(a, work, 0);
+    answers::copy_u64(a, work, 0);
     let term = Term {
         operation,
         first: no_operand(),
@@ -197,7 +185,7 @@ fn unary(
 }
 
 // The tree of the pairs in either.
-pub fn union(n: usize, a: &[u64], b: &[u64], out: &mut [u64], work: &mut [u64]) -> Answer
+pub fn union(n: usize, a: &[u64], b: &[u64], out: &mut [u64], work: &mut [u64]) -> Counted
     ensures { λ r. ⌜ Answered n [] (now (a .entry) ∷ now (b .entry) ∷ []) (length (now (work .entry)))
         (treeOfTwo union n (now (a .entry)) (now (b .entry))) (now (out .entry)) (now (out .exit)) r ⌝ }
 {
@@ -205,7 +193,7 @@ pub fn union(n: usize, a: &[u64], b: &[u64], out: &mut [u64], work: &mut [u64]) 
 }
 
 // The tree of the pairs in both.
-pub fn intersection(n: usize, a: &[u64], b: &[u64], out: &mut [u64], work: &mut [u64]) -> Answer
+pub fn intersection(n: usize, a: &[u64], b: &[u64], out: &mut [u64], work: &mut [u64]) -> Counted
     ensures { λ r. ⌜ Answered n [] (now (a .entry) ∷ now (b .entry) ∷ []) (length (now (work .entry)))
         (treeOfTwo intersection n (now (a .entry)) (now (b .entry))) (now (out .entry)) (now (out .exit)) r ⌝ }
 {
@@ -213,7 +201,7 @@ pub fn intersection(n: usize, a: &[u64], b: &[u64], out: &mut [u64], work: &mut 
 }
 
 // The tree of the pairs in the first and not in the second.
-pub fn difference(n: usize, a: &[u64], b: &[u64], out: &mut [u64], work: &mut [u64]) -> Answer
+pub fn difference(n: usize, a: &[u64], b: &[u64], out: &mut [u64], work: &mut [u64]) -> Counted
     ensures { λ r. ⌜ Answered n [] (now (a .entry) ∷ now (b .entry) ∷ []) (length (now (work .entry)))
         (treeOfTwo difference n (now (a .entry)) (now (b .entry))) (now (out .entry)) (now (out .exit)) r ⌝ }
 {
@@ -229,7 +217,7 @@ pub fn product(
     b_sense: Sense,
     out: &mut [u64],
     work: &mut [u64],
-) -> Answer
+) -> Counted
     ensures { λ r. ⌜ Answered n [] (now (a .entry) ∷ now (b .entry) ∷ []) (length (now (work .entry)))
         (treeOfTwo (productSensed n «a_sense» «b_sense») n (now (a .entry)) (now (b .entry))) (now (out .entry)) (now (out .exit)) r ⌝ }
 {
@@ -237,7 +225,7 @@ pub fn product(
 }
 
 // The tree of the pairs exchanged.
-pub fn transpose(n: usize, a: &[u64], out: &mut [u64], work: &mut [u64]) -> Answer
+pub fn transpose(n: usize, a: &[u64], out: &mut [u64], work: &mut [u64]) -> Counted
     ensures { λ r. ⌜ Answered n [] (now (a .entry) ∷ []) (length (now (work .entry)))
         (treeOfOne transpose n (now (a .entry))) (now (out .entry)) (now (out .exit)) r ⌝ }
 {
@@ -245,7 +233,7 @@ pub fn transpose(n: usize, a: &[u64], out: &mut [u64], work: &mut [u64]) -> Answ
 }
 
 // The tree of the closure: one or more pairs that lead from one to the other.
-pub fn closure(n: usize, a: &[u64], out: &mut [u64], work: &mut [u64]) -> Answer
+pub fn closure(n: usize, a: &[u64], out: &mut [u64], work: &mut [u64]) -> Counted
     ensures { λ r. ⌜ Answered n [] (now (a .entry) ∷ []) (length (now (work .entry)))
         (treeOfOne (closure n) n (now (a .entry))) (now (out .entry)) (now (out .exit)) r ⌝ }
 {
@@ -253,7 +241,7 @@ pub fn closure(n: usize, a: &[u64], out: &mut [u64], work: &mut [u64]) -> Answer
 }
 
 // The tree of a list of pair words, in any order and with repeats.
-pub fn make(n: usize, pairs: &[u32], out: &mut [u64], work: &mut [u64]) -> Answer
+pub fn make(n: usize, pairs: &[u32], out: &mut [u64], work: &mut [u64]) -> Counted
     ensures { λ r. ⌜ Answered n (now (pairs .entry)) [] (length (now (work .entry)))
         (treeOf n (now (pairs .entry))) (now (out .entry)) (now (out .exit)) r ⌝ }
 {
@@ -261,7 +249,7 @@ pub fn make(n: usize, pairs: &[u32], out: &mut [u64], work: &mut [u64]) -> Answe
     let empty = &none[..0];
     let cause = refusal(n, pairs, empty, empty, work.len());
     if cause != 0 {
-        return Answer::Refused(cause);
+        return Counted::Refused(cause);
     }
     let term = Term {
         operation: Operation::Union,
@@ -278,9 +266,9 @@ pub fn make(n: usize, pairs: &[u32], out: &mut [u64], work: &mut [u64]) -> Answe
 }
 
 // The pairs of a tree handed over.
-fn list_pairs(tree: &[u64], n: usize, out: &mut [u32]) -> Answer
+fn list_pairs(tree: &[u64], n: usize, out: &mut [u32]) -> Counted
     requires { ⌜ (n ≤ maxRecords) × (length (now tree) ≤ 21846) ⌝ }
-    ensures { λ r. ⌜ ((a : Cells) → IsSet n a → now (tree .entry) ≡ treeWords n a → Shown (listed n a) (now (out .entry)) (now (out .exit)) r) ⌝ }
+    ensures { λ r. ⌜ ((a : Cells) → IsSet n a → now (tree .entry) ≡ treeWords n a → FirstPart (listed n a) (now (out .entry)) (now (out .exit)) r) ⌝ }
 {
     let mut rows: [u64; 16384] = [0; 16384];
     packing::load(tree, n, Sense::Plain, &mut rows);
@@ -288,14 +276,14 @@ fn list_pairs(tree: &[u64], n: usize, out: &mut [u32]) -> Answer
 }
 
 // The pairs of a tree, ascending, as many as the list takes; how many they are in all.
-pub fn list(n: usize, a: &[u64], out: &mut [u32], work: &mut [u64]) -> Answer
+pub fn list(n: usize, a: &[u64], out: &mut [u32], work: &mut [u64]) -> Counted
     ensures { λ r. ⌜ Listed n (now (a .entry) ∷ []) (length (now (work .entry)))
         (listOf n (now (a .entry))) (now (out .entry)) (now (out .exit)) r ⌝ }
 {
     let none: [u32; 1] = [0; 1];
     let cause = refusal(n, &none[..0], a, &a[..0], work.len());
     if cause != 0 {
-        return Answer::Refused(cause);
+        return Counted::Refused(cause);
     }
     list_pairs(a, n, out)
 }

@@ -14,7 +14,6 @@ pub use calls::product;
 pub use calls::sense_of;
 pub use calls::transpose;
 pub use calls::union;
-pub use listing::Answer;
 pub use operations::Operand;
 pub use operations::Operation;
 pub use operations::Term;

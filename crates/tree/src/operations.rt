@@ -166,7 +166,7 @@ fn combine(term: Term, work: &[u64], n: usize, links: &[u32], used: &[u64], rows
         Operation::Product => with_second(term, work, n, links, rows),
         Operation::Closure => {
             load(work, first.size, second, n, links, rows);
-            rows::close(rows, n);
+            grid::close_rows(rows, n);
         }
         Operation::Optional => {
             load(work, first.size, second, n, links, rows);
@@ -174,7 +174,7 @@ fn combine(term: Term, work: &[u64], n: usize, links: &[u32], used: &[u64], rows
         }
         Operation::Star => {
             load(work, first.size, second, n, links, rows);
-            rows::close(rows, n);
+            grid::close_rows(rows, n);
             rows::set_diagonal(rows, used);
         }
     }

@@ -208,15 +208,75 @@ fn compose(a: &mut Rows, bt: &Rows, n: usize) {
     }
 }
 
+fn bit(set: &[u64], x: usize) -> bool {
+    set[x / 64] >> (x % 64) & 1 == 1
+}
+
+fn set_bit(set: &mut [u64], x: usize) {
+    set[x / 64] |= 1 << (x % 64);
+}
+
+/// The words in a mask.
+fn words(mask: u32) -> impl Iterator<Item = usize> {
+    (0..WORDS).filter(move |c| mask >> c & 1 == 1)
+}
+
+/// A column of row x that is not seen: of a closed record near x, if there is one.
+fn fresh(rows: &Rows, mask: u32, x: usize, seen: &[u64; WORDS], closed: &[u64; WORDS]) -> Option<usize> {
+    let mut found = None;
+    for c in words(mask) {
+        let left = rows[x * WORDS + c] & !seen[c];
+        let best = left & closed[c];
+        if best != 0 {
+            found = Some(c * 64 + best.trailing_zeros() as usize);
+            if x < c * 64 + 64 {
+                return found;
+            }
+        } else if found.is_none() && left != 0 {
+            found = Some(c * 64 + left.trailing_zeros() as usize);
+        }
+    }
+    found
+}
+
+fn close_row(rows: &mut Rows, masks: &mut [u32; 1024], x: usize, closed: &[u64; WORDS]) {
+    let mut seen = [0; WORDS];
+    while let Some(z) = fresh(rows, masks[x], x, &seen, closed) {
+        let whole = bit(closed, z);
+        words(masks[z]).for_each(|c| rows[x * WORDS + c] |= rows[z * WORDS + c]);
+        masks[x] |= masks[z];
+        if whole && bit(row(rows, z), x) {
+            return;
+        }
+        set_bit(&mut seen, z);
+        if whole {
+            words(masks[z]).for_each(|c| seen[c] |= rows[z * WORDS + c]);
+        }
+    }
+}
+
+/// Row after row is closed, in the order in which a search in depth leaves the records.
 fn close(rows: &mut Rows, n: usize) {
-    let mut list = [(0, 0); 1024];
-    let m = occupied(rows, n, &mut list);
-    for &(k, _) in &list[..m] {
-        for &(i, _) in &list[..m] {
-            if rows[i * WORDS + k / 64] >> (k % 64) & 1 == 1 {
-                for w in 0..WORDS {
-                    rows[i * WORDS + w] |= rows[k * WORDS + w];
-                }
+    let mut masks = [0; 1024];
+    (0..n).for_each(|x| masks[x] = squares(rows, x));
+    let (mut closed, mut entered) = ([0; WORDS], [0; WORDS]);
+    let mut stack = Vec::new();
+    for x in 0..n {
+        if masks[x] == 0 || bit(&entered, x) {
+            continue;
+        }
+        set_bit(&mut entered, x);
+        stack.push(x);
+        while let Some(&top) = stack.last() {
+            let next = words(masks[top]).map(|c| (c, rows[top * WORDS + c] & !entered[c])).find(|&(_, left)| left != 0);
+            if let Some((c, left)) = next {
+                let z = c * 64 + left.trailing_zeros() as usize;
+                set_bit(&mut entered, z);
+                stack.push(z);
+            } else {
+                stack.pop();
+                close_row(rows, &mut masks, top, &closed);
+                set_bit(&mut closed, top);
             }
         }
     }

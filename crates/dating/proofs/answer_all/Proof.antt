@@ -14,8 +14,12 @@ use Rattle.dating.proofs.answer_all.Tie as tie
 
 abbrev Inv-loop : tie.InvT-loop
 Inv-loop state₀ bytes₀ list₀ out₀ turns₀ state bytes list out turns =
-    LoopsOn programWords mostTurns state₀ list₀ turns state list
-    × (length bytes ≡ maxFrame + 2) × (length list ≡ programWords) × (length out ≡ room programWords)
+    record {
+      loops : LoopsOn programWords mostTurns state₀ list₀ turns state list;
+      bytes-long : length bytes ≡ maxFrame + 2;
+      list-long : length list ≡ programWords;
+      out-long : length out ≡ room programWords;
+    }
 
 abbrev μ-loop : tie.MeasureT-loop
 μ-loop state₀ bytes₀ list₀ out₀ turns₀ state bytes list out turns = turns
@@ -24,26 +28,27 @@ unopened-requires : tie.Need-unopened-requires Inv-loop μ-loop
 unopened-requires c κs = tt
 
 loop-holds : tie.Need-loop-holds Inv-loop μ-loop
-loop-holds c = (
-  loops-start programWords mostTurns _ _,
-  length-replicate {A = ℕ} (maxFrame + 2) 0,
-  length-replicate {A = ℕ} programWords 0,
-  length-replicate {A = ℕ} (room programWords) 0,
-)
+loop-holds c =
+    record {
+      loops = loops-start programWords mostTurns _ _;
+      bytes-long = length-replicate {A = ℕ} (maxFrame + 2) 0;
+      list-long = length-replicate {A = ℕ} programWords 0;
+      out-long = length-replicate {A = ℕ} (room programWords) 0;
+    }
 
 slice-aggregate-turn : tie.Need-slice-aggregate-turn Inv-loop μ-loop
-slice-aggregate-turn c = sym (c .before .before .loop .inv .1)
+slice-aggregate-turn c = sym (c .before .before .loop .inv .bytes-long)
 
 slice-aggregate-turn-2 : tie.Need-slice-aggregate-turn-2 Inv-loop μ-loop
-slice-aggregate-turn-2 c = sym (c .before .before .before .loop .inv .2)
+slice-aggregate-turn-2 c = sym (c .before .before .before .loop .inv .list-long)
 
 slice-aggregate-turn-3 : tie.Need-slice-aggregate-turn-3 Inv-loop μ-loop
-slice-aggregate-turn-3 c = sym (c .before .before .before .before .loop .inv .3)
+slice-aggregate-turn-3 c = sym (c .before .before .before .before .loop .inv .out-long)
 
 turn-requires : tie.Need-turn-requires Inv-loop μ-loop
 turn-requires c κs =
     let inv = c .before .before .before .before .loop .inv in
-    (omega (arith, inv .1), omega (arith, inv .2, inv .3))
+    (omega (arith, inv .bytes-long), omega (arith, inv .list-long, inv .out-long))
 
 -- a turn is left
 some : (c : tie.In-loop Inv-loop μ-loop) → 0 < c .before .loop .turns
@@ -56,7 +61,8 @@ returns c =
     let l = in-loop .before .loop in
     let t = after-turn .turn in
     looped-answered _ unsent (in-loop .before .before .«unopened» .ensures)
-    (loops-fail programWords mostTurns _ _ (l .turns) (l .state) (l .list) (t .last .1 .1 .0) _ _ _ (t .result .ran) (some in-loop) (l .inv .0) (t .ensures))
+    (loops-fail programWords mostTurns _ _ (l .turns) (l .state) (l .list) (t .last .1 .1 .0) _ _ _ (t .result .ran) (some in-loop) (l .inv .loops)
+    (t .ensures))
 
 returns-2 : tie.Need-returns-2 Inv-loop μ-loop
 returns-2 c =
@@ -65,7 +71,7 @@ returns-2 c =
     let l = in-loop .before .loop in
     let t = after-turn .turn in
     looped-answered _ ended (in-loop .before .before .«unopened» .ensures)
-    (loops-stop programWords mostTurns _ _ (l .turns) (l .state) (l .list) (t .last .1 .1 .0) _ _ _ (t .result .ran) (some in-loop) (l .inv .0) (t .ensures)
+    (loops-stop programWords mostTurns _ _ (l .turns) (l .state) (l .list) (t .last .1 .1 .0) _ _ _ (t .result .ran) (some in-loop) (l .inv .loops) (t .ensures)
     (not-true _ (c .if2 .taken)))
 
 sub-turns : tie.Need-sub-turns Inv-loop μ-loop
@@ -79,19 +85,21 @@ loop-again c =
     let after-turn = c .before .before .before .before .before .before .before .before .before in
     let in-loop = after-turn .before .before .before .before in
     let l = in-loop .before .loop in
-    let t = after-turn .turn in (
-      loops-more programWords mostTurns _ _ (l .turns) (l .state) (l .list) (t .last .1 .1 .0) _ _ _ (t .result .ran) (some in-loop) (l .inv .0) (t .ensures)
-          (not-false _ (c .if2 .left)),
-      t .kept .1 .0 ∙ l .inv .1,
-      t .kept .1 .1 .0 ∙ l .inv .2,
-      t .kept .1 .1 .1 .0 ∙ l .inv .3,
-    )
+    let t = after-turn .turn in
+    record {
+      loops =
+          loops-more programWords mostTurns _ _ (l .turns) (l .state) (l .list) (t .last .1 .1 .0) _ _ _ (t .result .ran) (some in-loop) (l .inv .loops)
+          (t .ensures) (not-false _ (c .if2 .left));
+      bytes-long = t .kept .1 .0 ∙ l .inv .bytes-long;
+      list-long = t .kept .1 .1 .0 ∙ l .inv .list-long;
+      out-long = t .kept .1 .1 .1 .0 ∙ l .inv .out-long;
+    }
 
 returns-3 : tie.Need-returns-3 Inv-loop μ-loop
 returns-3 c =
     let l = c .before .loop in
     looped-answered _ spent (c .before .before .«unopened» .ensures)
-    (loops-spent programWords mostTurns _ _ (l .turns) (l .state) (l .list) (omega arith) (l .inv .0))
+    (loops-spent programWords mostTurns _ _ (l .turns) (l .state) (l .list) (omega arith) (l .inv .loops))
 
 pub answer-all-spec : {M : Type 1} → statement M
 answer-all-spec =

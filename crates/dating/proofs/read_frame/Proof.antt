@@ -8,7 +8,7 @@ use denote.Ref.{now}
 use lib.ListN.{length, take, drop, length-append, length-drop, length-take}
 use lib.Seq.{length-take-le}
 use Rattle.session.specs.Program.{maxFrame}
-use Rattle.session.specs.RunsLaws.{following-most, following-front}
+use Rattle.session.specs.StepLaws.{following-most, following-front}
 use borrow.Author.Needs.{needs}
 use Rattle.dating.proofs.read_frame.Statement.{statement}
 use Rattle.dating.proofs.read_frame.Tie as tie

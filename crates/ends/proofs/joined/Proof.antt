@@ -16,7 +16,9 @@ size-requires : tie.Need-size-requires
 size-requires c κs = search needs
 
 returns : tie.Need-returns
-returns c = refuses-record (c .before .size .ensures .size) (c .if1 .taken)
+returns c =
+    let a = c .before .before .before .before .args in
+    refuses-record (a .against) _ (a .text .now) (c .before .size .ensures .size) (c .if1 .taken)
 
 read-requires : tie.Need-read-requires
 read-requires c κs = search needs
@@ -69,7 +71,8 @@ sought-requires c κs =
 returns-2 : tie.Need-returns-2
 returns-2 c =
     let r = reads-refused (c .before .before .before .before .read .ensures) (c .before .answer .given .1) in
-    refuses-text (c .before .before .before .before .before .before .size .ensures .size) (omega arith) _ (r .0) (r .1 .0)
+    let a = c .before .before .before .before .before .before .before .before .before .args in
+    refuses-text (a .against) _ (a .text .now) (c .before .before .before .before .before .before .size .ensures .size) (omega arith) _ (r .0) (r .1 .0)
 
 same-length : tie.Need-same-length
 same-length c = search needs
@@ -87,7 +90,7 @@ returns-3 c =
     let k : length (links .result .words) ≡ 4096 = search needs in
     let m : links .result .count ≤ length (links .result .words) = omega (arith, links .ensures .few) in
     let f = c .before .before .sought .ensures in
-    asks-ends (z .size) (else1 .if1 .left) (a .0) (a .1 .is) (f .1) (f .2) (f .3)
+    asks-ends (start .args .against) _ (start .args .text .now) (z .size) (else1 .if1 .left) (a .0) (a .1 .is) (f .1) (f .2) (f .3)
     (λ b R. f .4 (start .args .text .now) (a .0) (a .1 .limits) (rw part (a .1 .front)) b R (z .size b R)
     (spans R (z .size b R) (z .small) _ _ (links .ensures .linked b R) m))
 

@@ -5,8 +5,10 @@ use Prim.Native.Nat.{_-_, _≤_}
 use native.Mathlib.Omega.{arith}
 use lib.ListN.{length}
 use Rattle.ends.specs.Ends.{places}
-use Rattle.ends.specs.Listing.{Shown, meets}
-use Rattle.ends.proofs.ListLaws.{shown-none, places-next, places-short}
+use Rattle.answers.specs.Listing.{Shown}
+use Rattle.answers.specs.ListingLaws.{shown-none}
+use Rattle.ends.specs.Listing.{meets}
+use Rattle.ends.proofs.ListLaws.{places-next, places-short}
 use Rattle.ends.proofs.list.Statement.{statement}
 use Rattle.ends.proofs.list.Tie as tie
 

@@ -13,7 +13,8 @@ use Rattle.arcs.specs.SpanLaws.{inside, used, asked-size}
 use Rattle.tables.specs.Builds.{inSense}
 use Rattle.ends.specs.Ends.{places}
 use Rattle.ends.specs.Listing.{meets}
-use Rattle.ends.proofs.ListLaws.{shown-none, places-short}
+use Rattle.answers.specs.ListingLaws.{shown-none}
+use Rattle.ends.proofs.ListLaws.{places-short}
 use Rattle.ends.proofs.AskLaws.{ends-none, ends-seen}
 use Rattle.ends.proofs.sought.Statement.{statement}
 use Rattle.ends.proofs.sought.Tie as tie

@@ -11,7 +11,7 @@ use Rattle.register.specs.HistoryLaws.{number-answer}
 use Rattle.register.specs.LaidLaws.{replayed-gives}
 use Rattle.register.specs.declared.Register.{Register}
 use Rattle.chains.specs.Replies.{Replies}
-use Rattle.pairs.specs.declared.PairsAnswer.the-variants.{Refused}
+use Rattle.answers.specs.declared.Counted.the-variants.{Refused}
 use Rattle.chains.specs.declared.ChainAnswer.{ChainAnswer}
 use Rattle.chains.specs.declared.ChainAnswer.the-variants.{Refused as Unanswered}
 use Rattle.engine.specs.DemandLaws.{claims, replayed-calls, none-linked}

@@ -15,11 +15,11 @@ slice-aggregate-put-letters c = search needs
 put-letters-requires : tie.Need-put-letters-requires
 put-letters-requires c κs = search needs
 
-slice-aggregate-close : tie.Need-slice-aggregate-close
-slice-aggregate-close c = search needs
+slice-aggregate-close-rows : tie.Need-slice-aggregate-close-rows
+slice-aggregate-close-rows c = search needs
 
-close-requires : tie.Need-close-requires
-close-requires c κs = search needs
+close-rows-requires : tie.Need-close-rows-requires
+close-rows-requires c κs = search needs
 
 slice-aggregate-first-joined : tie.Need-slice-aggregate-first-joined
 slice-aggregate-first-joined c = search needs
@@ -36,7 +36,7 @@ returns c =
     let x : Cells = crossedWords (a .words .now) (a .set) 0 in (
       c .first-joined .ensures .most,
       λ S. smallest-closed _ x (start .pre)
-          (after-close .close .ensures x S (after-put-letters .put-letters .ensures noPairs (bits-none 16384 ∙ sym flat-none) ∙ ap flat (union-none x)))
+          (after-close .close-rows .ensures x S (after-put-letters .put-letters .ensures noPairs (bits-none 16384 ∙ sym flat-none) ∙ ap flat (union-none x)))
           (c .first-joined .ensures),
     )
 
@@ -46,8 +46,8 @@ first-returning-spec =
     (tie.spec
     slice-aggregate-put-letters
     put-letters-requires
-    slice-aggregate-close
-    close-requires
+    slice-aggregate-close-rows
+    close-rows-requires
     slice-aggregate-first-joined
     first-joined-requires
     returns)

@@ -5,8 +5,8 @@ use mathlib.Core.Logic.{⊎-elim}
 use Prim.Native.Nat.{ℕ, _≤_, _-_}
 use native.Mathlib.Omega.{arith}
 use lib.ListN.{length, length-set}
-use Rattle.report.specs.Written.{Wrote}
-use Rattle.report.specs.WrittenLaws.{wrote-none}
+use Rattle.answers.specs.Written.{Wrote}
+use Rattle.answers.specs.WrittenLaws.{wrote-none}
 use Rattle.generations.specs.Inner.{chosen}
 use Rattle.generations.proofs.NumberLaws.{wrote-room, wrote-used, wrote-out}
 use Rattle.generations.proofs.write_numbers.Statement.{statement}

@@ -9,25 +9,25 @@ use Rattle.lines.proofs.read_line.Statement.{statement}
 use Rattle.lines.proofs.read_line.Tie as tie
 
 abbrev Inv-loop : tie.InvT-loop
-Inv-loop line₀ len₀ turns₀ line len turns = (len ≤ length line) × (length line ≡ length line₀)
+Inv-loop line₀ len₀ turns₀ line len turns = record { within : len ≤ length line; same : length line ≡ length line₀ }
 
 abbrev μ-loop : tie.MeasureT-loop
 μ-loop line₀ len₀ turns₀ line len turns = turns
 
 loop-holds : tie.Need-loop-holds Inv-loop μ-loop
-loop-holds c = (omega arith, refl)
+loop-holds c = record { within = omega arith; same = refl }
 
 read-byte-requires : tie.Need-read-byte-requires Inv-loop μ-loop
 read-byte-requires c κs = tt
 
 same-length : tie.Need-same-length Inv-loop μ-loop
-same-length c = c .before .before .before .loop .inv .1
+same-length c = c .before .before .before .loop .inv .same
 
 returns : tie.Need-returns Inv-loop μ-loop
 returns c = omega arith
 
 same-length-2 : tie.Need-same-length-2 Inv-loop μ-loop
-same-length-2 c = c .before .before .before .before .loop .inv .1
+same-length-2 c = c .before .before .before .before .loop .inv .same
 
 returns-2 : tie.Need-returns-2 Inv-loop μ-loop
 returns-2 c = omega arith
@@ -51,12 +51,12 @@ loop-again : tie.Need-loop-again Inv-loop μ-loop
 loop-again c =
     let at-loop = c .before .before .before .before .before in
     ⊎-elim
-    (λ w. rw (w .1, w .2) (simp length-set (omega arith), simp length-set (at-loop .loop .inv .1)))
+    (λ w. rw (w .1, w .2) (record { within = simp length-set (omega arith); same = simp length-set (at-loop .loop .inv .same) }))
     (λ w. rw (w .1, w .2) (at-loop .loop .inv))
     (c .if3 .came)
 
 same-length-3 : tie.Need-same-length-3 Inv-loop μ-loop
-same-length-3 c = c .before .loop .inv .1
+same-length-3 c = c .before .loop .inv .same
 
 returns-3 : tie.Need-returns-3 Inv-loop μ-loop
 returns-3 c = omega arith

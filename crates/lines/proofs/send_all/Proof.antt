@@ -11,36 +11,38 @@ use Rattle.lines.proofs.send_all.Statement.{statement}
 use Rattle.lines.proofs.send_all.Tie as tie
 
 abbrev Inv-loop : tie.InvT-loop
-Inv-loop line₀ out₀ lines₀ line out lines = SendsOn lines × (length line ≡ maxLine + 1) × (length out ≡ frameRoom)
+Inv-loop line₀ out₀ lines₀ line out lines =
+    record { sends : SendsOn lines; line-long : length line ≡ maxLine + 1; out-long : length out ≡ frameRoom }
 
 abbrev μ-loop : tie.MeasureT-loop
 μ-loop line₀ out₀ lines₀ line out lines = lines
 
 loop-holds : tie.Need-loop-holds Inv-loop μ-loop
-loop-holds c = (sends-start, length-replicate {A = ℕ} (maxLine + 1) 0, length-replicate {A = ℕ} frameRoom 0)
+loop-holds c =
+    record { sends = sends-start; line-long = length-replicate {A = ℕ} (maxLine + 1) 0; out-long = length-replicate {A = ℕ} frameRoom 0 }
 
 slice-aggregate-turn : tie.Need-slice-aggregate-turn Inv-loop μ-loop
-slice-aggregate-turn c = sym (c .before .before .loop .inv .1)
+slice-aggregate-turn c = sym (c .before .before .loop .inv .line-long)
 
 slice-aggregate-turn-2 : tie.Need-slice-aggregate-turn-2 Inv-loop μ-loop
-slice-aggregate-turn-2 c = sym (c .before .before .before .loop .inv .2)
+slice-aggregate-turn-2 c = sym (c .before .before .before .loop .inv .out-long)
 
 turn-requires : tie.Need-turn-requires Inv-loop μ-loop
 turn-requires c κs =
     let inv = c .before .before .before .loop .inv in
-    (omega (arith, inv .1), omega (arith, inv .2))
+    (omega (arith, inv .line-long), omega (arith, inv .out-long))
 
 returns : tie.Need-returns Inv-loop μ-loop
 returns c =
     let l = c .before .before .before .before .before .before .before .before .loop in
     let t = c .before .before .before .before .turn in
-    sends-fail (l .lines) (t .result .written) _ _ _ (omega arith) (l .inv .0) (t .ensures)
+    sends-fail (l .lines) (t .result .written) _ _ _ (omega arith) (l .inv .sends) (t .ensures)
 
 returns-2 : tie.Need-returns-2 Inv-loop μ-loop
 returns-2 c =
     let l = c .before .before .before .before .before .before .before .before .before .before .loop in
     let t = c .before .before .before .before .before .before .turn in
-    sends-stop (l .lines) (t .result .written) _ _ _ (omega arith) (l .inv .0) (t .ensures)
+    sends-stop (l .lines) (t .result .written) _ _ _ (omega arith) (l .inv .sends) (t .ensures)
 
 sub-lines : tie.Need-sub-lines Inv-loop μ-loop
 sub-lines c = omega arith
@@ -52,10 +54,14 @@ loop-again : tie.Need-loop-again Inv-loop μ-loop
 loop-again c =
     let l = c .before .before .before .before .before .before .before .before .before .before .loop in
     let t = c .before .before .before .before .before .before .turn in
-    (sends-more (l .lines) (t .result .written) _ _ _ (omega arith) (l .inv .0) (t .ensures), t .kept .0 ∙ l .inv .1, t .kept .1 .0 ∙ l .inv .2)
+    record {
+      sends = sends-more (l .lines) (t .result .written) _ _ _ (omega arith) (l .inv .sends) (t .ensures);
+      line-long = t .kept .0 ∙ l .inv .line-long;
+      out-long = t .kept .1 .0 ∙ l .inv .out-long;
+    }
 
 returns-3 : tie.Need-returns-3 Inv-loop μ-loop
-returns-3 c = let l = c .before .loop in sends-spent (l .lines) (omega arith) (l .inv .0)
+returns-3 c = let l = c .before .loop in sends-spent (l .lines) (omega arith) (l .inv .sends)
 
 pub send-all-spec : {M : Type 1} → statement M
 send-all-spec =

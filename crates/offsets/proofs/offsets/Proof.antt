@@ -45,15 +45,16 @@ use denote.Triple.Walked.{walk-meets}
 use denote.Exit.{yes}
 use Rattle.offsets.specs.Relax.{State, settled}
 use Rattle.offsets.specs.Answers.{OffsetsTold}
-use Rattle.offsets.specs.Inner.{SizeIn, judgeAll, Begins, roundsOf, TellsOver}
+use Rattle.register.specs.Inner.{SizeIn}
+use Rattle.offsets.specs.Inner.{judgeAll, Begins, roundsOf, TellsOver}
 use Rattle.offsets.specs.declared.Tie.{Tie}
 use Rattle.offsets.proofs.ReborrowLaws.{LentAgain, lends-again, comes-back}
 use Rattle.offsets.proofs.AmongLaws.{calls-told}
 use Rattle.offsets.proofs.Tie as T
-use Rattle.offsets.proofs.size_in as size-in
-use Rattle.offsets.proofs.size_in.Symbol as size-in-def
-use Rattle.offsets.proofs.size_in.Symbol.{name as #offsets·size-in}
-use Rattle.offsets.proofs.size_in.Met as size-in-thm
+use Rattle.register.proofs.size_in as size-in
+use Rattle.register.proofs.size_in.Symbol as size-in-def
+use Rattle.register.proofs.size_in.Symbol.{name as #register·size-in}
+use Rattle.register.proofs.size_in.Met as size-in-thm
 use Rattle.offsets.proofs.judge as judge
 use Rattle.offsets.proofs.judge.Symbol as judge-def
 use Rattle.offsets.proofs.judge.Symbol.{name as #offsets·judge}
@@ -323,7 +324,7 @@ module _ {M : Type 1} (𝓤 : URA M) (H : Heap 𝓤) (A : Atoms 𝓤) (W : Given
       → ent 𝓤
       (⋆ 𝓤 H A (‵ (flft κ q) ∷ ‵ (flft κ′ q′) ∷ (‵ (flft κ″ q″) ⊛ ‵ (flft κ‴ q‴) ⊛ ‵ ftrue) ∷ ‵ OwnS
       ∷ ‵ OwnT ∷ ‵ (finally i64 γ₂ wl) ∷ ‵ (finally i32 γ₃ fl) ∷ ‵ (u64 .own k (w ∷ [])) ∷ [])) (Q w))
-      (𝓣 : Tables 𝓤 H) (known-size : Triple 𝓤 (𝓣 .C #offsets·size-in) (Size 𝓤 H A at-mem run))
+      (𝓣 : Tables 𝓤 H) (known-size : Triple 𝓤 (𝓣 .C #register·size-in) (Size 𝓤 H A at-mem run))
       (known-judge : Triple 𝓤 (𝓣 .C #offsets·judge) (Judge 𝓤 H A at-mem run))
       (known-begin : Triple 𝓤 (𝓣 .C #offsets·begin) (Begin 𝓤 H A at-mem run)) (known-rounds : Triple 𝓤 (𝓣 .C #offsets·rounds-of) (Rounds 𝓤 H A at-mem run))
       (known-settle : Triple 𝓤 (𝓣 .C #offsets·settle) (Settle 𝓤 H A at-mem run)) (known-hand : Triple 𝓤 (𝓣 .C #offsets·hand-over) (Hand 𝓤 H A at-mem run))
@@ -512,7 +513,7 @@ module _ {M : Type 1} (𝓤 : URA M) (H : Heap 𝓤) (A : Atoms 𝓤) (W : Given
         SaidS n rounds ds es r = _≡_ {A = State} (es, r) (settled n rounds ts (ds, false))
 
 module _ {M : Type 1} (𝓤 : URA M) (H : Heap 𝓤) (A : Atoms 𝓤) (W : Given 𝓤 H A) (mem : Memory → SProp 𝓤) (run : Routine → Fun 𝓤) (𝓣 : Tables 𝓤 H)
-    (known-size : Triple 𝓤 (𝓣 .C #offsets·size-in) (Size 𝓤 H A mem run)) (known-judge : Triple 𝓤 (𝓣 .C #offsets·judge) (Judge 𝓤 H A mem run))
+    (known-size : Triple 𝓤 (𝓣 .C #register·size-in) (Size 𝓤 H A mem run)) (known-judge : Triple 𝓤 (𝓣 .C #offsets·judge) (Judge 𝓤 H A mem run))
     (known-begin : Triple 𝓤 (𝓣 .C #offsets·begin) (Begin 𝓤 H A mem run)) (known-rounds : Triple 𝓤 (𝓣 .C #offsets·rounds-of) (Rounds 𝓤 H A mem run))
     (known-settle : Triple 𝓤 (𝓣 .C #offsets·settle) (Settle 𝓤 H A mem run)) (known-hand : Triple 𝓤 (𝓣 .C #offsets·hand-over) (Hand 𝓤 H A mem run)) where
   offsets-walks : Walks 𝓤 H A offsets.ended stayed (WpFn 𝓤 H (𝓣 .C) (𝓣 .Λ) code.function) (offsets.clauses 𝓤 H A mem run)
@@ -555,7 +556,7 @@ offsets-spec 𝓤 H 𝓜 𝓖 𝓡 =
     entered 𝓤 H (tripleOf 𝓤 H (𝓖 .A) offsets.signature (offsets.spec 𝓤 H (𝓖 .A) (𝓜 .mem) (𝓡 .run)))
     (tables 𝓤 H 𝓜 𝓡 code.env .C) (tables 𝓤 H 𝓜 𝓡 code.env .Λ) #offsets·offsets code.function (code.unfolded 𝓤 H 𝓜 𝓡)
     (offsets-meets 𝓤 H (𝓖 .A) (givenOf 𝓤 H 𝓜 𝓖) (𝓜 .mem) (𝓡 .run) (tablesOf 𝓤 H 𝓜 (tables 𝓤 H 𝓜 𝓡 code.env))
-    (cited 𝓤 H (Size 𝓤 H (𝓖 .A) (𝓜 .mem) (𝓡 .run)) 𝓜 𝓡 code.env #offsets·size-in size-in-def.routine code.calls-offsets·size-in (size-in-thm.met 𝓤 H 𝓜 𝓖 𝓡))
+    (cited 𝓤 H (Size 𝓤 H (𝓖 .A) (𝓜 .mem) (𝓡 .run)) 𝓜 𝓡 code.env #register·size-in size-in-def.routine code.calls-register·size-in (size-in-thm.met 𝓤 H 𝓜 𝓖 𝓡))
     (cited 𝓤 H (Judge 𝓤 H (𝓖 .A) (𝓜 .mem) (𝓡 .run)) 𝓜 𝓡 code.env #offsets·judge judge-def.routine code.calls-offsets·judge (judge-thm.met 𝓤 H 𝓜 𝓖 𝓡))
     (cited 𝓤 H (Begin 𝓤 H (𝓖 .A) (𝓜 .mem) (𝓡 .run)) 𝓜 𝓡 code.env #offsets·begin begin-def.routine code.calls-offsets·begin (begin-thm.met 𝓤 H 𝓜 𝓖 𝓡))
     (cited 𝓤 H (Rounds 𝓤 H (𝓖 .A) (𝓜 .mem) (𝓡 .run)) 𝓜 𝓡 code.env #offsets·rounds-of

@@ -1,20 +1,21 @@
--- `open_number`: the number of the answer to loading. Assumes nothing.
+-- `open_number`: by whether the words are a register's. Assumes nothing.
+use mathlib.Core.Path.{refl}
 use borrow.Author.Needs.{needs}
-use Rattle.offsets.proofs.KeepLaws.{open-number}
+use Rattle.book.specs.Causes.{number}
 use Rattle.offsets.proofs.open_number.Statement.{statement}
 use Rattle.offsets.proofs.open_number.Tie as tie
 
--- src/lib.rt:63:9
-load-requires : tie.Need-load-requires
-load-requires c κs = search needs
+is-register-requires : tie.Need-is-register-requires
+is-register-requires c κs = search needs
 
--- src/lib.rt:65:5
-number-of-requires : tie.Need-number-of-requires
-number-of-requires c κs = search needs
-
--- src/lib.rt:60:1
 returns : tie.Need-returns
-returns c = open-number (c .before .load .ensures) _ (c .number-of .ensures)
+returns c =
+    let k = c .before .is-register .ensures .sure (c .if1 .taken) in
+    record { kept = λ r w. refl; foreign = λ f. absurd (f (k .0) (k .1)) }
+
+returns-2 : tie.Need-returns-2
+unfolding number
+returns-2 c = record { kept = λ r w. absurd (c .before .is-register .ensures .none (c .if1 .left) (r, w)); foreign = λ _. refl }
 
 pub open-number-spec : {M : Type 1} → statement M
-open-number-spec = tie.close (tie.spec load-requires number-of-requires returns)
+open-number-spec = tie.close (tie.spec is-register-requires returns returns-2)

@@ -1,14 +1,14 @@
 -- `lay_out`: as many lines as the rows' pairs take, if there is room. Assumes nothing.
-use mathlib.Core.Path.{_≡_, refl, ap, sym, subst, _∙_}
+use mathlib.Core.Path.{_≡_, refl, ap, sym, _∙_}
 use Prim.Native.Nat.{ℕ, _*_, _≤_}
 use native.Mathlib.Omega.{arith}
 use denote.Ref.{now}
 use lib.ListN.{length}
 use Rattle.rows.specs.Rows.{pairsIn}
 use Rattle.pages.specs.Pages.{pages}
-use Rattle.pages.specs.Lines.{linesOf, LaidOut, no-room, laid-out}
+use Rattle.pages.specs.Lines.{linesOf}
 use Rattle.pages.specs.LineLaws.{lines-most}
-use Rattle.pages.specs.declared.PagesAnswer.the-variants.{Bytes}
+use Rattle.answers.specs.AnswerLaws.{whole-refused, whole-given}
 use Rattle.pages.proofs.LayoutLaws.{rows-few, rows-length}
 use borrow.Author.Needs.{needs}
 use Rattle.pages.proofs.lay_out.Statement.{statement}
@@ -38,7 +38,7 @@ mul-if1 c = let l = long c in omega (arith, l .0, l .1)
 returns : tie.Need-returns
 returns c = let s = c .before .before .before .before .before .before in
     let l = long (c .before) in
-    no-room (omega (arith, l .2, c .if1 .taken)) refl
+    whole-refused _ _ _ (omega (arith, l .2, c .if1 .taken)) refl
 
 put-pages-requires : tie.Need-put-pages-requires
 put-pages-requires c κs = let l = long (c .before .before) in
@@ -54,8 +54,8 @@ returns-2 : tie.Need-returns-2
 returns-2 c = let s = c .before .before .before .before .before .before .before .before .before .before in
     let l = long (c .before .before .before .before .before) in
     let q = c .before .before .put-pages in
-    subst (λ (n : ℕ). LaidOut (now (s .args .text)) (pairsIn 1024 (now (s .args .rows))) (now (s .args .out)) (q .last .1 .1 .1 .0) (Bytes n)) (l .2)
-    (laid-out (omega (arith, l .2, c .before .before .before .before .if1 .left)) (q .ensures))
+    whole-given (pages (now (s .args .text)) (pairsIn 1024 (now (s .args .rows)))) _ _ _ (sym (l .2))
+    (omega (arith, l .2, c .before .before .before .before .if1 .left)) (q .ensures)
 
 pub lay-out-spec : {M : Type 1} → statement M
 lay-out-spec =

@@ -4,7 +4,7 @@ use native.Mathlib.Omega.{arith}
 use denote.Ref.{now}
 use lib.ListN.{length, take}
 use lib.Seq.{length-take-le}
-use Rattle.report.specs.WrittenLaws.{wrote-none, wrote-as}
+use Rattle.answers.specs.WrittenLaws.{wrote-none, wrote-as}
 use Rattle.pages.specs.Lines.{wordsAt}
 use Rattle.pages.specs.ReadLaws.{words-head, words-pairs}
 use borrow.Author.Needs.{needs}

@@ -4,8 +4,8 @@ use Prim.Native.Nat.{ℕ, _-_, _≤_}
 use native.Mathlib.Omega.{arith}
 use denote.Ref.{now}
 use lib.ListN.{length}
-use Rattle.report.specs.Written.{Wrote}
-use Rattle.report.specs.WrittenLaws.{wrote-none, wrote-as, wrote-then}
+use Rattle.answers.specs.Written.{Wrote}
+use Rattle.answers.specs.WrittenLaws.{wrote-none, wrote-as, wrote-then}
 use Rattle.pages.specs.Pages.{joined}
 use Rattle.pages.specs.Lines.{wordsAt, wordsBefore}
 use Rattle.pages.specs.LineLaws.{joined-next}

@@ -5,8 +5,8 @@ use native.Mathlib.Nat.{add-zero}
 use native.Mathlib.Omega.{arith}
 use denote.Ref.{now}
 use lib.ListN.{length, length-set}
-use Rattle.report.specs.Written.{Wrote}
-use Rattle.report.specs.WrittenLaws.{wrote-none}
+use Rattle.answers.specs.Written.{Wrote}
+use Rattle.answers.specs.WrittenLaws.{wrote-none}
 use Rattle.pages.specs.Pages.{blanks}
 use Rattle.pages.proofs.WritingLaws.{wrote-blank}
 use Rattle.pages.proofs.put_blanks.Statement.{statement}

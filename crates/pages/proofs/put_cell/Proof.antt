@@ -5,7 +5,7 @@ use native.Mathlib.Omega.{arith}
 use borrow.Author.Needs.{needs}
 use denote.Ref.{now}
 use lib.ListN.{length}
-use Rattle.report.specs.WrittenLaws.{wrote-then}
+use Rattle.answers.specs.WrittenLaws.{wrote-then}
 use Rattle.pages.specs.Pages.{pairCell}
 use Rattle.pages.specs.LineLaws.{length-record}
 use Rattle.pages.proofs.put_cell.Statement.{statement}

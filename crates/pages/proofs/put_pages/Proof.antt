@@ -7,8 +7,8 @@ use denote.Ref.{now}
 use lib.ListN.{length, drop}
 use Rattle.k2.specs.Bits.{bitAt}
 use Rattle.rows.specs.Rows.{pairsIn}
-use Rattle.report.specs.Written.{Wrote}
-use Rattle.report.specs.WrittenLaws.{wrote-none, wrote-as, wrote-then}
+use Rattle.answers.specs.Written.{Wrote}
+use Rattle.answers.specs.WrittenLaws.{wrote-none, wrote-as, wrote-then}
 use Rattle.pages.specs.Pages.{joined, pages}
 use Rattle.pages.specs.Lines.{pairWords, pairsBefore, linesOf, lineOf, ahead}
 use Rattle.pages.specs.LineLaws.{joined-next, pages-lines, lines-most}

@@ -7,8 +7,8 @@ use denote.Ref.{now}
 use lib.ListN.{length, take, getD, length-replicate}
 use Rattle.report.specs.Report.{space, lines}
 use Rattle.report.specs.ReportLaws.{wrote-line}
-use Rattle.report.specs.Written.{Wrote}
-use Rattle.report.specs.WrittenLaws.{wrote-none}
+use Rattle.answers.specs.Written.{Wrote}
+use Rattle.answers.specs.WrittenLaws.{wrote-none}
 use Rattle.pages.specs.Pages.{pairCell}
 use Rattle.pages.specs.LineLaws.{length-cell}
 use Rattle.pages.proofs.WritingLaws.{wrote-pairs}

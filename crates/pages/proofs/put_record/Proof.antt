@@ -4,7 +4,7 @@ use native.Mathlib.Omega.{arith}
 use borrow.Author.Needs.{needs}
 use denote.Ref.{now}
 use lib.ListN.{length}
-use Rattle.report.specs.WrittenLaws.{wrote-then}
+use Rattle.answers.specs.WrittenLaws.{wrote-then}
 use Rattle.pages.specs.Pages.{recordCell}
 use Rattle.pages.specs.LineLaws.{record-figures, length-right}
 use Rattle.pages.proofs.put_record.Statement.{statement}

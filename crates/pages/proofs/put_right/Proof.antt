@@ -6,7 +6,7 @@ use borrow.Author.Needs.{needs}
 use denote.Ref.{now}
 use lib.ListN.{length, length-replicate}
 use Rattle.report.specs.Report.{space}
-use Rattle.report.specs.WrittenLaws.{wrote-then, wrote-as}
+use Rattle.answers.specs.WrittenLaws.{wrote-then, wrote-as}
 use Rattle.pages.specs.Pages.{blanks, rightAligned}
 use Rattle.pages.proofs.put_right.Statement.{statement}
 use Rattle.pages.proofs.put_right.Tie as tie

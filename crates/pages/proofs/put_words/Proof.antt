@@ -6,8 +6,8 @@ use native.Mathlib.Nat.{add-zero}
 use native.Mathlib.Omega.{arith}
 use denote.Ref.{now}
 use lib.ListN.{length, take, length-set}
-use Rattle.report.specs.Written.{Wrote}
-use Rattle.report.specs.WrittenLaws.{wrote-none, wrote-more}
+use Rattle.answers.specs.Written.{Wrote}
+use Rattle.answers.specs.WrittenLaws.{wrote-none, wrote-more}
 use Rattle.pages.proofs.put_words.Statement.{statement}
 use Rattle.pages.proofs.put_words.Tie as tie
 

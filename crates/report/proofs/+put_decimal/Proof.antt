@@ -10,7 +10,7 @@ use borrow.Fn.Kinds.{In}
 use borrow.Fn.PlainCycle.{Measures, is, falls, and}
 use Rattle.report.specs.Report.{decimal}
 use Rattle.report.specs.ReportLaws.{decimal-small, decimal-more, length-decimal-small, length-decimal-more}
-use Rattle.report.specs.WrittenLaws.{wrote-then}
+use Rattle.answers.specs.WrittenLaws.{wrote-then}
 use Rattle.report.proofs.put_decimal.Reads as put-decimal
 use Rattle.report.proofs.put_decimal.Kinds as put-decimal-kinds
 use Rattle.report.proofs.+put_decimal.Lts-put_decimal as put-decimal-lts

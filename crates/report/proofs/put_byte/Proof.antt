@@ -1,7 +1,7 @@
 -- `report::put_byte` meets its contract by `wrote-byte`. Assumes nothing.
 use borrow.Author.Needs.{needs}
 use denote.Ref.{now}
-use Rattle.report.specs.WrittenLaws.{wrote-byte}
+use Rattle.answers.specs.WrittenLaws.{wrote-byte}
 use Rattle.report.proofs.put_byte.Statement.{statement}
 use Rattle.report.proofs.put_byte.Tie as tie
 

@@ -7,7 +7,7 @@ use denote.Ref.{now}
 use lib.ListN.{length}
 use Rattle.report.specs.Report.{bytes, stepLine, chainText}
 use Rattle.report.specs.ReportLaws.{Lined, lined-none, lined-more, lined-all, length-counted-most, length-step-line}
-use Rattle.report.specs.WrittenLaws.{wrote-then}
+use Rattle.answers.specs.WrittenLaws.{wrote-then}
 use Rattle.report.proofs.put_chain.Statement.{statement}
 use Rattle.report.proofs.put_chain.Tie as tie
 

@@ -7,7 +7,7 @@ use denote.Ref.{now}
 use lib.ListN.{length}
 use Rattle.report.specs.Report.{decimal, counted}
 use Rattle.report.specs.ReportLaws.{length-counted}
-use Rattle.report.specs.WrittenLaws.{wrote-then}
+use Rattle.answers.specs.WrittenLaws.{wrote-then}
 use Rattle.report.proofs.put_counted.Statement.{statement}
 use Rattle.report.proofs.put_counted.Tie as tie
 

@@ -8,7 +8,7 @@ use denote.Ref.{now}
 use lib.ListN.{length}
 use Rattle.report.specs.Report.{space}
 use Rattle.report.specs.ReportLaws.{length-decimal, length-counted, pair-line}
-use Rattle.report.specs.WrittenLaws.{wrote-as, wrote-then}
+use Rattle.answers.specs.WrittenLaws.{wrote-as, wrote-then}
 use Rattle.report.proofs.put_pair.Statement.{statement}
 use Rattle.report.proofs.put_pair.Tie as tie
 

@@ -29,8 +29,8 @@ enum-told-2 c = search needs
 close-requires : tie.Need-close-requires
 close-requires c κs = search needs
 
-put-diagonal-requires : tie.Need-put-diagonal-requires
-put-diagonal-requires c κs = search needs
+put-zero-steps-requires : tie.Need-put-zero-steps-requires
+put-zero-steps-requires c κs = search needs
 
 enum-told-3 : tie.Need-enum-told-3
 enum-told-3 c = search needs
@@ -41,8 +41,8 @@ close-requires-2 c κs = search needs
 enum-told-4 : tie.Need-enum-told-4
 enum-told-4 c = search needs
 
-put-diagonal-requires-2 : tie.Need-put-diagonal-requires-2
-put-diagonal-requires-2 c κs = search needs
+put-zero-steps-requires-2 : tie.Need-put-zero-steps-requires-2
+put-zero-steps-requires-2 c κs = search needs
 
 enum-told-5 : tie.Need-enum-told-5
 enum-told-5 c = search needs
@@ -92,10 +92,10 @@ same-length-6 c = search needs
 
 returns-3 : tie.Need-returns-3
 returns-3 c =
-    let after-put-diagonal = c .before .before .before .before in
-    let after-close = after-put-diagonal .before .before .before .before .before .before .before in
+    let after-put-zero-steps = c .before .before .before .before in
+    let after-close = after-put-zero-steps .before .before .before .before .before .before .before in
     let after-enum-told2 = after-close .before .before .before in
-    let p = after-put-diagonal .put-diagonal in
+    let p = after-put-zero-steps .put-zero-steps in
     does _ _ (after-enum-told2 .enum-told2 .given .1) (star-left _ _ _ (after-close .close .ensures) (p .ensures))
 
 same-length-7 : tie.Need-same-length-7
@@ -117,9 +117,9 @@ same-length-10 c = search needs
 
 returns-5 : tie.Need-returns-5
 returns-5 c =
-    let after-put-diagonal2 = c .before .before .before .before in
-    let after-enum-told4 = after-put-diagonal2 .before .before .before in
-    let p = after-put-diagonal2 .put-diagonal2 in
+    let after-put-zero-steps2 = c .before .before .before .before in
+    let after-enum-told4 = after-put-zero-steps2 .before .before .before in
+    let p = after-put-zero-steps2 .put-zero-steps2 in
     does _ _ (after-enum-told4 .enum-told4 .given .1) (λ k L. unfold outcomeOf in (p .ensures ∙ ap (union _) (diagonal-within k _ _ _ L)))
 
 same-length-11 : tie.Need-same-length-11
@@ -155,11 +155,11 @@ operate-spec =
     transpose-requires
     enum-told-2
     close-requires
-    put-diagonal-requires
+    put-zero-steps-requires
     enum-told-3
     close-requires-2
     enum-told-4
-    put-diagonal-requires-2
+    put-zero-steps-requires-2
     enum-told-5
     unite-requires
     enum-told-6

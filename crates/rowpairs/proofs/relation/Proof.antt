@@ -1,64 +1,56 @@
--- `relation` asks by trees if the work or the rows are too short for both engines, so that its refusals are theirs; else the code of an accepted text
--- is run by rows. Assumes nothing.
+-- `relation` reads the text; a refused one gives its number, too little work or too few rows 12; else the code of the text is run,
+-- and its value spread. Assumes nothing.
 use native.Mathlib.Omega.{arith}
-use mathlib.Core.Path.{_≡_, sym, _∙_}
+use mathlib.Core.Path.{_≡_, sym, subst, _∙_}
+use Prim.Native.Nat.{ℕ, _≤_, _<_}
 use lib.ListN.{length, take}
 use lib.Seq.{length-take-le}
-use borrow.Author.Tests.{not-false}
+use Rattle.book.specs.Book.{Book}
 use Rattle.paths.specs.Expressions.{Expr}
-use Rattle.reader.specs.Reads.{ReadAs}
-use Rattle.reader.specs.ReadsLaws.{reads-accepted}
-use Rattle.pairs.specs.Steps.{Coded}
-use Rattle.rowpairs.proofs.AnswerLaws.{relation-faulty, relation-made}
+use Rattle.paths.specs.Grammar.{accepted}
+use Rattle.paths.specs.Verdicts.{verdict}
+use Rattle.paths.specs.Questions.{pairsWork}
+use Rattle.register.specs.Representation.{Represents}
+use Rattle.query.specs.Evaluation.{Coded, usedBelow, Lettered}
+use Rattle.query.specs.EvaluationLaws.{read-coded}
+use Rattle.query.specs.AskingLaws.{relates-faulty, relates-short, relates-few, relates-made}
+use Rattle.query.specs.LetterLaws.{read-lettered}
+use Rattle.rowpairs.proofs.AnswerLaws.{own-words}
 use borrow.Author.Needs.{needs}
 use Rattle.rowpairs.proofs.relation.Statement.{statement}
 use Rattle.rowpairs.proofs.relation.Tie as tie
 
--- what an accepted text is
-read : (c : tie.After-answer2)
-    → let after-read = c .before .before .before in
-    let start = c .before .before .before .before .before .before .before .before .before .before .before in
-    (e : Expr) × ReadAs (start .args .text .now) (c .answer2 .given .0 .0) (after-read .read .result .code) e
-read c = reads-accepted (c .before .before .before .read .ensures) (c .answer2 .given .1)
-
-coded : (c : tie.After-answer2)
-    → let after-read = c .before .before .before in
-    let start = c .before .before .before .before .before .before .before .before .before .before .before in
-    Coded (start .args .text .now) (read c .0) (take (c .answer2 .given .0 .0) (after-read .read .result .code))
-coded c = let a = read c in record { syntax = a .1 .limits .syntax; shallow = a .1 .limits .shallow; is = a .1 .front }
-
 code-length : (c : tie.After-read) → length (c .read .result .code) ≡ 256
 code-length c = search needs
 
-size-requires : tie.Need-size-requires
-size-requires c κs = search needs
+-- an accepted text
+read : (c : tie.After-answer2)
+    → let after-read = c .before .before .before in
+    let start = after-read .before .before .before .before in
+    (e : Expr) × (verdict (start .args .text .now) ≡ accepted e)
+    × Coded (start .args .text .now) e (take (c .answer2 .given .0 .0) (after-read .read .result .code)) × (c .answer2 .given .0 .0 ≤ 256)
+read c = read-coded (c .before .before .before .read .ensures) (c .answer2 .given .1)
 
-enough-for-both-requires : tie.Need-enough-for-both-requires
-enough-for-both-requires c κs = search needs
+in-words : (c : tie.After-links) → c .links .result .count ≤ length (c .links .result .words)
+in-words c = let o = c .links .ensures in omega (arith, o .few, o .long)
 
-relation-requires : tie.Need-relation-requires
-relation-requires c κs = search needs
+-- what was read of the register
+lettered : (c : tie.After-marks) (b : Book)
+    → let after-links = c .before .before in
+    let after-size = after-links .before .before .before .before in
+    let start = after-size .before .before .before .before .before .before .before .before .before in
+    Represents (start .args .register) b
+    → Lettered b (after-size .size .result) (take (after-links .links .result .count) (after-links .links .result .words))
+    (usedBelow (after-size .size .result) (c .marks .result))
+lettered c b R = read-lettered (c .marks .ensures) b R (c .before .before .before .before .before .before .size .ensures) (c .before .before .links .ensures)
 
-same-length : tie.Need-same-length
-same-length c = search needs
-
-same-length-2 : tie.Need-same-length-2
-same-length-2 c = search needs
-
-returns : tie.Need-returns
-returns c = search needs
-
-relation-requires-2 : tie.Need-relation-requires-2
-relation-requires-2 c κs = search needs
-
-same-length-3 : tie.Need-same-length-3
-same-length-3 c = search needs
-
-same-length-4 : tie.Need-same-length-4
-same-length-4 c = search needs
-
-returns-2 : tie.Need-returns-2
-returns-2 c = search needs
+-- the work is enough for trees, whatever book the register stands for
+enough : (c : tie.Else1)
+    → let start = c .before .before .before .before .before .before .before .before .before .before .before in
+    pairsWork (c .before .before .size .result) ≤ length (start .args .work .now)
+enough c =
+    let start = c .before .before .before .before .before .before .before .before .before .before .before in
+    subst (λ (i : ℕ). i ≤ length (start .args .work .now)) (c .before .pairs-work .ensures) (omega (arith, c .if1 .left))
 
 read-requires : tie.Need-read-requires
 read-requires c κs = search needs
@@ -66,81 +58,131 @@ read-requires c κs = search needs
 enum-known-answer : tie.Need-enum-known-answer
 enum-known-answer c = search needs
 
-cast-t24 : tie.Need-cast-t24
-cast-t24 c = search needs
+cast-t17 : tie.Need-cast-t17
+cast-t17 c = search needs
 
 enum-known-answer-2 : tie.Need-enum-known-answer-2
 enum-known-answer-2 c = search needs
 
-slice-relend-prefix-relate : tie.Need-slice-relend-prefix-relate
-slice-relend-prefix-relate c = search needs
+size-requires : tie.Need-size-requires
+size-requires c κs = search needs
 
-slice-aggregate-relate : tie.Need-slice-aggregate-relate
-slice-aggregate-relate c =
-    let start = c .before .before .before .before .before .before .before .before .before .before .before .before .before .before in
-    sym (length-take-le 16384 (start .args .rows .now) (omega arith))
+pairs-work-requires : tie.Need-pairs-work-requires
+pairs-work-requires c κs = search needs
 
-relate-requires : tie.Need-relate-requires
-relate-requires c κs =
-    let after-answer2 = c .before .before .before in
+returns : tie.Need-returns
+returns c =
+    let start = c .before .before .before .before .before .before .before .before .before .before .before in
+    let n = c .before .before .size in
+    let q = read (c .before .before .before .before) in
+    relates-short _ _ _ _ (q .0) (q .1) (n .result) (n .ensures .size)
+    (subst (λ (i : ℕ). length (start .args .work .now) < i) (c .before .pairs-work .ensures) (c .if1 .taken))
+
+returns-2 : tie.Need-returns-2
+returns-2 c =
+    let n = c .before .before .before .size in
+    let q = read (c .before .before .before .before .before) in
+    relates-few _ _ _ _ (q .0) (q .1) (n .result) (n .ensures .size) (enough (c .before)) (c .if2 .taken)
+
+links-requires : tie.Need-links-requires
+links-requires c κs = search needs
+
+marks-requires : tie.Need-marks-requires
+marks-requires c κs = search needs
+
+array-share-prefix-array : tie.Need-array-share-prefix-array
+array-share-prefix-array c = search needs
+
+slice-aggregate-spread-value : tie.Need-slice-aggregate-spread-value
+slice-aggregate-spread-value c = sym (length-take-le _ _ (in-words (c .before .before .before)))
+
+slice-aggregate-spread-value-2 : tie.Need-slice-aggregate-spread-value-2
+slice-aggregate-spread-value-2 c = search needs
+
+array-share-prefix-code : tie.Need-array-share-prefix-code
+array-share-prefix-code c =
+    let after-answer2 = c .before .before .before .before .before .before .before .before .before .before in
     let after-read = after-answer2 .before .before .before in
-    let after-enough-for-both = after-read .before .before .before in
-    let start = after-enough-for-both .before .before .before .before .before in
-    let h = after-enough-for-both .enough-for-both .ensures (not-false _ (after-read .before .before .if1 .left)) in
-    let a = read after-answer2 in
-    let k = code-length after-read in (
-      after-enough-for-both .before .size .ensures .small,
-      h .1,
-      length-take-le 16384 (start .args .rows .now) (omega arith),
-      omega (arith, k, a .1 .fits),
-      (start .args .text .now, a .0, coded after-answer2),
+    omega (arith, code-length after-read, read after-answer2 .3)
+
+slice-aggregate-spread-value-3 : tie.Need-slice-aggregate-spread-value-3
+slice-aggregate-spread-value-3 c =
+    let after-answer2 = c .before .before .before .before .before .before .before .before .before .before .before in
+    let after-read = after-answer2 .before .before .before in
+    sym (length-take-le _ _ (omega (arith, code-length after-read, read after-answer2 .3)))
+
+slice-relend-prefix-spread-value : tie.Need-slice-relend-prefix-spread-value
+slice-relend-prefix-spread-value c = search needs
+
+slice-aggregate-spread-value-4 : tie.Need-slice-aggregate-spread-value-4
+slice-aggregate-spread-value-4 c =
+    let else2 = c .before .before .before .before .before .before .before .before in
+    let start = else2 .before .before .before .before .before .before .before .before .before .before .before .before in
+    sym (length-take-le 16384 (start .args .rows .now) (omega (arith, else2 .if2 .left)))
+
+spread-value-requires : tie.Need-spread-value-requires
+spread-value-requires c κs =
+    let after-marks = c .before .before .before .before .before in
+    let else2 = after-marks .before .before .before in
+    let after-size = else2 .before .before .before in
+    let start = after-size .before .before .before .before .before .before .before .before .before in
+    let n = after-size .size in
+    let q = read (after-size .before .before) in
+    let k : length (after-marks .marks .result) ≡ 1024 = after-marks .marks .ensures .long in (
+      n .ensures .small,
+      own-words _ _ (enough (else2 .before)),
+      omega (arith, n .ensures .small, k),
+      length-take-le 16384 (start .args .rows .now) (omega (arith, else2 .if2 .left)),
+      (start .args .text .now, q .0, q .2),
     )
 
 returns-3 : tie.Need-returns-3
-returns-3 c = relation-faulty _ _ _ _ _ (sym (c .before .before .before .before .read .ensures .answered) ∙ c .before .answer .given .1)
+returns-3 c = relates-faulty _ _ _ _ _ (sym (c .before .before .before .before .read .ensures .answered) ∙ c .before .answer .given .1)
 
-same-length-5 : tie.Need-same-length-5
-same-length-5 c = search needs
+same-length : tie.Need-same-length
+same-length c = search needs
 
-same-length-6 : tie.Need-same-length-6
-same-length-6 c = search needs
+same-length-2 : tie.Need-same-length-2
+same-length-2 c = search needs
 
 returns-4 : tie.Need-returns-4
 returns-4 c =
-    let after-relate = c .before .before .before .before in
-    let after-answer2 = after-relate .before .before .before .before in
-    let else1 = after-answer2 .before .before .before .before .before in
-    let start = else1 .before .before .before .before .before .before in
-    let n = else1 .before .before .size in
-    let h = else1 .before .enough-for-both .ensures (not-false _ (else1 .if1 .left)) in
-    let a = read after-answer2 in
-    let m = after-relate .relate in
+    let after-spread-value = c .before .before .before .before in
+    let after-marks = after-spread-value .before .before .before .before .before .before in
+    let else2 = after-marks .before .before .before in
+    let after-size = else2 .before .before .before in
+    let start = after-size .before .before .before .before .before .before .before .before .before in
+    let n = after-size .size in
+    let q = read (after-size .before .before) in
+    let m = after-spread-value .spread-value in
     let k : length (m .last .1 .1 .1 .1 .1 .0) ≡ length (take 16384 (start .args .rows .now)) = m .kept .1 .1 .1 .1 .1 .0 in
-    relation-made (start .args .register) _ (a .0) (n .result) _ (m .result) (start .args .text .now) _ (start .args .rows .now) (m .last .1 .1 .1 .1 .1 .0)
-    (n .ensures .size) (a .1 .is) (coded after-answer2) (h .0) (omega arith) (k ∙ length-take-le 16384 (start .args .rows .now) (omega arith)) (m .ensures)
+    relates-made _ _ _ _ (q .0) (n .result) _ (m .last .1 .1 .1 .1 .1 .0) (q .1) (n .ensures .size) (enough (else2 .before)) (omega (arith, else2 .if2 .left))
+    (k ∙ length-take-le 16384 (start .args .rows .now) (omega (arith, else2 .if2 .left))) (m .ensures .few)
+    (λ b R. m .ensures .value b (lettered after-marks b R) _ (q .0) (q .2))
 
 pub relation-spec : {M : Type 1} → statement M
 relation-spec =
     tie.close
     (tie.spec
-    size-requires
-    enough-for-both-requires
-    relation-requires
-    same-length
-    same-length-2
-    returns
-    relation-requires-2
-    same-length-3
-    same-length-4
-    returns-2
     read-requires
     enum-known-answer
-    cast-t24
+    cast-t17
     enum-known-answer-2
-    slice-relend-prefix-relate
-    slice-aggregate-relate
-    relate-requires
+    size-requires
+    pairs-work-requires
+    returns
+    returns-2
+    links-requires
+    marks-requires
+    array-share-prefix-array
+    slice-aggregate-spread-value
+    slice-aggregate-spread-value-2
+    array-share-prefix-code
+    slice-aggregate-spread-value-3
+    slice-relend-prefix-spread-value
+    slice-aggregate-spread-value-4
+    spread-value-requires
     returns-3
-    same-length-5
-    same-length-6
+    same-length
+    same-length-2
     returns-4)

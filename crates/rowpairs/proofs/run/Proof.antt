@@ -5,16 +5,16 @@ use mathlib.Core.Path.{_≡_, refl, _∙_}
 use Prim.Native.Nat.{_+_, _-_, _≤_}
 use lib.ListN.{length}
 use Rattle.rowpairs.specs.Evaluation.{Going}
-use Rattle.rowpairs.proofs.RunLaws.{going-begins, reading-used, reading-ready, reading-more, going-ends}
+use Rattle.rowpairs.proofs.RunLaws.{going-begins, reading-used, reading-few, reading-ready, reading-more, going-ends}
 use Rattle.rowpairs.proofs.run.Statement.{statement}
 use Rattle.rowpairs.proofs.run.Tie as tie
 
 abbrev Inv-loop : tie.InvT-loop
-Inv-loop links used cells₀ masks₀ n code count₀ i₀ cells masks count i =
-    (i ≤ length code) × (length cells ≡ length cells₀) × (length masks ≡ length masks₀) × Going n links used code cells masks count i
+Inv-loop links marks cells₀ masks₀ n code count₀ i₀ cells masks count i =
+    (i ≤ length code) × (length cells ≡ length cells₀) × (length masks ≡ length masks₀) × Going n links marks code cells masks count i
 
 abbrev μ-loop : tie.MeasureT-loop
-μ-loop links used cells₀ masks₀ n code count₀ i₀ cells masks count i = length code - i
+μ-loop links marks cells₀ masks₀ n code count₀ i₀ cells masks count i = length code - i
 
 -- the numbers read
 used : (c : tie.After-next-item Inv-loop μ-loop)
@@ -25,7 +25,7 @@ used c = let l = c .before .before .loop in reading-used _ _ _ _ (l .i) (omega a
 
 -- src/lib.rt:200:5
 loop-holds : tie.Need-loop-holds Inv-loop μ-loop
-loop-holds c = (omega arith, refl, refl, going-begins _ _ _ _ (c .before .before .before .before .before .pre .1 .2) _ _)
+loop-holds c = (omega arith, refl, refl, going-begins _ _ _ _ (c .before .before .before .before .before .pre .2 .2) _ _)
 
 -- src/lib.rt:201:13
 next-item-requires : tie.Need-next-item-requires Inv-loop μ-loop
@@ -35,9 +35,12 @@ next-item-requires c κs = omega arith
 step-requires : tie.Need-step-requires Inv-loop μ-loop
 step-requires c κs =
     let l = c .before .before .before .before .loop in
-    let P = c .before .before .before .before .before .before .before .before .before .before .pre .0 in (
+    let start = c .before .before .before .before .before .before .before .before .before .before in
+    let r = reading-ready _ _ _ _ (l .i) (omega arith) (l .inv .3) (c .before .before .next-item .ensures) in
+    let P = start .pre .0 _ (r .room) (reading-few _ _ _ _ (l .i) (omega arith) (l .inv .3) (c .before .before .next-item .ensures)) in (
       record { small = P .small; words = omega (arith, l .inv .1, P .words); marks = omega (arith, l .inv .2, P .marks) },
-      reading-ready _ _ _ _ (l .i) (omega arith) (l .inv .3) (c .before .before .next-item .ensures),
+      r,
+      start .pre .1,
     )
 
 -- src/lib.rt:204:9

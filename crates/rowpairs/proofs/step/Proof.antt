@@ -1,10 +1,13 @@
 -- `step` lends the part from its operands on to the operation; `goes-step` does the rest. Assumes nothing.
 use native.Mathlib.Omega.{arith}
-use mathlib.Core.Path.{_≡_}
-use Prim.Native.Nat.{_-_, _*_, _≤_}
+use mathlib.Core.Path.{_≡_, sym, subst}
+use Prim.Native.Nat.{ℕ, suc, _-_, _*_, _≤_}
+use native.Mathlib.Nat.{suc-mul}
 use lib.ListN.{length}
-use Rattle.rowpairs.specs.Asking.{rowWidth}
-use Rattle.rowpairs.proofs.StepLaws.{unit-le, start-le, mark-le, lent-space, goes-part}
+use Rattle.paths.specs.Questions.{rowWidth}
+use Rattle.query.specs.WorkLaws.{unit-le}
+use Rattle.rowpairs.specs.Evaluation.{Lent}
+use Rattle.rowpairs.proofs.StepLaws.{start-le, mark-le, lent-space, goes-part}
 use borrow.Author.Needs.{needs}
 use Rattle.rowpairs.proofs.step.Statement.{statement}
 use Rattle.rowpairs.proofs.step.Tie as tie
@@ -15,20 +18,32 @@ early c =
     let start = c .before .before .before .before .before .before in
     let o = c .operands-of .ensures in let r = start .pre .1 .room in let f = start .pre .1 .found in omega arith
 
+-- room for one relation more than stand below
+lent : (c : tie.After-operands-of)
+    → let start = c .before .before .before .before .before .before in
+    Lent (start .args .n) (suc (start .args .count - c .operands-of .result)) (length (start .args .cells .now)) (length (start .args .masks .now))
+lent c =
+    let start = c .before .before .before .before .before .before in
+    subst (λ (i : ℕ). Lent (start .args .n) (suc (start .args .count - i)) (length (start .args .cells .now)) (length (start .args .masks .now)))
+    (sym (c .operands-of .ensures)) (start .pre .0)
+
 starts : (c : tie.After-operands-of)
     → let start = c .before .before .before .before .before .before in
     (start .args .count - c .operands-of .result) * (start .args .n * c .before .row-width .result) ≤ 18 * (start .args .n * rowWidth (start .args .n))
 starts c =
     let start = c .before .before .before .before .before .before in
     let w : c .before .row-width .result ≡ rowWidth (start .args .n) = c .before .row-width .ensures in
-    rw w (start-le (start .args .n) _ (length (start .args .cells .now)) (length (start .args .masks .now)) (start .pre .0) (early c))
+    rw w (start-le (start .args .n) _ (length (start .args .cells .now)) (length (start .args .masks .now)) (lent c) (early c))
 
 marks : (c : tie.After-operands-of)
     → let start = c .before .before .before .before .before .before in
-    (start .args .count - c .operands-of .result) * start .args .n ≤ 18 * start .args .n
+    ((start .args .count - c .operands-of .result) * start .args .n ≤ 18 * start .args .n)
+    × ((start .args .count - c .operands-of .result) * start .args .n ≤ length (start .args .masks .now))
 marks c =
-    let start = c .before .before .before .before .before .before in
-    mark-le (start .args .n) _ (length (start .args .cells .now)) (length (start .args .masks .now)) (start .pre .0) (early c)
+    let start = c .before .before .before .before .before .before in (
+      mark-le (start .args .n) _ (length (start .args .cells .now)) (length (start .args .masks .now)) (lent c) (early c),
+      omega (arith, lent c .marks, suc-mul (start .args .count - c .operands-of .result) (start .args .n)),
+    )
 
 -- src/lib.rt:111:9
 row-width-requires : tie.Need-row-width-requires
@@ -82,11 +97,11 @@ mul-operate-2 c = omega (arith, marks (c .before), c .before .before .before .be
 
 -- src/lib.rt:120:9
 sub-operate-2 : tie.Need-sub-operate-2
-sub-operate-2 c = omega (arith, marks (c .before), c .before .before .before .before .before .before .before .pre .0 .marks)
+sub-operate-2 c = omega (arith, marks (c .before) .1)
 
 -- src/lib.rt:120:9
 part-operate-start-2 : tie.Need-part-operate-start-2
-part-operate-start-2 c = omega (arith, marks (c .before), c .before .before .before .before .before .before .before .pre .0 .marks)
+part-operate-start-2 c = omega (arith, marks (c .before) .1)
 
 -- src/lib.rt:120:9
 part-operate-end-2 : tie.Need-part-operate-end-2
@@ -97,8 +112,10 @@ operate-requires : tie.Need-operate-requires
 operate-requires c κs =
     let after-row-width = c .before .before .before in
     let start = after-row-width .before .before .before .before .before in
-    let a = start .args in
-    lent-space (a .n) _ _ (a .cells .now) (a .masks .now) (after-row-width .row-width .ensures) (start .pre .0) (early (c .before .before))
+    let a = start .args in (
+      lent-space (a .n) _ _ (a .cells .now) (a .masks .now) (after-row-width .row-width .ensures) (lent (c .before .before)) (early (c .before .before)),
+      start .pre .2,
+    )
 
 -- src/lib.rt:125:5
 add-result : tie.Need-add-result
@@ -122,8 +139,8 @@ returns c =
     let o = after-operate .operate in
     let f = start .pre .1 .found in
     let e = after-operands-of .operands-of .ensures in
-    goes-part (a .n) (a .links .now) (a .used .now) (a .item) (a .cells .now) (o .last .1 .1 .0) (a .masks .now) (o .last .1 .1 .1 .0)
-    (a .count) _ _ (after-operands-of .before .row-width .ensures) (omega arith) (start .pre .0) (early after-operands-of) (o .ensures)
+    goes-part (a .n) (a .links .now) (a .marks .now) (a .item) (a .cells .now) (o .last .1 .1 .0) (a .masks .now) (o .last .1 .1 .1 .0)
+    (a .count) _ _ (after-operands-of .before .row-width .ensures) (omega arith) (lent after-operands-of) (early after-operands-of) (o .ensures)
 
 pub step-spec : {M : Type 1} → statement M
 step-spec =

@@ -1,51 +1,49 @@
 -- `session::answer_pairs` asks the engine on rows for up to 32 records, that on trees above. Assumes nothing.
 use native.Mathlib.Omega.{arith}
-use Rattle.session.specs.Listing.{rows-answers, trees-answers}
+use mathlib.Core.Path.{refl}
+use borrow.Author.Tests.{le-leb, lt-leb}
+use Rattle.paths.specs.Questions.{by-trees, by-rows}
+use Rattle.session.specs.Program.{engineFor}
+use Rattle.session.specs.Listing.{engine-answers}
 use borrow.Author.Needs.{needs}
 use Rattle.session.proofs.answer_pairs.Statement.{statement}
 use Rattle.session.proofs.answer_pairs.Tie as tie
 
--- src/lib.rt:316:8
 size-requires : tie.Need-size-requires
 size-requires c κs = search needs
 
--- src/lib.rt:317:9
 pairs-by-rows-requires : tie.Need-pairs-by-rows-requires
 pairs-by-rows-requires c κs = search needs
 
--- src/lib.rt:317:9
 same-length : tie.Need-same-length
 same-length c = search needs
 
--- src/lib.rt:317:9
 same-length-2 : tie.Need-same-length-2
 same-length-2 c = search needs
 
--- src/lib.rt:317:9
 returns : tie.Need-returns
+unfolding engineFor
 returns c =
     let after-pairs-by-rows = c .before .before .before .before in
     let then1 = after-pairs-by-rows .before .before .before in
-    rows-answers (then1 .before .size .ensures) (then1 .if1 .taken) (after-pairs-by-rows .pairs-by-rows .ensures)
+    engine-answers by-rows (then1 .before .size .ensures) (rw (le-leb _ _ (then1 .if1 .taken)) refl) (after-pairs-by-rows .pairs-by-rows .ensures)
 
--- src/lib.rt:319:5
 pairs-requires : tie.Need-pairs-requires
 pairs-requires c κs = search needs
 
--- src/lib.rt:308:1
 same-length-3 : tie.Need-same-length-3
 same-length-3 c = search needs
 
--- src/lib.rt:308:1
 same-length-4 : tie.Need-same-length-4
 same-length-4 c = search needs
 
--- src/lib.rt:308:1
 returns-2 : tie.Need-returns-2
+unfolding engineFor
 returns-2 c =
     let after-pairs = c .before .before .before .before in
     let else1 = after-pairs .before .before .before in
-    trees-answers (else1 .before .size .ensures) (omega (arith, else1 .if1 .left)) (after-pairs .pairs .ensures)
+    engine-answers by-trees (else1 .before .size .ensures) (rw (lt-leb (else1 .before .size .result) 32 (omega (arith, else1 .if1 .left))) refl)
+    (after-pairs .pairs .ensures)
 
 pub answer-pairs-spec : {M : Type 1} → statement M
 answer-pairs-spec =

@@ -51,7 +51,8 @@ returns-2 c =
     let w = c .before .before .put-reply in
     chain-turns (s .state) (length (now (s .work))) (now (s .list)) _ (now (s .out))
     (w .last .1 .1 .0) _ (s .x) (s .y) (now (s .text)) _ (not-false _ (else1 .if1 .left)) refl
-    (reply-left (now (s .list)) _ (a .kept .1 .1 .1 .1 .1 .0) (a .result) (a .ensures .fits) (a .ensures .past)) (a .ensures .answers) (w .ensures)
+    (reply-left (now (s .list)) _ (a .kept .1 .1 .1 .1 .1 .0) (a .result) (a .ensures .contained .fits) (a .ensures .contained .past))
+    (a .ensures .answers) (w .ensures)
 
 pub ask-chain-spec : {M : Type 1} → statement M
 ask-chain-spec =

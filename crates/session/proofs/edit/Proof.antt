@@ -5,7 +5,7 @@ use denote.Ref.{now}
 use Rattle.book.specs.Causes.{number}
 use Rattle.register.specs.Calls.{callOf}
 use Rattle.report.specs.Report.{answerText}
-use Rattle.report.specs.WrittenLaws.{wrote-as}
+use Rattle.answers.specs.WrittenLaws.{wrote-as}
 use Rattle.session.specs.Program.{asks, call, nextSession, printed, listLeft}
 use Rattle.session.specs.TurnLaws.{closed-turns, call-turns}
 use borrow.Author.Needs.{needs}

@@ -2,7 +2,7 @@
 use mathlib.Core.Path.{_∙_}
 use native.Mathlib.Omega.{arith}
 use denote.Ref.{now}
-use Rattle.session.specs.RunsLaws.{following-few, following-low, following-high, following-is}
+use Rattle.session.specs.StepLaws.{following-few, following-low, following-high, following-is}
 use borrow.Author.Needs.{needs}
 use Rattle.session.proofs.following.Statement.{statement}
 use Rattle.session.proofs.following.Tie as tie

@@ -1,16 +1,35 @@
 -- `session::frame` meets its contract: with too little room nothing is done (`none-framed`), else each arm keeps its own promise (`turned-framed`).
 -- Assumes nothing.
-use mathlib.Core.Path.{refl, subst}
-use Prim.Native.Nat.{_≤_}
+use mathlib.Core.Path.{_≡_, refl, sym, ap, _∙_}
+use mathlib.Core.List.{List}
+use Prim.Native.Nat.{ℕ, _≤_}
 use native.Mathlib.Omega.{arith}
 use denote.Ref.{now}
 use lib.ListN.{length}
 use Rattle.book.specs.Causes.{number, broken-frame, unknown-kind}
-use Rattle.session.specs.Says.{says, Long}
-use Rattle.session.specs.TurnLaws.{faulty-turns, part-turns, none-framed, turned-framed}
+use Rattle.session.specs.Program.{decode}
+use Rattle.session.specs.Says.{says}
+use Rattle.session.specs.Turns.{Turns, Framing}
+use Rattle.session.specs.declared.Decoded.{Decoded}
+use Rattle.session.specs.declared.Framed.{Framed}
+use Rattle.session.specs.TurnLaws.{faulty-turns, decode-long, part-turns, none-framed, turned-framed}
 use borrow.Author.Needs.{needs}
 use Rattle.session.proofs.frame.Statement.{statement}
 use Rattle.session.proofs.frame.Tie as tie
+
+-- the start, from where the frame is decoded
+abbrev start : tie.After-decode → tie.Start
+start c = c .before .before .before .before .before .before
+
+-- what the frame promises, if it is decoded as d and what d says is done
+framing : (c : tie.After-decode) {l′ out′ : List ℕ} {r : Framed} {d : Decoded} → c .decode .result ≡ d
+    → let s = start c .args in
+    Turns (s .state) (says d (now (s .body))) (length (now (s .work))) (now (s .list)) l′ (now (s .out)) out′ r
+    → Framing (s .state) (decode (s .kind) (now (s .body))) (length (now (s .work))) (now (s .list)) l′ (now (s .out)) out′ r
+framing c e t =
+    let s = start c .args in
+    turned-framed (s .state) (length (now (s .work))) (now (s .list)) _ (now (s .out)) _ _ _ (decode (s .kind) (now (s .body)))
+    (ap (λ x. says x (now (s .body))) (sym e) ∙ c .decode .ensures) (omega (arith, c .before .if1 .left)) t
 
 add-if1 : tie.Need-add-if1
 add-if1 c = search needs
@@ -45,10 +64,11 @@ enum-known-decoded-3 : tie.Need-enum-known-decoded-3
 enum-known-decoded-3 c = search needs
 
 -- the body of a chain question has at least four bytes
-long : (c : tie.After-decoded3) → 4 ≤ length (now (c .before .before .before .before .before .before .before .before .args .body))
+long : (c : tie.After-decoded3) → 4 ≤ length (now (start (c .before .before) .args .body))
+unfolding says
 long c =
-    let start = c .before .before .before .before .before .before .before .before in
-    subst (λ d. Long d (now (start .args .body))) (c .decoded3 .given .1) (c .before .before .decode .ensures .1)
+    let s = start (c .before .before) .args in
+    decode-long (s .kind) (now (s .body)) _ _ _ (sym (c .before .before .decode .ensures) ∙ ap (λ d. says d (now (s .body))) (c .decoded3 .given .1))
 
 sub-ask-chain : tie.Need-sub-ask-chain
 sub-ask-chain c = omega (arith, long (c .before))
@@ -86,14 +106,8 @@ same-length c = search needs
 returns-2 : tie.Need-returns-2
 unfolding says
 returns-2 c =
-    let after-decoded = c .before .before .before .before .before in
-    let after-decode = after-decoded .before .before in
-    let start = after-decode .before .before .before .before .before .before in
-    let s = start .args in
-    let w = c .before .before .«open» in
-    turned-framed (s .state) (length (now (s .work))) (now (s .list)) _ (now (s .out)) _ _
-    (says (after-decode .decode .result) (now (s .body))) _ (after-decode .decode .ensures .0) (omega arith)
-    (rw (after-decoded .decoded .given .1) (w .ensures _ _))
+    let told = c .before .before .before .before .before in
+    framing (told .before .before) (told .decoded .given .1) (c .before .before .«open» .ensures _ _)
 
 same-length-2 : tie.Need-same-length-2
 same-length-2 c = search needs
@@ -101,14 +115,8 @@ same-length-2 c = search needs
 returns-3 : tie.Need-returns-3
 unfolding says
 returns-3 c =
-    let after-decoded2 = c .before .before .before .before .before in
-    let after-decode = after-decoded2 .before .before in
-    let start = after-decode .before .before .before .before .before .before in
-    let s = start .args in
-    let w = c .before .before .edit in
-    turned-framed (s .state) (length (now (s .work))) (now (s .list)) _ (now (s .out)) _ _
-    (says (after-decode .decode .result) (now (s .body))) _ (after-decode .decode .ensures .0) (omega arith)
-    (rw (after-decoded2 .decoded2 .given .1) (w .ensures _ _))
+    let told = c .before .before .before .before .before in
+    framing (told .before .before) (told .decoded2 .given .1) (c .before .before .edit .ensures _ _)
 
 same-length-3 : tie.Need-same-length-3
 same-length-3 c = search needs
@@ -122,15 +130,9 @@ same-length-5 c = search needs
 returns-4 : tie.Need-returns-4
 unfolding says
 returns-4 c =
-    let after-ask-pairs = c .before .before .before .before .before .before in
-    let after-enum-told = after-ask-pairs .before .before .before .before in
-    let after-decode = after-enum-told .before .before in
-    let start = after-decode .before .before .before .before .before .before in
-    let s = start .args in
-    let w = after-ask-pairs .ask-pairs in
-    turned-framed (s .state) (length (now (s .work))) (now (s .list)) _ (now (s .out)) _ _
-    (says (after-decode .decode .result) (now (s .body))) _ (after-decode .decode .ensures .0) (omega arith)
-    (rw (after-enum-told .enum-told .given .1) (w .ensures))
+    let asked = c .before .before .before .before .before .before in
+    let told = asked .before .before .before .before in
+    framing (told .before .before) (told .enum-told .given .1) (asked .ask-pairs .ensures)
 
 same-length-6 : tie.Need-same-length-6
 same-length-6 c = search needs
@@ -144,15 +146,10 @@ same-length-8 c = search needs
 returns-5 : tie.Need-returns-5
 unfolding says
 returns-5 c =
-    let after-ask-chain = c .before .before .before .before .before .before in
-    let after-decoded3 = after-ask-chain .before .before .before .before .before .before in
-    let after-decode = after-decoded3 .before .before in
-    let start = after-decode .before .before .before .before .before .before in
-    let s = start .args in
-    let w = after-ask-chain .ask-chain in
-    turned-framed (s .state) (length (now (s .work))) (now (s .list)) _ (now (s .out)) _ _
-    (says (after-decode .decode .result) (now (s .body))) _ (after-decode .decode .ensures .0) (omega (arith, after-decode .before .if1 .left))
-    (rw (after-decoded3 .decoded3 .given .1) (part-turns (s .state) _ _ _ _ _ _ _ _ (now (s .body)) (w .ensures)))
+    let asked = c .before .before .before .before .before .before in
+    let told = asked .before .before .before .before .before .before in
+    let s = start (told .before .before) .args in
+    framing (told .before .before) (told .decoded3 .given .1) (part-turns (s .state) _ _ _ _ _ _ _ _ (now (s .body)) (asked .ask-chain .ensures))
 
 same-length-9 : tie.Need-same-length-9
 same-length-9 c = search needs
@@ -160,14 +157,8 @@ same-length-9 c = search needs
 returns-6 : tie.Need-returns-6
 unfolding says
 returns-6 c =
-    let after-decoded4 = c .before .before .before .before .before in
-    let after-decode = after-decoded4 .before .before in
-    let start = after-decode .before .before .before .before .before .before in
-    let s = start .args in
-    let w = c .before .before .ask-total in
-    turned-framed (s .state) (length (now (s .work))) (now (s .list)) _ (now (s .out)) _ _
-    (says (after-decode .decode .result) (now (s .body))) _ (after-decode .decode .ensures .0) (omega arith)
-    (rw (after-decoded4 .decoded4 .given .1) (w .ensures _ _))
+    let told = c .before .before .before .before .before in
+    framing (told .before .before) (told .decoded4 .given .1) (c .before .before .ask-total .ensures _ _)
 
 same-length-10 : tie.Need-same-length-10
 same-length-10 c = search needs
@@ -175,14 +166,11 @@ same-length-10 c = search needs
 returns-7 : tie.Need-returns-7
 unfolding says number
 returns-7 c =
-    let after-enum-told2 = c .before .before .before .before in
-    let after-decode = after-enum-told2 .before .before in
-    let start = after-decode .before .before .before .before .before .before in
-    let s = start .args in
+    let told = c .before .before .before .before in
+    let s = start (told .before .before) .args in
     let w = c .before .before .refuse in
-    turned-framed (s .state) (length (now (s .work))) (now (s .list)) _ (now (s .out)) _ _
-    (says (after-decode .decode .result) (now (s .body))) _ (after-decode .decode .ensures .0) (omega arith)
-    (rw (after-enum-told2 .enum-told2 .given .1) (faulty-turns (s .state) _ _ _ _ _ (w .result) broken-frame (w .ensures .0) refl (w .ensures .1)))
+    framing (told .before .before) (told .enum-told2 .given .1)
+    (faulty-turns (s .state) _ _ _ _ _ (w .result) broken-frame (w .ensures .0) refl (w .ensures .1))
 
 same-length-11 : tie.Need-same-length-11
 same-length-11 c = search needs
@@ -190,14 +178,11 @@ same-length-11 c = search needs
 returns-8 : tie.Need-returns-8
 unfolding says number
 returns-8 c =
-    let after-enum-told3 = c .before .before .before .before in
-    let after-decode = after-enum-told3 .before .before in
-    let start = after-decode .before .before .before .before .before .before in
-    let s = start .args in
+    let told = c .before .before .before .before in
+    let s = start (told .before .before) .args in
     let w = c .before .before .refuse2 in
-    turned-framed (s .state) (length (now (s .work))) (now (s .list)) _ (now (s .out)) _ _
-    (says (after-decode .decode .result) (now (s .body))) _ (after-decode .decode .ensures .0) (omega arith)
-    (rw (after-enum-told3 .enum-told3 .given .1) (faulty-turns (s .state) _ _ _ _ _ (w .result) unknown-kind (w .ensures .0) refl (w .ensures .1)))
+    framing (told .before .before) (told .enum-told3 .given .1)
+    (faulty-turns (s .state) _ _ _ _ _ (w .result) unknown-kind (w .ensures .0) refl (w .ensures .1))
 
 pub frame-spec : {M : Type 1} → statement M
 frame-spec =

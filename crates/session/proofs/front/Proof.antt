@@ -4,7 +4,7 @@ use Prim.Native.Nat.{ℕ, _+_, _≤_}
 use native.Mathlib.Omega.{arith}
 use denote.Ref.{now}
 use Rattle.session.specs.Program.{maxFrame}
-use Rattle.session.specs.RunsLaws.{following-most, whole-unframed, whole-cut, whole-is}
+use Rattle.session.specs.StepLaws.{following-most, whole-unframed, whole-cut, whole-is}
 use borrow.Author.Needs.{needs}
 use Rattle.session.proofs.front.Statement.{statement}
 use Rattle.session.proofs.front.Tie as tie

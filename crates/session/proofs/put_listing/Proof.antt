@@ -4,7 +4,7 @@ use native.Mathlib.Omega.{arith}
 use lib.ListN.{length-take}
 use lib.Seq.{length-take-le}
 use Rattle.report.specs.Report.{pairsText, outcomeText}
-use Rattle.report.specs.WrittenLaws.{wrote-as}
+use Rattle.answers.specs.WrittenLaws.{wrote-as}
 use Rattle.session.specs.Listing.{listing}
 use borrow.Author.Needs.{needs}
 use Rattle.session.proofs.put_listing.Statement.{statement}

@@ -6,7 +6,8 @@ use denote.Ref.{now}
 use lib.ListN.{length, length-take}
 use lib.Seq.{length-take-le}
 use Rattle.report.specs.Report.{outcomeText}
-use Rattle.chains.specs.Replies.{outcomeOf, stepsLength}
+use Rattle.answers.specs.Answers.{counted}
+use Rattle.chains.specs.Replies.{outcomeOf, chainCounted}
 use borrow.Author.Needs.{needs}
 use Rattle.session.proofs.put_reply.Statement.{statement}
 use Rattle.session.proofs.put_reply.Tie as tie
@@ -16,7 +17,7 @@ enum-known-answer c = search needs
 
 -- the steps are within the list
 fits : (c : tie.After-answer) → c .answer .given .0 .0 ≤ length (now (c .before .before .before .before .args .list))
-unfolding stepsLength
+unfolding chainCounted counted
 fits c = rw (c .answer .given .1) at (c .before .before .before .before .pre .0)
 
 slice-aggregate-put-chain : tie.Need-slice-aggregate-put-chain

@@ -1,7 +1,8 @@
 -- `session::run` meets its contract. The loop's invariant: any run on from here is a run from the start (`Leads`), what was read and printed is within
 -- input and out, and the lengths are as they were. The measure is what is left of the input. Assumes nothing.
 use mathlib.Core.Path.{_≡_, refl, _∙_}
-use Prim.Native.Nat.{_+_, _-_, _≤_}
+use mathlib.Core.List.{List}
+use Prim.Native.Nat.{ℕ, _+_, _-_, _≤_}
 use denote.Ref.{now}
 use borrow.Author.Tests.{not-true, not-false}
 use borrow.Rule.Slice.PartMut.{putMid, same-len-mid}
@@ -14,103 +15,113 @@ use Rattle.session.proofs.run.Tie as tie
 
 abbrev Inv-loop : tie.InvT-loop
 Inv-loop input work₀ list₀ out₀ state₀ read₀ written₀ work list out state read written =
-    Leads (length work₀) state₀ input list₀ out₀ state list out read written
-    × (read ≤ length input) × (written ≤ length out) × (length work ≡ length work₀) × (length list ≡ length list₀) × (length out ≡ length out₀)
+    record {
+      leads : Leads (length work₀) state₀ input list₀ out₀ state list out read written;
+      inside : read ≤ length input;
+      within : written ≤ length out;
+      same-work : length work ≡ length work₀;
+      same-list : length list ≡ length list₀;
+      same-out : length out ≡ length out₀;
+    }
 
 abbrev μ-loop : tie.MeasureT-loop
 μ-loop input work₀ list₀ out₀ state₀ read₀ written₀ work list out state read written = length input - read
 
 loop-holds : tie.Need-loop-holds Inv-loop μ-loop
-loop-holds c = (leads-start _ _ _ _ _, omega arith, omega arith, refl, refl, refl)
+loop-holds c =
+    record { leads = leads-start _ _ _ _ _; inside = omega arith; within = omega arith; same-work = refl; same-list = refl; same-out = refl }
 
 sub-step : tie.Need-sub-step Inv-loop μ-loop
-sub-step c = omega (arith, c .loop .inv .1)
+sub-step c = omega (arith, c .loop .inv .inside)
 
 part-step-start : tie.Need-part-step-start Inv-loop μ-loop
-part-step-start c = omega (arith, c .loop .inv .1)
+part-step-start c = omega (arith, c .loop .inv .inside)
 
 part-step-end : tie.Need-part-step-end Inv-loop μ-loop
-part-step-end c = omega (arith, c .loop .inv .1)
+part-step-end c = omega (arith, c .loop .inv .inside)
 
 sub-step-2 : tie.Need-sub-step-2 Inv-loop μ-loop
-sub-step-2 c = omega (arith, c .before .before .before .loop .inv .2)
+sub-step-2 c = omega (arith, c .before .before .before .loop .inv .within)
 
 part-step-start-2 : tie.Need-part-step-start-2 Inv-loop μ-loop
-part-step-start-2 c = omega (arith, c .before .before .before .loop .inv .2)
+part-step-start-2 c = omega (arith, c .before .before .before .loop .inv .within)
 
 part-step-end-2 : tie.Need-part-step-end-2 Inv-loop μ-loop
-part-step-end-2 c = omega (arith, c .before .before .before .loop .inv .2)
+part-step-end-2 c = omega (arith, c .before .before .before .loop .inv .within)
 
 step-requires : tie.Need-step-requires Inv-loop μ-loop
 step-requires c κs = tt
 
+-- the places that the needs come back to: the loop, and the start
+abbrev at-loop : tie.After-step Inv-loop μ-loop → tie.At-loop Inv-loop μ-loop
+at-loop c = c .before .before .before .before .before
+
+abbrev start : tie.At-loop Inv-loop μ-loop → tie.Start Inv-loop μ-loop
+start c = c .before .before .before .before .before
+
+-- what work, list and the rest of out hold after the turn
+abbrev work-after : tie.After-step Inv-loop μ-loop → List ℕ
+work-after c = c .step .last .1 .1 .0
+
+abbrev list-after : tie.After-step Inv-loop μ-loop → List ℕ
+list-after c = c .step .last .1 .1 .1 .0
+
+abbrev part-after : tie.After-step Inv-loop μ-loop → List ℕ
+part-after c = c .step .last .1 .1 .1 .1 .0
+
+-- out, with what the turn wrote into the rest of it
+abbrev out-after : tie.After-step Inv-loop μ-loop → List ℕ
+out-after c = let l = at-loop c .loop in putMid (l .written) (length (l .out) - l .written) (l .out) (part-after c)
+
 -- the turn, over the rest of the input and of out
-turned : (c : tie.After-step Inv-loop μ-loop)
-    → let at-loop = c .before .before .before .before .before in
-    let start = at-loop .before .before .before .before .before in
-    let l = at-loop .loop in let s = start .args in
-    OneTurn (l .state) (drop (l .read) (now (s .input))) (length (now (s .work))) (l .list) (c .step .last .1 .1 .1 .0) (drop (l .written) (l .out))
-    (c .step .last .1 .1 .1 .1 .0) (c .step .result)
+turned : (c : tie.After-step Inv-loop μ-loop) → let l = at-loop c .loop in let s = start (at-loop c) .args in
+    OneTurn (l .state) (drop (l .read) (now (s .input))) (length (now (s .work))) (l .list) (list-after c) (drop (l .written) (l .out))
+    (part-after c) (c .step .result)
 turned c =
-    let at-loop = c .before .before .before .before .before in
-    let start = at-loop .before .before .before .before .before in
-    let l = at-loop .loop in let s = start .args in
-    part-turn (length (now (s .work))) (now (s .input)) (l .out) (l .read) (l .written) _ (l .inv .3) (c .step .ensures)
+    let l = at-loop c .loop in
+    let s = start (at-loop c) .args in
+    part-turn (length (now (s .work))) (now (s .input)) (l .out) (l .read) (l .written) _ (l .inv .same-work) (c .step .ensures)
 
 -- it stays within them
-inside : (c : tie.After-step Inv-loop μ-loop)
-    → let at-loop = c .before .before .before .before .before in
-    let start = at-loop .before .before .before .before .before in
-    at-loop .loop .read + c .step .result .read ≤ length (now (start .args .input))
+inside : (c : tie.After-step Inv-loop μ-loop) → at-loop c .loop .read + c .step .result .read ≤ length (now (start (at-loop c) .args .input))
 inside c =
-    let at-loop = c .before .before .before .before .before in
-    let start = at-loop .before .before .before .before .before in
-    let l = at-loop .loop in
-    omega (arith, turned c .advances .inside, length-drop (l .read) (now (start .args .input)), l .inv .1)
+    let l = at-loop c .loop in
+    omega (arith, turned c .advances .inside, length-drop (l .read) (now (start (at-loop c) .args .input)), l .inv .inside)
 
-within : (c : tie.After-step Inv-loop μ-loop)
-    → let at-loop = c .before .before .before .before .before in
-    at-loop .loop .written + c .step .result .written ≤ length (at-loop .loop .out)
+within : (c : tie.After-step Inv-loop μ-loop) → at-loop c .loop .written + c .step .result .written ≤ length (at-loop c .loop .out)
 within c =
-    let l = c .before .before .before .before .before .loop in
-    omega (arith, turned c .advances .within, length-drop (l .written) (l .out), l .inv .2)
+    let l = at-loop c .loop in
+    omega (arith, turned c .advances .within, length-drop (l .written) (l .out), l .inv .within)
 
 -- the lent slices keep their lengths
-works : (c : tie.After-step Inv-loop μ-loop)
-    → let start = c .before .before .before .before .before .before .before .before .before .before in
-    length (c .step .last .1 .1 .0) ≡ length (now (start .args .work))
-works c = c .step .kept .1 .1 .0 ∙ c .before .before .before .before .before .loop .inv .3
+works : (c : tie.After-step Inv-loop μ-loop) → length (work-after c) ≡ length (now (start (at-loop c) .args .work))
+works c = c .step .kept .1 .1 .0 ∙ at-loop c .loop .inv .same-work
 
-lists : (c : tie.After-step Inv-loop μ-loop)
-    → let start = c .before .before .before .before .before .before .before .before .before .before in
-    length (c .step .last .1 .1 .1 .0) ≡ length (now (start .args .list))
-lists c = c .step .kept .1 .1 .1 .0 ∙ c .before .before .before .before .before .loop .inv .4
+lists : (c : tie.After-step Inv-loop μ-loop) → length (list-after c) ≡ length (now (start (at-loop c) .args .list))
+lists c = c .step .kept .1 .1 .1 .0 ∙ at-loop c .loop .inv .same-list
 
-whole : (c : tie.After-step Inv-loop μ-loop) → let l = c .before .before .before .before .before .loop in
-    length (putMid (l .written) (length (l .out) - l .written) (l .out) (c .step .last .1 .1 .1 .1 .0)) ≡ length (l .out)
+whole : (c : tie.After-step Inv-loop μ-loop) → length (out-after c) ≡ length (at-loop c .loop .out)
 whole c =
-    let l = c .before .before .before .before .before .loop in
-    same-len-mid (l .written) (length (l .out) - l .written) (l .out) (c .step .last .1 .1 .1 .1 .0) (c .step .kept .1 .1 .1 .1 .0)
+    let l = at-loop c .loop in
+    same-len-mid (l .written) (length (l .out) - l .written) (l .out) (part-after c) (c .step .kept .1 .1 .1 .1 .0)
 
-outs : (c : tie.After-step Inv-loop μ-loop)
-    → let at-loop = c .before .before .before .before .before in
-    let start = at-loop .before .before .before .before .before in
-    let l = at-loop .loop in
-    length (putMid (l .written) (length (l .out) - l .written) (l .out) (c .step .last .1 .1 .1 .1 .0)) ≡ length (now (start .args .out))
-outs c = whole c ∙ c .before .before .before .before .before .loop .inv .5
+outs : (c : tie.After-step Inv-loop μ-loop) → length (out-after c) ≡ length (now (start (at-loop c) .args .out))
+outs c = whole c ∙ at-loop c .loop .inv .same-out
 
 add-read : tie.Need-add-read Inv-loop μ-loop
 add-read c =
-    let after-step = c .before .before .before .before .before .before .before .before in
-    let start = after-step .before .before .before .before .before .before .before .before .before .before in
-    let h = inside after-step in let g = start .good in omega (arith, h, g)
+    let turn = c .before .before .before .before .before .before .before .before in
+    let h = inside turn in
+    let g = start (at-loop turn) .good in
+    omega (arith, h, g)
 
 add-written : tie.Need-add-written Inv-loop μ-loop
 add-written c =
-    let after-step = c .before .before .before .before .before .before .before .before .before in
-    let at-loop = after-step .before .before .before .before .before in
-    let start = at-loop .before .before .before .before .before in
-    let h = within after-step in let g = start .good in let e = at-loop .loop .inv .5 in omega (arith, h, g, e)
+    let turn = c .before .before .before .before .before .before .before .before .before in
+    let h = within turn in
+    let g = start (at-loop turn) .good in
+    let e = at-loop turn .loop .inv .same-out in
+    omega (arith, h, g, e)
 
 same-length : tie.Need-same-length Inv-loop μ-loop
 same-length c = works (c .before .before .before .before .before .before .before .before .before .before .before)
@@ -123,10 +134,9 @@ same-length-3 c = outs (c .before .before .before .before .before .before .befor
 
 returns : tie.Need-returns Inv-loop μ-loop
 returns c =
-    let after-step = c .before .before .before .before .before .before .before .before .before .before .before in
-    let at-loop = after-step .before .before .before .before .before in
-    let l = at-loop .loop in
-    leads-done _ (l .out) (l .read) (l .written) (l .inv .0) (turned after-step) (l .inv .2) (not-true _ (c .if1 .taken))
+    let turn = c .before .before .before .before .before .before .before .before .before .before .before in
+    let l = at-loop turn .loop in
+    leads-done _ (l .out) (l .read) (l .written) (l .inv .leads) (turned turn) (l .inv .within) (not-true _ (c .if1 .taken))
 
 same-length-4 : tie.Need-same-length-4 Inv-loop μ-loop
 same-length-4 c = works (c .before .before .before .before .before .before .before .before .before .before .before .before .before)
@@ -139,29 +149,27 @@ same-length-6 c = outs (c .before .before .before .before .before .before .befor
 
 returns-2 : tie.Need-returns-2 Inv-loop μ-loop
 returns-2 c =
-    let after-step = c .before .before .before .before .before .before .before .before .before .before .before .before .before in
-    let at-loop = after-step .before .before .before .before .before in
-    let l = at-loop .loop in
-    leads-full _ (l .out) (l .read) (l .written) (l .inv .0) (turned after-step) (l .inv .2) (not-false _ (c .before .before .if1 .left)) (omega arith)
+    let turn = c .before .before .before .before .before .before .before .before .before .before .before .before .before in
+    let l = at-loop turn .loop in
+    leads-full _ (l .out) (l .read) (l .written) (l .inv .leads) (turned turn) (l .inv .within) (not-false _ (c .before .before .if1 .left)) (omega arith)
 
 loop-less : tie.Need-loop-less Inv-loop μ-loop
 loop-less c = let h = inside (c .before .before .before .before .before .before .before .before .before .before .before .before .before) in omega (arith, h)
 
 loop-again : tie.Need-loop-again Inv-loop μ-loop
 loop-again c =
-    let earlier = c .before .before .before .before .before .before .before .before .before in
-    let at-loop = earlier .before .before .before .before .before .before .before .before .before in
-    let l = at-loop .loop in
-    let turn = earlier .before .before .before .before in
+    let turn = c .before .before .before .before .before .before .before .before .before .before .before .before .before in
+    let l = at-loop turn .loop in
     let h = within turn in
-    let e = whole turn in (
-      leads-more _ (l .out) (l .read) (l .written) (l .inv .0) (turned turn) (l .inv .2) (omega arith),
-      inside turn,
-      omega (arith, h, e),
-      works turn,
-      lists turn,
-      outs turn,
-    )
+    let e = whole turn in
+    record {
+      leads = leads-more _ (l .out) (l .read) (l .written) (l .inv .leads) (turned turn) (l .inv .within) (omega arith);
+      inside = inside turn;
+      within = omega (arith, h, e);
+      same-work = works turn;
+      same-list = lists turn;
+      same-out = outs turn;
+    }
 
 pub run-spec : {M : Type 1} → statement M
 run-spec =

@@ -1,12 +1,11 @@
--- `session::step` meets its contract: with too little room it stays (`stays`), else it is at the end of the input (`at-end`), at no frame (`no-frame`),
--- or at one, which `frame` does (`one-frame`). Assumes nothing.
+-- `session::step` meets its contract: with too little room it stays (`stays`), else there is no whole frame, where `halt` ends the run, or one, which
+-- `frame` does (`one-frame`). Assumes nothing.
 use Prim.Native.Nat.{_≤_}
 use native.Mathlib.Omega.{arith}
 use denote.Ref.{now}
 use lib.ListN.{length}
-use Rattle.book.specs.Causes.{number}
 use Rattle.session.specs.Turns.{room}
-use Rattle.session.specs.RunsLaws.{whole-long, whole-none, stays, at-end, no-frame, one-frame}
+use Rattle.session.specs.StepLaws.{whole-long, stays, one-frame}
 use borrow.Author.Needs.{needs}
 use Rattle.session.proofs.step.Statement.{statement}
 use Rattle.session.proofs.step.Tie as tie
@@ -19,34 +18,24 @@ returns c =
     let s = c .before .before .before .before .before .args in
     stays _ (s .state) (now (s .input)) (now (s .list)) (now (s .out)) (omega arith)
 
-returns-2 : tie.Need-returns-2
-returns-2 c =
-    let s = c .before .before .before .before .before .before .args in
-    at-end _ (s .state) (now (s .input)) (now (s .list)) (now (s .out)) (omega arith) (omega arith)
-
 front-requires : tie.Need-front-requires
 front-requires c κs = search needs
 
-put-refused-requires : tie.Need-put-refused-requires
-put-refused-requires c κs = search needs
+halt-requires : tie.Need-halt-requires
+halt-requires c κs = (omega (arith, c .before .before .front .ensures), omega arith)
 
 same-length : tie.Need-same-length
 same-length c = search needs
 
-returns-3 : tie.Need-returns-3
-unfolding number
-returns-3 c =
-    let s = c .before .before .before .before .before .before .before .before .before .before .before .before .args in
-    let e = c .before .before .before .before .before .front .ensures in
-    no-frame _ (s .state) (now (s .input)) (now (s .list)) (now (s .out)) _ _ _ (omega arith) (omega (arith, e)) (c .before .before .put-refused .ensures)
-    (whole-none (now (s .input)) (omega arith) (omega (arith, e)) _)
+returns-2 : tie.Need-returns-2
+returns-2 c = c .before .before .halt .ensures _ _ (omega arith)
 
 -- a whole frame has a length, a kind, and all its bytes
-facts : (c : tie.Else3)
-    → let start = c .before .before .before .before .before .before .before .before in
+facts : (c : tie.Else2)
+    → let start = c .before .before .before .before .before .before .before in
     (4 ≤ c .before .front .result) × (c .before .front .result ≤ length (now (start .args .input)))
 facts c =
-    let start = c .before .before .before .before .before .before .before .before in
+    let start = c .before .before .before .before .before .before .before in
     whole-long (now (start .args .input)) (c .before .front .result) (c .before .front .ensures) (omega arith)
 
 number16-requires : tie.Need-number16-requires
@@ -73,15 +62,15 @@ same-length-3 c = search needs
 same-length-4 : tie.Need-same-length-4
 same-length-4 c = search needs
 
-returns-4 : tie.Need-returns-4
-returns-4 c =
+returns-3 : tie.Need-returns-3
+returns-3 c =
     let after-frame = c .before .before .before .before .before .before .before in
     let after-number16 = after-frame .before .before .before .before .before in
     let after-front = after-number16 .before .before in
-    let start = after-front .before .before .before .before .before .before .before in
+    let start = after-front .before .before .before .before .before .before in
     let s = start .args in
     let f = after-frame .frame in
-    let enough : room (length (now (s .list))) ≤ length (now (s .out)) = omega (arith, after-front .before .before .if1 .left) in
+    let enough : room (length (now (s .list))) ≤ length (now (s .out)) = omega (arith, after-front .before .if1 .left) in
     one-frame _ (s .state) (now (s .input)) (now (s .list)) _ (now (s .out)) _ (after-front .front .result) _ (f .result)
     enough (f .kept .1 .1 .1 .1 .0) (after-front .front .ensures) (omega (arith, facts (after-number16 .before)))
     (after-number16 .number16 .ensures) (f .ensures .turns enough)
@@ -92,11 +81,10 @@ step-spec =
     (tie.spec
     add-if1
     returns
-    returns-2
     front-requires
-    put-refused-requires
+    halt-requires
     same-length
-    returns-3
+    returns-2
     number16-requires
     sub-frame
     part-frame-start
@@ -105,4 +93,4 @@ step-spec =
     same-length-2
     same-length-3
     same-length-4
-    returns-4)
+    returns-3)

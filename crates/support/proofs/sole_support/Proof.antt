@@ -11,20 +11,20 @@ size-requires : tie.Need-size-requires
 size-requires c κs = search needs
 
 returns : tie.Need-returns
-returns c = refuses-core (c .before .size .ensures .size) (c .if1 .taken)
+returns c = refuses-core _ _ _ _ (c .before .size .ensures .size) (c .if1 .taken)
 
 beyond-requires : tie.Need-beyond-requires
 beyond-requires c κs = search needs
 
 returns-2 : tie.Need-returns-2
-returns-2 c = refuses-beyond (c .before .before .before .size .ensures .size) (sym (c .before .beyond .ensures) ∙ c .if2 .taken)
+returns-2 c = refuses-beyond _ _ _ _ (c .before .before .before .size .ensures .size) (sym (c .before .beyond .ensures) ∙ c .if2 .taken)
 
 ascending-requires : tie.Need-ascending-requires
 ascending-requires c κs = search needs
 
 returns-3 : tie.Need-returns-3
 returns-3 c =
-    refuses-unordered (c .before .before .before .before .before .size .ensures .size) (c .before .before .before .before .if1 .left)
+    refuses-unordered _ _ _ _ (c .before .before .before .before .before .size .ensures .size) (c .before .before .before .before .if1 .left)
     (sym (c .before .before .before .beyond .ensures) ∙ c .before .before .if2 .left)
     (sym (c .before .ascending .ensures) ∙ not-true (c .before .ascending .result) (c .if3 .taken))
 
@@ -65,7 +65,7 @@ returns-4 c =
     let after-spared = after-compared .before .before .before in
     let after-size = after-spared .before .before .before .before .before .before in
     let start = after-size .before .before .before .before .before in
-    supports (after-size .size .ensures .size) (part-length (start .args .work .now) _ _ (after-spared .spared .ensures)) (after-compared .compared .ensures)
+    supports _ (after-size .size .ensures .size) (part-length (start .args .work .now) _ _ (after-spared .spared .ensures)) (after-compared .compared .ensures)
 
 pub sole-support-spec : {M : Type 1} → statement M
 sole-support-spec =

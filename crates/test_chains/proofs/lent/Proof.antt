@@ -1,6 +1,7 @@
 -- `lent` is safe: the steps fit the list, as `chain` promises. Assumes nothing.
 use native.Mathlib.Omega.{arith}
-use Rattle.chains.specs.Replies.{stepsLength}
+use Rattle.answers.specs.Answers.{counted}
+use Rattle.chains.specs.Replies.{chainCounted}
 use borrow.Author.Needs.{needs}
 use Rattle.test_chains.proofs.lent.Statement.{statement}
 use Rattle.test_chains.proofs.lent.Tie as tie
@@ -54,11 +55,11 @@ print-requires-6 : tie.Need-print-requires-6
 print-requires-6 c κs = search needs
 
 print-steps-requires : tie.Need-print-steps-requires
-unfolding stepsLength
+unfolding chainCounted counted
 print-steps-requires c κs =
     let after-answer = c .before .before .before .before .before .before .before in
     let after-chain = after-answer .before .before .before .before .before .before in
-    let fits = after-chain .chain .ensures .fits in
+    let fits = after-chain .chain .ensures .contained .fits in
     let steps = rw (after-answer .answer .given .1) at fits in
     let same = after-chain .chain .kept .1 .1 .1 .1 .1 .0 in
     omega arith

@@ -21,6 +21,12 @@ mul-word c = search needs
 shared-slice-read-word : tie.Need-shared-slice-read-word Inv-loop μ-loop
 shared-slice-read-word c = search needs
 
+from-of-requires : tie.Need-from-of-requires Inv-loop μ-loop
+from-of-requires c κs = search needs
+
+to-of-requires : tie.Need-to-of-requires Inv-loop μ-loop
+to-of-requires c κs = search needs
+
 pair-requires : tie.Need-pair-requires Inv-loop μ-loop
 pair-requires c κs = search needs
 
@@ -45,6 +51,8 @@ pairs-spec =
     loop-holds
     mul-word
     shared-slice-read-word
+    from-of-requires
+    to-of-requires
     pair-requires
     add-i
     loop-less

@@ -1,11 +1,10 @@
--- `close_from` marks x as seen, beyond the records (`half-beyond`), and searches on from it. Assumes nothing.
-use mathlib.Core.Path.{_≡_, ap, _∙_}
-use Prim.Native.Nat.{ℕ, _+_}
+-- `close_from` marks x as seen, beyond the records (`onward-beyond`), and searches on from it. Assumes nothing.
+use mathlib.Core.Path.{_≡_, _∙_}
+use Prim.Native.Nat.{_+_}
 use native.Mathlib.Omega.{arith}
 use borrow.Author.Needs.{needs}
 use lib.ListN.{length, set, length-set}
-use Rattle.k2.specs.Bits.{bitAt}
-use Rattle.grid.proofs.ClosureLaws.{half-beyond, put-keeps}
+use Rattle.grid.proofs.ClosureLaws.{onward-same, onward-next, onward-beyond}
 use Rattle.grid.proofs.closing.close_from.Statement.{statement}
 use Rattle.grid.proofs.closing.close_from.Tie as tie
 
@@ -19,7 +18,7 @@ same-length : tie.Need-same-length
 same-length c = search needs
 
 returns : tie.Need-returns
-returns c = search needs
+returns c = onward-same _ _ _ _ _
 
 add-set-bit : tie.Need-add-set-bit
 add-set-bit c = search needs
@@ -67,12 +66,10 @@ returns-2 c =
     let after-set-bit = after-search-on .before .before .before .before .before .before .before in
     let start = after-set-bit .before .before .before .before .before .before .before .before .before in
     let a = start .args in
-    let s = after-set-bit .set-bit .ensures in
-    let m = after-search-on .search-on .ensures in
-    let l = start .pre .0 in (
-      λ b A H. m .0 b A (half-beyond (a .n) b (bitAt (a .marks .now)) _ (1024 + a .x) _ (omega (arith, l)) s H),
-      λ u h. m .1 u (ap (λ (f : ℕ → ℕ). f u) s ∙ put-keeps (bitAt (a .marks .now)) (1024 + a .x) u h),
-    )
+    let l = start .pre .0 in
+    onward-next
+    (onward-beyond (a .n) (a .w) (1024 + a .x) (a .marks .now) _ (a .cells .now) (a .masks .now) (omega (arith, l)) (after-set-bit .set-bit .ensures))
+    (after-search-on .search-on .ensures)
 
 pub close-from-spec : {M : Type 1} → statement M
 close-from-spec =

@@ -1,4 +1,4 @@
--- `close_once` closes the row and notes it (`half-more`). Assumes nothing.
+-- `close_once` closes the row and marks it (`onward-row`). Assumes nothing.
 use mathlib.Core.Path.{_≡_, sym, ap, _∙_}
 use Prim.Native.Nat.{ℕ}
 use native.Mathlib.Omega.{arith}
@@ -6,12 +6,12 @@ use borrow.Author.Needs.{needs}
 use Rattle.k2.specs.Bits.{bitAt}
 use Rattle.k2.specs.BitLaws.{bit-lt}
 use Rattle.bits.specs.BitSetLaws.{put-at}
-use Rattle.grid.proofs.ClosureLaws.{half-next, put-keeps}
+use Rattle.grid.proofs.ClosureLaws.{onward-same, onward-row}
 use Rattle.grid.proofs.closing.close_once.Statement.{statement}
 use Rattle.grid.proofs.closing.close_once.Tie as tie
 
 returns : tie.Need-returns
-returns c = (λ a A H. H, λ u h. h, λ h. absurd (omega arith))
+returns c = (onward-same _ _ _ _ _, λ h. absurd (omega arith))
 
 bit-requires : tie.Need-bit-requires
 bit-requires c κs = search needs
@@ -20,7 +20,7 @@ same-length : tie.Need-same-length
 same-length c = search needs
 
 returns-2 : tie.Need-returns-2
-returns-2 c = (λ a A H. H, λ u h. h, λ h. sym (c .before .bit .ensures) ∙ c .if2 .taken)
+returns-2 c = (onward-same _ _ _ _ _, λ h. sym (c .before .bit .ensures) ∙ c .if2 .taken)
 
 close-row-requires : tie.Need-close-row-requires
 close-row-requires c κs = search needs
@@ -43,11 +43,9 @@ returns-3 c =
     let else2 = after-close-row .before .before .before .before in
     let start = else2 .before .before .before .before .before .before .before in
     let a = start .args in
-    let r = after-close-row .close-row .ensures in
     let s = c .before .before .set-bit .ensures in
     let none : bitAt (a .closed .now) (a .x) ≡ 0 = omega (arith, else2 .before .bit .ensures, else2 .if2 .left, bit-lt (a .closed .now) (a .x)) in (
-      λ b A H. half-next (a .n) b (bitAt (a .closed .now)) _ (a .x) _ _ s (r .0) (r .1 b A H none) H,
-      λ u h. ap (λ (f : ℕ → ℕ). f u) s ∙ put-keeps (bitAt (a .closed .now)) (a .x) u h,
+      onward-row (a .n) (a .w) (a .x) (a .closed .now) _ (a .cells .now) (a .masks .now) _ _ none s (after-close-row .close-row .ensures),
       λ h. ap (λ (f : ℕ → ℕ). f (a .x)) s ∙ put-at (a .x) 1 (bitAt (a .closed .now)),
     )
 

@@ -1,16 +1,14 @@
--- `deeper` marks what it finds, beyond the records (`half-beyond`), or closes the row. Assumes nothing.
-use mathlib.Core.Path.{ap, _∙_}
-use Prim.Native.Nat.{ℕ, _+_}
+-- `deeper` marks what it finds, beyond the records (`onward-beyond`), or closes the row. Assumes nothing.
+use Prim.Native.Nat.{_+_}
 use native.Mathlib.Omega.{arith}
 use borrow.Author.Needs.{needs}
-use Rattle.k2.specs.Bits.{bitAt}
 use Rattle.grid.proofs.RelationLaws.{rows-apart, unit-fits}
-use Rattle.grid.proofs.ClosureLaws.{half-beyond, put-keeps}
+use Rattle.grid.proofs.ClosureLaws.{onward-same, onward-beyond}
 use Rattle.grid.proofs.closing.deeper.Statement.{statement}
 use Rattle.grid.proofs.closing.deeper.Tie as tie
 
 returns : tie.Need-returns
-returns c = search needs
+returns c = (omega arith, onward-same _ _ _ _ _)
 
 mul-unseen : tie.Need-mul-unseen
 mul-unseen c = search needs
@@ -43,12 +41,8 @@ same-length-2 c = search needs
 returns-2 : tie.Need-returns-2
 returns-2 c =
     let a = c .before .before .before .before .before .before .before .before .before .before .before .before .before .args in
-    let s = c .before .before .set-bit .ensures in
-    let z = c .before .before .before .before .before .unseen .result in (
-      omega arith,
-      λ b A H. half-beyond (a .n) b (bitAt (a .marks .now)) _ (1024 + z) _ (omega arith) s H,
-      λ u h. ap (λ (f : ℕ → ℕ). f u) s ∙ put-keeps (bitAt (a .marks .now)) (1024 + z) u h,
-    )
+    let z = c .before .before .before .before .before .unseen .result in
+    (omega arith, onward-beyond (a .n) (a .w) (1024 + z) (a .marks .now) _ (a .cells .now) (a .masks .now) (omega arith) (c .before .before .set-bit .ensures))
 
 close-once-requires : tie.Need-close-once-requires
 close-once-requires c κs = search needs
@@ -63,7 +57,7 @@ same-length-5 : tie.Need-same-length-5
 same-length-5 c = search needs
 
 returns-3 : tie.Need-returns-3
-returns-3 c = search needs
+returns-3 c = (omega arith, c .before .before .before .before .before .before .close-once .ensures .0)
 
 pub deeper-spec : {M : Type 1} → statement M
 deeper-spec =

@@ -1,95 +1,61 @@
--- `mark` merges row z into the row of what is seen, if row z is whole, and puts in z itself. Assumes nothing.
-use mathlib.Core.Path.{_≡_, refl, sym, _∙_}
-use mathlib.Core.Logic.{inr, ⊎-elim}
-use Prim.Native.Nat.{_*_, _%_}
+-- `mark` puts z into what is seen, and row z, if it is whole. Assumes nothing.
+use mathlib.Core.Path.{_≡_, refl, sym, ap, ap₂, _∙_}
+use Prim.Native.Nat.{ℕ, _*_, max}
 use native.Mathlib.Omega.{arith}
 use borrow.Author.Needs.{needs}
-use lib.Dec.{eqb}
-use lib.ListN.{length}
 use borrow.Author.Tests.{eq-eqb, ne-eqb}
+use lib.Dec.{eqb}
 use Rattle.book.specs.Basics.{pick}
-use Rattle.k2.specs.DigitLaws.{one-shl}
-use Rattle.grid.specs.Grid.{firstRows}
-use Rattle.grid.specs.Steps.{Merged}
-use Rattle.grid.proofs.RowLaws.{merged-none, merged-more, merged-to}
-use Rattle.grid.proofs.RelationLaws.{rows-apart, unit-fits}
+use Rattle.k2.specs.Bits.{bitAt}
+use Rattle.bits.specs.BitSets.{put}
+use Rattle.grid.specs.Grid.{rowOf}
 use Rattle.grid.proofs.closing.mark.Statement.{statement}
 use Rattle.grid.proofs.closing.mark.Tie as tie
 
-mul-at : tie.Need-mul-at
-mul-at c = let a = c .before .before .args in omega (arith, unit-fits (a .n) (a .w) (omega arith) (omega arith))
-
-mul-source : tie.Need-mul-source
-mul-source c = search needs
-
-slice-read-source : tie.Need-slice-read-source
-slice-read-source c = search needs
-
-mul-merge : tie.Need-mul-merge
-mul-merge c =
-    let a = c .before .before .before .before .before .before .args in
-    omega (arith, unit-fits (a .n) (a .w) (omega arith) (omega arith), rows-apart (a .z) (a .n) (a .w) (omega arith))
-
-merge-requires : tie.Need-merge-requires
-merge-requires c κs =
-    let a = c .before .before .before .before .before .before .args in
-    (omega arith, omega arith, omega arith, omega (arith, rows-apart (a .z) (a .n) (a .w) (omega arith)))
-
--- all that row z leads to is seen, if it is whole
-whole : (c : tie.Joined1) → let a = c .before .before .before .args in
-    (length (c .if1 .cells) ≡ length (a .cells .now)) × (length (c .if1 .masks) ≡ length (a .masks .now))
-    × Merged (a .w) (a .n) (a .n * a .w) (λ y. pick (eqb (a .whole) 1) (firstRows (a .w) (a .cells .now) (a .masks .now) (a .z) y) 0)
-    (a .cells .now) (a .masks .now) (c .if1 .cells) (c .if1 .masks)
-whole c =
-    let a = c .before .before .before .args in
-    ⊎-elim
-    (λ v. (
-      rw (v .9) (v .4 .kept .0),
-      rw (v .10) (v .4 .kept .1 .0),
-      rw (v .9, v .10) (merged-to (v .4 .ensures (inr (omega (arith, rows-apart (a .z) (a .n) (a .w) (omega arith))))) _
-          (λ y h. unfold firstRows in (sym (rw (eq-eqb (a .whole) 1 (v .0 .taken)) refl)))),
-    ))
-    (λ v. (
-      rw (v .1) refl,
-      rw (v .2) refl,
-      rw (v .1, v .2) (merged-none (a .w) (a .n) (a .n * a .w) _ (a .cells .now) (a .masks .now) (λ y. rw (ne-eqb (a .whole) 1 (v .0 .left)) refl)),
-    ))
-    (c .if1 .came)
-
-shl-put : tie.Need-shl-put
-shl-put c = search needs
-
-put-requires : tie.Need-put-requires
-put-requires c κs =
-    let a = c .before .before .before .before .before .args in
-    let f = whole (c .before .before) in
-    (omega (arith, f .1), omega arith, omega (arith, f .0))
+set-bit-requires : tie.Need-set-bit-requires
+set-bit-requires c κs = search needs
 
 same-length : tie.Need-same-length
-same-length c = c .before .before .before .before .put .kept .0 ∙ whole (c .before .before .before .before .before .before .before) .0
+same-length c = search needs
+
+-- z alone is seen
+returns : tie.Need-returns
+returns c = λ y h.
+    let a = c .before .before .before .before .before .before .before .args in
+    let none : pick (eqb (a .whole) 1) (rowOf (a .cells .now) (a .z * a .w) (a .mask) y) 0 ≡ 0 = rw (ne-eqb (a .whole) 1 (c .if1 .taken)) refl in
+    ap (λ (f : ℕ → ℕ). f y) (c .before .before .before .set-bit .ensures) ∙ sym (ap (max (put (a .z) 1 (bitAt (a .seen .now)) y)) none ∙ omega arith)
+
+mul-add-row : tie.Need-mul-add-row
+mul-add-row c =
+    let start = c .before .before .before .before .before .before .before in
+    let a = start .args in omega (arith, start .pre)
+
+add-row-requires : tie.Need-add-row-requires
+add-row-requires c κs = search needs
 
 same-length-2 : tie.Need-same-length-2
-same-length-2 c = c .before .before .before .before .put .kept .1 .0 ∙ whole (c .before .before .before .before .before .before .before) .1
+same-length-2 c = search needs
 
-returns : tie.Need-returns
-returns c =
-    let after-put = c .before .before .before .before in
-    let joined1 = after-put .before .before .before in
-    let start = joined1 .before .before .before in
+returns-2 : tie.Need-returns-2
+returns-2 c =
+    let else1 = c .before .before .before .before in
+    let after-set-bit = else1 .before .before .before in
+    let start = after-set-bit .before .before .before .before in
+    λ y h.
     let a = start .args in
-    merged-more (whole joined1 .2) (rw (one-shl (a .z % 64) (omega arith)) at (after-put .put .ensures (a .w) (omega arith))) _ (λ y h. refl)
+    let one : a .whole ≡ 1 = omega (arith, else1 .if1 .left) in
+    let all : pick (eqb (a .whole) 1) (rowOf (a .cells .now) (a .z * a .w) (a .mask) y) 0 ≡ rowOf (a .cells .now) (a .z * a .w) (a .mask) y =
+    rw (eq-eqb (a .whole) 1 one) refl in
+    c .before .before .add-row .ensures y h ∙ ap₂ max (ap (λ (f : ℕ → ℕ). f y) (after-set-bit .set-bit .ensures)) (sym all)
 
 pub mark-spec : {M : Type 1} → statement M
 mark-spec =
     tie.close
     (tie.spec
-    mul-at
-    mul-source
-    slice-read-source
-    mul-merge
-    merge-requires
-    shl-put
-    put-requires
+    set-bit-requires
     same-length
+    returns
+    mul-add-row
+    add-row-requires
     same-length-2
-    returns)
+    returns-2)

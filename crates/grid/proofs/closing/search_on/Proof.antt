@@ -1,27 +1,24 @@
--- `search_on` takes steps of the search in depth. The loop's invariant: each row is closed or as it was, as the marks say (`Half`), and the depth is at
+-- `search_on` takes steps of the search in depth. The loop's invariant: the rows are on from where they were (`Onward`), and the depth is at
 -- most the steps taken and one. The measure is the steps left. Assumes nothing.
 use mathlib.Core.Path.{_≡_, refl, _∙_}
-use Prim.Native.Nat.{ℕ, _+_, _-_, _≤_}
+use Prim.Native.Nat.{_+_, _-_, _≤_}
 use native.Mathlib.Omega.{arith}
 use lib.ListN.{length}
-use Rattle.k2.specs.Bits.{bitAt}
-use Rattle.k2.specs.PairSets.{Cells, IsSet}
-use Rattle.grid.specs.Grid.{firstRows}
-use Rattle.grid.specs.Steps.{Half}
+use Rattle.grid.specs.Steps.{Onward}
+use Rattle.grid.proofs.ClosureLaws.{onward-same, onward-next}
 use Rattle.grid.proofs.closing.search_on.Statement.{statement}
 use Rattle.grid.proofs.closing.search_on.Tie as tie
 
 abbrev Inv-loop : tie.InvT-loop
 Inv-loop cells₀ masks₀ n w marks₀ stack₀ depth₀ step₀ cells masks marks stack depth step =
     (depth ≤ step + 1) × (length cells ≡ length cells₀) × (length masks ≡ length masks₀) × (length marks ≡ length marks₀) × (length stack ≡ length stack₀)
-    × ((a : Cells) → IsSet n a → Half n a (bitAt marks₀) (firstRows w cells₀ masks₀) → Half n a (bitAt marks) (firstRows w cells masks))
-    × ((u : ℕ) → bitAt marks₀ u ≡ 1 → bitAt marks u ≡ 1)
+    × Onward n w marks₀ cells₀ masks₀ marks cells masks
 
 abbrev μ-loop : tie.MeasureT-loop
 μ-loop cells₀ masks₀ n w marks₀ stack₀ depth₀ step₀ cells masks marks stack depth step = 2048 - step
 
 loop-holds : tie.Need-loop-holds Inv-loop μ-loop
-loop-holds c = (omega arith, refl, refl, refl, refl, λ a A H. H, λ u h. h)
+loop-holds c = (omega arith, refl, refl, refl, refl, onward-same _ _ _ _ _)
 
 same-length : tie.Need-same-length Inv-loop μ-loop
 same-length c = c .before .before .loop .inv .1
@@ -36,7 +33,7 @@ same-length-4 : tie.Need-same-length-4 Inv-loop μ-loop
 same-length-4 c = c .before .before .loop .inv .4
 
 returns : tie.Need-returns Inv-loop μ-loop
-returns c = (c .before .before .loop .inv .5, c .before .before .loop .inv .6)
+returns c = c .before .before .loop .inv .5
 
 advance-requires : tie.Need-advance-requires Inv-loop μ-loop
 advance-requires c κs =
@@ -59,8 +56,7 @@ loop-again c =
       m .kept .1 .0 ∙ l .inv .2,
       m .kept .1 .1 .1 .1 .0 ∙ l .inv .3,
       m .kept .1 .1 .1 .1 .1 .0 ∙ l .inv .4,
-      λ a A H. m .ensures .1 a A (l .inv .5 a A H),
-      λ u h. m .ensures .2 u (l .inv .6 u h),
+      onward-next (l .inv .5) (m .ensures .1),
     )
 
 same-length-5 : tie.Need-same-length-5 Inv-loop μ-loop
@@ -76,7 +72,7 @@ same-length-8 : tie.Need-same-length-8 Inv-loop μ-loop
 same-length-8 c = c .before .loop .inv .4
 
 returns-2 : tie.Need-returns-2 Inv-loop μ-loop
-returns-2 c = (c .before .loop .inv .5, c .before .loop .inv .6)
+returns-2 c = c .before .loop .inv .5
 
 pub search-on-spec : {M : Type 1} → statement M
 search-on-spec =

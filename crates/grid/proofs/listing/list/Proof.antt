@@ -7,8 +7,9 @@ use borrow.Author.Needs.{needs}
 use lib.ListN.{length}
 use Rattle.k2.specs.PairSets.{Cells, rowsPairs}
 use Rattle.grid.specs.Grid.{first}
-use Rattle.grid.specs.Steps.{Grown}
-use Rattle.grid.proofs.ListingLaws.{rows-none, rows-next, rows-all, grown-none, grown-more, grown-to, grown-all}
+use Rattle.answers.specs.Listing.{Grown}
+use Rattle.answers.specs.ListingLaws.{grown-none, grown-more, grown-to, grown-all}
+use Rattle.grid.proofs.ListingLaws.{rows-none, rows-next, rows-all}
 use Rattle.grid.proofs.listing.list.Statement.{statement}
 use Rattle.grid.proofs.listing.list.Tie as tie
 

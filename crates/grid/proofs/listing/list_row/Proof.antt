@@ -7,9 +7,11 @@ use borrow.Author.Needs.{needs}
 use lib.ListN.{length}
 use Rattle.k2.specs.Bits.{digit}
 use Rattle.grid.specs.Grid.{rowOf}
-use Rattle.grid.specs.Steps.{cutRow, columns, Grown}
+use Rattle.grid.specs.Steps.{cutRow, columns}
 use Rattle.grid.proofs.RelationLaws.{rows-apart, unit-fits}
-use Rattle.grid.proofs.ListingLaws.{columns-none, columns-gap, cut-gap, cut-word, cut-all, grown-none, grown-more, grown-to}
+use Rattle.answers.specs.Listing.{Grown}
+use Rattle.answers.specs.ListingLaws.{grown-none, grown-more, grown-to}
+use Rattle.grid.proofs.ListingLaws.{columns-none, columns-gap, cut-gap, cut-word, cut-all}
 use Rattle.grid.proofs.listing.list_row.Statement.{statement}
 use Rattle.grid.proofs.listing.list_row.Tie as tie
 

@@ -9,8 +9,10 @@ use borrow.Author.Needs.{needs}
 use lib.ListN.{length}
 use lib.Pow.{shr-le}
 use Rattle.k2.specs.Bits.{digit}
-use Rattle.grid.specs.Steps.{columns, Grown}
-use Rattle.grid.proofs.ListingLaws.{columns-none, grown-none, grown-more, grown-to, word-inside, word-found, word-rest, word-done}
+use Rattle.grid.specs.Steps.{columns}
+use Rattle.answers.specs.Listing.{Grown}
+use Rattle.answers.specs.ListingLaws.{grown-none, grown-more, grown-to}
+use Rattle.grid.proofs.ListingLaws.{columns-none, word-inside, word-found, word-rest, word-done}
 use Rattle.grid.proofs.listing.list_word.Statement.{statement}
 use Rattle.grid.proofs.listing.list_word.Tie as tie
 
@@ -52,11 +54,11 @@ inside c =
 add-p : tie.Need-add-p Inv-loop μ-loop
 add-p c = omega (arith, inside c)
 
-cast-write : tie.Need-cast-write Inv-loop μ-loop
-cast-write c = omega (arith, inside (c .before))
+cast-put-u32 : tie.Need-cast-put-u32 Inv-loop μ-loop
+cast-put-u32 c = omega (arith, inside (c .before))
 
-write-requires : tie.Need-write-requires Inv-loop μ-loop
-write-requires c κs = tt
+put-u32-requires : tie.Need-put-u32-requires Inv-loop μ-loop
+put-u32-requires c κs = tt
 
 add-s : tie.Need-add-s Inv-loop μ-loop
 add-s c = omega (arith, inside (c .before .before .before .before))
@@ -72,8 +74,8 @@ loop-less c = omega (arith, inside (c .before .before .before .before))
 
 loop-again : tie.Need-loop-again Inv-loop μ-loop
 loop-again c =
-    let after-write = c .before .before in
-    let after-lowest = after-write .before .before in
+    let after-put-u32 = c .before .before in
+    let after-lowest = after-put-u32 .before .before in
     let start = after-lowest .before .before .before .before in
     let a = start .args in
     let l = after-lowest .before .before .loop in
@@ -86,12 +88,12 @@ loop-again c =
     let r = word-rest (a .word) m (l .rest) k (a .at) (omega arith) (l .inv .2) (small after-lowest) t L in
     let g : m + k + 1 ≡ l .p + k + 1 - a .at = omega (arith, l .inv .0) in
     let p : a .at + (m + k) ≡ l .p + k = omega (arith, l .inv .0) in
-    let W = after-write .write in (
+    let W = after-put-u32 .put-u32 in (
       omega (arith, l .inv .0),
       omega (arith, i),
       r ∙ ap (λ (x : ℕ). a .word / 2 ^ x) g,
       omega (arith, l .inv .3, l .inv .0),
-      after-write .write .kept .0 ∙ l .inv .4,
+      after-put-u32 .put-u32 .kept .0 ∙ l .inv .4,
       grown-more (a .t) (l .s) (l .s + 1) _ _ _ (a .out .now) (l .out) _ (l .inv .4) (l .inv .5) (W .ensures)
           (ap (columns (digit (a .word)) (a .at)) (sym g) ∙ f ∙ ap (λ (x : ℕ). columns (digit (a .word)) (a .at) m ++ (x ∷ [])) p),
     )
@@ -116,8 +118,8 @@ list-word-spec =
     loop-holds
     lowest-requires
     add-p
-    cast-write
-    write-requires
+    cast-put-u32
+    put-u32-requires
     add-s
     add-p-2
     shr-rest

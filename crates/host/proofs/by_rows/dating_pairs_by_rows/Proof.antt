@@ -24,8 +24,8 @@ returns c =
 pairs-by-rows-requires : tie.Need-pairs-by-rows-requires
 pairs-by-rows-requires c κs = search needs
 
-told-pairs-requires : tie.Need-told-pairs-requires
-told-pairs-requires c κs = search needs
+told-requires : tie.Need-told-requires
+told-requires c κs = search needs
 
 same-length : tie.Need-same-length
 same-length c = search needs
@@ -38,7 +38,7 @@ returns-2 c =
     let after-pairs-by-rows = c .before .before .before .before .before in
     let else1 = after-pairs-by-rows .before .before .before in
     asked (load-some (else1 .before .before .load .ensures) (else1 .before .number-of .ensures) (else1 .if1 .left))
-    (after-pairs-by-rows .pairs-by-rows .result) (after-pairs-by-rows .pairs-by-rows .ensures) (c .told-pairs .ensures)
+    (after-pairs-by-rows .pairs-by-rows .result) (after-pairs-by-rows .pairs-by-rows .ensures) (c .told .ensures)
 
 pub dating-pairs-by-rows-spec : {M : Type 1} → statement M
 dating-pairs-by-rows-spec =
@@ -49,7 +49,7 @@ dating-pairs-by-rows-spec =
     told-refusal-requires
     returns
     pairs-by-rows-requires
-    told-pairs-requires
+    told-requires
     same-length
     same-length-2
     returns-2)

@@ -26,7 +26,7 @@ generations-requires : tie.Need-generations-requires
 generations-requires c κs = search needs
 
 told-generations-requires : tie.Need-told-generations-requires
-told-generations-requires c κs = omega (arith, c .before .before .before .before .generations .ensures .fits)
+told-generations-requires c κs = omega (arith, c .before .before .before .before .generations .ensures .contained .fits)
 
 same-length : tie.Need-same-length
 same-length c = search needs

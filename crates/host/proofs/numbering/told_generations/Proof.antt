@@ -2,7 +2,8 @@
 use mathlib.Core.Path.{sym, ap, _∙_, subst}
 use Prim.Native.Nat.{_^_, _≤_}
 use native.Mathlib.Omega.{arith}
-use Rattle.generations.specs.Generating.{answerLength}
+use Rattle.answers.specs.Answers.{counted}
+use Rattle.generations.specs.Generating.{generationsCounted}
 use Rattle.generations.specs.declared.GenerationsAnswer.{GenerationsAnswer}
 use Rattle.host.specs.Generations.{toldGenerations}
 use borrow.Author.Needs.{needs}
@@ -16,9 +17,9 @@ enum-known-answer-2 : tie.Need-enum-known-answer-2
 enum-known-answer-2 c = search needs
 
 add-result : tie.Need-add-result
-unfolding answerLength
+unfolding counted generationsCounted
 add-result c =
-    let z = subst (λ (a : GenerationsAnswer). answerLength a ≤ 2 ^ 62) (c .before .answer2 .given .1) (c .before .before .before .pre) in
+    let z = subst (λ (a : GenerationsAnswer). counted (generationsCounted a) ≤ 2 ^ 62) (c .before .answer2 .given .1) (c .before .before .before .pre) in
     omega arith
 
 enum-known-answer-3 : tie.Need-enum-known-answer-3

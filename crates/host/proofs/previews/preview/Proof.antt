@@ -24,8 +24,8 @@ returns c =
 preview-requires : tie.Need-preview-requires
 preview-requires c κs = search needs
 
-told-pairs-requires : tie.Need-told-pairs-requires
-told-pairs-requires c κs = search needs
+told-requires : tie.Need-told-requires
+told-requires c κs = search needs
 
 same-length : tie.Need-same-length
 same-length c = search needs
@@ -38,7 +38,7 @@ returns-2 c =
     let after-preview = c .before .before .before .before .before in
     let else1 = after-preview .before .before .before .before in
     asked (load-some (else1 .before .before .load .ensures) (else1 .before .number-of .ensures) (else1 .if1 .left))
-    (after-preview .preview .result) (after-preview .preview .ensures) (c .told-pairs .ensures)
+    (after-preview .preview .result) (after-preview .preview .ensures) (c .told .ensures)
 
 pub preview-spec : {M : Type 1} → statement M
 preview-spec =
@@ -49,7 +49,7 @@ preview-spec =
     told-refusal-requires
     returns
     preview-requires
-    told-pairs-requires
+    told-requires
     same-length
     same-length-2
     returns-2)

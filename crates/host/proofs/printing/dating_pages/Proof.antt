@@ -24,8 +24,8 @@ returns c =
 print-requires : tie.Need-print-requires
 print-requires c κs = search needs
 
-told-bytes-requires : tie.Need-told-bytes-requires
-told-bytes-requires c κs = search needs
+told-requires : tie.Need-told-requires
+told-requires c κs = search needs
 
 same-length : tie.Need-same-length
 same-length c = search needs
@@ -38,7 +38,7 @@ returns-2 c =
     let after-print = c .before .before .before .before .before in
     let else1 = after-print .before .before .before in
     asked (load-some (else1 .before .before .load .ensures) (else1 .before .number-of .ensures) (else1 .if1 .left))
-    (after-print .print .result) (after-print .print .ensures) (c .told-bytes .ensures)
+    (after-print .print .result) (after-print .print .ensures) (c .told .ensures)
 
 pub dating-pages-spec : {M : Type 1} → statement M
 dating-pages-spec =
@@ -49,7 +49,7 @@ dating-pages-spec =
     told-refusal-requires
     returns
     print-requires
-    told-bytes-requires
+    told-requires
     same-length
     same-length-2
     returns-2)

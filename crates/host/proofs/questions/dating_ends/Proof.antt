@@ -21,11 +21,11 @@ returns c =
     asked-foreign (load-none (c .before .before .before .load .ensures) (c .before .before .number-of .ensures) (c .before .if1 .taken))
     (c .told-refusal .ensures) refl
 
-ends-of-requires : tie.Need-ends-of-requires
-ends-of-requires c κs = search needs
+ends-requires : tie.Need-ends-requires
+ends-requires c κs = search needs
 
-told-ends-requires : tie.Need-told-ends-requires
-told-ends-requires c κs = search needs
+told-requires : tie.Need-told-requires
+told-requires c κs = search needs
 
 same-length : tie.Need-same-length
 same-length c = search needs
@@ -35,7 +35,7 @@ returns-2 c =
     let after-ends = c .before .before .before in
     let else1 = after-ends .before .before in
     asked (load-some (else1 .before .before .load .ensures) (else1 .before .number-of .ensures) (else1 .if1 .left))
-    (after-ends .ends-of .result) (after-ends .ends-of .ensures) (c .told-ends .ensures)
+    (after-ends .ends .result) (after-ends .ends .ensures) (c .told .ensures)
 
 pub dating-ends-spec : {M : Type 1} → statement M
 dating-ends-spec =
@@ -45,7 +45,7 @@ dating-ends-spec =
     number-of-requires
     told-refusal-requires
     returns
-    ends-of-requires
-    told-ends-requires
+    ends-requires
+    told-requires
     same-length
     returns-2)

@@ -1,31 +1,19 @@
--- `host::questions::dating_locked` carries the promise of `engine::is_locked` over to words. Assumes nothing.
-use Rattle.host.proofs.CarryLaws.{load-none, load-some, lock-foreign, locked-word}
+-- `host::questions::dating_locked` tells by a bit whether the record has the mark of a locked one. Assumes nothing.
+use Rattle.register.specs.Marks.{lockMark}
+use Rattle.register.specs.WordLaws.{keeps-locking}
+use Rattle.host.proofs.CarryLaws.{mark-told}
 use borrow.Author.Needs.{needs}
 use Rattle.host.proofs.questions.dating_locked.Statement.{statement}
 use Rattle.host.proofs.questions.dating_locked.Tie as tie
 
-load-requires : tie.Need-load-requires
-load-requires c κs = search needs
-
-number-of-requires : tie.Need-number-of-requires
-number-of-requires c κs = search needs
-
-returns : tie.Need-returns
-returns c = lock-foreign _ (load-none (c .before .before .load .ensures) (c .before .number-of .ensures) (c .if1 .taken))
-
-is-locked-requires : tie.Need-is-locked-requires
-is-locked-requires c κs = search needs
+has-mark-requires : tie.Need-has-mark-requires
+has-mark-requires c κs = search needs
 
 cast-result : tie.Need-cast-result
 cast-result c = search needs
 
-returns-2 : tie.Need-returns-2
-returns-2 c =
-    locked-word (c .is-locked .result)
-    (load-some (c .before .before .before .before .load .ensures) (c .before .before .before .number-of .ensures) (c .before .before .if1 .left))
-    (c .is-locked .ensures)
+returns : tie.Need-returns
+returns c = let x = c .before .before .args .«record» in mark-told lockMark x (c .has-mark .result) (λ r w. keeps-locking w x) (c .has-mark .ensures)
 
 pub dating-locked-spec : {M : Type 1} → statement M
-dating-locked-spec =
-    tie.close
-    (tie.spec load-requires number-of-requires returns is-locked-requires cast-result returns-2)
+dating-locked-spec = tie.close (tie.spec has-mark-requires cast-result returns)

@@ -24,8 +24,8 @@ returns c =
 pairs-requires : tie.Need-pairs-requires
 pairs-requires c κs = search needs
 
-told-pairs-requires : tie.Need-told-pairs-requires
-told-pairs-requires c κs = search needs
+told-requires : tie.Need-told-requires
+told-requires c κs = search needs
 
 same-length : tie.Need-same-length
 same-length c = search needs
@@ -38,7 +38,7 @@ returns-2 c =
     let after-pairs = c .before .before .before .before .before in
     let else1 = after-pairs .before .before .before in
     asked (load-some (else1 .before .before .load .ensures) (else1 .before .number-of .ensures) (else1 .if1 .left))
-    (after-pairs .pairs .result) (after-pairs .pairs .ensures) (c .told-pairs .ensures)
+    (after-pairs .pairs .result) (after-pairs .pairs .ensures) (c .told .ensures)
 
 pub dating-pairs-spec : {M : Type 1} → statement M
 dating-pairs-spec =
@@ -49,7 +49,7 @@ dating-pairs-spec =
     told-refusal-requires
     returns
     pairs-requires
-    told-pairs-requires
+    told-requires
     same-length
     same-length-2
     returns-2)

@@ -21,11 +21,11 @@ returns c =
     asked-foreign (load-none (c .before .before .before .load .ensures) (c .before .before .number-of .ensures) (c .before .if1 .taken))
     (c .told-refusal .ensures) refl
 
-starts-of-requires : tie.Need-starts-of-requires
-starts-of-requires c κs = search needs
+starts-requires : tie.Need-starts-requires
+starts-requires c κs = search needs
 
-told-ends-requires : tie.Need-told-ends-requires
-told-ends-requires c κs = search needs
+told-requires : tie.Need-told-requires
+told-requires c κs = search needs
 
 same-length : tie.Need-same-length
 same-length c = search needs
@@ -35,7 +35,7 @@ returns-2 c =
     let after-starts = c .before .before .before in
     let else1 = after-starts .before .before in
     asked (load-some (else1 .before .before .load .ensures) (else1 .before .number-of .ensures) (else1 .if1 .left))
-    (after-starts .starts-of .result) (after-starts .starts-of .ensures) (c .told-ends .ensures)
+    (after-starts .starts .result) (after-starts .starts .ensures) (c .told .ensures)
 
 pub dating-starts-spec : {M : Type 1} → statement M
 dating-starts-spec =
@@ -45,7 +45,7 @@ dating-starts-spec =
     number-of-requires
     told-refusal-requires
     returns
-    starts-of-requires
-    told-ends-requires
+    starts-requires
+    told-requires
     same-length
     returns-2)

@@ -1,20 +1,35 @@
 -- `host::reading::told_words` copies the first of the words, as many as the list takes, to its front. Assumes nothing.
-use mathlib.Core.Path.{_≡_, sym}
+use mathlib.Core.Path.{_≡_, refl, sym}
 use Prim.Native.Nat.{_≤_}
 use native.Mathlib.Omega.{arith}
-use denote.Ref.{now}
 use lib.ListN.{length, take}
 use lib.Seq.{length-take-le}
-use Rattle.host.proofs.CarryLaws.{copied}
+use borrow.Author.Tests.{not-true, not-false}
+use Rattle.book.specs.Causes.{number}
+use Rattle.answers.specs.declared.Counted.the-variants.{Count}
+use Rattle.host.proofs.CarryLaws.{asked-foreign, asked, copied}
 use borrow.Author.Needs.{needs}
 use Rattle.host.proofs.reading.told_words.Statement.{statement}
 use Rattle.host.proofs.reading.told_words.Tie as tie
+
+is-register-requires : tie.Need-is-register-requires
+is-register-requires c κs = search needs
+
+told-refusal-requires : tie.Need-told-refusal-requires
+told-refusal-requires c κs = search needs
+
+returns : tie.Need-returns
+unfolding number
+returns c =
+    asked-foreign (λ r k. c .before .before .is-register .ensures .none (not-true _ (c .before .if1 .taken)) (r, k))
+    (c .told-refusal .ensures) refl
 
 fitting-requires : tie.Need-fitting-requires
 fitting-requires c κs = search needs
 
 -- the words taken are as many as were found to fit
-long : (c : tie.After-fitting) → length (take (c .fitting .result) (now (c .before .before .before .args .words))) ≡ c .fitting .result
+long : (c : tie.After-fitting)
+    → length (take (c .fitting .result) (c .before .before .before .before .before .before .args .words .now)) ≡ c .fitting .result
 long c = length-take-le _ _ (c .fitting .ensures .0)
 
 slice-aggregate-copy : tie.Need-slice-aggregate-copy
@@ -26,14 +41,26 @@ copy-requires c κs = search needs
 same-length : tie.Need-same-length
 same-length c = search needs
 
-returns : tie.Need-returns
-returns c =
+returns-2 : tie.Need-returns-2
+returns-2 c =
     let after-fitting = c .before .before .before .before .before in
-    let start = after-fitting .before .before .before in
+    let else1 = after-fitting .before in
+    let a = else1 .before .before .before .before .before .args in
     let f = after-fitting .fitting in
-    let h : length (take (f .result) (now (start .args .words))) ≤ length (start .args .list .now) = omega (arith, long after-fitting, f .ensures .1) in
-    copied (now (start .args .words)) (take (f .result) (now (start .args .words))) (c .before .before .copy .ensures) h (f .ensures .2)
+    let k = else1 .before .is-register .ensures .sure (not-false _ (else1 .if1 .left)) .1 in
+    let h : length (take (f .result) (a .words .now)) ≤ length (a .list .now) = omega (arith, long after-fitting, f .ensures .1) in
+    asked k (Count (length (a .words .now)))
+    (copied (a .words .now) (take (f .result) (a .words .now)) (c .before .before .copy .ensures) h (f .ensures .2)) refl
 
 pub told-words-spec : {M : Type 1} → statement M
 told-words-spec =
-    tie.close (tie.spec fitting-requires slice-aggregate-copy copy-requires same-length returns)
+    tie.close
+    (tie.spec
+    is-register-requires
+    told-refusal-requires
+    returns
+    fitting-requires
+    slice-aggregate-copy
+    copy-requires
+    same-length
+    returns-2)

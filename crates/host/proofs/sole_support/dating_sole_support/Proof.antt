@@ -24,8 +24,8 @@ returns c =
 sole-support-requires : tie.Need-sole-support-requires
 sole-support-requires c κs = search needs
 
-told-support-requires : tie.Need-told-support-requires
-told-support-requires c κs = search needs
+told-requires : tie.Need-told-requires
+told-requires c κs = search needs
 
 same-length : tie.Need-same-length
 same-length c = search needs
@@ -38,7 +38,7 @@ returns-2 c =
     let after-sole-support = c .before .before .before .before .before in
     let else1 = after-sole-support .before .before .before in
     asked (load-some (else1 .before .before .load .ensures) (else1 .before .number-of .ensures) (else1 .if1 .left))
-    (after-sole-support .sole-support .result) (after-sole-support .sole-support .ensures) (c .told-support .ensures)
+    (after-sole-support .sole-support .result) (after-sole-support .sole-support .ensures) (c .told .ensures)
 
 pub dating-sole-support-spec : {M : Type 1} → statement M
 dating-sole-support-spec =
@@ -49,7 +49,7 @@ dating-sole-support-spec =
     told-refusal-requires
     returns
     sole-support-requires
-    told-support-requires
+    told-requires
     same-length
     same-length-2
     returns-2)

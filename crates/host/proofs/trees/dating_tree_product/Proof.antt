@@ -9,11 +9,11 @@ sense-of-requires c κs = search needs
 sense-of-requires-2 : tie.Need-sense-of-requires-2
 sense-of-requires-2 c κs = search needs
 
-tree-product-requires : tie.Need-tree-product-requires
-tree-product-requires c κs = search needs
+product-requires : tie.Need-product-requires
+product-requires c κs = search needs
 
-told-tree-requires : tie.Need-told-tree-requires
-told-tree-requires c κs = search needs
+told-requires : tie.Need-told-requires
+told-requires c κs = search needs
 
 same-length : tie.Need-same-length
 same-length c = search needs
@@ -27,7 +27,7 @@ returns c =
     let after-sense-of2 = after-tree-product .before .before .before in
     let s = after-sense-of2 .before .sense-of .ensures in
     let t = after-sense-of2 .sense-of2 .ensures in
-    (after-tree-product .tree-product .result, rw (← s, ← t) (after-tree-product .tree-product .ensures), c .told-tree .ensures)
+    (after-tree-product .product .result, rw (← s, ← t) (after-tree-product .product .ensures), c .told .ensures)
 
 pub dating-tree-product-spec : {M : Type 1} → statement M
 dating-tree-product-spec =
@@ -35,8 +35,8 @@ dating-tree-product-spec =
     (tie.spec
     sense-of-requires
     sense-of-requires-2
-    tree-product-requires
-    told-tree-requires
+    product-requires
+    told-requires
     same-length
     same-length-2
     returns)

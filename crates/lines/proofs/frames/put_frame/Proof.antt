@@ -1,7 +1,7 @@
 -- `lines::frames::put_frame` meets its contract: four bytes in front and the two parts of the body, one after the other (`frame-parts`). Assumes nothing.
 use native.Mathlib.Omega.{arith}
 use denote.Ref.{now}
-use Rattle.report.specs.WrittenLaws.{wrote-as, wrote-then}
+use Rattle.answers.specs.WrittenLaws.{wrote-as, wrote-then}
 use Rattle.lines.specs.EncodingLaws.{frame-parts}
 use borrow.Author.Needs.{needs}
 use Rattle.lines.proofs.frames.put_frame.Statement.{statement}

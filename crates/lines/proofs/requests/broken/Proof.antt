@@ -1,6 +1,5 @@
 -- `lines::requests::broken` meets its contract: an undo with a body. Assumes nothing.
-use Rattle.book.specs.Causes.{number}
-use Rattle.lines.specs.Encoding.{kindOf, bodyOf, frameFor, sent}
+use Rattle.lines.specs.Encoding.{sent}
 use borrow.Author.Needs.{needs}
 use Rattle.lines.proofs.requests.broken.Statement.{statement}
 use Rattle.lines.proofs.requests.broken.Tie as tie
@@ -18,7 +17,7 @@ same-length : tie.Need-same-length
 same-length c = search needs
 
 returns : tie.Need-returns
-unfolding sent frameFor kindOf bodyOf number
+unfolding sent
 returns c = c .before .before .put-frame .ensures
 
 pub broken-spec : {M : Type 1} → statement M

@@ -3,8 +3,9 @@
 use mathlib.Core.Path.{_≡_, sym, ap, _∙_}
 use native.Mathlib.Omega.{arith}
 use denote.Ref.{now}
-use Rattle.report.specs.WrittenLaws.{wrote-as, wrote-none}
-use Rattle.lines.specs.Typed.{word, rest, requested, begun, typed}
+use Rattle.answers.specs.WrittenLaws.{wrote-as, wrote-none}
+use Rattle.session.specs.Program.{shapeOf}
+use Rattle.lines.specs.Typed.{word, rest, argued, requested, begun, typed}
 use Rattle.lines.specs.Encoding.{sent}
 use Rattle.lines.specs.SaidLaws.{typed-long, typed-short, begun-none, begun-comment, begun-request}
 use borrow.Author.Needs.{needs}
@@ -57,6 +58,9 @@ word-requires c κs = search needs
 rest-requires : tie.Need-rest-requires
 rest-requires c κs = search needs
 
+kind-of-requires : tie.Need-kind-of-requires
+kind-of-requires c κs = search needs
+
 request-requires : tie.Need-request-requires
 request-requires c κs = search needs
 
@@ -64,19 +68,23 @@ same-length-2 : tie.Need-same-length-2
 same-length-2 c = search needs
 
 returns-4 : tie.Need-returns-4
+unfolding requested
 returns-4 c =
     let after-rest = c .before .before .before .before in
-    let else2 = after-rest .before .before .before .before in
+    let after-kind = after-rest .before in
+    let after-word = after-kind .before in
+    let else2 = after-word .before .before .before in
     let k = else2 .before in
     let e = k .before in
     let a = e .before .before .before .args in
     let line = now (a .line) in
     let t = now (k .skip .result) in
     let from-word : typed line ≡ begun t = typed-short line (e .if1 .left) ∙ ap begun (sym (k .skip .ensures)) in
-    let w = after-rest .before .word in
-    let r = after-rest .rest in
-    let parts : requested (word t) (rest t) ≡ requested (now (w .result)) (now (r .result)) = rw (w .ensures, r .ensures) in
-    wrote-as (ap sent (sym (from-word ∙ begun-request t (else2 .if2 .left) (after-rest .before .before .if3 .left) ∙ parts)))
+    let q = after-kind .kind-of .result in
+    let r = now (after-rest .rest .result) in
+    let parts : requested (word t) (rest t) ≡ argued (shapeOf q) q r =
+    rw (after-kind .kind-of .ensures, after-word .word .ensures, after-rest .rest .ensures) in
+    wrote-as (ap sent (sym (from-word ∙ begun-request t (else2 .if2 .left) (after-word .before .if3 .left) ∙ parts)))
     (c .before .before .request .ensures)
 
 pub frame-spec : {M : Type 1} → statement M
@@ -91,6 +99,7 @@ frame-spec =
     shared-slice-read-if3
     returns-3
     word-requires
+    kind-of-requires
     rest-requires
     request-requires
     same-length-2

@@ -1,16 +1,42 @@
 -- `lines::requests::linked` meets its contract, case by case (`linked-not-from`, `linked-not-label`, `linked-not-to`, `linked-more`, `linked-is`).
 -- Assumes nothing.
-use mathlib.Core.Path.{sym, ap, _∙_}
+use mathlib.Core.Path.{sym, ap}
 use native.Mathlib.Omega.{arith}
 use denote.Ref.{now}
-use Rattle.book.specs.Book.{Link}
-use Rattle.report.specs.WrittenLaws.{wrote-as}
+use Rattle.answers.specs.WrittenLaws.{wrote-as}
 use Rattle.lines.specs.Typed.{word}
-use Rattle.lines.specs.Encoding.{linkBytes, sent}
-use Rattle.lines.specs.SaidLaws.{label-under, linked-not-from, linked-not-label, linked-not-to, linked-more, linked-is}
+use Rattle.lines.specs.Encoding.{sent}
+use Rattle.lines.specs.SaidLaws.{label-under, LinkRead, linked-not-from, linked-not-label, linked-not-to, linked-more, linked-is}
 use borrow.Author.Needs.{needs}
 use Rattle.lines.proofs.requests.linked.Statement.{statement}
 use Rattle.lines.proofs.requests.linked.Tie as tie
+
+-- where every word is read: the start, and the words
+abbrev start : tie.After-rest3 → tie.Start
+start c = c .before .before .before .before .before .before .before .before
+
+as-read : (c : tie.After-rest3)
+    → let y = c .before in
+    let u = y .before in
+    let l = u .before in
+    let t = l .before in
+    let x = t .before in
+    LinkRead (now (start c .args .s)) (x .number .result) (now (t .rest .result)) (l .label .result) (now (u .rest2 .result)) (y .number2 .result)
+    (now (c .rest3 .result))
+as-read c =
+    let y = c .before in
+    let u = y .before in
+    let l = u .before in
+    let t = l .before in
+    let x = t .before in
+    record {
+      from = x .number .ensures;
+      after-from = t .rest .ensures;
+      label = l .label .ensures;
+      after-label = u .rest2 .ensures;
+      to = y .number2 .ensures;
+      after-to = c .rest3 .ensures;
+    }
 
 number-requires : tie.Need-number-requires
 number-requires c κs = search needs
@@ -38,17 +64,9 @@ same-length c = search needs
 
 returns : tie.Need-returns
 returns c =
-    let v = c .before .before .before .before .before in
-    let y = v .before in
-    let u = y .before in
-    let l = u .before in
-    let t = l .before in
-    let x = t .before in
-    let s = now (x .before .before .before .args .s) in
-    λ f g. wrote-as
-    (ap sent (sym (linked-not-from s (x .number .ensures) (t .rest .ensures) (l .label .ensures) (u .rest2 .ensures) (y .number2 .ensures) (v .rest3 .ensures) f
-    (c .before .before .before .before .if1 .taken))))
-    (c .before .before .broken .ensures)
+    let test = c .before .before .before .before in
+    let v = test .before in
+    wrote-as (ap sent (sym (linked-not-from (as-read v) (start v .args .kind) (test .if1 .taken)))) (c .before .before .broken .ensures)
 
 broken-requires-2 : tie.Need-broken-requires-2
 broken-requires-2 c κs = search needs
@@ -58,17 +76,9 @@ same-length-2 c = search needs
 
 returns-2 : tie.Need-returns-2
 returns-2 c =
-    let v = c .before .before .before .before .before .before in
-    let y = v .before in
-    let u = y .before in
-    let l = u .before in
-    let t = l .before in
-    let x = t .before in
-    let s = now (x .before .before .before .args .s) in
-    λ f g. wrote-as
-    (ap sent
-    (sym (linked-not-label s (x .number .ensures) (t .rest .ensures) (l .label .ensures) (u .rest2 .ensures) (y .number2 .ensures) (v .rest3 .ensures) f
-    (c .before .before .before .before .before .if1 .left) (c .before .before .before .before .if2 .taken))))
+    let test = c .before .before .before .before in
+    let v = test .before .before in
+    wrote-as (ap sent (sym (linked-not-label (as-read v) (start v .args .kind) (test .before .if1 .left) (test .if2 .taken))))
     (c .before .before .broken2 .ensures)
 
 broken-requires-3 : tie.Need-broken-requires-3
@@ -79,18 +89,10 @@ same-length-3 c = search needs
 
 returns-3 : tie.Need-returns-3
 returns-3 c =
-    let then3 = c .before .before .before .before in
-    let earlier = then3 .before .before .before in
-    let v = earlier in
-    let y = v .before in
-    let u = y .before in
-    let l = u .before in
-    let t = l .before in
-    let x = t .before in
-    let s = now (x .before .before .before .args .s) in
-    λ f g. wrote-as
-    (ap sent (sym (linked-not-to s (x .number .ensures) (t .rest .ensures) (l .label .ensures) (u .rest2 .ensures) (y .number2 .ensures) (v .rest3 .ensures) f
-    (then3 .before .before .if1 .left) (then3 .before .if2 .left) (then3 .if3 .taken))))
+    let test = c .before .before .before .before in
+    let v = test .before .before .before in
+    wrote-as
+    (ap sent (sym (linked-not-to (as-read v) (start v .args .kind) (test .before .before .if1 .left) (test .before .if2 .left) (test .if3 .taken))))
     (c .before .before .broken3 .ensures)
 
 broken-requires-4 : tie.Need-broken-requires-4
@@ -101,18 +103,12 @@ same-length-4 c = search needs
 
 returns-4 : tie.Need-returns-4
 returns-4 c =
-    let then4 = c .before .before .before .before in
-    let else1 = then4 .before .before .before in
-    let v = else1 .before in
-    let y = v .before in
-    let u = y .before in
-    let l = u .before in
-    let t = l .before in
-    let x = t .before in
-    let s = now (x .before .before .before .args .s) in
-    λ f g. wrote-as
-    (ap sent (sym (linked-more s (x .number .ensures) (t .rest .ensures) (l .label .ensures) (u .rest2 .ensures) (y .number2 .ensures) (v .rest3 .ensures) f
-    (else1 .if1 .left) (then4 .before .before .if2 .left) (then4 .before .if3 .left) (then4 .if4 .taken))))
+    let test = c .before .before .before .before in
+    let from-fits = test .before .before .before in
+    let v = from-fits .before in
+    wrote-as
+    (ap sent
+    (sym (linked-more (as-read v) (start v .args .kind) (from-fits .if1 .left) (test .before .before .if2 .left) (test .before .if3 .left) (test .if4 .taken))))
     (c .before .before .broken4 .ensures)
 
 cast-put-link : tie.Need-cast-put-link
@@ -133,22 +129,14 @@ same-length-5 : tie.Need-same-length-5
 same-length-5 c = search needs
 
 returns-5 : tie.Need-returns-5
-unfolding sent linkBytes
+unfolding sent
 returns-5 c =
-    let else4 = c .before .before .before .before in
-    let else1 = else4 .before .before .before in
-    let v = else1 .before in
-    let y = v .before in
-    let u = y .before in
-    let l = u .before in
-    let t = l .before in
-    let x = t .before in
-    let s = now (x .before .before .before .args .s) in
-    let k : Link = record { from = x .number .result; label = l .label .result; to = y .number2 .result } in
-    λ f g. wrote-as
-    (sym (g k)
-    ∙ ap sent (sym (linked-is s (x .number .ensures) (t .rest .ensures) (l .label .ensures) (u .rest2 .ensures) (y .number2 .ensures) (v .rest3 .ensures) f
-    (else1 .if1 .left) (else4 .before .before .if2 .left) (else4 .before .if3 .left) (else4 .if4 .left))))
+    let test = c .before .before .before .before in
+    let from-fits = test .before .before .before in
+    let v = from-fits .before in
+    wrote-as
+    (ap sent
+    (sym (linked-is (as-read v) (start v .args .kind) (from-fits .if1 .left) (test .before .before .if2 .left) (test .before .if3 .left) (test .if4 .left))))
     (c .before .before .put-link .ensures)
 
 pub linked-spec : {M : Type 1} → statement M

@@ -1,7 +1,7 @@
 -- `lines::requests::numbered` meets its contract, case by case (`numbered-not`, `numbered-more`, `numbered-is`). Assumes nothing.
-use mathlib.Core.Path.{sym, ap, _∙_}
+use mathlib.Core.Path.{sym, ap}
 use denote.Ref.{now}
-use Rattle.report.specs.WrittenLaws.{wrote-as}
+use Rattle.answers.specs.WrittenLaws.{wrote-as}
 use Rattle.lines.specs.Encoding.{sent}
 use Rattle.lines.specs.SaidLaws.{numbered-not, numbered-more, numbered-is}
 use borrow.Author.Needs.{needs}
@@ -24,8 +24,9 @@ returns : tie.Need-returns
 returns c =
     let u = c .before .before .before .before .before in
     let n = u .before in
-    let s = now (n .before .before .before .args .s) in
-    λ f g. wrote-as (ap sent (sym (numbered-not s (n .number .ensures) (u .rest .ensures) f (c .before .before .before .before .if1 .taken))))
+    let start = n .before .before .before in
+    let s = now (start .args .s) in
+    wrote-as (ap sent (sym (numbered-not s (n .number .ensures) (u .rest .ensures) (start .args .kind) (c .before .before .before .before .if1 .taken))))
     (c .before .before .broken .ensures)
 
 broken-requires-2 : tie.Need-broken-requires-2
@@ -38,8 +39,9 @@ returns-2 : tie.Need-returns-2
 returns-2 c =
     let u = c .before .before .before .before .before .before in
     let n = u .before in
-    let s = now (n .before .before .before .args .s) in
-    λ f g. wrote-as (ap sent (sym (numbered-more s (n .number .ensures) (u .rest .ensures) f (c .before .before .before .before .if2 .taken))))
+    let start = n .before .before .before in
+    let s = now (start .args .s) in
+    wrote-as (ap sent (sym (numbered-more s (n .number .ensures) (u .rest .ensures) (start .args .kind) (c .before .before .before .before .if2 .taken))))
     (c .before .before .broken2 .ensures)
 
 cast-put-number : tie.Need-cast-put-number
@@ -56,12 +58,12 @@ unfolding sent
 returns-3 c =
     let u = c .before .before .before .before .before .before in
     let n = u .before in
-    let s = now (n .before .before .before .args .s) in
-    λ f g. wrote-as
-    (sym (g (n .number .result))
-    ∙ ap sent
+    let start = n .before .before .before in
+    let s = now (start .args .s) in
+    wrote-as
+    (ap sent
     (sym
-    (numbered-is s (n .number .ensures) (u .rest .ensures) f (c .before .before .before .before .before .if1 .left)
+    (numbered-is s (n .number .ensures) (u .rest .ensures) (start .args .kind) (c .before .before .before .before .before .if1 .left)
     (c .before .before .before .before .if2 .left)))) (c .before .before .put-number .ensures)
 
 pub numbered-spec : {M : Type 1} → statement M

@@ -11,7 +11,8 @@ use Rattle.lines.proofs.words.as_number.Statement.{statement}
 use Rattle.lines.proofs.words.as_number.Tie as tie
 
 abbrev Inv-loop : tie.InvT-loop
-Inv-loop w value₀ i₀ value i = ((value ≤ maxNumber) × (i ≤ length w)) × (readAfter value (drop i w) ≡ readAfter 0 w)
+Inv-loop w value₀ i₀ value i =
+    record { small : value ≤ maxNumber; inside : i ≤ length w; left : readAfter value (drop i w) ≡ readAfter 0 w }
 
 abbrev μ-loop : tie.MeasureT-loop
 μ-loop w value₀ i₀ value i = length w - i
@@ -20,7 +21,7 @@ returns : tie.Need-returns Inv-loop μ-loop
 returns c = sym (number-empty (now (c .before .args .w)) (c .if1 .taken))
 
 loop-holds : tie.Need-loop-holds Inv-loop μ-loop
-loop-holds c = ((omega arith, omega arith), refl)
+loop-holds c = record { small = omega arith; inside = omega arith; left = refl }
 
 shared-slice-read-c : tie.Need-shared-slice-read-c Inv-loop μ-loop
 shared-slice-read-c c = omega arith
@@ -29,13 +30,13 @@ returns-2 : tie.Need-returns-2 Inv-loop μ-loop
 returns-2 c =
     let l = c .before .before .before .loop in
     let w = now (c .before .before .before .before .before .args .w) in
-    sym (number-below (l .value) w (l .i) (omega arith) (c .if2 .taken)) ∙ l .inv .1 ∙ number-begun w (omega arith)
+    sym (number-below (l .value) w (l .i) (omega arith) (c .if2 .taken)) ∙ l .inv .left ∙ number-begun w (omega arith)
 
 returns-3 : tie.Need-returns-3 Inv-loop μ-loop
 returns-3 c =
     let l = c .before .before .before .before .loop in
     let w = now (c .before .before .before .before .before .before .args .w) in
-    sym (number-above (l .value) w (l .i) (omega arith) (omega arith) (omega arith)) ∙ l .inv .1 ∙ number-begun w (omega arith)
+    sym (number-above (l .value) w (l .i) (omega arith) (omega arith) (omega arith)) ∙ l .inv .left ∙ number-begun w (omega arith)
 
 mul-value : tie.Need-mul-value Inv-loop μ-loop
 mul-value c = omega arith
@@ -52,7 +53,7 @@ returns-4 c =
     let w = now (c .before .before .before .before .before .before .before .args .w) in
     let d = getD w (l .i) 0 in
     sym (number-over (l .value * 10 + (d - 48)) (drop (l .i + 1) w) (c .if4 .taken))
-    ∙ number-next (l .value) w (l .i) (omega arith) (omega arith) (omega arith) ∙ l .inv .1 ∙ number-begun w (omega arith)
+    ∙ number-next (l .value) w (l .i) (omega arith) (omega arith) (omega arith) ∙ l .inv .left ∙ number-begun w (omega arith)
 
 add-i : tie.Need-add-i Inv-loop μ-loop
 add-i c = omega arith
@@ -64,13 +65,17 @@ loop-again : tie.Need-loop-again Inv-loop μ-loop
 loop-again c =
     let l = c .before .before .before .before .before .loop in
     let w = now (c .before .before .before .before .before .before .before .args .w) in
-    ((omega arith, omega arith), number-next (l .value) w (l .i) (omega arith) (omega arith) (omega arith) ∙ l .inv .1)
+    record {
+      small = omega arith;
+      inside = omega arith;
+      left = number-next (l .value) w (l .i) (omega arith) (omega arith) (omega arith) ∙ l .inv .left;
+    }
 
 returns-5 : tie.Need-returns-5 Inv-loop μ-loop
 returns-5 c =
     let l = c .before .loop in
     let w = now (c .before .before .before .args .w) in
-    sym (number-none (l .value) w (l .i) (omega arith) (omega arith)) ∙ l .inv .1 ∙ number-begun w (omega arith)
+    sym (number-none (l .value) w (l .i) (omega arith) (omega arith)) ∙ l .inv .left ∙ number-begun w (omega arith)
 
 pub as-number-spec : {M : Type 1} → statement M
 as-number-spec =

@@ -11,7 +11,7 @@ use Rattle.lines.proofs.words.same.Statement.{statement}
 use Rattle.lines.proofs.words.same.Tie as tie
 
 abbrev Inv-loop : tie.InvT-loop
-Inv-loop a b i₀ i = (i ≤ length a) × (sameBytes (drop i a) (drop i b) ≡ sameBytes a b)
+Inv-loop a b i₀ i = record { inside : i ≤ length a; left : sameBytes (drop i a) (drop i b) ≡ sameBytes a b }
 
 abbrev μ-loop : tie.MeasureT-loop
 μ-loop a b i₀ i = length a - i
@@ -20,7 +20,7 @@ returns : tie.Need-returns Inv-loop μ-loop
 returns c = sym (same-length (now (c .before .args .a)) (now (c .before .args .b)) (c .if1 .taken))
 
 loop-holds : tie.Need-loop-holds Inv-loop μ-loop
-loop-holds c = (omega arith, refl)
+loop-holds c = record { inside = omega arith; left = refl }
 
 shared-slice-read-if2 : tie.Need-shared-slice-read-if2 Inv-loop μ-loop
 shared-slice-read-if2 c = omega arith
@@ -32,7 +32,7 @@ returns-2 : tie.Need-returns-2 Inv-loop μ-loop
 returns-2 c =
     let l = c .before .before .before .before in
     let a = l .before .before .args in
-    sym (same-not (now (a .a)) (now (a .b)) (l .loop .i) (omega arith) (omega arith) (c .if2 .taken)) ∙ l .loop .inv .1
+    sym (same-not (now (a .a)) (now (a .b)) (l .loop .i) (omega arith) (omega arith) (c .if2 .taken)) ∙ l .loop .inv .left
 
 add-i : tie.Need-add-i Inv-loop μ-loop
 add-i c = omega arith
@@ -44,13 +44,16 @@ loop-again : tie.Need-loop-again Inv-loop μ-loop
 loop-again c =
     let l = c .before .before .before .before in
     let a = l .before .before .args in
-    (omega arith, same-next (now (a .a)) (now (a .b)) (l .loop .i) (omega arith) (omega arith) (c .if2 .left) ∙ l .loop .inv .1)
+    record {
+      inside = omega arith;
+      left = same-next (now (a .a)) (now (a .b)) (l .loop .i) (omega arith) (omega arith) (c .if2 .left) ∙ l .loop .inv .left;
+    }
 
 returns-3 : tie.Need-returns-3 Inv-loop μ-loop
 returns-3 c =
     let start = c .before .before .before in
     let l = c .before .loop in
-    sym (same-none (now (start .args .a)) (now (start .args .b)) (l .i) (omega arith) (omega arith)) ∙ l .inv .1
+    sym (same-none (now (start .args .a)) (now (start .args .b)) (l .i) (omega arith) (omega arith)) ∙ l .inv .left
 
 pub same-spec : {M : Type 1} → statement M
 same-spec =

@@ -15,13 +15,13 @@ use Rattle.lines.proofs.words.trim.Statement.{statement}
 use Rattle.lines.proofs.words.trim.Tie as tie
 
 abbrev Inv-loop : tie.InvT-loop
-Inv-loop s n₀ n = (n ≤ length s) × (trim (take n s) ≡ trim s)
+Inv-loop s n₀ n = record { inside : n ≤ length s; left : trim (take n s) ≡ trim s }
 
 abbrev μ-loop : tie.MeasureT-loop
 μ-loop s n₀ n = n
 
 loop-holds : tie.Need-loop-holds Inv-loop μ-loop
-loop-holds c = (omega arith, ap trim (take-length (now (c .before .args .s))))
+loop-holds c = record { inside = omega arith; left = ap trim (take-length (now (c .before .args .s))) }
 
 sub-is-blank : tie.Need-sub-is-blank Inv-loop μ-loop
 sub-is-blank c = omega arith
@@ -40,7 +40,7 @@ returns c =
     let s = now (c .before .before .before .before .before .before .before .args .s) in
     let l = c .before .before .before .before .before .loop in
     let b : blank (getD s (l .n - 1) 0) ≡ false = sym (c .before .before .is-blank .ensures) ∙ not-true _ (c .before .if1 .taken) in
-    sym (trim-at s (l .n) (omega arith) (omega arith) b) ∙ l .inv .1
+    sym (trim-at s (l .n) (omega arith) (omega arith) b) ∙ l .inv .left
 
 sub-n : tie.Need-sub-n Inv-loop μ-loop
 sub-n c = omega arith
@@ -53,7 +53,7 @@ loop-again c =
     let s = now (c .before .before .before .before .before .before .args .s) in
     let l = c .before .before .before .before .loop in
     let b : blank (getD s (l .n - 1) 0) ≡ true = sym (c .before .is-blank .ensures) ∙ not-false _ (c .if1 .left) in
-    (omega arith, sym (trim-blank s (l .n) (omega arith) (omega arith) b) ∙ l .inv .1)
+    record { inside = omega arith; left = sym (trim-blank s (l .n) (omega arith) (omega arith) b) ∙ l .inv .left }
 
 slice-aggregate-result-2 : tie.Need-slice-aggregate-result-2 Inv-loop μ-loop
 slice-aggregate-result-2 c = sym (length-take-le _ _ (omega arith))
@@ -61,7 +61,7 @@ slice-aggregate-result-2 c = sym (length-take-le _ _ (omega arith))
 returns-2 : tie.Need-returns-2 Inv-loop μ-loop
 returns-2 c =
     let l = c .before .before .loop in
-    sym (trim-none (now (c .before .before .before .before .args .s)) (l .n) (omega arith)) ∙ l .inv .1
+    sym (trim-none (now (c .before .before .before .before .args .s)) (l .n) (omega arith)) ∙ l .inv .left
 
 pub trim-spec : {M : Type 1} → statement M
 trim-spec =

@@ -13,13 +13,13 @@ use Rattle.lines.proofs.words.word_len.Statement.{statement}
 use Rattle.lines.proofs.words.word_len.Tie as tie
 
 abbrev Inv-loop : tie.InvT-loop
-Inv-loop s i₀ i = (i ≤ length s) × (i + length (word (drop i s)) ≡ length (word s))
+Inv-loop s i₀ i = record { inside : i ≤ length s; left : i + length (word (drop i s)) ≡ length (word s) }
 
 abbrev μ-loop : tie.MeasureT-loop
 μ-loop s i₀ i = length s - i
 
 loop-holds : tie.Need-loop-holds Inv-loop μ-loop
-loop-holds c = (omega arith, omega arith)
+loop-holds c = record { inside = omega arith; left = omega arith }
 
 shared-slice-read-is-blank : tie.Need-shared-slice-read-is-blank Inv-loop μ-loop
 shared-slice-read-is-blank c = omega arith
@@ -32,7 +32,7 @@ returns c =
     let s = now (c .before .before .before .before .before .before .args .s) in
     let l = c .before .before .before .before .loop in
     let b : blank (getD s (l .i) 0) ≡ true = sym (c .before .is-blank .ensures) ∙ c .if1 .taken in
-    omega (arith, l .inv .1, word-end s (l .i) (omega arith) b)
+    omega (arith, l .inv .left, word-end s (l .i) (omega arith) b)
 
 add-i : tie.Need-add-i Inv-loop μ-loop
 add-i c = omega arith
@@ -45,13 +45,13 @@ loop-again c =
     let s = now (c .before .before .before .before .before .before .args .s) in
     let l = c .before .before .before .before .loop in
     let b : blank (getD s (l .i) 0) ≡ false = sym (c .before .is-blank .ensures) ∙ c .if1 .left in
-    (omega arith, omega (arith, l .inv .1, word-more s (l .i) (omega arith) b))
+    record { inside = omega arith; left = omega (arith, l .inv .left, word-more s (l .i) (omega arith) b) }
 
 returns-2 : tie.Need-returns-2 Inv-loop μ-loop
 returns-2 c =
     let s = now (c .before .before .before .args .s) in
     let l = c .before .loop in
-    omega (arith, l .inv .1, word-none s (l .i) (omega arith))
+    omega (arith, l .inv .left, word-none s (l .i) (omega arith))
 
 pub word-len-spec : {M : Type 1} → statement M
 word-len-spec =

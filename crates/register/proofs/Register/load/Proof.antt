@@ -6,13 +6,13 @@ use lib.ListN.{take, drop, replicate, length-replicate}
 use borrow.Author.Tests.{not-true, not-false}
 use Rattle.register.specs.Inner.{Formed}
 use Rattle.register.proofs.KeepLaws.{copied-over, load-refused, load-made}
-use Rattle.register.specs.WordLaws.{part-long, loaded}
+use Rattle.register.specs.WordLaws.{part-long, loaded, keeps-formed}
 use borrow.Author.Needs.{needs}
 use Rattle.register.proofs.Register.load.Statement.{statement}
 use Rattle.register.proofs.Register.load.Tie as tie
 
 made : (c : tie.Else1) → Formed (c .before .before .before .args .words .now)
-made c = c .before .is-register .ensures .sure (not-false _ (c .if1 .left))
+made c = keeps-formed _ (c .before .is-register .ensures .sure (not-false _ (c .if1 .left)))
 
 is-register-requires : tie.Need-is-register-requires
 is-register-requires c κs = search needs

@@ -1,5 +1,5 @@
 -- `register::Register::store` copies the numbers and the four arrays one behind another, after the tests. Assumes nothing.
-use mathlib.Core.Path.{_≡_}
+use mathlib.Core.Path.{_≡_, sym}
 use Prim.Native.Nat.{_≤_}
 use lib.ListN.{length}
 use native.Mathlib.Omega.{arith}
@@ -15,7 +15,7 @@ use Rattle.register.proofs.Register.store.Tie as tie
 in-range : (c : tie.Else2) → InRange (c .before .before .before .before .args .t1)
 in-range c = inside (c .before .before .before .before .args .t1) (c .before .ranged .result) (c .before .ranged .ensures) (c .if2 .left)
 
-marks-right : (c : tie.Else3) → Marked (c .before .before .before .before .before .before .before .before .before .args .t1 .marks)
+marks-right : (c : tie.Else3) → Marked (c .before .before .before .before .before .before .before .before .args .t1 .marks)
 marks-right c = c .before .marked .ensures .sure (not-false _ (c .if3 .left))
 
 links-long : (c : tie.Start) → length (c .args .t1 .links) ≡ 4096
@@ -39,23 +39,26 @@ ranged-requires c κs = search needs
 returns-2 : tie.Need-returns-2
 returns-2 c = store-refused _ _ (λ _ g _. outside (c .before .before .before .before .args .t1) _ (c .before .ranged .ensures) (c .if2 .taken) g)
 
+slice-aggregate-marked : tie.Need-slice-aggregate-marked
+slice-aggregate-marked c = search needs
+
 marked-requires : tie.Need-marked-requires
 marked-requires c κs = search needs
 
 returns-3 : tie.Need-returns-3
 returns-3 c = store-refused _ _ (λ _ _ m. c .before .marked .ensures .none (not-true _ (c .if3 .taken)) m)
 
-cast-t13 : tie.Need-cast-t13
-cast-t13 c = search needs
-
-cast-t14 : tie.Need-cast-t14
-cast-t14 c = omega (arith, in-range (c .before .before .before .before .before) .count)
-
 cast-t15 : tie.Need-cast-t15
-cast-t15 c = omega (arith, in-range (c .before .before .before .before .before) .top)
+cast-t15 c = search needs
 
 cast-t16 : tie.Need-cast-t16
-cast-t16 c = omega (arith, in-range (c .before .before .before .before .before) .held)
+cast-t16 c = omega (arith, in-range (c .before .before .before .before) .count)
+
+cast-t17 : tie.Need-cast-t17
+cast-t17 c = omega (arith, in-range (c .before .before .before .before) .top)
+
+cast-t18 : tie.Need-cast-t18
+cast-t18 c = omega (arith, in-range (c .before .before .before .before) .held)
 
 slice-aggregate-copy : tie.Need-slice-aggregate-copy
 slice-aggregate-copy c = search needs
@@ -68,6 +71,11 @@ copy-requires-2 c κs = search needs
 
 copy-requires-3 : tie.Need-copy-requires-3
 copy-requires-3 c κs = search needs
+
+slice-aggregate-copy-2 : tie.Need-slice-aggregate-copy-2
+slice-aggregate-copy-2 c =
+    let earlier = c .before .before .before .before .before .before .before .before .before .before .before .before .before .before in
+    sym (marks-long (earlier .before .before .before .before .before .before .before .before .before .before .before .before .before .before))
 
 copy-requires-4 : tie.Need-copy-requires-4
 copy-requires-4 c κs = search needs
@@ -82,11 +90,11 @@ returns-4 : tie.Need-returns-4
 returns-4 c =
     let after-copy5 = c .before .before in
     let after-copy4 = after-copy5 .before .before .before .before .before .before .before in
-    let after-copy3 = after-copy4 .before .before .before .before .before .before .before in
+    let after-copy3 = after-copy4 .before .before .before .before .before in
     let after-copy2 = after-copy3 .before .before .before .before .before .before .before in
     let after-copy = after-copy2 .before .before .before .before .before .before .before in
     let else3 = after-copy .before .before .before in
-    let else2 = else3 .before .before .before .before .before in
+    let else2 = else3 .before .before .before .before in
     let start = else2 .before .before .before .before in
     let r = start .args .t1 in
     let w₀ = start .args .words .now in
@@ -119,16 +127,18 @@ store-spec =
     returns
     ranged-requires
     returns-2
+    slice-aggregate-marked
     marked-requires
     returns-3
-    cast-t13
-    cast-t14
     cast-t15
     cast-t16
+    cast-t17
+    cast-t18
     slice-aggregate-copy
     copy-requires
     copy-requires-2
     copy-requires-3
+    slice-aggregate-copy-2
     copy-requires-4
     copy-requires-5
     same-length

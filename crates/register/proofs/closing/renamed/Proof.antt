@@ -1,10 +1,13 @@
 -- `register::closing::renamed` meets its contract: ranks of records are below 1,024, so that no part runs over. Assumes nothing.
-use Prim.Native.Nat.{_/_, _%_, _<_}
+use Prim.Native.Nat.{_<_}
 use native.Mathlib.Omega.{arith}
 use lib.ListN.{getD}
 use borrow.Author.Needs.{needs}
 use Rattle.register.proofs.closing.renamed.Statement.{statement}
 use Rattle.register.proofs.closing.renamed.Tie as tie
+
+from-of-requires : tie.Need-from-of-requires
+from-of-requires c κs = search needs
 
 cast-from : tie.Need-cast-from
 cast-from c = search needs
@@ -15,6 +18,9 @@ mul-from c = search needs
 shared-slice-read-from : tie.Need-shared-slice-read-from
 shared-slice-read-from c = search needs
 
+to-of-requires : tie.Need-to-of-requires
+to-of-requires c κs = search needs
+
 cast-to : tie.Need-cast-to
 cast-to c = search needs
 
@@ -24,38 +30,45 @@ mul-to c = search needs
 shared-slice-read-to : tie.Need-shared-slice-read-to
 shared-slice-read-to c = search needs
 
+label-of-requires : tie.Need-label-of-requires
+label-of-requires c κs = search needs
+
 mul-result : tie.Need-mul-result
 mul-result c = search needs
 
 -- the ranks read are below 1,024
-from-small : (c : tie.After-shared-slice-known2) → getD (c .before .before .args .ranks .now) (c .before .before .args .word / 1024 % 1024) 0 < 1024
-from-small c = c .before .before .pre .below (c .before .before .args .word / 1024 % 1024) (omega arith)
+from-small : (c : tie.After-from-of) → getD (c .before .before .args .ranks .now) (c .from-of .result) 0 < 1024
+from-small c = c .before .before .pre .below (c .from-of .result) (omega (arith, c .from-of .ensures))
 
-to-small : (c : tie.After-shared-slice-known2) → getD (c .before .before .args .ranks .now) (c .before .before .args .word % 1024) 0 < 1024
-to-small c = c .before .before .pre .below (c .before .before .args .word % 1024) (omega arith)
+to-small : (c : tie.After-to-of)
+    → getD (c .before .before .before .before .args .ranks .now) (c .to-of .result) 0 < 1024
+to-small c = c .before .before .before .before .pre .below (c .to-of .result) (omega (arith, c .to-of .ensures))
 
 add-result : tie.Need-add-result
-add-result c = omega (arith, from-small c)
+add-result c = omega (arith, from-small (c .before .before .before .before), c .label-of .ensures)
 
 mul-result-2 : tie.Need-mul-result-2
-mul-result-2 c = omega (arith, from-small c)
+mul-result-2 c = omega (arith, from-small (c .before .before .before .before), c .label-of .ensures)
 
 add-result-2 : tie.Need-add-result-2
-add-result-2 c = omega (arith, from-small c, to-small c)
+add-result-2 c = omega (arith, from-small (c .before .before .before .before), to-small (c .before .before), c .label-of .ensures)
 
 returns : tie.Need-returns
-returns c = search needs
+returns c = rw (c .label-of .ensures, c .before .before .to-of .ensures, c .before .before .before .before .from-of .ensures)
 
 pub renamed-spec : {M : Type 1} → statement M
 renamed-spec =
     tie.close
     (tie.spec
+    from-of-requires
     cast-from
     mul-from
     shared-slice-read-from
+    to-of-requires
     cast-to
     mul-to
     shared-slice-read-to
+    label-of-requires
     mul-result
     add-result
     mul-result-2

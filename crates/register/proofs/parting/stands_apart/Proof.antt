@@ -1,14 +1,26 @@
 -- `register::parting::stands_apart` meets its contract: by the word's two records, each tested. Assumes nothing.
+use mathlib.Core.Path.{sym, _∙_}
 use Prim.Native.Nat.{_/_, _%_}
+use borrow.Author.Needs.{needs}
 use borrow.Author.Tests.{eq-eqb, ne-eqb}
 use Rattle.register.proofs.parting.stands_apart.Statement.{statement}
 use Rattle.register.proofs.parting.stands_apart.Tie as tie
 
+from-of-requires : tie.Need-from-of-requires
+from-of-requires c κs = search needs
+
 returns : tie.Need-returns
-returns c = rw (eq-eqb (c .before .args .word / 1024 % 1024) (c .before .args .«record») (c .if1 .taken))
+returns c =
+    let a = c .before .before .args in
+    rw (eq-eqb (a .word / 1024 % 1024) (a .«record») (sym (c .before .from-of .ensures) ∙ c .if1 .taken))
+
+to-of-requires : tie.Need-to-of-requires
+to-of-requires c κs = search needs
 
 returns-2 : tie.Need-returns-2
-returns-2 c = rw (ne-eqb (c .before .args .word / 1024 % 1024) (c .before .args .«record») (c .if1 .left))
+returns-2 c =
+    let a = c .before .before .before .args in
+    rw (c .to-of .ensures, ne-eqb (a .word / 1024 % 1024) (a .«record») (λ z. c .before .if1 .left (c .before .before .from-of .ensures ∙ z)))
 
 pub stands-apart-spec : {M : Type 1} → statement M
-stands-apart-spec = tie.close (tie.spec returns returns-2)
+stands-apart-spec = tie.close (tie.spec from-of-requires returns to-of-requires returns-2)

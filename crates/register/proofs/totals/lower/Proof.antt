@@ -1,16 +1,22 @@
 -- `register::totals::lower` meets its contract: past the labels, or with no room, nothing is written, and no total has to move; else one does. Assumes nothing.
-use mathlib.Core.Path.{refl}
+use mathlib.Core.Path.{refl, ap, subst}
+use Prim.Native.Nat.{ℕ, _-_}
+use lib.ListN.{getD, set}
 use native.Mathlib.Omega.{arith}
 use borrow.Author.Needs.{needs}
+use Rattle.register.specs.Inner.{Lowered}
 use Rattle.register.proofs.TotalLaws.{lowered, lowered-set}
 use Rattle.register.proofs.totals.lower.Statement.{statement}
 use Rattle.register.proofs.totals.lower.Tie as tie
+
+label-of-requires : tie.Need-label-of-requires
+label-of-requires c κs = search needs
 
 cast-label : tie.Need-cast-label
 cast-label c = search needs
 
 returns : tie.Need-returns
-returns c = lowered (λ h _. absurd (omega (arith, c .if1 .taken))) (λ j _. refl)
+returns c = lowered (λ h _. absurd (omega (arith, c .if1 .taken, c .before .label-of .ensures))) (λ j _. refl)
 
 mul-if2 : tie.Need-mul-if2
 mul-if2 c = search needs
@@ -19,7 +25,11 @@ element-copy-out-if2 : tie.Need-element-copy-out-if2
 element-copy-out-if2 c = search needs
 
 returns-2 : tie.Need-returns-2
-returns-2 c = lowered (λ _ h. absurd (omega (arith, c .if2 .taken))) (λ j _. refl)
+returns-2 c =
+    let after-label-of = c .before .before .before in
+    let ts = after-label-of .before .args .totals .now in
+    let same = ap (λ (l : ℕ). getD ts l 0) (after-label-of .label-of .ensures) in
+    lowered (λ _ h. absurd (omega (arith, c .if2 .taken, same, h))) (λ j _. refl)
 
 mul-totals : tie.Need-mul-totals
 mul-totals c = search needs
@@ -37,12 +47,18 @@ element-write-totals : tie.Need-element-write-totals
 element-write-totals c = search needs
 
 returns-3 : tie.Need-returns-3
-returns-3 c = lowered-set _ _ (omega (arith, c .before .before .before .before .pre)) (omega (arith, c .before .if2 .left))
+returns-3 c =
+    let after-label-of = c .before .before .before .before in
+    let ts = after-label-of .before .args .totals .now in
+    let label = after-label-of .label-of .result in
+    subst (λ (l : ℕ). Lowered l ts (set ts label (getD ts label 0 - 1))) (after-label-of .label-of .ensures)
+    (lowered-set label ts (omega (arith, after-label-of .before .pre)) (omega (arith, c .before .if2 .left)))
 
 pub lower-spec : {M : Type 1} → statement M
 lower-spec =
     tie.close
     (tie.spec
+    label-of-requires
     cast-label
     returns
     mul-if2

@@ -1,19 +1,20 @@
 -- `register::words::is_register` looks at the length, the counters and the marks in turn. Assumes nothing.
 use native.Mathlib.Omega.{arith}
 use borrow.Author.Tests.{not-true, not-false}
+use Rattle.register.specs.WordLaws.{keeps-formed}
 use Rattle.register.proofs.KeepLaws.{tested-not, formed-by}
 use borrow.Author.Needs.{needs}
 use Rattle.register.proofs.words.is_register.Statement.{statement}
 use Rattle.register.proofs.words.is_register.Tie as tie
 
 returns : tie.Need-returns
-returns c = tested-not (λ f. omega (arith, f .long, c .if1 .taken))
+returns c = tested-not (λ k. omega (arith, keeps-formed _ k .long, c .if1 .taken))
 
 shared-slice-read-if2 : tie.Need-shared-slice-read-if2
 shared-slice-read-if2 c = search needs
 
 returns-2 : tie.Need-returns-2
-returns-2 c = tested-not (λ f. omega (arith, f .ranged .size))
+returns-2 c = tested-not (λ k. omega (arith, keeps-formed _ k .ranged .size))
 
 shared-slice-read-n : tie.Need-shared-slice-read-n
 shared-slice-read-n c = search needs
@@ -43,7 +44,7 @@ ranged-requires : tie.Need-ranged-requires
 ranged-requires c κs = search needs
 
 returns-3 : tie.Need-returns-3
-returns-3 c = tested-not (λ f. c .before .ranged .ensures .none (not-true _ (c .if3 .taken)) (f .ranged))
+returns-3 c = tested-not (λ k. c .before .ranged .ensures .none (not-true _ (c .if3 .taken)) (keeps-formed _ k .ranged))
 
 sub-marked : tie.Need-sub-marked
 sub-marked c = search needs

@@ -45,17 +45,17 @@ returns c =
     (a .out .now) (a .out .now) _
     (c .before .refusal .ensures) (c .if1 .taken) refl
 
-copy-requires : tie.Need-copy-requires
-copy-requires c κs =
+copy-u64-requires : tie.Need-copy-u64-requires
+copy-u64-requires c κs =
     let m = met-all (c .before) in
     omega (arith, formed-most (m .3 .0), m .4)
 
-copy-requires-2 : tie.Need-copy-requires-2
-copy-requires-2 c κs =
+copy-u64-requires-2 : tie.Need-copy-u64-requires-2
+copy-u64-requires-2 c κs =
     let after-copy = c .before .before .before in
     let start = after-copy .before .before .before .before .before .before .before .before .before in
     let m = met-all (after-copy .before .before) in
-    let k : length (after-copy .copy .last .1 .0) ≡ length (start .args .work .now) = after-copy .copy .kept .1 .0 in
+    let k : length (after-copy .copy-u64 .last .1 .0) ≡ length (start .args .work .now) = after-copy .copy-u64 .kept .1 .0 in
     omega (arith, k, formed-most (m .3 .0), formed-most (m .3 .1), m .4)
 
 tree-of-requires : tie.Need-tree-of-requires
@@ -78,8 +78,8 @@ made-requires c κs =
     let start = after-copy .before .before .before .before .before .before .before .before .before in
     let a = start .args in
     let m = met-all (after-copy .before .before) in
-    let k : length (after-copy .copy .last .1 .0) ≡ length (a .work .now) = after-copy .copy .kept .1 .0 in
-    let l : length (after-copy2 .copy2 .last .1 .0) ≡ length (after-copy .copy .last .1 .0) = after-copy2 .copy2 .kept .1 .0 in
+    let k : length (after-copy .copy-u64 .last .1 .0) ≡ length (a .work .now) = after-copy .copy-u64 .kept .1 .0 in
+    let l : length (after-copy2 .copy-u642 .last .1 .0) ≡ length (after-copy .copy-u64 .last .1 .0) = after-copy2 .copy-u642 .kept .1 .0 in
     let f = ap (λ (o : Operand). o .size) (after-tree-of .tree-of .ensures) in
     let s = ap (λ (o : Operand). o .size) (c .before .before .tree-of2 .ensures) in
     record { size = m .1; first = omega (arith, f, formed-most (m .3 .0)); second = omega (arith, s, formed-most (m .3 .1)); work = omega (arith, k, l, m .4) }
@@ -88,7 +88,7 @@ settle-requires : tie.Need-settle-requires
 settle-requires c κs =
     let after-made = c .before .before .before .before in
     let after-copy2 = after-made .before .before .before .before .before .before .before in
-    let k : length (after-made .made .last .1 .0) ≡ length (after-copy2 .copy2 .last .1 .0) = after-made .made .kept .1 .0 in
+    let k : length (after-made .made .last .1 .0) ≡ length (after-copy2 .copy-u642 .last .1 .0) = after-made .made .kept .1 .0 in
     omega (arith, k, after-made .made .ensures .0)
 
 same-length : tie.Need-same-length
@@ -112,7 +112,7 @@ returns-2 c =
     let p = after-tree-of2 .before .tree-of .ensures in
     let q = after-tree-of2 .tree-of2 .ensures in
     let t : Term = record { operation = a .operation; first = after-tree-of2 .before .tree-of .result; second = after-tree-of2 .tree-of2 .result } in
-    let two = copied-two (a .a .now) (a .b .now) (a .work .now) _ _ (after-copy .copy .ensures) (after-copy2 .copy2 .ensures) in
+    let two = copied-two (a .a .now) (a .b .now) (a .work .now) _ _ (after-copy .copy-u64 .ensures .contents) (after-copy2 .copy-u642 .ensures .contents) in
     let l = two-lent t (a .n) [] _ (a .a .now) (a .b .now) (ap (λ (o : Operand). o .size) p) (ap (λ (o : Operand). o .size) q) two v w (m .2) in
     accept (a .n) [] (a .a .now ∷ a .b .now ∷ []) (length (a .work .now))
     (treeOfTwo (λ x y. outcome (a .operation) (a .n) none (sensed (a .a-sense) x) (sensed (a .b-sense) y)) (a .n) (a .a .now) (a .b .now)) (a .out .now) _
@@ -128,8 +128,8 @@ binary-spec =
     slice-aggregate-refusal
     refusal-requires
     returns
-    copy-requires
-    copy-requires-2
+    copy-u64-requires
+    copy-u64-requires-2
     tree-of-requires
     tree-of-requires-2
     array-share-prefix-no-links-2

@@ -3,21 +3,19 @@ use mathlib.Core.Path.{refl}
 use native.Mathlib.Omega.{arith}
 use borrow.Author.Needs.{needs}
 use lib.ListN.{length-take}
-use Rattle.book.specs.Causes.{number}
-use Rattle.tree.specs.Settling.{too-long}
+use Rattle.answers.specs.AnswerLaws.{whole-refused}
 use Rattle.tree.proofs.CopyLaws.{settled}
 use Rattle.tree.proofs.calls.settle.Statement.{statement}
 use Rattle.tree.proofs.calls.settle.Tie as tie
 
 returns : tie.Need-returns
-unfolding number
-returns c = too-long (rw length-take (omega arith)) refl
+returns c = whole-refused _ _ _ (rw length-take (omega arith)) refl
 
-slice-aggregate-copy : tie.Need-slice-aggregate-copy
-slice-aggregate-copy c = rw length-take (omega arith)
+slice-aggregate-copy-u64 : tie.Need-slice-aggregate-copy-u64
+slice-aggregate-copy-u64 c = rw length-take (omega arith)
 
-copy-requires : tie.Need-copy-requires
-copy-requires c κs = rw length-take (omega arith)
+copy-u64-requires : tie.Need-copy-u64-requires
+copy-u64-requires c κs = rw length-take (omega arith)
 
 same-length : tie.Need-same-length
 same-length c = search needs
@@ -26,7 +24,7 @@ returns-2 : tie.Need-returns-2
 returns-2 c =
     let start = c .before .before .before .before .before .before .before .before in
     let a = start .args in
-    settled (a .work .now) (a .len) (a .out .now) _ (start .pre) (omega arith) (c .before .before .copy .ensures)
+    settled (a .work .now) (a .len) (a .out .now) _ (start .pre) (omega arith) (c .before .before .copy-u64 .ensures .contents)
 
 pub settle-spec : {M : Type 1} → statement M
-settle-spec = tie.close (tie.spec returns slice-aggregate-copy copy-requires same-length returns-2)
+settle-spec = tie.close (tie.spec returns slice-aggregate-copy-u64 copy-u64-requires same-length returns-2)

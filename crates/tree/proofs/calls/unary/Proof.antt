@@ -50,8 +50,8 @@ returns c =
     (treeOfOne (λ x. outcome (a .operation) (a .n) none noPairs (sensed (a .sense) x)) (a .n) (a .a .now)) (a .out .now) (a .out .now) _
     (c .before .refusal .ensures ∙ as-good (a .n) [] _ _ (length (a .work .now)) (one-more (a .n) (a .a .now))) (c .if1 .taken) refl
 
-copy-requires : tie.Need-copy-requires
-copy-requires c κs =
+copy-u64-requires : tie.Need-copy-u64-requires
+copy-u64-requires c κs =
     let m = met-all (c .before) in
     omega (arith, formed-most (m .3 .0), m .4)
 
@@ -74,7 +74,7 @@ made-requires c κs =
     let start = after-copy .before .before .before .before .before .before .before .before .before in
     let a = start .args in
     let m = met-all (after-copy .before .before) in
-    let k : length (after-copy .copy .last .1 .0) ≡ length (a .work .now) = after-copy .copy .kept .1 .0 in
+    let k : length (after-copy .copy-u64 .last .1 .0) ≡ length (a .work .now) = after-copy .copy-u64 .kept .1 .0 in
     let f = ap (λ (o : Operand). o .size) (after-no-operand .no-operand .ensures) in
     let s = ap (λ (o : Operand). o .size) (c .before .before .tree-of .ensures) in
     record { size = m .1; first = omega (arith, f); second = omega (arith, s, formed-most (m .3 .0)); work = omega (arith, k, m .4) }
@@ -83,7 +83,7 @@ settle-requires : tie.Need-settle-requires
 settle-requires c κs =
     let after-made = c .before .before .before .before in
     let after-copy = after-made .before .before .before .before .before .before .before in
-    let k : length (after-made .made .last .1 .0) ≡ length (after-copy .copy .last .1 .0) = after-made .made .kept .1 .0 in
+    let k : length (after-made .made .last .1 .0) ≡ length (after-copy .copy-u64 .last .1 .0) = after-made .made .kept .1 .0 in
     omega (arith, k, after-made .made .ensures .0)
 
 same-length : tie.Need-same-length
@@ -105,8 +105,8 @@ returns-2 c =
     let e = after-tree-of .before .no-operand .ensures in
     let q = after-tree-of .tree-of .ensures in
     let t : Term = record { operation = a .operation; first = after-tree-of .before .no-operand .result; second = after-tree-of .tree-of .result } in
-    let l = one-lent t (a .n) [] (after-copy .copy .last .1 .0) (v .set) e (v .is-set)
-    (rw q (copied-one (a .a .now) (a .work .now) _ (after-copy .copy .ensures) ∙ v .tree)) (m .2) in
+    let l = one-lent t (a .n) [] (after-copy .copy-u64 .last .1 .0) (v .set) e (v .is-set)
+    (rw q (copied-one (a .a .now) (a .work .now) _ (after-copy .copy-u64 .ensures .contents) ∙ v .tree)) (m .2) in
     let x : Cells = sensed (a .sense) (setIn (a .n) (a .a .now)) in
     let y : valued [] (t .second) (v .set) ≡ x =
     ap (λ (o : Operand). valued [] o (v .set)) q ∙ valued-alone [] (length (a .a .now)) (a .sense) (v .set) ∙ ap (sensed (a .sense)) (sym (formed-set v)) in
@@ -124,7 +124,7 @@ unary-spec =
     slice-aggregate-refusal-2
     refusal-requires
     returns
-    copy-requires
+    copy-u64-requires
     no-operand-requires
     tree-of-requires
     array-share-prefix-no-links-2

@@ -1,12 +1,12 @@
 -- `hand_over` counts the pairs and writes those that the list takes. Assumes nothing.
-use mathlib.Core.Path.{_≡_, sym, subst}
+use mathlib.Core.Path.{_≡_, _∙_}
 use mathlib.Core.List.{List}
 use Prim.Native.Nat.{ℕ}
 use borrow.Author.Needs.{needs}
 use lib.ListN.{length}
 use Rattle.rows.specs.Rows.{pairsIn}
-use Rattle.tree.specs.declared.listing.Answer.the-variants.{Done}
-use Rattle.tree.specs.Settling.{Shown, shown}
+use Rattle.answers.specs.AnswerLaws.{part-given}
+use Rattle.answers.specs.ListingLaws.{shown-over}
 use Rattle.tree.proofs.listing.hand_over.Statement.{statement}
 use Rattle.tree.proofs.listing.hand_over.Tie as tie
 
@@ -26,7 +26,7 @@ returns c =
     let a = after-count-pairs .before .before .before .args in
     let xs : List ℕ = pairsIn (a .n) (a .rows .now) in
     let k : after-count-pairs .count-pairs .result ≡ length xs = after-count-pairs .count-pairs .ensures in
-    subst (λ (t : ℕ). Shown xs (a .out .now) (after-write-pairs .write-pairs .last .1 .1 .0) (Done t)) (sym k) (shown (after-write-pairs .write-pairs .ensures))
+    part-given xs (a .out .now) _ _ k (after-write-pairs .write-pairs .ensures ∙ shown-over xs (a .out .now))
 
 pub hand-over-spec : {M : Type 1} → statement M
 hand-over-spec = tie.close (tie.spec count-pairs-requires write-pairs-requires same-length returns)

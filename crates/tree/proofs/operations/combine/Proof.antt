@@ -44,8 +44,8 @@ enum-told-5 c = search needs
 load-requires-2 : tie.Need-load-requires-2
 load-requires-2 c κs = search needs
 
-close-requires : tie.Need-close-requires
-close-requires c κs = search needs
+close-rows-requires : tie.Need-close-rows-requires
+close-rows-requires c κs = search needs
 
 enum-told-6 : tie.Need-enum-told-6
 enum-told-6 c = search needs
@@ -62,8 +62,8 @@ enum-told-7 c = search needs
 load-requires-4 : tie.Need-load-requires-4
 load-requires-4 c κs = search needs
 
-close-requires-2 : tie.Need-close-requires-2
-close-requires-2 c κs = search needs
+close-rows-requires-2 : tie.Need-close-rows-requires-2
+close-rows-requires-2 c κs = search needs
 
 set-diagonal-requires-2 : tie.Need-set-diagonal-requires-2
 set-diagonal-requires-2 c κs = search needs
@@ -109,7 +109,7 @@ returns-5 c =
     λ a b ia ib e l ra.
     let s : Cells = valued (g .links .now) (g .term .second) b in
     let i = union-set (g .n) a s ia (valued-set (g .n) (g .links .now) (g .term .second) b (start .pre .0 .size) ib l) in
-    rw (after-load2 .before .before .enum-told5 .given .1) (c .before .before .close .ensures (union a s) i (after-load2 .load2 .ensures b a ib e ra))
+    rw (after-load2 .before .before .enum-told5 .given .1) (c .before .before .close-rows .ensures (union a s) i (after-load2 .load2 .ensures b a ib e ra))
 
 same-length-6 : tie.Need-same-length-6
 same-length-6 c = search needs
@@ -135,7 +135,7 @@ returns-7 c =
     λ a b ia ib e l ra.
     let s : Cells = valued (g .links .now) (g .term .second) b in
     let i = union-set (g .n) a s ia (valued-set (g .n) (g .links .now) (g .term .second) b (start .pre .0 .size) ib l) in
-    let r = after-close2 .close2 .ensures (union a s) i (after-load4 .load4 .ensures b a ib e ra) in
+    let r = after-close2 .close-rows2 .ensures (union a s) i (after-load4 .load4 .ensures b a ib e ra) in
     rw (after-load4 .before .before .enum-told7 .given .1) (c .before .before .set-diagonal2 .ensures (closure (g .n) (union a s)) r)
 
 pub combine-spec : {M : Type 1} → statement M
@@ -152,13 +152,13 @@ combine-spec =
     with-second-requires-3
     enum-told-5
     load-requires-2
-    close-requires
+    close-rows-requires
     enum-told-6
     load-requires-3
     set-diagonal-requires
     enum-told-7
     load-requires-4
-    close-requires-2
+    close-rows-requires-2
     set-diagonal-requires-2
     same-length
     returns

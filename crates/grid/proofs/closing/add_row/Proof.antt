@@ -1,0 +1,94 @@
+-- `add_row` joins the words in the mask to those of the set. The loop's invariant: the columns before word c are added (`Adding`), and c is in the mask or past
+-- it. The measure is the words left. Assumes nothing.
+use mathlib.Core.Path.{_≡_, refl}
+use Prim.Native.Nat.{_+_, _-_, _<_}
+use native.Mathlib.Omega.{arith}
+use lib.ListN.{length, length-set}
+use Rattle.k2.specs.Bits.{digit}
+use Rattle.grid.proofs.ClosureLaws.{Adding, adding-none, adding-gap, adding-word}
+use Rattle.grid.proofs.closing.add_row.Statement.{statement}
+use Rattle.grid.proofs.closing.add_row.Tie as tie
+
+abbrev Inv-loop : tie.InvT-loop
+Inv-loop cells mask w b set₀ words c₀ set c = (length set ≡ length set₀) × (c < 64 → digit mask c ≡ 1) × Adding w b mask c cells set₀ set
+
+abbrev μ-loop : tie.MeasureT-loop
+μ-loop cells mask w b set₀ words c₀ set c = w - c
+
+lowest-requires : tie.Need-lowest-requires Inv-loop μ-loop
+lowest-requires c κs = tt
+
+loop-holds : tie.Need-loop-holds Inv-loop μ-loop
+loop-holds c =
+    let a = c .before .before .before .args in
+    let L = c .lowest .ensures in (
+      refl,
+      L .hit,
+      adding-gap (a .w) (a .b) (a .mask) (a .cells .now) (a .set .now) (a .set .now) 0 (c .lowest .result) (L .low) (L .gap)
+          (adding-none (a .w) (a .b) (a .mask) (a .cells .now) (a .set .now)),
+    )
+
+mul-set : tie.Need-mul-set Inv-loop μ-loop
+mul-set c = omega arith
+
+slice-read-set : tie.Need-slice-read-set Inv-loop μ-loop
+slice-read-set c = omega (arith, c .before .before .loop .inv .0)
+
+add-set : tie.Need-add-set Inv-loop μ-loop
+add-set c = omega arith
+
+mul-set-2 : tie.Need-mul-set-2 Inv-loop μ-loop
+mul-set-2 c = omega arith
+
+shared-slice-read-set : tie.Need-shared-slice-read-set Inv-loop μ-loop
+shared-slice-read-set c = omega arith
+
+mul-set-3 : tie.Need-mul-set-3 Inv-loop μ-loop
+mul-set-3 c = omega arith
+
+slice-write-set : tie.Need-slice-write-set Inv-loop μ-loop
+slice-write-set c = omega (arith, c .before .before .before .loop .inv .0)
+
+above-requires : tie.Need-above-requires Inv-loop μ-loop
+above-requires c κs = omega arith
+
+loop-less : tie.Need-loop-less Inv-loop μ-loop
+loop-less c = omega (arith, c .above .ensures .low)
+
+loop-again : tie.Need-loop-again Inv-loop μ-loop
+loop-again c =
+    let a = c .before .before .before .before .before .before .before .before .args in
+    let l = c .before .before .before .before .loop in
+    let L = c .above .ensures in (
+      simp length-set (l .inv .0),
+      L .hit,
+      adding-gap (a .w) (a .b) (a .mask) (a .cells .now) (a .set .now) _ (l .c + 1) (c .above .result) (L .low) (L .gap)
+          (adding-word (a .w) (a .b) (a .mask) (a .cells .now) (a .set .now) (l .set) (l .c) (omega (arith, l .inv .0)) (l .inv .1 (omega arith)) (l .inv .2)),
+    )
+
+same-length : tie.Need-same-length Inv-loop μ-loop
+same-length c = c .before .loop .inv .0
+
+returns : tie.Need-returns Inv-loop μ-loop
+returns c = λ y h. c .before .loop .inv .2 .done y (omega arith) h
+
+pub add-row-spec : {M : Type 1} → statement M
+add-row-spec =
+    tie.close
+    (tie.spec
+    Inv-loop
+    μ-loop
+    lowest-requires
+    loop-holds
+    mul-set
+    slice-read-set
+    add-set
+    mul-set-2
+    shared-slice-read-set
+    mul-set-3
+    slice-write-set
+    above-requires
+    loop-less
+    loop-again
+    same-length
+    returns)

@@ -1,0 +1,53 @@
+-- `lines::requests::alone` meets its contract (`alone-more`, `alone-is`). Assumes nothing.
+use mathlib.Core.Path.{sym, ap}
+use denote.Ref.{now}
+use Rattle.answers.specs.WrittenLaws.{wrote-as}
+use Rattle.lines.specs.SaidLaws.{alone-more, alone-is}
+use Rattle.lines.specs.Encoding.{sent}
+use borrow.Author.Needs.{needs}
+use Rattle.lines.proofs.requests.alone.Statement.{statement}
+use Rattle.lines.proofs.requests.alone.Tie as tie
+
+broken-requires : tie.Need-broken-requires
+broken-requires c κs = search needs
+
+same-length : tie.Need-same-length
+same-length c = search needs
+
+returns : tie.Need-returns
+returns c =
+    let t = c .before .before .before .before in
+    let a = t .before .before .before .args in
+    wrote-as (ap sent (sym (alone-more (a .kind) (now (a .s)) (t .if1 .taken)))) (c .before .before .broken .ensures)
+
+slice-aggregate-put-frame : tie.Need-slice-aggregate-put-frame
+slice-aggregate-put-frame c = search needs
+
+slice-aggregate-put-frame-2 : tie.Need-slice-aggregate-put-frame-2
+slice-aggregate-put-frame-2 c = search needs
+
+put-frame-requires : tie.Need-put-frame-requires
+put-frame-requires c κs = search needs
+
+same-length-2 : tie.Need-same-length-2
+same-length-2 c = search needs
+
+returns-2 : tie.Need-returns-2
+unfolding sent
+returns-2 c =
+    let t = c .before .before .before .before .before .before in
+    let a = t .before .before .before .args in
+    wrote-as (ap sent (sym (alone-is (a .kind) (now (a .s)) (t .if1 .left)))) (c .before .before .put-frame .ensures)
+
+pub alone-spec : {M : Type 1} → statement M
+alone-spec =
+    tie.close
+    (tie.spec
+    broken-requires
+    same-length
+    returns
+    slice-aggregate-put-frame
+    slice-aggregate-put-frame-2
+    put-frame-requires
+    same-length-2
+    returns-2)

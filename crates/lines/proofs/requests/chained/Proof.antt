@@ -1,0 +1,117 @@
+-- `lines::requests::chained` meets its contract, case by case (`chained-not-from`, `chained-not-to`, `chained-is`). Assumes nothing.
+use mathlib.Core.Path.{sym, ap}
+use native.Mathlib.Omega.{arith}
+use denote.Ref.{now}
+use lib.ListN.{length}
+use Rattle.answers.specs.WrittenLaws.{wrote-as}
+use Rattle.lines.specs.TypedLaws.{length-text}
+use Rattle.lines.specs.Encoding.{sent}
+use Rattle.lines.specs.SaidLaws.{EndsRead, chained-not-from, chained-not-to, chained-is}
+use borrow.Author.Needs.{needs}
+use Rattle.lines.proofs.requests.chained.Statement.{statement}
+use Rattle.lines.proofs.requests.chained.Tie as tie
+
+-- where every word is read: the start, and the words
+abbrev start : tie.After-text → tie.Start
+start c = c .before .before .before .before .before .before .before
+
+as-read : (c : tie.After-text)
+    → let u = c .before in
+    let y = u .before in
+    let t = y .before in
+    let x = t .before in
+    EndsRead (now (start c .args .s)) (x .number .result) (now (t .rest .result)) (y .number2 .result) (now (u .rest2 .result)) (now (c .text .result))
+as-read c =
+    let u = c .before in
+    let y = u .before in
+    let t = y .before in
+    let x = t .before in
+    record {
+      from = x .number .ensures;
+      after-from = t .rest .ensures;
+      to = y .number2 .ensures;
+      after-to = u .rest2 .ensures;
+      expression = c .text .ensures;
+    }
+
+number-requires : tie.Need-number-requires
+number-requires c κs = search needs
+
+rest-requires : tie.Need-rest-requires
+rest-requires c κs = search needs
+
+number-requires-2 : tie.Need-number-requires-2
+number-requires-2 c κs = search needs
+
+rest-requires-2 : tie.Need-rest-requires-2
+rest-requires-2 c κs = search needs
+
+text-requires : tie.Need-text-requires
+text-requires c κs = search needs
+
+broken-requires : tie.Need-broken-requires
+broken-requires c κs = search needs
+
+same-length : tie.Need-same-length
+same-length c = search needs
+
+returns : tie.Need-returns
+returns c =
+    let test = c .before .before .before .before in
+    let v = test .before in
+    wrote-as (ap sent (sym (chained-not-from (as-read v) (start v .args .kind) (test .if1 .taken)))) (c .before .before .broken .ensures)
+
+broken-requires-2 : tie.Need-broken-requires-2
+broken-requires-2 c κs = search needs
+
+same-length-2 : tie.Need-same-length-2
+same-length-2 c = search needs
+
+returns-2 : tie.Need-returns-2
+returns-2 c =
+    let test = c .before .before .before .before in
+    let v = test .before .before in
+    wrote-as (ap sent (sym (chained-not-to (as-read v) (start v .args .kind) (test .before .if1 .left) (test .if2 .taken))))
+    (c .before .before .broken2 .ensures)
+
+cast-put-ends : tie.Need-cast-put-ends
+cast-put-ends c = search needs
+
+cast-put-ends-2 : tie.Need-cast-put-ends-2
+cast-put-ends-2 c = search needs
+
+put-ends-requires : tie.Need-put-ends-requires
+put-ends-requires c κs =
+    let v = c .before .before .before in
+    (omega (arith, ap length (v .text .ensures), length-text (now (v .before .rest2 .result))), search needs)
+
+same-length-3 : tie.Need-same-length-3
+same-length-3 c = search needs
+
+returns-3 : tie.Need-returns-3
+unfolding sent
+returns-3 c =
+    let test = c .before .before .before .before in
+    let v = test .before .before in
+    wrote-as (ap sent (sym (chained-is (as-read v) (start v .args .kind) (test .before .if1 .left) (test .if2 .left)))) (c .before .before .put-ends .ensures)
+
+pub chained-spec : {M : Type 1} → statement M
+chained-spec =
+    tie.close
+    (tie.spec
+    number-requires
+    rest-requires
+    number-requires-2
+    rest-requires-2
+    text-requires
+    broken-requires
+    same-length
+    returns
+    broken-requires-2
+    same-length-2
+    returns-2
+    cast-put-ends
+    cast-put-ends-2
+    put-ends-requires
+    same-length-3
+    returns-3)

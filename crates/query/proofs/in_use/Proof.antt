@@ -1,0 +1,78 @@
+-- `in_use` sets a bit for each record that is not withdrawn. The loop's invariant: the bits are those of the records below i. The measure is the records left.
+-- It rests on `used-more` and `used-same`. Assumes nothing.
+use native.Mathlib.Omega.{arith}
+use mathlib.Core.Path.{_≡_, refl, sym, ap, _∙_}
+use mathlib.Core.Logic.{⊎-elim}
+use Prim.Native.Nat.{ℕ, _-_, _≤_}
+use lib.ListN.{length}
+use borrow.Author.Tests.{eq-eqb, ne-eqb}
+use Rattle.k2.specs.Bits.{bitAt}
+use Rattle.bits.specs.BitSets.{put}
+use Rattle.bits.specs.BitSetLaws.{bits-none}
+use Rattle.query.specs.Evaluation.{usedBelow}
+use Rattle.query.proofs.UsedLaws.{used-none, used-more, used-same}
+use Rattle.query.proofs.in_use.Statement.{statement}
+use Rattle.query.proofs.in_use.Tie as tie
+
+abbrev Inv-loop : tie.InvT-loop
+Inv-loop marks n records₀ i₀ records i = (i ≤ n) × (length records ≡ 16) × (bitAt records ≡ usedBelow i marks)
+
+abbrev μ-loop : tie.MeasureT-loop
+μ-loop marks n records₀ i₀ records i = n - i
+
+loop-holds : tie.Need-loop-holds Inv-loop μ-loop
+loop-holds c = (omega arith, refl, bits-none 16 ∙ sym (used-none (c .before .args .marks .now)))
+
+mul-if1 : tie.Need-mul-if1 Inv-loop μ-loop
+mul-if1 c = omega arith
+
+shared-slice-read-if1 : tie.Need-shared-slice-read-if1 Inv-loop μ-loop
+shared-slice-read-if1 c = omega (arith, c .before .before .before .before .pre .1)
+
+slice-aggregate-set-bit : tie.Need-slice-aggregate-set-bit Inv-loop μ-loop
+slice-aggregate-set-bit c = sym (c .before .before .before .before .loop .inv .1)
+
+set-bit-requires : tie.Need-set-bit-requires Inv-loop μ-loop
+set-bit-requires c κs = let l = c .before .before .before .before .loop in omega (arith, l .inv .1, c .before .before .before .before .before .before .pre .0)
+
+add-i : tie.Need-add-i Inv-loop μ-loop
+add-i c = omega arith
+
+loop-less : tie.Need-loop-less Inv-loop μ-loop
+loop-less c = omega arith
+
+loop-again : tie.Need-loop-again Inv-loop μ-loop
+loop-again c =
+    let l = c .before .before .before .loop in
+    let ms = c .before .before .before .before .before .args .marks .now in
+    ⊎-elim
+    (λ w. (
+      omega arith,
+      ap length (w .4) ∙ w .2 .kept .0 ∙ l .inv .1,
+      ap bitAt (w .4) ∙ w .2 .ensures ∙ ap (put (l .i) 1) (l .inv .2) ∙ used-more ms (l .i) (ne-eqb _ _ (w .0 .taken)),
+    ))
+    (λ w. (omega arith, ap length (w .1) ∙ l .inv .1, ap bitAt (w .1) ∙ l .inv .2 ∙ used-same ms (l .i) (eq-eqb _ _ (w .0 .left))))
+    (c .if1 .came)
+
+returns : tie.Need-returns Inv-loop μ-loop
+returns c =
+    let l = c .before .loop in
+    let a = c .before .before .before .args in
+    let e : l .i ≡ a .n = omega arith in
+    l .inv .2 ∙ ap (λ (k : ℕ). usedBelow k (a .marks .now)) e
+
+pub in-use-spec : {M : Type 1} → statement M
+in-use-spec =
+    tie.close
+    (tie.spec
+    Inv-loop
+    μ-loop
+    loop-holds
+    mul-if1
+    shared-slice-read-if1
+    slice-aggregate-set-bit
+    set-bit-requires
+    add-i
+    loop-less
+    loop-again
+    returns)

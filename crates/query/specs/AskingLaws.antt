@@ -1,0 +1,224 @@
+-- Laws of questions that count, and of the pair questions of both engines.
+--   asks-refused    a question whose outcome is a refusal with the number of a cause
+--   asks-listed     one whose outcome is how many there are, and the first of them, as many as the list takes
+--   faulty-caused   a verdict's number is a cause's
+--   outcome-faulty, outcome-short, outcome-paired
+--                   the outcome of a pair question by either engine: the verdict's number; 12; how many pairs there are, and the first of them
+--   asks-faulty, asks-short, asks-pairs
+--                   so it promises of any register
+--   tells-same      equal outcomes are told alike
+--   engines-outcome with both works enough both engines have the same outcome
+--   engines-same    asked of a register that represents a book, with both works enough: both give the same answer and the same list
+--   relation-refused, relation-short, relation-few, relation-paired
+--                   the outcome of the relation as rows: the verdict's number; 12 for the work or for the rows; how many pairs there are
+--   relates-faulty, relates-short, relates-few, relates-made
+--                   so it promises of any register: refused, or the rows made
+--   handed-tells    what is handed over is told by its outcome
+--   whole-contained what is handed over whole is contained in its list
+-- Assumes nothing.
+use mathlib.Core.Path.{_≡_, refl, sym, ap, _∙_, subst}
+use mathlib.Core.List.{List, _++_}
+use Prim.Native.Nat.{ℕ, zero, suc, _≤_, _<_}
+use native.Mathlib.Decide.{decLt}
+use native.Mathlib.Omega.{arith}
+use lib.ListN.{length, take, drop}
+use lib.Seq.{take-at, drop-at}
+use lib.Dec.{ltb}
+use borrow.Author.Tests.{lt-ltb, le-ltb}
+use Rattle.book.specs.Basics.{pick, over}
+use Rattle.book.specs.Causes.{short-work, short-list, number, Caused, firstNumber}
+use Rattle.book.specs.Book.{Book}
+use Rattle.answers.specs.Answers.{counted, answered, overUnless, Handed, Whole, Contained}
+use Rattle.answers.specs.AnswerLaws.{contained-refused, contained-count}
+use Rattle.answers.specs.ListingLaws.{shown-over, shown-past}
+use Rattle.answers.specs.declared.Counted.{Counted}
+use Rattle.answers.specs.declared.Counted.the-variants.{Count, Refused}
+use Rattle.k2.specs.Bits.{bitAt}
+use Rattle.paths.specs.Expressions.{Expr}
+use Rattle.paths.specs.Grammar.{Verdict, accepted, long, outside, large, verdictCause}
+use Rattle.paths.specs.Chains.{asked}
+use Rattle.paths.specs.Relations.{cells, pairs}
+use Rattle.paths.specs.PairLaws.{verdict-caused}
+use Rattle.paths.specs.Questions.{Outcome, Engine, refused, paired, pairsWork, workFor, pairsOf, pairsCauses, pairsAnswer}
+use Rattle.paths.specs.Questions.{unless, listAfter, countOf, Tells}
+use Rattle.reader.specs.Reads.{readAnswer}
+use Rattle.reader.specs.declared.Answer.the-variants.{Refused as Faulty}
+use Rattle.register.specs.Representation.{Represents}
+use Rattle.register.specs.declared.Register.{Register}
+use Rattle.rows.specs.Rows.{flat}
+use Rattle.query.specs.Asking.{Asks, AsksFor, maxPairs, rowWords, relationCauses, relationAnswer, RelatesFor}
+
+-- ---- any question that counts
+module _ (most : ℕ) (r : Register) (o : Book → Outcome) (before : List ℕ) where
+  pub asks-refused : (k : ℕ) → Caused k → ((b : Book) → Represents r b → o b ≡ refused k) → Asks most r o before before (Refused k)
+  unfolding listAfter countOf
+  asks-refused k z f = record {
+    contained = contained-refused most _ before before k z refl;
+    book = λ b R. let e = f b R in record { answer = rw e refl; list = rw e refl };
+  }
+
+  pub asks-listed : (l after : List ℕ) (t : ℕ) → t ≡ length l → length l ≤ most → after ≡ take (length before) l ++ drop (length l) before
+      → ((b : Book) → Represents r b → o b ≡ paired (length l) (take (length before) l)) → Asks most r o before after (Count t)
+  unfolding listAfter countOf counted
+  asks-listed l after t e h q f = record {
+    contained =
+        contained-count most t before after t (rw e h)
+        (ap (λ (i : ℕ). drop i after) e ∙ ap (drop (length l)) q ∙ shown-past l before ∙ ap (λ (i : ℕ). drop i before) (sym e));
+    book = λ b R. let z = f b R in record { answer = rw (z, e) refl; list = rw z (q ∙ shown-over l before) };
+  }
+
+-- ---- the outcome of a pair question
+pub faulty-caused : (v : Verdict) (k : ℕ) → readAnswer v ≡ Faulty k → Caused k
+unfolding readAnswer verdictCause firstNumber number
+faulty-caused (accepted e) k q = absurd (let z : _≡_ {A = ℕ} 0 1 = cc in omega arith)
+faulty-caused long k q = let z : 10 ≡ k = cc in verdict-caused long k z (omega arith)
+faulty-caused outside k q = let z : 9 ≡ k = cc in verdict-caused outside k z (omega arith)
+faulty-caused large k q = let z : 10 ≡ k = cc in verdict-caused large k z (omega arith)
+
+module _ (d : Engine) (b : Book) (work room : ℕ) where
+  pub outcome-faulty : (v : Verdict) (k : ℕ) → readAnswer v ≡ Faulty k → pairsAnswer d b v work room ≡ refused k
+  unfolding pairsAnswer pairsCauses verdictCause firstNumber number readAnswer
+  outcome-faulty (accepted e) k q = absurd (let z : _≡_ {A = ℕ} 0 1 = cc in omega arith)
+  outcome-faulty long k q = let z : 10 ≡ k = cc in ap refused z
+  outcome-faulty outside k q = let z : 9 ≡ k = cc in ap refused z
+  outcome-faulty large k q = let z : 10 ≡ k = cc in ap refused z
+
+  pub outcome-short : (e : Expr) → work < workFor d (b .n) → pairsAnswer d b (accepted e) work room ≡ refused 12
+  unfolding pairsAnswer pairsCauses verdictCause firstNumber number
+  outcome-short e h = rw (lt-ltb work (workFor d (b .n)) h)
+
+  pub outcome-paired : (e : Expr) → workFor d (b .n) ≤ work
+      → pairsAnswer d b (accepted e) work room ≡ paired (length (pairs (asked b) e)) (take room (pairs (asked b) e))
+  unfolding pairsAnswer pairsCauses verdictCause firstNumber number pairsOf
+  outcome-paired e h = rw (le-ltb work (workFor d (b .n)) h)
+
+-- ---- what it promises
+module _ (d : Engine) (r : Register) (work : ℕ) (before : List ℕ) where
+  pub asks-faulty : (v : Verdict) (k : ℕ) → readAnswer v ≡ Faulty k → AsksFor d r v work before before (Refused k)
+  asks-faulty v k e = asks-refused maxPairs r _ before k (faulty-caused v k e) (λ b R. outcome-faulty d b work (length before) v k e)
+
+  module _ {v : Verdict} (e : Expr) (is : v ≡ accepted e) (n : ℕ) (size : (b : Book) → Represents r b → n ≡ b .n) where
+    pub asks-short : work < workFor d n → AsksFor d r v work before before (Refused 12)
+    unfolding number
+    asks-short h =
+        subst (λ (w : Verdict). AsksFor d r w work before before (Refused 12)) (sym is) (asks-refused maxPairs r _ before 12 (short-work, refl)
+        (λ b R. outcome-short d b work (length before) e (subst (λ (i : ℕ). work < workFor d i) (size b R) h)))
+
+    pub asks-pairs : workFor d n ≤ work → (l after : List ℕ) (t : ℕ) → t ≡ length l → length l ≤ maxPairs
+        → after ≡ take (length before) l ++ drop (length l) before
+        → ((b : Book) → Represents r b → l ≡ pairs (asked b) e) → AsksFor d r v work before after (Count t)
+    asks-pairs h l after t q few written value =
+        subst (λ (w : Verdict). AsksFor d r w work before after (Count t)) (sym is) (asks-listed maxPairs r _ before l after t q few written
+        (λ b R. outcome-paired d b work (length before) e (subst (λ (i : ℕ). workFor d i ≤ work) (size b R) h)
+        ∙ ap (λ (x : List ℕ). paired (length x) (take (length before) x)) (sym (value b R))))
+
+-- ---- both engines
+-- equal outcomes are told alike
+pub tells-same : {o o′ : Outcome} {before after after′ : List ℕ} {a a′ : Counted} → o ≡ o′ → Tells o before after a → Tells o′ before after′ a′
+    → (a ≡ a′) × (after ≡ after′)
+tells-same {before = before} e t t′ =
+    (t .answer ∙ ap countOf e ∙ sym (t′ .answer), t .list ∙ ap (λ (x : Outcome). listAfter x before) e ∙ sym (t′ .list))
+
+module _ (d d′ : Engine) (b : Book) (work work′ : ℕ) (h : workFor d (b .n) ≤ work) (h′ : workFor d′ (b .n) ≤ work′) where
+  pub engines-outcome : (v : Verdict) (room : ℕ) → pairsAnswer d b v work room ≡ pairsAnswer d′ b v work′ room
+  unfolding pairsAnswer pairsCauses verdictCause
+  engines-outcome v room = rw (le-ltb work (workFor d (b .n)) h, le-ltb work′ (workFor d′ (b .n)) h′)
+
+  pub engines-same : (r : Register) (v : Verdict) (before after after′ : List ℕ) (a a′ : Counted) → Represents r b
+      → AsksFor d r v work before after a → AsksFor d′ r v work′ before after′ a′ → (a ≡ a′) × (after ≡ after′)
+  engines-same r v before after after′ a a′ R A A′ = tells-same (engines-outcome v (length before)) (A .book b R) (A′ .book b R)
+
+-- ---- the relation as rows
+module _ (b : Book) (work rows : ℕ) where
+  relation-refused : (v : Verdict) (k : ℕ) → readAnswer v ≡ Faulty k → relationAnswer b v work rows ≡ refused k
+  unfolding relationAnswer relationCauses verdictCause firstNumber number readAnswer
+  relation-refused (accepted e) k q = absurd (let z : _≡_ {A = ℕ} 0 1 = cc in omega arith)
+  relation-refused long k q = let z : 10 ≡ k = cc in ap refused z
+  relation-refused outside k q = let z : 9 ≡ k = cc in ap refused z
+  relation-refused large k q = let z : 10 ≡ k = cc in ap refused z
+
+  pub relation-short : (e : Expr) → work < pairsWork (b .n) → relationAnswer b (accepted e) work rows ≡ refused 12
+  unfolding relationAnswer relationCauses verdictCause firstNumber number
+  relation-short e h = rw (lt-ltb work (pairsWork (b .n)) h)
+
+  module _ (e : Expr) (h : pairsWork (b .n) ≤ work) where
+    relation-few : rows < rowWords → relationAnswer b (accepted e) work rows ≡ refused 12
+    unfolding relationAnswer relationCauses verdictCause firstNumber number
+    relation-few l = rw (le-ltb work (pairsWork (b .n)) h, lt-ltb rows rowWords l)
+
+    pub relation-paired : rowWords ≤ rows → relationAnswer b (accepted e) work rows ≡ paired (length (pairs (asked b) e)) (pairs (asked b) e)
+    unfolding relationAnswer relationCauses verdictCause firstNumber number pairsOf
+    relation-paired l = rw (le-ltb work (pairsWork (b .n)) h, le-ltb rows rowWords l)
+
+accepted-same : {e f : Expr} → accepted e ≡ accepted f → e ≡ f
+accepted-same e = cc
+
+module _ (r : Register) (v : Verdict) (work : ℕ) (before : List ℕ) where
+  relates-refused : (k : ℕ) → Caused k → ((b : Book) → Represents r b → relationAnswer b v work (length before) ≡ refused k)
+      → RelatesFor r v work before before (Refused k)
+  unfolding countOf
+  relates-refused k z f = record {
+    contained = contained-refused maxPairs rowWords before before k z refl;
+    book = λ b R. record { answer = ap countOf (sym (f b R)); rows = λ e s i q. absurd (let y : _≡_ {A = ℕ} 0 1 = cc in omega arith) };
+  }
+
+  pub relates-faulty : (k : ℕ) → readAnswer v ≡ Faulty k → RelatesFor r v work before before (Refused k)
+  relates-faulty k e = relates-refused k (faulty-caused v k e) (λ b R. relation-refused b work (length before) v k e)
+
+  module _ (e : Expr) (is : v ≡ accepted e) (n : ℕ) (size : (b : Book) → Represents r b → n ≡ b .n) where
+    pub relates-short : work < pairsWork n → RelatesFor r v work before before (Refused 12)
+    unfolding number
+    relates-short h =
+        relates-refused 12 (short-work, refl) (λ b R. ap (λ (w : Verdict). relationAnswer b w work (length before)) is
+        ∙ relation-short b work (length before) e (subst (λ (i : ℕ). work < pairsWork i) (size b R) h))
+
+    pub relates-few : pairsWork n ≤ work → length before < rowWords → RelatesFor r v work before before (Refused 12)
+    unfolding number
+    relates-few h l =
+        relates-refused 12 (short-work, refl) (λ b R. ap (λ (w : Verdict). relationAnswer b w work (length before)) is
+        ∙ relation-few b work (length before) e (subst (λ (i : ℕ). pairsWork i ≤ work) (size b R) h) l)
+
+  -- the rows of an expression, and how many pairs it has, in the first words of a list
+  pub relates-made : (e : Expr) (n t : ℕ) (part : List ℕ) → v ≡ accepted e → ((b : Book) → Represents r b → n ≡ b .n)
+      → pairsWork n ≤ work → rowWords ≤ length before → length part ≡ rowWords → t ≤ maxPairs
+      → ((b : Book) → Represents r b → (bitAt part ≡ flat (cells (asked b) e)) × (t ≡ length (pairs (asked b) e)))
+      → RelatesFor r v work before (part ++ drop rowWords before) (Count t)
+  unfolding countOf counted
+  relates-made e n t part d size h l wide few made = record {
+    contained = contained-count maxPairs rowWords before (part ++ drop rowWords before) t few (drop-at part (drop rowWords before) rowWords wide);
+    book = λ b R.
+        let m = made b R in
+        let o : relationAnswer b v work (length before) ≡ paired (length (pairs (asked b) e)) (pairs (asked b) e) =
+        ap (λ (x : Verdict). relationAnswer b x work (length before)) d
+        ∙ relation-paired b work (length before) e (subst (λ (i : ℕ). pairsWork i ≤ work) (size b R) h) l in
+        record {
+          answer = ap Count (m .1) ∙ ap countOf (sym o);
+          rows =
+              λ f q i p. let y : e ≡ f = accepted-same (sym d ∙ q) in
+              ap bitAt (take-at part (drop rowWords before) rowWords wide) ∙ m .0 ∙ ap (λ (x : Expr). flat (cells (asked b) x)) y;
+        };
+  }
+
+pub handed-tells : (k : ℕ) {xs ws before after : List ℕ} {a : Counted} → Handed k xs ws before after a → Tells (unless k (paired (length xs) ws)) before after a
+unfolding answered overUnless countOf listAfter
+handed-tells zero H = record { answer = H .answer; list = H .list }
+handed-tells (suc k) H = record { answer = H .answer; list = H .list }
+
+pub whole-contained : {xs before after : List ℕ} {a : Counted} → Whole xs before after a → Contained (length before) (counted a) before after a
+unfolding answered overUnless counted firstNumber number
+whole-contained {xs} {before} {after} {a} W = go (decLt (length before) (length xs))
+  where
+    go : Dec (length before < length xs) → Contained (length before) (counted a) before after a
+    go (yes h) =
+        let k : _≡_ {A = ℕ} (pick (ltb (length before) (length xs)) 13 0) 13 = rw (lt-ltb (length before) (length xs) h) refl in
+        let e : a ≡ Refused 13 = W .answer ∙ ap (λ (j : ℕ). answered j (length xs)) k in
+        let l : after ≡ before = W .list ∙ ap (λ (j : ℕ). overUnless j xs before) k in
+        subst (λ (c : Counted). Contained (length before) (counted c) before after c) (sym e)
+        (contained-refused (length before) 0 before after 13 (short-list, refl) l)
+    go (no h) =
+        let k : _≡_ {A = ℕ} (pick (ltb (length before) (length xs)) 13 0) 0 = rw (le-ltb (length before) (length xs) (omega arith)) refl in
+        let e : a ≡ Count (length xs) = W .answer ∙ ap (λ (j : ℕ). answered j (length xs)) k in
+        let l : after ≡ over xs before = W .list ∙ ap (λ (j : ℕ). overUnless j xs before) k in
+        subst (λ (c : Counted). Contained (length before) (counted c) before after c) (sym e)
+        (contained-count (length before) (length xs) before after (length xs) (omega arith)
+        (ap (drop (length xs)) l ∙ drop-at xs (drop (length xs) before) (length xs) refl))

@@ -1,0 +1,6 @@
+pub mod Asking
+pub mod AskingLaws
+pub mod Evaluation
+pub mod EvaluationLaws
+pub mod LetterLaws
+pub mod WorkLaws

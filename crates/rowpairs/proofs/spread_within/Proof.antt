@@ -1,0 +1,81 @@
+-- `spread_within` runs the code, and spreads the relation that it leaves. Assumes nothing.
+use native.Mathlib.Omega.{arith}
+use native.Mathlib.Nat.{mul-le-mul}
+use mathlib.Core.Path.{_≡_}
+use Prim.Native.Nat.{_*_, _≤_}
+use lib.ListN.{length}
+use Rattle.rowpairs.specs.Evaluation.{Lent}
+use Rattle.rowpairs.proofs.StepLaws.{list-space}
+use Rattle.rowpairs.proofs.AnswerLaws.{spread-value}
+use borrow.Author.Needs.{needs}
+use Rattle.rowpairs.proofs.spread_within.Statement.{statement}
+use Rattle.rowpairs.proofs.spread_within.Tie as tie
+
+-- the work and the masks are as long as they were
+lent : (c : tie.After-run)
+    → let start = c .before .before .before .before .before .before .before .before in
+    Lent (start .args .n) 0 (length (c .run .last .1 .1 .0)) (length (c .run .last .1 .1 .1 .0))
+lent c =
+    let start = c .before .before .before .before .before .before .before .before in
+    let k : length (c .run .last .1 .1 .0) ≡ length (start .args .work .now) = c .run .kept .1 .1 .0 in
+    let j : length (c .run .last .1 .1 .1 .0) ≡ 20481 = c .run .kept .1 .1 .1 .0 in
+    record { small = start .pre .0; words = omega (arith, start .pre .1, k); marks = omega (arith, start .pre .0, j) }
+
+slice-aggregate-run : tie.Need-slice-aggregate-run
+slice-aggregate-run c = search needs
+
+run-requires : tie.Need-run-requires
+run-requires c κs =
+    let start = c .before .before .before .before .before .before .before in
+    let P = start .pre in (
+      λ k h l. record {
+        small = P .0;
+        words = P .1;
+        marks = let p : k * start .args .n ≤ 19456 = mul-le-mul {n₂ = 19} {m₂ = 1024} h (P .0) in omega (arith, p, P .0);
+      },
+      P .2,
+      P .4,
+    )
+
+slice-aggregate-spread : tie.Need-slice-aggregate-spread
+slice-aggregate-spread c = search needs
+
+row-width-requires : tie.Need-row-width-requires
+row-width-requires c κs = search needs
+
+spread-requires : tie.Need-spread-requires
+spread-requires c κs =
+    let after-run = c .before .before .before .before .before .before .before in
+    let start = after-run .before .before .before .before .before .before .before .before in
+    let s = list-space _ _ 0 _ _ (c .before .row-width .ensures) (lent after-run) in
+    (s .0, s .1, s .2, s .3, s .4, start .pre .3)
+
+same-length : tie.Need-same-length
+same-length c = search needs
+
+same-length-2 : tie.Need-same-length-2
+same-length-2 c = search needs
+
+returns : tie.Need-returns
+returns c =
+    let after-row-width = c .before .before .before .before in
+    let start = after-row-width .before .before .before .before .before .before .before .before .before .before .before .before .before .before in
+    let after-run = after-row-width .before .before .before .before .before .before in
+    let m = after-run .run in
+    let a = start .args in
+    let t = c .before .before .spread in
+    spread-value (a .n) _ (a .links .now) (a .marks .now) (a .code .now) (m .last .1 .1 .0) (m .last .1 .1 .1 .0)
+    (after-row-width .row-width .ensures) (start .pre .0) (m .ensures) _ _ (t .ensures .1) (t .ensures .0)
+
+pub spread-within-spec : {M : Type 1} → statement M
+spread-within-spec =
+    tie.close
+    (tie.spec
+    slice-aggregate-run
+    run-requires
+    slice-aggregate-spread
+    row-width-requires
+    spread-requires
+    same-length
+    same-length-2
+    returns)

@@ -1,0 +1,31 @@
+-- `session::halt` meets its contract: the input is at its end (`at-end`), or what is left of it is no whole frame (`no-frame`). Assumes nothing.
+use native.Mathlib.Omega.{arith}
+use denote.Ref.{now}
+use borrow.Author.Needs.{needs}
+use Rattle.book.specs.Causes.{number}
+use Rattle.session.specs.StepLaws.{whole-none, at-end, no-frame}
+use Rattle.session.proofs.halt.Statement.{statement}
+use Rattle.session.proofs.halt.Tie as tie
+
+returns : tie.Need-returns
+returns c =
+    let s = c .before .before .before .args in
+    λ work l enough. at-end work (s .state) (now (s .input)) l (now (s .out)) enough (c .if1 .taken)
+
+put-refused-requires : tie.Need-put-refused-requires
+put-refused-requires c κs = search needs
+
+same-length : tie.Need-same-length
+same-length c = search needs
+
+returns-2 : tie.Need-returns-2
+unfolding number
+returns-2 c =
+    let start = c .before .before .before .before .before .before .before in
+    let s = start .args in
+    let none = start .pre .0 in
+    λ work l enough. no-frame work (s .state) (now (s .input)) l (now (s .out)) _ _ _ enough none (c .before .before .put-refused .ensures)
+    (whole-none (now (s .input)) (omega arith) none work)
+
+pub halt-spec : {M : Type 1} → statement M
+halt-spec = tie.close (tie.spec returns put-refused-requires same-length returns-2)
