@@ -17,8 +17,8 @@ use Rattle.paths.specs.Chains.{asked}
 use Rattle.paths.specs.ChainLaws.{Inside}
 use Rattle.paths.specs.PairLaws.{in-use, fit-inside}
 use Rattle.register.specs.declared.Register.{Register}
-use Rattle.register.specs.Links.{linkWord, linkOf, Linked}
-use Rattle.register.specs.LinkLaws.{linkOf-word}
+use Rattle.links.specs.Links.{linkWord, linkOf, Linked}
+use Rattle.links.specs.LinkLaws.{linkOf-word}
 use Rattle.register.specs.Representation.{Represents}
 use Rattle.register.specs.Questions.{Withdrawal}
 use Rattle.arcs.specs.Arcs.{Spans}

@@ -32,7 +32,7 @@ use Rattle.paths.specs.GraphLaws.{some-reply}
 use Rattle.paths.specs.Verdicts.{verdict, verdict-right, verdict-only}
 use Rattle.paths.specs.Questions.{Outcome, refused, replied, unless, workFor, chainWork, ReplyTo, steps, chainCauses, chainAnswer}
 use Rattle.paths.specs.Questions.{pairsCauses, pairsAnswer, over, listAfter, countOf, Tells}
-use Rattle.register.specs.Links.{Linked}
+use Rattle.links.specs.Links.{Linked}
 use Rattle.register.specs.Representation.{Represents}
 use Rattle.register.specs.Calls.{Opens}
 use Rattle.register.specs.History.{Gives, CallsMade, wordCall, wordAnswers, isCall, callsOf, toldCalls}

@@ -35,7 +35,8 @@ use Rattle.register.specs.Questions.{Sized, Listing, MarkList}
 use Rattle.register.specs.Representation.{Represents}
 use Rattle.register.specs.declared.Register.{Register}
 use Rattle.register.specs.declared.Links.{Links}
-use Rattle.rows.specs.Rows.{linkPair, labelled, crossedWords}
+use Rattle.rows.specs.Rows.{labelled, crossedWords}
+use Rattle.links.specs.Links.{linkPair}
 use Rattle.query.specs.Evaluation.{usedBelow, Lettered}
 
 -- ---- the words of a set of labels

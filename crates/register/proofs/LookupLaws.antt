@@ -23,9 +23,9 @@ use Rattle.book.specs.Book.{Link, Sheet, present, touched}
 use Rattle.book.specs.ListLaws.{in-front, in-none, in-at, at-in, map-in, in-map, rises-from}
 use Rattle.book.specs.Sheets.{Fit}
 use Rattle.book.specs.BookLaws.{touched-end, end-touched}
-use Rattle.register.specs.Links.{linkWord, linkOf, Linked}
+use Rattle.links.specs.Links.{linkWord, linkOf, linkPair, Linked}
 use Rattle.register.specs.Inner.{Seam, hasAt}
-use Rattle.register.specs.Lookups.{pairOf, PairsOf, ofLabel, LabelPart, firstPlace, nextPlace}
+use Rattle.register.specs.Lookups.{PairsOf, ofLabel, LabelPart, firstPlace, nextPlace}
 use Rattle.register.proofs.AscendingLaws.{below, seam-list}
 
 -- ---- the part between two numbers
@@ -106,14 +106,15 @@ in-of-label {w} l (there {v = y} {l = ys} h) e = go (eqb (y / 1048576) l) (in-of
     go false i = i
 
 rises-pairs : {m : ℕ} (label : ℕ) {l : List ℕ} → Rises m l → label * 1048576 ≤ m
-    → ((w : ℕ) → In w l → w < label * 1048576 + 1048576) → Rises (m - label * 1048576) (map pairOf l)
+    → ((w : ℕ) → In w l → w < label * 1048576 + 1048576) → Rises (m - label * 1048576) (map linkPair l)
+unfolding linkPair
 rises-pairs label ended h f = ended
 rises-pairs {m} label (rises {w = w} {l = l} g r) h f =
     let p = f w here in
     let q : w % 1048576 ≡ w - label * 1048576 = omega arith in
     let t : suc w - label * 1048576 ≡ suc (w % 1048576) = omega arith in
     rises {m = m - label * 1048576} {w = w % 1048576} (omega arith)
-    (subst (λ (v : ℕ). Rises v (map pairOf l)) t (rises-pairs label r (omega arith) (λ v i. f v (there i))))
+    (subst (λ (v : ℕ). Rises v (map linkPair l)) t (rises-pairs label r (omega arith) (λ v i. f v (there i))))
 
 -- the part between the places of a label's first word and of the next label's
 part-words : (ws : List ℕ) (label i k : ℕ) → Seam (label * 1048576) ws (length ws) i
@@ -126,7 +127,8 @@ part-words ws label i k first second up =
 
 -- the pairs of the words of a label are those of its links
 module _ (ws : List ℕ) (label : ℕ) {n : ℕ} (small : n ≤ maxRecords) {s : Sheet} (fit : Fit n s) (linked : Linked ws s) where
-  label-pairs : PairsOf s label (map pairOf (ofLabel label ws))
+  label-pairs : PairsOf s label (map linkPair (ofLabel label ws))
+  unfolding linkPair
   label-pairs = record {
     ascending =
         let e : label * 1048576 - label * 1048576 ≡ 0 = omega arith in
@@ -135,7 +137,7 @@ module _ (ws : List ℕ) (label : ℕ) {n : ℕ} (small : n ≤ maxRecords) {s :
         (of-label-rises label (rises-drop (label * 1048576) (linked .ascending))) in
         rw e at (rises-pairs label r (omega arith) (λ w h. let q = of-label-in label ws h .1 in omega arith));
     sound = λ _ h.
-        let r = in-map pairOf (ofLabel label ws) h in
+        let r = in-map linkPair (ofLabel label ws) h in
         let q = of-label-in label ws (r .1) in
         let o = linked .sound (r .0) (q .0) in
         let p = fit .links (o .0) (o .2) in
@@ -146,7 +148,7 @@ module _ (ws : List ℕ) (label : ℕ) {n : ℕ} (small : n ≤ maxRecords) {s :
         let p = fit .links _ e in
         let w : ℕ = linkWord (record { from = x; label = label; to = y }) in
         let v : w % 1048576 ≡ x * 1024 + y = omega (arith, p .from, p .to) in
-        subst (λ (u : ℕ). In u (map pairOf (ofLabel label ws))) v (map-in pairOf (in-of-label label (linked .whole _ e) (omega (arith, p .from, p .to))));
+        subst (λ (u : ℕ). In u (map linkPair (ofLabel label ws))) v (map-in linkPair (in-of-label label (linked .whole _ e) (omega (arith, p .from, p .to))));
   }
 
 pub label-part : (ws rest : List ℕ) (label i k : ℕ) → rest ≡ drop i ws
@@ -158,7 +160,7 @@ label-part ws rest label i k e first second =
       inside = (i, k, refl);
       words = f;
       pairs = λ n s small fit linked.
-          subst (λ (ps : List ℕ). PairsOf s label (map pairOf ps)) (sym (f (linked .ascending))) (label-pairs ws label small fit linked);
+          subst (λ (ps : List ℕ). PairsOf s label (map linkPair ps)) (sym (f (linked .ascending))) (label-pairs ws label small fit linked);
     })
 
 -- ---- the next place whose word passes a test

@@ -29,7 +29,7 @@ use Rattle.book.specs.Book.{Link, Sheet, Book, Edit, add, remove, Call, edit, u
 use Rattle.book.specs.Book.{next}
 use Rattle.book.specs.Sheets.{Proper}
 use Rattle.book.specs.BookLaws.{caused-positive, first-proper}
-use Rattle.register.specs.Links.{linkWord}
+use Rattle.links.specs.Links.{linkWord}
 use Rattle.register.specs.Marks.{withdrawnMark}
 use Rattle.register.specs.Packed.{Packed, heldWord, takeBackKind, takeBack, Shows, Piled}
 use Rattle.register.specs.Counters.{Ranged, InRange}

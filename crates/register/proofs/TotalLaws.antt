@@ -26,7 +26,7 @@ use Rattle.book.specs.Book.{Sheet, Book, total}
 use Rattle.book.specs.Sheets.{Distinct}
 use Rattle.book.specs.SetLaws.{eqb-test}
 use Rattle.book.specs.TotalLaws.{tally-le, tally-without, total-told, total-refused}
-use Rattle.register.specs.Links.{labelUnit, wordTotal}
+use Rattle.links.specs.Links.{labelUnit, wordTotal}
 use Rattle.register.specs.Packed.{Packed, insert, Shows}
 use Rattle.register.specs.Counters.{InRange}
 use Rattle.register.specs.Questions.{Totals}

@@ -25,8 +25,8 @@ use Rattle.book.specs.ListLaws.{in-none, in-front}
 use Rattle.book.specs.SetLaws.{eqb-test, sameLink-test, and-both, has-in, in-has, has-without, distinct-without}
 use Rattle.book.specs.Sheets.{Distinct, Fit}
 use Rattle.book.specs.TotalLaws.{tally-le, tally-without}
-use Rattle.register.specs.Links.{linkWord, linkOf, labelUnit, wordTotal, Linked}
-use Rattle.register.specs.LinkLaws.{word-link}
+use Rattle.links.specs.Links.{linkWord, linkOf, labelUnit, wordTotal, Linked}
+use Rattle.links.specs.LinkLaws.{word-link}
 use Rattle.register.specs.Marks.{freeMark, markOf}
 use Rattle.register.specs.Packed.{Shows, Piled}
 use Rattle.register.specs.Representation.{latest, packedOf, Represents}

@@ -10,7 +10,7 @@ use mathlib.Core.Bool.{Bool}
 use Prim.Native.Nat.{ℕ, _≤_, _<_}
 use lib.ListN.{length, take, getD}
 use Rattle.book.specs.Causes.{labels}
-use Rattle.register.specs.Links.{linkOf, wordTotal}
+use Rattle.links.specs.Links.{linkOf, wordTotal}
 use Rattle.register.specs.Parting.{filter, apart}
 
 abbrev pub apartWord : ℕ → ℕ → Bool

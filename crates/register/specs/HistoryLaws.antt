@@ -30,7 +30,7 @@ use Rattle.book.specs.Causes.{labels, number, firstNumber, maxRecords}
 use Rattle.book.specs.Book.{sameLink, Sheet, Book, add, remove, lock, unlock, withdraw, reinstate, Call, edit, undo, close, isLocked, isWithdrawn, total}
 use Rattle.book.specs.Book.{answer, next, freshAnswer, fresh, answers, after, givens}
 use Rattle.book.specs.Sheets.{Distinct, Fit, Sound}
-use Rattle.register.specs.Links.{Linked}
+use Rattle.links.specs.Links.{Linked}
 use Rattle.register.specs.Marks.{lockMark, withdrawnMark, hasMark}
 use Rattle.register.specs.Packed.{Packed, takeBack, Piled}
 use Rattle.register.specs.Representation.{heldWords, packedOf, Represents}

@@ -27,7 +27,7 @@ use Rattle.book.specs.Basics.{bit, Rises}
 use Rattle.book.specs.Causes.{Cause, no-record, bad-label, locked-end, not-open, withdrawn-record, number, Caused, firstNumber, labels, maxRecords, maxLinks}
 use Rattle.book.specs.Causes.{maxHeld}
 use Rattle.book.specs.Book.{Link}
-use Rattle.register.specs.Links.{linkWord, wordTotal}
+use Rattle.links.specs.Links.{linkWord, wordTotal}
 use Rattle.register.specs.Marks.{freeMark, lockMark, withdrawnMark, hasMark, Marked}
 use Rattle.register.specs.Packed.{Packed, takeBackKind}
 use Rattle.register.specs.Counters.{Ranged}

@@ -1,4 +1,3 @@
-pub mod Links
 pub mod Marks
 pub mod Packed
 pub mod Counters
@@ -15,7 +14,6 @@ pub mod Closing
 pub mod Parting
 pub mod Apart
 pub mod MarkLaws
-pub mod LinkLaws
 pub mod HistoryLaws
 pub mod EntryLaws
 pub mod LaidLaws

@@ -1,5 +1,4 @@
 -- What is looked up among the words of a register's links: the part of one label, and the next word that passes a test.
---   pairOf w        the pair of a link's word, from × 1,024 + to
 --   PairsOf s l ps  ps are the pairs x × 1,024 + y of the links x l y of the sheet s, ascending, each once
 --   ofLabel l ws    those of the words that are of links of the label l, in their order
 --   LabelPart ws l part
@@ -12,17 +11,14 @@
 use mathlib.Core.Path.{_≡_}
 use mathlib.Core.List.{List, [], _∷_, map}
 use mathlib.Core.Bool.{Bool, true}
-use Prim.Native.Nat.{ℕ, suc, _+_, _*_, _%_, _≤_, min}
+use Prim.Native.Nat.{ℕ, suc, _+_, _*_, _≤_, min}
 use lib.Dec.{eqb}
 use lib.ListN.{length, take, drop}
 use Rattle.book.specs.Basics.{pick, In, Rises}
 use Rattle.book.specs.Causes.{maxRecords}
 use Rattle.book.specs.Book.{Sheet, present}
 use Rattle.book.specs.Sheets.{Fit}
-use Rattle.register.specs.Links.{linkOf, Linked}
-
-abbrev pub pairOf : ℕ → ℕ
-pairOf w = w % 1048576
+use Rattle.links.specs.Links.{linkOf, linkPair, Linked}
 
 pub record PairsOf (s : Sheet) (l : ℕ) (ps : List ℕ) : Type 0 where
   pub ascending : Rises 0 ps
@@ -38,7 +34,7 @@ ofLabel l (w ∷ ws) = pick (eqb (linkOf w .label) l) (w ∷ ofLabel l ws) (ofLa
 pub record LabelPart (ws : List ℕ) (l : ℕ) (part : List ℕ) : Type 0 where
   pub inside : (i k : ℕ) × (part ≡ take k (drop i ws))
   pub words : Rises 0 ws → part ≡ ofLabel l ws
-  pub pairs : (n : ℕ) (s : Sheet) → n ≤ maxRecords → Fit n s → Linked ws s → PairsOf s l (map pairOf part)
+  pub pairs : (n : ℕ) (s : Sheet) → n ≤ maxRecords → Fit n s → Linked ws s → PairsOf s l (map linkPair part)
 
 unfoldable pub firstPlace : (ℕ → Bool) → List ℕ → ℕ
 firstPlace test [] = 0

@@ -16,7 +16,7 @@ use lib.Dec.{eqb, ltb}
 use Rattle.book.specs.Basics.{pick, without}
 use Rattle.book.specs.Book.{Sheet, Edit, add, remove, lock, unlock, withdraw, reinstate, total}
 use Rattle.book.specs.Sheets.{Fit}
-use Rattle.register.specs.Links.{linkWord, wordTotal, Linked}
+use Rattle.links.specs.Links.{linkWord, wordTotal, Linked}
 use Rattle.register.specs.Marks.{freeMark, lockMark, withdrawnMark, markOf}
 
 pub record Packed : Type 0 where

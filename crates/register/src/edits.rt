@@ -3,7 +3,6 @@
 use crate::Answer;
 use crate::Call;
 use crate::FREE_MARK;
-use crate::FROM_UNIT;
 use crate::KIND_UNIT;
 use crate::LABELS;
 use crate::LAST_HELD;
@@ -26,14 +25,14 @@ use crate::sorted::stands;
 use crate::state::ranged;
 use crate::totals::lower;
 use crate::totals::raise;
+use links::link_word;
 ghost use mathlib.Core.Path.{_≡_};
 ghost use Prim.Native.Nat.{_≤_, _<_};
 ghost use lib.ListN.{length, set};
 ghost use lib.Dec.{eqb};
 ghost use Rattle.book.specs.Basics.{without};
-ghost use Rattle.book.specs.Causes.{firstNumber, maxRecords, labels, maxLinks, maxHeld};
+ghost use Rattle.book.specs.Causes.{firstNumber, maxRecords, maxLinks, maxHeld};
 ghost use Rattle.book.specs.Book.{add, remove, lock, unlock, withdraw, reinstate, edit, undo};
-ghost use Rattle.register.specs.Links.{linkWord};
 ghost use Rattle.register.specs.Packed.{insert};
 ghost use Rattle.register.specs.Representation.{packedOf};
 ghost use Rattle.register.specs.Calls.{callOf, Steps};
@@ -66,14 +65,6 @@ fn link_cause(n: u16, marks: &[u32], from: u16, label: u8, to: u16) -> u32
         return book::LOCKED_END;
     }
     0
-}
-
-// A link's word.
-fn link_word(from: u16, label: u8, to: u16) -> u32
-    requires { ⌜ (from < maxRecords) × (label < labels) × (to < maxRecords) ⌝ }
-    ensures { λ r. ⌜ r ≡ linkWord (record { from = from; label = label; to = to }) ⌝ }
-{
-    (label as u32 * FROM_UNIT + from as u32) * FROM_UNIT + to as u32
 }
 
 // A link as it is named in a call.

@@ -1,10 +1,8 @@
-// The register: links, marks and held edits by value. This file has its types and its numbers, and passes the rest on: sorted.rt ascending words, fields.rt
-// the parts of a link's word, state.rt a fresh register, totals.rt the totals, edits.rt the calls that edit it, closing.rt closing up its numbers,
+// The register: links, marks and held edits by value. This file has its types and its numbers, and passes the rest on: sorted.rt ascending words, state.rt a fresh register, totals.rt the totals, edits.rt the calls that edit it, closing.rt closing up its numbers,
 // parting.rt the register without a record's links, history.rt a history as words, questions.rt what questions read, words.rt its words.
 // What the calls promise is stated in specs/Calls.antt, specs/History.antt and specs/Questions.antt, about the plain book of the crate book.
 mod closing;
 mod edits;
-mod fields;
 mod history;
 mod parting;
 mod questions;
@@ -13,8 +11,6 @@ mod state;
 mod totals;
 mod words;
 
-pub use fields::from_of;
-pub use fields::to_of;
 pub use history::ADD_KIND;
 pub use history::Entry;
 pub use history::LOCK_KIND;
@@ -44,12 +40,8 @@ const MAX_RECORDS: u16 = book::MAX_RECORDS as u16;
 
 const LABELS: u8 = book::LABELS as u8;
 
-// A link's word is its label, from and to, each times its unit.
+// The unit of a link's last part; the others are those of the crate links.
 const TO_UNIT: u32 = 1;
-
-const FROM_UNIT: u32 = book::MAX_RECORDS as u32;
-
-const LABEL_UNIT: u32 = FROM_UNIT * FROM_UNIT;
 
 // A held word is the word of a link or a record, and one of these for its kind; an add has none.
 const KIND_UNIT: u32 = 33554432;

@@ -1,13 +1,13 @@
 // The register without the links that touch a record. What it promises is stated in specs/Parting.antt.
 use crate::Register;
-use crate::fields::from_of;
-use crate::fields::to_of;
+use links::from_of;
+use links::to_of;
 use crate::state::ranged;
 use crate::totals::lower;
 ghost use mathlib.Core.Path.{_≡_};
 ghost use Prim.Native.Nat.{_/_, _≤_};
 ghost use lib.ListN.{length, take};
-ghost use Rattle.register.specs.Links.{labelUnit};
+ghost use Rattle.links.specs.Links.{labelUnit};
 ghost use Rattle.register.specs.Inner.{Lowered};
 ghost use Rattle.register.specs.Parting.{Without};
 ghost use Rattle.register.specs.Apart.{apartWord, Kept};

@@ -1,7 +1,5 @@
 // What questions read of a register: its size, links, marks and totals, the part of one label, the links of a record. See specs/Questions.antt.
 use crate::FREE_MARK;
-use crate::FROM_UNIT;
-use crate::LABEL_UNIT;
 use crate::LABELS;
 use crate::LOCK_MARK;
 use crate::Links;
@@ -12,12 +10,14 @@ use crate::WITHDRAWN_MARK;
 use crate::sorted::place;
 use crate::state::ranged;
 use answers::Counted;
+use links::FROM_UNIT;
+use links::LABEL_UNIT;
 ghost use mathlib.Core.Path.{_≡_};
 ghost use mathlib.Core.List.{map};
 ghost use Prim.Native.Nat.{_≤_, _<_};
 ghost use lib.ListN.{length, take};
 ghost use Rattle.book.specs.Book.{touched as Book·touched};
-ghost use Rattle.register.specs.Links.{linkOf};
+ghost use Rattle.links.specs.Links.{linkOf};
 ghost use Rattle.register.specs.Inner.{hasAt};
 ghost use Rattle.register.specs.Lookups.{LabelPart, nextPlace};
 ghost use Rattle.register.specs.Questions.{Sized, Listing, MarkList, Locking, Withdrawal, TotalList, Totals};

@@ -1,10 +1,10 @@
 // The totals of the labels: one more or one less of a word's label. Contents that no call of the engine made are left where there is no room.
-use crate::fields::label_of;
+use links::label_of;
 ghost use mathlib.Core.Path.{_≡_};
 ghost use Prim.Native.Nat.{_/_};
 ghost use lib.ListN.{length};
 ghost use Rattle.book.specs.Causes.{labels};
-ghost use Rattle.register.specs.Links.{labelUnit};
+ghost use Rattle.links.specs.Links.{labelUnit};
 ghost use Rattle.register.specs.Inner.{Raised, Lowered};
 
 // The most that a total is.

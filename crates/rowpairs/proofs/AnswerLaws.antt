@@ -20,7 +20,8 @@ use Rattle.paths.specs.Chains.{asked}
 use Rattle.paths.specs.Relations.{cells, pairs}
 use Rattle.paths.specs.Questions.{pairsWork, rowWidth, rowsWork}
 use Rattle.register.specs.Lookups.{LabelPart}
-use Rattle.rows.specs.Rows.{flat, linkPair}
+use Rattle.rows.specs.Rows.{flat}
+use Rattle.links.specs.Links.{linkPair}
 use Rattle.grid.specs.Grid.{first}
 use Rattle.query.specs.Asking.{maxPairs}
 use Rattle.query.specs.Evaluation.{Coded}

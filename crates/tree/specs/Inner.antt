@@ -32,7 +32,8 @@ use Rattle.book.specs.Causes.{maxRecords}
 use Rattle.k2.specs.Bits.{bitAt}
 use Rattle.k2.specs.PairSets.{Cells, IsSet, PairsBelow, union, intersection, difference, product, closure, diagonal}
 use Rattle.k2.specs.Trees.{treeWords, treeUnit}
-use Rattle.rows.specs.Rows.{flat, linkPair, crossedWords}
+use Rattle.rows.specs.Rows.{flat, crossedWords}
+use Rattle.links.specs.Links.{linkPair}
 use Rattle.packing.specs.declared.loading.Sense.{Sense}
 use Rattle.packing.specs.declared.loading.Sense.the-variants.{Plain}
 use Rattle.packing.specs.Senses.{sensed, opposite}

@@ -10,7 +10,7 @@ use lib.ListN.{length, take}
 use Rattle.book.specs.Causes.{bad-label, short-work, short-list, number}
 use Rattle.book.specs.Book.{Book}
 use Rattle.paths.specs.Chains.{asked}
-use Rattle.register.specs.Links.{Linked}
+use Rattle.links.specs.Links.{Linked}
 use Rattle.register.specs.Representation.{Represents}
 use Rattle.rows.specs.Rows.{labelled}
 use Rattle.generations.specs.Generations.{GenerationsAre, numbers, above, written}

@@ -2,6 +2,7 @@
 --   linkWord k      (label × 1,024 + from) × 1,024 + to: by label, then from, then to, so that the links of one label stand together
 --   linkOf w        the link of a word
 --   labelUnit       a link's word by this is its label
+--   linkPair w      the pair word of a link's word, from × 1,024 + to
 --   wordTotal l ws  how many of the words ws are of the label l
 --   Linked ws s     ws are the words of the links of the sheet s, ascending, each once
 -- Assumes nothing: these are definitions.
@@ -21,6 +22,9 @@ linkOf w = record { from = w / 1024 % 1024; label = w / 1048576; to = w % 1024 }
 
 abbrev pub labelUnit : ℕ
 labelUnit = 1048576
+
+unfoldable pub linkPair : ℕ → ℕ
+linkPair w = w % labelUnit
 
 unfoldable pub wordTotal : ℕ → List ℕ → ℕ
 wordTotal l ws = tally (λ w. eqb (w / labelUnit) l) ws
