@@ -75,7 +75,7 @@ fn sought(
 }
 
 // The records that a chain joins to the one, in either sense.
-fn joined(register: Register, to: u16, text: &[u8], against: bool, out: &mut [u32]) -> Counted
+fn list_joined(register: Register, to: u16, text: &[u8], against: bool, out: &mut [u32]) -> Counted
     ensures { λ r. ⌜ AsksJoined against register to (now (text .entry)) (now (out .entry)) (now (out .exit)) r ⌝ }
 {
     let n = register.size();
@@ -109,12 +109,12 @@ fn joined(register: Register, to: u16, text: &[u8], against: bool, out: &mut [u3
 pub fn ends(register: Register, from: u16, text: &[u8], out: &mut [u32]) -> Counted
     ensures { λ r. ⌜ AsksEnds register from (now (text .entry)) (now (out .entry)) (now (out .exit)) r ⌝ }
 {
-    joined(register, from, text, false, out)
+    list_joined(register, from, text, false, out)
 }
 
 // Every record from which a chain leads to the one, likewise.
 pub fn starts(register: Register, to: u16, text: &[u8], out: &mut [u32]) -> Counted
     ensures { λ r. ⌜ AsksStarts register to (now (text .entry)) (now (out .entry)) (now (out .exit)) r ⌝ }
 {
-    joined(register, to, text, true, out)
+    list_joined(register, to, text, true, out)
 }

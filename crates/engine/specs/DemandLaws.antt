@@ -29,7 +29,7 @@ use Rattle.paths.specs.Relations.{pairs}
 use Rattle.paths.specs.PairLaws.{fit-inside, pairs-are, first-part}
 use Rattle.paths.specs.FirstChainLaws.{has-first}
 use Rattle.paths.specs.GraphLaws.{some-reply}
-use Rattle.paths.specs.Verdicts.{verdict, verdict-right, verdict-only}
+use Rattle.paths.specs.Verdicts.{verdict, verdict-right, verdict-only, accepted-same}
 use Rattle.paths.specs.Questions.{Outcome, refused, replied, unless, workFor, chainWork, ReplyTo, steps, chainCauses, chainAnswer}
 use Rattle.paths.specs.Questions.{pairsCauses, pairsAnswer, over, listAfter, countOf, Tells}
 use Rattle.links.specs.Links.{Linked}
@@ -113,9 +113,6 @@ module _ {e : Register} {b : Book} (R : Represents e b) (x y : ℕ) (text : List
 
   reply-to : (t : Reply) → ChainIs (asked b) f x y t → ReplyTo (asked b) (verdict text) x y t
   reply-to t c g q = let z : f ≡ g = accepted-same (read-as ∙ q) in subst (λ (k : Expr). ChainIs (asked b) k x y t) z c
-    where
-      accepted-same : {g : Expr} → accepted f ≡ accepted g → f ≡ g
-      accepted-same e = cc
 
   outcome : (t : Reply) → ChainIs (asked b) f x y t → length (steps t) ≤ length before → (outcomeOf a after′ ≡ replied t) × (after′ ≡ over (steps t) before)
   unfolding listAfter

@@ -77,7 +77,7 @@ pub fn keep(words: &[u32], set: u32, kept: &mut [u32]) -> usize
 }
 
 // The letters of the set, each after a byte: ( before the first, | before every other. How many bytes are they?
-fn put_letters(set: u32, text: &mut [u8]) -> usize
+fn spell_labels(set: u32, text: &mut [u8]) -> usize
     requires { ⌜ length (now text) ≡ 54 ⌝ }
     ensures { λ r. ⌜ (r ≤ 52) × (take r (now (text .exit)) ≡ lettersAfter open-group (places (digit set) 26)) ⌝ }
 {
@@ -109,7 +109,7 @@ pub fn put_text(set: u32, text: &mut [u8]) -> usize
     requires { ⌜ length (now text) ≡ 54 ⌝ }
     ensures { λ r. ⌜ (r ≤ 54) × (take r (now (text .exit)) ≡ loopText (places (digit set) 26)) ⌝ }
 {
-    let count = put_letters(set, text);
+    let count = spell_labels(set, text);
     text[count] = b')';
     text[count + 1] = b'+';
     count + 2

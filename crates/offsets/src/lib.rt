@@ -138,7 +138,7 @@ fn judge(ties: &[Tie], state: &[u32], n: u16) -> u32
 // ---- passes
 
 // One limit: record `to` lies at most `w` above record `from`. True where the distance was lowered, or `was`.
-fn lower(was: bool, from: usize, to: usize, w: i64, d: &mut [i64]) -> bool
+fn relax(was: bool, from: usize, to: usize, w: i64, d: &mut [i64]) -> bool
     requires { ⌜ mag w ≤ 2 ^ 31 ⌝ }
     ensures { λ r. ⌜ (now (d .exit), r) ≡ spec.lower from to w (now (d .entry), was) ⌝ }
 {
@@ -171,8 +171,8 @@ fn third(was: bool, o: usize, a: usize, b: usize, up: i64, down: i64, d: &mut [i
 {
     let x = o + a;
     let y = o + b;
-    let on = lower(was, x, y, up, d);
-    lower(on, y, x, down, d)
+    let on = relax(was, x, y, up, d);
+    relax(on, y, x, down, d)
 }
 
 // Both limits of one tie in each of the three thirds of d, in the last one with its records exchanged.
@@ -361,7 +361,7 @@ fn rounds_of(cause: u32, n: u16) -> usize
 }
 
 // The answer after the passes, told as 64 bits, and the words of the list if there are limits. The work is taken as it was lent, and read.
-fn hand_over(cause: u32, n: u16, on: bool, work: &mut [i64], list: &mut [i32]) -> u64
+fn tell_limits(cause: u32, n: u16, on: bool, work: &mut [i64], list: &mut [i32]) -> u64
     ensures { λ r. ⌜ inner.TellsOver cause n on (now (work .entry)) (now (list .entry)) (now (list .exit)) r ⌝ }
 {
     if cause != 0 {
@@ -391,5 +391,5 @@ pub fn offsets(state: &[u32], base: u16, ties: &[Tie], work: &mut [i64], list: &
     let cause = begin(state, n, base, found, ties.len(), work);
     let rounds = rounds_of(cause, n);
     let on = settle(ties, n, rounds, work);
-    hand_over(cause, n, on, work, list)
+    tell_limits(cause, n, on, work, list)
 }

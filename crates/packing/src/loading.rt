@@ -273,7 +273,7 @@ fn taken(i: usize, m: usize) -> usize
 
 // The cells of some squares of side 2 ^ h of the list put into rows; level by level, as the places of the children of one square do not wait for those of
 // another.
-fn dive(
+fn descend(
     tree: &[u64],
     before: &[u32],
     h: usize,
@@ -297,7 +297,7 @@ fn dive(
     while i < m {
         let k = taken(i, m);
         let some = Part { from: i, count: k };
-        dive(tree, before, h - 1, &next, some, sense, rows);
+        descend(tree, before, h - 1, &next, some, sense, rows);
         i += k;
     }
 }
@@ -318,7 +318,7 @@ fn load_by(tree: &[u64], n: usize, sense: usize, rows: &mut [u64])
     count(tree, &mut before);
     let root: [usize; 1] = [0; 1];
     let whole = Part { from: 0, count: 1 };
-    dive(tree, &before, height(n), &root, whole, sense, rows);
+    descend(tree, &before, height(n), &root, whole, sense, rows);
 }
 
 // The same by its name.

@@ -11,13 +11,13 @@ ghost use Rattle.k2.specs.Bits.{digit, bitAt, wordsOf};
 ghost use Rattle.k2.specs.DigitLaws.{shifted};
 ghost use Rattle.k2.specs.PairSets.{Cells, IsSet};
 ghost use Rattle.k2.specs.Trees.{treeBits, treeUnit, treeWords};
-ghost use Rattle.k2.specs.Heap.{fullSize, place, rowAt, columnAt, cells, anyFour, squeezed};
+ghost use Rattle.k2.specs.Heap.{fullSize, place, rowAt, columnAt, cells, anyFour, compacted};
 ghost use Rattle.bits.specs.BitSets.{none, either};
 ghost use Rattle.rows.specs.Rows.{flat};
-ghost use Rattle.packing.specs.Image.{Together, raised, above, setFour, blocksTo, swapPlace, Heaped, Squeezing};
+ghost use Rattle.packing.specs.Image.{Together, raised, above, setFour, blocksTo, swapPlace, Heaped, Compacting};
 
 // The place of a row and a column among the cells of a square of side 2 ^ h.
-fn place(h: usize, x: usize, y: usize) -> usize
+fn morton_place(h: usize, x: usize, y: usize) -> usize
     requires { ⌜ h ≤ 10 ⌝ }
     ensures { λ z. ⌜ (z ≡ place h (x % 2 ^ h) (y % 2 ^ h)) × (z < 4 ^ h) ⌝ }
 {
@@ -100,7 +100,7 @@ fn fill_block(rows: &[u64], seen: u64, r: usize, c: usize, g: usize, base: usize
     }
     let v = block(rows, r * 128 + c / 8, c % 8);
     if v != 0 {
-        let z = place(g, r, c);
+        let z = morton_place(g, r, c);
         or_word(heap, base + 64 * z, shuffle(v));
     }
 }
@@ -155,7 +155,7 @@ fn summary(w: u64) -> u64
 }
 
 // Are there four words from word i on, all 0?
-fn quiet(words: &[u64], i: usize) -> bool
+fn all_zero(words: &[u64], i: usize) -> bool
     ensures { λ r. ⌜ (r ≡ true → (i + 4 ≤ length (now (words .entry))) × ((k : ℕ) → i ≤ k → k < i + 4 → getD (now (words .entry)) k 0 ≡ 0)) ⌝ }
 {
     if words.len() < 4 {
@@ -201,7 +201,7 @@ fn lift(heap: &mut [u64])
 {
     let mut i = heap.len();
     while 1 < i {
-        if 5 < i && quiet(heap, i - 4) {
+        if 5 < i && all_zero(heap, i - 4) {
             i -= 4;
         } else {
             i -= 1;
@@ -222,9 +222,9 @@ fn set_four(words: &mut [u64], g: usize, v: u64)
 }
 
 // The groups of word i that are not all 0, put behind the g groups that are at the front.
-fn squeeze_word(heap: &mut [u64], i: usize, g: usize) -> usize
+fn compact_word(heap: &mut [u64], i: usize, g: usize) -> usize
     requires { ⌜ (i < length (now heap)) × (g ≤ 16 * i) ⌝ }
-    ensures { λ r. ⌜ (r ≤ 16 * (i + 1)) × ((f : ℕ → ℕ) → Squeezing f (16 * i) g (now (heap .entry)) → Squeezing f (16 * (i + 1)) r (now (heap .exit))) ⌝ }
+    ensures { λ r. ⌜ (r ≤ 16 * (i + 1)) × ((f : ℕ → ℕ) → Compacting f (16 * i) g (now (heap .entry)) → Compacting f (16 * (i + 1)) r (now (heap .exit))) ⌝ }
 {
     let mut r = g;
     let mut w = heap[i];
@@ -251,18 +251,18 @@ fn trim(heap: &mut [u64], g: usize)
 }
 
 // The groups of four bits that are not all 0, in order; how many words they fill, the unused bits of the last being 0.
-fn squeeze(heap: &mut [u64]) -> usize
+fn compact(heap: &mut [u64]) -> usize
     requires { ⌜ length (now heap) ≤ 21847 ⌝ }
     ensures { λ r. ⌜ (r ≤ length (now (heap .entry)))
-        × (take r (now (heap .exit)) ≡ wordsOf (squeezed (bitAt (now (heap .entry))) (16 * length (now (heap .entry))))) ⌝ }
+        × (take r (now (heap .exit)) ≡ wordsOf (compacted (bitAt (now (heap .entry))) (16 * length (now (heap .entry))))) ⌝ }
 {
     let mut g = 0;
     let mut i = 0;
     while i < heap.len() {
-        if quiet(heap, i) {
+        if all_zero(heap, i) {
             i += 4;
         } else {
-            g = squeeze_word(heap, i, g);
+            g = compact_word(heap, i, g);
             i += 1;
         }
     }
@@ -290,7 +290,7 @@ fn pack_part(rows: &[u64], h: usize, heap: &mut [u64]) -> usize
     bits::clear(heap);
     fill(rows, block_levels(h), full_size(h - 1), heap);
     lift(heap);
-    squeeze(heap)
+    compact(heap)
 }
 
 // The tree of rows, at the front of out; how many words it has. D + 1 words of out are written.

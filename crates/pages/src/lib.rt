@@ -148,13 +148,13 @@ fn lines_of(pairs: usize) -> usize
 }
 
 // Where a search for the pairs of a line ended, and how many it found.
-struct Found {
+struct LineEnd {
     place: usize,
     count: usize,
 }
 
 // The next six pairs of the rows from `from` on, or those that are left.
-fn gather(rows: &[u64], from: usize, words: &mut [u32]) -> Found
+fn gather(rows: &[u64], from: usize, words: &mut [u32]) -> LineEnd
     requires { ⌜ (from ≤ 1048576) × (length (now words) ≡ 6) ⌝ }
     ensures { λ r. ⌜ Gathered (bitAt (now (rows .entry))) from (now (words .exit)) (r .place) (r .count) ⌝ }
 {
@@ -163,13 +163,13 @@ fn gather(rows: &[u64], from: usize, words: &mut [u32]) -> Found
     while count < LINE_PAIRS {
         let next = bits::next(rows, place, PAIR_WORDS);
         if next == PAIR_WORDS {
-            return Found { place: next, count };
+            return LineEnd { place: next, count };
         }
         words[count] = next as u32;
         count += 1;
         place = next + 1;
     }
-    Found { place, count }
+    LineEnd { place, count }
 }
 
 // Line i, and where the pairs of the next lines begin in the rows.

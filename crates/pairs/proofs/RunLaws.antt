@@ -15,6 +15,7 @@ use native.Mathlib.Omega.{arith}
 use lib.ListN.{length, take, drop, getD, length-drop, drop-of-length-le}
 use lib.Seq.{drop-cons}
 use Rattle.book.specs.Book.{Book}
+use Rattle.book.specs.ListLaws.{rest-whole}
 use Rattle.k2.specs.Bits.{bitAt}
 use Rattle.k2.specs.PairSets.{Cells}
 use Rattle.k2.specs.Trees.{treeUnit}
@@ -34,7 +35,7 @@ use Rattle.pairs.specs.Evaluation.{Waiting, Placed, Room}
 use Rattle.pairs.specs.EvaluationLaws.{begins}
 use Rattle.pairs.specs.RoomLaws.{room-begins}
 use Rattle.pairs.specs.Steps.{Takes, Goes, Going, Ends}
-use Rattle.pairs.proofs.StepLaws.{rest, starts-early, lent}
+use Rattle.pairs.proofs.StepLaws.{starts-early, lent}
 
 -- ---- the whole code
 module _ (n : ℕ) (ws used c : List ℕ) where
@@ -97,7 +98,7 @@ module _ (n : ℕ) (y : Item) (ws used work before after : List ℕ) (r : Bool) 
   ends-term q T early made = record { value = value }
     where
       I : InRows (q .term) n ws used (drop (q .start) work) before after r
-      I = subst (λ (l : List ℕ). InRows (q .term) n ws used l before after r) (rest work (q .start)) made
+      I = subst (λ (l : List ℕ). InRows (q .term) n ws used l before after r) (rest-whole work (q .start)) made
 
       room : Spaces n (q .term) (length (drop (q .start) work)) (length used) (length before)
       room = record {

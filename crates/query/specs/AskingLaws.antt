@@ -41,6 +41,7 @@ use Rattle.paths.specs.Relations.{cells, pairs}
 use Rattle.paths.specs.PairLaws.{verdict-caused}
 use Rattle.paths.specs.Questions.{Outcome, Engine, refused, paired, pairsWork, workFor, pairsOf, pairsCauses, pairsAnswer}
 use Rattle.paths.specs.Questions.{unless, listAfter, countOf, Tells}
+use Rattle.paths.specs.Verdicts.{accepted-same}
 use Rattle.reader.specs.Reads.{readAnswer}
 use Rattle.reader.specs.declared.Answer.the-variants.{Refused as Faulty}
 use Rattle.register.specs.Representation.{Represents}
@@ -149,9 +150,6 @@ module _ (b : Book) (work rows : ℕ) where
     pub relation-paired : rowWords ≤ rows → relationAnswer b (accepted e) work rows ≡ paired (length (pairs (asked b) e)) (pairs (asked b) e)
     unfolding relationAnswer relationCauses verdictCause firstNumber number pairsOf
     relation-paired l = rw (le-ltb work (pairsWork (b .n)) h, le-ltb rows rowWords l)
-
-accepted-same : {e f : Expr} → accepted e ≡ accepted f → e ≡ f
-accepted-same e = cc
 
 module _ (r : Register) (v : Verdict) (work : ℕ) (before : List ℕ) where
   relates-refused : (k : ℕ) → Caused k → ((b : Book) → Represents r b → relationAnswer b v work (length before) ≡ refused k)

@@ -19,7 +19,7 @@ use crate::WITHDRAWN_MARK;
 use crate::questions::touched;
 use crate::sorted::cut;
 use crate::sorted::holds;
-use crate::sorted::place;
+use crate::sorted::lower_bound;
 use crate::sorted::put;
 use crate::sorted::stands;
 use crate::state::ranged;
@@ -125,7 +125,7 @@ impl Register {
         ensures { λ r. ⌜ Changed self (record { links = insert x (packedOf self .links); marks = self .marks }) r ⌝ }
     {
         let count = self.count;
-        let at = place(&self.links, count, x);
+        let at = lower_bound(&self.links, count, x);
         put(&mut self.links, count, at, x);
         raise(&mut self.totals, x);
         self.count = count + 1;
@@ -138,7 +138,7 @@ impl Register {
         ensures { λ r. ⌜ Changed self (record { links = without eqb x (packedOf self .links); marks = self .marks }) r ⌝ }
     {
         let count = self.count;
-        let at = place(&self.links, count, x);
+        let at = lower_bound(&self.links, count, x);
         if !stands(&self.links, count, at, x) {
             return self;
         }

@@ -7,7 +7,7 @@ use crate::MAX_RECORDS;
 use crate::Register;
 use crate::TO_UNIT;
 use crate::WITHDRAWN_MARK;
-use crate::sorted::place;
+use crate::sorted::lower_bound;
 use crate::state::ranged;
 use answers::Counted;
 use links::FROM_UNIT;
@@ -113,9 +113,9 @@ pub fn label_part<'a>(words: &'a [u32], label: u8) -> &'a [u32]
     ensures { λ r. ⌜ LabelPart (now (words .entry)) label (now r) ⌝ }
 {
     let first = label as u32 * LABEL_UNIT;
-    let from = place(words, words.len(), first);
+    let from = lower_bound(words, words.len(), first);
     let rest = &words[from..];
-    let count = place(rest, rest.len(), first + LABEL_UNIT);
+    let count = lower_bound(rest, rest.len(), first + LABEL_UNIT);
     &rest[..count]
 }
 

@@ -8,7 +8,7 @@ ghost use Rattle.book.specs.Causes.{maxLinks};
 ghost use Rattle.register.specs.Inner.{putAt, cutAt, Seam, standsAt};
 
 // The place of x among the first count words, by halving: the first whose word is not below x, where they ascend.
-pub fn place(words: &[u32], count: usize, x: u32) -> usize
+pub fn lower_bound(words: &[u32], count: usize, x: u32) -> usize
     requires { ⌜ count ≤ length (now words) ⌝ }
     ensures { λ r. ⌜ Seam x (now (words .entry)) count r ⌝ }
 {
@@ -41,7 +41,7 @@ pub fn holds(words: &[u32], count: usize, x: u32) -> bool
     requires { ⌜ count ≤ length (now words) ⌝ }
     ensures { λ r. ⌜ (Rises 0 (take count (now (words .entry))) → r ≡ has eqb x (take count (now (words .entry)))) ⌝ }
 {
-    let at = place(words, count, x);
+    let at = lower_bound(words, count, x);
     stands(words, count, at, x)
 }
 

@@ -1,7 +1,6 @@
 -- One number of the code, in plain variables: where relations lie in the work, and what an item does to those that wait.
 --   start-le, mark-le, space, list-space
 --                      what an item and the list are lent: at most 18 relations stand before, and there is room
---   rest, part-length  the part that is lent is the rest, and its length
 --   goes-step          what the operation left at the front of the parts is the relation at the place of its first operand, and those below stay as they were
 --   lent-space, goes-part
 --                      the same with the words of a row as a number, and the parts as they are lent
@@ -15,6 +14,7 @@ use lib.ListN.{length, take, drop, getD, length-drop}
 use lib.Seq.{drop-at, drop-drop, length-take-le, drop-length, take-all, getD-take, getD-drop}
 use borrow.Rule.Slice.PartMut.{putMid, take-put, mid-len}
 use Rattle.book.specs.Book.{Book}
+use Rattle.book.specs.ListLaws.{rest-whole, rest-length}
 use Rattle.k2.specs.Bits.{digit}
 use Rattle.k2.specs.PairSets.{Cells}
 use Rattle.paths.specs.Chains.{Graph, asked}
@@ -78,14 +78,6 @@ module _ (xs part : List ℕ) (start : ℕ) (h : start ≤ length xs) where
       ∙ ap (λ (l : List ℕ). part ++ l) (drop-drop (length xs - start) start xs ∙ ap (λ (k : ℕ). drop k xs) (let e : start + (length xs - start) ≡ length xs =
       omega arith in e) ∙ drop-length xs)
       ∙ append-nil part
-
--- the part that is lent is the rest
-pub rest : (xs : List ℕ) (start : ℕ) → take (length xs - start) (drop start xs) ≡ drop start xs
-rest xs start = take-all (length xs - start) (drop start xs) (rw (length-drop start xs) (omega arith))
-
--- its length
-pub part-length : (xs : List ℕ) (start : ℕ) → length (take (length xs - start) (drop start xs)) ≡ length xs - start
-part-length xs start = mid-len start (length xs) xs (omega arith)
 
 -- ---- relations that lie below what has changed are as they were
 module _ (n : ℕ) (ws ws′ ms ms′ : List ℕ) (k : ℕ) (same : (i : ℕ) → i < k * (n * rowWidth n) → getD ws′ i 0 ≡ getD ws i 0)
@@ -171,8 +163,8 @@ pub lent-space : (n k w : ℕ) (ws ms : List ℕ) → w ≡ rowWidth n → Lent 
     → Space n w (length (take (length ws - k * (n * w)) (drop (k * (n * w)) ws))) (length (take (length ms - k * n) (drop (k * n) ms)))
 lent-space n k w ws ms e L h =
     subst (λ (v : ℕ). Space n v (length (take (length ws - k * (n * v)) (drop (k * (n * v)) ws))) (length (take (length ms - k * n) (drop (k * n) ms)))) (sym e)
-    (subst (λ (i : ℕ). Space n (rowWidth n) i (length (take (length ms - k * n) (drop (k * n) ms)))) (sym (part-length ws (k * (n * rowWidth n))))
-    (subst (λ (i : ℕ). Space n (rowWidth n) (length ws - k * (n * rowWidth n)) i) (sym (part-length ms (k * n))) (space n k (length ws) (length ms) L h)))
+    (subst (λ (i : ℕ). Space n (rowWidth n) i (length (take (length ms - k * n) (drop (k * n) ms)))) (sym (rest-length ws (k * (n * rowWidth n))))
+    (subst (λ (i : ℕ). Space n (rowWidth n) (length ws - k * (n * rowWidth n)) i) (sym (rest-length ms (k * n))) (space n k (length ws) (length ms) L h)))
 
 pub goes-part : (n : ℕ) (links held : List ℕ) (y : Item) (ws part ms marks : List ℕ) (m k w : ℕ)
     → w ≡ rowWidth n → m ≡ k + operands y → Lent n (suc k) (length ws) (length ms) → k ≤ 18
@@ -190,6 +182,6 @@ goes-part n links held y ws part ms marks m k w e is L h made =
     whole o =
         goes-step n links held y ws part ms marks m k is
         (omega (arith, start-le n k (length ws) (length ms) L h, L .words)) (omega (arith, L .marks, suc-mul k n))
-        (subst (λ (l : List ℕ). Operates n (rowWidth n) links held y (drop (k * (n * rowWidth n)) ws) part l marks) (rest ms (k * n))
+        (subst (λ (l : List ℕ). Operates n (rowWidth n) links held y (drop (k * (n * rowWidth n)) ws) part l marks) (rest-whole ms (k * n))
         (subst (λ (l : List ℕ). Operates n (rowWidth n) links held y l part (take (length ms - k * n) (drop (k * n) ms)) marks)
-        (rest ws (k * (n * rowWidth n))) o))
+        (rest-whole ws (k * (n * rowWidth n))) o))

@@ -85,10 +85,10 @@ fn put_letters(
     let mut label: u8 = 0;
     while label < LABELS {
         let plain = every_if(forward, label);
-        let turned = every_if(against, label);
-        if plain + turned != 0 {
+        let inverted = every_if(against, label);
+        if plain + inverted != 0 {
             let part = register::label_part(links, label);
-            grid::put_letters(part, plain, turned, cells, masks, n, w);
+            grid::put_letters(part, plain, inverted, cells, masks, n, w);
         }
         label += 1;
     }

@@ -1,11 +1,11 @@
--- Laws of the records of a level: states added, records listed, the level of one record.
+-- Laws of the records of a level: states added, records queued, the level of one record.
 --   added-zero, added-past, added-more
 --                   states added to a record: none, to no record, some
 --   listed-none, listed-some, listed-fits
---                   the records listed: none; each has a state; at most 1,024
+--                   the records queued: none; each has a state; at most 1,024
 --   list-room, listed-new, listed-old
---                   a record more: there is room, it is new, or it is listed already
---   listed-take     the records listed, alone
+--                   a record more: there is room, it is new, or it is queued already
+--   listed-take     the records queued, alone
 --   none-listed     an empty list is an empty level
 --   frontier-start  the level of one record
 -- Assumes nothing.
@@ -157,7 +157,7 @@ module _ {list : List ℕ} {c n : ℕ} {nx : List ℕ} (I : Listed list c n nx) 
             omega arith
         ap′ i j l h (more f) e = omega arith
 
--- ---- the records listed, alone
+-- ---- the records queued, alone
 pub listed-take : {list : List ℕ} {c n : ℕ} {nx : List ℕ} → Listed list c n nx → c ≤ length list → Listed (take c list) (length (take c list)) n nx
 listed-take {list} {c} I h = rw (length-take-le c list h) (record {
   small = λ i l. rw (same-at i l) (I .small i l);

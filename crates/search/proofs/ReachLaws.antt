@@ -7,7 +7,7 @@
 --                    one arc more; and no more is to be done then
 --   ones-but         how many bits are set, but for one
 --   listed-less, expanding-pop, fewer-pop
---                    the record last listed is taken off: the list, what is known, and that less is to be done
+--                    the record last queued is taken off: the list, what is known, and that less is to be done
 --   expanding-start  at the start
 --   expanding-all    at the end
 --   came-walk, walk-in, ended

@@ -29,7 +29,7 @@ struct Marks {
 }
 
 // The records that fall, ascending, as the first count of words.
-struct Found {
+struct Fallen {
     words: [u32; book::MAX_RECORDS],
     count: usize,
 }
@@ -66,7 +66,7 @@ fn ascending(records: &[u16]) -> bool
 }
 
 // Whether the rows of a relation have a pair.
-fn joined(rows: &[u64], from: usize, to: usize) -> bool
+fn has_pair(rows: &[u64], from: usize, to: usize) -> bool
     requires { ⌜ (from < maxRecords) × (to < 65536) ⌝ }
     ensures { λ r. ⌜ r ≡ eqb (joinedBy (now (rows .entry)) from to) 1 ⌝ }
 {
@@ -85,7 +85,7 @@ fn joined_to_some(rows: &[u64], record: usize, anchors: &[u16]) -> bool
 {
     let mut i = 0;
     while i < anchors.len() {
-        if joined(rows, record, anchors[i] as usize) {
+        if has_pair(rows, record, anchors[i] as usize) {
             return true;
         }
         i += 1;
@@ -151,7 +151,7 @@ fn fallen(
     after: [bool; book::MAX_RECORDS],
     core: usize,
     n: usize,
-) -> Found
+) -> Fallen
     requires { ⌜ (n ≤ maxRecords) × (length before ≡ maxRecords) × (length after ≡ maxRecords) ⌝ }
     ensures { λ r. ⌜ (r .count ≤ maxRecords) × (length (r .words) ≡ maxRecords) × (take (r .count) (r .words) ≡ chosen (Lost before after core) n) ⌝ }
 {
@@ -167,7 +167,7 @@ fn fallen(
         }
         x += 1;
     }
-    Found { words, count }
+    Fallen { words, count }
 }
 
 // The first words of an array written over the front of a list.
@@ -183,7 +183,7 @@ fn write(words: &[u32], list: &mut [u32])
 }
 
 // The records that fall handed over, if the list takes them all.
-fn hand_over(
+fn list_fallen(
     before: [bool; book::MAX_RECORDS],
     after: [bool; book::MAX_RECORDS],
     core: usize,
@@ -228,7 +228,7 @@ fn compared(
     }
     let had = before.records;
     let has = after.records;
-    hand_over(had, has, core as usize, n, list)
+    list_fallen(had, has, core as usize, n, list)
 }
 
 // Where the part of work begins that is lent on: past 64 words for each record, or at its end if there are not so many.

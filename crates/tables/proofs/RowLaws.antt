@@ -21,12 +21,12 @@ use Rattle.automaton.specs.LevelLaws.{Which, less, same, more, which}
 use Rattle.tables.specs.Rows.{Joined, Mixed, inverseNumber, Turned}
 
 -- ---- joined
-pub joined-none : (rows : List ℕ) (from : ℕ → ℕ) (to : ℕ) → Joined rows from to 0 rows
-joined-none rows from to = record { below = λ p q h. absurd (omega arith); above = λ p q h. refl }
+pub with-edges-none : (rows : List ℕ) (from : ℕ → ℕ) (to : ℕ) → Joined rows from to 0 rows
+with-edges-none rows from to = record { below = λ p q h. absurd (omega arith); above = λ p q h. refl }
 
 module _ {rows : List ℕ} {from : ℕ → ℕ} {to k : ℕ} {r : List ℕ} (I : Joined rows from to k r) where
-  pub joined-no : (On (from k) → ⊥) → Joined rows from to (k + 1) r
-  joined-no n = record { below = λ p q h. go p q h (which p k); above = λ p q h. I .above p q (omega arith) }
+  pub with-edges-no : (On (from k) → ⊥) → Joined rows from to (k + 1) r
+  with-edges-no n = record { below = λ p q h. go p q h (which p k); above = λ p q h. I .above p q (omega arith) }
     where
       go : (p q : ℕ) → p < k + 1 → Which p k → digit (getD r p 0) q ≡ max (digit (getD rows p 0) q) (min (from p) (digit to q))
       go p q h (less f) = I .below p q f
@@ -37,8 +37,8 @@ module _ {rows : List ℕ} {from : ℕ → ℕ} {to k : ℕ} {r : List ℕ} (I :
           off (suc d) n = absurd (n (omega arith))
       go p q h (more f) = absurd (omega arith)
 
-  pub joined-yes : On (from k) → from k < 2 → k < length r → Joined rows from to (k + 1) (set r k (bitOr (getD r k 0) to))
-  joined-yes o small l = record { below = λ p q h. go p q h (which p k); above = λ p q h. off p q (λ e. omega arith) ∙ I .above p q (omega arith) }
+  pub with-edges-yes : On (from k) → from k < 2 → k < length r → Joined rows from to (k + 1) (set r k (bitOr (getD r k 0) to))
+  with-edges-yes o small l = record { below = λ p q h. go p q h (which p k); above = λ p q h. off p q (λ e. omega arith) ∙ I .above p q (omega arith) }
     where
       off : (p q : ℕ) → (p ≡ k → ⊥) → digit (getD (set r k (bitOr (getD r k 0) to)) p 0) q ≡ digit (getD r p 0) q
       off p q n = ap (λ (x : ℕ). digit x q) (getD-set-other r k p (bitOr (getD r k 0) to) 0 n)
@@ -90,8 +90,8 @@ module _ {a b : List ℕ} {own k : ℕ} {r : List ℕ} (I : Mixed a b own k r) w
       out p h e (more f) = absurd (omega arith)
 
 -- ---- turned
-pub turned-none : (e : List ℕ) (own : ℕ) → Turned e own 0 e
-turned-none e own =
+pub mirrored-none : (e : List ℕ) (own : ℕ) → Turned e own 0 e
+mirrored-none e own =
     record { inside = λ c q h. absurd (omega arith); outside = λ c q h. absurd (omega arith); high = λ c q h. absurd (omega arith); above = λ c h. refl }
 
 module _ {e : List ℕ} {own k : ℕ} {r : List ℕ} (I : Turned e own k r) (fo : own < 2 ^ 64) (l : k < length r) where
@@ -123,8 +123,8 @@ module _ {e : List ℕ} {own k : ℕ} {r : List ℕ} (I : Turned e own k r) (fo 
       (omega arith)
   hi c q h g (more f) = absurd (omega arith)
 
-  pub turned-more : Turned e own (k + 1) (set r k v)
-  turned-more =
+  pub mirrored-more : Turned e own (k + 1) (set r k v)
+  mirrored-more =
       record {
         high = λ c q h g. hi c q h g (which c k);
         inside = λ c q h g o. ins c q h g o (which c k);

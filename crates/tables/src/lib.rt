@@ -28,7 +28,7 @@ pub struct Build {
 }
 
 // `to` joined to the rows of the states in `from`.
-fn joined(rows: [u64; 64], from: u64, to: u64) -> [u64; 64]
+fn with_edges(rows: [u64; 64], from: u64, to: u64) -> [u64; 64]
     ensures { λ r. ⌜ Joined rows (digit from) to 64 r ⌝ }
 {
     let mut r = rows;
@@ -58,7 +58,7 @@ fn mixed(a: [u64; 64], b: [u64; 64], own: u64) -> [u64; 64]
 }
 
 // The states in own entered by each letter in its other sense.
-fn turned(enter: [u64; 64], own: u64) -> [u64; 64]
+fn mirrored(enter: [u64; 64], own: u64) -> [u64; 64]
     ensures { λ r. ⌜ Turned enter own 64 r ⌝ }
 {
     let mut r = enter;
@@ -152,8 +152,8 @@ fn followed(b: Build) -> Build
     let first = r.first[j];
     let follow = r.follow;
     let pred = r.pred;
-    let onward = joined(follow, last, first);
-    let back = joined(pred, first, last);
+    let onward = with_edges(follow, last, first);
+    let back = with_edges(pred, first, last);
     r.follow = onward;
     r.pred = back;
     r.first[i] = r.first[i] | only(r.nullable[i], first);
@@ -175,8 +175,8 @@ fn repeated(b: Build) -> Build
     let first = r.first[j];
     let follow = r.follow;
     let pred = r.pred;
-    let onward = joined(follow, last, first);
-    let back = joined(pred, first, last);
+    let onward = with_edges(follow, last, first);
+    let back = with_edges(pred, first, last);
     r.follow = onward;
     r.pred = back;
     r
@@ -206,7 +206,7 @@ fn inverted(b: Build) -> Build
     let enter = r.enter;
     let onward = mixed(follow, pred, own);
     let back = mixed(pred, follow, own);
-    let entered = turned(enter, own);
+    let entered = mirrored(enter, own);
     r.follow = onward;
     r.pred = back;
     r.enter = entered;
@@ -275,7 +275,7 @@ fn started(b: Build) -> Tables
     let enter = b.enter;
     let mut follow = b.follow;
     follow[0] = first;
-    let pred = joined(before, first, 1);
+    let pred = with_edges(before, first, 1);
     Tables {
         follow,
         pred,

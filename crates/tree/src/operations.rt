@@ -52,7 +52,7 @@ pub fn no_operand() -> Operand
 }
 
 // The other sense.
-fn turned(sense: Sense) -> Sense
+fn opposite(sense: Sense) -> Sense
     ensures { λ r. ⌜ r ≡ opposite sense ⌝ }
 {
     match sense {
@@ -68,7 +68,7 @@ pub fn inverted(operand: Operand) -> Operand
     let sense = operand.sense;
     Operand {
         size: operand.size,
-        sense: turned(sense),
+        sense: opposite(sense),
         forward: operand.forward,
         against: operand.against,
     }

@@ -30,15 +30,15 @@ shared-slice-read-rest c = omega arith
 shr-rest : tie.Need-shr-rest Inv-loop μ-loop
 shr-rest c = omega arith
 
-place-requires : tie.Need-place-requires Inv-loop μ-loop
-place-requires c κs = omega arith
+lowest-set-requires : tie.Need-lowest-set-requires Inv-loop μ-loop
+lowest-set-requires c κs = omega arith
 
 returns-2 : tie.Need-returns-2 Inv-loop μ-loop
 returns-2 c =
     let a = c .before .before .before .before .before .args in
     next-here (a .words .now) (a .lo / 64) (a .lo % 64) (c .before .before .shared-slice-known2 .given (a .lo / 64) .fits)
     (omega (arith, c .before .if2 .taken))
-    (a .lo) (a .end) _ (omega arith) (omega arith) (c .place .ensures)
+    (a .lo) (a .end) _ (omega arith) (omega arith) (c .lowest-set .ensures)
 
 add-q : tie.Need-add-q Inv-loop μ-loop
 add-q c = omega arith
@@ -61,17 +61,17 @@ mul-if4 c = omega arith
 shared-slice-read-if4 : tie.Need-shared-slice-read-if4 Inv-loop μ-loop
 shared-slice-read-if4 c = omega arith
 
-mul-place : tie.Need-mul-place Inv-loop μ-loop
-mul-place c = omega arith
+mul-lowest-set : tie.Need-mul-lowest-set Inv-loop μ-loop
+mul-lowest-set c = omega arith
 
-mul-place-2 : tie.Need-mul-place-2 Inv-loop μ-loop
-mul-place-2 c = omega arith
+mul-lowest-set-2 : tie.Need-mul-lowest-set-2 Inv-loop μ-loop
+mul-lowest-set-2 c = omega arith
 
-shared-slice-read-place : tie.Need-shared-slice-read-place Inv-loop μ-loop
-shared-slice-read-place c = omega arith
+shared-slice-read-lowest-set : tie.Need-shared-slice-read-lowest-set Inv-loop μ-loop
+shared-slice-read-lowest-set c = omega arith
 
-place-requires-2 : tie.Need-place-requires-2 Inv-loop μ-loop
-place-requires-2 c κs = omega arith
+lowest-set-requires-2 : tie.Need-lowest-set-requires-2 Inv-loop μ-loop
+lowest-set-requires-2 c κs = omega arith
 
 returns-4 : tie.Need-returns-4 Inv-loop μ-loop
 returns-4 c =
@@ -79,7 +79,7 @@ returns-4 c =
     let l = c .before .before .before .before .before .before .loop in
     next-after _ (a .lo) (l .q * 64) (a .end) _ (l .inv .2) (l .inv .3)
     (next-word (a .words .now) (l .q) (a .end) _ (c .before .before .before .shared-slice-known3 .given (l .q) .fits)
-    (omega (arith, c .before .before .if4 .taken)) (omega arith) (c .place2 .ensures))
+    (omega (arith, c .before .before .if4 .taken)) (omega arith) (c .lowest-set2 .ensures))
 
 add-q-2 : tie.Need-add-q-2 Inv-loop μ-loop
 add-q-2 c = omega arith
@@ -109,17 +109,17 @@ next-spec =
     mul-rest
     shared-slice-read-rest
     shr-rest
-    place-requires
+    lowest-set-requires
     returns-2
     add-q
     loop-holds
     returns-3
     mul-if4
     shared-slice-read-if4
-    mul-place
-    mul-place-2
-    shared-slice-read-place
-    place-requires-2
+    mul-lowest-set
+    mul-lowest-set-2
+    shared-slice-read-lowest-set
+    lowest-set-requires-2
     returns-4
     add-q-2
     loop-less

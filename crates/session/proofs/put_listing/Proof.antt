@@ -13,16 +13,16 @@ use Rattle.session.proofs.put_listing.Tie as tie
 enum-known-answer : tie.Need-enum-known-answer
 enum-known-answer c = search needs
 
-listed-requires : tie.Need-listed-requires
-listed-requires c κs = search needs
+pairs-shown-requires : tie.Need-pairs-shown-requires
+pairs-shown-requires c κs = search needs
 
 slice-aggregate-put-pairs : tie.Need-slice-aggregate-put-pairs
-slice-aggregate-put-pairs c = sym (length-take-le _ _ (c .before .listed .ensures .0))
+slice-aggregate-put-pairs c = sym (length-take-le _ _ (c .before .pairs-shown .ensures .0))
 
 put-pairs-requires : tie.Need-put-pairs-requires
 put-pairs-requires c κs =
     let p = c .before .before .before .before .before .before .before .before .pre in
-    let h = c .before .before .listed .ensures .0 in
+    let h = c .before .before .pairs-shown .ensures .0 in
     simp length-take (omega (arith, p, h))
 
 enum-known-answer-2 : tie.Need-enum-known-answer-2
@@ -39,7 +39,7 @@ unfolding outcomeText listing
 returns c =
     let a = c .before .before .before .before .before .before .before .answer in
     rw (a .given .1)
-    (wrote-as (ap (pairsText (a .given .0 .0)) (c .before .before .before .before .before .listed .ensures .1)) (c .before .before .put-pairs .ensures))
+    (wrote-as (ap (pairsText (a .given .0 .0)) (c .before .before .before .before .before .pairs-shown .ensures .1)) (c .before .before .put-pairs .ensures))
 
 same-length-2 : tie.Need-same-length-2
 same-length-2 c = search needs
@@ -53,7 +53,7 @@ put-listing-spec =
     tie.close
     (tie.spec
     enum-known-answer
-    listed-requires
+    pairs-shown-requires
     slice-aggregate-put-pairs
     put-pairs-requires
     enum-known-answer-2

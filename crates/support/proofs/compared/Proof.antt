@@ -38,8 +38,8 @@ returns-2 c =
     second-refused _ _ _ _ _ _ _ (p .0) (p .1) (p .2) (p .3) (m .ensures) (else1 .if1 .left)
     (after-mark-records2 .before .before .without .ensures) kept (after-mark-records2 .mark-records2 .ensures) (c .if2 .taken)
 
-hand-over-requires : tie.Need-hand-over-requires
-hand-over-requires c κs =
+list-fallen-requires : tie.Need-list-fallen-requires
+list-fallen-requires c κs =
     let after-mark-records2 = c .before .before .before .before .before .before .before in
     let after-mark-records = after-mark-records2 .before .before .before .before .before .before .before in
     let start = after-mark-records .before .before .before .before .before .before in
@@ -61,7 +61,7 @@ returns-3 c =
     let m = after-mark-records .mark-records in
     let kept : length (m .last .1 .1 .1 .0) ≡ length (start .args .work .now) = m .kept .1 .1 .1 .0 in
     handed-over _ _ _ _ _ _ _ (p .0) (p .1) (p .2) (p .3) (m .ensures) (else1 .if1 .left) (after-mark-records2 .before .before .without .ensures)
-    kept (after-mark-records2 .mark-records2 .ensures) (c .before .before .hand-over .ensures)
+    kept (after-mark-records2 .mark-records2 .ensures) (c .before .before .list-fallen .ensures)
 
 pub compared-spec : {M : Type 1} → statement M
 compared-spec =
@@ -74,7 +74,7 @@ compared-spec =
     mark-records-requires-2
     same-length-2
     returns-2
-    hand-over-requires
+    list-fallen-requires
     same-length-3
     same-length-4
     returns-3)

@@ -22,23 +22,23 @@ loop-holds : tie.Need-loop-holds Inv-loop μ-loop
 unfolding reaches
 loop-holds c = (omega arith, refl)
 
-mul-joined : tie.Need-mul-joined Inv-loop μ-loop
-mul-joined c = omega arith
+mul-has-pair : tie.Need-mul-has-pair Inv-loop μ-loop
+mul-has-pair c = omega arith
 
-shared-slice-read-joined : tie.Need-shared-slice-read-joined Inv-loop μ-loop
-shared-slice-read-joined c = omega arith
+shared-slice-read-has-pair : tie.Need-shared-slice-read-has-pair Inv-loop μ-loop
+shared-slice-read-has-pair c = omega arith
 
-cast-joined : tie.Need-cast-joined Inv-loop μ-loop
-cast-joined c = omega (arith, c .shared-slice-known3 .given (c .before .before .loop .i) .fits)
+cast-has-pair : tie.Need-cast-has-pair Inv-loop μ-loop
+cast-has-pair c = omega (arith, c .shared-slice-known3 .given (c .before .before .loop .i) .fits)
 
-joined-requires : tie.Need-joined-requires Inv-loop μ-loop
-joined-requires c κs = (c .before .before .before .before .before .pre, omega (arith, c .shared-slice-known3 .given (c .before .before .loop .i) .fits))
+has-pair-requires : tie.Need-has-pair-requires Inv-loop μ-loop
+has-pair-requires c κs = (c .before .before .before .before .before .pre, omega (arith, c .shared-slice-known3 .given (c .before .before .loop .i) .fits))
 
 returns : tie.Need-returns Inv-loop μ-loop
 returns c = let l = c .before .before .before .before .loop in
     let a = c .before .before .before .before .before .before .before .args in
     sym (l .inv .1 ∙ some-found (λ x. eqb (joinedBy (a .rows .now) (a .«record») x) 1)
-    (a .anchors .now) (l .i) (omega arith) (sym (c .before .joined .ensures) ∙ c .if1 .taken))
+    (a .anchors .now) (l .i) (omega arith) (sym (c .before .has-pair .ensures) ∙ c .if1 .taken))
 
 add-i : tie.Need-add-i Inv-loop μ-loop
 add-i c = omega arith
@@ -51,7 +51,7 @@ loop-again c = let l = c .before .before .before .before .loop in
     let a = c .before .before .before .before .before .before .before .args in (
       omega arith,
       l .inv .1 ∙ some-next (λ x. eqb (joinedBy (a .rows .now) (a .«record») x) 1)
-          (a .anchors .now) (l .i) (omega arith) (sym (c .before .joined .ensures) ∙ c .if1 .left),
+          (a .anchors .now) (l .i) (omega arith) (sym (c .before .has-pair .ensures) ∙ c .if1 .left),
     )
 
 returns-2 : tie.Need-returns-2 Inv-loop μ-loop
@@ -66,10 +66,10 @@ joined-to-some-spec =
     Inv-loop
     μ-loop
     loop-holds
-    mul-joined
-    shared-slice-read-joined
-    cast-joined
-    joined-requires
+    mul-has-pair
+    shared-slice-read-has-pair
+    cast-has-pair
+    has-pair-requires
     returns
     add-i
     loop-less

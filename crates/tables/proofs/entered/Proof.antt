@@ -7,7 +7,7 @@ use borrow.Author.Needs.{needs}
 use lib.ListN.{length, length-set}
 use Rattle.k2.specs.Bits.{digit}
 use Rattle.tables.specs.Rows.{Joined, letterDigit}
-use Rattle.tables.proofs.RowLaws.{joined-none, joined-yes, joined-no}
+use Rattle.tables.proofs.RowLaws.{with-edges-none, with-edges-yes, with-edges-no}
 use Rattle.tables.proofs.entered.Statement.{statement}
 use Rattle.tables.proofs.entered.Tie as tie
 
@@ -18,7 +18,7 @@ abbrev μ-loop : tie.MeasureT-loop
 μ-loop forward against bit r₀ c₀ r c = 64 - c
 
 loop-holds : tie.Need-loop-holds Inv-loop μ-loop
-loop-holds c = (omega arith, search needs, joined-none _ _ _)
+loop-holds c = (omega arith, search needs, with-edges-none _ _ _)
 
 side-of-requires : tie.Need-side-of-requires Inv-loop μ-loop
 side-of-requires c κs = search needs
@@ -58,9 +58,9 @@ loop-again c =
     (λ w. (
       omega arith,
       rw (w .1) (simp length-set (l .inv .1)),
-      rw (w .1) (joined-yes (l .inv .2) (omega (arith, d, w .0 .taken)) (omega (arith, d)) (omega arith)),
+      rw (w .1) (with-edges-yes (l .inv .2) (omega (arith, d, w .0 .taken)) (omega (arith, d)) (omega arith)),
     ))
-    (λ w. (omega arith, rw (w .1) (l .inv .1), rw (w .1) (joined-no (l .inv .2) (λ o. omega (arith, d, w .0 .left)))))
+    (λ w. (omega arith, rw (w .1) (l .inv .1), rw (w .1) (with-edges-no (l .inv .2) (λ o. omega (arith, d, w .0 .left)))))
     (c .if1 .came)
 
 returns : tie.Need-returns Inv-loop μ-loop

@@ -26,11 +26,11 @@ mul-first c = search needs
 element-copy-out-first : tie.Need-element-copy-out-first
 element-copy-out-first c = search needs
 
-joined-requires : tie.Need-joined-requires
-joined-requires c κs = search needs
+with-edges-requires : tie.Need-with-edges-requires
+with-edges-requires c κs = search needs
 
-joined-requires-2 : tie.Need-joined-requires-2
-joined-requires-2 c κs = search needs
+with-edges-requires-2 : tie.Need-with-edges-requires-2
+with-edges-requires-2 c κs = search needs
 
 mul-r : tie.Need-mul-r
 mul-r c = search needs
@@ -121,8 +121,8 @@ returns c =
     let ei : suc (s .top - 1 - 1) ≡ s .top - 1 = omega arith in
     λ m x y st H. holds-sequence H _ et refl (s .top - 1 - 1) (s .top - 1) et ei _ _ _ (omega arith) (omega arith) (omega arith) (omega arith) refl refl refl
     refl refl (c .before .before .before .before .before .before .before .only .result) (c .before .before .before .before .only2 .result)
-    (c .before .before .before .before .before .before .before .before .before .before .before .joined .ensures)
-    (c .before .before .before .before .before .before .before .before .before .before .joined2 .ensures)
+    (c .before .before .before .before .before .before .before .before .before .before .before .with-edges .ensures)
+    (c .before .before .before .before .before .before .before .before .before .before .with-edges2 .ensures)
     (c .before .before .before .before .before .before .before .only .ensures) (c .before .before .before .before .only2 .ensures) refl refl refl
 
 pub followed-spec : {M : Type 1} → statement M
@@ -135,8 +135,8 @@ followed-spec =
     element-copy-out-last
     mul-first
     element-copy-out-first
-    joined-requires
-    joined-requires-2
+    with-edges-requires
+    with-edges-requires-2
     mul-r
     element-copy-out-r
     mul-only

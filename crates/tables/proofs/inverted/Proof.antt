@@ -22,8 +22,8 @@ mixed-requires c κs = search needs
 mixed-requires-2 : tie.Need-mixed-requires-2
 mixed-requires-2 c κs = search needs
 
-turned-requires : tie.Need-turned-requires
-turned-requires c κs = search needs
+mirrored-requires : tie.Need-mirrored-requires
+mirrored-requires c κs = search needs
 
 mul-first : tie.Need-mul-first
 mul-first c = search needs
@@ -55,9 +55,9 @@ returns c =
     let k-first : length (s .first) ≡ 19 = search needs in
     let k-last : length (s .last) ≡ 19 = search needs in
     let k-enter : length (s .enter) ≡ 64 = search needs in
-    let k-turned : length (c .before .before .turned .result) ≡ 64 = search needs in
-    λ m x st H. holds-inverse H (omega arith) (omega arith) k-enter k-turned refl refl refl refl refl refl
-    (c .before .before .before .before .mixed .ensures) (c .before .before .before .mixed2 .ensures) (c .before .before .turned .ensures)
+    let k-mirrored : length (c .before .before .mirrored .result) ≡ 64 = search needs in
+    λ m x st H. holds-inverse H (omega arith) (omega arith) k-enter k-mirrored refl refl refl refl refl refl
+    (c .before .before .before .before .mixed .ensures) (c .before .before .before .mixed2 .ensures) (c .before .before .mirrored .ensures)
 
 pub inverted-spec : {M : Type 1} → statement M
 inverted-spec =
@@ -68,7 +68,7 @@ inverted-spec =
     element-copy-out-own
     mixed-requires
     mixed-requires-2
-    turned-requires
+    mirrored-requires
     mul-first
     element-copy-out-first
     mul-r

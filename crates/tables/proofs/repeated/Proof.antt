@@ -20,14 +20,14 @@ mul-first c = search needs
 element-copy-out-first : tie.Need-element-copy-out-first
 element-copy-out-first c = search needs
 
-joined-requires : tie.Need-joined-requires
-joined-requires c κs = search needs
+with-edges-requires : tie.Need-with-edges-requires
+with-edges-requires c κs = search needs
 
-joined-requires-2 : tie.Need-joined-requires-2
-joined-requires-2 c κs = search needs
+with-edges-requires-2 : tie.Need-with-edges-requires-2
+with-edges-requires-2 c κs = search needs
 
 returns : tie.Need-returns
-returns c = (λ m x st H. holds-plus H refl refl refl refl refl refl refl (c .before .joined .ensures) (c .joined2 .ensures), refl)
+returns c = (λ m x st H. holds-plus H refl refl refl refl refl refl refl (c .before .with-edges .ensures) (c .with-edges2 .ensures), refl)
 
 pub repeated-spec : {M : Type 1} → statement M
 repeated-spec =
@@ -38,6 +38,6 @@ repeated-spec =
     element-copy-out-last
     mul-first
     element-copy-out-first
-    joined-requires
-    joined-requires-2
+    with-edges-requires
+    with-edges-requires-2
     returns)

@@ -16,12 +16,12 @@ element-copy-out-nullable c = search needs
 array-write-follow : tie.Need-array-write-follow
 array-write-follow c = search needs
 
-joined-requires : tie.Need-joined-requires
-joined-requires c κs = search needs
+with-edges-requires : tie.Need-with-edges-requires
+with-edges-requires c κs = search needs
 
 returns : tie.Need-returns
 returns c =
-    λ x A. masked {m = A .0} (A .1) (search needs) (c .joined .ensures)
+    λ x A. masked {m = A .0} (A .1) (search needs) (c .with-edges .ensures)
 
 pub started-spec : {M : Type 1} → statement M
 started-spec =
@@ -31,5 +31,5 @@ started-spec =
     element-copy-out-last
     element-copy-out-nullable
     array-write-follow
-    joined-requires
+    with-edges-requires
     returns)

@@ -2,8 +2,9 @@
 use mathlib.Core.Path.{ap, _∙_}
 use native.Mathlib.Omega.{arith}
 use denote.Ref.{now}
+use Rattle.book.specs.ListLaws.{rest-whole}
 use Rattle.lines.specs.Typed.{skip, rest}
-use Rattle.lines.specs.TypedLaws.{word-short, part-from}
+use Rattle.lines.specs.TypedLaws.{word-short}
 use borrow.Author.Needs.{needs}
 use Rattle.lines.proofs.words.rest.Statement.{statement}
 use Rattle.lines.proofs.words.rest.Tie as tie
@@ -28,7 +29,7 @@ unfolding rest
 returns c =
     let s = now (c .before .before .before .before .args .s) in
     let n = c .before .before .word-len in
-    c .skip .ensures ∙ ap skip (part-from s (n .result)) ∙ rw (n .ensures)
+    c .skip .ensures ∙ ap skip (rest-whole s (n .result)) ∙ rw (n .ensures)
 
 pub rest-spec : {M : Type 1} → statement M
 rest-spec =

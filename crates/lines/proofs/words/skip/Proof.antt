@@ -6,8 +6,9 @@ use native.Mathlib.Omega.{arith}
 use lib.ListN.{length, getD, length-drop}
 use denote.Ref.{now}
 use borrow.Author.Tests.{not-true, not-false}
+use Rattle.book.specs.ListLaws.{rest-whole}
 use Rattle.lines.specs.Typed.{blank, skip}
-use Rattle.lines.specs.TypedLaws.{skip-on, skip-at, skip-none, part-from}
+use Rattle.lines.specs.TypedLaws.{skip-on, skip-at, skip-none}
 use borrow.Author.Needs.{needs}
 use Rattle.lines.proofs.words.skip.Statement.{statement}
 use Rattle.lines.proofs.words.skip.Tie as tie
@@ -46,14 +47,14 @@ part-t-end c = search needs
 loop-less : tie.Need-loop-less Inv-loop μ-loop
 loop-less c =
     let t = now (c .before .before .before .before .before .loop .t) in
-    rw (part-from t 1) (omega (arith, length-drop 1 t))
+    rw (rest-whole t 1) (omega (arith, length-drop 1 t))
 
 loop-again : tie.Need-loop-again Inv-loop μ-loop
 loop-again c =
     let at-loop = c .before .before .before .before .before in
     let t = now (at-loop .loop .t) in
     let b : blank (getD t 0 0) ≡ true = sym (c .before .before .is-blank .ensures) ∙ not-false _ (c .before .if1 .left) in
-    ap skip (part-from t 1) ∙ skip-on t (omega arith) b ∙ at-loop .loop .inv
+    ap skip (rest-whole t 1) ∙ skip-on t (omega arith) b ∙ at-loop .loop .inv
 
 returns-2 : tie.Need-returns-2 Inv-loop μ-loop
 returns-2 c = sym (skip-none (now (c .before .loop .t)) (omega arith)) ∙ c .before .loop .inv

@@ -18,17 +18,17 @@ slice-aggregate-count c = search needs
 count-requires : tie.Need-count-requires
 count-requires c κs = search needs
 
-slice-aggregate-dive : tie.Need-slice-aggregate-dive
-slice-aggregate-dive c = search needs
+slice-aggregate-descend : tie.Need-slice-aggregate-descend
+slice-aggregate-descend c = search needs
 
 height-requires : tie.Need-height-requires
 height-requires c κs = search needs
 
-slice-aggregate-dive-2 : tie.Need-slice-aggregate-dive-2
-slice-aggregate-dive-2 c = search needs
+slice-aggregate-descend-2 : tie.Need-slice-aggregate-descend-2
+slice-aggregate-descend-2 c = search needs
 
-dive-requires : tie.Need-dive-requires
-dive-requires c κs =
+descend-requires : tie.Need-descend-requires
+descend-requires c κs =
     let h = c .before .before .height .ensures in
     let p = c .before .before .before .before .before .before .before .before .before .pre in (
       h .1,
@@ -52,7 +52,7 @@ returns c =
     let g = c .before .before .before .before .before .before .before .before .before .before .before .before .args in
     λ a x is e r.
     let t : Cells = turnedBy (g .sense) a in
-    c .before .before .dive .ensures x t r
+    c .before .before .descend .ensures x t r
     (root-reads (g .sense) (g .tree .now) (h .result) t (reads-tree (g .sense) (g .n) (h .result) (g .tree .now) a (h .ensures .0) is e))
     ∙ ap (λ (s : Cells). flat (union x s)) (root-squares (h .result) t ∙ inside-all (g .n) (h .result) t (h .ensures .3) (turnedBy-set (g .sense) (g .n) a is))
 
@@ -62,9 +62,9 @@ load-by-spec =
     (tie.spec
     slice-aggregate-count
     count-requires
-    slice-aggregate-dive
+    slice-aggregate-descend
     height-requires
-    slice-aggregate-dive-2
-    dive-requires
+    slice-aggregate-descend-2
+    descend-requires
     same-length
     returns)

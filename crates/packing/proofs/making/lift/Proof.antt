@@ -25,11 +25,11 @@ loop-holds c =
     let h = c .before .args .heap .now in
     (omega arith, omega arith, refl, λ b f p l e. let z : b ≡ min b (16 * length h - 1) = omega arith in rw z at e)
 
-sub-quiet : tie.Need-sub-quiet Inv-loop μ-loop
-sub-quiet c = omega arith
+sub-all-zero : tie.Need-sub-all-zero Inv-loop μ-loop
+sub-all-zero c = omega arith
 
-quiet-requires : tie.Need-quiet-requires Inv-loop μ-loop
-quiet-requires c κs = omega arith
+all-zero-requires : tie.Need-all-zero-requires Inv-loop μ-loop
+all-zero-requires c κs = omega arith
 
 sub-i : tie.Need-sub-i Inv-loop μ-loop
 sub-i c = omega arith
@@ -40,7 +40,7 @@ loop-less c = omega arith
 loop-again : tie.Need-loop-again Inv-loop μ-loop
 loop-again c =
     let l = c .before .before .before .before .before .loop in
-    let q = c .before .quiet .ensures (c .if2 .taken) in (
+    let q = c .before .all-zero .ensures (c .if2 .taken) in (
       omega arith,
       omega arith,
       l .inv .2,
@@ -89,8 +89,8 @@ lift-spec =
     Inv-loop
     μ-loop
     loop-holds
-    sub-quiet
-    quiet-requires
+    sub-all-zero
+    all-zero-requires
     sub-i
     loop-less
     loop-again

@@ -6,7 +6,7 @@ use native.Mathlib.Omega.{arith}
 use borrow.Author.Needs.{needs}
 use lib.ListN.{length}
 use Rattle.k2.specs.Bits.{bitAt, wordsOf}
-use Rattle.k2.specs.Heap.{fullSize, full, squeezed}
+use Rattle.k2.specs.Heap.{fullSize, full, compacted}
 use Rattle.k2.specs.SizeLaws.{fullSize-most}
 use Rattle.bits.specs.BitSetLaws.{bits-none}
 use Rattle.packing.specs.Image.{above}
@@ -47,8 +47,8 @@ lift-requires c κs =
     let l : length (after-fill .fill .last .1 .1 .1 .0) ≡ length (after-clear .clear .last .0) = after-fill .fill .kept .1 .1 .1 .0 in
     omega (arith, start .pre .3)
 
-squeeze-requires : tie.Need-squeeze-requires
-squeeze-requires c κs =
+compact-requires : tie.Need-compact-requires
+compact-requires c κs =
     let after-lift = c .before .before .before in
     let after-fill = after-lift .before .before .before .before in
     let after-clear = after-fill .before .before .before .before .before .before in
@@ -75,7 +75,7 @@ returns c =
     let cl = after-clear .clear in
     let fi = after-fill .fill in
     let li = after-lift .lift in
-    let sq = c .before .before .squeeze in
+    let sq = c .before .before .compact in
     let k : length (cl .last .0) ≡ length (start .args .heap .now) = cl .kept .0 in
     let l : length (fi .last .1 .1 .1 .0) ≡ length (cl .last .0) = fi .kept .1 .1 .1 .0 in
     let m : length (li .last .0) ≡ length (fi .last .1 .1 .1 .0) = li .kept .0 in
@@ -88,7 +88,7 @@ returns c =
           ∙ rw (f .ensures .0) (part-cells h (g .result) (p .1) (g .ensures .1) a is) in
           let t : bitAt (li .last .0) ≡ full h a =
           li .ensures (fullSize (h - 1) 1) (full h a) (part-heaped h (g .result) (p .1) (g .ensures .1) a) (omega (arith, p .3)) w in
-          sq .ensures .1 ∙ ap wordsOf (ap (λ (x : ℕ → ℕ). squeezed x (16 * filled)) t ∙ full-groups h filled a (omega (arith, p .3))),
+          sq .ensures .1 ∙ ap wordsOf (ap (λ (x : ℕ → ℕ). compacted x (16 * filled)) t ∙ full-groups h filled a (omega (arith, p .3))),
     )
 
 pub pack-part-spec : {M : Type 1} → statement M
@@ -101,6 +101,6 @@ pack-part-spec =
     full-size-requires
     fill-requires
     lift-requires
-    squeeze-requires
+    compact-requires
     same-length
     returns)

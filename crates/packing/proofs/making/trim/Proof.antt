@@ -4,7 +4,7 @@ use Prim.Native.Nat.{_*_, _%_}
 use native.Mathlib.Omega.{arith}
 use borrow.Author.Needs.{needs}
 use lib.Pow.{pow-pos}
-use Rattle.packing.proofs.SqueezeLaws.{trim-law, power}
+use Rattle.packing.proofs.CompactLaws.{trim-law, power}
 use Rattle.packing.proofs.making.trim.Statement.{statement}
 use Rattle.packing.proofs.making.trim.Tie as tie
 

@@ -12,11 +12,11 @@ use Rattle.register.proofs.TotalLaws.{raised-counted}
 use Rattle.register.proofs.Register.put_in.Statement.{statement}
 use Rattle.register.proofs.Register.put_in.Tie as tie
 
-place-requires : tie.Need-place-requires
-place-requires c κs = search needs
+lower-bound-requires : tie.Need-lower-bound-requires
+lower-bound-requires c κs = search needs
 
 put-requires : tie.Need-put-requires
-put-requires c κs = (c .before .place .ensures .within, c .before .before .before .before .before .pre, search needs)
+put-requires c κs = (c .before .lower-bound .ensures .within, c .before .before .before .before .before .pre, search needs)
 
 raise-requires : tie.Need-raise-requires
 raise-requires c κs = search needs
@@ -30,7 +30,7 @@ returns c =
     let k : length (s .t1 .links) ≡ 4096 = search needs in
     let l = take (s .t1 .count) (s .t1 .links) in
     let few : length l < 4096 = omega (arith, length-take-le (s .t1 .count) (s .t1 .links) (omega arith)) in
-    let at = c .before .before .before .before .place in
+    let at = c .before .before .before .before .lower-bound in
     let links = c .before .before .put .last .0 in
     let put-in = seam-insert (s .x) (s .t1 .links) links (s .t1 .count) (at .result) (omega arith) (at .ensures) (c .before .before .put .ensures) in
     record {
@@ -40,4 +40,4 @@ returns c =
     }
 
 pub put-in-spec : {M : Type 1} → statement M
-put-in-spec = tie.close (tie.spec place-requires put-requires raise-requires add-self returns)
+put-in-spec = tie.close (tie.spec lower-bound-requires put-requires raise-requires add-self returns)

@@ -16,8 +16,8 @@ use Rattle.register.proofs.TotalLaws.{lowered-counted}
 use Rattle.register.proofs.Register.take_out.Statement.{statement}
 use Rattle.register.proofs.Register.take_out.Tie as tie
 
-place-requires : tie.Need-place-requires
-place-requires c κs = search needs
+lower-bound-requires : tie.Need-lower-bound-requires
+lower-bound-requires c κs = search needs
 
 stands-requires : tie.Need-stands-requires
 stands-requires c κs = search needs
@@ -29,7 +29,7 @@ returns c =
     let s = start .args in
     let k : length (s .t1 .links) ≡ 4096 = search needs in
     let l = take (s .t1 .count) (s .t1 .links) in
-    let at = after-place .place in
+    let at = after-place .lower-bound in
     let st = c .before .stands in
     record {
       kept = record { n = refl; ring = refl; top = refl; held = refl; count = start .pre };
@@ -42,10 +42,10 @@ returns c =
 below-count : (c : tie.Else1)
     → let after-place = c .before .before .before .before .before in
     let start = after-place .before .before .before .before in
-    after-place .place .result < start .args .t1 .count
+    after-place .lower-bound .result < start .args .t1 .count
 below-count c =
     let s = c .before .before .before .before .before .before .before .before .before .args in
-    stands-below (s .t1 .links) (s .t1 .count) (c .before .before .before .before .before .place .result)
+    stands-below (s .t1 .links) (s .t1 .count) (c .before .before .before .before .before .lower-bound .result)
     (s .x) (sym (c .before .stands .ensures) ∙ not-false (c .before .stands .result) (c .if1 .left))
 
 cut-requires : tie.Need-cut-requires
@@ -66,7 +66,7 @@ returns-2 c =
     let s = start .args in
     let k : length (s .t1 .links) ≡ 4096 = search needs in
     let l = take (s .t1 .count) (s .t1 .links) in
-    let at = after-place .place in
+    let at = after-place .lower-bound in
     let st = after-stands .stands in
     let h : s .t1 .count ≤ length (s .t1 .links) = omega arith in
     let links = after-cut .cut .last .0 in
@@ -85,4 +85,4 @@ returns-2 c =
 
 pub take-out-spec : {M : Type 1} → statement M
 take-out-spec =
-    tie.close (tie.spec place-requires stands-requires returns cut-requires lower-requires sub-self returns-2)
+    tie.close (tie.spec lower-bound-requires stands-requires returns cut-requires lower-requires sub-self returns-2)

@@ -14,13 +14,14 @@ use Rattle.book.specs.Basics.{tally}
 use Rattle.book.specs.Causes.{maxRecords}
 use Rattle.book.specs.Book.{freshAnswer, fresh, after, givens}
 use Rattle.book.specs.Sheets.{Sound}
+use Rattle.book.specs.ListLaws.{rest-whole}
 use Rattle.register.specs.Representation.{Represents}
 use Rattle.register.specs.Calls.{answerOf, answerNumber}
 use Rattle.register.specs.History.{Lent, wordCall, entryNumber, wordAnswers, entryCalls, callsOf, closings, laid}
 use Rattle.register.specs.HistoryLaws.{number-answer, represents-sound}
 use Rattle.register.specs.LaidLaws.{entry-answers, entry-follows, entry-given}
 use Rattle.register.proofs.ReplayLaws.{replay-size, replay-short, replay-few, replay-free, replay-refused, after-turn, told-turn, closings-turn}
-use Rattle.register.proofs.ReplayLaws.{closings-part, rest-whole, numbers-turn}
+use Rattle.register.proofs.ReplayLaws.{closings-part, numbers-turn}
 use Rattle.register.proofs.history.replay.Statement.{statement}
 use Rattle.register.proofs.history.replay.Tie as tie
 

@@ -13,8 +13,8 @@ use Rattle.register.proofs.questions.label_part.Tie as tie
 mul-first : tie.Need-mul-first
 mul-first c = search needs
 
-place-requires : tie.Need-place-requires
-place-requires c κs = search needs
+lower-bound-requires : tie.Need-lower-bound-requires
+lower-bound-requires c κs = search needs
 
 mul-rest : tie.Need-mul-rest
 mul-rest c = search needs
@@ -28,25 +28,25 @@ part-rest-start c = search needs
 part-rest-end : tie.Need-part-rest-end
 part-rest-end c = search needs
 
-add-place : tie.Need-add-place
-add-place c = search needs
+add-lower-bound : tie.Need-add-lower-bound
+add-lower-bound c = search needs
 
-place-requires-2 : tie.Need-place-requires-2
-place-requires-2 c κs = search needs
+lower-bound-requires-2 : tie.Need-lower-bound-requires-2
+lower-bound-requires-2 c κs = search needs
 
 -- the rest of the words, from the place of the label's first
-rest : (c : tie.After-place) → take (length (c .before .before .args .words .now) - c .place .result)
-    (drop (c .place .result) (c .before .before .args .words .now)) ≡ drop (c .place .result) (c .before .before .args .words .now)
+rest : (c : tie.After-place) → take (length (c .before .before .args .words .now) - c .lower-bound .result)
+    (drop (c .lower-bound .result) (c .before .before .args .words .now)) ≡ drop (c .lower-bound .result) (c .before .before .args .words .now)
 rest c =
     let ws = c .before .before .args .words .now in
-    take-all (length ws - c .place .result) (drop (c .place .result) ws) (omega (arith, length-drop (c .place .result) ws))
+    take-all (length ws - c .lower-bound .result) (drop (c .lower-bound .result) ws) (omega (arith, length-drop (c .lower-bound .result) ws))
 
 slice-aggregate-result : tie.Need-slice-aggregate-result
 slice-aggregate-result c =
     let after-place = c .before .before .before in
     let ws = after-place .before .before .args .words .now in
-    let i = after-place .place .result in
-    let k = c .before .place2 in
+    let i = after-place .lower-bound .result in
+    let k = c .before .lower-bound2 in
     sym (length-take-le (k .result) (take (length ws - i) (drop i ws)) (omega (arith, k .ensures .within, ap length (rest after-place), length-drop i ws)))
 
 returns : tie.Need-returns
@@ -54,8 +54,8 @@ returns c =
     let after-place = c .before .before .before in
     let start = after-place .before .before in
     let ws = start .args .words .now in
-    let i = after-place .place in
-    let k = c .before .place2 in
+    let i = after-place .lower-bound in
+    let k = c .before .lower-bound2 in
     let e = rest after-place in
     label-part ws _ (start .args .label) (i .result) (k .result) e (i .ensures) (k .ensures)
 
@@ -64,12 +64,12 @@ label-part-spec =
     tie.close
     (tie.spec
     mul-first
-    place-requires
+    lower-bound-requires
     mul-rest
     sub-rest
     part-rest-start
     part-rest-end
-    add-place
-    place-requires-2
+    add-lower-bound
+    lower-bound-requires-2
     slice-aggregate-result
     returns)

@@ -6,8 +6,8 @@ use Rattle.register.proofs.AscendingLaws.{seam-has}
 use Rattle.register.proofs.sorted.holds.Statement.{statement}
 use Rattle.register.proofs.sorted.holds.Tie as tie
 
-place-requires : tie.Need-place-requires
-place-requires c κs = search needs
+lower-bound-requires : tie.Need-lower-bound-requires
+lower-bound-requires c κs = search needs
 
 stands-requires : tie.Need-stands-requires
 stands-requires c κs = search needs
@@ -15,7 +15,7 @@ stands-requires c κs = search needs
 returns : tie.Need-returns
 returns c =
     λ r. let s = c .before .before .before in
-    c .stands .ensures ∙ seam-has (s .args .x) (s .args .words .now) (s .args .count) (c .before .place .result) (s .pre) r (c .before .place .ensures)
+    c .stands .ensures ∙ seam-has (s .args .x) (s .args .words .now) (s .args .count) (c .before .lower-bound .result) (s .pre) r (c .before .lower-bound .ensures)
 
 pub holds-spec : {M : Type 1} → statement M
-holds-spec = tie.close (tie.spec place-requires stands-requires returns)
+holds-spec = tie.close (tie.spec lower-bound-requires stands-requires returns)

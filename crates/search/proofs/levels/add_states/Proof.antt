@@ -14,7 +14,7 @@ use Rattle.search.proofs.levels.add_states.Tie as tie
 state : (c : tie.Else1) → (q : ℕ) × (q < 64) × On (digit (c .before .before .args .entry .states) q)
 state c = some-digit 64 (c .before .before .args .entry .states) (omega arith) (omega arith)
 
-room : (c : tie.Else3) → c .before .before .before .before .before .before .before .args .entry .listed < 1024
+room : (c : tie.Else3) → c .before .before .before .before .before .before .before .args .entry .queued < 1024
 room c =
     let else1 = c .before .before .before .before .before in
     let start = else1 .before .before in

@@ -26,12 +26,12 @@ use Rattle.search.proofs.levels.backward.Statement.{statement}
 use Rattle.search.proofs.levels.backward.Tie as tie
 
 abbrev Inv-loop2 : tie.InvT-loop2
-Inv-loop2 arcs predecessors enter accepting work n start end index seen next₀ list₀ records masks count level listed₀ i₀ next list listed i =
-    (i ≤ count) × (length next ≡ 1024) × (length list ≡ 1024) × Listed list listed n next
+Inv-loop2 arcs predecessors enter accepting work n start end index seen next₀ list₀ records masks count level listed₀ i₀ next list queued i =
+    (i ≤ count) × (length next ≡ 1024) × (length list ≡ 1024) × Listed list queued n next
     × ((cur : List ℕ) → Frontier records masks count cur → Levelling arcs predecessors enter cur seen n (length arcs) records i (length arcs) next)
 
 abbrev μ-loop2 : tie.MeasureT-loop2
-μ-loop2 arcs predecessors enter accepting work n start end index seen next₀ list₀ records masks count level listed₀ i₀ next list listed i = count - i
+μ-loop2 arcs predecessors enter accepting work n start end index seen next₀ list₀ records masks count level listed₀ i₀ next list queued i = count - i
 
 abbrev Inv-loop : tie.InvT-loop
 Inv-loop arcs predecessors enter accepting work₀ n start end index seen₀ next₀
@@ -158,19 +158,19 @@ made : (c : tie.After-loop2 Inv-loop2 μ-loop2 Inv-loop μ-loop)
     (at-loop .loop .seen) (start .args .ends .n) (length (start .args .arcs .now)) (c .before .loop2 .next)
 made c cur F = let l = c .before .loop2 in let e : l .i ≡ c .before .before .before .loop .count = omega arith in levelling-all (rw e at (l .inv .4 cur F)) F
 
--- the records listed, as they are lent
+-- the records queued, as they are lent
 part-long : (c : tie.After-loop2 Inv-loop2 μ-loop2 Inv-loop μ-loop)
-    → length (take (c .before .loop2 .listed - 0) (c .before .loop2 .list)) ≡ c .before .loop2 .listed - 0
-part-long c = let l = c .before .loop2 in let h = listed-fits (l .inv .3) in length-take-le (l .listed - 0) (l .list) (omega (arith, l .inv .2))
+    → length (take (c .before .loop2 .queued - 0) (c .before .loop2 .list)) ≡ c .before .loop2 .queued - 0
+part-long c = let l = c .before .loop2 in let h = listed-fits (l .inv .3) in length-take-le (l .queued - 0) (l .list) (omega (arith, l .inv .2))
 
 listed-part : (c : tie.After-loop2 Inv-loop2 μ-loop2 Inv-loop μ-loop)
     → let start = c .before .before .before .before .before .before .before .before .before .before .before .before .before in
-    Listed (take (c .before .loop2 .listed - 0) (c .before .loop2 .list))
-    (length (take (c .before .loop2 .listed - 0) (c .before .loop2 .list))) (start .args .ends .n) (c .before .loop2 .next)
+    Listed (take (c .before .loop2 .queued - 0) (c .before .loop2 .list))
+    (length (take (c .before .loop2 .queued - 0) (c .before .loop2 .list))) (start .args .ends .n) (c .before .loop2 .next)
 listed-part c =
     let l = c .before .loop2 in
     let h = listed-fits (l .inv .3) in
-    let part : l .listed - 0 ≡ l .listed = omega arith in
+    let part : l .queued - 0 ≡ l .queued = omega arith in
     rw part (listed-take (l .inv .3) (omega (arith, l .inv .2)))
 
 same-length : tie.Need-same-length Inv-loop2 μ-loop2 Inv-loop μ-loop
@@ -237,11 +237,11 @@ grows c =
     let else1 = c .before .before .before .before .before .before .before .before in
     let at-loop = else1 .before .before .before .before in
     let i = at-loop .loop .inv in
-    let listed = else1 .before .before .loop2 .inv .3 in
+    let queued = else1 .before .before .loop2 .inv .3 in
     let some = else1 .if1 .left in
-    let state = listed .some 0 (omega arith) in
+    let state = queued .some 0 (omega arith) in
     level-falls (made (else1 .before) (i .9) (i .10)) (c .commit .ensures .2 _ (listed-part (else1 .before)))
-    (listed .small 0 (omega arith)) (state .1) (state .2)
+    (queued .small 0 (omega arith)) (state .1) (state .2)
 
 add-level : tie.Need-add-level Inv-loop2 μ-loop2 Inv-loop μ-loop
 add-level c =
@@ -268,7 +268,7 @@ loop-again c =
     let m = after-loop2 .before .loop2 in
     let done = after-commit .commit in
     let two : l .level + 2 ≡ suc (suc (l .level)) = omega arith in
-    let long : length (take (m .listed - 0) (m .list)) ≡ m .listed = (let e = part-long after-loop2 in omega arith) in (
+    let long : length (take (m .queued - 0) (m .list)) ≡ m .queued = (let e = part-long after-loop2 in omega arith) in (
       done .kept .0 ∙ l .inv .0,
       done .kept .1 .0 ∙ l .inv .1,
       done .kept .1 .1 .0 ∙ m .inv .1,

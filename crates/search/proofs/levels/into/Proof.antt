@@ -15,14 +15,14 @@ use Rattle.search.proofs.levels.into.Statement.{statement}
 use Rattle.search.proofs.levels.into.Tie as tie
 
 abbrev Inv-loop : tie.InvT-loop
-Inv-loop arcs index predecessors enter seen next₀ list₀ entry n listed₀ cursor₀ next list listed cursor =
-    (length next ≡ length next₀) × (length list ≡ length list₀) × Cursor (arcTo arcs) (length arcs) (entry .at) cursor × Listed list listed (entry .n) next
+Inv-loop arcs index predecessors enter seen next₀ list₀ entry n listed₀ cursor₀ next list queued cursor =
+    (length next ≡ length next₀) × (length list ≡ length list₀) × Cursor (arcTo arcs) (length arcs) (entry .at) cursor × Listed list queued (entry .n) next
     × ((cur records : List ℕ) (i : ℕ) → entry .at ≡ getD records i 0 → entry .states ≡ getD cur (entry .at) 0
     → Levelling arcs predecessors enter cur seen (entry .n) (length arcs) records i (length arcs) next₀
     → Levelling arcs predecessors enter cur seen (entry .n) (length arcs) records i cursor next)
 
 abbrev μ-loop : tie.MeasureT-loop
-μ-loop arcs index predecessors enter seen next₀ list₀ entry n listed₀ cursor₀ next list listed cursor = cursor
+μ-loop arcs index predecessors enter seen next₀ list₀ entry n listed₀ cursor₀ next list queued cursor = cursor
 
 -- the arc at which the cursor stands
 stands : (c : tie.In-loop Inv-loop μ-loop)

@@ -19,16 +19,16 @@ use Rattle.search.proofs.reach.out_of.Statement.{statement}
 use Rattle.search.proofs.reach.out_of.Tie as tie
 
 abbrev Inv-loop : tie.InvT-loop
-Inv-loop arcs index enter seen₀ pending₀ list₀ entry n listed₀ cursor₀ seen pending list listed cursor =
+Inv-loop arcs index enter seen₀ pending₀ list₀ entry n listed₀ cursor₀ seen pending list queued cursor =
     (length seen ≡ length seen₀) × (length pending ≡ length pending₀) × (length list ≡ length list₀)
-    × Cursor (arcFrom arcs) (length arcs) (entry .at) cursor × Listed list listed (entry .n) pending
+    × Cursor (arcFrom arcs) (length arcs) (entry .at) cursor × Listed list queued (entry .n) pending
     × Fewer (entry .n) seen₀ pending₀ seen pending
     × ((fs : List ℕ) (x mask : ℕ) → Spread fs mask 0 (entry .states)
     → Expanding fs enter arcs (length arcs) (entry .n) x seen₀ pending₀ (entry .at) mask (length arcs)
     → Expanding fs enter arcs (length arcs) (entry .n) x seen pending (entry .at) mask cursor)
 
 abbrev μ-loop : tie.MeasureT-loop
-μ-loop arcs index enter seen₀ pending₀ list₀ entry n listed₀ cursor₀ seen pending list listed cursor = cursor
+μ-loop arcs index enter seen₀ pending₀ list₀ entry n listed₀ cursor₀ seen pending list queued cursor = cursor
 
 -- the arc at which the cursor stands
 stands : (c : tie.In-loop Inv-loop μ-loop)

@@ -1,4 +1,4 @@
--- `reach` goes out of one record after another, the last listed first. The loop's invariant: the list has the records with states pending (`Listed`), and
+-- `reach` goes out of one record after another, the last queued first. The loop's invariant: the list has the records with states pending (`Listed`), and
 -- what was seen is come to and, where it is not pending, gone out of (`Expanding`). The measure is the number of states that are not seen or pending
 -- (`toDo`), which a record taken off lessens (`fewer-pop`) and an arc does not raise (`Fewer`). Assumes nothing.
 use mathlib.Core.Path.{_≡_, sym, _∙_}
@@ -24,7 +24,7 @@ Inv-loop arcs follow enter n from index seen₀ pending₀ list₀ count₀ seen
 abbrev μ-loop : tie.MeasureT-loop
 μ-loop arcs follow enter n from index seen₀ pending₀ list₀ count₀ seen pending list count = onesBelow (toDo seen pending) (n * 64)
 
--- the record last listed
+-- the record last queued
 inside : (c : tie.In-loop Inv-loop μ-loop)
     → let start = c .before .before .before .before .before .before .before .before .before .before .before in
     getD (c .before .loop .list) (c .before .loop .count - 1) 0 < start .args .n

@@ -1,0 +1,57 @@
+-- `reader::joined` meets its contract: the operator's number after both codes. Assumes nothing.
+use Prim.Native.Nat.{_+_, _<_, _≤_}
+use native.Mathlib.Omega.{arith}
+use lib.ListN.{length}
+use borrow.Author.Needs.{needs}
+use Rattle.reader.proofs.JoinLaws.{joins, joins-no-first, joins-no-next, has-room}
+use Rattle.reader.proofs.combined.Statement.{statement}
+use Rattle.reader.proofs.combined.Tie as tie
+
+enum-known-first : tie.Need-enum-known-first
+enum-known-first c = search needs
+
+enum-told : tie.Need-enum-told
+enum-told c = search needs
+
+returns : tie.Need-returns
+returns c = joins-no-first _ _ _ _ (c .enum-told .given .1)
+
+enum-known-next : tie.Need-enum-known-next
+enum-known-next c = search needs
+
+enum-told-2 : tie.Need-enum-told-2
+enum-told-2 c = search needs
+
+returns-2 : tie.Need-returns-2
+returns-2 c = joins-no-next _ _ _ (c .before .before .before .first .given .1) (c .enum-told2 .given .1)
+
+-- there is room for the number, and the letters fit
+room : (c : tie.After-next)
+    → let after-first = c .before .before .before in
+    let start = after-first .before .before .before in
+    (c .next .given .0 .0 .end < length (start .args .code .now))
+    × (after-first .first .given .0 .0 .letters + c .next .given .0 .0 .letters ≤ length (start .args .code .now))
+room c = has-room (c .before .before .before .first .given .1) (c .next .given .1) (c .before .before .before .before .before .before .pre)
+
+push-requires : tie.Need-push-requires
+push-requires c κs = room (c .before .before) .0
+
+add-t10 : tie.Need-add-t10
+add-t10 c = let h = room (c .before .before .before .before .before .before .before) in omega arith
+
+larger-requires : tie.Need-larger-requires
+larger-requires c κs = search needs
+
+same-length : tie.Need-same-length
+same-length c = search needs
+
+returns-3 : tie.Need-returns-3
+returns-3 c =
+    let after-push = c .before .before .before .before .before in
+    let after-next = after-push .before .before .before in
+    let after-first = after-next .before .before .before in
+    rw (after-push .push .ensures .0, after-push .push .ensures .1, c .larger .ensures) (joins _ _ (after-first .first .given .1) (after-next .next .given .1))
+
+pub combined-spec : {M : Type 1} → statement M
+combined-spec =
+    tie.close (tie.spec enum-known-first enum-told returns enum-known-next enum-told-2 returns-2 push-requires add-t10 larger-requires same-length returns-3)
