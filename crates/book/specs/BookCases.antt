@@ -21,7 +21,7 @@
 -- Assumes nothing.
 use mathlib.Core.Path.{_≡_, refl, ap}
 use mathlib.Core.List.{List, [], _∷_, _++_, map}
-use mathlib.Core.Bool.{Bool, true, false}
+use mathlib.Core.Bool.{false}
 use Prim.Native.Nat.{ℕ, zero, suc, _+_, _/_, _%_, _<_}
 use native.Mathlib.Omega.{arith}
 use lib.ListN.{length, replicate}
@@ -31,7 +31,6 @@ use Rattle.book.specs.Causes.{number, firstNumber, maxLinks}
 use Rattle.book.specs.Book.{Link, sameLink, Sheet, add, remove, lock, unlock, withdraw, reinstate, Call, edit, undo, close, touched, causes, editAnswer}
 use Rattle.book.specs.Book.{edited, turned, undoAnswer, undone, rank, closedSheet, closeCauses, closeAnswer, closed, newNumbers, closeGiven, freshAnswer}
 use Rattle.book.specs.Book.{total, totalNumber, answer, next, given, fresh, answers, after, givens}
-use Rattle.book.specs.SetLaws.{sameLink-test}
 use Rattle.book.specs.OrderLaws.{unlike}
 
 abbrev link : ℕ → ℕ → ℕ → Link

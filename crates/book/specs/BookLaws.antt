@@ -37,7 +37,8 @@ use Rattle.book.specs.Book.{next, fresh, after}
 use Rattle.book.specs.Sheets.{Distinct, Proper, Fit, Sound}
 use Rattle.book.specs.RankLaws.{rank-le}
 use Rattle.book.specs.CloseLaws.{closed-fit}
-use Rattle.book.specs.SetLaws.{sameLink-test, eqb-test, and-both, or-neither, or-true, has-in, in-has, has-without, absent-without, distinct-without, or-else}
+use Rattle.book.specs.SetLaws.{sameLink-test, eqb-test, and-both, or-neither, or-else, or-true, has-in, in-has, has-without, absent-without}
+use Rattle.book.specs.SetLaws.{distinct-without}
 use Rattle.book.specs.SetLaws.{length-without}
 
 -- ---- causes

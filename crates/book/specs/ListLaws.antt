@@ -1,4 +1,16 @@
--- Laws of membership in a list, of ascending lists (two with the same members are equal), of the rest of a list and of one written over a front. Assumes nothing.
+-- Laws of lists.
+--   in-left, in-right, in-either, in-none, in-front, in-one
+--                  membership in a joined list, in none, in one by its front
+--   in-at, at-in   a member stands at a place, and what stands at a place is a member
+--   map-in, length-map, in-map
+--                  the members and the length of a mapped list
+--   rises-least, rises-from, rises-map
+--                  an ascending list: its least member, from a lower number on, mapped
+--   rises-same     two with the same members are equal
+--   rest-whole, rest-length
+--                  the part of a list from a place on, as code cuts it
+--   length-over    a list written over a front
+-- Assumes nothing.
 use mathlib.Core.Path.{_≡_, refl, sym, ap, ap₂, subst, _∙_}
 use mathlib.Core.Logic.{_⊎_, inl, inr, ⊎-elim}
 use mathlib.Core.List.{List, [], _∷_, _++_, map}

@@ -3,10 +3,10 @@
 --                  of two tests
 --   skip-on, skip-at, skip-none
 --                  blanks in front, one after the other, up to a byte that is none or the end
---   word-short     a word is no longer than its line
 --   word-more, word-end, word-none
 --                  the bytes of a word, one after the other, up to a blank or the end
---   take-word      a word stands at the front of its line
+--   take-word, word-short
+--                  a word stands at the front of its line, and is no longer
 --   trim-blank, trim-at, trim-none
 --                  blanks at the end, one after the other, down to a byte that is none or the front
 --   length-text    what is sent of a text is within its limit
@@ -21,7 +21,7 @@ use mathlib.Core.Bool.{Bool, true, false, _&&_}
 use Prim.Native.Nat.{ℕ, zero, suc, _+_, _-_, _*_, _/_, _%_, _≤_, _<_}
 use native.Mathlib.Numerals.{add-one}
 use native.Mathlib.Omega.{arith}
-use lib.ListN.{length, take, drop, getD, length-append, length-take, length-drop, drop-of-length-le}
+use lib.ListN.{length, take, drop, getD, length-append, length-take, drop-of-length-le}
 use lib.Seq.{drop-cons, take-suc}
 use lib.Dec.{eqb, ltb}
 use borrow.Author.Tests.{eq-eqb, ne-eqb, eqb-true, le-leb, lt-ltb, ltb-true, ltb-false}

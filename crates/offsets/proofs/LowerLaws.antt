@@ -18,7 +18,7 @@ use lib.Signed.{mag, ltZ, leZ}
 use mir.Syntax.{w32, w64}
 use mir.Val.{SFits, toZ, ofZ}
 use borrow.Author.Tests.{lt-ltb, le-ltb}
-use Rattle.offsets.specs.Relax.{State, dist, relax, third, relaxed}
+use Rattle.offsets.specs.Relax.{State, dist, lower, third, relaxed}
 use Rattle.offsets.proofs.IntegerLaws.{bits-back, mag-add, within, under, over, wide, wide-is, minus, minus-is}
 
 module _ (from to : ℕ) (w : ℤ) (l : List ℤ) (c : Bool) where
@@ -29,24 +29,24 @@ module _ (from to : ℕ) (w : ℤ) (l : List ℤ) (c : Bool) where
   abbrev sum : ℤ
   sum = toZ w64 (ofZ w64 (a +ℤ toZ w64 (ofZ w64 w)))
 
-  pub no-from : length l ≤ from → _≡_ {A = State} (l, c) (relax from to w (l, c))
-  unfolding relax
+  pub no-from : length l ≤ from → _≡_ {A = State} (l, c) (lower from to w (l, c))
+  unfolding lower
   no-from h = rw (le-ltb _ _ h)
 
-  pub no-to : from < length l → length l ≤ to → _≡_ {A = State} (l, c) (relax from to w (l, c))
-  unfolding relax
+  pub no-to : from < length l → length l ≤ to → _≡_ {A = State} (l, c) (lower from to w (l, c))
+  unfolding lower
   no-to f h = rw (lt-ltb _ _ f, le-ltb _ _ h)
 
   module _ (f : from < length l) (t : to < length l) (fa : mag (dist l from) < 2 ^ 63) where
-    not-known : 2 ^ 62 ≤ mag (dist l from) → _≡_ {A = State} (l, c) (relax from to w (l, c))
-    unfolding relax
+    not-known : 2 ^ 62 ≤ mag (dist l from) → _≡_ {A = State} (l, c) (lower from to w (l, c))
+    unfolding lower
     not-known k = rw (lt-ltb _ _ f, lt-ltb _ _ t, le-ltb _ _ k)
 
-    pub too-low : ltZ a (negsuc 4611686018427387903) ≡ true → _≡_ {A = State} (l, c) (relax from to w (l, c))
+    pub too-low : ltZ a (negsuc 4611686018427387903) ≡ true → _≡_ {A = State} (l, c) (lower from to w (l, c))
     too-low e =
         not-known (under (dist l from) 4611686018427387903 (subst (λ (z : ℤ). ltZ z (negsuc 4611686018427387903) ≡ true) (bits-back w64 (dist l from) fa) e))
 
-    pub too-high : leZ (pos 4611686018427387904) a ≡ true → _≡_ {A = State} (l, c) (relax from to w (l, c))
+    pub too-high : leZ (pos 4611686018427387904) a ≡ true → _≡_ {A = State} (l, c) (lower from to w (l, c))
     too-high e =
         not-known (over (dist l from) 4611686018427387904 (subst (λ (z : ℤ). leZ (pos 4611686018427387904) z ≡ true) (bits-back w64 (dist l from) fa) e))
 
@@ -80,23 +80,23 @@ module _ (from to : ℕ) (w : ℤ) (l : List ℤ) (c : Bool) where
             ap (λ (z : ℤ). ltZ (dist l from +ℤ w) z) (sym (bits-back w64 (dist l to) fb))
             ∙ ap (λ (z : ℤ). ltZ z (toZ w64 (ofZ w64 (dist l to)))) (sym sum-is) ∙ e
 
-        pub stored : ltZ sum (toZ w64 (ofZ w64 (dist l to))) ≡ true → _≡_ {A = State} (set l to sum, true) (relax from to w (l, c))
-        unfolding relax
+        pub stored : ltZ sum (toZ w64 (ofZ w64 (dist l to))) ≡ true → _≡_ {A = State} (set l to sum, true) (lower from to w (l, c))
+        unfolding lower
         stored e = rw (lt-ltb _ _ f, lt-ltb _ _ t, lt-ltb _ _ is-known, test-is true e, sum-is)
 
-        pub stayed : ltZ sum (toZ w64 (ofZ w64 (dist l to))) ≡ false → _≡_ {A = State} (l, c) (relax from to w (l, c))
-        unfolding relax
+        pub stayed : ltZ sum (toZ w64 (ofZ w64 (dist l to))) ≡ false → _≡_ {A = State} (l, c) (lower from to w (l, c))
+        unfolding lower
         stayed e = rw (lt-ltb _ _ f, lt-ltb _ _ t, lt-ltb _ _ is-known, test-is false e)
 
 -- two calls of `lower`, one after the other
 abbrev pub pair : ℕ → ℕ → ℕ → ℤ → ℤ → State → State
-pair o a b u w s = relax (o + b) (o + a) w (relax (o + a) (o + b) u s)
+pair o a b u w s = lower (o + b) (o + a) w (lower (o + a) (o + b) u s)
 
 pub both : (o a b : ℕ) (u w : ℤ) (s s₁ s₂ : State) → SFits w64 u → SFits w64 w
-    → s₁ ≡ relax (o + a) (o + b) (toZ w64 (ofZ w64 u)) s → s₂ ≡ relax (o + b) (o + a) (toZ w64 (ofZ w64 w)) s₁ → s₂ ≡ pair o a b u w s
+    → s₁ ≡ lower (o + a) (o + b) (toZ w64 (ofZ w64 u)) s → s₂ ≡ lower (o + b) (o + a) (toZ w64 (ofZ w64 w)) s₁ → s₂ ≡ pair o a b u w s
 both o a b u w s s₁ s₂ fu fw e₁ e₂ =
-    e₂ ∙ ap (λ (z : ℤ). relax (o + b) (o + a) z s₁) (bits-back w64 w (fw .sfits))
-    ∙ ap (relax (o + b) (o + a) w) (e₁ ∙ ap (λ (z : ℤ). relax (o + a) (o + b) z s) (bits-back w64 u (fu .sfits)))
+    e₂ ∙ ap (λ (z : ℤ). lower (o + b) (o + a) z s₁) (bits-back w64 w (fw .sfits))
+    ∙ ap (lower (o + b) (o + a) w) (e₁ ∙ ap (λ (z : ℤ). lower (o + a) (o + b) z s) (bits-back w64 u (fu .sfits)))
 
 -- three of these, at the numbers as the code has them, are `relaxed`
 pub all-three : (n first second : ℕ) (least most : ℤ) (s s₁ s₂ s₃ : State)

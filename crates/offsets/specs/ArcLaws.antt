@@ -39,7 +39,7 @@ use Rattle.book.specs.ListLaws.{in-none}
 use Rattle.offsets.specs.declared.Tie.{Tie}
 use Rattle.offsets.specs.LinearLaws.{of-le, of-lt, of-ltb, of-not-ltb, to-le, to-lt, of-add, of-sub, of-neg-up, of-neg-down, least-as-sum, most-as-sum}
 use Rattle.offsets.specs.LinearLaws.{≤ℤ-trans}
-use Rattle.offsets.specs.Relax.{State, pick, known, dist, relax, third, relaxed, relaxTie, relaxAll}
+use Rattle.offsets.specs.Relax.{State, pick, known, dist, lower, third, relaxed, relaxTie, relaxAll}
 use Rattle.offsets.specs.Offsets.{Placing, Places}
 
 pub record Arc : Type 0 where
@@ -79,7 +79,7 @@ abbrev pub Keeps : Placing → List Arc → Type 0
 Keeps p cs = (a : Arc) → In a cs → p (a .to) ≤ℤ (p (a .from) +ℤ a .rise)
 
 abbrev pub arc : Arc → State → State
-arc a s = relax (a .from) (a .to) (a .rise) s
+arc a s = lower (a .from) (a .to) (a .rise) s
 
 abbrev pub run : List Arc → State → State
 run [] s = s
@@ -127,11 +127,11 @@ pub by-test : (b : Bool) {Q : Type 0} → (b ≡ true → Q) → (b ≡ false �
 by-test true f g = f refl
 by-test false f g = g refl
 
-pub relax-ind : (a : Arc) (s : State) (Q : State → Type 0) → (Holds a (s .0) → Q s)
+pub lower-ind : (a : Arc) (s : State) (Q : State → Type 0) → (Holds a (s .0) → Q s)
     → (a .from < length (s .0) → a .to < length (s .0) → known (dist (s .0) (a .from)) ≡ true → (dist (s .0) (a .from) +ℤ a .rise) <ℤ dist (s .0) (a .to)
     → Q (set (s .0) (a .to) (dist (s .0) (a .from) +ℤ a .rise), true)) → Q (arc a s)
-unfolding relax
-relax-ind a s Q f g =
+unfolding lower
+lower-ind a s Q f g =
     let l = s .0 in
     pick-ind (ltb (a .from) (length (s .0))) _ s Q
     (λ ef. pick-ind (ltb (a .to) (length (s .0))) _ s Q (λ et. pick-ind (known (dist (s .0) (a .from))) _ s Q (λ ek.
@@ -152,13 +152,13 @@ set-ind l k v h i P f g = by-test (eqb i k)
     (λ e. subst P (sym (getD-set-other l k i v (pos 0) (eqb-false i k e))) (g (eqb-false i k e)))
 
 pub arc-length : (a : Arc) (s : State) → length (arc a s .0) ≡ length (s .0)
-arc-length a s = relax-ind a s (λ r. length (r .0) ≡ length (s .0)) (λ _. refl) (λ _ _ _ _. length-set (s .0) (a .to) _)
+arc-length a s = lower-ind a s (λ r. length (r .0) ≡ length (s .0)) (λ _. refl) (λ _ _ _ _. length-set (s .0) (a .to) _)
 
 pub lt-le : {x y : ℤ} → x <ℤ y → x ≤ℤ y
 lt-le h = to-le (omega (arith, of-lt h))
 
 pub arc-down : (a : Arc) (s : State) (i : ℕ) → dist (arc a s .0) i ≤ℤ dist (s .0) i
-arc-down a s i = relax-ind a s (λ r. dist (r .0) i ≤ℤ dist (s .0) i) (λ _. ≤ℤ-refl (dist (s .0) i))
+arc-down a s i = lower-ind a s (λ r. dist (r .0) i ≤ℤ dist (s .0) i) (λ _. ≤ℤ-refl (dist (s .0) i))
     (λ f t k h. set-ind (s .0) (a .to) (dist (s .0) (a .from) +ℤ a .rise) t i (λ z. z ≤ℤ dist (s .0) i)
     (λ e. subst (λ (j : ℕ). (dist (s .0) (a .from) +ℤ a .rise) ≤ℤ dist (s .0) j) (sym e) (lt-le h)) (λ _. ≤ℤ-refl (dist (s .0) i)))
 
@@ -173,10 +173,10 @@ run-down (a ∷ cs) s i = ≤ℤ-trans (run-down cs (arc a s) i) (arc-down a s i
 
 flag-stays : (cs : List Arc) (s : State) → s .1 ≡ true → run cs s .1 ≡ true
 flag-stays [] s h = h
-flag-stays (a ∷ cs) s h = flag-stays cs (arc a s) (relax-ind a s (λ r. r .1 ≡ true) (λ _. h) (λ _ _ _ _. refl))
+flag-stays (a ∷ cs) s h = flag-stays cs (arc a s) (lower-ind a s (λ r. r .1 ≡ true) (λ _. h) (λ _ _ _ _. refl))
 
 arc-quiet : (a : Arc) (s : State) → arc a s .1 ≡ false → (arc a s ≡ s) × Holds a (s .0)
-arc-quiet a s = relax-ind a s (λ r. r .1 ≡ false → (r ≡ s) × Holds a (s .0)) (λ h _. (refl, h)) (λ _ _ _ _ e. absurd (true≢false e))
+arc-quiet a s = lower-ind a s (λ r. r .1 ≡ false → (r ≡ s) × Holds a (s .0)) (λ h _. (refl, h)) (λ _ _ _ _ e. absurd (true≢false e))
 
 -- a pass that lowered nothing left all as it was, and all arcs hold
 pub quiet-holds : (cs : List Arc) (s : State) → run cs s .1 ≡ false → (run cs s ≡ s) × ((a : Arc) → In a cs → Holds a (s .0))
@@ -191,7 +191,7 @@ quiet-holds (a ∷ cs) s e = by-test (arc a s .1)
     both q r b (there i) = subst (λ (x : State). Holds b (x .0)) (q .0) (r .1 b i)
 
 arc-stays : (a : Arc) (s : State) → Holds a (s .0) → arc a s ≡ s
-arc-stays a s h = relax-ind a s (λ r. r ≡ s) (λ _. refl) (λ f t k l. absurd (clashℤ l (h f t k)))
+arc-stays a s h = lower-ind a s (λ r. r ≡ s) (λ _. refl) (λ f t k l. absurd (clashℤ l (h f t k)))
 
 -- where all arcs hold, a pass changes nothing
 pub holds-quiet : (cs : List Arc) (s : State) → ((a : Arc) → In a cs → Holds a (s .0)) → run cs s ≡ s

@@ -16,7 +16,7 @@ use lib.Signed.{ltZ}
 use borrow.Author.Tests.{lt-ltb}
 use Rattle.book.specs.Basics.{In, here, there}
 use Rattle.offsets.specs.declared.Tie.{Tie}
-use Rattle.offsets.specs.Relax.{State, pick, known, dist, relax}
+use Rattle.offsets.specs.Relax.{State, pick, known, dist, lower}
 use Rattle.offsets.specs.ArcLaws.{Arc, arc, run, arcs3, turned, of-thirds, arc-length, run-length}
 use Rattle.offsets.specs.SettleLaws.{passes}
 use Rattle.offsets.specs.PassLaws.{settled-is}
@@ -39,7 +39,7 @@ module _ (a : Arc) (x y : List ℤ) (c : Bool) (f : a .from < length x) (t : a .
   longer i h = let e = length-append x y in omega (arith, h, e)
 
   long-is : arc a (x ++ y, c) ≡ pick (known (dist x (a .from))) (pick (ltZ v (dist x (a .to))) (set (x ++ y) (a .to) v, true) (x ++ y, c)) (x ++ y, c)
-  unfolding relax
+  unfolding lower
   long-is =
       rw (
         lt-ltb (a .from) (length (x ++ y)) (longer (a .from) f),
@@ -49,7 +49,7 @@ module _ (a : Arc) (x y : List ℤ) (c : Bool) (f : a .from < length x) (t : a .
       )
 
   short-is : arc a (x, c) ≡ pick (known (dist x (a .from))) (pick (ltZ v (dist x (a .to))) (set x (a .to) v, true) (x, c)) (x, c)
-  unfolding relax
+  unfolding lower
   short-is = rw (lt-ltb (a .from) (length x) f, lt-ltb (a .to) (length x) t)
 
   both : (k b : Bool) → pick k (pick b (set (x ++ y) (a .to) v, true) (x ++ y, c)) (x ++ y, c)

@@ -29,7 +29,7 @@ use Rattle.book.specs.Basics.{In, here, there}
 use Rattle.offsets.specs.declared.Tie.{Tie}
 use Rattle.offsets.specs.LinearLaws.{up, down, of-add, ≤ℤ-trans}
 use Rattle.offsets.specs.Relax.{State, pick, known, dist, settled}
-use Rattle.offsets.specs.ArcLaws.{Arc, arcs3, arc, run, run-is, Holds, relax-ind, set-ind, arc-length, run-down, quiet-holds}
+use Rattle.offsets.specs.ArcLaws.{Arc, arcs3, arc, run, run-is, Holds, lower-ind, set-ind, arc-length, run-down, quiet-holds}
 use Rattle.offsets.specs.SettleLaws.{onePass, passes}
 
 -- ---- what passes keep
@@ -99,7 +99,7 @@ abbrev pub Ranged : ℕ → List ℤ → Type 0
 Ranged c l = (i : ℕ) → i < length l → (dist l i ≡ far) ⊎ Near c (dist l i)
 
 arc-ranged : (a : Arc) → Near 20000 (a .rise) → (c : ℕ) (s : State) → Ranged c (s .0) → Ranged (c + 20000) (arc a s .0)
-arc-ranged a w c s r = relax-ind a s (λ x. Ranged (c + 20000) (x .0)) (λ _ i g. more (dist (s .0) i) (r i g)) (λ f t k _ i g.
+arc-ranged a w c s r = lower-ind a s (λ x. Ranged (c + 20000) (x .0)) (λ _ i g. more (dist (s .0) i) (r i g)) (λ f t k _ i g.
     set-ind (s .0) (a .to) (dist (s .0) (a .from) +ℤ a .rise) t i (λ z. (z ≡ far) ⊎ Near (c + 20000) z)
     (λ _. inr (near-add c 20000 (dist (s .0) (a .from)) (a .rise) (near (r (a .from) f) k) w))
     (λ _. more (dist (s .0) i) (r i (subst (λ (n : ℕ). i < n) (length-set (s .0) (a .to) (dist (s .0) (a .from) +ℤ a .rise)) g))))
@@ -145,7 +145,7 @@ Reached R l = (i : ℕ) → i < length l → known (dist l i) ≡ true → R i
 
 pub passes-reached : (R : ℕ → Type 0) (cs : List Arc) → ((a : Arc) → In a cs → R (a .from) → R (a .to))
     → (k : ℕ) (s : State) → Reached R (s .0) → Reached R (passes k cs s .0)
-passes-reached R cs f = passes-keep (Reached R) cs (λ a i s r. relax-ind a s (λ x. Reached R (x .0)) (λ _. r) (λ g t k _ j h.
+passes-reached R cs f = passes-keep (Reached R) cs (λ a i s r. lower-ind a s (λ x. Reached R (x .0)) (λ _. r) (λ g t k _ j h.
     set-ind (s .0) (a .to) (dist (s .0) (a .from) +ℤ a .rise) t j (λ z. known z ≡ true → R j) (λ e _. subst R (sym e) (f a i (r (a .from) g k)))
     (λ _. r j (subst (λ (n : ℕ). j < n) (length-set (s .0) (a .to) (dist (s .0) (a .from) +ℤ a .rise)) h))))
 

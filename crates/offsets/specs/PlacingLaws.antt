@@ -14,7 +14,7 @@ use lib.Seq.{getD-set-same, getD-set-other}
 use lib.Signed.{ltZ, _≤ℤ_}
 use borrow.Author.Tests.{ltb-true, eqb-true, eqb-false}
 use Rattle.offsets.specs.LinearLaws.{of-le, to-le, of-add}
-use Rattle.offsets.specs.Relax.{State, pick, known, dist, relax}
+use Rattle.offsets.specs.Relax.{State, pick, known, dist, lower}
 
 abbrev pub Placing : Type 0
 Placing = ℕ → ℤ
@@ -38,9 +38,9 @@ under-set p l to v t h u i small k = by-test (eqb i to)
     (λ e. let same : dist (set l to v) i ≡ dist l i = getD-set-other l to i v (pos 0) (eqb-false i to e) in
     subst (λ (z : ℤ). p i ≤ℤ z) (sym same) (u i (subst (λ (n : ℕ). i < n) (length-set l to v) small) (subst (λ (z : ℤ). known z ≡ true) same k)))
 
-pub under-relax : (p : Placing) (from to : ℕ) (w : ℤ) (s : State) → p to ≤ℤ (p from +ℤ w) → Under p (s .0) → Under p (relax from to w s .0)
-unfolding relax
-under-relax p from to w s h u =
+pub under-lower : (p : Placing) (from to : ℕ) (w : ℤ) (s : State) → p to ≤ℤ (p from +ℤ w) → Under p (s .0) → Under p (lower from to w s .0)
+unfolding lower
+under-lower p from to w s h u =
     pick-ind (ltb from (length (s .0))) _ s (λ x. Under p (x .0)) (λ ef. pick-ind (ltb to (length (s .0))) _ s (λ x. Under p (x .0)) (λ et.
     pick-ind (known (dist (s .0) from)) _ s (λ x. Under p (x .0)) (λ ek. pick-ind (ltZ (dist (s .0) from +ℤ w) (dist (s .0) to)) _ s (λ x. Under p (x .0))
     (λ _. under-set p (s .0) to (dist (s .0) from +ℤ w) (ltb-true to (length (s .0)) et)

@@ -35,13 +35,13 @@ dist l i = getD l i (pos 0)
 abbrev pub putLess : ℕ → ℤ → State → State
 putLess to v s = pick (ltZ v (dist (s .0) to)) (set (s .0) to v, true) s
 
-unfoldable pub relax : ℕ → ℕ → ℤ → State → State
-relax from to w s =
+unfoldable pub lower : ℕ → ℕ → ℤ → State → State
+lower from to w s =
     pick (ltb from (length (s .0))) (pick (ltb to (length (s .0))) (pick (known (dist (s .0) from)) (putLess to (dist (s .0) from +ℤ w) s) s) s) s
 
 -- both limits of a tie, for records that stand from place o on
 unfoldable pub third : ℕ → ℕ → ℕ → ℤ → ℤ → State → State
-third o first second least most s = relax (o + second) (o + first) (negℤ least) (relax (o + first) (o + second) most s)
+third o first second least most s = lower (o + second) (o + first) (negℤ least) (lower (o + first) (o + second) most s)
 
 unfoldable pub relaxed : ℕ → ℕ → ℕ → ℤ → ℤ → State → State
 relaxed n first second least most s = third (n * 2) second first least most (third n first second least most (third 0 first second least most s))

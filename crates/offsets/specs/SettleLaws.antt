@@ -34,7 +34,7 @@ use Rattle.book.specs.ListLaws.{in-none}
 use Rattle.offsets.specs.LinearLaws.{of-le, of-leb, of-not-leb, to-le, to-lt, of-add, of-sub, ≤ℤ-trans}
 use Rattle.offsets.specs.Relax.{State, pick, known, dist}
 use Rattle.offsets.specs.Offsets.{Placing}
-use Rattle.offsets.specs.ArcLaws.{Arc, Keeps, arc, run, Holds, by-test, relax-ind, set-ind, run-down, holds-quiet, lt-le}
+use Rattle.offsets.specs.ArcLaws.{Arc, Keeps, arc, run, Holds, by-test, lower-ind, set-ind, run-down, holds-quiet, lt-le}
 
 -- ---- lists of records
 -- a list without one of its members
@@ -159,7 +159,7 @@ module _ (p : Placing) (cs : List Arc) (keeps : Keeps p cs) (D : ℕ → Type 0)
                 clashℤ (<ℤ-≤ℤ-trans b (no-more h (a .to) (d .each (a .to) t g))) over
 
     during-arc : (a : Arc) → In a cs → (s : State) → During (s .0) → During (arc a s .0)
-    during-arc a i s d = relax-ind a s (λ r. During (r .0)) (λ _. d) put
+    during-arc a i s d = lower-ind a s (λ r. During (r .0)) (λ _. d) put
       where
         put : a .from < length (s .0) → a .to < length (s .0) → known (dist (s .0) (a .from)) ≡ true → (dist (s .0) (a .from) +ℤ a .rise) <ℤ dist (s .0) (a .to)
             → During (set (s .0) (a .to) (dist (s .0) (a .from) +ℤ a .rise))
@@ -219,7 +219,7 @@ module _ (p : Placing) (cs : List Arc) (keeps : Keeps p cs) (D : ℕ → Type 0)
 
         now : dist (arc a s .0) (a .to) ≤ℤ (dist l (a .from) +ℤ a .rise)
         now = subst (λ (z : ℤ). dist (arc a s .0) (a .to) ≤ℤ (z +ℤ a .rise)) same
-            (relax-ind a s (λ r. dist (r .0) (a .to) ≤ℤ (dist (s .0) (a .from) +ℤ a .rise))
+            (lower-ind a s (λ r. dist (r .0) (a .to) ≤ℤ (dist (s .0) (a .from) +ℤ a .rise))
             (λ h. h (subst (λ (n : ℕ). a .from < n) (sym (d .long)) f) (subst (λ (n : ℕ). a .to < n) (sym (d .long)) t)
             (subst (λ (z : ℤ). known z ≡ true) (sym same) k))
             (λ _ g _ _. set-ind (s .0) (a .to) (dist (s .0) (a .from) +ℤ a .rise) g (a .to)
@@ -290,7 +290,7 @@ module _ (p : Placing) (cs : List Arc) (keeps : Keeps p cs) (D : ℕ → Type 0)
     Same h = (length h ≡ length l) × ((x : ℕ) → x < length l → D x → dist h x ≡ dist l x)
 
     same-arc : (a : Arc) → In a cs → (s : State) → Same (s .0) → Same (arc a s .0)
-    same-arc a i s e = relax-ind a s (λ r. Same (r .0)) (λ _. e) (λ f t k b. (
+    same-arc a i s e = lower-ind a s (λ r. Same (r .0)) (λ _. e) (λ f t k b. (
       length-set (s .0) (a .to) (dist (s .0) (a .from) +ℤ a .rise) ∙ e .0,
       λ x g w. set-ind (s .0) (a .to) (dist (s .0) (a .from) +ℤ a .rise) t x (λ z. z ≡ dist l x) (λ q. absurd (wrong f t k b (subst D q w))) (λ _. e .1 x g w),
     ))

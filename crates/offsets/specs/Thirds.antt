@@ -32,7 +32,7 @@ use Rattle.book.specs.Basics.{In}
 use Rattle.offsets.specs.declared.Tie.{Tie}
 use Rattle.offsets.specs.LinearLaws.{up, down, of-le, to-le, of-add, of-sub, of-pos, ≤ℤ-trans}
 use Rattle.offsets.specs.Relax.{known, dist}
-use Rattle.offsets.specs.PlacingLaws.{Under, under-relax}
+use Rattle.offsets.specs.PlacingLaws.{Under, under-lower}
 use Rattle.offsets.specs.Offsets.{Placing, Places, Joined, self}
 use Rattle.offsets.specs.ArcLaws.{Arc, up-arc, down-arc, arcs, arcs3, at, turned, of-thirds, arc-in-first, arc-in-second, arc-in-third, length-arcs3}
 use Rattle.offsets.specs.ArcLaws.{in-up}
@@ -313,7 +313,7 @@ module _ (n : ℕ) (ts : List Tie) (ready : Ready n ts) where
       less-self z = let v = of-pos 0 in to-le (omega (arith, of-sub z z, v .0, v .1))
 
       under-all : (p q : Placing) → Places p ts → Places q (turned ts) → Under (three n (dist L) (shift p) (shift q)) L
-      under-all p q hp hq = passes-keep (Under T) (arcs3 n ts) (λ a i s u. under-relax T (a .from) (a .to) (a .rise) s
+      under-all p q hp hq = passes-keep (Under T) (arcs3 n ts) (λ a i s u. under-lower T (a .from) (a .to) (a .rise) s
           (keeps-three n (dist L) (shift p) (shift q) ts ready (λ b j. first-hold b j) (shift-keeps ts p hp) (shift-keeps (turned ts) q hq) a i)
           u) (suc n) (l, false)
           (λ i g. at-first i (in-l g) (λ z. known z ≡ true → T i ≤ℤ z) (firstly-ind n base i (λ z. known z ≡ true → T i ≤ℤ z)

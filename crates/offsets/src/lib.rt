@@ -138,7 +138,7 @@ fn judge(ties: &[Tie], state: &[u32], n: u16) -> u32
 // ---- passes
 
 // One limit: record `to` lies at most `w` above record `from`. True where the distance was lowered, or `was`.
-fn relax(was: bool, from: usize, to: usize, w: i64, d: &mut [i64]) -> bool
+fn lower(was: bool, from: usize, to: usize, w: i64, d: &mut [i64]) -> bool
     requires { ⌜ mag w ≤ 2 ^ 31 ⌝ }
     ensures { λ r. ⌜ (now (d .exit), r) ≡ spec.lower from to w (now (d .entry), was) ⌝ }
 {
@@ -171,8 +171,8 @@ fn third(was: bool, o: usize, a: usize, b: usize, up: i64, down: i64, d: &mut [i
 {
     let x = o + a;
     let y = o + b;
-    let on = relax(was, x, y, up, d);
-    relax(on, y, x, down, d)
+    let on = lower(was, x, y, up, d);
+    lower(on, y, x, down, d)
 }
 
 // Both limits of one tie in each of the three thirds of d, in the last one with its records exchanged.

@@ -15,8 +15,8 @@ use Prim.Native.Nat.{ℕ, _+_, _-_, _*_, _<_, _≤_}
 use native.Mathlib.Nat.{mul-le-mul-right}
 use native.Mathlib.Omega.{arith}
 use lib.ListN.{length, take, drop, set, length-set, length-drop}
-use lib.Seq.{drop-at, drop-drop, length-take-le, drop-length, take-all, getD-set-same}
-use borrow.Rule.Slice.PartMut.{putMid, take-put, mid-len}
+use lib.Seq.{drop-at, drop-drop, length-take-le, drop-length, getD-set-same}
+use borrow.Rule.Slice.PartMut.{putMid, take-put}
 use Rattle.book.specs.Book.{Book}
 use Rattle.book.specs.ListLaws.{rest-length}
 use Rattle.k2.specs.Bits.{bitAt}

@@ -19,7 +19,7 @@ use native.Mathlib.Numerals.{add-one}
 use native.Mathlib.Omega.{arith}
 use native.Mathlib.Decide.{decLt}
 use lib.Dec.{ltb, eqb}
-use lib.ListN.{length, take, drop, set, getD, take-append-drop, drop-of-length-le, length-drop}
+use lib.ListN.{length, take, drop, set, getD, take-append-drop, drop-of-length-le}
 use lib.Seq.{drop-length, take-suc, take-all, take-at, drop-at, drop-cons, set-at, length-take-le}
 use borrow.Rule.Slice.PartMut.{putMid, post-is}
 use borrow.Author.Tests.{lt-ltb, le-ltb, ne-eqb}

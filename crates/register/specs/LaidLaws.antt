@@ -14,7 +14,7 @@ use mathlib.Core.Bool.{Bool, true, false}
 use Prim.Native.Nat.{ℕ, suc, _+_, _*_, _≤_}
 use native.Mathlib.Omega.{arith}
 use lib.Dec.{ltb}
-use lib.ListN.{length, take, drop, length-append, length-drop, take-append-drop}
+use lib.ListN.{length, take, drop, length-drop, take-append-drop}
 use lib.Seq.{length-take-le, take-at, drop-at, drop-append-le, take-append-add, drop-append-add, drop-drop}
 use borrow.Author.Tests.{ltb-true, ltb-false}
 use Rattle.book.specs.Basics.{pick, over, All, all-none, all-more, tally}

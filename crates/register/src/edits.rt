@@ -23,8 +23,8 @@ use crate::sorted::lower_bound;
 use crate::sorted::put;
 use crate::sorted::stands;
 use crate::state::ranged;
-use crate::totals::lower;
-use crate::totals::raise;
+use crate::totals::lower_total;
+use crate::totals::raise_total;
 use links::link_word;
 ghost use mathlib.Core.Path.{_≡_};
 ghost use Prim.Native.Nat.{_≤_, _<_};
@@ -127,7 +127,7 @@ impl Register {
         let count = self.count;
         let at = lower_bound(&self.links, count, x);
         put(&mut self.links, count, at, x);
-        raise(&mut self.totals, x);
+        raise_total(&mut self.totals, x);
         self.count = count + 1;
         self
     }
@@ -143,7 +143,7 @@ impl Register {
             return self;
         }
         cut(&mut self.links, count, at);
-        lower(&mut self.totals, x);
+        lower_total(&mut self.totals, x);
         self.count = count - 1;
         self
     }

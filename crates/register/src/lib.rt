@@ -1,5 +1,6 @@
-// The register: links, marks and held edits by value. This file has its types and its numbers, and passes the rest on: sorted.rt ascending words, state.rt a fresh register, totals.rt the totals, edits.rt the calls that edit it, closing.rt closing up its numbers,
-// parting.rt the register without a record's links, history.rt a history as words, questions.rt what questions read, words.rt its words.
+// The register: links, marks and held edits by value. This file has its types and its numbers, and passes the rest on: sorted.rt ascending words, state.rt
+// a fresh register, totals.rt the totals, edits.rt the calls that edit it, closing.rt closing up its numbers, parting.rt the register without a record's links,
+// history.rt a history as words, questions.rt what questions read, words.rt its words.
 // What the calls promise is stated in specs/Calls.antt, specs/History.antt and specs/Questions.antt, about the plain book of the crate book.
 mod closing;
 mod edits;

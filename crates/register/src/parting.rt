@@ -1,9 +1,9 @@
 // The register without the links that touch a record. What it promises is stated in specs/Parting.antt.
 use crate::Register;
+use crate::state::ranged;
+use crate::totals::lower_total;
 use links::from_of;
 use links::to_of;
-use crate::state::ranged;
-use crate::totals::lower;
 ghost use mathlib.Core.Path.{_≡_};
 ghost use Prim.Native.Nat.{_/_, _≤_};
 ghost use lib.ListN.{length, take};
@@ -27,7 +27,7 @@ fn lowered(totals: [u32; book::LABELS], word: u32) -> [u32; book::LABELS]
     ensures { λ r. ⌜ Lowered («word» / labelUnit) totals r ⌝ }
 {
     let mut less = totals;
-    lower(&mut less, word);
+    lower_total(&mut less, word);
     less
 }
 

@@ -10,9 +10,9 @@ use mathlib.Core.List.{List, _∷_, _++_, append-nil}
 use Prim.Native.Nat.{ℕ, zero, suc, _+_, _-_, _*_, _/_, _%_, _<_, _≤_, min}
 use native.Mathlib.Nat.{mul-le-mul-right, suc-mul}
 use native.Mathlib.Omega.{arith}
-use lib.ListN.{length, take, drop, getD, length-drop}
-use lib.Seq.{drop-at, drop-drop, length-take-le, drop-length, take-all, getD-take, getD-drop}
-use borrow.Rule.Slice.PartMut.{putMid, take-put, mid-len}
+use lib.ListN.{length, take, drop, getD}
+use lib.Seq.{drop-at, drop-drop, length-take-le, drop-length, getD-take, getD-drop}
+use borrow.Rule.Slice.PartMut.{putMid, take-put}
 use Rattle.book.specs.Book.{Book}
 use Rattle.book.specs.ListLaws.{rest-whole, rest-length}
 use Rattle.k2.specs.Bits.{digit}

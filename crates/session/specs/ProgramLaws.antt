@@ -17,7 +17,7 @@ use native.Mathlib.Nat.{suc-mul, mul-le-mul}
 use native.Mathlib.Decide.{decLt}
 use native.Mathlib.Omega.{arith}
 use lib.Pow.{pow-mono}
-use lib.ListN.{length, take, drop, length-append, length-take, length-drop}
+use lib.ListN.{length, take, length-append, length-take}
 use lib.Seq.{take-all}
 use lib.Dec.{ltb, leb, eqb}
 use borrow.Author.Tests.{le-ltb, le-leb, lt-leb, ltb-false}
@@ -35,7 +35,7 @@ use Rattle.paths.specs.Grammar.{Verdict, accepted, long, outside, large, verdic
 use Rattle.paths.specs.Chains.{asked, Reply, none, chain, ChainIs, first-chain}
 use Rattle.paths.specs.Relations.{pairs, cells}
 use Rattle.paths.specs.Questions.{paired, replied, unless, workFor, chainWork, pairsOf, pairsCauses, pairsAnswer, steps, ReplyTo, chainCauses, chainAnswer}
-use Rattle.paths.specs.Questions.{over, listAfter}
+use Rattle.paths.specs.Questions.{listAfter}
 use Rattle.paths.specs.Verdicts.{verdict, verdict-right, accepted-same}
 use Rattle.paths.specs.PairLaws.{fit-inside}
 use Rattle.paths.specs.FirstChainLaws.{reply}

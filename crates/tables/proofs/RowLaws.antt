@@ -1,9 +1,9 @@
 -- Laws of the helpers on tables of masks, row by row.
---   joined-none, joined-no, joined-yes
+--   with-edges-none, with-edges-no, with-edges-yes
 --                  rows joined with a mask where another says so: before the first, a row that stays, one that is joined
 --   mixed-none, mixed-no, mixed-yes
 --                  two tables mixed by a mask of rows: before the first, a row of the first, one of the second
---   turned-none, turned-more
+--   mirrored-none, mirrored-more
 --                  the entries turned round under a mask: before the first, one more
 -- Assumes nothing.
 use mathlib.Core.Path.{_≡_, refl, ap, _∙_}

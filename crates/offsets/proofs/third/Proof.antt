@@ -14,12 +14,12 @@ add-y : tie.Need-add-y
 add-y c = search needs
 
 -- src/lib.rt:51:9
-relax-requires : tie.Need-relax-requires
-relax-requires c κs = search needs
+lower-requires : tie.Need-lower-requires
+lower-requires c κs = search needs
 
 -- src/lib.rt:52:5
-relax-requires-2 : tie.Need-relax-requires-2
-relax-requires-2 c κs = search needs
+lower-requires-2 : tie.Need-lower-requires-2
+lower-requires-2 c κs = search needs
 
 -- src/lib.rt:45:1
 same-length : tie.Need-same-length
@@ -30,7 +30,7 @@ returns : tie.Need-returns
 returns c =
     let a = c .before .before .before .before .before .before in
     both (a .args .o) (a .args .a) (a .args .b) (a .args .up) (a .args .down) (a .args .d .now, a .args .was) _ _
-    (a .fits .up) (a .fits .down) (c .before .before .before .before .relax .ensures) (c .before .relax2 .ensures)
+    (a .fits .up) (a .fits .down) (c .before .before .before .before .lower .ensures) (c .before .lower2 .ensures)
 
 pub third-spec : {M : Type 1} → statement M
-third-spec = tie.close (tie.spec add-x add-y relax-requires relax-requires-2 same-length returns)
+third-spec = tie.close (tie.spec add-x add-y lower-requires lower-requires-2 same-length returns)

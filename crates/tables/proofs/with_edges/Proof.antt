@@ -46,7 +46,11 @@ unfolding digit
 loop-again c =
     let l = c .before .before .loop in
     ⊎-elim
-    (λ w. (omega arith, rw (w .1) (simp length-set (l .inv .1)), rw (w .1) (with-edges-yes (l .inv .2) (omega (arith, w .0 .taken)) (omega arith) (omega arith))))
+    (λ w. (
+      omega arith,
+      rw (w .1) (simp length-set (l .inv .1)),
+      rw (w .1) (with-edges-yes (l .inv .2) (omega (arith, w .0 .taken)) (omega arith) (omega arith)),
+    ))
     (λ w. (omega arith, rw (w .1) (l .inv .1), rw (w .1) (with-edges-no (l .inv .2) (λ o. omega (arith, w .0 .left)))))
     (c .if1 .came)
 

@@ -83,7 +83,8 @@ descend-taken-requires t c κs = omega arith
 descend-sub-descend : (t : ℕ) → descend-lts.Need-sub-descend (descend-calls t) (descend-at t) descend.Post descend-Inv-loop descend-μ-loop
 descend-sub-descend t c = omega arith
 
-descend-slice-aggregate-descend : (t : ℕ) → descend-lts.Need-slice-aggregate-descend (descend-calls t) (descend-at t) descend.Post descend-Inv-loop descend-μ-loop
+descend-slice-aggregate-descend : (t : ℕ)
+    → descend-lts.Need-slice-aggregate-descend (descend-calls t) (descend-at t) descend.Post descend-Inv-loop descend-μ-loop
 descend-slice-aggregate-descend t c = search needs
 
 descend-descend-requires : (t : ℕ) → descend-lts.Need-descend-requires (descend-calls t) (descend-at t) descend.Post descend-Inv-loop descend-μ-loop

@@ -1,6 +1,6 @@
 -- `children` goes from one quarter that is not empty to the next and writes its square. The loop's invariant: the quarters passed that are not empty are
--- behind the m squares, and the quarter reached, if there is one, is not empty. The measure is the quarters left. It rests on `descend-child`, `descend-gap` and
--- `descend-all`. Assumes nothing.
+-- behind the m squares, and the quarter reached, if there is one, is not empty. The measure is the quarters left. It rests on `descend-child`,
+-- `descend-gap` and `descend-all`. Assumes nothing.
 use mathlib.Core.Path.{_≡_, refl, sym, ap, _∙_}
 use Prim.Native.Nat.{ℕ, _+_, _-_, _*_, _/_, _%_, _^_, _≤_, _<_}
 use native.Mathlib.Nat.{lt-of-lt-of-le}

@@ -18,8 +18,8 @@ lower-bound-requires c κs = search needs
 put-requires : tie.Need-put-requires
 put-requires c κs = (c .before .lower-bound .ensures .within, c .before .before .before .before .before .pre, search needs)
 
-raise-requires : tie.Need-raise-requires
-raise-requires c κs = search needs
+raise-total-requires : tie.Need-raise-total-requires
+raise-total-requires c κs = search needs
 
 add-self : tie.Need-add-self
 add-self c = search needs
@@ -36,8 +36,9 @@ returns c =
     record {
       kept = record { n = refl; ring = refl; top = refl; held = refl; count = omega arith };
       sheet = λ r. ap (λ (m : List ℕ). record { links = m; marks = s .t1 .marks }) (put-in r);
-      counted = λ r t. raised-counted (s .x) (s .t1 .totals) (c .raise .last .0) l (take (s .t1 .count + 1) links) few (put-in r) (c .raise .ensures) t;
+      counted = λ r t.
+          raised-counted (s .x) (s .t1 .totals) (c .raise-total .last .0) l (take (s .t1 .count + 1) links) few (put-in r) (c .raise-total .ensures) t;
     }
 
 pub put-in-spec : {M : Type 1} → statement M
-put-in-spec = tie.close (tie.spec lower-bound-requires put-requires raise-requires add-self returns)
+put-in-spec = tie.close (tie.spec lower-bound-requires put-requires raise-total-requires add-self returns)

@@ -51,8 +51,8 @@ below-count c =
 cut-requires : tie.Need-cut-requires
 cut-requires c κs = (below-count (c .before), c .before .before .before .before .before .before .before .before .before .before .pre, search needs)
 
-lower-requires : tie.Need-lower-requires
-lower-requires c κs = search needs
+lower-total-requires : tie.Need-lower-total-requires
+lower-total-requires c κs = search needs
 
 sub-self : tie.Need-sub-self
 sub-self c = omega (arith, below-count (c .before .before .before .before))
@@ -79,10 +79,10 @@ returns-2 c =
       kept = record { n = refl; ring = refl; top = refl; held = refl; count = omega arith };
       sheet = λ r. ap (λ (m : List ℕ). record { links = m; marks = s .t1 .marks }) (taken-out r (there r));
       counted =
-          λ r t. lowered-counted (s .x) (s .t1 .totals) (c .lower .last .0) l
-          (take (s .t1 .count - 1) links) r (there r) (taken-out r (there r)) (c .lower .ensures) t;
+          λ r t. lowered-counted (s .x) (s .t1 .totals) (c .lower-total .last .0) l
+          (take (s .t1 .count - 1) links) r (there r) (taken-out r (there r)) (c .lower-total .ensures) t;
     }
 
 pub take-out-spec : {M : Type 1} → statement M
 take-out-spec =
-    tie.close (tie.spec lower-bound-requires stands-requires returns cut-requires lower-requires sub-self returns-2)
+    tie.close (tie.spec lower-bound-requires stands-requires returns cut-requires lower-total-requires sub-self returns-2)

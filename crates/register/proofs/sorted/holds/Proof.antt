@@ -15,7 +15,8 @@ stands-requires c κs = search needs
 returns : tie.Need-returns
 returns c =
     λ r. let s = c .before .before .before in
-    c .stands .ensures ∙ seam-has (s .args .x) (s .args .words .now) (s .args .count) (c .before .lower-bound .result) (s .pre) r (c .before .lower-bound .ensures)
+    c .stands .ensures
+    ∙ seam-has (s .args .x) (s .args .words .now) (s .args .count) (c .before .lower-bound .result) (s .pre) r (c .before .lower-bound .ensures)
 
 pub holds-spec : {M : Type 1} → statement M
 holds-spec = tie.close (tie.spec lower-bound-requires stands-requires returns)

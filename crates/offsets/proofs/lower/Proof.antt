@@ -2,8 +2,8 @@
 -- Assumes nothing.
 use borrow.Author.Needs.{needs}
 use Rattle.offsets.proofs.LowerLaws.{no-from, no-to, too-low, too-high, sum-fits, stored, stayed}
-use Rattle.offsets.proofs.relax.Statement.{statement}
-use Rattle.offsets.proofs.relax.Tie as tie
+use Rattle.offsets.proofs.lower.Statement.{statement}
+use Rattle.offsets.proofs.lower.Tie as tie
 
 -- src/lib.rt:23:9
 returns : tie.Need-returns
@@ -84,8 +84,8 @@ returns-6 c =
     (else1 .if1 .left) (else3 .before .before .if2 .left) (else3 .before .a .given) (else3 .if3 .left)
     (c .before .before .if4 .left) (else1 .before .pre) (c .before .b .given) (c .if5 .left)
 
-pub relax-spec : {M : Type 1} → statement M
-relax-spec =
+pub lower-spec : {M : Type 1} → statement M
+lower-spec =
     tie.close
     (tie.spec
     returns
