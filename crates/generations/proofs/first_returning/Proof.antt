@@ -9,11 +9,11 @@ use Rattle.generations.proofs.NumberLaws.{smallest-closed}
 use Rattle.generations.proofs.first_returning.Statement.{statement}
 use Rattle.generations.proofs.first_returning.Tie as tie
 
-slice-aggregate-spell-labels : tie.Need-slice-aggregate-spell-labels
-slice-aggregate-spell-labels c = search needs
+slice-aggregate-put-letters : tie.Need-slice-aggregate-put-letters
+slice-aggregate-put-letters c = search needs
 
-spell-labels-requires : tie.Need-spell-labels-requires
-spell-labels-requires c κs = search needs
+put-letters-requires : tie.Need-put-letters-requires
+put-letters-requires c κs = search needs
 
 slice-aggregate-close-rows : tie.Need-slice-aggregate-close-rows
 slice-aggregate-close-rows c = search needs
@@ -30,13 +30,13 @@ first-joined-requires c κs = search needs
 returns : tie.Need-returns
 returns c =
     let after-close = c .before .before .before in
-    let after-spell-labels = after-close .before .before .before in
-    let start = after-spell-labels .before .before .before in
+    let after-put-letters = after-close .before .before .before in
+    let start = after-put-letters .before .before .before in
     let a = start .args in
     let x : Cells = crossedWords (a .words .now) (a .set) 0 in (
       c .first-joined .ensures .most,
       λ S. smallest-closed _ x (start .pre)
-          (after-close .close-rows .ensures x S (after-spell-labels .spell-labels .ensures noPairs (bits-none 16384 ∙ sym flat-none) ∙ ap flat (union-none x)))
+          (after-close .close-rows .ensures x S (after-put-letters .put-letters .ensures noPairs (bits-none 16384 ∙ sym flat-none) ∙ ap flat (union-none x)))
           (c .first-joined .ensures),
     )
 
@@ -44,8 +44,8 @@ pub first-returning-spec : {M : Type 1} → statement M
 first-returning-spec =
     tie.close
     (tie.spec
-    slice-aggregate-spell-labels
-    spell-labels-requires
+    slice-aggregate-put-letters
+    put-letters-requires
     slice-aggregate-close-rows
     close-rows-requires
     slice-aggregate-first-joined
