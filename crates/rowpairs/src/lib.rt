@@ -17,7 +17,7 @@ ghost use Rattle.reader.specs.declared.items.Item.the-variants.{Inverse};
 ghost use Rattle.reader.specs.Code.{itemOf};
 ghost use Rattle.reader.specs.Letters.{lettersIn};
 ghost use Rattle.reader.specs.Running.{operands};
-ghost use Rattle.rows.specs.Rows.{linkPair};
+ghost use Rattle.links.specs.Links.{linkPair};
 ghost use Rattle.grid.specs.Grid.{within, first};
 ghost use Rattle.query.specs.Asking.{AsksPairs, AsksRows, Relates};
 ghost use Rattle.query.specs.Evaluation.{most-waiting, Ready, Coded, usedBelow, Lettered};
