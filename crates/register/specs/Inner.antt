@@ -1,14 +1,7 @@
 -- What the inner functions of the register promise one another.
---   putAt i x l           x before what stands at the place i
---   cutAt i l             l without what stands at the place i
---   Seam x ws c i         i is a place for x among the first c words: the word before it is below x, and the word at it is not
---   standsAt ws c i x     whether i is one of the first c places and x stands there
 --   linkCauses n marks k  the causes against the ends and the label of a link, in their order
---   hasAt unit r w        whether a word has the record r in the ten bits from unit on
 --   Guarded, Checks, Holding, Changed, TakenBack
 --                         what `ranged`, `check_link`, `hold`, the inner edits and `taken_back` promise
---   Raised l ts us, Lowered l ts us
---                         what `raise` and `lower` promise: one more and one less of the label l, where the total has room for it
 --   Tallied r             the totals of the register are those of its links' words
 --   Formed ws             the words of a register, as they are told: enough of them, the counters in range, each mark one of the three
 --   KeepsOne ws           the front of ws is the words of a register
@@ -18,12 +11,12 @@
 --   Tested P ok           ok is whether P
 -- Assumes nothing: these are definitions.
 use mathlib.Core.Path.{_≡_}
-use mathlib.Core.List.{List, _∷_, [], _++_}
-use mathlib.Core.Bool.{Bool, true, false, _||_, _&&_}
-use Prim.Native.Nat.{ℕ, suc, _+_, _/_, _%_, _≤_, _<_}
+use mathlib.Core.List.{List, _∷_, []}
+use mathlib.Core.Bool.{Bool, true, false, _||_}
+use Prim.Native.Nat.{ℕ, _≤_, _<_}
 use lib.ListN.{length, take, drop, getD}
-use lib.Dec.{leb, ltb, eqb}
-use Rattle.book.specs.Basics.{bit, Rises}
+use lib.Dec.{leb}
+use Rattle.book.specs.Basics.{Rises}
 use Rattle.book.specs.Causes.{Cause, no-record, bad-label, locked-end, not-open, withdrawn-record, number, Caused, firstNumber, labels, maxRecords, maxLinks}
 use Rattle.book.specs.Causes.{maxHeld}
 use Rattle.book.specs.Book.{Link}
@@ -38,29 +31,12 @@ use Rattle.register.specs.declared.Register.{Register}
 use Rattle.register.specs.declared.LinkCheck.{LinkCheck}
 use Rattle.register.specs.declared.LinkCheck.the-variants.{Word, Fault}
 
-unfoldable pub putAt : ℕ → ℕ → List ℕ → List ℕ
-putAt i x l = take i l ++ (x ∷ drop i l)
-
-unfoldable pub cutAt : ℕ → List ℕ → List ℕ
-cutAt i l = take i l ++ drop (suc i) l
-
-pub record Seam (x : ℕ) (ws : List ℕ) (c i : ℕ) : Type 0 where
-  pub within : i ≤ c
-  pub low : (j : ℕ) → suc j ≡ i → getD ws j 0 < x
-  pub high : i < c → x ≤ getD ws i 0
-
-unfoldable pub standsAt : List ℕ → ℕ → ℕ → ℕ → Bool
-standsAt ws c i x = ltb i c && eqb (getD ws i 0) x
-
 unfoldable pub linkCauses : ℕ → List ℕ → Link → List (Cause × Bool)
 linkCauses n marks k =
     (no-record, leb n (k .from) || leb n (k .to)) ∷
     (withdrawn-record, hasMark withdrawnMark marks (k .from) || hasMark withdrawnMark marks (k .to)) ∷
     (bad-label, leb labels (k .label)) ∷
     (locked-end, hasMark lockMark marks (k .from) || hasMark lockMark marks (k .to)) ∷ []
-
-unfoldable pub hasAt : ℕ → ℕ → ℕ → Bool
-hasAt unit r w = eqb (w / unit % 1024) r
 
 pub record Guarded (n c t h : ℕ) (ok : Bool) : Type 0 where
   pub sure : ok ≡ true → Ranged n c t h
@@ -89,12 +65,6 @@ pub record Kept (self r : Register) : Type 0 where
   pub top : r .top ≡ self .top
   pub held : r .held ≡ self .held
   pub count : r .count ≤ maxLinks
-
-pub record Raised (l : ℕ) (ts us : List ℕ) : Type 0 where
-  pub more : (j : ℕ) → j < labels → getD ts j 0 < maxLinks → getD us j 0 ≡ bit (eqb l j) + getD ts j 0
-
-pub record Lowered (l : ℕ) (ts us : List ℕ) : Type 0 where
-  pub less : (j : ℕ) → j < labels → bit (eqb l j) ≤ getD ts j 0 → getD ts j 0 ≡ bit (eqb l j) + getD us j 0
 
 abbrev pub Tallied : Register → Type 0
 Tallied r = (l : ℕ) → l < labels → getD (r .totals) l 0 ≡ wordTotal l (packedOf r .links)

@@ -7,8 +7,8 @@ use native.Mathlib.Omega.{arith}
 use borrow.Author.Needs.{needs}
 use lib.ListN.{length, take}
 use lib.Seq.{length-take-le}
-use Rattle.register.proofs.AscendingLaws.{seam-insert}
-use Rattle.register.proofs.TotalLaws.{raised-counted}
+use Rattle.links.specs.AscendingLaws.{seam-insert}
+use Rattle.links.specs.TotalLaws.{raised-counted}
 use Rattle.register.proofs.Register.put_in.Statement.{statement}
 use Rattle.register.proofs.Register.put_in.Tie as tie
 

@@ -11,8 +11,8 @@ use lib.Dec.{eqb}
 use lib.ListN.{length, take}
 use Rattle.book.specs.Basics.{has, Rises}
 use Rattle.book.specs.SetLaws.{eqb-test, without-absent}
-use Rattle.register.proofs.AscendingLaws.{seam-has, seam-without, stands-below}
-use Rattle.register.proofs.TotalLaws.{lowered-counted}
+use Rattle.links.specs.AscendingLaws.{seam-has, seam-without, stands-below}
+use Rattle.links.specs.TotalLaws.{lowered-counted}
 use Rattle.register.proofs.Register.take_out.Statement.{statement}
 use Rattle.register.proofs.Register.take_out.Tie as tie
 

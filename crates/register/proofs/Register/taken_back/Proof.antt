@@ -6,7 +6,7 @@ use lib.ListN.{length, take}
 use lib.Seq.{length-take-le}
 use Rattle.register.specs.Packed.{takeBackKind}
 use Rattle.register.specs.Representation.{packedOf}
-use Rattle.register.proofs.AscendingLaws.{length-insert}
+use Rattle.links.specs.AscendingLaws.{length-insert}
 use Rattle.register.proofs.StepLaws.{back-rest}
 use Rattle.register.proofs.Register.taken_back.Statement.{statement}
 use Rattle.register.proofs.Register.taken_back.Tie as tie
