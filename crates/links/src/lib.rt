@@ -7,7 +7,6 @@ mod totals;
 pub use lookups::label_part;
 pub use lookups::touched;
 pub use sorted::cut;
-pub use sorted::holds;
 pub use sorted::lower_bound;
 pub use sorted::put;
 pub use sorted::stands;

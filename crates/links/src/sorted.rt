@@ -2,8 +2,6 @@
 ghost use mathlib.Core.Path.{_≡_};
 ghost use Prim.Native.Nat.{_+_, _-_, _≤_, _<_};
 ghost use lib.ListN.{length, take};
-ghost use lib.Dec.{eqb};
-ghost use Rattle.book.specs.Basics.{Rises, has};
 ghost use Rattle.book.specs.Causes.{maxLinks};
 ghost use Rattle.links.specs.Ascending.{putAt, cutAt, Seam, standsAt};
 
@@ -34,15 +32,6 @@ pub fn stands(words: &[u32], count: usize, at: usize, x: u32) -> bool
         return false;
     }
     words[at] == x
-}
-
-// Whether x is among the first count words, where they ascend.
-pub fn holds(words: &[u32], count: usize, x: u32) -> bool
-    requires { ⌜ count ≤ length (now words) ⌝ }
-    ensures { λ r. ⌜ (Rises 0 (take count (now (words .entry))) → r ≡ has eqb x (take count (now (words .entry)))) ⌝ }
-{
-    let at = lower_bound(words, count, x);
-    stands(words, count, at, x)
 }
 
 // x at the place at, and what stood there and after it one place on.

@@ -41,7 +41,8 @@ takeBackKind (suc zero) x p = record { links = insert x (p .links); marks = p .m
 takeBackKind (suc (suc zero)) x p = record { links = p .links; marks = set (p .marks) x freeMark }
 takeBackKind (suc (suc (suc zero))) x p = record { links = p .links; marks = set (p .marks) x lockMark }
 takeBackKind (suc (suc (suc (suc zero)))) x p = record { links = p .links; marks = set (p .marks) x freeMark }
-takeBackKind (suc (suc (suc (suc (suc k))))) x p = record { links = p .links; marks = set (p .marks) x withdrawnMark }
+takeBackKind (suc (suc (suc (suc (suc zero))))) x p = record { links = p .links; marks = set (p .marks) x withdrawnMark }
+takeBackKind (suc (suc (suc (suc (suc (suc k)))))) x p = p
 
 abbrev pub takeBack : ℕ → Packed → Packed
 takeBack w p = takeBackKind (w / kindUnit) (w % kindUnit) p

@@ -104,8 +104,25 @@ pub struct Links {
     pub count: usize,
 }
 
-// What is found of a link before its presence is: its word, or the number of a refusal.
-enum LinkCheck {
-    Word(u32),
-    Fault(u32),
+// The counters of a register.
+struct Counters {
+    n: u16,
+    count: usize,
+    top: usize,
+    held: usize,
+}
+
+// What an edit of a register's arrays hands back beside them.
+struct Edited {
+    counters: Counters,
+    answer: Answer,
+}
+
+// A change of a record's mark: from which to which; the causes if the record has the second already, and if it has another; and what is held for it.
+struct Marking {
+    from: u32,
+    to: u32,
+    already: u32,
+    barred: u32,
+    kind: u32,
 }
