@@ -43,7 +43,8 @@ use Rattle.register.specs.Packed.{Packed, heldWord, takeBackKind, takeBa
 use Rattle.register.specs.Counters.{Ranged, InRange}
 use Rattle.register.specs.Representation.{heldWords, packedOf, Represents}
 use Rattle.register.specs.Calls.{answerOf, Opens, Steps}
-use Rattle.register.specs.Inner.{linkCauses, registerOf, outcomeOf, Remarks, locks, unlocks, withdraws, reinstates, Guarded, Tallied, Kept, Holding, Changed, TakenBack}
+use Rattle.register.specs.Inner.{linkCauses, registerOf, outcomeOf, Remarks, locks, unlocks, withdraws, reinstates, Guarded, Tallied, Kept, Holding}
+use Rattle.register.specs.Inner.{Changed, TakenBack}
 use Rattle.register.specs.declared.Register.{Register}
 use Rattle.register.specs.declared.Counters.{Counters}
 use Rattle.register.specs.declared.Edited.{Edited}

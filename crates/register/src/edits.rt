@@ -122,7 +122,8 @@ fn put_in(
 ) -> Counters
     requires { ⌜ (counters .count < maxLinks) × (length (now links) ≡ maxLinks) × (length (now totals) ≡ labels) × Seam x (now links) (counters .count) at ⌝ }
     ensures { λ r. ⌜ ((marks ring : List ℕ) → Changed (registerOf counters (now (links .entry)) marks ring (now (totals .entry)))
-        (record { links = insert x (take (counters .count) (now (links .entry))); marks = marks }) (registerOf r (now (links .exit)) marks ring (now (totals .exit)))) ⌝ }
+        (record { links = insert x (take (counters .count) (now (links .entry))); marks = marks })
+        (registerOf r (now (links .exit)) marks ring (now (totals .exit)))) ⌝ }
 {
     let count = counters.count;
     put(links, count, at, x);
@@ -146,7 +147,8 @@ fn take_out(
     requires { ⌜ (counters .count ≤ maxLinks) × (length (now links) ≡ maxLinks) × (length (now totals) ≡ labels) × Seam x (now links) (counters .count) at
         × (standsAt (now links) (counters .count) at x ≡ true) ⌝ }
     ensures { λ r. ⌜ ((marks ring : List ℕ) → Changed (registerOf counters (now (links .entry)) marks ring (now (totals .entry)))
-        (record { links = without eqb x (take (counters .count) (now (links .entry))); marks = marks }) (registerOf r (now (links .exit)) marks ring (now (totals .exit)))) ⌝ }
+        (record { links = without eqb x (take (counters .count) (now (links .entry))); marks = marks })
+        (registerOf r (now (links .exit)) marks ring (now (totals .exit)))) ⌝ }
 {
     let count = counters.count;
     cut(links, count, at);

@@ -48,7 +48,12 @@ slice-aggregate-result c =
     let ws = after-lower-bound .before .before .args .words .now in
     let i = after-lower-bound .lower-bound .result in
     let k = c .before .lower-bound2 in
-    sym (length-take-le (k .result) (take (length ws - i) (drop i ws)) (omega (arith, k .ensures .within, ap length (rest after-lower-bound), length-drop i ws)))
+    sym (length-take-le (k .result) (take (length ws - i) (drop i ws)) (omega (
+      arith,
+      k .ensures .within,
+      ap length (rest after-lower-bound),
+      length-drop i ws,
+    )))
 
 returns : tie.Need-returns
 returns c =

@@ -34,9 +34,10 @@ self c = registerOf (c .args .counters) (c .args .links .now) (c .args .marks .n
 
 returns : tie.Need-returns
 returns c =
+    let start = c .before .before .before .before in
     let f = c .before .before .link-cause .ensures in
-    refused-as (c .refused .ensures) (refuse (self (c .before .before .before .before)) (c .before .before .before .before .pre .0 .ranged) (add (link (c .before .before .before .before))) _ (first-caused _ f (c .before .if1 .taken))
-    (λ _ _. add-stop (self (c .before .before .before .before)) (link (c .before .before .before .before)) _ f (c .before .if1 .taken)))
+    refused-as (c .refused .ensures) (refuse (self start) (start .pre .0 .ranged) (add (link start)) _ (first-caused _ f (c .before .if1 .taken))
+    (λ _ _. add-stop (self start) (link start) _ f (c .before .if1 .taken)))
 
 -- no cause in the ends and the label
 free : (c : tie.Else1)
@@ -46,8 +47,9 @@ free c = sym (c .before .link-cause .ensures) ∙ c .if1 .left
 
 link-word-requires : tie.Need-link-word-requires
 link-word-requires c κs =
-    let p = link-proper _ (c .before .before .before .args .marks .now) _ (free c) in
-    let h = c .before .before .before .pre .0 .ranged in
+    let start = c .before .before .before in
+    let p = link-proper _ (start .args .marks .now) _ (free c) in
+    let h = start .pre .0 .ranged in
     (omega (arith, p .from, h .size), p .label, omega (arith, p .to, h .size))
 
 lower-bound-requires : tie.Need-lower-bound-requires
@@ -62,9 +64,12 @@ causes-left : (c : tie.After-stands)
     (b : Book) → Represents (self start) b → firstNumber (packedCauses (start .args .counters .n) (packedOf (self start)) (add (link start))) ≡
     firstNumber ((already, c .stands .result) ∷ (full, leb maxLinks (length (packedOf (self start) .links))) ∷ [])
 causes-left c b h =
-    let few : c .before .before .before .before .before .before .before .before .before .before .args .counters .count ≤ length (c .before .before .before .before .before .before .before .before .before .before .args .links .now) = omega (arith, c .before .before .before .before .before .before .before .before .before .before .pre .0 .ranged .count, c .before .before .before .before .before .before .before .before .before .before .pre .0 .links) in
-    add-cause (self (c .before .before .before .before .before .before .before .before .before .before)) (link (c .before .before .before .before .before .before .before .before .before .before)) (c .before .before .before .before .before .before .link-word .result) (c .before .before .before .lower-bound .result) (c .before .before .before .before .before .before .link-word .ensures)
-    (free (c .before .before .before .before .before .before .before)) (c .stands .result) (c .stands .ensures) (c .before .before .before .lower-bound .ensures) few (h .sheet .links .ascending)
+    let after-lower-bound = c .before .before .before in
+    let after-link-word = after-lower-bound .before .before .before in
+    let start = after-link-word .before .before .before .before in
+    let few : start .args .counters .count ≤ length (start .args .links .now) = omega (arith, start .pre .0 .ranged .count, start .pre .0 .links) in
+    add-cause (self start) (link start) (after-link-word .link-word .result) (after-lower-bound .lower-bound .result) (after-link-word .link-word .ensures)
+    (free (after-link-word .before)) (c .stands .result) (c .stands .ensures) (after-lower-bound .lower-bound .ensures) few (h .sheet .links .ascending)
 
 refused-requires-2 : tie.Need-refused-requires-2
 refused-requires-2 c κs = search needs
@@ -72,7 +77,8 @@ refused-requires-2 c κs = search needs
 returns-2 : tie.Need-returns-2
 unfolding firstNumber number
 returns-2 c =
-    refused-as (c .refused2 .ensures) (refuse (self (c .before .before .before .before .before .before .before .before .before .before .before .before)) (c .before .before .before .before .before .before .before .before .before .before .before .before .pre .0 .ranged) (add (link (c .before .before .before .before .before .before .before .before .before .before .before .before))) _ (already, refl)
+    let start = c .before .before .before .before .before .before .before .before .before .before .before .before in
+    refused-as (c .refused2 .ensures) (refuse (self start) (start .pre .0 .ranged) (add (link start)) _ (already, refl)
     (λ b h. causes-left (c .before .before) b h ∙ rw (c .before .if2 .taken)))
 
 refused-requires-3 : tie.Need-refused-requires-3
@@ -81,12 +87,14 @@ refused-requires-3 c κs = search needs
 returns-3 : tie.Need-returns-3
 unfolding firstNumber number
 returns-3 c =
-    let s = self (c .before .before .before .before .before .before .before .before .before .before .before .before .before) in
-    let p = c .before .before .before .before .before .before .before .before .before .before .before .before .before .pre .0 in
+    let after-stands = c .before .before .before in
+    let start = after-stands .before .before .before .before .before .before .before .before .before .before in
+    let s = self start in
+    let p = start .pre .0 in
     let long : 4096 ≤ length (take (s .count) (s .links)) =
     omega (arith, length-take-le (s .count) (s .links) (omega (arith, p .ranged .count, p .links)), c .before .if3 .taken) in
-    refused-as (c .refused3 .ensures) (refuse s (p .ranged) (add (link (c .before .before .before .before .before .before .before .before .before .before .before .before .before))) _ (full, refl)
-    (λ b h. causes-left (c .before .before .before) b h ∙ rw (c .before .before .if2 .left, le-leb 4096 _ long)))
+    refused-as (c .refused3 .ensures) (refuse s (p .ranged) (add (link start)) _ (full, refl)
+    (λ b h. causes-left after-stands b h ∙ rw (c .before .before .if2 .left, le-leb 4096 _ long)))
 
 put-in-requires : tie.Need-put-in-requires
 put-in-requires c κs = search needs
@@ -100,15 +108,18 @@ hold-requires c κs =
 returns-4 : tie.Need-returns-4
 unfolding firstNumber number packedEdit heldWord
 returns-4 c =
-    let a = c .before .before .before .before .before .before .before .before .before .before .before .before .before .before .before .before .before .args in
-    let s = self (c .before .before .before .before .before .before .before .before .before .before .before .before .before .before .before .before .before) in
-    let p = c .before .before .before .before .before .before .before .before .before .before .before .before .before .before .before .before .before .pre .0 in
-    let w = c .before .before .before .before .before .before .before .before .before .before .before .before .before .link-word .ensures in
+    let else3 = c .before .before .before .before .before in
+    let after-link-word = else3 .before .before .before .before .before .before .before .before in
+    let start = after-link-word .before .before .before .before in
+    let a = start .args in
+    let s = self start in
+    let p = start .pre .0 in
+    let w = after-link-word .link-word .ensures in
     let few : length (take (s .count) (s .links)) < 4096 =
-    omega (arith, length-take-le (s .count) (s .links) (omega (arith, p .ranged .count, p .links)), c .before .before .before .before .before .if3 .left) in
+    omega (arith, length-take-le (s .count) (s .links) (omega (arith, p .ranged .count, p .links)), else3 .if3 .left) in
     let put-in = c .before .before .put-in in
-    accept s (add (link (c .before .before .before .before .before .before .before .before .before .before .before .before .before .before .before .before .before))) _ _ (p .ranged) (p .marks)
-    (λ b h. causes-left (c .before .before .before .before .before .before .before) b h ∙ rw (c .before .before .before .before .before .before .if2 .left, lt-leb 4096 _ few))
+    accept s (add (link start)) _ _ (p .ranged) (p .marks)
+    (λ b h. causes-left (else3 .before .before) b h ∙ rw (else3 .before .if2 .left, lt-leb 4096 _ few))
     (rw w at (put-in .ensures (a .marks .now) (a .ring .now)))
     (rw w at (c .hold .ensures (put-in .last .1 .0) (a .marks .now) (put-in .last .1 .1 .0)))
 

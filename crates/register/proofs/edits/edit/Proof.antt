@@ -30,13 +30,17 @@ enum-known-call : tie.Need-enum-known-call
 enum-known-call c = search needs
 
 add-requires : tie.Need-add-requires
-add-requires c κs = (whole (c .before .before .before .before .before .before .before .before), c .before .before .before .before .before .before .before .before .before .before .pre .3)
+add-requires c κs =
+    let else1 = c .before .before .before .before .before .before .before .before in
+    (whole else1, else1 .before .before .pre .3)
 
 enum-known-call-2 : tie.Need-enum-known-call-2
 enum-known-call-2 c = search needs
 
 remove-requires : tie.Need-remove-requires
-remove-requires c κs = (whole (c .before .before .before .before .before .before .before .before), c .before .before .before .before .before .before .before .before .before .before .pre .3)
+remove-requires c κs =
+    let else1 = c .before .before .before .before .before .before .before .before in
+    (whole else1, else1 .before .before .pre .3)
 
 enum-known-call-3 : tie.Need-enum-known-call-3
 enum-known-call-3 c = search needs
@@ -66,7 +70,9 @@ enum-told : tie.Need-enum-told
 enum-told c = search needs
 
 undo-requires : tie.Need-undo-requires
-undo-requires c κs = (whole (c .before .before .before .before .before .before .before), c .before .before .before .before .before .before .before .before .before .pre .3)
+undo-requires c κs =
+    let else1 = c .before .before .before .before .before .before .before in
+    (whole else1, else1 .before .before .pre .3)
 
 returns-2 : tie.Need-returns-2
 unfolding callOf number
@@ -78,19 +84,31 @@ returns-3 c = rw (c .before .before .before .before .before .before .before .cal
 
 returns-4 : tie.Need-returns-4
 unfolding callOf number
-returns-4 c = rw (c .before .before .before .before .before .before .call3 .given .1) (c .remark .ensures _ (c .before .before .before .before .before .before .before .before .before .before .args .totals .now) locks)
+returns-4 c =
+    let after-call3 = c .before .before .before .before .before .before in
+    let start = after-call3 .before .before .before .before in
+    rw (after-call3 .call3 .given .1) (c .remark .ensures _ (start .args .totals .now) locks)
 
 returns-5 : tie.Need-returns-5
 unfolding callOf number
-returns-5 c = rw (c .before .before .before .before .before .before .call4 .given .1) (c .remark2 .ensures _ (c .before .before .before .before .before .before .before .before .before .before .args .totals .now) unlocks)
+returns-5 c =
+    let after-call4 = c .before .before .before .before .before .before in
+    let start = after-call4 .before .before .before .before in
+    rw (after-call4 .call4 .given .1) (c .remark2 .ensures _ (start .args .totals .now) unlocks)
 
 returns-6 : tie.Need-returns-6
 unfolding callOf number
-returns-6 c = rw (c .before .before .before .before .before .before .call5 .given .1) (c .remark3 .ensures _ (c .before .before .before .before .before .before .before .before .before .before .args .totals .now) withdraws)
+returns-6 c =
+    let after-call5 = c .before .before .before .before .before .before in
+    let start = after-call5 .before .before .before .before in
+    rw (after-call5 .call5 .given .1) (c .remark3 .ensures _ (start .args .totals .now) withdraws)
 
 returns-7 : tie.Need-returns-7
 unfolding callOf number
-returns-7 c = rw (c .before .before .before .before .before .before .call6 .given .1) (c .remark4 .ensures _ (c .before .before .before .before .before .before .before .before .before .before .args .totals .now) reinstates)
+returns-7 c =
+    let after-call6 = c .before .before .before .before .before .before in
+    let start = after-call6 .before .before .before .before in
+    rw (after-call6 .call6 .given .1) (c .remark4 .ensures _ (start .args .totals .now) reinstates)
 
 returns-8 : tie.Need-returns-8
 unfolding callOf

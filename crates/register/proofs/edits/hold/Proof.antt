@@ -38,7 +38,8 @@ returns c =
       count = refl;
       top = stepped (c .before) .1;
       few = omega arith;
-      words = hold-more (s .ring .now) (s .counters .top) (s .word) (c .before .if1 .next) (s .counters .held) (stepped (c .before) .0) (omega arith) (omega arith);
+      words =
+          hold-more (s .ring .now) (s .counters .top) (s .word) (c .before .if1 .next) (s .counters .held) (stepped (c .before) .0) (omega arith) (omega arith);
       totals = refl;
     }
 
@@ -51,7 +52,8 @@ returns-2 c =
       count = refl;
       top = stepped (c .before) .1;
       few = omega arith;
-      words = hold-full (s .ring .now) (s .counters .top) (s .word) (c .before .if1 .next) (s .counters .held) (stepped (c .before) .0) (omega arith) (omega arith);
+      words =
+          hold-full (s .ring .now) (s .counters .top) (s .word) (c .before .if1 .next) (s .counters .held) (stepped (c .before) .0) (omega arith) (omega arith);
       totals = refl;
     }
 

@@ -22,13 +22,15 @@ add-t10 c = search needs
 
 returns : tie.Need-returns
 returns c =
-    let s = c .before .before .before .before .args in
-    let h = c .before .before .before .before .pre in
+    let after-put = c .before .before in
+    let start = after-put .before .before in
+    let s = start .args in
+    let h = start .pre in
     let n = s .counters .count in
     let l = take n (s .links .now) in
     let few : length l < 4096 = omega (arith, length-take-le n (s .links .now) (omega arith)) in
-    let links = c .before .before .put .last .0 in
-    let put-in = seam-insert (s .x) (s .links .now) links n (s .at) (omega arith) (h .3) (c .before .before .put .ensures) in
+    let links = after-put .put .last .0 in
+    let put-in = seam-insert (s .x) (s .links .now) links n (s .at) (omega arith) (h .3) (after-put .put .ensures) in
     λ marks ring. record {
       kept = record { n = refl; ring = refl; top = refl; held = refl; count = omega arith };
       sheet = λ r. ap (λ (m : List ℕ). record { links = m; marks = marks }) (put-in r);

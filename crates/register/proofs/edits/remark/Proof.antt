@@ -37,8 +37,9 @@ refused-requires c κs = search needs
 returns : tie.Need-returns
 unfolding remarkNumber number
 returns c =
-    λ e ts t. refused-as (c .refused .ensures) (refuse (self (c .before .before .before .before) ts) (c .before .before .before .before .pre .0 .ranged) e _ (no-record, refl)
-    (λ b h. row (c .before .before .before .before) e ts t b h ∙ rw (le-leb _ _ (c .before .if1 .taken))))
+    let start = c .before .before .before .before in
+    λ e ts t. refused-as (c .refused .ensures) (refuse (self start ts) (start .pre .0 .ranged) e _ (no-record, refl)
+    (λ b h. row start e ts t b h ∙ rw (le-leb _ _ (c .before .if1 .taken))))
 
 mul-mark : tie.Need-mul-mark
 mul-mark c = search needs
@@ -52,8 +53,10 @@ refused-requires-2 c κs = search needs
 returns-2 : tie.Need-returns-2
 unfolding remarkNumber number
 returns-2 c =
-    λ e ts t. refused-as (c .refused2 .ensures) (refuse (self (c .before .before .before .before .before .before .before) ts) (c .before .before .before .before .before .before .before .pre .0 .ranged) e _ (remark-caused t .0)
-    (λ b h. row (c .before .before .before .before .before .before .before) e ts t b h ∙ rw (lt-leb _ _ (c .before .before .before .before .if1 .left), eq-eqb _ _ (c .before .if2 .taken))))
+    let else1 = c .before .before .before .before in
+    let start = else1 .before .before .before in
+    λ e ts t. refused-as (c .refused2 .ensures) (refuse (self start ts) (start .pre .0 .ranged) e _ (remark-caused t .0)
+    (λ b h. row start e ts t b h ∙ rw (lt-leb _ _ (else1 .if1 .left), eq-eqb _ _ (c .before .if2 .taken))))
 
 refused-requires-3 : tie.Need-refused-requires-3
 refused-requires-3 c κs = search needs
@@ -61,8 +64,11 @@ refused-requires-3 c κs = search needs
 returns-3 : tie.Need-returns-3
 unfolding remarkNumber number
 returns-3 c =
-    λ e ts t. refused-as (c .refused3 .ensures) (refuse (self (c .before .before .before .before .before .before .before .before .before) ts) (c .before .before .before .before .before .before .before .before .before .pre .0 .ranged) e _ (remark-caused t .1)
-    (λ b h. row (c .before .before .before .before .before .before .before .before .before) e ts t b h ∙ rw (lt-leb _ _ (c .before .before .before .before .before .before .if1 .left), ne-eqb _ _ (c .before .before .before .if2 .left), ne-eqb _ _ (c .before .if3 .taken))))
+    let else2 = c .before .before .before in
+    let else1 = else2 .before .before .before in
+    let start = else1 .before .before .before in
+    λ e ts t. refused-as (c .refused3 .ensures) (refuse (self start ts) (start .pre .0 .ranged) e _ (remark-caused t .1)
+    (λ b h. row start e ts t b h ∙ rw (lt-leb _ _ (else1 .if1 .left), ne-eqb _ _ (else2 .if2 .left), ne-eqb _ _ (c .before .if3 .taken))))
 
 touched-requires : tie.Need-touched-requires
 touched-requires c κs = search needs
@@ -73,12 +79,16 @@ refused-requires-4 c κs = search needs
 returns-4 : tie.Need-returns-4
 unfolding remarkNumber number
 returns-4 c =
-    λ e ts t. refused-as (c .refused4 .ensures) (refuse (self (c .before .before .before .before .before .before .before .before .before .before .before .before .before) ts) (c .before .before .before .before .before .before .before .before .before .before .before .before .before .pre .0 .ranged) e _ (touched-record, refl)
-    (λ b h. row (c .before .before .before .before .before .before .before .before .before .before .before .before .before) e ts t b h ∙ rw (
-      lt-leb _ _ (c .before .before .before .before .before .before .before .before .before .before .if1 .left),
-      ne-eqb _ _ (c .before .before .before .before .before .before .before .if2 .left),
-      eq-eqb _ _ (c .before .before .before .before .before .if3 .left),
-      eq-eqb _ _ (c .before .before .before .if4 .taken),
+    let then4 = c .before .before .before in
+    let else2 = then4 .before .before .before .before in
+    let else1 = else2 .before .before .before in
+    let start = else1 .before .before .before in
+    λ e ts t. refused-as (c .refused4 .ensures) (refuse (self start ts) (start .pre .0 .ranged) e _ (touched-record, refl)
+    (λ b h. row start e ts t b h ∙ rw (
+      lt-leb _ _ (else1 .if1 .left),
+      ne-eqb _ _ (else2 .if2 .left),
+      eq-eqb _ _ (then4 .before .before .if3 .left),
+      eq-eqb _ _ (then4 .if4 .taken),
       sym (c .before .before .touched .ensures),
       c .before .if5 .taken,
     )))
@@ -105,17 +115,21 @@ hold-requires c κs =
 returns-5 : tie.Need-returns-5
 unfolding remarkNumber number
 returns-5 c =
-    λ e ts t. let a = c .before .before .before .before .before .before .before .before .before .before .before .before .before .before .before .args in
-    let s = self (c .before .before .before .before .before .before .before .before .before .before .before .before .before .before .before) ts in
-    let p = c .before .before .before .before .before .before .before .before .before .before .before .before .before .before .before .pre .0 in
+    let after-set-mark = c .before .before .before in
+    let else3 = after-set-mark .before .before .before .before in
+    let else1 = else3 .before .before .before .before .before in
+    let start = else1 .before .before .before in
+    λ e ts t. let a = start .args in
+    let s = self start ts in
+    let p = start .pre .0 in
     let d = remark-edit t (packedOf s) in
-    let set-mark = c .before .before .before .set-mark in
+    let set-mark = after-set-mark .set-mark in
     accept s e (registerOf (set-mark .result) (a .links .now) (set-mark .last .1 .0) (a .ring .now) ts) _ (p .ranged) (p .marks)
-    (λ b h. row (c .before .before .before .before .before .before .before .before .before .before .before .before .before .before .before) e ts t b h ∙ rw (
-      lt-leb _ _ (c .before .before .before .before .before .before .before .before .before .before .before .before .if1 .left),
-      ne-eqb _ _ (c .before .before .before .before .before .before .before .before .before .if2 .left),
-      eq-eqb _ _ (c .before .before .before .before .before .before .before .if3 .left),
-    ) (untouched (c .before .before .before .before .before)))
+    (λ b h. row start e ts t b h ∙ rw (
+      lt-leb _ _ (else1 .if1 .left),
+      ne-eqb _ _ (else3 .before .before .if2 .left),
+      eq-eqb _ _ (else3 .if3 .left),
+    ) (untouched (after-set-mark .before .before)))
     (rw (d .0) (set-mark .ensures (a .links .now) (a .ring .now) ts))
     (rw (d .1) (c .hold .ensures (a .links .now) (set-mark .last .1 .0) ts))
 

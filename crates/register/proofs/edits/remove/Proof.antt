@@ -33,9 +33,10 @@ self c = registerOf (c .args .counters) (c .args .links .now) (c .args .marks .n
 
 returns : tie.Need-returns
 returns c =
+    let start = c .before .before .before .before in
     let f = c .before .before .link-cause .ensures in
-    refused-as (c .refused .ensures) (refuse (self (c .before .before .before .before)) (c .before .before .before .before .pre .0 .ranged) (remove (link (c .before .before .before .before))) _ (first-caused _ f (c .before .if1 .taken))
-    (λ _ _. remove-stop (self (c .before .before .before .before)) (link (c .before .before .before .before)) _ f (c .before .if1 .taken)))
+    refused-as (c .refused .ensures) (refuse (self start) (start .pre .0 .ranged) (remove (link start)) _ (first-caused _ f (c .before .if1 .taken))
+    (λ _ _. remove-stop (self start) (link start) _ f (c .before .if1 .taken)))
 
 -- no cause in the ends and the label
 free : (c : tie.Else1)
@@ -45,8 +46,9 @@ free c = sym (c .before .link-cause .ensures) ∙ c .if1 .left
 
 link-word-requires : tie.Need-link-word-requires
 link-word-requires c κs =
-    let p = link-proper _ (c .before .before .before .args .marks .now) _ (free c) in
-    let h = c .before .before .before .pre .0 .ranged in
+    let start = c .before .before .before in
+    let p = link-proper _ (start .args .marks .now) _ (free c) in
+    let h = start .pre .0 .ranged in
     (omega (arith, p .from, h .size), p .label, omega (arith, p .to, h .size))
 
 lower-bound-requires : tie.Need-lower-bound-requires
@@ -61,9 +63,12 @@ causes-left : (c : tie.After-stands)
     (b : Book) → Represents (self start) b → firstNumber (packedCauses (start .args .counters .n) (packedOf (self start)) (remove (link start))) ≡
     firstNumber ((missing, not (c .stands .result)) ∷ [])
 causes-left c b h =
-    let few : c .before .before .before .before .before .before .before .before .before .before .args .counters .count ≤ length (c .before .before .before .before .before .before .before .before .before .before .args .links .now) = omega (arith, c .before .before .before .before .before .before .before .before .before .before .pre .0 .ranged .count, c .before .before .before .before .before .before .before .before .before .before .pre .0 .links) in
-    remove-cause (self (c .before .before .before .before .before .before .before .before .before .before)) (link (c .before .before .before .before .before .before .before .before .before .before)) (c .before .before .before .before .before .before .link-word .result) (c .before .before .before .lower-bound .result) (c .before .before .before .before .before .before .link-word .ensures)
-    (free (c .before .before .before .before .before .before .before)) (c .stands .result) (c .stands .ensures) (c .before .before .before .lower-bound .ensures) few (h .sheet .links .ascending)
+    let after-lower-bound = c .before .before .before in
+    let after-link-word = after-lower-bound .before .before .before in
+    let start = after-link-word .before .before .before .before in
+    let few : start .args .counters .count ≤ length (start .args .links .now) = omega (arith, start .pre .0 .ranged .count, start .pre .0 .links) in
+    remove-cause (self start) (link start) (after-link-word .link-word .result) (after-lower-bound .lower-bound .result) (after-link-word .link-word .ensures)
+    (free (after-link-word .before)) (c .stands .result) (c .stands .ensures) (after-lower-bound .lower-bound .ensures) few (h .sheet .links .ascending)
 
 refused-requires-2 : tie.Need-refused-requires-2
 refused-requires-2 c κs = search needs
@@ -71,18 +76,28 @@ refused-requires-2 c κs = search needs
 returns-2 : tie.Need-returns-2
 unfolding firstNumber number
 returns-2 c =
-    refused-as (c .refused2 .ensures) (refuse (self (c .before .before .before .before .before .before .before .before .before .before .before .before)) (c .before .before .before .before .before .before .before .before .before .before .before .before .pre .0 .ranged) (remove (link (c .before .before .before .before .before .before .before .before .before .before .before .before))) _ (missing, refl)
+    let start = c .before .before .before .before .before .before .before .before .before .before .before .before in
+    refused-as (c .refused2 .ensures) (refuse (self start) (start .pre .0 .ranged) (remove (link start)) _ (missing, refl)
     (λ b h. causes-left (c .before .before) b h ∙ rw (c .before .if2 .taken)))
 
 take-out-requires : tie.Need-take-out-requires
 take-out-requires c κs =
-    let p = c .before .before .before .before .before .before .before .before .before .before .before .before .before .pre in
-    (p .0 .ranged .count, p .0 .links, p .1, c .before .before .before .before .before .before .lower-bound .ensures, sym (c .before .before .before .stands .ensures) ∙ not-false _ (c .before .before .if2 .left))
+    let after-stands = c .before .before .before in
+    let after-lower-bound = after-stands .before .before .before in
+    let p = after-lower-bound .before .before .before .before .before .before .before .pre in (
+      p .0 .ranged .count,
+      p .0 .links,
+      p .1,
+      after-lower-bound .lower-bound .ensures,
+      sym (after-stands .stands .ensures) ∙ not-false _ (c .before .before .if2 .left),
+    )
 
 add-hold : tie.Need-add-hold
 add-hold c =
-    let p = link-proper _ (c .before .before .before .before .before .before .before .before .before .before .before .before .before .before .before .args .marks .now) _ (free (c .before .before .before .before .before .before .before .before .before .before .before .before)) in
-    omega (arith, p .from, p .label, p .to, c .before .before .before .before .before .before .before .before .before .before .before .before .before .before .before .pre .0 .ranged .size, c .before .before .before .before .before .before .before .before .before .before .before .link-word .ensures)
+    let after-link-word = c .before .before .before .before .before .before .before .before .before .before .before in
+    let start = after-link-word .before .before .before .before in
+    let p = link-proper _ (start .args .marks .now) _ (free (after-link-word .before)) in
+    omega (arith, p .from, p .label, p .to, start .pre .0 .ranged .size, after-link-word .link-word .ensures)
 
 hold-requires : tie.Need-hold-requires
 hold-requires c κs =
@@ -93,12 +108,15 @@ hold-requires c κs =
 returns-3 : tie.Need-returns-3
 unfolding firstNumber number packedEdit heldWord
 returns-3 c =
-    let a = c .before .before .before .before .before .before .before .before .before .before .before .before .before .before .before .before .args in
-    let p = c .before .before .before .before .before .before .before .before .before .before .before .before .before .before .before .before .pre .0 in
-    let w = c .before .before .before .before .before .before .before .before .before .before .before .before .link-word .ensures in
+    let else2 = c .before .before .before .before .before in
+    let after-link-word = else2 .before .before .before .before .before .before .before in
+    let start = after-link-word .before .before .before .before in
+    let a = start .args in
+    let p = start .pre .0 in
+    let w = after-link-word .link-word .ensures in
     let take-out = c .before .before .take-out in
-    accept (self (c .before .before .before .before .before .before .before .before .before .before .before .before .before .before .before .before)) (remove (link (c .before .before .before .before .before .before .before .before .before .before .before .before .before .before .before .before))) _ _ (p .ranged) (p .marks)
-    (λ b h. causes-left (c .before .before .before .before .before .before) b h ∙ rw (c .before .before .before .before .before .if2 .left))
+    accept (self start) (remove (link start)) _ _ (p .ranged) (p .marks)
+    (λ b h. causes-left (else2 .before) b h ∙ rw (else2 .if2 .left))
     (rw w at (take-out .ensures (a .marks .now) (a .ring .now)))
     (rw w at (c .hold .ensures (take-out .last .1 .0) (a .marks .now) (take-out .last .1 .1 .0)))
 

@@ -27,19 +27,22 @@ sub-t10 c = omega (arith, below-count (c .before .before .before .before))
 
 returns : tie.Need-returns
 returns c =
-    let s = c .before .before .before .before .args in
-    let h = c .before .before .before .before .pre in
+    let after-cut = c .before .before in
+    let start = after-cut .before .before in
+    let s = start .args in
+    let h = start .pre in
     let n = s .counters .count in
     let l = take n (s .links .now) in
     let room : n ≤ length (s .links .now) = omega arith in
-    let links = c .before .before .cut .last .0 in
+    let links = after-cut .cut .last .0 in
     let there : Rises 0 l → has eqb (s .x) l ≡ true = λ r. sym (seam-has (s .x) (s .links .now) n (s .at) room r (h .3)) ∙ h .4 in
-    let taken-out = seam-without (s .x) (s .links .now) links n (s .at) room (h .3) (c .before .before .cut .ensures) in
+    let taken-out = seam-without (s .x) (s .links .now) links n (s .at) room (h .3) (after-cut .cut .ensures) in
     λ marks ring. record {
       kept = record { n = refl; ring = refl; top = refl; held = refl; count = omega arith };
       sheet = λ r. ap (λ (m : List ℕ). record { links = m; marks = marks }) (taken-out r (there r));
       counted = λ r t.
-          lowered-counted (s .x) (s .totals .now) (c .lower-total .last .0) l (take (n - 1) links) r (there r) (taken-out r (there r)) (c .lower-total .ensures) t;
+          lowered-counted (s .x) (s .totals .now) (c .lower-total .last .0) l
+          (take (n - 1) links) r (there r) (taken-out r (there r)) (c .lower-total .ensures) t;
     }
 
 pub take-out-spec : {M : Type 1} → statement M

@@ -24,21 +24,25 @@ stands-requires c κs = search needs
 returns : tie.Need-returns
 unfolding takeBackKind
 returns c =
-    let s = c .before .before .before .before .before .before .before .before .args in
+    let after-lower-bound = c .before .before .before .before in
+    let after-match = after-lower-bound .before .before .before in
+    let s = after-match .before .args in
     let n = s .counters .count in
     let ls = s .links .now in
-    let seam = c .before .before .before .before .lower-bound in
+    let seam = after-lower-bound .lower-bound in
     let st = c .before .stands in
-    let few : n ≤ length ls = omega (arith, c .before .before .before .before .before .before .before .before .pre .0, c .before .before .before .before .before .before .before .before .pre .1) in
-    λ ring. back-marks (s .counters) ls (s .marks .now) ring (s .totals .now) (s .marks .now) (s .kind) (s .x) (c .before .before .before .before .before .before .before .before .pre .0)
-    (rw (c .before .before .before .before .before .before .before .match .keys1) (λ r. ap (λ (m : List ℕ). record { links = m; marks = s .marks .now })
+    let few : n ≤ length ls = omega (arith, after-match .before .pre .0, after-match .before .pre .1) in
+    λ ring. back-marks (s .counters) ls (s .marks .now) ring (s .totals .now) (s .marks .now) (s .kind) (s .x) (after-match .before .pre .0)
+    (rw (after-match .match .keys1) (λ r. ap (λ (m : List ℕ). record { links = m; marks = s .marks .now })
     (sym (without-absent eqb-test (s .x) (take n ls) (sym (seam-has (s .x) ls n (seam .result) few r (seam .ensures))
     ∙ sym (st .ensures) ∙ not-true (st .result) (c .if1 .taken))))))
 
 take-out-requires : tie.Need-take-out-requires
 take-out-requires c κs =
-    let p = c .before .before .before .before .before .before .before .before .before .before .pre in
-    (p .0, p .1, p .3, c .before .before .before .before .before .before .lower-bound .ensures, sym (c .before .before .before .stands .ensures) ∙ not-false _ (c .before .before .if1 .left))
+    let after-stands = c .before .before .before in
+    let after-lower-bound = after-stands .before .before .before in
+    let p = after-lower-bound .before .before .before .before .pre in
+    (p .0, p .1, p .3, after-lower-bound .lower-bound .ensures, sym (after-stands .stands .ensures) ∙ not-false _ (c .before .before .if1 .left))
 
 -- at 4,096 links there is no room for one more
 returns-2 : tie.Need-returns-2
@@ -75,8 +79,9 @@ set-mark-requires-4 c κs = search needs
 returns-3 : tie.Need-returns-3
 unfolding takeBackKind
 returns-3 c =
-    λ ring. let o = c .take-out .ensures (c .before .before .before .before .before .before .before .before .before .before .before .args .marks .now) ring in
-    record { kept = o .kept; sheet = rw (c .before .before .before .before .before .before .before .before .before .before .match .keys1) (λ r _. o .sheet r); counted = o .counted }
+    let after-match = c .before .before .before .before .before .before .before .before .before .before in
+    λ ring. let o = c .take-out .ensures (after-match .before .args .marks .now) ring in
+    record { kept = o .kept; sheet = rw (after-match .match .keys1) (λ r _. o .sheet r); counted = o .counted }
 
 returns-4 : tie.Need-returns-4
 unfolding takeBackKind

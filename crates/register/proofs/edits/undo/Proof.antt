@@ -21,8 +21,9 @@ refused-requires c κs = search needs
 
 returns : tie.Need-returns
 returns c =
-    let s = self (c .before .before .before) in
-    refused-as (c .refused .ensures) (refuse-undo s (c .before .before .before .pre .0 .ranged) (latest-none (s .ring) (s .top) (s .held) (c .before .if1 .taken)))
+    let start = c .before .before .before in
+    let s = self start in
+    refused-as (c .refused .ensures) (refuse-undo s (start .pre .0 .ranged) (latest-none (s .ring) (s .top) (s .held) (c .before .if1 .taken)))
 
 sub-at : tie.Need-sub-at
 sub-at c = search needs
@@ -30,9 +31,10 @@ sub-at c = search needs
 -- the place of the latest word
 latest-place : (c : tie.Joined2) → (c .if2 .at ≡ previous (c .before .before .before .args .counters .top)) × (c .if2 .at < 256)
 latest-place c =
-    let h = c .before .before .before .pre .0 .ranged in
+    let start = c .before .before .before in
+    let h = start .pre .0 .ranged in
     ⊎-elim
-    (λ w. (w .1 ∙ sym (previous-less (c .before .before .before .args .counters .top) (w .0 .taken)), omega (arith, w .1, h .top)))
+    (λ w. (w .1 ∙ sym (previous-less (start .args .counters .top) (w .0 .taken)), omega (arith, w .1, h .top)))
     (λ w. (w .1 ∙ ap previous (sym (w .0 .left)), omega (arith, w .1)))
     (c .if2 .came)
 
@@ -50,15 +52,17 @@ taken-back-requires c κs = search needs
 
 returns-2 : tie.Need-returns-2
 returns-2 c =
-    let s = self (c .before .before .before .before .before .before .before .before .before) in
-    let h = c .before .before .before .before .before .before .before .before .before .pre .0 .ranged in
+    let joined2 = c .before .before .before .before .before .before in
+    let start = joined2 .before .before .before in
+    let s = self start in
+    let h = start .pre .0 .ranged in
     let o = c .taken-back .ensures (s .ring) in
     let k = o .kept in
-    let p = latest-place (c .before .before .before .before .before .before) in
-    accept-undo s h (getD (s .ring) (c .before .before .before .before .before .before .if2 .at) 0) _ (record {
+    let p = latest-place joined2 in
+    accept-undo s h (getD (s .ring) (joined2 .if2 .at) 0) _ (record {
       n = k .n;
       ranged = record { size = omega (arith, k .n, h .size); count = k .count; top = omega (arith, k .top, p .1); held = omega (arith, k .held, h .held) };
-      words = latest-step (s .ring) (s .top) (s .held) (c .before .before .before .before .before .before .before .if1 .left) ∙ rw (← p .0, k .top, k .held);
+      words = latest-step (s .ring) (s .top) (s .held) (joined2 .before .if1 .left) ∙ rw (← p .0, k .top, k .held);
       sheet = o .sheet;
       counted = o .counted;
     })
