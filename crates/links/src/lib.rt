@@ -1,4 +1,17 @@
-// A link as one word, label, from and to, each times its unit: made, and taken apart here alone. A pair word is the word of a link of label 0.
+// A link as one word, label, from and to, each times its unit: made, and taken apart here alone. A pair word is the word of a link of label 0. Of many words:
+// sorted.rt ascending words, totals.rt how many are of each label, lookups.rt those of one label and of one record.
+mod lookups;
+mod sorted;
+mod totals;
+
+pub use lookups::label_part;
+pub use lookups::touched;
+pub use sorted::cut;
+pub use sorted::lower_bound;
+pub use sorted::put;
+pub use sorted::stands;
+pub use totals::lower_total;
+pub use totals::raise_total;
 ghost use mathlib.Core.Path.{_≡_};
 ghost use Prim.Native.Nat.{_<_};
 ghost use Rattle.book.specs.Causes.{maxRecords, labels};

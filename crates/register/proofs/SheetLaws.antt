@@ -28,14 +28,15 @@ use Rattle.book.specs.Sheets.{Proper, Fit}
 use Rattle.book.specs.BookLaws.{first-none, first-proper, edited-fit, fit-bare}
 use Rattle.book.specs.TotalLaws.{total-add, total-remove}
 use Rattle.links.specs.Links.{linkWord, linkOf, labelUnit, Linked}
+use Rattle.links.specs.Ascending.{insert}
 use Rattle.register.specs.Marks.{freeMark, lockMark, withdrawnMark, markOf, hasMark}
-use Rattle.register.specs.Packed.{Packed, insert, kindUnit, heldWord, takeBackKind, takeBack, Shows}
+use Rattle.register.specs.Packed.{Packed, kindUnit, heldWord, takeBackKind, takeBack, Shows}
 use Rattle.register.specs.Inner.{linkCauses}
 use Rattle.links.specs.LinkLaws.{word-test, linked-has, linked-touched}
 use Rattle.register.specs.MarkLaws.{mark-by, shows-locked, shows-withdrawn, marks-set, mark-back}
-use Rattle.register.proofs.AscendingLaws.{insert-in, insert-keeps, in-insert, length-insert, rises-insert, rises-without, length-out, without-insert}
-use Rattle.register.proofs.AscendingLaws.{insert-without}
-use Rattle.register.proofs.TotalLaws.{word-total-insert, word-total-without}
+use Rattle.links.specs.AscendingLaws.{insert-in, insert-keeps, in-insert, length-insert, rises-insert, rises-without, length-out, without-insert}
+use Rattle.links.specs.AscendingLaws.{insert-without}
+use Rattle.links.specs.TotalLaws.{word-total-insert, word-total-without}
 
 -- ---- the same cause
 unfoldable pub packedCauses : ℕ → Packed → Edit → List (Cause × Bool)

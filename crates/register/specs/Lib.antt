@@ -7,7 +7,6 @@ pub mod Entries
 pub mod History
 pub mod Made
 pub mod Questions
-pub mod Lookups
 pub mod Words
 pub mod Inner
 pub mod Closing

@@ -1,14 +1,14 @@
 // The register without the links that touch a record. What it promises is stated in specs/Parting.antt.
 use crate::Register;
 use crate::state::ranged;
-use crate::totals::lower_total;
 use links::from_of;
+use links::lower_total;
 use links::to_of;
 ghost use mathlib.Core.Path.{_≡_};
 ghost use Prim.Native.Nat.{_/_, _≤_};
 ghost use lib.ListN.{length, take};
 ghost use Rattle.links.specs.Links.{labelUnit};
-ghost use Rattle.register.specs.Inner.{Lowered};
+ghost use Rattle.links.specs.Totals.{Lowered};
 ghost use Rattle.register.specs.Parting.{Without};
 ghost use Rattle.register.specs.Apart.{apartWord, Kept};
 

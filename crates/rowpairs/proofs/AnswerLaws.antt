@@ -19,7 +19,7 @@ use Rattle.paths.specs.Expressions.{Expr}
 use Rattle.paths.specs.Chains.{asked}
 use Rattle.paths.specs.Relations.{cells, pairs}
 use Rattle.paths.specs.Questions.{pairsWork, rowWidth, rowsWork}
-use Rattle.register.specs.Lookups.{LabelPart}
+use Rattle.links.specs.Lookups.{LabelPart}
 use Rattle.rows.specs.Rows.{flat}
 use Rattle.links.specs.Links.{linkPair}
 use Rattle.grid.specs.Grid.{first}

@@ -33,7 +33,7 @@ use Rattle.rows.specs.Rows.{noPairs, labelled, crossedWords}
 use Rattle.links.specs.Links.{linkPair}
 use Rattle.rows.specs.RowLaws.{crossed-set, labelled-none, set-none, union-right, union-join}
 use Rattle.reader.specs.Letters.{lettersIn}
-use Rattle.register.specs.Lookups.{PairsOf, LabelPart}
+use Rattle.links.specs.Lookups.{PairsOf, LabelPart}
 use Rattle.grid.specs.Grid.{within, first}
 use Rattle.grid.specs.GridLaws.{within-set}
 use Rattle.query.specs.Evaluation.{Lettered}

@@ -94,10 +94,11 @@ same-length c = c .before .loop .inv .2
 
 returns : tie.Need-returns Inv-loop μ-loop
 returns c =
+    let start = c .before .before .before in
     let l = c .before .loop in
-    let a = c .before .before .before .args in
+    let a = start .args in
     keeping-all (a .«record») (take (a .count) (a .words .now)) (a .totals) (l .left) (l .words) (l .kept) (l .i)
-    (let e = length-take-le (a .count) (a .words .now) (c .before .before .before .pre) in omega (arith, e)) (l .inv .3)
+    (let e = length-take-le (a .count) (a .words .now) (start .pre) in omega (arith, e)) (l .inv .3)
 
 pub keep-apart-spec : {M : Type 1} → statement M
 keep-apart-spec =
