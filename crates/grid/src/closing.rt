@@ -16,7 +16,7 @@ ghost use Rattle.k2.specs.PairSets.{Cells, IsSet, closure};
 ghost use Rattle.bits.specs.BitSets.{put};
 ghost use Rattle.rows.specs.Rows.{flat};
 ghost use Rattle.rows.specs.Steps.{Masked};
-ghost use Rattle.grid.specs.Grid.{rowOf, firstRows, first};
+ghost use Rattle.grid.specs.Grid.{Space, rowOf, firstRows, first};
 ghost use Rattle.grid.specs.Steps.{Clean, Merged, Fresh, RowClosed, Onward};
 
 // A column of a closed record in word c of a row, if one is left there; else the column found, if it is below n; else one that is left in the word.
@@ -47,7 +47,7 @@ fn fresh(
     seen: &[u64],
     closed: &[u64],
 ) -> usize
-    requires { ⌜ (n ≤ 1024) × (w ≤ 16) × (n ≤ w * 64) × (n * w ≤ length (now cells)) × (x < n) × (16 ≤ length (now seen)) × (16 ≤ length (now closed)) ⌝ }
+    requires { ⌜ Space n w n (length (now cells)) n × (x < n) × (16 ≤ length (now seen)) × (16 ≤ length (now closed)) ⌝ }
     ensures { λ r. ⌜ Fresh n (rowOf (now (cells .entry)) (x * w) mask) (bitAt (now (seen .entry))) r ⌝ }
 {
     let words = mask as u64;
@@ -113,7 +113,7 @@ fn leads_back(cells: &[u64], mask: u16, b: usize, x: usize, whole: u64) -> bool
 
 // Row z put into row x.
 fn lead_on(cells: &mut [u64], masks: &mut [u16], n: usize, w: usize, x: usize, z: usize)
-    requires { ⌜ (n ≤ 1024) × (w ≤ 16) × (n ≤ w * 64) × (n * w ≤ length (now cells)) × (n ≤ length (now masks)) × (x < n) × (z < n) ⌝ }
+    requires { ⌜ Space n w n (length (now cells)) (length (now masks)) × (x < n) × (z < n) ⌝ }
     ensures { λ _. ⌜ Merged w x (x * w) (firstRows w (now (cells .entry)) (now (masks .entry)) z)
         (now (cells .entry)) (now (masks .entry)) (now (cells .exit)) (now (masks .exit)) ⌝ }
 {
@@ -126,7 +126,7 @@ fn lead_on(cells: &mut [u64], masks: &mut [u16], n: usize, w: usize, x: usize, z
 
 // Row x closed, if the rows of the records that are closed are. A closed row that leads back to x, and that x leads to, is that of x.
 fn close_row(cells: &mut [u64], masks: &mut [u16], n: usize, w: usize, x: usize, closed: &[u64])
-    requires { ⌜ (n ≤ 1024) × (w ≤ 16) × (n ≤ w * 64) × (n * w ≤ length (now cells)) × (n ≤ length (now masks)) × (x < n) × (16 ≤ length (now closed)) ⌝ }
+    requires { ⌜ Space n w n (length (now cells)) (length (now masks)) × (x < n) × (16 ≤ length (now closed)) ⌝ }
     ensures { λ _. ⌜ RowClosed n w x (bitAt (now (closed .entry))) (now (cells .entry)) (now (masks .entry)) (now (cells .exit)) (now (masks .exit)) ⌝ }
 {
     let mut seen: [u64; 16] = [0; 16];
@@ -151,7 +151,7 @@ fn close_once(
     x: usize,
     closed: &mut [u64],
 )
-    requires { ⌜ (n ≤ 1024) × (w ≤ 16) × (n ≤ w * 64) × (n * w ≤ length (now cells)) × (n ≤ length (now masks)) × (16 ≤ length (now closed)) ⌝ }
+    requires { ⌜ Space n w n (length (now cells)) (length (now masks)) × (16 ≤ length (now closed)) ⌝ }
     ensures { λ _. ⌜ Onward n w (now (closed .entry)) (now (cells .entry)) (now (masks .entry)) (now (closed .exit)) (now (cells .exit)) (now (masks .exit))
         × (x < n → bitAt (now (closed .exit)) x ≡ 1) ⌝ }
 {
@@ -191,7 +191,7 @@ fn deeper(
     x: usize,
     marks: &mut [u64],
 ) -> usize
-    requires { ⌜ (n ≤ 1024) × (w ≤ 16) × (n ≤ w * 64) × (n * w ≤ length (now cells)) × (n ≤ length (now masks)) × (length (now marks) ≡ 32) ⌝ }
+    requires { ⌜ Space n w n (length (now cells)) (length (now masks)) × (length (now marks) ≡ 32) ⌝ }
     ensures { λ r. ⌜ (r ≤ n) × Onward n w (now (marks .entry)) (now (cells .entry))
         (now (masks .entry)) (now (marks .exit)) (now (cells .exit)) (now (masks .exit)) ⌝ }
 {
@@ -231,7 +231,7 @@ fn advance(
     stack: &mut [u16],
     depth: usize,
 ) -> usize
-    requires { ⌜ (n ≤ 1024) × (w ≤ 16) × (n ≤ w * 64) × (n * w ≤ length (now cells)) × (n ≤ length (now masks)) × (length (now marks) ≡ 32)
+    requires { ⌜ Space n w n (length (now cells)) (length (now masks)) × (length (now marks) ≡ 32)
         × (length (now stack) ≡ 2050) × (0 < depth) × (depth < 2050) ⌝ }
     ensures { λ r. ⌜ (r ≤ depth + 1) × Onward n w (now (marks .entry)) (now (cells .entry))
         (now (masks .entry)) (now (marks .exit)) (now (cells .exit)) (now (masks .exit)) ⌝ }
@@ -251,7 +251,7 @@ fn search_on(
     marks: &mut [u64],
     stack: &mut [u16],
 )
-    requires { ⌜ (n ≤ 1024) × (w ≤ 16) × (n ≤ w * 64) × (n * w ≤ length (now cells)) × (n ≤ length (now masks)) × (length (now marks) ≡ 32)
+    requires { ⌜ Space n w n (length (now cells)) (length (now masks)) × (length (now marks) ≡ 32)
         × (length (now stack) ≡ 2050) ⌝ }
     ensures { λ _. ⌜ Onward n w (now (marks .entry)) (now (cells .entry)) (now (masks .entry)) (now (marks .exit)) (now (cells .exit)) (now (masks .exit)) ⌝ }
 {
@@ -277,7 +277,7 @@ fn close_from(
     marks: &mut [u64],
     stack: &mut [u16],
 )
-    requires { ⌜ (n ≤ 1024) × (w ≤ 16) × (n ≤ w * 64) × (n * w ≤ length (now cells)) × (n ≤ length (now masks)) × (length (now marks) ≡ 32)
+    requires { ⌜ Space n w n (length (now cells)) (length (now masks)) × (length (now marks) ≡ 32)
         × (length (now stack) ≡ 2050) × (x < n) ⌝ }
     ensures { λ _. ⌜ Onward n w (now (marks .entry)) (now (cells .entry)) (now (masks .entry)) (now (marks .exit)) (now (cells .exit)) (now (masks .exit)) ⌝ }
 {
@@ -299,7 +299,7 @@ fn close_record(
     marks: &mut [u64],
     stack: &mut [u16],
 )
-    requires { ⌜ (n ≤ 1024) × (w ≤ 16) × (n ≤ w * 64) × (n * w ≤ length (now cells)) × (n ≤ length (now masks)) × (length (now marks) ≡ 32)
+    requires { ⌜ Space n w n (length (now cells)) (length (now masks)) × (length (now marks) ≡ 32)
         × (length (now stack) ≡ 2050) × (x < n) ⌝ }
     ensures { λ _. ⌜ Onward n w (now (marks .entry)) (now (cells .entry)) (now (masks .entry)) (now (marks .exit)) (now (cells .exit)) (now (masks .exit))
         × ((getD (now (masks .entry)) x 0 ≡ 0) ⊎ (bitAt (now (marks .exit)) x ≡ 1)) ⌝ }
@@ -313,7 +313,7 @@ fn close_record(
 
 // One or more steps of the first relation. Clean words stay so.
 fn close_all(cells: &mut [u64], masks: &mut [u16], n: usize, w: usize)
-    requires { ⌜ (n ≤ 1024) × (w ≤ 16) × (n ≤ w * 64) × (n * w ≤ length (now cells)) × (n ≤ length (now masks)) ⌝ }
+    requires { ⌜ Space n w n (length (now cells)) (length (now masks)) ⌝ }
     ensures { λ _. ⌜ (first n w (now (cells .exit)) (now (masks .exit)) ≡ closure n (first n w (now (cells .entry)) (now (masks .entry))))
         × (Clean n w (now (cells .entry)) (now (masks .entry)) → Clean n w (now (cells .exit)) (now (masks .exit))) ⌝ }
 {
@@ -328,7 +328,7 @@ fn close_all(cells: &mut [u64], masks: &mut [u16], n: usize, w: usize)
 
 // One or more steps of the first relation.
 pub fn close(cells: &mut [u64], masks: &mut [u16], n: usize, w: usize)
-    requires { ⌜ (n ≤ 1024) × (w ≤ 16) × (n ≤ w * 64) × (n * w ≤ length (now cells)) × (n ≤ length (now masks)) ⌝ }
+    requires { ⌜ Space n w n (length (now cells)) (length (now masks)) ⌝ }
     ensures { λ _. ⌜ first n w (now (cells .exit)) (now (masks .exit)) ≡ closure n (first n w (now (cells .entry)) (now (masks .entry))) ⌝ }
 {
     close_all(cells, masks, n, w);

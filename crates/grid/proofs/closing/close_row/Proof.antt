@@ -96,7 +96,7 @@ returns c =
     let zl : l .z < a .n = omega arith in
     let back = c .before .leads-back .ensures (c .if1 .taken) in
     row-back (a .n) (a .w) (a .x) (l .z) (bitAt (a .closed .now)) (bitAt (l .seen)) (a .cells .now) (a .masks .now) (l .cells) (l .masks) _ _
-    (start .pre .2) (start .pre .5) zl (after-lead-on .lead-on .ensures) (l .inv .3 .found zl .0) (l .inv .4)
+    (start .pre .0 .wide) (start .pre .1) zl (after-lead-on .lead-on .ensures) (l .inv .3 .found zl .0) (l .inv .4)
     (sym (after-bit .bit .ensures) ∙ back .0) (unfold firstRows in (back .1))
 
 mul-mark : tie.Need-mul-mark Inv-loop μ-loop
@@ -115,10 +115,15 @@ mark-requires : tie.Need-mark-requires Inv-loop μ-loop
 mark-requires c κs =
     let after-lead-on = c .before .before .before .before .before .before .before .before .before .before .before in
     let at-loop = after-lead-on .before .before .before .before .before in
-    let f = after after-lead-on in let l = at-loop .loop in (omega arith, omega arith, omega (arith, f .0, f .3), omega (arith, l .inv .2))
+    let p = at-loop .before .before .before .before .before .before .before .before .pre .0 in
+    let f = after after-lead-on in let l = at-loop .loop in (p .narrow, omega (arith, p .small), omega (arith, f .0, f .3, p .words), omega (arith, l .inv .2))
 
 mul-fresh-2 : tie.Need-mul-fresh-2 Inv-loop μ-loop
-mul-fresh-2 c = omega arith
+mul-fresh-2 c =
+    let earlier = c .before .before .before .before .before .before in
+    let after-lead-on = earlier .before .before .before .before .before .before .before .before in
+    let start = after-lead-on .before .before .before .before .before .before .before .before .before .before .before .before .before in
+    omega (arith, start .pre .0 .small, start .pre .1)
 
 -- record x has a mask still
 has-mask : (x n k m : ℕ) → x < n → n ≤ k → m ≡ k → x < m
@@ -130,7 +135,7 @@ slice-read-fresh-2 c =
     let after-lead-on = earlier .before .before .before .before .before .before .before .before in
     let at-loop = after-lead-on .before .before .before .before .before in
     let start = at-loop .before .before .before .before .before .before .before .before in
-    has-mask _ _ _ _ (start .pre .5) (start .pre .4) (after after-lead-on .1)
+    has-mask _ _ _ _ (start .pre .1) (start .pre .0 .marks) (after after-lead-on .1)
 
 -- what is seen then
 long : (c : tie.After-mark Inv-loop μ-loop) → length (c .mark .last .1 .1 .1 .1 .1 .0) ≡ 16
@@ -149,7 +154,7 @@ fresh-requires-2 c κs =
     let start = after-lead-on .before .before .before .before .before .before .before .before .before .before .before .before .before in
     let p = start .pre in
     let f = after after-lead-on in
-    (p .0, p .1, p .2, omega (arith, f .0, p .3), p .5, omega (arith, long after-mark), p .6)
+    (omega (arith, f .0, p .0), p .1, omega (arith, long after-mark), p .2)
 
 marked : (c : tie.After-mark Inv-loop μ-loop)
     → let after-lead-on = c .before .before .before .before .before .before .before .before .before .before .before .before in
@@ -175,7 +180,7 @@ loop-less c =
     let l = at-loop .loop in
     let zl : l .z < a .n = omega arith in
     left-less (a .n) (a .w) (a .x) (l .z) (bitAt (a .closed .now)) (bitAt (l .seen)) (a .cells .now) (a .masks .now) (l .cells) (l .masks) _ _
-    (start .pre .2) (start .pre .5) zl (after-lead-on .lead-on .ensures) (l .inv .3 .found zl .0) (l .inv .4) _ (marked after-mark) (l .inv .3 .found zl .1)
+    (start .pre .0 .wide) (start .pre .1) zl (after-lead-on .lead-on .ensures) (l .inv .3 .found zl .0) (l .inv .4) _ (marked after-mark) (l .inv .3 .found zl .1)
 
 loop-again : tie.Need-loop-again Inv-loop μ-loop
 loop-again c =
@@ -192,7 +197,7 @@ loop-again c =
       long after-mark,
       unfold firstRows in (c .fresh2 .ensures),
       searching-more (a .n) (a .w) (a .x) (l .z) (bitAt (a .closed .now)) (bitAt (l .seen)) (a .cells .now) (a .masks .now) (l .cells) (l .masks) _ _
-          (start .pre .2) (start .pre .5) zl (after-lead-on .lead-on .ensures) (l .inv .3 .found zl .0) (l .inv .4) _ (marked after-mark)
+          (start .pre .0 .wide) (start .pre .1) zl (after-lead-on .lead-on .ensures) (l .inv .3 .found zl .0) (l .inv .4) _ (marked after-mark)
           (bit-lt (a .closed .now)) (bit-lt (l .seen)),
     )
 
@@ -208,7 +213,7 @@ returns-2 c =
     let a = start .args in
     let l = c .before .loop in
     row-done (a .n) (a .w) (a .x) (l .z) _ (bitAt (l .seen)) (a .cells .now) (a .masks .now) (l .cells) (l .masks)
-    (start .pre .2) (omega arith) (l .inv .3) (l .inv .4)
+    (start .pre .0 .wide) (omega arith) (l .inv .3) (l .inv .4)
 
 pub close-row-spec : {M : Type 1} → statement M
 close-row-spec =
