@@ -42,7 +42,7 @@ returns-2 : tie.Need-returns-2
 returns-2 c =
     let a = c .before .before .before .before .before .before .before .before .before .before .before .before .before .args in
     let z = c .before .before .before .before .before .unseen .result in
-    (omega arith, onward-beyond (a .n) (a .w) (1024 + z) (a .marks .now) _ (a .cells .now) (a .masks .now) (omega arith) (c .before .before .set-bit .ensures))
+    (omega arith, onward-beyond (a .n) (a .w) (1024 + z) (a .marks .now) _ (a .cells .now) (a .masks .now) (omega arith) (omega arith) (c .before .before .set-bit .ensures))
 
 close-once-requires : tie.Need-close-once-requires
 close-once-requires c κs = search needs
