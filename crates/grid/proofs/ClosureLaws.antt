@@ -41,9 +41,8 @@ use Prim.Native.Nat.{ℕ, zero, suc, _+_, _-_, _*_, _/_, _%_, _^_, _≤_, _<_, m
 use native.Mathlib.Decide.{decLt, ℕ-discrete}
 use native.Mathlib.Omega.{arith}
 use lib.Bits.{bitAnd, bitOr}
-use lib.Dec.{eqb, ltb}
+use lib.Dec.{eqb}
 use lib.ListN.{length, getD, set}
-use borrow.Author.Tests.{lt-ltb, le-ltb}
 use Rattle.book.specs.Basics.{pick}
 use Rattle.book.specs.Causes.{maxRecords}
 use Rattle.k2.specs.Bits.{digit, bitAt, onesBelow}
@@ -475,7 +474,8 @@ put-below v c p u l = put-off p v c (emptyMarks + u) (λ q. absurd (omega arith)
 pub unmasked-none : (n w : ℕ) (ws ms : List ℕ) (u : ℕ) → u < n → getD ms u 0 ≡ 0 → (y : ℕ) → y < n → first n w ws ms u y ≡ 0
 unmasked-none n w ws ms u ul e y l = within-in n (firstRows w ws ms) u y ul l ∙ empty-row n w ws ms u e y
 
-pub half-none : (n w : ℕ) (ws ms : List ℕ) (f c : ℕ → ℕ) → n ≤ maxRecords → Filled n ms f → Started maxRecords f c → Half n (first n w ws ms) c (firstRows w ws ms)
+pub half-none : (n w : ℕ) (ws ms : List ℕ) (f c : ℕ → ℕ) → n ≤ maxRecords
+    → Filled n ms f → Started maxRecords f c → Half n (first n w ws ms) c (firstRows w ws ms)
 half-none n w ws ms f c nl F S = record {
   whole = λ u y ul l h. absurd (omega (arith, h, S .closed u (omega arith)));
   plain = λ u y ul l h. sym (within-in n (firstRows w ws ms) u y ul l);
@@ -532,7 +532,8 @@ onward-beyond n w p cs cs′ ws ms l pl e = record {
 }
 
 -- row x is closed and marked
-pub onward-row : (n w x : ℕ) (cs cs′ ws ms ws′ ms′ : List ℕ) → x < emptyMarks → bitAt cs x ≡ 0 → bitAt cs′ ≡ put x 1 (bitAt cs) → RowClosed n w x (bitAt cs) ws ms ws′ ms′
+pub onward-row : (n w x : ℕ) (cs cs′ ws ms ws′ ms′ : List ℕ) → x < emptyMarks
+    → bitAt cs x ≡ 0 → bitAt cs′ ≡ put x 1 (bitAt cs) → RowClosed n w x (bitAt cs) ws ms ws′ ms′
     → Onward n w cs ws ms cs′ ws′ ms′
 onward-row n w x cs cs′ ws ms ws′ ms′ xl z e R = record {
   half = λ a A H. subst (λ (s : ℕ → ℕ). Half n a s (firstRows w ws′ ms′)) (sym e)

@@ -1,11 +1,10 @@
 -- Laws of the marks that a closure begins with: the records whose rows are not empty, the marks of the others, and their copy. Assumes nothing.
 use mathlib.Core.Path.{_≡_, sym, ap, _∙_}
 use mathlib.Core.List.{List}
-use Prim.Native.Nat.{ℕ, _+_, _-_, _*_, _/_, _%_, _^_, _≤_, _<_}
+use Prim.Native.Nat.{ℕ, _+_, _-_, _*_, _/_, _%_, _^_, _<_}
 use native.Mathlib.Decide.{decLt, ℕ-discrete}
 use native.Mathlib.Omega.{arith}
 use lib.ListN.{length, getD, set, length-set}
-use Rattle.book.specs.Causes.{maxRecords}
 use Rattle.k2.specs.Bits.{digit, bitAt}
 use Rattle.k2.specs.DigitLaws.{digit-not}
 use Rattle.k2.specs.BitLaws.{bit-in, bit-set, bit-set-off}

@@ -51,8 +51,8 @@ fn found_or(found: usize, n: usize, left: u64, best: u64, c: usize) -> usize
     c * 64 + lowest(left)
 }
 
-// A column below n of row x, with the mask, that is not seen; n or more if there is none, where all from n on count as seen. That of a closed record, where there is one, all that it leads
-// to being then seen at once, and of those one near column x. Nothing but speed rests on that choice.
+// A column below n of row x, with the mask, that is not seen; n or more if there is none, where all from n on count as seen. That of a closed record, where
+// there is one, all that it leads to being then seen at once, and of those one near column x. Nothing but speed rests on that choice.
 fn fresh(
     cells: &[u64],
     mask: u16,

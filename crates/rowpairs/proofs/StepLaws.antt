@@ -167,9 +167,11 @@ module _ (n : ℕ) (links held : List ℕ) (y : Item) (ws part ms marks : List �
 pub lent-space : (n k w : ℕ) (ws ms : List ℕ) → w ≡ rowWidth n → Lent n (suc k) (length ws) (length ms) → k ≤ 18
     → Space n w (n + n + 1) (length (take (length ws - k * (n * w)) (drop (k * (n * w)) ws))) (length (take (length ms - k * n) (drop (k * n) ms)))
 lent-space n k w ws ms e L h =
-    subst (λ (v : ℕ). Space n v (n + n + 1) (length (take (length ws - k * (n * v)) (drop (k * (n * v)) ws))) (length (take (length ms - k * n) (drop (k * n) ms)))) (sym e)
+    subst (λ (v : ℕ). Space n v (n + n + 1) (length (take (length ws - k * (n * v)) (drop (k * (n * v)) ws)))
+    (length (take (length ms - k * n) (drop (k * n) ms)))) (sym e)
     (subst (λ (i : ℕ). Space n (rowWidth n) (n + n + 1) i (length (take (length ms - k * n) (drop (k * n) ms)))) (sym (rest-length ws (k * (n * rowWidth n))))
-    (subst (λ (i : ℕ). Space n (rowWidth n) (n + n + 1) (length ws - k * (n * rowWidth n)) i) (sym (rest-length ms (k * n))) (space n k (length ws) (length ms) L h)))
+    (subst (λ (i : ℕ). Space n (rowWidth n) (n + n + 1) (length ws - k * (n * rowWidth n)) i)
+    (sym (rest-length ms (k * n))) (space n k (length ws) (length ms) L h)))
 
 pub goes-part : (n : ℕ) (links held : List ℕ) (y : Item) (ws part ms marks : List ℕ) (m k w : ℕ)
     → w ≡ rowWidth n → m ≡ k + operands y → Lent n (suc k) (length ws) (length ms) → k ≤ 18

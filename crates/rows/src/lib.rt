@@ -3,7 +3,7 @@
 ghost use mathlib.Core.Path.{_≡_};
 ghost use mathlib.Core.Bool.{true};
 ghost use mathlib.Core.List.{_++_};
-ghost use Prim.Native.Nat.{ℕ, _≤_, _<_};
+ghost use Prim.Native.Nat.{ℕ, _/_, _≤_, _<_};
 ghost use lib.Dec.{eqb};
 ghost use lib.ListN.{length, take, drop};
 ghost use Rattle.k2.specs.Bits.{digit, bitAt};
@@ -146,20 +146,28 @@ pub fn within(rows: &[u64], n: usize) -> bool
     bits::next(rows, n * 1024, 1048576) == 1048576
 }
 
-// The squares of row i that are not empty, as bits.
-pub fn squares(rows: &[u64], i: usize) -> u32
-    requires { ⌜ (length (now rows) ≡ 16384) × (i < 1024) ⌝ }
-    ensures { λ r. ⌜ (r < 65536) × Masked (bitAt (now (rows .entry))) i r ⌝ }
+// The words of a row that are not empty, as bits.
+fn filled_words(row: &[u64]) -> u32
+    requires { ⌜ length (now row) ≡ 16 ⌝ }
+    ensures { λ r. ⌜ (r < 65536) × ((k : ℕ) → k < 1024 → digit r (k / 64) ≡ 0 → bitAt (now (row .entry)) k ≡ 0) ⌝ }
 {
     let mut mask: u32 = 0;
     let mut s = 0;
     while s < 16 {
-        if rows[i * 16 + s] != 0 {
+        if row[s] != 0 {
             mask = mask | (1 << s);
         }
         s += 1;
     }
     mask
+}
+
+// The squares of row i that are not empty, as bits.
+pub fn squares(rows: &[u64], i: usize) -> u32
+    requires { ⌜ (length (now rows) ≡ 16384) × (i < 1024) ⌝ }
+    ensures { λ r. ⌜ (r < 65536) × Masked (bitAt (now (rows .entry))) i r ⌝ }
+{
+    filled_words(&rows[i * 16..i * 16 + 16])
 }
 
 // The rows below n that are not empty, ascending, each an entry: its squares * 1024 + its number. How many there are.

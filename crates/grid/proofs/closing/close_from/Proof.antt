@@ -68,7 +68,8 @@ returns-2 c =
     let a = start .args in
     let l = start .pre .0 .small in
     onward-next
-    (onward-beyond (a .n) (a .w) (1024 + a .x) (a .marks .now) _ (a .cells .now) (a .masks .now) (omega (arith, l)) (omega (arith, l, start .pre .3)) (after-set-bit .set-bit .ensures))
+    (onward-beyond (a .n) (a .w) (1024 + a .x) (a .marks .now) _ (a .cells .now) (a .masks .now)
+    (omega (arith, l)) (omega (arith, l, start .pre .3)) (after-set-bit .set-bit .ensures))
     (after-search-on .search-on .ensures)
 
 pub close-from-spec : {M : Type 1} → statement M

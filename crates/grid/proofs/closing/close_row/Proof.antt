@@ -1,7 +1,7 @@
 -- `close_row` searches from row x. The loop's invariant: row x and the set of what is seen are a search's, the other rows are as they were (`Searching`),
--- and z is found and not seen, or all that is found is. Records with empty rows are seen from the first. The measure is the records not seen. It rests on `searching-more`, `row-done` and `row-back`.
--- Assumes nothing.
-use mathlib.Core.Path.{_≡_, refl, sym, ap, _∙_}
+-- and z is found and not seen, or all that is found is. Records with empty rows are seen from the first. The measure is the records not seen. It rests on
+-- `searching-more`, `row-done` and `row-back`. Assumes nothing.
+use mathlib.Core.Path.{_≡_, refl, sym, _∙_}
 use Prim.Native.Nat.{ℕ, _+_, _*_, _-_, _≤_, _<_, max}
 use native.Mathlib.Omega.{arith}
 use borrow.Author.Needs.{needs}
@@ -184,7 +184,8 @@ loop-less c =
     let l = at-loop .loop in
     let zl : l .z < a .n = omega arith in
     left-less (a .n) (a .w) (a .x) (l .z) (bitAt (a .marks .now)) (bitAt (l .seen)) (a .cells .now) (a .masks .now) (l .cells) (l .masks) _ _
-    (start .pre .0 .wide) (start .pre .1) zl (after-lead-on .lead-on .ensures) (l .inv .3 .found zl .0) (l .inv .4) _ (marked after-mark) (l .inv .3 .found zl .1)
+    (start .pre .0 .wide) (start .pre .1) zl (after-lead-on .lead-on .ensures)
+    (l .inv .3 .found zl .0) (l .inv .4) _ (marked after-mark) (l .inv .3 .found zl .1)
 
 loop-again : tie.Need-loop-again Inv-loop μ-loop
 loop-again c =

@@ -106,8 +106,10 @@ loop-again c =
     let at-loop = c .before .before .before .before .before .before .before in
     let a = at-loop .before .before .before .before .before .args in
     let l = at-loop .loop in
-    let L = c .above .ensures in
-    (L .hit, looked-gap (a .n) (a .w) (a .x * a .w) (a .mask) (a .cells .now) (a .seen .now) (l .c + 1) (c .above .result) _ (L .gap) (looked (c .before .before)))
+    let L = c .above .ensures in (
+      L .hit,
+      looked-gap (a .n) (a .w) (a .x * a .w) (a .mask) (a .cells .now) (a .seen .now) (l .c + 1) (c .above .result) _ (L .gap) (looked (c .before .before)),
+    )
 
 returns-2 : tie.Need-returns-2 Inv-loop μ-loop
 returns-2 c =
