@@ -1,6 +1,5 @@
 // A k2-tree loaded into rows of bits: the ones of its words counted, then its squares read level by level.
 // What reading a square means is stated in specs/Reading.antt.
-use crate::measures::height;
 ghost use mathlib.Core.Path.{_≡_};
 ghost use Prim.Native.Nat.{ℕ, _+_, _-_, _/_, _%_, _^_, _<_, _≤_};
 ghost use lib.ListN.{length};
@@ -318,7 +317,7 @@ fn load_by(tree: &[u64], n: usize, sense: usize, rows: &mut [u64])
     count(tree, &mut before);
     let root: [usize; 1] = [0; 1];
     let whole = Part { from: 0, count: 1 };
-    descend(tree, &before, height(n), &root, whole, sense, rows);
+    descend(tree, &before, k2::height(n), &root, whole, sense, rows);
 }
 
 // The same by its name.

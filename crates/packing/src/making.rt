@@ -1,7 +1,4 @@
 // Rows of bits packed into a k2-tree: the cells in the order of its last level, the levels above them, and the groups that are not empty.
-use crate::measures::full_size;
-use crate::measures::height;
-use crate::measures::tree_unit;
 ghost use mathlib.Core.Path.{_≡_};
 ghost use mathlib.Core.Bool.{true};
 ghost use Prim.Native.Nat.{ℕ, _+_, _*_, _-_, _/_, _%_, _^_, _<_, _≤_, min, max};
@@ -288,7 +285,7 @@ fn pack_part(rows: &[u64], h: usize, heap: &mut [u64]) -> usize
         → take r (now (heap .exit)) ≡ wordsOf (treeBits h a)) ⌝ }
 {
     bits::clear(heap);
-    fill(rows, block_levels(h), full_size(h - 1), heap);
+    fill(rows, block_levels(h), k2::full_size(h - 1), heap);
     lift(heap);
     compact(heap)
 }
@@ -299,7 +296,7 @@ pub fn pack(rows: &[u64], n: usize, out: &mut [u64]) -> usize
     ensures { λ r. ⌜ (r ≤ length (now (out .entry))) × ((a : Cells) → IsSet n a → bitAt (now (rows .entry)) ≡ flat a
         → (take r (now (out .exit)) ≡ treeWords n a) × (r ≤ treeUnit n)) ⌝ }
 {
-    let h = height(n);
-    let end = tree_unit(n) + 1;
+    let h = k2::height(n);
+    let end = k2::tree_unit(n) + 1;
     pack_part(rows, h, &mut out[..end])
 }

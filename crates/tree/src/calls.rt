@@ -60,7 +60,7 @@ fn refusal(n: usize, pairs: &[u32], a: &[u64], b: &[u64], room: usize) -> u32
     if !packing::well_formed(b, n) {
         return book::BAD_TREE;
     }
-    if room < 32 * packing::tree_unit(n) {
+    if room < 32 * k2::tree_unit(n) {
         return book::SHORT_WORK;
     }
     0

@@ -22,4 +22,4 @@ pub use operations::no_operand;
 pub use operations::operate;
 pub use operations::outcome_rows;
 pub use packing::Sense;
-pub use packing::tree_unit;
+pub use k2::tree_unit;

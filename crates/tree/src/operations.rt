@@ -193,7 +193,7 @@ fn room(n: usize, term: Term, work: usize, used: usize, rows: usize) -> bool
     if rows != 16384 {
         return false;
     }
-    let unit = packing::tree_unit(n);
+    let unit = k2::tree_unit(n);
     let first = term.first;
     let second = term.second;
     if unit < first.size {
