@@ -37,7 +37,7 @@
 use mathlib.Core.Path.{_≡_, refl, sym, ap, ap₂, subst, _∙_, fun-ext}
 use mathlib.Core.Logic.{_⊎_, inl, inr, ⊎-elim}
 use mathlib.Core.List.{List}
-use Prim.Native.Nat.{ℕ, zero, suc, _+_, _-_, _*_, _/_, _%_, _^_, _≤_, _<_, min, max}
+use Prim.Native.Nat.{ℕ, _+_, _-_, _*_, _/_, _%_, _^_, _≤_, _<_, min, max}
 use native.Mathlib.Decide.{decLt, ℕ-discrete}
 use native.Mathlib.Omega.{arith}
 use lib.Bits.{bitAnd, bitOr}
@@ -47,7 +47,7 @@ use Rattle.book.specs.Basics.{pick}
 use Rattle.book.specs.Causes.{maxRecords}
 use Rattle.k2.specs.Bits.{digit, bitAt, onesBelow}
 use Rattle.k2.specs.DigitLaws.{digit-lt, digit-none, digit-or, digit-and, digit-not}
-use Rattle.k2.specs.BitLaws.{bit-lt, bit-in, bit-set, bit-set-off}
+use Rattle.k2.specs.BitLaws.{bit-lt, bit-in, bit-set, bit-set-off, ones-less}
 use Rattle.k2.specs.PairSets.{Cells, IsSet, OneOrMore, once, more, closure}
 use Rattle.k2.specs.PairSetLaws.{leads-on, closure-leads, leads-closure, closure-set}
 use Rattle.bits.specs.BitSets.{Gap, put}
@@ -322,24 +322,6 @@ back-done n a A x z there home r y rb sound {q} e = go (ℕ-discrete (closure n 
         let z0 : closure n a z y ≡ 0 = omega (arith, k, cb z) in
         let x0 : closure n a x y ≡ 0 = omega (arith, h, cb x) in
         ap₂ max r0 (e ∙ z0) ∙ sym x0
-
--- fewer ones
-ones-most : (g f : ℕ → ℕ) (n : ℕ) → ((y : ℕ) → y < n → g y ≤ f y) → onesBelow g n ≤ onesBelow f n
-unfolding onesBelow
-ones-most g f zero h = omega arith
-ones-most g f (suc n) h = omega (arith, ones-most g f n (λ y l. h y (omega arith)), h n (omega arith))
-
-ones-less : (g f : ℕ → ℕ) (n z : ℕ) → z < n → ((y : ℕ) → y < n → g y ≤ f y) → g z < f z → onesBelow g n < onesBelow f n
-unfolding onesBelow
-ones-less g f zero z l h s = absurd (omega arith)
-ones-less g f (suc n) z l h s = go (decLt z n) (λ k. ones-less g f n z k (λ y d. h y (omega arith)) s)
-  where
-    go : Dec (z < n) → (z < n → onesBelow g n < onesBelow f n) → onesBelow g n + g n < onesBelow f n + f n
-    go (yes k) i = omega (arith, i k, h n (omega arith))
-    go (no k) i =
-        let e : z ≡ n = omega arith in
-        let q : g n < f n = rw (← e) s in
-        omega (arith, ones-most g f n (λ y d. h y (omega arith)), q)
 
 -- a mark put leaves the marks that stand
 pub put-keeps : (c : ℕ → ℕ) (x u : ℕ) → c u ≡ 1 → put x 1 c u ≡ 1
