@@ -14,6 +14,7 @@ ghost use lib.Dec.{eqb};
 ghost use lib.ListN.{length, getD};
 ghost use Rattle.book.specs.Basics.{pick};
 ghost use Rattle.book.specs.Causes.{maxRecords};
+ghost use Rattle.k2.specs.Sizes.{rowsWords};
 ghost use Rattle.k2.specs.Bits.{digit, bitAt};
 ghost use Rattle.k2.specs.PairSets.{Cells, IsSet, closure};
 ghost use Rattle.bits.specs.BitSets.{put};
@@ -388,7 +389,7 @@ pub fn close(cells: &mut [u64], masks: &mut [u16], n: usize, w: usize)
 
 // The masks of rows of 1,024 bits.
 fn mask_rows(rows: &[u64], n: usize, masks: &mut [u16])
-    requires { ⌜ (n ≤ 1024) × (length (now rows) ≡ 16384) × (n ≤ length (now masks)) ⌝ }
+    requires { ⌜ (n ≤ 1024) × (length (now rows) ≡ rowsWords) × (n ≤ length (now masks)) ⌝ }
     ensures { λ _. ⌜ ((x : ℕ) → x < n → Masked (bitAt (now (rows .entry))) x (getD (now (masks .exit)) x 0)) ⌝ }
 {
     let mut row = 0;
@@ -400,7 +401,7 @@ fn mask_rows(rows: &[u64], n: usize, masks: &mut [u16])
 
 // One or more steps of rows of 1,024 bits, in place.
 pub fn close_rows(rows: &mut [u64], n: usize)
-    requires { ⌜ (n ≤ 1024) × (length (now rows) ≡ 16384) ⌝ }
+    requires { ⌜ (n ≤ 1024) × (length (now rows) ≡ rowsWords) ⌝ }
     ensures { λ _. ⌜ ((x : Cells) → IsSet n x → bitAt (now (rows .entry)) ≡ flat x → bitAt (now (rows .exit)) ≡ flat (closure n x)) ⌝ }
 {
     let mut masks: [u16; 1024] = [0; 1024];

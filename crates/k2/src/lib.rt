@@ -3,8 +3,12 @@
 ghost use mathlib.Core.Path.{_≡_};
 ghost use Prim.Native.Nat.{_^_, _≤_};
 ghost use Rattle.book.specs.Causes.{maxRecords};
+ghost use Rattle.k2.specs.Sizes.{mostTreeWords, mostTreeBits};
 ghost use Rattle.k2.specs.Trees.{height, treeUnit};
 ghost use Rattle.k2.specs.Heap.{fullSize};
+
+// The words of 1,024 rows of 1,024 bits.
+pub const ROWS_WORDS: usize = 16384;
 
 // The height of the trees for n records: the side is 2 ^ height.
 pub fn height(n: usize) -> usize
@@ -23,7 +27,7 @@ pub fn height(n: usize) -> usize
 // The bits of a full tree of h levels.
 pub fn full_size(h: usize) -> usize
     requires { ⌜ h ≤ 10 ⌝ }
-    ensures { λ r. ⌜ (r ≡ fullSize h 1) × (r ≤ 1398100) ⌝ }
+    ensures { λ r. ⌜ (r ≡ fullSize h 1) × (r ≤ mostTreeBits) ⌝ }
 {
     let mut s = 0;
     let mut k = 1;
@@ -39,7 +43,7 @@ pub fn full_size(h: usize) -> usize
 // D: the words of a full tree.
 pub fn tree_unit(n: usize) -> usize
     requires { ⌜ n ≤ maxRecords ⌝ }
-    ensures { λ r. ⌜ (r ≡ treeUnit n) × (1 ≤ r) × (r ≤ 21846) ⌝ }
+    ensures { λ r. ⌜ (r ≡ treeUnit n) × (1 ≤ r) × (r ≤ mostTreeWords) ⌝ }
 {
     (full_size(height(n)) + 63) / 64
 }

@@ -38,7 +38,7 @@ pub fn well_formed(tree: &[u64], n: usize) -> bool
     if k2::tree_unit(n) < tree.len() {
         return false;
     }
-    let mut rows: [u64; 16384] = [0; 16384];
+    let mut rows: [u64; k2::ROWS_WORDS] = [0; k2::ROWS_WORDS];
     load(tree, n, Sense::Plain, &mut rows);
     if !rows::within(&rows, n) {
         return false;
