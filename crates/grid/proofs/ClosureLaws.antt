@@ -4,7 +4,7 @@
 --                         a row merged into another, as rows of the relation: this one, every other, and into itself
 --   clean-merged, clean-past
 --                         clean words after that, if no column from n on is merged in; they hold none
---   LookedTo n p f g r    r is a column that is not seen, or those below p are
+--   LookedTo n w p f g r  r is a column that is not seen, or those below p are, where all from n on are
 --   lacks, looked-gap, fresh-found, looked-word
 --                         the bits that a set lacks; words that are not in the mask; a column found in a word; a word looked at
 --   Adding w b m c ws vs vs′
@@ -21,12 +21,13 @@
 --   searching-none, searching-more, left-less
 --                         before the first; a record more; one less is left
 --   row-done, row-back    the row is closed: all that is found is seen, or a whole row leads back
---   half-none             none of the rows is closed yet
+--   unmasked-none, half-none
+--                         a row with no mask has no pair; none of the rows is closed yet
 --   onward-same, onward-next, onward-beyond, onward-row
 --                         on from marks to marks: not at all, one after another, by a mark beyond the records, by a row closed
 --   Settled n a c u       record u is closed, or has no pair
---   settled-empty, settled-next
---                         a row with no mask; the first x + 1 records
+--   settled-gap, settled-next
+--                         records that are not filled; the first x + 1 records
 --   half-all              all records: the relation is the closure
 --   clean-flat            clean words of 1,024 bits a row are the rows of the relation
 --   masked-set, masked-clean
@@ -36,17 +37,17 @@
 use mathlib.Core.Path.{_≡_, refl, sym, ap, ap₂, subst, _∙_, fun-ext}
 use mathlib.Core.Logic.{_⊎_, inl, inr, ⊎-elim}
 use mathlib.Core.List.{List}
-use Prim.Native.Nat.{ℕ, zero, suc, _+_, _-_, _*_, _/_, _%_, _^_, _≤_, _<_, min, max}
+use Prim.Native.Nat.{ℕ, _+_, _-_, _*_, _/_, _%_, _^_, _≤_, _<_, min, max}
 use native.Mathlib.Decide.{decLt, ℕ-discrete}
 use native.Mathlib.Omega.{arith}
 use lib.Bits.{bitAnd, bitOr}
-use lib.Dec.{eqb, ltb}
+use lib.Dec.{eqb}
 use lib.ListN.{length, getD, set}
-use borrow.Author.Tests.{lt-ltb, le-ltb}
 use Rattle.book.specs.Basics.{pick}
+use Rattle.book.specs.Causes.{maxRecords}
 use Rattle.k2.specs.Bits.{digit, bitAt, onesBelow}
 use Rattle.k2.specs.DigitLaws.{digit-lt, digit-none, digit-or, digit-and, digit-not}
-use Rattle.k2.specs.BitLaws.{bit-lt, bit-in, bit-set, bit-set-off}
+use Rattle.k2.specs.BitLaws.{bit-lt, bit-in, bit-set, bit-set-off, ones-less}
 use Rattle.k2.specs.PairSets.{Cells, IsSet, OneOrMore, once, more, closure}
 use Rattle.k2.specs.PairSetLaws.{leads-on, closure-leads, leads-closure, closure-set}
 use Rattle.bits.specs.BitSets.{Gap, put}
@@ -56,7 +57,7 @@ use Rattle.rows.specs.RowLaws.{flat-at}
 use Rattle.rows.specs.Steps.{Masked}
 use Rattle.grid.specs.Grid.{rowOf, firstRows, first}
 use Rattle.grid.specs.GridLaws.{row-bit, within-in, within-row, within-column, within-same, within-set}
-use Rattle.grid.specs.Steps.{held, Clean, Merged, Fresh, Half, RowClosed, Onward}
+use Rattle.grid.specs.Steps.{held, Clean, Merged, Past, Fresh, emptyMarks, Filled, Started, Half, RowClosed, Onward}
 use Rattle.grid.proofs.RowLaws.{row-same, row-empty, row-in, row-held, held-none}
 use Rattle.grid.proofs.RelationLaws.{rows-apart}
 
@@ -140,9 +141,9 @@ clean-past n w ws ms C z y h l = held-none ws (z * w) (getD ms z 0) y (C z y l �
 
 -- ---- a column that is not seen
 -- r is one, if it is below n; else the columns below p are seen
-pub record LookedTo (n p : ℕ) (f g : ℕ → ℕ) (r : ℕ) : Type 0 where
+pub record LookedTo (n w p : ℕ) (f g : ℕ → ℕ) (r : ℕ) : Type 0 where
   pub found : r < n → (f r ≡ 1) × (g r ≡ 0)
-  pub all : n ≤ r → (y : ℕ) → y < n → y < p → f y ≡ 1 → g y ≡ 1
+  pub all : Past n w g → n ≤ r → (y : ℕ) → y < n → y < p → f y ≡ 1 → g y ≡ 1
 
 -- the bits of a word that a set lacks
 pub lacks : (ws vs : List ℕ) (b c : ℕ) → getD vs c 0 < 2 ^ 64 → (j : ℕ) → j < 64
@@ -151,56 +152,48 @@ lacks ws vs b c f j h =
     digit-and (getD ws (b + c) 0) ((2 ^ 64 - 1) - getD vs c 0) j
     ∙ ap (min (digit (getD ws (b + c) 0) j)) (digit-not 64 j (getD vs c 0) f h ∙ ap (λ (k : ℕ). 1 - k) (sym (bit-in vs c j h)))
 
-module _ (n b m : ℕ) (ws vs : List ℕ) where
+module _ (n w b m : ℕ) (ws vs : List ℕ) where
   abbrev Looked : (p r : ℕ) → Type 0
-  Looked p r = LookedTo n p (rowOf ws b m) (bitAt vs) r
+  Looked p r = LookedTo n w p (rowOf ws b m) (bitAt vs) r
 
   -- words that are not in the mask
   pub looked-gap : (c k r : ℕ) → Gap (digit m) c k → Looked (c * 64) r → Looked (k * 64) r
-  looked-gap c k r g L = record { found = L .found; all = λ o y l h e. go o y l h e (decLt y (c * 64)) }
+  looked-gap c k r g L = record { found = L .found; all = λ p o y l h e. go p o y l h e (decLt y (c * 64)) }
     where
-      go : n ≤ r → (y : ℕ) → y < n → y < k * 64 → rowOf ws b m y ≡ 1 → Dec (y < c * 64) → bitAt vs y ≡ 1
-      go o y l h e (yes d) = L .all o y l d e
-      go o y l h e (no d) = absurd (omega (arith, e, row-empty ws b m y (g (y / 64) (omega arith) (omega arith))))
+      go : Past n w (bitAt vs) → n ≤ r → (y : ℕ) → y < n → y < k * 64 → rowOf ws b m y ≡ 1 → Dec (y < c * 64) → bitAt vs y ≡ 1
+      go p o y l h e (yes d) = L .all p o y l d e
+      go p o y l h e (no d) = absurd (omega (arith, e, row-empty ws b m y (g (y / 64) (omega arith) (omega arith))))
 
-  module _ (c word left : ℕ) (d : digit m c ≡ 1) (lack : (j : ℕ) → j < 64 → digit word j ≡ min (digit (getD ws (b + c) 0) j) (1 - bitAt vs (c * 64 + j)))
-      (cut : (j : ℕ) → j < 64 → digit left j ≡ pick (ltb (c * 64 + j) n) (digit word j) 0) where
+  module _ (c left : ℕ) (cl : c < w) (d : digit m c ≡ 1)
+      (lack : (j : ℕ) → j < 64 → digit left j ≡ min (digit (getD ws (b + c) 0) j) (1 - bitAt vs (c * 64 + j))) where
     -- what is left of word c, in terms of the row and the set
-    left-is : (y : ℕ) → y / 64 ≡ c → y < n → digit left (y % 64) ≡ min (rowOf ws b m y) (1 - bitAt vs y)
-    left-is y q l =
+    left-is : (y : ℕ) → y / 64 ≡ c → digit left (y % 64) ≡ min (rowOf ws b m y) (1 - bitAt vs y)
+    left-is y q =
         let e : c * 64 + y % 64 ≡ y = omega arith in
-        let p : pick (ltb (c * 64 + y % 64) n) (digit word (y % 64)) 0 ≡ digit word (y % 64) = rw (e, lt-ltb y n l) refl in
-        cut (y % 64) (omega arith) ∙ p ∙ lack (y % 64) (omega arith)
-        ∙ ap₂ (λ (p q : ℕ). min p (1 - q)) (sym (row-in ws b m c y q d)) (ap (bitAt vs) e)
+        lack (y % 64) (omega arith) ∙ ap₂ (λ (p q : ℕ). min p (1 - q)) (sym (row-in ws b m c y q d)) (ap (bitAt vs) e)
 
-    pub fresh-found : (k : ℕ) → k < 64 → digit left k ≡ 1 → Fresh n (rowOf ws b m) (bitAt vs) (c * 64 + k)
-    fresh-found k h e = go (decLt (c * 64 + k) n)
-      where
-        go : Dec (c * 64 + k < n) → Fresh n (rowOf ws b m) (bitAt vs) (c * 64 + k)
-        go (yes l) =
-            let q : (c * 64 + k) / 64 ≡ c = omega arith in
-            let r : (c * 64 + k) % 64 ≡ k = omega arith in
-            let z : digit left k ≡ min (rowOf ws b m (c * 64 + k)) (1 - bitAt vs (c * 64 + k)) = rw r at (left-is (c * 64 + k) q l) in
-            record {
-              found = λ i. (omega (arith, z, row-bit ws b m (c * 64 + k)), omega (arith, z));
-              all = λ i. absurd (omega arith);
-            }
-        go (no l) =
-            let z : pick (ltb (c * 64 + k) n) (digit word k) 0 ≡ 0 = rw (le-ltb (c * 64 + k) n (omega arith)) refl in
-            absurd (omega (arith, e, cut k h ∙ z))
+    pub fresh-found : (k : ℕ) → k < 64 → digit left k ≡ 1 → Fresh n w (rowOf ws b m) (bitAt vs) (c * 64 + k)
+    fresh-found k h e =
+        let q : (c * 64 + k) / 64 ≡ c = omega arith in
+        let r : (c * 64 + k) % 64 ≡ k = omega arith in
+        let z : digit left k ≡ min (rowOf ws b m (c * 64 + k)) (1 - bitAt vs (c * 64 + k)) = rw r at (left-is (c * 64 + k) q) in
+        record {
+          found = λ i. (omega (arith, e, z, row-bit ws b m (c * 64 + k)), omega (arith, e, z));
+          all = λ p o. absurd (omega (arith, e, z, p (c * 64 + k) o (omega arith)));
+        }
 
     pub looked-word : (f r : ℕ) → ((r ≡ f) × ((f < n) ⊎ (left ≡ 0))) ⊎ ((k : ℕ) × (k < 64) × (digit left k ≡ 1) × (r ≡ c * 64 + k))
         → Looked (c * 64) f → Looked ((c + 1) * 64) r
-    looked-word f r (inl (e, inl l)) L = rw e (record { found = L .found; all = λ o. absurd (omega arith) })
-    looked-word f r (inl (q, inr z)) L = rw q (record { found = L .found; all = λ o y l h e. go o y l h e (decLt y (c * 64)) })
+    looked-word f r (inl (e, inl l)) L = rw e (record { found = L .found; all = λ p o. absurd (omega arith) })
+    looked-word f r (inl (q, inr z)) L = rw q (record { found = L .found; all = λ p o y l h e. go p o y l h e (decLt y (c * 64)) })
       where
-        go : n ≤ f → (y : ℕ) → y < n → y < (c + 1) * 64 → rowOf ws b m y ≡ 1 → Dec (y < c * 64) → bitAt vs y ≡ 1
-        go o y l h e (yes k) = L .all o y l k e
-        go o y l h e (no k) =
+        go : Past n w (bitAt vs) → n ≤ f → (y : ℕ) → y < n → y < (c + 1) * 64 → rowOf ws b m y ≡ 1 → Dec (y < c * 64) → bitAt vs y ≡ 1
+        go p o y l h e (yes k) = L .all p o y l k e
+        go p o y l h e (no k) =
             let i : y / 64 ≡ c = omega arith in
             let t : digit left (y % 64) ≡ 0 = ap (λ (v : ℕ). digit v (y % 64)) z ∙ digit-none (y % 64) in
-            omega (arith, left-is y i l, t, e, bit-lt vs y)
-    looked-word f r (inr (k, l, d, e)) L = rw e (let F = fresh-found k l d in record { found = F .found; all = λ o y l h e. F .all o y l e })
+            omega (arith, left-is y i, t, e, bit-lt vs y)
+    looked-word f r (inr (k, l, d, e)) L = rw e (let F = fresh-found k l d in record { found = F .found; all = λ p o y l h e. F .all p o y l e })
 
 -- ---- a row added to a set, word by word
 -- the columns before word c are added
@@ -330,38 +323,31 @@ back-done n a A x z there home r y rb sound {q} e = go (ℕ-discrete (closure n 
         let x0 : closure n a x y ≡ 0 = omega (arith, h, cb x) in
         ap₂ max r0 (e ∙ z0) ∙ sym x0
 
--- fewer ones
-ones-most : (g f : ℕ → ℕ) (n : ℕ) → ((y : ℕ) → y < n → g y ≤ f y) → onesBelow g n ≤ onesBelow f n
-unfolding onesBelow
-ones-most g f zero h = omega arith
-ones-most g f (suc n) h = omega (arith, ones-most g f n (λ y l. h y (omega arith)), h n (omega arith))
-
-ones-less : (g f : ℕ → ℕ) (n z : ℕ) → z < n → ((y : ℕ) → y < n → g y ≤ f y) → g z < f z → onesBelow g n < onesBelow f n
-unfolding onesBelow
-ones-less g f zero z l h s = absurd (omega arith)
-ones-less g f (suc n) z l h s = go (decLt z n) (λ k. ones-less g f n z k (λ y d. h y (omega arith)) s)
+-- a mark put leaves the marks that stand
+pub put-keeps : (c : ℕ → ℕ) (x u : ℕ) → c u ≡ 1 → put x 1 c u ≡ 1
+put-keeps c x u e = go (ℕ-discrete u x)
   where
-    go : Dec (z < n) → (z < n → onesBelow g n < onesBelow f n) → onesBelow g n + g n < onesBelow f n + f n
-    go (yes k) i = omega (arith, i k, h n (omega arith))
-    go (no k) i =
-        let e : z ≡ n = omega arith in
-        let q : g n < f n = rw (← e) s in
-        omega (arith, ones-most g f n (λ y d. h y (omega arith)), q)
+    go : Dec (u ≡ x) → put x 1 c u ≡ 1
+    go (yes d) = ap (put x 1 c) d ∙ put-at x 1 c
+    go (no d) = put-off x 1 c u d ∙ e
 
 -- ---- the rows, while row x is searched
 pub record Searching (n w x : ℕ) (c v : ℕ → ℕ) (ws ms ws′ ms′ : List ℕ) : Type 0 where
   pub others : (u y : ℕ) → u < n → y < w * 64 → (u ≡ x → ⊥) → firstRows w ws′ ms′ u y ≡ firstRows w ws ms u y
   pub search : (a : Cells) → IsSet n a → Half n a c (firstRows w ws ms) → c x ≡ 0 → Search n a x (firstRows w ws′ ms′ x) v
+  pub past : ((u : ℕ) → n ≤ u → u < maxRecords → c (emptyMarks + u) ≡ 1) → Past n w v
   pub clean : Clean n w ws ms → Clean n w ws′ ms′
 
-pub searching-none : (n w x : ℕ) (c v : ℕ → ℕ) (ws ms : List ℕ) → x < n → ((u : ℕ) → v u ≡ 0) → Searching n w x c v ws ms ws ms
-searching-none n w x c v ws ms xl e = record {
+pub searching-none : (n w x : ℕ) (c v : ℕ → ℕ) (ws ms : List ℕ) → n ≤ maxRecords → w ≤ 16 → x < n
+    → ((u : ℕ) → u < maxRecords → v u ≡ c (emptyMarks + u)) → Searching n w x c v ws ms ws ms
+searching-none n w x c v ws ms nl wl xl e = record {
   others = λ u y ul l h. refl;
   search = λ a A H z. record {
     sound = λ y l h. once (sym (H .plain x y xl l z) ∙ h);
     start = λ y l h. H .plain x y xl l z ∙ h;
-    step = λ u y ul l h f. absurd (omega (arith, h, e u));
+    step = λ u y ul l h f. absurd (omega (arith, f, H .empty u y ul l (sym (e u (omega arith)) ∙ h)));
   };
+  past = λ P y h l. e y (omega arith) ∙ P y h (omega arith);
   clean = λ C. C;
 }
 
@@ -412,10 +398,11 @@ module _ (n w x z : ℕ) (c v : ℕ → ℕ) (ws ms ws′ ms′ ws″ ms″ : Li
             inl (either (v y) (firstRows w ws′ ms′ z y) (vb y) (first-bit w ws′ ms′ z y)
             (omega (arith, sym (seen y (omega arith)) ∙ h, put-off z 1 v y d, pk)))
 
-    pub searching-more : ((y : ℕ) → c y < 2) → ((y : ℕ) → v y < 2) → Searching n w x c v′ ws ms ws″ ms″
-    searching-more cb vb = record {
+    pub searching-more : ((y : ℕ) → c y < 2) → ((y : ℕ) → v y < 2) → ((y : ℕ) → v′ y < 2) → Searching n w x c v′ ws ms ws″ ms″
+    searching-more cb vb nb = record {
       others = led-others;
       search = λ a A H cx. go a A H cx (T .search a A H cx) (ℕ-discrete z x) (ℕ-discrete (c z) 1);
+      past = λ P y h l. omega (arith, seen y l, put-keeps v z y (T .past P y h l), nb y);
       clean = led-clean;
     }
       where
@@ -452,26 +439,39 @@ module _ (n w x z : ℕ) (c v : ℕ → ℕ) (ws ms ws′ ms′ ws″ ms″ : Li
             go (no d) = rw (put-off z 1 v y d) (omega arith)
 
 -- all that is found is seen
-pub row-done : (n w x z : ℕ) (c v : ℕ → ℕ) (ws ms ws′ ms′ : List ℕ) → n ≤ w * 64 → n ≤ z → Fresh n (firstRows w ws′ ms′ x) v z
+pub row-done : (n w x z : ℕ) (c v : ℕ → ℕ) (ws ms ws′ ms′ : List ℕ) → n ≤ w * 64 → n ≤ z → Fresh n w (firstRows w ws′ ms′ x) v z
     → Searching n w x c v ws ms ws′ ms′ → RowClosed n w x c ws ms ws′ ms′
 row-done n w x z c v ws ms ws′ ms′ nl h F T = record {
   others = λ u y ul l d. T .others u y ul (omega arith) d;
-  row = λ a A H cx y l. search-done n a A x (firstRows w ws′ ms′ x) v (first-bit w ws′ ms′ x) (T .search a A H cx) (F .all h) y l;
+  row = λ a A H cx y l. search-done n a A x (firstRows w ws′ ms′ x) v (first-bit w ws′ ms′ x) (T .search a A H cx) (F .all (T .past (H .past)) h) y l;
   clean = T .clean;
 }
 
 -- ---- the rows closed one after another
-pub half-none : (n w : ℕ) (ws ms : List ℕ) (c : ℕ → ℕ) → ((u : ℕ) → c u ≡ 0) → Half n (first n w ws ms) c (firstRows w ws ms)
-half-none n w ws ms c z = record {
-  whole = λ u y ul l h. absurd (omega (arith, z u));
+-- a mark put below those of empty rows
+put-below : (v : ℕ) (c : ℕ → ℕ) (p u : ℕ) → p < emptyMarks → put p v c (emptyMarks + u) ≡ c (emptyMarks + u)
+put-below v c p u l = put-off p v c (emptyMarks + u) (λ q. absurd (omega arith))
+
+-- a row with no mask has no pair
+pub unmasked-none : (n w : ℕ) (ws ms : List ℕ) (u : ℕ) → u < n → getD ms u 0 ≡ 0 → (y : ℕ) → y < n → first n w ws ms u y ≡ 0
+unmasked-none n w ws ms u ul e y l = within-in n (firstRows w ws ms) u y ul l ∙ empty-row n w ws ms u e y
+
+pub half-none : (n w : ℕ) (ws ms : List ℕ) (f c : ℕ → ℕ) → n ≤ maxRecords
+    → Filled n ms f → Started maxRecords f c → Half n (first n w ws ms) c (firstRows w ws ms)
+half-none n w ws ms f c nl F S = record {
+  whole = λ u y ul l h. absurd (omega (arith, h, S .closed u (omega arith)));
   plain = λ u y ul l h. sym (within-in n (firstRows w ws ms) u y ul l);
+  empty = λ u y ul l h. unmasked-none n w ws ms u ul (F .all u ul (omega (arith, h, S .empty u (omega arith)))) y l;
+  past = λ u h l. S .empty u l ∙ ap (λ (k : ℕ). 1 - k) (F .past u h);
 }
 
-half-more : (n : ℕ) (a : Cells) (c : ℕ → ℕ) (x : ℕ) (f g : Cells) → ((u y : ℕ) → u < n → y < n → (u ≡ x → ⊥) → g u y ≡ f u y)
+half-more : (n : ℕ) (a : Cells) (c : ℕ → ℕ) (x : ℕ) (f g : Cells) → x < emptyMarks → ((u y : ℕ) → u < n → y < n → (u ≡ x → ⊥) → g u y ≡ f u y)
     → ((y : ℕ) → y < n → g x y ≡ closure n a x y) → Half n a c f → Half n a (put x 1 c) g
-half-more n a c x f g others row H = record {
+half-more n a c x f g xl others row H = record {
   whole = λ u y ul l h. whole u y ul l h (ℕ-discrete u x);
   plain = λ u y ul l h. plain u y ul l h (ℕ-discrete u x);
+  empty = λ u y ul l h. H .empty u y ul l (sym (put-below 1 c x u xl) ∙ h);
+  past = λ u h l. put-below 1 c x u xl ∙ H .past u h l;
 }
   where
     whole : (u y : ℕ) → u < n → y < n → put x 1 c u ≡ 1 → Dec (u ≡ x) → g u y ≡ closure n a u y
@@ -483,21 +483,19 @@ half-more n a c x f g others row H = record {
     plain u y ul l h (no e) = others u y ul l e ∙ H .plain u y ul l (sym (put-off x 1 c u e) ∙ h)
 
 -- a mark beyond the records
-half-beyond : (n : ℕ) (a : Cells) (c d : ℕ → ℕ) (p : ℕ) (f : Cells) → n ≤ p → d ≡ put p 1 c → Half n a c f → Half n a d f
-half-beyond n a c d p f l e H = record {
+half-beyond : (n : ℕ) (a : Cells) (c d : ℕ → ℕ) (p : ℕ) (f : Cells) → n ≤ p → p < emptyMarks → d ≡ put p 1 c → Half n a c f → Half n a d f
+half-beyond n a c d p f l pl e H = record {
   whole = λ u y ul yl h. H .whole u y ul yl (sym (same u ul) ∙ h);
   plain = λ u y ul yl h. H .plain u y ul yl (sym (same u ul) ∙ h);
+  empty = λ u y ul yl h. H .empty u y ul yl (sym (kept u) ∙ h);
+  past = λ u h ul. kept u ∙ H .past u h ul;
 }
   where
     same : (u : ℕ) → u < n → d u ≡ c u
     same u ul = ap (λ (g : ℕ → ℕ). g u) e ∙ put-off p 1 c u (λ q. absurd (omega arith))
 
-put-keeps : (c : ℕ → ℕ) (x u : ℕ) → c u ≡ 1 → put x 1 c u ≡ 1
-put-keeps c x u e = go (ℕ-discrete u x)
-  where
-    go : Dec (u ≡ x) → put x 1 c u ≡ 1
-    go (yes d) = ap (put x 1 c) d ∙ put-at x 1 c
-    go (no d) = put-off x 1 c u d ∙ e
+    kept : (u : ℕ) → d (emptyMarks + u) ≡ c (emptyMarks + u)
+    kept u = ap (λ (g : ℕ → ℕ). g (emptyMarks + u)) e ∙ put-below 1 c p u pl
 
 -- ---- on from marks to marks
 pub onward-same : (n w : ℕ) (cs ws ms : List ℕ) → Onward n w cs ws ms cs ws ms
@@ -508,19 +506,20 @@ pub onward-next : {n w : ℕ} {cs ws ms cs′ ws′ ms′ cs″ ws″ ms″ : Li
 onward-next O P = record { half = λ a A H. P .half a A (O .half a A H); marks = λ u h. P .marks u (O .marks u h); clean = λ C. P .clean (O .clean C) }
 
 -- a mark beyond the records
-pub onward-beyond : (n w p : ℕ) (cs cs′ ws ms : List ℕ) → n ≤ p → bitAt cs′ ≡ put p 1 (bitAt cs) → Onward n w cs ws ms cs′ ws ms
-onward-beyond n w p cs cs′ ws ms l e = record {
-  half = λ a A H. half-beyond n a (bitAt cs) (bitAt cs′) p (firstRows w ws ms) l e H;
+pub onward-beyond : (n w p : ℕ) (cs cs′ ws ms : List ℕ) → n ≤ p → p < emptyMarks → bitAt cs′ ≡ put p 1 (bitAt cs) → Onward n w cs ws ms cs′ ws ms
+onward-beyond n w p cs cs′ ws ms l pl e = record {
+  half = λ a A H. half-beyond n a (bitAt cs) (bitAt cs′) p (firstRows w ws ms) l pl e H;
   marks = λ u h. ap (λ (f : ℕ → ℕ). f u) e ∙ put-keeps (bitAt cs) p u h;
   clean = λ C. C;
 }
 
 -- row x is closed and marked
-pub onward-row : (n w x : ℕ) (cs cs′ ws ms ws′ ms′ : List ℕ) → bitAt cs x ≡ 0 → bitAt cs′ ≡ put x 1 (bitAt cs) → RowClosed n w x (bitAt cs) ws ms ws′ ms′
+pub onward-row : (n w x : ℕ) (cs cs′ ws ms ws′ ms′ : List ℕ) → x < emptyMarks
+    → bitAt cs x ≡ 0 → bitAt cs′ ≡ put x 1 (bitAt cs) → RowClosed n w x (bitAt cs) ws ms ws′ ms′
     → Onward n w cs ws ms cs′ ws′ ms′
-onward-row n w x cs cs′ ws ms ws′ ms′ z e R = record {
+onward-row n w x cs cs′ ws ms ws′ ms′ xl z e R = record {
   half = λ a A H. subst (λ (s : ℕ → ℕ). Half n a s (firstRows w ws′ ms′)) (sym e)
-      (half-more n a (bitAt cs) x (firstRows w ws ms) (firstRows w ws′ ms′) (R .others) (R .row a A H z) H);
+      (half-more n a (bitAt cs) x (firstRows w ws ms) (firstRows w ws′ ms′) xl (R .others) (R .row a A H z) H);
   marks = λ u h. ap (λ (f : ℕ → ℕ). f u) e ∙ put-keeps (bitAt cs) x u h;
   clean = R .clean;
 }
@@ -546,24 +545,22 @@ empty-closed n a A u z y l = go (ℕ-discrete (closure n a u y) 1)
 abbrev pub Settled : ℕ → Cells → (ℕ → ℕ) → ℕ → Type 0
 Settled n a c u = (c u ≡ 1) ⊎ ((y : ℕ) → y < n → a u y ≡ 0)
 
-pub settled-empty : (n w : ℕ) (a : Cells) (cs ws ms : List ℕ) (u : ℕ) → u < n → Half n a (bitAt cs) (firstRows w ws ms) → getD ms u 0 ≡ 0
-    → Settled n a (bitAt cs) u
-settled-empty n w a cs ws ms u ul H e = go (ℕ-discrete (bitAt cs u) 1)
+-- records that are not filled
+pub settled-gap : (n w : ℕ) (c f : ℕ → ℕ) (ws ms : List ℕ) (lo p : ℕ) → p ≤ n → Filled n ms f → Gap f lo p
+    → ((u : ℕ) → u < lo → Settled n (first n w ws ms) c u) → (u : ℕ) → u < p → Settled n (first n w ws ms) c u
+settled-gap n w c f ws ms lo p pl F g all u l = go (decLt u lo)
   where
-    go : Dec (bitAt cs u ≡ 1) → Settled n a (bitAt cs) u
-    go (yes h) = inl h
-    go (no h) = inr (λ y l. sym (H .plain u y ul l (omega (arith, h, bit-lt cs u))) ∙ empty-row n w ws ms u e y)
+    go : Dec (u < lo) → Settled n (first n w ws ms) c u
+    go (yes h) = all u h
+    go (no h) = inr (λ y yl. unmasked-none n w ws ms u (omega arith) (F .all u (omega arith) (g u (omega arith) l)) y yl)
 
 pub settled-next : (n : ℕ) (a : Cells) (c d : ℕ → ℕ) (x : ℕ) → ((u : ℕ) → u < x → Settled n a c u) → ((u : ℕ) → c u ≡ 1 → d u ≡ 1)
-    → Settled n a c x ⊎ (d x ≡ 1) → (u : ℕ) → u < x + 1 → Settled n a d u
+    → d x ≡ 1 → (u : ℕ) → u < x + 1 → Settled n a d u
 settled-next n a c d x all keeps new u l = go (ℕ-discrete u x)
   where
-    kept : (u : ℕ) → Settled n a c u → Settled n a d u
-    kept u s = ⊎-elim (λ h. inl (keeps u h)) (λ z. inr z) s
-
     go : Dec (u ≡ x) → Settled n a d u
-    go (yes e) = subst (Settled n a d) (sym e) (⊎-elim (kept x) (λ h. inl h) new)
-    go (no e) = kept u (all u (omega (arith, e)))
+    go (yes e) = inl (ap d e ∙ new)
+    go (no e) = ⊎-elim (λ h. inl (keeps u h)) (λ z. inr z) (all u (omega (arith, e)))
 
 pub half-all : (n w : ℕ) (a : Cells) (c : ℕ → ℕ) (ws ms : List ℕ) → IsSet n a → ((u : ℕ) → c u < 2) → Half n a c (firstRows w ws ms)
     → ((u : ℕ) → u < n → Settled n a c u) → first n w ws ms ≡ closure n a

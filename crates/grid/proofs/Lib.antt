@@ -3,6 +3,7 @@ pub mod RowLaws
 pub mod RelationLaws
 pub mod ColumnLaws
 pub mod ClosureLaws
+pub mod MarkLaws
 pub mod ProductLaws
 pub mod PairLaws
 pub mod ListingLaws

@@ -8,7 +8,7 @@ ghost use Prim.Native.Nat.{_+_, _*_, _≤_, _<_, _^_};
 ghost use lib.ListN.{length, take, drop};
 ghost use Rattle.k2.specs.Bits.{digit};
 ghost use Rattle.k2.specs.PairSets.{listed};
-ghost use Rattle.grid.specs.Grid.{rowOf, first};
+ghost use Rattle.grid.specs.Grid.{Space, rowOf, first};
 ghost use Rattle.answers.specs.Listing.{Grown};
 ghost use Rattle.grid.specs.Steps.{cutRow, columns};
 
@@ -41,7 +41,7 @@ fn list_row(
     out: &mut [u32],
     t: usize,
 ) -> usize
-    requires { ⌜ (n ≤ 1024) × (w ≤ 16) × (n ≤ w * 64) × (n * w ≤ length (now cells)) × (x < n) × (t ≤ 1048576) ⌝ }
+    requires { ⌜ Space n w n (length (now cells)) n × (x < n) × (t ≤ 1048576) ⌝ }
     ensures { λ r. ⌜ (r ≤ t + 1024)
         × Grown t r (columns (cutRow n (rowOf (now (cells .entry)) (x * w) mask)) (x * 1024) n) (now (out .entry)) (now (out .exit)) ⌝ }
 {
@@ -59,7 +59,7 @@ fn list_row(
 
 // How many pairs the first relation has; their words, ascending, are written to the list as far as it takes them, and the words past them are left.
 pub fn list(cells: &[u64], masks: &[u16], n: usize, w: usize, out: &mut [u32]) -> usize
-    requires { ⌜ (n ≤ 1024) × (w ≤ 16) × (n ≤ w * 64) × (n * w ≤ length (now cells)) × (n ≤ length (now masks)) ⌝ }
+    requires { ⌜ Space n w n (length (now cells)) (length (now masks)) ⌝ }
     ensures { λ r. ⌜ (r ≡ length (listed n (first n w (now (cells .entry)) (now (masks .entry)))))
         × (now (out .exit) ≡ take (length (now (out .entry))) (listed n (first n w (now (cells .entry)) (now (masks .entry))))
         ++ drop (length (listed n (first n w (now (cells .entry)) (now (masks .entry))))) (now (out .entry))) ⌝ }

@@ -2,12 +2,12 @@
 use crate::row::put;
 ghost use mathlib.Core.Path.{_≡_};
 ghost use mathlib.Core.List.{List, [], _∷_};
-ghost use Prim.Native.Nat.{ℕ, _*_, _≤_};
+ghost use Prim.Native.Nat.{ℕ, _≤_};
 ghost use lib.ListN.{length};
 ghost use Rattle.k2.specs.Bits.{bitAt};
 ghost use Rattle.k2.specs.PairSets.{union, diagonal};
 ghost use Rattle.rows.specs.Rows.{noPairs, crossedWords};
-ghost use Rattle.grid.specs.Grid.{within, first};
+ghost use Rattle.grid.specs.Grid.{Space, within, first};
 ghost use Rattle.grid.specs.Steps.{onePair};
 
 // The first relation made empty.
@@ -24,7 +24,7 @@ pub fn start(masks: &mut [u16], n: usize)
 
 // The pair (x, y) put into the first relation, if both records are below n.
 fn put_pair(cells: &mut [u64], masks: &mut [u16], n: usize, w: usize, x: usize, y: usize)
-    requires { ⌜ (n ≤ 1024) × (w ≤ 16) × (n ≤ w * 64) × (n * w ≤ length (now cells)) × (n ≤ length (now masks)) ⌝ }
+    requires { ⌜ Space n w n (length (now cells)) (length (now masks)) ⌝ }
     ensures { λ _. ⌜ first n w (now (cells .exit)) (now (masks .exit))
         ≡ union (first n w (now (cells .entry)) (now (masks .entry))) (within n (onePair x y)) ⌝ }
 {
@@ -39,7 +39,7 @@ fn put_pair(cells: &mut [u64], masks: &mut [u16], n: usize, w: usize, x: usize, 
 
 // Each record below n that is in use joined to itself.
 pub fn put_diagonal(used: &[u64], cells: &mut [u64], masks: &mut [u16], n: usize, w: usize)
-    requires { ⌜ (n ≤ 1024) × (w ≤ 16) × (n ≤ w * 64) × (n * w ≤ length (now cells)) × (n ≤ length (now masks)) ⌝ }
+    requires { ⌜ Space n w n (length (now cells)) (length (now masks)) ⌝ }
     ensures { λ _. ⌜ first n w (now (cells .exit)) (now (masks .exit))
         ≡ union (first n w (now (cells .entry)) (now (masks .entry))) (within n (diagonal (bitAt (now (used .entry))))) ⌝ }
 {
@@ -62,7 +62,7 @@ fn put_word(
     n: usize,
     w: usize,
 )
-    requires { ⌜ (n ≤ 1024) × (w ≤ 16) × (n ≤ w * 64) × (n * w ≤ length (now cells)) × (n ≤ length (now masks)) ⌝ }
+    requires { ⌜ Space n w n (length (now cells)) (length (now masks)) ⌝ }
     ensures { λ _. ⌜ first n w (now (cells .exit)) (now (masks .exit))
         ≡ union (first n w (now (cells .entry)) (now (masks .entry))) (within n (crossedWords (word ∷ []) forward against)) ⌝ }
 {
@@ -87,7 +87,7 @@ pub fn put_letters(
     n: usize,
     w: usize,
 )
-    requires { ⌜ (n ≤ 1024) × (w ≤ 16) × (n ≤ w * 64) × (n * w ≤ length (now cells)) × (n ≤ length (now masks)) ⌝ }
+    requires { ⌜ Space n w n (length (now cells)) (length (now masks)) ⌝ }
     ensures { λ _. ⌜ first n w (now (cells .exit)) (now (masks .exit))
         ≡ union (first n w (now (cells .entry)) (now (masks .entry))) (within n (crossedWords (now (words .entry)) forward against)) ⌝ }
 {

@@ -8,8 +8,8 @@
 --   Upto n f g            f and g agree in the first n words
 --   upto-none, upto-more, upto-all
 --                         words written in turn: before the first, one more, all of them
---   ones-le, ones-gap, ones-more, ones-part, ones-word, ones-shl
---                         the count of ones: below its bound, over a gap, one digit more, of a part of a word, of a whole one, of a word shifted
+--   ones-le, ones-most, ones-less, ones-gap, ones-more, ones-part, ones-word, ones-shl
+--                         the count of ones: below its bound, of fewer ones, over a gap, one digit more, of a part of a word, of a whole one, of a word shifted
 --   ones-cons, ones-append, ones-first
 --                         the count of ones of lists of bits, joined
 --   value-lt, value-digit
@@ -125,6 +125,24 @@ pub ones-le : (f : ℕ → ℕ) → Bits f → (n : ℕ) → onesBelow f n ≤ n
 unfolding onesBelow
 ones-le f b zero = zero-le
 ones-le f b (suc n) = omega (arith, ones-le f b n, b n)
+
+-- fewer ones
+pub ones-most : (g f : ℕ → ℕ) (n : ℕ) → ((y : ℕ) → y < n → g y ≤ f y) → onesBelow g n ≤ onesBelow f n
+unfolding onesBelow
+ones-most g f zero h = omega arith
+ones-most g f (suc n) h = omega (arith, ones-most g f n (λ y l. h y (omega arith)), h n (omega arith))
+
+pub ones-less : (g f : ℕ → ℕ) (n z : ℕ) → z < n → ((y : ℕ) → y < n → g y ≤ f y) → g z < f z → onesBelow g n < onesBelow f n
+unfolding onesBelow
+ones-less g f zero z l h s = absurd (omega arith)
+ones-less g f (suc n) z l h s = go (decLt z n) (λ k. ones-less g f n z k (λ y d. h y (omega arith)) s)
+  where
+    go : Dec (z < n) → (z < n → onesBelow g n < onesBelow f n) → onesBelow g n + g n < onesBelow f n + f n
+    go (yes k) i = omega (arith, i k, h n (omega arith))
+    go (no k) i =
+        let e : z ≡ n = omega arith in
+        let q : g n < f n = rw (← e) s in
+        omega (arith, ones-most g f n (λ y d. h y (omega arith)), q)
 
 ones-far : (f : ℕ → ℕ) (p d : ℕ) → ((k : ℕ) → p ≤ k → k < p + d → f k ≡ 0) → onesBelow f (p + d) ≡ onesBelow f p
 unfolding onesBelow

@@ -16,6 +16,7 @@ use native.Mathlib.Nat.{mul-comm, mul-assoc, mul-le-mul, pow-suc}
 use native.Mathlib.Omega.{arith}
 use lib.ListN.{length, length-append}
 use lib.Pow.{pow-mono}
+use Rattle.k2.specs.Sizes.{mostTreeBits, mostTreeWords}
 use Rattle.k2.specs.PairSets.{Cells}
 use Rattle.k2.specs.Trees.{height, treeBits, treeWords, treeUnit}
 use Rattle.k2.specs.Heap.{fullSize, full, anyFour, fourOf, ifAny, compacted, groups}
@@ -60,7 +61,7 @@ four-most h l =
     let t : 2 ^ h * 2 ^ h ≤ 1024 * 1024 = mul-le-mul s s in
     rw (← square-power h) t
 
-pub fullSize-most : (h : ℕ) → h ≤ 10 → fullSize h 1 ≤ 1398100
+pub fullSize-most : (h : ℕ) → h ≤ 10 → fullSize h 1 ≤ mostTreeBits
 fullSize-most h l = omega (arith, fullSize-power h, four-most h l)
 
 -- D
@@ -78,7 +79,7 @@ treeUnit-some n = omega (arith, treeUnit-size n, fullSize-power (height n), four
     four-some zero l = absurd (omega arith)
     four-some (suc h) l = omega (arith, pow-suc 4 h, four-pos h)
 
-pub treeUnit-most : (n : ℕ) → n ≤ 1024 → treeUnit n ≤ 21846
+pub treeUnit-most : (n : ℕ) → n ≤ 1024 → treeUnit n ≤ mostTreeWords
 treeUnit-most n l = omega (arith, treeUnit-size n, fullSize-most (height n) (height-most n l))
 
 -- of fewer records it is not more

@@ -1,4 +1,4 @@
-pub mod SizeLaws
+pub mod PlaceLaws
 pub mod WordLaws
 pub mod StoreLaws
 pub mod CompactLaws

@@ -1,10 +1,10 @@
 // A k2-tree loaded into rows of bits: the ones of its words counted, then its squares read level by level.
 // What reading a square means is stated in specs/Reading.antt.
-use crate::measures::height;
 ghost use mathlib.Core.Path.{_≡_};
 ghost use Prim.Native.Nat.{ℕ, _+_, _-_, _/_, _%_, _^_, _<_, _≤_};
 ghost use lib.ListN.{length};
 ghost use Rattle.book.specs.Causes.{maxRecords};
+ghost use Rattle.k2.specs.Sizes.{rowsWords, mostTreeWords, mostCounts, mostChildPlace};
 ghost use Rattle.k2.specs.Bits.{digit, bitAt};
 ghost use Rattle.k2.specs.DigitLaws.{shifted};
 ghost use Rattle.k2.specs.PairSets.{Cells, IsSet, union};
@@ -15,9 +15,12 @@ ghost use Rattle.packing.specs.Senses.{sensed};
 ghost use Rattle.packing.specs.Reading.{turnedBy, turned, inside, WordsCounted, BlocksCounted, Counted, Reads, squareBit, squareRow, squareColumn};
 ghost use Rattle.packing.specs.Reading.{squaresTo, FitAll, ReadAll};
 
+// So many counts of ones there are at most: one for each word of a tree, or of a long one for each block of four.
+const COUNTS: usize = 5462;
+
 // The ones before each word of a tree.
 fn count_words(tree: &[u64], before: &mut [u32])
-    requires { ⌜ (length (now tree) ≤ 5462) × (length (now before) ≡ 5462) ⌝ }
+    requires { ⌜ (length (now tree) ≤ mostCounts) × (length (now before) ≡ mostCounts) ⌝ }
     ensures { λ _. ⌜ WordsCounted (now (tree .entry)) (now (before .exit)) ⌝ }
 {
     let mut n: u32 = 0;
@@ -31,7 +34,7 @@ fn count_words(tree: &[u64], before: &mut [u32])
 
 // The ones before each block of four words of a tree.
 fn count_blocks(tree: &[u64], before: &mut [u32])
-    requires { ⌜ (length (now tree) ≤ 21846) × (length (now before) ≡ 5462) ⌝ }
+    requires { ⌜ (length (now tree) ≤ mostTreeWords) × (length (now before) ≡ mostCounts) ⌝ }
     ensures { λ _. ⌜ BlocksCounted (now (tree .entry)) (now (before .exit)) ⌝ }
 {
     let mut n: u32 = 0;
@@ -47,10 +50,10 @@ fn count_blocks(tree: &[u64], before: &mut [u32])
 
 // The ones before each word of a tree, or of a long one before each block of four: there is room for 5,462 counts.
 fn count(tree: &[u64], before: &mut [u32])
-    requires { ⌜ (length (now tree) ≤ 21846) × (length (now before) ≡ 5462) ⌝ }
+    requires { ⌜ (length (now tree) ≤ mostTreeWords) × (length (now before) ≡ mostCounts) ⌝ }
     ensures { λ _. ⌜ Counted (now (tree .entry)) (now (before .exit)) ⌝ }
 {
-    if 5462 < tree.len() {
+    if COUNTS < tree.len() {
         count_blocks(tree, before);
         return;
     }
@@ -59,8 +62,8 @@ fn count(tree: &[u64], before: &mut [u32])
 
 // Where the children of the 1 at bit p begin: four times the count of ones in bits 0 to p. From the ones before its word:
 fn child_by_word(tree: &[u64], before: &[u32], p: usize) -> usize
-    requires { ⌜ (p / 64 < length (now tree)) × (length (now tree) ≤ 5462) × (length (now before) ≡ 5462) × WordsCounted (now tree) (now before) ⌝ }
-    ensures { λ r. ⌜ (r ≡ childPlace (bitAt (now (tree .entry))) p) × (r ≤ 5592576) ⌝ }
+    requires { ⌜ (p / 64 < length (now tree)) × (length (now tree) ≤ mostCounts) × (length (now before) ≡ mostCounts) × WordsCounted (now tree) (now before) ⌝ }
+    ensures { λ r. ⌜ (r ≡ childPlace (bitAt (now (tree .entry))) p) × (r ≤ mostChildPlace) ⌝ }
 {
     let q = p / 64;
     4 * (before[q] as usize + u64::count_ones(tree[q] << (63 - p % 64)) as usize)
@@ -68,8 +71,8 @@ fn child_by_word(tree: &[u64], before: &[u32], p: usize) -> usize
 
 // From the ones before its block of four words:
 fn child_by_block(tree: &[u64], before: &[u32], p: usize) -> usize
-    requires { ⌜ (p / 64 < length (now tree)) × (length (now tree) ≤ 21846) × (length (now before) ≡ 5462) × BlocksCounted (now tree) (now before) ⌝ }
-    ensures { λ r. ⌜ (r ≡ childPlace (bitAt (now (tree .entry))) p) × (r ≤ 5592576) ⌝ }
+    requires { ⌜ (p / 64 < length (now tree)) × (length (now tree) ≤ mostTreeWords) × (length (now before) ≡ mostCounts) × BlocksCounted (now tree) (now before) ⌝ }
+    ensures { λ r. ⌜ (r ≡ childPlace (bitAt (now (tree .entry))) p) × (r ≤ mostChildPlace) ⌝ }
 {
     let q = p / 64;
     let mut i = q / 4 * 4;
@@ -83,10 +86,10 @@ fn child_by_block(tree: &[u64], before: &[u32], p: usize) -> usize
 
 // From what was counted.
 fn child(tree: &[u64], before: &[u32], p: usize) -> usize
-    requires { ⌜ (p / 64 < length (now tree)) × (length (now tree) ≤ 21846) × (length (now before) ≡ 5462) × Counted (now tree) (now before) ⌝ }
-    ensures { λ r. ⌜ (r ≡ childPlace (bitAt (now (tree .entry))) p) × (r ≤ 5592576) ⌝ }
+    requires { ⌜ (p / 64 < length (now tree)) × (length (now tree) ≤ mostTreeWords) × (length (now before) ≡ mostCounts) × Counted (now tree) (now before) ⌝ }
+    ensures { λ r. ⌜ (r ≡ childPlace (bitAt (now (tree .entry))) p) × (r ≤ mostChildPlace) ⌝ }
 {
-    if 5462 < tree.len() {
+    if COUNTS < tree.len() {
         return child_by_block(tree, before, p);
     }
     child_by_word(tree, before, p)
@@ -126,7 +129,7 @@ fn or_two(words: &mut [u64], p: usize, v: u64)
 
 // The four cells of a square of side 2 at row x and column y put into rows.
 fn put_cells(rows: &mut [u64], x: usize, y: usize, v: u64)
-    requires { ⌜ (x + 2 ≤ 1024) × (y + 2 ≤ 1024) × (y % 2 ≡ 0) × (v < 16) × (length (now rows) ≡ 16384) ⌝ }
+    requires { ⌜ (x + 2 ≤ 1024) × (y + 2 ≤ 1024) × (y % 2 ≡ 0) × (v < 16) × (length (now rows) ≡ rowsWords) ⌝ }
     ensures { λ _. ⌜ ((a t : Cells) → bitAt (now (rows .entry)) ≡ flat a → ((q : ℕ) → q < 4 → digit v q ≡ t (x + q / 2) (y + q % 2))
         → bitAt (now (rows .exit)) ≡ flat (union a (inside 1 x y t))) ⌝ }
 {
@@ -152,7 +155,7 @@ fn next_one(v: u64, q: usize) -> usize
 
 // The square whose four bits begin at bit b, at row x and column y, as a number.
 fn square_number(b: usize, x: usize, y: usize) -> usize
-    requires { ⌜ (b ≤ 5592576) × (x < 1024) × (y < 1024) ⌝ }
+    requires { ⌜ (b ≤ mostChildPlace) × (x < 1024) × (y < 1024) ⌝ }
     ensures { λ w. ⌜ (squareBit w ≡ b) × (squareRow w ≡ x) × (squareColumn w ≡ y) ⌝ }
 {
     b * 1048576 + x * 1024 + y
@@ -182,9 +185,9 @@ fn children(
     next: &mut [usize],
     m: usize,
 ) -> usize
-    requires { ⌜ (2 ≤ h) × (h ≤ 10) × (at .bit % 4 ≡ 0) × (at .bit ≤ 5592576) × (at .row + 2 ^ h ≤ 1024) × (at .column + 2 ^ h ≤ 1024) × (at .column % 2 ≡ 0)
+    requires { ⌜ (2 ≤ h) × (h ≤ 10) × (at .bit % 4 ≡ 0) × (at .bit ≤ mostChildPlace) × (at .row + 2 ^ h ≤ 1024) × (at .column + 2 ^ h ≤ 1024) × (at .column % 2 ≡ 0)
         × (sense ≤ 1)
-        × (length (now tree) ≤ 21846) × (length (now before) ≡ 5462) × Counted (now tree) (now before)
+        × (length (now tree) ≤ mostTreeWords) × (length (now before) ≡ mostCounts) × Counted (now tree) (now before)
         × (m + 4 ≤ length (now next)) × FitAll (h - 1) (now next) 0 m ⌝ }
     ensures { λ r. ⌜ (r ≤ m + 4) × FitAll (h - 1) (now (next .exit)) 0 r
         × ((t : Cells) → Reads sense (now (tree .entry)) h (at .bit) (at .row) (at .column) t
@@ -218,7 +221,7 @@ fn spread(
     sense: usize,
     next: &mut [usize],
 ) -> usize
-    requires { ⌜ (2 ≤ h) × (h ≤ 10) × (sense ≤ 1) × (length (now tree) ≤ 21846) × (length (now before) ≡ 5462) × Counted (now tree) (now before)
+    requires { ⌜ (2 ≤ h) × (h ≤ 10) × (sense ≤ 1) × (length (now tree) ≤ mostTreeWords) × (length (now before) ≡ mostCounts) × Counted (now tree) (now before)
         × (part .from + part .count ≤ length (now list)) × (part .count ≤ 16) × (length (now next) ≡ 64) × FitAll h (now list) (part .from) (part .count) ⌝ }
     ensures { λ r. ⌜ (r ≤ 64) × FitAll (h - 1) (now (next .exit)) 0 r
         × ((t : Cells) → ReadAll sense (now (tree .entry)) h (now (list .entry)) (part .from) (part .count) t
@@ -245,7 +248,7 @@ fn spread(
 // The cells of some squares of side 2 of the list put into rows.
 fn leaves(tree: &[u64], list: &[usize], part: Part, sense: usize, rows: &mut [u64])
     requires { ⌜ (part .from + part .count ≤ length (now list)) × (part .count ≤ 16) × (sense ≤ 1)
-        × (length (now rows) ≡ 16384) × FitAll 1 (now list) (part .from) (part .count) ⌝ }
+        × (length (now rows) ≡ rowsWords) × FitAll 1 (now list) (part .from) (part .count) ⌝ }
     ensures { λ _. ⌜ ((a t : Cells) → bitAt (now (rows .entry)) ≡ flat a → ReadAll sense (now (tree .entry)) 1 (now (list .entry)) (part .from) (part .count) t
         → bitAt (now (rows .exit)) ≡ flat (union a (squaresTo (part .count) 1 (now (list .entry)) (part .from) t))) ⌝ }
 {
@@ -282,8 +285,8 @@ fn descend(
     sense: usize,
     rows: &mut [u64],
 )
-    requires { ⌜ (1 ≤ h) × (h ≤ 10) × (sense ≤ 1) × (length (now tree) ≤ 21846) × (length (now before) ≡ 5462) × Counted (now tree) (now before)
-        × (part .from + part .count ≤ length (now list)) × (part .count ≤ 16) × (length (now rows) ≡ 16384) × FitAll h (now list) (part .from) (part .count) ⌝ }
+    requires { ⌜ (1 ≤ h) × (h ≤ 10) × (sense ≤ 1) × (length (now tree) ≤ mostTreeWords) × (length (now before) ≡ mostCounts) × Counted (now tree) (now before)
+        × (part .from + part .count ≤ length (now list)) × (part .count ≤ 16) × (length (now rows) ≡ rowsWords) × FitAll h (now list) (part .from) (part .count) ⌝ }
     ensures { λ _. ⌜ ((a t : Cells) → bitAt (now (rows .entry)) ≡ flat a → ReadAll sense (now (tree .entry)) h (now (list .entry)) (part .from) (part .count) t
         → bitAt (now (rows .exit)) ≡ flat (union a (squaresTo (part .count) h (now (list .entry)) (part .from) t))) ⌝ }
 {
@@ -310,20 +313,20 @@ pub enum Sense {
 
 // The pairs of a tree put into rows; with sense 1 each pair exchanged.
 fn load_by(tree: &[u64], n: usize, sense: usize, rows: &mut [u64])
-    requires { ⌜ (n ≤ maxRecords) × (length (now tree) ≤ 21846) × (sense ≤ 1) × (length (now rows) ≡ 16384) ⌝ }
+    requires { ⌜ (n ≤ maxRecords) × (length (now tree) ≤ mostTreeWords) × (sense ≤ 1) × (length (now rows) ≡ rowsWords) ⌝ }
     ensures { λ _. ⌜ ((a x : Cells) → IsSet n a → now (tree .entry) ≡ treeWords n a → bitAt (now (rows .entry)) ≡ flat x
         → bitAt (now (rows .exit)) ≡ flat (union x (turnedBy sense a))) ⌝ }
 {
-    let mut before: [u32; 5462] = [0; 5462];
+    let mut before: [u32; COUNTS] = [0; COUNTS];
     count(tree, &mut before);
     let root: [usize; 1] = [0; 1];
     let whole = Part { from: 0, count: 1 };
-    descend(tree, &before, height(n), &root, whole, sense, rows);
+    descend(tree, &before, k2::height(n), &root, whole, sense, rows);
 }
 
 // The same by its name.
 pub fn load(tree: &[u64], n: usize, sense: Sense, rows: &mut [u64])
-    requires { ⌜ (n ≤ maxRecords) × (length (now tree) ≤ 21846) × (length (now rows) ≡ 16384) ⌝ }
+    requires { ⌜ (n ≤ maxRecords) × (length (now tree) ≤ mostTreeWords) × (length (now rows) ≡ rowsWords) ⌝ }
     ensures { λ _. ⌜ ((a x : Cells) → IsSet n a → now (tree .entry) ≡ treeWords n a → bitAt (now (rows .entry)) ≡ flat x
         → bitAt (now (rows .exit)) ≡ flat (union x (sensed sense a))) ⌝ }
 {

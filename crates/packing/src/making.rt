@@ -1,12 +1,10 @@
 // Rows of bits packed into a k2-tree: the cells in the order of its last level, the levels above them, and the groups that are not empty.
-use crate::measures::full_size;
-use crate::measures::height;
-use crate::measures::tree_unit;
 ghost use mathlib.Core.Path.{_≡_};
 ghost use mathlib.Core.Bool.{true};
 ghost use Prim.Native.Nat.{ℕ, _+_, _*_, _-_, _/_, _%_, _^_, _<_, _≤_, min, max};
 ghost use lib.ListN.{length, take, getD};
 ghost use Rattle.book.specs.Causes.{maxRecords};
+ghost use Rattle.k2.specs.Sizes.{rowsWords, mostTreeBits};
 ghost use Rattle.k2.specs.Bits.{digit, bitAt, wordsOf};
 ghost use Rattle.k2.specs.DigitLaws.{shifted};
 ghost use Rattle.k2.specs.PairSets.{Cells, IsSet};
@@ -89,8 +87,8 @@ fn or_word(words: &mut [u64], p: usize, v: u64)
 
 // The cells of the block of 8 x 8 in row r and column c of blocks, put in from bit base on; `seen` are the bits that its rows have.
 fn fill_block(rows: &[u64], seen: u64, r: usize, c: usize, g: usize, base: usize, heap: &mut [u64])
-    requires { ⌜ (g ≤ 7) × (r < 2 ^ g) × (c < 128) × (length (now rows) ≡ 16384)
-        × (base ≤ 1398100) × (base / 64 + 4 ^ g < length (now heap)) × Together (now rows) (r * 128 + c / 8) 16 8 seen ⌝ }
+    requires { ⌜ (g ≤ 7) × (r < 2 ^ g) × (c < 128) × (length (now rows) ≡ rowsWords)
+        × (base ≤ mostTreeBits) × (base / 64 + 4 ^ g < length (now heap)) × Together (now rows) (r * 128 + c / 8) 16 8 seen ⌝ }
     ensures { λ _. ⌜ ((a : Cells) → IsSet (2 ^ (g + 3)) a → bitAt (now (rows .entry)) ≡ flat a
         → bitAt (now (heap .entry)) ≡ raised base (cells (g + 3) (blocksTo (r * 128 + c) a))
         → bitAt (now (heap .exit)) ≡ raised base (cells (g + 3) (blocksTo (r * 128 + c + 1) a))) ⌝ }
@@ -107,8 +105,8 @@ fn fill_block(rows: &[u64], seen: u64, r: usize, c: usize, g: usize, base: usize
 
 // The cells of eight blocks from column c on, a multiple of 8; if all are empty they are passed at once.
 fn fill_eight(rows: &[u64], r: usize, c: usize, g: usize, base: usize, heap: &mut [u64])
-    requires { ⌜ (g ≤ 7) × (r < 2 ^ g) × (c < 128) × (c % 8 ≡ 0) × (length (now rows) ≡ 16384)
-        × (base ≤ 1398100) × (base / 64 + 4 ^ g < length (now heap)) ⌝ }
+    requires { ⌜ (g ≤ 7) × (r < 2 ^ g) × (c < 128) × (c % 8 ≡ 0) × (length (now rows) ≡ rowsWords)
+        × (base ≤ mostTreeBits) × (base / 64 + 4 ^ g < length (now heap)) ⌝ }
     ensures { λ _. ⌜ ((a : Cells) → IsSet (2 ^ (g + 3)) a → bitAt (now (rows .entry)) ≡ flat a
         → bitAt (now (heap .entry)) ≡ raised base (cells (g + 3) (blocksTo (r * 128 + c) a))
         → bitAt (now (heap .exit)) ≡ raised base (cells (g + 3) (blocksTo (r * 128 + c + 8) a))) ⌝ }
@@ -125,8 +123,8 @@ fn fill_eight(rows: &[u64], r: usize, c: usize, g: usize, base: usize, heap: &mu
 
 // The cells of rows put in from bit base on, by blocks of 8 x 8, 2 ^ g of them to a side.
 fn fill(rows: &[u64], g: usize, base: usize, heap: &mut [u64])
-    requires { ⌜ (g ≤ 7) × (length (now rows) ≡ 16384)
-        × (base ≤ 1398100) × (base / 64 + 4 ^ g < length (now heap)) ⌝ }
+    requires { ⌜ (g ≤ 7) × (length (now rows) ≡ rowsWords)
+        × (base ≤ mostTreeBits) × (base / 64 + 4 ^ g < length (now heap)) ⌝ }
     ensures { λ _. ⌜ ((a : Cells) → IsSet (2 ^ (g + 3)) a → bitAt (now (rows .entry)) ≡ flat a → bitAt (now (heap .entry)) ≡ none
         → bitAt (now (heap .exit)) ≡ raised base (cells (g + 3) a)) ⌝ }
 {
@@ -283,23 +281,23 @@ fn block_levels(h: usize) -> usize
 
 // The tree of rows, made in place; how many words it has.
 fn pack_part(rows: &[u64], h: usize, heap: &mut [u64]) -> usize
-    requires { ⌜ (length (now rows) ≡ 16384) × (1 ≤ h) × (h ≤ 10) × (length (now heap) ≡ (fullSize h 1 + 63) / 64 + 1) ⌝ }
+    requires { ⌜ (length (now rows) ≡ rowsWords) × (1 ≤ h) × (h ≤ 10) × (length (now heap) ≡ (fullSize h 1 + 63) / 64 + 1) ⌝ }
     ensures { λ r. ⌜ (r ≤ length (now (heap .entry))) × ((a : Cells) → IsSet (2 ^ h) a → bitAt (now (rows .entry)) ≡ flat a
         → take r (now (heap .exit)) ≡ wordsOf (treeBits h a)) ⌝ }
 {
     bits::clear(heap);
-    fill(rows, block_levels(h), full_size(h - 1), heap);
+    fill(rows, block_levels(h), k2::full_size(h - 1), heap);
     lift(heap);
     compact(heap)
 }
 
 // The tree of rows, at the front of out; how many words it has. D + 1 words of out are written.
 pub fn pack(rows: &[u64], n: usize, out: &mut [u64]) -> usize
-    requires { ⌜ (length (now rows) ≡ 16384) × (n ≤ maxRecords) × (treeUnit n + 1 ≤ length (now out)) ⌝ }
+    requires { ⌜ (length (now rows) ≡ rowsWords) × (n ≤ maxRecords) × (treeUnit n + 1 ≤ length (now out)) ⌝ }
     ensures { λ r. ⌜ (r ≤ length (now (out .entry))) × ((a : Cells) → IsSet n a → bitAt (now (rows .entry)) ≡ flat a
         → (take r (now (out .exit)) ≡ treeWords n a) × (r ≤ treeUnit n)) ⌝ }
 {
-    let h = height(n);
-    let end = tree_unit(n) + 1;
+    let h = k2::height(n);
+    let end = k2::tree_unit(n) + 1;
     pack_part(rows, h, &mut out[..end])
 }

@@ -23,11 +23,11 @@ use Rattle.reader.specs.declared.items.Item.{Item}
 use Rattle.reader.specs.declared.items.Item.the-variants.{Letters, Inverse, Star, Plus, Optional, Alternative, Sequence}
 use Rattle.reader.specs.Code.{does}
 use Rattle.reader.specs.Running.{operands}
-use Rattle.grid.specs.Grid.{rowOf, firstRows, first, second}
+use Rattle.grid.specs.Grid.{Space, rowOf, firstRows, first, second}
 use Rattle.grid.specs.GridLaws.{within-same, second-part}
 use Rattle.query.specs.Evaluation.{relations}
 use Rattle.query.specs.WorkLaws.{width-le, width-wide}
-use Rattle.rowpairs.specs.Evaluation.{Space, Lent, Known, outcomeOf, Operates, relationAt, lying, Goes}
+use Rattle.rowpairs.specs.Evaluation.{Lent, Known, outcomeOf, Operates, relationAt, lying, Goes}
 
 -- ---- sizes
 product-le : (k m d : ℕ) → k ≤ m → k * d ≤ m * d
@@ -49,7 +49,7 @@ module _ (n k cells masks : ℕ) (L : Lent n (suc k) cells masks) (early : k ≤
   pub mark-le : k * n ≤ 18 * n
   mark-le = product-le k 18 n early
 
-  pub space : Space n (rowWidth n) (cells - k * (n * rowWidth n)) (masks - k * n)
+  pub space : Space n (rowWidth n) (n + n + 1) (cells - k * (n * rowWidth n)) (masks - k * n)
   space = record {
     small = L .small;
     narrow = width-le n (L .small);
@@ -60,9 +60,14 @@ module _ (n k cells masks : ℕ) (L : Lent n (suc k) cells masks) (early : k ≤
 
 -- what the list is lent
 pub list-space : (n w k cells masks : ℕ) → w ≡ rowWidth n → Lent n k cells masks
-    → (n ≤ 1024) × (w ≤ 16) × (n ≤ w * 64) × (n * w ≤ cells) × (n ≤ masks)
-list-space n w k cells masks e L =
-    (L .small, rw e (width-le n (L .small)), rw e (width-wide n), rw e (omega (arith, L .words)), omega (arith, L .marks))
+    → Space n w n cells masks
+list-space n w k cells masks e L = record {
+  small = L .small;
+  narrow = rw e (width-le n (L .small));
+  wide = rw e (width-wide n);
+  words = rw e (omega (arith, L .words));
+  marks = omega (arith, L .marks);
+}
 
 -- ---- a slice with a part of it, from a place on, changed
 module _ (xs part : List ℕ) (start : ℕ) (h : start ≤ length xs) where
@@ -160,11 +165,13 @@ module _ (n : ℕ) (links held : List ℕ) (y : Item) (ws part ms marks : List �
 
 -- ---- the same with the words of a row as a number, and the parts as they are lent
 pub lent-space : (n k w : ℕ) (ws ms : List ℕ) → w ≡ rowWidth n → Lent n (suc k) (length ws) (length ms) → k ≤ 18
-    → Space n w (length (take (length ws - k * (n * w)) (drop (k * (n * w)) ws))) (length (take (length ms - k * n) (drop (k * n) ms)))
+    → Space n w (n + n + 1) (length (take (length ws - k * (n * w)) (drop (k * (n * w)) ws))) (length (take (length ms - k * n) (drop (k * n) ms)))
 lent-space n k w ws ms e L h =
-    subst (λ (v : ℕ). Space n v (length (take (length ws - k * (n * v)) (drop (k * (n * v)) ws))) (length (take (length ms - k * n) (drop (k * n) ms)))) (sym e)
-    (subst (λ (i : ℕ). Space n (rowWidth n) i (length (take (length ms - k * n) (drop (k * n) ms)))) (sym (rest-length ws (k * (n * rowWidth n))))
-    (subst (λ (i : ℕ). Space n (rowWidth n) (length ws - k * (n * rowWidth n)) i) (sym (rest-length ms (k * n))) (space n k (length ws) (length ms) L h)))
+    subst (λ (v : ℕ). Space n v (n + n + 1) (length (take (length ws - k * (n * v)) (drop (k * (n * v)) ws)))
+    (length (take (length ms - k * n) (drop (k * n) ms)))) (sym e)
+    (subst (λ (i : ℕ). Space n (rowWidth n) (n + n + 1) i (length (take (length ms - k * n) (drop (k * n) ms)))) (sym (rest-length ws (k * (n * rowWidth n))))
+    (subst (λ (i : ℕ). Space n (rowWidth n) (n + n + 1) (length ws - k * (n * rowWidth n)) i)
+    (sym (rest-length ms (k * n))) (space n k (length ws) (length ms) L h)))
 
 pub goes-part : (n : ℕ) (links held : List ℕ) (y : Item) (ws part ms marks : List ℕ) (m k w : ℕ)
     → w ≡ rowWidth n → m ≡ k + operands y → Lent n (suc k) (length ws) (length ms) → k ≤ 18

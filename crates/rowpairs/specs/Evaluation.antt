@@ -1,6 +1,4 @@
 -- How a pair question is evaluated by rows: the relations still waiting, which lie one after another at the front of the lent work, and so do their masks.
---   Space n w cells masks
---                         what an operation on relations of n rows of w words is lent: so many words and masks, enough for two relations and a row
 --   Lent n k cells masks  what k relations of n records and the work on them are lent: 32 relations' words, and the masks of k and one more
 --   LentFor n c cells masks
 --                         what the code c is lent: so much for as many relations as wait at once, which are no more than 19, and no more than it has numbers
@@ -47,13 +45,6 @@ use Rattle.grid.specs.Grid.{first, second}
 use Rattle.query.specs.Asking.{maxPairs}
 use Rattle.query.specs.Evaluation.{relations, most-waiting, Coded, Height, usedBelow, Lettered}
 use Rattle.rowpairs.specs.declared.Next.{Next}
-
-pub record Space (n w cells masks : ℕ) : Type 0 where
-  pub small : n ≤ maxRecords
-  pub narrow : w ≤ 16
-  pub wide : n ≤ w * 64
-  pub words : n * w + n * w + w ≤ cells
-  pub marks : n + n < masks
 
 pub record Lent (n k cells masks : ℕ) : Type 0 where
   pub small : n ≤ maxRecords

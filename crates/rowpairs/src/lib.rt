@@ -18,11 +18,11 @@ ghost use Rattle.reader.specs.Code.{itemOf};
 ghost use Rattle.reader.specs.Letters.{lettersIn};
 ghost use Rattle.reader.specs.Running.{operands};
 ghost use Rattle.links.specs.Links.{linkPair};
-ghost use Rattle.grid.specs.Grid.{within, first};
+ghost use Rattle.grid.specs.Grid.{Space, within, first};
 ghost use Rattle.query.specs.Asking.{AsksPairs, AsksRows, Relates};
 ghost use Rattle.query.specs.Evaluation.{most-waiting, Ready, Coded, usedBelow, Lettered};
 ghost use Rattle.rowpairs.specs.Labels.{everyIf, Alone, LetterListed};
-ghost use Rattle.rowpairs.specs.Evaluation.{Space, Lent, LentFor, Operates, Goes, Reading, ValueFirst, ValueListed, ValueInRows};
+ghost use Rattle.rowpairs.specs.Evaluation.{Lent, LentFor, Operates, Goes, Reading, ValueFirst, ValueListed, ValueInRows};
 use answers::Counted;
 use reader::Item;
 
@@ -77,7 +77,7 @@ fn put_letters(
     n: usize,
     w: usize,
 )
-    requires { ⌜ Space n w (length (now cells)) (length (now masks)) ⌝ }
+    requires { ⌜ Space n w (n + n + 1) (length (now cells)) (length (now masks)) ⌝ }
     ensures { λ _. ⌜ ((b : Book) (used : ℕ → ℕ) → Lettered b n (now (links .entry)) used
         → first n w (now (cells .exit)) (now (masks .exit))
         ≡ union (first n w (now (cells .entry)) (now (masks .entry))) (crossedBy (asked b) (lettersIn forward against))) ⌝ }
@@ -96,7 +96,7 @@ fn put_letters(
 
 // Zero steps put into the first relation: each record in use joined to itself.
 fn put_zero_steps(marks: &[u32], cells: &mut [u64], masks: &mut [u16], n: usize, w: usize)
-    requires { ⌜ Space n w (length (now cells)) (length (now masks)) × (n ≤ length (now marks)) ⌝ }
+    requires { ⌜ Space n w (n + n + 1) (length (now cells)) (length (now masks)) × (n ≤ length (now marks)) ⌝ }
     ensures { λ _. ⌜ first n w (now (cells .exit)) (now (masks .exit))
         ≡ union (first n w (now (cells .entry)) (now (masks .entry))) (within n (diagonal (usedBelow n (now (marks .entry))))) ⌝ }
 {
@@ -114,7 +114,7 @@ fn operate(
     w: usize,
     item: Item,
 )
-    requires { ⌜ Space n w (length (now cells)) (length (now masks)) × (n ≤ length (now marks)) ⌝ }
+    requires { ⌜ Space n w (n + n + 1) (length (now cells)) (length (now masks)) × (n ≤ length (now marks)) ⌝ }
     ensures { λ _. ⌜ Operates n w (now (links .entry)) (now (marks .entry)) item
         (now (cells .entry)) (now (cells .exit)) (now (masks .entry)) (now (masks .exit)) ⌝ }
 {

@@ -3,9 +3,10 @@
 ghost use mathlib.Core.Path.{_≡_};
 ghost use mathlib.Core.Bool.{true};
 ghost use mathlib.Core.List.{_++_};
-ghost use Prim.Native.Nat.{ℕ, _≤_, _<_};
+ghost use Prim.Native.Nat.{ℕ, _/_, _≤_, _<_};
 ghost use lib.Dec.{eqb};
 ghost use lib.ListN.{length, take, drop};
+ghost use Rattle.k2.specs.Sizes.{rowsWords};
 ghost use Rattle.k2.specs.Bits.{digit, bitAt};
 ghost use Rattle.k2.specs.PairSets.{Cells, IsSet, union, intersection, difference, transpose, product, diagonal};
 ghost use Rattle.bits.specs.BitSets.{none};
@@ -14,12 +15,12 @@ ghost use Rattle.rows.specs.Steps.{Masked, rowAt, Occupied, Masks, Commo
 
 // The pairs of a that b lacks taken out of a.
 pub fn intersect(a: &mut [u64], b: &[u64])
-    requires { ⌜ (length (now a) ≡ 16384) × (length (now b) ≡ 16384) ⌝ }
+    requires { ⌜ (length (now a) ≡ rowsWords) × (length (now b) ≡ rowsWords) ⌝ }
     ensures { λ _. ⌜ ((x y : Cells) → bitAt (now (a .entry)) ≡ flat x → bitAt (now (b .entry)) ≡ flat y
         → bitAt (now (a .exit)) ≡ flat (intersection x y)) ⌝ }
 {
     let mut i = 0;
-    while i < 16384 {
+    while i < k2::ROWS_WORDS {
         a[i] = a[i] & b[i];
         i += 1;
     }
@@ -27,12 +28,12 @@ pub fn intersect(a: &mut [u64], b: &[u64])
 
 // The pairs of b taken out of a.
 pub fn minus(a: &mut [u64], b: &[u64])
-    requires { ⌜ (length (now a) ≡ 16384) × (length (now b) ≡ 16384) ⌝ }
+    requires { ⌜ (length (now a) ≡ rowsWords) × (length (now b) ≡ rowsWords) ⌝ }
     ensures { λ _. ⌜ ((x y : Cells) → bitAt (now (a .entry)) ≡ flat x → bitAt (now (b .entry)) ≡ flat y
         → bitAt (now (a .exit)) ≡ flat (difference x y)) ⌝ }
 {
     let mut i = 0;
-    while i < 16384 {
+    while i < k2::ROWS_WORDS {
         a[i] = a[i] & !b[i];
         i += 1;
     }
@@ -40,11 +41,11 @@ pub fn minus(a: &mut [u64], b: &[u64])
 
 // Rows that hold no pair.
 pub fn clear(rows: &mut [u64])
-    requires { ⌜ length (now rows) ≡ 16384 ⌝ }
+    requires { ⌜ length (now rows) ≡ rowsWords ⌝ }
     ensures { λ _. ⌜ bitAt (now (rows .exit)) ≡ flat noPairs ⌝ }
 {
     let mut i = 0;
-    while i < 16384 {
+    while i < k2::ROWS_WORDS {
         rows[i] = 0;
         i += 1;
     }
@@ -52,7 +53,7 @@ pub fn clear(rows: &mut [u64])
 
 // Each record of a set joined to itself; the set is lent as 1,024 bits.
 pub fn set_diagonal(rows: &mut [u64], records: &[u64])
-    requires { ⌜ (length (now rows) ≡ 16384) × (length (now records) ≡ 16) ⌝ }
+    requires { ⌜ (length (now rows) ≡ rowsWords) × (length (now records) ≡ 16) ⌝ }
     ensures { λ _. ⌜ ((x : Cells) → bitAt (now (rows .entry)) ≡ flat x
         → bitAt (now (rows .exit)) ≡ flat (union x (diagonal (bitAt (now (records .entry)))))) ⌝ }
 {
@@ -78,7 +79,7 @@ pub fn has_label(labels: u32, label: u32) -> bool
 // The pairs of link words put in: of links whose label is in `forward` as they are, of those whose label is in `against` exchanged. A link's word is
 // label * 1048576 + pair word, and a pair word is the word of a link of label 0.
 pub fn put_letters(words: &[u32], forward: u32, against: u32, rows: &mut [u64])
-    requires { ⌜ length (now rows) ≡ 16384 ⌝ }
+    requires { ⌜ length (now rows) ≡ rowsWords ⌝ }
     ensures { λ _. ⌜ ((x : Cells) → bitAt (now (rows .entry)) ≡ flat x
         → bitAt (now (rows .exit)) ≡ flat (union x (crossedWords (now (words .entry)) forward against))) ⌝ }
 {
@@ -106,7 +107,7 @@ pub fn count_pairs(rows: &[u64], n: usize) -> usize
 
 // Their words, ascending, as many as the list takes; the words past them are left.
 pub fn write_pairs(rows: &[u64], n: usize, out: &mut [u32])
-    requires { ⌜ (n ≤ 1024) × (length (now rows) ≡ 16384) ⌝ }
+    requires { ⌜ (n ≤ 1024) × (length (now rows) ≡ rowsWords) ⌝ }
     ensures { λ _. ⌜ now (out .exit) ≡ take (length (now (out .entry))) (pairsIn n (now (rows .entry)))
         ++ drop (length (pairsIn n (now (rows .entry)))) (now (out .entry)) ⌝ }
 {
@@ -132,7 +133,7 @@ pub fn write_pairs(rows: &[u64], n: usize, out: &mut [u32])
 
 // Are these the rows of a set of pairs below n?
 pub fn within(rows: &[u64], n: usize) -> bool
-    requires { ⌜ (n ≤ 1024) × (length (now rows) ≡ 16384) ⌝ }
+    requires { ⌜ (n ≤ 1024) × (length (now rows) ≡ rowsWords) ⌝ }
     ensures { λ r. ⌜ (r ≡ true → RowsOf n (now (rows .entry))) × (RowsOf n (now (rows .entry)) → r ≡ true) ⌝ }
 {
     let mut i = 0;
@@ -146,15 +147,15 @@ pub fn within(rows: &[u64], n: usize) -> bool
     bits::next(rows, n * 1024, 1048576) == 1048576
 }
 
-// The squares of row i that are not empty, as bits.
-pub fn squares(rows: &[u64], i: usize) -> u32
-    requires { ⌜ (length (now rows) ≡ 16384) × (i < 1024) ⌝ }
-    ensures { λ r. ⌜ (r < 65536) × Masked (bitAt (now (rows .entry))) i r ⌝ }
+// The words of a row that are not empty, as bits.
+fn filled_words(row: &[u64]) -> u32
+    requires { ⌜ length (now row) ≡ 16 ⌝ }
+    ensures { λ r. ⌜ (r < 65536) × ((k : ℕ) → k < 1024 → digit r (k / 64) ≡ 0 → bitAt (now (row .entry)) k ≡ 0) ⌝ }
 {
     let mut mask: u32 = 0;
     let mut s = 0;
     while s < 16 {
-        if rows[i * 16 + s] != 0 {
+        if row[s] != 0 {
             mask = mask | (1 << s);
         }
         s += 1;
@@ -162,9 +163,17 @@ pub fn squares(rows: &[u64], i: usize) -> u32
     mask
 }
 
+// The squares of row i that are not empty, as bits.
+pub fn squares(rows: &[u64], i: usize) -> u32
+    requires { ⌜ (length (now rows) ≡ rowsWords) × (i < 1024) ⌝ }
+    ensures { λ r. ⌜ (r < 65536) × Masked (bitAt (now (rows .entry))) i r ⌝ }
+{
+    filled_words(&rows[i * 16..i * 16 + 16])
+}
+
 // The rows below n that are not empty, ascending, each an entry: its squares * 1024 + its number. How many there are.
 fn occupied(rows: &[u64], n: usize, list: &mut [u32]) -> usize
-    requires { ⌜ (n ≤ 1024) × (length (now rows) ≡ 16384) × (length (now list) ≡ 1024) ⌝ }
+    requires { ⌜ (n ≤ 1024) × (length (now rows) ≡ rowsWords) × (length (now list) ≡ 1024) ⌝ }
     ensures { λ m. ⌜ (m ≤ 1024) × Occupied (bitAt (now (rows .entry))) n (rowAt n m (now (list .exit))) m
         × Masks (bitAt (now (rows .entry))) m (now (list .exit)) ⌝ }
 {
@@ -185,7 +194,7 @@ fn occupied(rows: &[u64], n: usize, list: &mut [u32]) -> usize
 // first to the last of those in common, and in each over the records of row i from the first of row j on, lowest first, each tried in row j; it is
 // left at the first that serves. A square whose words have no bit in common is passed at once.
 fn serves(a: &[u64], i: usize, b: &[u64], j: usize, common: u32) -> u64
-    requires { ⌜ (length (now a) ≡ 16384) × (i < 1024) × (length (now b) ≡ 16384) × (j < 1024) × (0 < common) × (common < 65536) ⌝ }
+    requires { ⌜ (length (now a) ≡ rowsWords) × (i < 1024) × (length (now b) ≡ rowsWords) × (j < 1024) × (0 < common) × (common < 65536) ⌝ }
     ensures { λ r. ⌜ (Common (bitAt (now (a .entry))) (bitAt (now (b .entry))) i j common
         → r ≡ served (bitAt (now (a .entry))) (bitAt (now (b .entry))) i j) ⌝ }
 {
@@ -224,7 +233,7 @@ fn product_row(
     m: usize,
     row: &mut [u64],
 )
-    requires { ⌜ (length (now a) ≡ 16384) × (i < 1024) × (mask < 65536) × (length (now columns) ≡ 16384) × (length (now list) ≡ 1024) × (m ≤ 1024)
+    requires { ⌜ (length (now a) ≡ rowsWords) × (i < 1024) × (mask < 65536) × (length (now columns) ≡ rowsWords) × (length (now list) ≡ 1024) × (m ≤ 1024)
         × (length (now row) ≡ 16) ⌝ }
     ensures { λ _. ⌜ ((n : ℕ) → Masked (bitAt (now (a .entry))) i mask → Occupied (bitAt (now (columns .entry))) n (rowAt n m (now (list .entry))) m
         → Masks (bitAt (now (columns .entry))) m (now (list .entry)) → bitAt (now (row .entry)) ≡ none
@@ -246,7 +255,7 @@ fn product_row(
 
 // A row stored as row i.
 fn store_row(row: &[u64], rows: &mut [u64], i: usize)
-    requires { ⌜ (length (now row) ≡ 16) × (length (now rows) ≡ 16384) × (i < 1024) ⌝ }
+    requires { ⌜ (length (now row) ≡ 16) × (length (now rows) ≡ rowsWords) × (i < 1024) ⌝ }
     ensures { λ _. ⌜ bitAt (now (rows .exit)) ≡ withRow i (bitAt (now (row .entry))) (bitAt (now (rows .entry))) ⌝ }
 {
     let mut s = 0;
@@ -258,7 +267,7 @@ fn store_row(row: &[u64], rows: &mut [u64], i: usize)
 
 // The product, left in a; the second operand is lent by its columns, transposed. A row of the product depends on that row of a alone.
 pub fn compose(a: &mut [u64], columns: &[u64], n: usize)
-    requires { ⌜ (n ≤ 1024) × (length (now a) ≡ 16384) × (length (now columns) ≡ 16384) ⌝ }
+    requires { ⌜ (n ≤ 1024) × (length (now a) ≡ rowsWords) × (length (now columns) ≡ rowsWords) ⌝ }
     ensures { λ _. ⌜ ((x y : Cells) → IsSet n x → IsSet n y → bitAt (now (a .entry)) ≡ flat x → bitAt (now (columns .entry)) ≡ flat (transpose y)
         → bitAt (now (a .exit)) ≡ flat (product n x y)) ⌝ }
 {

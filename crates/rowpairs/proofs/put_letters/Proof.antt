@@ -53,7 +53,7 @@ put-letters-requires : tie.Need-put-letters-requires Inv-loop μ-loop
 put-letters-requires c κs =
     let P = c .before .before .before .before .before .before .before .before .before .before .before .pre in
     let l = c .before .before .before .before .before .before .before .loop in
-    (P .small, P .narrow, P .wide, omega (arith, P .words, l .inv .1), omega (arith, P .marks, l .inv .2))
+    omega (arith, P, l .inv .1, l .inv .2)
 
 -- src/lib.rt:73:9
 add-label : tie.Need-add-label Inv-loop μ-loop

@@ -47,8 +47,7 @@ spread-requires : tie.Need-spread-requires
 spread-requires c κs =
     let after-run = c .before .before .before .before .before .before .before in
     let start = after-run .before .before .before .before .before .before .before .before in
-    let s = list-space _ _ 0 _ _ (c .before .row-width .ensures) (lent after-run) in
-    (s .0, s .1, s .2, s .3, s .4, start .pre .3)
+    (list-space _ _ 0 _ _ (c .before .row-width .ensures) (lent after-run), start .pre .3)
 
 same-length : tie.Need-same-length
 same-length c = search needs

@@ -13,7 +13,8 @@ use Rattle.k2.specs.BitLaws.{Bits, bit-lt}
 use Rattle.k2.specs.PairSets.{Cells, union}
 use Rattle.rows.specs.Rows.{flat, crossedWords}
 use Rattle.links.specs.Links.{linkPair}
-use Rattle.rows.proofs.PutLaws.{lettersOf, crossing, letters-out, crossed-forward, crossed-against, crossed-is, crossed-start, crossed-all}
+use Rattle.rows.specs.RowLaws.{crossed-all}
+use Rattle.rows.proofs.PutLaws.{lettersOf, crossing, letters-out, crossed-forward, crossed-against, crossed-is, crossed-start}
 use Rattle.rows.proofs.put_letters.Statement.{statement}
 use Rattle.rows.proofs.put_letters.Tie as tie
 

@@ -31,7 +31,7 @@ slice-read-mask c = omega arith
 compose-row-requires : tie.Need-compose-row-requires Inv-loop μ-loop
 compose-row-requires c κs =
     let l = c .before .before .before .before .before .loop in
-    (omega arith, omega arith, omega arith, omega arith, omega arith, omega arith, l .inv .1)
+    (omega arith, omega arith, l .inv .1)
 
 add-b : tie.Need-add-b Inv-loop μ-loop
 add-b c =

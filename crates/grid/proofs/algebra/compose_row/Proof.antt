@@ -29,7 +29,7 @@ product-row-requires : tie.Need-product-row-requires
 product-row-requires c κs =
     let a = c .before .before .before .before .args in
     let k : length (set (a .masks .now) (a .n + a .n) 0) ≡ length (a .masks .now) = length-set (a .masks .now) (a .n + a .n) 0 in
-    (omega arith, omega arith, omega arith, omega arith, omega (arith, k), omega arith)
+    (omega (arith, k), omega arith)
 
 mul-masks-2 : tie.Need-mul-masks-2
 mul-masks-2 c = search needs

@@ -41,7 +41,7 @@ search-on-requires c κs =
     let s = after-set-bit .set-bit in
     let q : length (s .last .0) ≡ length (a .marks .now) = s .kept .0 in
     let r : length (set (a .stack .now) 0 (a .x)) ≡ length (a .stack .now) = length-set (a .stack .now) 0 (a .x) in
-    (p .0, p .1, p .2, p .3, p .4, q ∙ p .5, r ∙ p .6)
+    (p .0, q ∙ p .1, r ∙ p .2)
 
 same-length-2 : tie.Need-same-length-2
 same-length-2 c = search needs
@@ -66,9 +66,10 @@ returns-2 c =
     let after-set-bit = after-search-on .before .before .before .before .before .before .before in
     let start = after-set-bit .before .before .before .before .before .before .before .before .before in
     let a = start .args in
-    let l = start .pre .0 in
+    let l = start .pre .0 .small in
     onward-next
-    (onward-beyond (a .n) (a .w) (1024 + a .x) (a .marks .now) _ (a .cells .now) (a .masks .now) (omega (arith, l)) (after-set-bit .set-bit .ensures))
+    (onward-beyond (a .n) (a .w) (1024 + a .x) (a .marks .now) _ (a .cells .now) (a .masks .now)
+    (omega (arith, l)) (omega (arith, l, start .pre .3)) (after-set-bit .set-bit .ensures))
     (after-search-on .search-on .ensures)
 
 pub close-from-spec : {M : Type 1} → statement M

@@ -44,9 +44,9 @@ returns-3 c =
     let start = else2 .before .before .before .before .before .before .before in
     let a = start .args in
     let s = c .before .before .set-bit .ensures in
-    let none : bitAt (a .closed .now) (a .x) ≡ 0 = omega (arith, else2 .before .bit .ensures, else2 .if2 .left, bit-lt (a .closed .now) (a .x)) in (
-      onward-row (a .n) (a .w) (a .x) (a .closed .now) _ (a .cells .now) (a .masks .now) _ _ none s (after-close-row .close-row .ensures),
-      λ h. ap (λ (f : ℕ → ℕ). f (a .x)) s ∙ put-at (a .x) 1 (bitAt (a .closed .now)),
+    let none : bitAt (a .marks .now) (a .x) ≡ 0 = omega (arith, else2 .before .bit .ensures, else2 .if2 .left, bit-lt (a .marks .now) (a .x)) in (
+      onward-row (a .n) (a .w) (a .x) (a .marks .now) _ (a .cells .now) (a .masks .now) _ _ (omega arith) none s (after-close-row .close-row .ensures),
+      λ h. ap (λ (f : ℕ → ℕ). f (a .x)) s ∙ put-at (a .x) 1 (bitAt (a .marks .now)),
     )
 
 pub close-once-spec : {M : Type 1} → statement M

@@ -41,8 +41,11 @@ same-length-2 c = search needs
 returns-2 : tie.Need-returns-2
 returns-2 c =
     let a = c .before .before .before .before .before .before .before .before .before .before .before .before .before .args in
-    let z = c .before .before .before .before .before .unseen .result in
-    (omega arith, onward-beyond (a .n) (a .w) (1024 + z) (a .marks .now) _ (a .cells .now) (a .masks .now) (omega arith) (c .before .before .set-bit .ensures))
+    let z = c .before .before .before .before .before .unseen .result in (
+      omega arith,
+      onward-beyond (a .n) (a .w) (1024 + z) (a .marks .now) _ (a .cells .now)
+          (a .masks .now) (omega arith) (omega arith) (c .before .before .set-bit .ensures),
+    )
 
 close-once-requires : tie.Need-close-once-requires
 close-once-requires c κs = search needs

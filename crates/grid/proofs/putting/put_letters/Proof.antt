@@ -9,7 +9,8 @@ use lib.ListN.{length, getD, take}
 use Rattle.k2.specs.PairSets.{Cells, union}
 use Rattle.rows.specs.Rows.{crossedWords}
 use Rattle.grid.specs.Grid.{first, within}
-use Rattle.grid.proofs.PairLaws.{union-empty, put-more, crossed-start, crossed-next, crossed-all}
+use Rattle.rows.specs.RowLaws.{crossed-all}
+use Rattle.grid.proofs.PairLaws.{union-empty, put-more, crossed-start, crossed-next}
 use Rattle.grid.proofs.putting.put_letters.Statement.{statement}
 use Rattle.grid.proofs.putting.put_letters.Tie as tie
 

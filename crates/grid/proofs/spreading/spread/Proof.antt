@@ -20,7 +20,7 @@ abbrev μ-loop : tie.MeasureT-loop
 μ-loop cells masks n w rows₀ t₀ x₀ rows t x = n - x
 
 clear-requires : tie.Need-clear-requires Inv-loop μ-loop
-clear-requires c κs = c .before .before .before .before .pre .5
+clear-requires c κs = c .before .before .before .before .pre .1
 
 loop-holds : tie.Need-loop-holds Inv-loop μ-loop
 loop-holds c =
@@ -28,7 +28,7 @@ loop-holds c =
     let a = start .args in
     let F : Cells = first (a .n) (a .w) (a .cells .now) (a .masks .now) in
     let k = c .before .before .clear in
-    (omega arith, omega arith, sym (ap length (rows-none F (a .n))), k .kept .0 ∙ start .pre .5, laid-none F _ (k .ensures))
+    (omega arith, omega arith, sym (ap length (rows-none F (a .n))), k .kept .0 ∙ start .pre .1, laid-none F _ (k .ensures))
 
 mul-spread-row : tie.Need-mul-spread-row Inv-loop μ-loop
 mul-spread-row c = omega arith
@@ -41,10 +41,7 @@ spread-row-requires c κs =
     let start = c .before .before .before .before .before .before .before .before .before .before .before in
     let a = start .args in
     let l = c .before .before .before .loop in (
-      start .pre .0,
-      start .pre .1,
-      start .pre .2,
-      start .pre .3,
+      omega (arith, start .pre .0),
       c .before .before .loop-test .taken,
       l .inv .3,
       laid-empty (l .x) (first (a .n) (a .w) (a .cells .now) (a .masks .now)) (l .rows) (l .inv .4),

@@ -43,7 +43,7 @@ loop-holds c =
       omega arith,
       count-none (a .n) (a .w) (a .x * a .w) (a .mask) (a .x) (a .cells .now) k (a .x * 1024) (L .gap),
       refl,
-      spread-none (a .n) (a .w) (a .x * a .w) (a .mask) (a .x) (a .cells .now) k (a .rows .now) (start .pre .6) (L .gap),
+      spread-none (a .n) (a .w) (a .x * a .w) (a .mask) (a .x) (a .cells .now) k (a .rows .now) (start .pre .3) (L .gap),
     )
 
 add-cut : tie.Need-add-cut Inv-loop μ-loop

@@ -9,7 +9,8 @@ use Rattle.k2.specs.PairSets.{Cells, union}
 use Rattle.rows.specs.Rows.{flat}
 use Rattle.packing.specs.Reading.{inside, squareBit, squareRow, squareColumn, squaresTo, ReadAll}
 use Rattle.packing.proofs.LoadLaws.{reads-cell}
-use Rattle.packing.proofs.SquareLaws.{squares-none, squares-next, union-next}
+use Rattle.rows.specs.RowLaws.{union-join}
+use Rattle.packing.proofs.SquareLaws.{squares-none, squares-next}
 use Rattle.packing.proofs.loading.leaves.Statement.{statement}
 use Rattle.packing.proofs.loading.leaves.Tie as tie
 
@@ -64,7 +65,7 @@ loop-again c =
           p .ensures (union s (squaresTo (l .i) 1 (a .list .now) (a .part .from) u)) u (l .inv .2 s u e n)
           (λ q g. after-square .square .ensures .1 q g
           ∙ reads-cell (a .sense) (a .tree .now) (squareBit w) (squareRow w) (squareColumn w) u (n (l .i) (omega arith)) q g)
-          ∙ ap flat (union-next s (squaresTo (l .i) 1 (a .list .now) (a .part .from) u) (inside 1 (squareRow w) (squareColumn w) u)
+          ∙ ap flat (union-join s (squaresTo (l .i) 1 (a .list .now) (a .part .from) u) (inside 1 (squareRow w) (squareColumn w) u)
           ∙ ap (union s) (sym (squares-next (l .i) 1 (a .list .now) (a .part .from) u))),
     )
 

@@ -7,7 +7,7 @@ use native.Mathlib.Omega.{arith}
 use lib.Pow.{pow-pos}
 use Rattle.k2.specs.Heap.{place}
 use Rattle.k2.specs.PlaceLaws.{place-lt}
-use Rattle.packing.proofs.SizeLaws.{place-turn, place-small}
+use Rattle.packing.proofs.PlaceLaws.{place-turn, place-small}
 use Rattle.packing.proofs.making.morton_place.Statement.{statement}
 use Rattle.packing.proofs.making.morton_place.Tie as tie
 

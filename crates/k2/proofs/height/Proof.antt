@@ -5,9 +5,9 @@ use Prim.Native.Nat.{_-_, _^_, _≤_, _<_}
 use native.Mathlib.Nat.{pow-suc}
 use native.Mathlib.Numerals.{add-one}
 use native.Mathlib.Omega.{arith}
-use Rattle.packing.proofs.SizeLaws.{Low, low-more, low-small, height-found}
-use Rattle.packing.proofs.measures.height.Statement.{statement}
-use Rattle.packing.proofs.measures.height.Tie as tie
+use Rattle.k2.proofs.MeasureLaws.{Low, low-more, low-small, height-found}
+use Rattle.k2.proofs.height.Statement.{statement}
+use Rattle.k2.proofs.height.Tie as tie
 
 abbrev Inv-loop : tie.InvT-loop
 Inv-loop n h₀ s₀ h s = (1 ≤ h) × (2 ≤ s) × (s ≡ 2 ^ h) × Low h n

@@ -3,11 +3,11 @@ use mathlib.Core.Path.{_≡_, sym, ap, _∙_}
 use Prim.Native.Nat.{ℕ, _+_, _/_}
 use native.Mathlib.Omega.{arith}
 use borrow.Author.Needs.{needs}
 use Rattle.k2.specs.Heap.{fullSize}
 use Rattle.k2.specs.SizeLaws.{treeUnit-size}
-use Rattle.packing.proofs.SizeLaws.{size-some}
-use Rattle.packing.proofs.measures.tree_unit.Statement.{statement}
-use Rattle.packing.proofs.measures.tree_unit.Tie as tie
+use Rattle.k2.proofs.MeasureLaws.{size-some}
+use Rattle.k2.proofs.tree_unit.Statement.{statement}
+use Rattle.k2.proofs.tree_unit.Tie as tie
 
 height-requires : tie.Need-height-requires
 height-requires c κs = search needs

@@ -3,11 +3,11 @@
 use mathlib.Core.Path.{_≡_, refl}
 use Prim.Native.Nat.{_-_, _^_, _≤_}
 use native.Mathlib.Omega.{arith}
 use Rattle.k2.specs.Heap.{fullSize}
 use Rattle.k2.specs.SizeLaws.{four-most, fullSize-most}
-use Rattle.packing.proofs.SizeLaws.{size-turn}
-use Rattle.packing.proofs.measures.full_size.Statement.{statement}
-use Rattle.packing.proofs.measures.full_size.Tie as tie
+use Rattle.k2.proofs.MeasureLaws.{size-turn}
+use Rattle.k2.proofs.full_size.Statement.{statement}
+use Rattle.k2.proofs.full_size.Tie as tie
 
 abbrev Inv-loop : tie.InvT-loop
 Inv-loop h s₀ k₀ i₀ s k i = (i ≤ h) × (s ≡ fullSize i 1) × (k ≡ 4 ^ i)
