@@ -47,7 +47,10 @@ spread-requires : tie.Need-spread-requires
 spread-requires c κs =
     let after-run = c .before .before .before .before .before .before .before in
     let start = after-run .before .before .before .before .before .before .before .before in
-    let s = list-space _ _ 0 _ _ (c .before .row-width .ensures) (lent after-run) in
+    let L = lent after-run in
+    let s =
+    list-space (start .args .n) _ (length (after-run .run .last .1 .1 .0)) (length (after-run .run .last .1 .1 .1 .0)) (c .before .row-width .ensures)
+    (record { small = L .small; front = omega (arith, L .words) }) (omega (arith, L .marks)) in
     (s .0, s .1, s .2, s .3, s .4, start .pre .3)
 
 same-length : tie.Need-same-length
