@@ -27,12 +27,11 @@ use Rattle.paths.specs.Grammar.{Verdict, accepted, long, outside, large, verdic
 use Rattle.paths.specs.Verdicts.{verdict}
 use Rattle.paths.specs.Chains.{Graph, asked, Step, Answers, Reply, none as no-reply, chain as chain-reply, ChainIs, no-chain, first-chain}
 use Rattle.paths.specs.PairLaws.{withdrawn-none, none-withdrawn, verdict-caused}
-use Rattle.paths.specs.FirstChainLaws.{reply-only}
+use Rattle.paths.specs.FirstChainLaws.{reply-only, length-step-words}
 use Rattle.paths.specs.Questions.{refused, replied, ReplyTo, chainWork, steps, chainCauses, chainAnswer, listAfter}
 use Rattle.register.specs.declared.Register.{Register}
 use Rattle.register.specs.Representation.{Represents}
 use Rattle.register.specs.Questions.{Withdrawal}
-use Rattle.automaton.specs.WalkLaws.{length-stepWords}
 use Rattle.search.specs.Steps.{Untouched, written, none as none-found, too-long, Answered, first, none, short}
 use Rattle.search.specs.declared.Found.{Found}
 use Rattle.search.specs.declared.Found.the-variants.{Steps, Nowhere, Short}
@@ -97,7 +96,7 @@ reply-long : {g : Graph} {e : Expr} {x y : ℕ} {t : Reply} → ChainIs g e x y 
     → Answers g e x y ss → ((ts : List Step) → Answers g e x y ts → length ss ≤ length ts) → length ss ≤ length (steps t)
 unfolding steps
 reply-long (no-chain h) ss s l = absurd (h ss s)
-reply-long (first-chain ts F) ss s l = let z = l ts (F .answers) in let y = length-stepWords ts in omega arith
+reply-long (first-chain ts F) ss s l = let z = l ts (F .answers) in let y = length-step-words ts in omega arith
 
 -- ---- the promise
 module _ {self : Register} {x y : ℕ} {text : List ℕ} {work : ℕ} {list : List ℕ} where

@@ -18,7 +18,7 @@ use lib.ListN.{length, take, drop, set, length-set, length-drop}
 use lib.Seq.{drop-at, drop-drop, length-take-le, drop-length, getD-set-same}
 use borrow.Rule.Slice.PartMut.{putMid, take-put}
 use Rattle.book.specs.Book.{Book}
-use Rattle.book.specs.ListLaws.{rest-length}
+use Rattle.book.specs.ListLaws.{rest-whole, rest-length}
 use Rattle.k2.specs.Bits.{bitAt}
 use Rattle.k2.specs.BitLaws.{bit-lt}
 use Rattle.k2.specs.PairSets.{Cells, IsSet, union, diagonal}
@@ -350,7 +350,7 @@ module _ (n : ℕ) (y : Item) (ws used work part : List ℕ) (S : Stack) (q : Ta
   after = record { operands = set (S .operands) (q .below) (treeAlone size Plain); count = q .below + 1; end = q .start + size }
 
   O : Operated (q .term) n ws used 16384 (drop (q .start) work) part r
-  O = subst (λ (l : List ℕ). Operated (q .term) n ws used 16384 l part r) (rest work (q .start))
+  O = subst (λ (l : List ℕ). Operated (q .term) n ws used 16384 l part r) (rest-whole work (q .start))
       (subst (λ (i : ℕ). Operated (q .term) n ws used i (take (length work - q .start) (drop (q .start) work)) part r) bits made)
 
   spaces : Spaces n (q .term) (length (drop (q .start) work)) (length used) 16384

@@ -38,10 +38,9 @@ use Rattle.paths.specs.Questions.{paired, replied, unless, workFor, chainWork, 
 use Rattle.paths.specs.Questions.{listAfter}
 use Rattle.paths.specs.Verdicts.{verdict, verdict-right, accepted-same}
 use Rattle.paths.specs.PairLaws.{fit-inside}
-use Rattle.paths.specs.FirstChainLaws.{reply}
+use Rattle.paths.specs.FirstChainLaws.{reply, length-step-words}
 use Rattle.query.specs.AskingLaws.{outcome-paired}
 use Rattle.query.specs.WorkLaws.{rows-few}
-use Rattle.automaton.specs.WalkLaws.{length-stepWords}
 use Rattle.automaton.specs.ShortChainLaws.{chains-63}
 use Rattle.session.specs.Program.{programRecords, programWords, Frame, asks, faulty, opening, call, pairs as pairs-asked, chain as chain-asked, totalling}
 use Rattle.session.specs.Program.{Session, unopened, opened, openAnswer, rowRecords, engineFor, programPairs, nextSession, Right, listLeft}
@@ -179,7 +178,7 @@ steps-few : (b : Book) → Sound b → b .n ≤ programRecords → (e : Expr) �
     → (x y : ℕ) (t : Reply) → ChainIs (asked b) e x y t → length (steps t) ≤ programWords
 unfolding steps asked
 steps-few b h m e l x y none r = omega arith
-steps-few b h m e l x y (chain ws) (first-chain ss f) = omega (arith, length-stepWords ss, chains-63 (asked b) (fit-inside b (h .sheet)) e l x y ss f)
+steps-few b h m e l x y (chain ws) (first-chain ss f) = omega (arith, length-step-words ss, chains-63 (asked b) (fit-inside b (h .sheet)) e l x y ss f)
 
 pub chain-answered : (b : Book) → Sound b → b .n ≤ programRecords → (e : Expr)
     → letters e ≤ 63 → (x y : ℕ) → x < b .n → y < b .n → (t : Reply) → ChainIs (asked b) e x y t

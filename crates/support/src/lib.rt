@@ -29,7 +29,7 @@ struct Marks {
 }
 
 // The records that fall, ascending, as the first count of words.
-struct Fallen {
+struct FallenList {
     words: [u32; book::MAX_RECORDS],
     count: usize,
 }
@@ -151,7 +151,7 @@ fn fallen(
     after: [bool; book::MAX_RECORDS],
     core: usize,
     n: usize,
-) -> Fallen
+) -> FallenList
     requires { ⌜ (n ≤ maxRecords) × (length before ≡ maxRecords) × (length after ≡ maxRecords) ⌝ }
     ensures { λ r. ⌜ (r .count ≤ maxRecords) × (length (r .words) ≡ maxRecords) × (take (r .count) (r .words) ≡ chosen (Lost before after core) n) ⌝ }
 {
@@ -167,7 +167,7 @@ fn fallen(
         }
         x += 1;
     }
-    Fallen { words, count }
+    FallenList { words, count }
 }
 
 // The first words of an array written over the front of a list.
