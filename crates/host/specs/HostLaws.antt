@@ -88,7 +88,7 @@ calls-book {vs = vs} {ls = ls} (then-draft {cs = cs} ds a l r) b h =
     let g = calls-book r c (f .2) in (
       ap₂ (λ (x y : List ℕ). x ++ y) (f .0) (g .0) ∙ sym (answers-append b (draftCalls ds) cs),
       subst (λ (x : List (List ℕ)). Gives x ls)
-      (sym (givens-append b (draftCalls ds) cs ∙ ap (λ (x : List (List ℕ)). x ++ givens c cs) (none-lent (f .1) refl))) (g .1),
+          (sym (givens-append b (draftCalls ds) cs ∙ ap (λ (x : List (List ℕ)). x ++ givens c cs) (none-lent (f .1) refl))) (g .1),
       subst (λ (x : Book). KeepsBook vs x) (sym (after-append b (draftCalls ds) cs)) (g .2),
     )
 calls-book (refused-draft ds a l r) b h = calls-book r b (subst (λ (x : List ℕ). KeepsBook x b) (sym (a .refused l)) h)

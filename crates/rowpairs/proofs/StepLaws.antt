@@ -1,6 +1,7 @@
 -- One number of the code, in plain variables: where relations lie in the work, and what an item does to those that wait.
 --   start-le, mark-le, space, list-space
 --                      what an item and the list are lent: at most 18 relations stand before, and there is room
+--   first-kept         the first relation is as it was if its words and masks are
 --   goes-step          what the operation left at the front of the parts is the relation at the place of its first operand, and those below stay as they were
 --   lent-space, goes-part
 --                      the same with the words of a row as a number, and the parts as they are lent
@@ -27,7 +28,7 @@ use Rattle.grid.specs.Grid.{Space, rowOf, firstRows, first, second}
 use Rattle.grid.specs.GridLaws.{within-same, second-part}
 use Rattle.query.specs.Evaluation.{relations}
 use Rattle.query.specs.WorkLaws.{width-le, width-wide}
-use Rattle.rowpairs.specs.Evaluation.{Lent, Known, outcomeOf, Operates, relationAt, lying, Goes}
+use Rattle.rowpairs.specs.Evaluation.{Lent, Known, outcomeOf, Operates, relationAt, lying, Goes, Held, relationIn}
 
 -- ---- sizes
 product-le : (k m d : ℕ) → k ≤ m → k * d ≤ m * d
@@ -59,14 +60,13 @@ module _ (n k cells masks : ℕ) (L : Lent n (suc k) cells masks) (early : k ≤
   }
 
 -- what the list is lent
-pub list-space : (n w k cells masks : ℕ) → w ≡ rowWidth n → Lent n k cells masks
-    → Space n w n cells masks
-list-space n w k cells masks e L = record {
-  small = L .small;
-  narrow = rw e (width-le n (L .small));
+pub list-space : (n w cells masks : ℕ) → w ≡ rowWidth n → Held n cells → n ≤ masks → Space n w n cells masks
+list-space n w cells masks e H m = record {
+  small = H .small;
+  narrow = rw e (width-le n (H .small));
   wide = rw e (width-wide n);
-  words = rw e (omega (arith, L .words));
-  marks = omega (arith, L .marks);
+  words = rw e (H .front);
+  marks = m;
 }
 
 -- ---- a slice with a part of it, from a place on, changed
@@ -85,24 +85,25 @@ module _ (xs part : List ℕ) (start : ℕ) (h : start ≤ length xs) where
       ∙ append-nil part
 
 -- ---- relations that lie below what has changed are as they were
+pub first-kept : (n : ℕ) (ws ws′ ms ms′ : List ℕ) → ((i : ℕ) → i < n * rowWidth n → getD ws′ i 0 ≡ getD ws i 0)
+    → ((i : ℕ) → i < n → getD ms′ i 0 ≡ getD ms i 0) → relationIn ws′ ms′ n ≡ relationIn ws ms n
+unfolding firstRows rowOf
+first-kept n ws ws′ ms ms′ same marks =
+    within-same n (firstRows (rowWidth n) ws′ ms′) (firstRows (rowWidth n) ws ms)
+    (λ x y a b.
+    let c : y / 64 < rowWidth n = omega (arith, width-wide n) in
+    let p : x * rowWidth n + y / 64 < n * rowWidth n = omega (arith, next-le x n (rowWidth n) a) in
+    ap₂ (λ (d v : ℕ). min (digit d (y / 64)) (digit v (y % 64))) (marks x a) (same _ p))
+
 module _ (n : ℕ) (ws ws′ ms ms′ : List ℕ) (k : ℕ) (same : (i : ℕ) → i < k * (n * rowWidth n) → getD ws′ i 0 ≡ getD ws i 0)
     (marks : (i : ℕ) → i < k * n → getD ms′ i 0 ≡ getD ms i 0) where
   relation-kept : (j : ℕ) → j < k → relationAt n ws′ ms′ j ≡ relationAt n ws ms j
-  unfolding relationAt firstRows rowOf
-  relation-kept j h = within-same n (rows ws′ ms′) (rows ws ms) cell
-    where
-      rows : List ℕ → List ℕ → Cells
-      rows l m = firstRows (rowWidth n) (drop (j * (n * rowWidth n)) l) (drop (j * n) m)
-
-      cell : (x y : ℕ) → x < n → y < n → rows ws′ ms′ x y ≡ rows ws ms x y
-      cell x y a b =
-          let c : y / 64 < rowWidth n = omega (arith, width-wide n) in
-          let p : j * (n * rowWidth n) + (x * rowWidth n + y / 64) < k * (n * rowWidth n) =
-          omega (arith, next-le x n (rowWidth n) a, next-le j k (n * rowWidth n) h) in
-          let q : j * n + x < k * n = omega (arith, next-le j k n h) in
-          ap₂ (λ (d v : ℕ). min (digit d (y / 64)) (digit v (y % 64)))
-          (getD-drop (j * n) ms′ x 0 ∙ marks (j * n + x) q ∙ sym (getD-drop (j * n) ms x 0))
-          (getD-drop (j * (n * rowWidth n)) ws′ (x * rowWidth n + y / 64) 0 ∙ same _ p ∙ sym (getD-drop (j * (n * rowWidth n)) ws (x * rowWidth n + y / 64) 0))
+  unfolding relationAt
+  relation-kept j h =
+      let at : ℕ = j * (n * rowWidth n) in
+      first-kept n (drop at ws) (drop at ws′) (drop (j * n) ms) (drop (j * n) ms′)
+      (λ i a. getD-drop at ws′ i 0 ∙ same (at + i) (omega (arith, next-le j k (n * rowWidth n) h)) ∙ sym (getD-drop at ws i 0))
+      (λ i a. getD-drop (j * n) ms′ i 0 ∙ marks (j * n + i) (omega (arith, next-le j k n h)) ∙ sym (getD-drop (j * n) ms i 0))
 
   lying-kept : (j : ℕ) → j ≤ k → lying n ws′ ms′ j ≡ lying n ws ms j
   unfolding lying

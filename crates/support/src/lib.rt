@@ -9,15 +9,11 @@ ghost use Rattle.book.specs.Causes.{maxRecords};
 ghost use Rattle.paths.specs.Questions.{chainWork, over};
 ghost use Rattle.paths.specs.Verdicts.{verdict};
 ghost use Rattle.answers.specs.Answers.{Whole};
+ghost use Rattle.rowpairs.specs.Evaluation.{relationIn};
 ghost use Rattle.support.specs.Support.{some, chosen, reaches, orderly, Supports};
-ghost use Rattle.support.specs.Inner.{joinedBy, lost as Lost, Marked, Compares};
+ghost use Rattle.support.specs.Inner.{lost as Lost, Marked, Compares};
 use answers::Counted;
 use register::Register;
-
-// The rows of a relation: a bit for each pair, in words of 64.
-const WORD_BITS: usize = 64;
-
-const ROW_WORDS: usize = book::MAX_RECORDS * book::MAX_RECORDS / WORD_BITS;
 
 // The words of work for each record beside those of a pair question.
 const RECORD_WORDS: usize = 64;
@@ -65,27 +61,14 @@ fn ascending(records: &[u16]) -> bool
     true
 }
 
-// Whether the rows of a relation have a pair.
-fn has_pair(rows: &[u64], from: usize, to: usize) -> bool
-    requires { ⌜ (from < maxRecords) × (to < 65536) ⌝ }
-    ensures { λ r. ⌜ r ≡ eqb (joinedBy (now (rows .entry)) from to) 1 ⌝ }
-{
-    let p = from * book::MAX_RECORDS + to;
-    let q = p / WORD_BITS;
-    if rows.len() <= q {
-        return false;
-    }
-    (rows[q] >> (p % WORD_BITS)) % 2 == 1
-}
-
-// Whether the rows of a relation join a record to some anchor.
-fn joined_to_some(rows: &[u64], record: usize, anchors: &[u16]) -> bool
-    requires { ⌜ «record» < maxRecords ⌝ }
-    ensures { λ r. ⌜ r ≡ reaches (joinedBy (now (rows .entry))) (now (anchors .entry)) «record» ⌝ }
+// Whether a relation of m records joins a record to some anchor.
+fn joined_to_some(cells: &[u64], masks: &[u16], m: usize, record: usize, anchors: &[u16]) -> bool
+    requires { ⌜ m ≤ maxRecords ⌝ }
+    ensures { λ r. ⌜ r ≡ reaches (relationIn (now (cells .entry)) (now (masks .entry)) m) (now (anchors .entry)) «record» ⌝ }
 {
     let mut i = 0;
     while i < anchors.len() {
-        if has_pair(rows, record, anchors[i] as usize) {
+        if engine::joins(cells, masks, m, record, anchors[i] as usize) {
             return true;
         }
         i += 1;
@@ -93,15 +76,22 @@ fn joined_to_some(rows: &[u64], record: usize, anchors: &[u16]) -> bool
     false
 }
 
-// Of each record below n, whether the rows of a relation join it to some anchor.
-fn joined_records(rows: &[u64], anchors: &[u16], n: usize) -> [bool; book::MAX_RECORDS]
-    requires { ⌜ n ≤ maxRecords ⌝ }
-    ensures { λ r. ⌜ (length r ≡ maxRecords) × ((x : ℕ) → x < n → getD r x false ≡ reaches (joinedBy (now (rows .entry))) (now (anchors .entry)) x) ⌝ }
+// Of each record below n, whether a relation of m records joins it to some anchor.
+fn joined_records(
+    cells: &[u64],
+    masks: &[u16],
+    m: usize,
+    anchors: &[u16],
+    n: usize,
+) -> [bool; book::MAX_RECORDS]
+    requires { ⌜ (m ≤ maxRecords) × (n ≤ maxRecords) ⌝ }
+    ensures { λ r. ⌜ (length r ≡ maxRecords)
+        × ((x : ℕ) → x < n → getD r x false ≡ reaches (relationIn (now (cells .entry)) (now (masks .entry)) m) (now (anchors .entry)) x) ⌝ }
 {
     let mut records: [bool; book::MAX_RECORDS] = [false; book::MAX_RECORDS];
     let mut x = 0;
     while x < n {
-        records[x] = joined_to_some(rows, x, anchors);
+        records[x] = joined_to_some(cells, masks, m, x, anchors);
         x += 1;
     }
     records
@@ -115,18 +105,19 @@ fn mark_records(
     work: &mut [u64],
     n: usize,
 ) -> Marks
-    requires { ⌜ (n ≤ maxRecords) × (some (leb n) (now anchors) ≡ false) ⌝ }
+    requires { ⌜ n ≤ maxRecords ⌝ }
     ensures { λ r. ⌜ Marked register (verdict (now (text .entry))) (now (anchors .entry)) (length (now (work .entry))) n r ⌝ }
 {
-    let mut rows: [u64; ROW_WORDS] = [0; ROW_WORDS];
-    let answer = engine::relation(register, text, work, &mut rows);
+    let related = engine::relate(register, text, work);
+    let answer = related.answer;
+    let masks = related.masks;
     match answer {
         Counted::Refused(number) => Marks {
             records: [false; book::MAX_RECORDS],
             number,
         },
-        Counted::Count(_) => Marks {
-            records: joined_records(&rows, anchors, n),
+        Counted::Count(m) => Marks {
+            records: joined_records(work, &masks, m, anchors, n),
             number: 0,
         },
     }

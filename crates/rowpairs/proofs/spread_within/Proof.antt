@@ -47,7 +47,9 @@ spread-requires : tie.Need-spread-requires
 spread-requires c κs =
     let after-run = c .before .before .before .before .before .before .before in
     let start = after-run .before .before .before .before .before .before .before .before in
-    (list-space _ _ 0 _ _ (c .before .row-width .ensures) (lent after-run), start .pre .3)
+    let L = lent after-run in
+    (list-space (start .args .n) _ (length (after-run .run .last .1 .1 .0)) (length (after-run .run .last .1 .1 .1 .0)) (c .before .row-width .ensures)
+    (record { small = L .small; front = omega (arith, L .words) }) (omega (arith, L .marks)), start .pre .3)
 
 same-length : tie.Need-same-length
 same-length c = search needs

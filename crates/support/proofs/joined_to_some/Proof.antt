@@ -6,39 +6,44 @@ use Prim.Native.Nat.{_-_, _≤_}
 use lib.Dec.{eqb}
 use lib.ListN.{length, drop}
 use Rattle.support.specs.Support.{some, reaches}
-use Rattle.support.specs.Inner.{joinedBy}
+use Rattle.rowpairs.specs.Evaluation.{relationIn}
 use Rattle.support.proofs.LoopLaws.{some-found, some-next, some-past}
+use borrow.Author.Needs.{needs}
 use Rattle.support.proofs.joined_to_some.Statement.{statement}
 use Rattle.support.proofs.joined_to_some.Tie as tie
 
 abbrev Inv-loop : tie.InvT-loop
-Inv-loop rows «record» anchors i₀ i =
-    (i ≤ length anchors) × (reaches (joinedBy rows) anchors «record» ≡ some (λ a. eqb (joinedBy rows «record» a) 1) (drop i anchors))
+Inv-loop cells masks m «record» anchors i₀ i =
+    (i ≤ length anchors) × (reaches (relationIn cells masks m) anchors «record» ≡ some (λ a. eqb (relationIn cells masks m «record» a) 1) (drop i anchors))
 
 abbrev μ-loop : tie.MeasureT-loop
-μ-loop rows «record» anchors i₀ i = length anchors - i
+μ-loop cells masks m «record» anchors i₀ i = length anchors - i
 
 loop-holds : tie.Need-loop-holds Inv-loop μ-loop
 unfolding reaches
 loop-holds c = (omega arith, refl)
 
-mul-has-pair : tie.Need-mul-has-pair Inv-loop μ-loop
-mul-has-pair c = omega arith
+mul-joins : tie.Need-mul-joins Inv-loop μ-loop
+mul-joins c = omega arith
 
-shared-slice-read-has-pair : tie.Need-shared-slice-read-has-pair Inv-loop μ-loop
-shared-slice-read-has-pair c = omega arith
+shared-slice-read-joins : tie.Need-shared-slice-read-joins Inv-loop μ-loop
+shared-slice-read-joins c = omega arith
 
-cast-has-pair : tie.Need-cast-has-pair Inv-loop μ-loop
-cast-has-pair c = omega (arith, c .shared-slice-known3 .given (c .before .before .loop .i) .fits)
+cast-joins : tie.Need-cast-joins Inv-loop μ-loop
+cast-joins c = omega (arith, c .shared-slice-known4 .given (c .before .before .loop .i) .fits)
 
-has-pair-requires : tie.Need-has-pair-requires Inv-loop μ-loop
-has-pair-requires c κs = (c .before .before .before .before .before .pre, omega (arith, c .shared-slice-known3 .given (c .before .before .loop .i) .fits))
+joins-requires : tie.Need-joins-requires Inv-loop μ-loop
+joins-requires c κs = search needs
 
 returns : tie.Need-returns Inv-loop μ-loop
-returns c = let l = c .before .before .before .before .loop in
-    let a = c .before .before .before .before .before .before .before .args in
-    sym (l .inv .1 ∙ some-found (λ x. eqb (joinedBy (a .rows .now) (a .«record») x) 1)
-    (a .anchors .now) (l .i) (omega arith) (sym (c .before .has-pair .ensures) ∙ c .if1 .taken))
+returns c =
+    let in-loop = c .before .before .before in
+    let start = in-loop .before .before .before .before .before in
+    let l = in-loop .before .loop in
+    let a = start .args in
+    sym (l .inv .1 ∙ some-found (λ x. eqb (relationIn (a .cells .now) (a .masks .now) (a .m) (a .«record») x) 1)
+    (a .anchors .now) (l .i) (omega (arith, in-loop .loop-test .taken))
+    (sym (c .before .joins .ensures (start .pre)) ∙ c .if1 .taken))
 
 add-i : tie.Need-add-i Inv-loop μ-loop
 add-i c = omega arith
@@ -47,17 +52,23 @@ loop-less : tie.Need-loop-less Inv-loop μ-loop
 loop-less c = omega arith
 
 loop-again : tie.Need-loop-again Inv-loop μ-loop
-loop-again c = let l = c .before .before .before .before .loop in
-    let a = c .before .before .before .before .before .before .before .args in (
-      omega arith,
-      l .inv .1 ∙ some-next (λ x. eqb (joinedBy (a .rows .now) (a .«record») x) 1)
-          (a .anchors .now) (l .i) (omega arith) (sym (c .before .has-pair .ensures) ∙ c .if1 .left),
+loop-again c =
+    let in-loop = c .before .before .before in
+    let start = in-loop .before .before .before .before .before in
+    let l = in-loop .before .loop in
+    let a = start .args in (
+      omega (arith, in-loop .loop-test .taken),
+      l .inv .1 ∙ some-next (λ x. eqb (relationIn (a .cells .now) (a .masks .now) (a .m) (a .«record») x) 1)
+          (a .anchors .now) (l .i) (omega (arith, in-loop .loop-test .taken))
+          (sym (c .before .joins .ensures (start .pre)) ∙ c .if1 .left),
     )
 
 returns-2 : tie.Need-returns-2 Inv-loop μ-loop
-returns-2 c = let l = c .before .loop in
-    let a = c .before .before .before .before .args in
-    sym (l .inv .1 ∙ some-past (λ x. eqb (joinedBy (a .rows .now) (a .«record») x) 1) (a .anchors .now) (l .i) (omega arith))
+returns-2 c =
+    let l = c .before .loop in
+    let a = c .before .before .before .before .before .args in
+    sym (l .inv .1 ∙ some-past (λ x. eqb (relationIn (a .cells .now) (a .masks .now) (a .m) (a .«record») x) 1)
+    (a .anchors .now) (l .i) (omega (arith, c .loop-test .left)))
 
 pub joined-to-some-spec : {M : Type 1} → statement M
 joined-to-some-spec =
@@ -66,10 +77,10 @@ joined-to-some-spec =
     Inv-loop
     μ-loop
     loop-holds
-    mul-has-pair
-    shared-slice-read-has-pair
-    cast-has-pair
-    has-pair-requires
+    mul-joins
+    shared-slice-read-joins
+    cast-joins
+    joins-requires
     returns
     add-i
     loop-less
