@@ -23,9 +23,8 @@ use Rattle.k2.specs.DigitLaws.{digit-none, digit-or}
 use Rattle.k2.specs.WordLaws.{or-none}
 use Rattle.automaton.specs.Automata.{On}
 use Rattle.automaton.specs.LevelLaws.{Which, less, same, more, which}
-use Rattle.arcs.specs.ArcLaws.{some-on}
 use Rattle.search.specs.Frontiers.{Added, hasState, Listed, Frontier, Zero}
-use Rattle.search.proofs.LowestLaws.{Digit, is-on, is-off, digit-of}
+use Rattle.automaton.specs.LowestLaws.{some-on, Digit, is-on, is-off, digit-of}
 use Rattle.search.proofs.LevelLaws.{ones-mono, ones-less, mask-here, mask-off}
 
 -- ---- states added

@@ -33,10 +33,10 @@ use Rattle.automaton.specs.Masks.{letterNumber}
 use Rattle.automaton.specs.Searches.{Walk, Moves, Reach, Shut, Known, Grown}
 use Rattle.automaton.specs.LevelLaws.{walk-stop, walk-ends, known-grown, known-none, Which, less, same, more, which}
 use Rattle.arcs.specs.Arcs.{arcFrom, arcTo, arcLetter, letterOf, arcStep}
-use Rattle.arcs.specs.ArcLaws.{none-on, number-letter}
+use Rattle.arcs.specs.ArcLaws.{number-letter}
 use Rattle.search.specs.Levels.{Setting, numberAt, distance, Levelled, Stamped, Committed, Sought, found}
 use Rattle.search.specs.Frontiers.{Zero}
-use Rattle.search.proofs.LowestLaws.{Digit, is-on, is-off, digit-of}
+use Rattle.automaton.specs.LowestLaws.{none-on, Digit, is-on, is-off, digit-of}
 use Rattle.search.proofs.MaskLaws.{zero-at}
 
 -- ---- the number counts where the state was seen

@@ -10,9 +10,8 @@ use Rattle.k2.specs.Bits.{digit}
 use Rattle.k2.specs.DigitLaws.{digit-or}
 use Rattle.automaton.specs.Automata.{On}
 use Rattle.automaton.specs.SetLaws.{on-max}
-use Rattle.arcs.specs.ArcLaws.{none-on}
 use Rattle.search.specs.Levels.{Spread}
-use Rattle.search.proofs.LowestLaws.{Lowest, gone, Among}
+use Rattle.automaton.specs.LowestLaws.{none-on, Lowest, gone, Among}
 
 pub zero-at : (n i : ℕ) → getD {A = ℕ} (replicate n 0) i 0 ≡ 0
 zero-at zero i = refl

@@ -35,13 +35,12 @@ use Rattle.automaton.specs.Searches.{Walk}
 use Rattle.automaton.specs.WalkLaws.{answers-walk}
 use Rattle.automaton.specs.LevelLaws.{walk-stop, walk-more, walk-ends, walk-less}
 use Rattle.arcs.specs.Arcs.{arcFrom, arcTo, arcLetter}
-use Rattle.arcs.specs.ArcLaws.{none-on, some-on}
 use Rattle.arcs.specs.Index.{firstArc, nextArc, Cursor, Indexed}
 use Rattle.arcs.specs.IndexLaws.{before-first, only-arc}
 use Rattle.search.specs.Levels.{Setting, Spread}
 use Rattle.search.specs.Frontiers.{Added, hasState, Listed, Zero}
 use Rattle.search.specs.Reaching.{Came, begins, onward, Due, Expanding, Reached, toDo, Fewer, Ended}
-use Rattle.search.proofs.LowestLaws.{Digit, is-on, is-off, digit-of, some-digit, below-pow}
+use Rattle.automaton.specs.LowestLaws.{none-on, some-on, Digit, is-on, is-off, digit-of, some-digit, below-pow}
 use Rattle.search.proofs.MarkLaws.{bit-off, bit-at}
 use Rattle.search.proofs.LevelLaws.{ones-mono, ones-less, step-arc, shut, arc-moves}
 

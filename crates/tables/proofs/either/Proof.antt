@@ -88,14 +88,14 @@ element-write-r-4 c = search needs
 
 returns : tie.Need-returns
 returns c =
-    let s = c .before .before .before .before .before .before .before .before .args .b in
+    let s = c .before .before .before .before .before .before .before .before .args .s in
     let k-first : length (s .first) ≡ 19 = search needs in
     let k-last : length (s .last) ≡ 19 = search needs in
     let k-own : length (s .own) ≡ 19 = search needs in
     let k-nullable : length (s .nullable) ≡ 19 = search needs in
     let et : suc (s .top - 1) ≡ s .top = omega arith in
     let ei : suc (s .top - 1 - 1) ≡ s .top - 1 = omega arith in
-    λ m x y st H. holds-alternative H _ et refl (s .top - 1 - 1) (s .top - 1) et ei _ _ _ (omega arith)
+    λ fs ps es m x y st H. holds-alternative H _ et refl (s .top - 1 - 1) (s .top - 1) et ei _ _ _ (omega arith)
     (omega arith) (omega arith) (omega arith) refl refl refl refl refl refl refl refl refl refl
 
 pub either-spec : {M : Type 1} → statement M

@@ -26,12 +26,6 @@ mul-first c = search needs
 element-copy-out-first : tie.Need-element-copy-out-first
 element-copy-out-first c = search needs
 
-with-edges-requires : tie.Need-with-edges-requires
-with-edges-requires c κs = search needs
-
-with-edges-requires-2 : tie.Need-with-edges-requires-2
-with-edges-requires-2 c κs = search needs
-
 mul-r : tie.Need-mul-r
 mul-r c = search needs
 
@@ -110,20 +104,36 @@ mul-r-10 c = search needs
 element-write-r-4 : tie.Need-element-write-r-4
 element-write-r-4 c = search needs
 
+with-edges-requires : tie.Need-with-edges-requires
+with-edges-requires c κs = search needs
+
+with-edges-requires-2 : tie.Need-with-edges-requires-2
+with-edges-requires-2 c κs = search needs
+
+same-length : tie.Need-same-length
+same-length c = search needs
+
+same-length-2 : tie.Need-same-length-2
+same-length-2 c = search needs
+
 returns : tie.Need-returns
 returns c =
-    let s = c .before .before .before .before .before .before .before .before .before .before .before .before .before .before .before .before .args .b in
+    let s = (let earlier = c .before .before .before .before .before .before .before .before .before .before .before in
+    earlier .before .before .before .before .before .before .before .before .before .before .before) .args .s in
     let k-first : length (s .first) ≡ 19 = search needs in
     let k-last : length (s .last) ≡ 19 = search needs in
     let k-own : length (s .own) ≡ 19 = search needs in
     let k-nullable : length (s .nullable) ≡ 19 = search needs in
     let et : suc (s .top - 1) ≡ s .top = omega arith in
     let ei : suc (s .top - 1 - 1) ≡ s .top - 1 = omega arith in
-    λ m x y st H. holds-sequence H _ et refl (s .top - 1 - 1) (s .top - 1) et ei _ _ _ (omega arith) (omega arith) (omega arith) (omega arith) refl refl refl
-    refl refl (c .before .before .before .before .before .before .before .only .result) (c .before .before .before .before .only2 .result)
-    (c .before .before .before .before .before .before .before .before .before .before .before .with-edges .ensures)
-    (c .before .before .before .before .before .before .before .before .before .before .with-edges2 .ensures)
-    (c .before .before .before .before .before .before .before .only .ensures) (c .before .before .before .before .only2 .ensures) refl refl refl
+    λ es m x y st H. holds-sequence H _ et refl (s .top - 1 - 1) (s .top - 1) et ei _ _ _ (omega arith) (omega arith) (omega arith) (omega arith) refl refl refl
+    refl refl ((let earlier = c .before .before .before .before .before .before .before in
+    earlier .before .before .before .before .before .before .before .before) .only .result)
+    (c .before .before .before .before .before .before .before .before .before .before .before .before .only2 .result)
+    (c .before .before .before .before .before .before .with-edges .ensures) (c .before .before .with-edges2 .ensures)
+    ((let earlier = c .before .before .before .before .before .before .before in
+    earlier .before .before .before .before .before .before .before .before) .only .ensures)
+    (c .before .before .before .before .before .before .before .before .before .before .before .before .only2 .ensures) refl refl refl
 
 pub followed-spec : {M : Type 1} → statement M
 followed-spec =
@@ -135,8 +145,6 @@ followed-spec =
     element-copy-out-last
     mul-first
     element-copy-out-first
-    with-edges-requires
-    with-edges-requires-2
     mul-r
     element-copy-out-r
     mul-only
@@ -163,4 +171,8 @@ followed-spec =
     element-copy-out-r-6
     mul-r-10
     element-write-r-4
+    with-edges-requires
+    with-edges-requires-2
+    same-length
+    same-length-2
     returns)

@@ -1,5 +1,5 @@
 -- `inverted` meets its contract, by the law of the tables (holds-inverse). Assumes nothing.
-use mathlib.Core.Path.{_≡_, refl}
+use mathlib.Core.Path.{_≡_, refl, _∙_}
 use native.Mathlib.Omega.{arith}
 use borrow.Author.Needs.{needs}
 use lib.ListN.{length}
@@ -15,15 +15,6 @@ mul-own c = search needs
 
 element-copy-out-own : tie.Need-element-copy-out-own
 element-copy-out-own c = search needs
-
-mixed-requires : tie.Need-mixed-requires
-mixed-requires c κs = search needs
-
-mixed-requires-2 : tie.Need-mixed-requires-2
-mixed-requires-2 c κs = search needs
-
-mirrored-requires : tie.Need-mirrored-requires
-mirrored-requires c κs = search needs
 
 mul-first : tie.Need-mul-first
 mul-first c = search needs
@@ -49,15 +40,31 @@ mul-r-3 c = search needs
 element-write-r-2 : tie.Need-element-write-r-2
 element-write-r-2 c = search needs
 
+exchange-requires : tie.Need-exchange-requires
+exchange-requires c κs = search needs
+
+mirror-requires : tie.Need-mirror-requires
+mirror-requires c κs = search needs
+
+same-length : tie.Need-same-length
+same-length c = search needs
+
+same-length-2 : tie.Need-same-length-2
+same-length-2 c = search needs
+
+same-length-3 : tie.Need-same-length-3
+same-length-3 c = search needs
+
 returns : tie.Need-returns
 returns c =
-    let s = c .before .before .before .before .before .before .before .before .before .args .b in
+    let start = c .before .before .before .before .before .before .before .before .before .before .before .before .before .before .before .before .before in
+    let s = start .args .s in
     let k-first : length (s .first) ≡ 19 = search needs in
     let k-last : length (s .last) ≡ 19 = search needs in
-    let k-enter : length (s .enter) ≡ 64 = search needs in
-    let k-mirrored : length (c .before .before .mirrored .result) ≡ 64 = search needs in
-    λ m x st H. holds-inverse H (omega arith) (omega arith) k-enter k-mirrored refl refl refl refl refl refl
-    (c .before .before .before .before .mixed .ensures) (c .before .before .before .mixed2 .ensures) (c .before .before .mirrored .ensures)
+    let turned = c .before .before .mirror in
+    let swapped = c .before .before .before .before .before .before .before .before .exchange in
+    λ m x st H. holds-inverse H (omega arith) (omega arith) (start .pre .2) (turned .kept .0 ∙ start .pre .2) refl refl refl refl refl refl
+    (swapped .ensures .0) (swapped .ensures .1) (turned .ensures)
 
 pub inverted-spec : {M : Type 1} → statement M
 inverted-spec =
@@ -66,9 +73,6 @@ inverted-spec =
     sub-j
     mul-own
     element-copy-out-own
-    mixed-requires
-    mixed-requires-2
-    mirrored-requires
     mul-first
     element-copy-out-first
     mul-r
@@ -77,4 +81,9 @@ inverted-spec =
     element-write-r
     mul-r-3
     element-write-r-2
+    exchange-requires
+    mirror-requires
+    same-length
+    same-length-2
+    same-length-3
     returns)

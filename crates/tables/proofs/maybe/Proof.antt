@@ -18,8 +18,8 @@ element-write-r c = search needs
 
 returns : tie.Need-returns
 returns c =
-    let k : length (c .args .b .nullable) ≡ 19 = search needs in
-    λ m x st H. holds-optional H (omega arith) refl refl refl refl refl refl refl refl refl
+    let k : length (c .args .s .nullable) ≡ 19 = search needs in
+    λ fs ps es m x st H. holds-optional H (omega arith) refl refl refl refl refl refl refl refl refl
 
 pub maybe-spec : {M : Type 1} → statement M
 maybe-spec = tie.close (tie.spec sub-j mul-r element-write-r returns)

@@ -26,8 +26,16 @@ with-edges-requires c κs = search needs
 with-edges-requires-2 : tie.Need-with-edges-requires-2
 with-edges-requires-2 c κs = search needs
 
+same-length : tie.Need-same-length
+same-length c = search needs
+
+same-length-2 : tie.Need-same-length-2
+same-length-2 c = search needs
+
 returns : tie.Need-returns
-returns c = (λ m x st H. holds-plus H refl refl refl refl refl refl refl (c .before .with-edges .ensures) (c .with-edges2 .ensures), refl)
+returns c =
+    let after-with-edges = c .before .before .before .before .before .before in
+    λ es m x st H. holds-plus H refl refl refl refl refl refl refl (after-with-edges .with-edges .ensures) (c .before .before .with-edges2 .ensures)
 
 pub repeated-spec : {M : Type 1} → statement M
 repeated-spec =
@@ -40,4 +48,6 @@ repeated-spec =
     element-copy-out-first
     with-edges-requires
     with-edges-requires-2
+    same-length
+    same-length-2
     returns)

@@ -1,61 +1,60 @@
--- `joined` meets its contract. The loop's invariant: it is met for the rows below p (Joined). The measure is what is left of the rows. Assumes nothing.
+-- `with_edges` goes over the bits of `from`, the lowest first. The loop's invariant: the set is joined to the rows of the states that are not left
+-- (`Joining`). The measure is what is left. It rests on `joined-more`. Assumes nothing.
 use mathlib.Core.Path.{_≡_}
-use mathlib.Core.Logic.{⊎-elim}
-use Prim.Native.Nat.{_-_, _≤_}
+use Prim.Native.Nat.{_-_}
 use native.Mathlib.Omega.{arith}
 use borrow.Author.Needs.{needs}
-use lib.ListN.{length, length-set}
-use Rattle.k2.specs.Bits.{digit}
-use Rattle.tables.specs.Rows.{Joined}
-use Rattle.tables.proofs.RowLaws.{with-edges-none, with-edges-yes, with-edges-no}
+use lib.Bits.{bitAnd}
+use lib.Count.{trailingZeros}
+use Rattle.automaton.specs.LowestLaws.{Lowest, lowest}
+use Rattle.tables.proofs.RowLaws.{Joining, joining-none, joining-more, joining-all}
 use Rattle.tables.proofs.with_edges.Statement.{statement}
 use Rattle.tables.proofs.with_edges.Tie as tie
 
 abbrev Inv-loop : tie.InvT-loop
-Inv-loop from to r₀ p₀ r p = (p ≤ 64) × (length r ≡ 64) × Joined r₀ (digit from) to p r
+Inv-loop rows₀ from to left₀ rows left = Joining rows₀ from to left rows
 
 abbrev μ-loop : tie.MeasureT-loop
-μ-loop from to r₀ p₀ r p = 64 - p
+μ-loop rows₀ from to left₀ rows left = left
+
+-- the lowest bit that is left
+turn : (c : tie.In-loop Inv-loop μ-loop) → let left = c .before .loop .left in Lowest left (trailingZeros 64 left) (bitAnd left (left - 1))
+turn c = lowest (c .before .loop .left) (omega arith) (c .before .loop .inv .low)
 
 loop-holds : tie.Need-loop-holds Inv-loop μ-loop
-loop-holds c = (omega arith, search needs, with-edges-none _ _ _)
+loop-holds c = joining-none _ _ _ (omega arith) (c .pre)
 
-shr-if1 : tie.Need-shr-if1 Inv-loop μ-loop
-shr-if1 c = omega arith
+cast-p : tie.Need-cast-p Inv-loop μ-loop
+cast-p c = omega (arith, turn (c) .small, c .before .loop .inv .long)
 
-mul-r : tie.Need-mul-r Inv-loop μ-loop
-mul-r c = omega arith
+mul-rows : tie.Need-mul-rows Inv-loop μ-loop
+mul-rows c = omega (arith, turn (c) .small, c .before .loop .inv .long)
 
-array-read-r : tie.Need-array-read-r Inv-loop μ-loop
-array-read-r c = omega arith
+slice-read-rows : tie.Need-slice-read-rows Inv-loop μ-loop
+slice-read-rows c = omega (arith, turn (c .before) .small, c .before .before .loop .inv .long)
 
-mul-r-2 : tie.Need-mul-r-2 Inv-loop μ-loop
-mul-r-2 c = omega arith
+mul-rows-2 : tie.Need-mul-rows-2 Inv-loop μ-loop
+mul-rows-2 c = omega (arith, turn (c .before) .small, c .before .before .loop .inv .long)
 
-array-write-r : tie.Need-array-write-r Inv-loop μ-loop
-array-write-r c = omega arith
+slice-write-rows : tie.Need-slice-write-rows Inv-loop μ-loop
+slice-write-rows c = omega (arith, turn (c .before) .small, c .before .before .loop .inv .long)
 
-add-p : tie.Need-add-p Inv-loop μ-loop
-add-p c = omega arith
+sub-left : tie.Need-sub-left Inv-loop μ-loop
+sub-left c = omega arith
 
 loop-less : tie.Need-loop-less Inv-loop μ-loop
-loop-less c = omega arith
+loop-less c = turn (c .before) .falls
 
 loop-again : tie.Need-loop-again Inv-loop μ-loop
-unfolding digit
-loop-again c =
-    let l = c .before .before .loop in
-    ⊎-elim
-    (λ w. (
-      omega arith,
-      rw (w .1) (simp length-set (l .inv .1)),
-      rw (w .1) (with-edges-yes (l .inv .2) (omega (arith, w .0 .taken)) (omega arith) (omega arith)),
-    ))
-    (λ w. (omega arith, rw (w .1) (l .inv .1), rw (w .1) (with-edges-no (l .inv .2) (λ o. omega (arith, w .0 .left)))))
-    (c .if1 .came)
+loop-again c = joining-more (c .before .before .loop .inv) (turn (c .before))
+
+same-length : tie.Need-same-length Inv-loop μ-loop
+same-length c = search needs
 
 returns : tie.Need-returns Inv-loop μ-loop
-returns c = let e : c .before .loop .p ≡ 64 = omega arith in rw e at (c .before .loop .inv .2)
+returns c =
+    let e : c .before .loop .left ≡ 0 = omega arith in
+    joining-all (rw e at (c .before .loop .inv))
 
 pub with-edges-spec : {M : Type 1} → statement M
 with-edges-spec =
@@ -64,12 +63,13 @@ with-edges-spec =
     Inv-loop
     μ-loop
     loop-holds
-    shr-if1
-    mul-r
-    array-read-r
-    mul-r-2
-    array-write-r
-    add-p
+    cast-p
+    mul-rows
+    slice-read-rows
+    mul-rows-2
+    slice-write-rows
+    sub-left
     loop-less
     loop-again
+    same-length
     returns)

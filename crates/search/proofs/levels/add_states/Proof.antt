@@ -5,7 +5,7 @@ use native.Mathlib.Omega.{arith}
 use borrow.Author.Needs.{needs}
 use Rattle.k2.specs.Bits.{digit}
 use Rattle.automaton.specs.Automata.{On}
-use Rattle.search.proofs.LowestLaws.{some-digit}
+use Rattle.automaton.specs.LowestLaws.{some-digit}
 use Rattle.search.proofs.FrontierLaws.{added-zero, added-past, added-more, listed-old, list-room, listed-new}
 use Rattle.search.proofs.levels.add_states.Statement.{statement}
 use Rattle.search.proofs.levels.add_states.Tie as tie
