@@ -18,7 +18,7 @@ use Rattle.book.specs.Book.{Book, Edit, Call, edit, undo, close, given}
 use Rattle.register.specs.History.{Lent}
 use Rattle.register.specs.Words.{Keeps}
 use Rattle.register.specs.declared.Register.{Register}
-use Rattle.engine.specs.Drafts.{draftCalls}
+use Rattle.register.specs.Drafts.{draftCalls}
 use Rattle.host.specs.Host.{KeepsBook, pastCounts, Freshens, Edits}
 use Rattle.host.specs.Drafts.{Applies}
 

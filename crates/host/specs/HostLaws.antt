@@ -30,8 +30,8 @@ use Rattle.query.specs.Asking.{Asks}
 use Rattle.chains.specs.Replies.{BookReplies, Replies, chainCounted}
 use Rattle.chains.specs.declared.ChainAnswer.{ChainAnswer}
 use Rattle.chains.specs.declared.ChainAnswer.the-variants.{Chain, NoChain, Refused as Unchained}
-use Rattle.engine.specs.Drafts.{draftCalls, madeWords}
-use Rattle.engine.specs.declared.drafts.DraftAnswer.{DraftAnswer}
+use Rattle.register.specs.Drafts.{draftCalls, madeWords}
+use Rattle.register.specs.declared.DraftAnswer.{DraftAnswer}
 use Rattle.host.specs.Drafts.{Applies}
 use Rattle.host.specs.DraftLaws.{made-told}
 use Rattle.host.specs.Histories.{Calls, none, then-edit, then-undo, then-close, then-draft, refused-draft, WordsMade}

@@ -19,22 +19,27 @@
 --   markIn ws x           the mark of the record x, as it stands among any words
 --   Shown ws f l          of a register's words l is f of that register
 --   Tested P ok           ok is whether P
+--   DraftSteps self e out what is promised of an entry of a draft: of a call what `Steps` says; no call is refused with 15 and changes nothing
+--   Reached self ws r     from the register self on, every word of ws was accepted, and they led to the register r
 -- Assumes nothing: these are definitions.
 use mathlib.Core.Path.{_≡_}
 use mathlib.Core.List.{List, _∷_, []}
 use mathlib.Core.Bool.{Bool, true, false, _||_}
 use Prim.Native.Nat.{ℕ, _*_, _≤_, _<_}
-use lib.ListN.{length, take, drop, getD}
+use lib.ListN.{length, take, drop, getD, replicate}
 use lib.Dec.{leb}
 use Rattle.book.specs.Basics.{Rises}
-use Rattle.book.specs.Causes.{Cause, no-record, bad-label, locked-end, already, missing, withdrawn-record, number, labels, maxRecords, maxLinks}
+use Rattle.book.specs.Causes.{Cause, no-record, bad-label, locked-end, already, missing, withdrawn-record, unknown-kind, number, labels, maxRecords, maxLinks}
 use Rattle.book.specs.Causes.{maxHeld}
-use Rattle.book.specs.Book.{Link, Edit, lock, unlock, withdraw, reinstate}
+use Rattle.book.specs.Book.{Link, Book, Call, Edit, lock, unlock, withdraw, reinstate}
 use Rattle.links.specs.Links.{wordTotal}
 use Rattle.register.specs.Marks.{freeMark, lockMark, withdrawnMark, hasMark, Marked}
 use Rattle.register.specs.Packed.{Packed, kindUnit, takeBackKind}
 use Rattle.register.specs.Counters.{Ranged}
-use Rattle.register.specs.Representation.{heldWords, packedOf}
+use Rattle.register.specs.Representation.{heldWords, packedOf, Represents}
+use Rattle.register.specs.Calls.{answerOf, Steps}
+use Rattle.register.specs.History.{CallsMade, Entry, is-call, no-call}
+use Rattle.register.specs.Drafts.{draftCalls, draftNumbers}
 use Rattle.register.specs.Questions.{Sized}
 use Rattle.register.specs.Words.{stateWords, marksAt, Keeps, OfWords}
 use Rattle.register.specs.declared.Register.{Register}
@@ -131,3 +136,11 @@ Shown ws f l = (r : Register) → Keeps ws r → l ≡ f r
 pub record Tested (P : Type 0) (ok : Bool) : Type 0 where
   pub sure : ok ≡ true → P
   pub none : ok ≡ false → P → ⊥
+
+pub data DraftSteps (self : Register) : Entry → Outcome → Type 0 where
+  steps : {c : Call} {out : Outcome} → Steps self c out → DraftSteps self (is-call c) out
+  turned-down : {out : Outcome} → out .answer ≡ answerOf (number unknown-kind) → out .register ≡ self → DraftSteps self no-call out
+
+pub record Reached (self : Register) (ws : List ℕ) (r : Register) : Type 0 where
+  pub made : CallsMade self (draftCalls ws) (replicate (length ws) 0) [] r
+  pub numbers : (b : Book) → Represents self b → draftNumbers b ws ≡ replicate (length ws) 0

@@ -8,6 +8,7 @@ pub mod History
 pub mod Made
 pub mod Questions
 pub mod Words
+pub mod Drafts
 pub mod Inner
 pub mod Closing
 pub mod Parting
@@ -18,3 +19,4 @@ pub mod EntryLaws
 pub mod LaidLaws
 pub mod WordLaws
 pub mod PartingLaws
+pub mod DraftLaws

@@ -1,8 +1,9 @@
-// The register: links, marks and held edits by value. This file has its types and its numbers, and passes the rest on: state.rt
-// a fresh register, edits.rt the calls that edit it, closing.rt closing up its numbers, parting.rt the register without a record's links,
+// The register: links, marks and held edits by value. This file has its types and its numbers, and passes the rest on: state.rt a fresh register, edits.rt the
+// calls that edit it, drafts.rt a list of them made all or none, closing.rt closing up its numbers, parting.rt the register without a record's links,
 // history.rt a history as words, questions.rt what questions read, words.rt its words.
 // What the calls promise is stated in specs/Calls.antt, specs/History.antt and specs/Questions.antt, about the plain book of the crate book.
 mod closing;
+mod drafts;
 mod edits;
 mod history;
 mod parting;
@@ -96,6 +97,18 @@ pub enum Call {
 pub struct Outcome {
     pub register: Register,
     pub answer: Answer,
+}
+
+// The answer to a draft: every call made, or none, with the place of the first that is refused and its number.
+pub enum DraftAnswer {
+    Made,
+    Refused(usize, u32),
+}
+
+// What a draft hands back.
+pub struct Applied {
+    pub register: Register,
+    pub answer: DraftAnswer,
 }
 
 // The links of a register, as the first count of words.

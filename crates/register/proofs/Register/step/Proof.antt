@@ -8,6 +8,7 @@ use borrow.Author.Tests.{eq-eqb, ne-eqb}
 use Rattle.book.specs.Causes.{number}
 use Rattle.register.specs.History.{wordCall}
 use Rattle.register.specs.EntryLaws.{entry-call, entry-none}
+use Rattle.register.specs.DraftLaws.{draft-kind}
 use Rattle.register.proofs.ReplayLaws.{entry-closes, called, uncalled}
 use Rattle.register.proofs.Register.step.Statement.{statement}
 use Rattle.register.proofs.Register.step.Tie as tie
@@ -39,17 +40,8 @@ returns c =
     (entry-closes (a .self) (a .word % 1099511627776) (m .result) (a .numbers .now) (o .last .1 .0) (o .result) (m .ensures)
     (k ∙ length-take-le (m .result) (a .numbers .now) (m .ensures .within)) (o .ensures))
 
-cast-from : tie.Need-cast-from
-cast-from c = search needs
-
-cast-label : tie.Need-cast-label
-cast-label c = search needs
-
-cast-to : tie.Need-cast-to
-cast-to c = search needs
-
-entry-of-requires : tie.Need-entry-of-requires
-entry-of-requires c κs = search needs
+entry-at-requires : tie.Need-entry-at-requires
+entry-at-requires c κs = search needs
 
 enum-known-entry : tie.Need-enum-known-entry
 enum-known-entry c = search needs
@@ -64,11 +56,13 @@ returns-2 : tie.Need-returns-2
 unfolding wordCall
 returns-2 c =
     rw (ne-eqb _ _ (c .before .before .before .before .before .if1 .left))
-    (called _ _ _ _ (entry-call (c .before .before .before .before .entry-of .ensures) (c .before .before .entry .given .1)) (c .apply .ensures))
+    (called _ _ _ _ (entry-call (c .before .before .before .before .entry-at .ensures ∙ draft-kind _) (c .before .before .entry .given .1)) (c .apply .ensures))
 
 returns-3 : tie.Need-returns-3
 unfolding wordCall number
-returns-3 c = rw (ne-eqb _ _ (c .before .before .before .if1 .left)) (uncalled _ _ (entry-none (c .before .before .entry-of .ensures) (c .enum-told .given .1)))
+returns-3 c =
+    rw (ne-eqb _ _ (c .before .before .before .if1 .left))
+    (uncalled _ _ (entry-none (c .before .before .entry-at .ensures ∙ draft-kind _) (c .enum-told .given .1)))
 
 pub step-spec : {M : Type 1} → statement M
 step-spec =
@@ -80,10 +74,7 @@ step-spec =
     close-up-requires
     same-length
     returns
-    cast-from
-    cast-label
-    cast-to
-    entry-of-requires
+    entry-at-requires
     enum-known-entry
     apply-requires
     enum-told

@@ -1,10 +1,10 @@
--- `engine::drafts::step` meets its contract: a call is applied, and no other word is a call. Assumes nothing.
+-- `register::Register::apply_word` meets its contract: a call is applied, and no other word is a call. Assumes nothing.
 use borrow.Author.Needs.{needs}
 use Rattle.book.specs.Causes.{number}
 use Rattle.register.specs.EntryLaws.{entry-call, entry-none}
-use Rattle.engine.specs.DraftLaws.{called, uncalled}
-use Rattle.engine.proofs.drafts.step.Statement.{statement}
-use Rattle.engine.proofs.drafts.step.Tie as tie
+use Rattle.register.specs.DraftLaws.{called, uncalled}
+use Rattle.register.proofs.Register.apply_word.Statement.{statement}
+use Rattle.register.proofs.Register.apply_word.Tie as tie
 
 entry-at-requires : tie.Need-entry-at-requires
 entry-at-requires c κs = search needs
@@ -25,7 +25,7 @@ returns-2 : tie.Need-returns-2
 unfolding number
 returns-2 c = uncalled (entry-none (c .before .before .entry-at .ensures) (c .enum-told .given .1))
 
-pub step-spec : {M : Type 1} → statement M
-step-spec =
+pub apply-word-spec : {M : Type 1} → statement M
+apply-word-spec =
     tie.close
     (tie.spec entry-at-requires enum-known-entry apply-requires enum-told returns returns-2)

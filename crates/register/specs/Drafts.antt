@@ -21,12 +21,12 @@ use Prim.Native.Nat.{ℕ, zero, suc, _<_}
 use lib.ListN.{length, replicate}
 use Rattle.book.specs.Causes.{Caused}
 use Rattle.book.specs.Book.{Book, Call, edit, undo, close, after}
 use Rattle.register.specs.Representation.{Represents}
 use Rattle.register.specs.History.{CallsMade, Entry, is-call, no-call, wordCall, entryNumber, entryNext, entryCalls}
 use Rattle.register.specs.declared.Register.{Register}
-use Rattle.engine.specs.declared.drafts.Applied.{Applied}
-use Rattle.engine.specs.declared.drafts.DraftAnswer.{DraftAnswer}
-use Rattle.engine.specs.declared.drafts.DraftAnswer.the-variants.{Made, Refused}
+use Rattle.register.specs.declared.Applied.{Applied}
+use Rattle.register.specs.declared.DraftAnswer.{DraftAnswer}
+use Rattle.register.specs.declared.DraftAnswer.the-variants.{Made, Refused}
 
 unfoldable pub unclosed : Entry → Entry
 unclosed (is-call (edit e)) = is-call (edit e)

@@ -30,21 +30,20 @@ use Rattle.book.specs.Basics.{pick}
 use Rattle.book.specs.Causes.{unknown-kind, number, Caused}
 use Rattle.book.specs.Book.{Book, add, remove, lock, unlock, withdraw, reinstate, Call, edit, undo, close, answer, next, answers, after}
 use Rattle.book.specs.BookLaws.{refused-same}
 use Rattle.register.specs.Representation.{Represents}
 use Rattle.register.specs.Calls.{answerOf, answerNumber, callOf, Steps}
 use Rattle.register.specs.History.{Lent, CallsMade, done, more-edit, more-undo, more-close, Entry, is-call, no-call, kindCall, wordCall, closeKind}
 use Rattle.register.specs.History.{addKind, removeKind, lockKind, unlockKind, undoKind, withdrawKind, reinstateKind, entryNumber, entryNext, entryCalls}
-use Rattle.register.specs.HistoryLaws.{number-answer, kept, after-entry}
+use Rattle.register.specs.HistoryLaws.{by-number, number-answer, kept, after-entry}
 use Rattle.register.specs.declared.Register.{Register}
 use Rattle.register.specs.declared.Outcome.{Outcome}
 use Rattle.register.specs.declared.Answer.{Answer}
 use Rattle.register.specs.declared.Call.{Call as Code·Call}
-use Rattle.engine.specs.PreviewLaws.{by-number}
-use Rattle.engine.specs.Drafts.{unclosed, draftCalls, draftNumbers, firstRefused, draftAnswer, madeWords, draftNext, Drafts}
-use Rattle.engine.specs.Inner.{DraftSteps, steps, turned-down, Reached}
-use Rattle.engine.specs.declared.drafts.Applied.{Applied}
-use Rattle.engine.specs.declared.drafts.DraftAnswer.{DraftAnswer}
-use Rattle.engine.specs.declared.drafts.DraftAnswer.the-variants.{Made, Refused}
+use Rattle.register.specs.Drafts.{unclosed, draftCalls, draftNumbers, firstRefused, draftAnswer, madeWords, draftNext, Drafts}
+use Rattle.register.specs.Inner.{DraftSteps, steps, turned-down, Reached}
+use Rattle.register.specs.declared.Applied.{Applied}
+use Rattle.register.specs.declared.DraftAnswer.{DraftAnswer}
+use Rattle.register.specs.declared.DraftAnswer.the-variants.{Made, Refused}
 
 -- ---- entries
 kind-unclosed : (k f l t : ℕ) → unclosed (kindCall k f l t) ≡ kindCall k f l t

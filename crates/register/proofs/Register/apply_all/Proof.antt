@@ -1,4 +1,4 @@
--- `engine::drafts::apply_all` meets its contract. The loop's invariant: the first i words were accepted, and led from the register as it was lent to the
+-- `register::Register::apply_all` meets its contract. The loop's invariant: the first i words were accepted, and led from the register as it was lent to the
 -- one that is reached. The measure is the words left. Assumes nothing.
 use Prim.Native.Nat.{ℕ, _-_, _≤_}
 use mathlib.Core.Path.{_≡_, sym, subst, _∙_}
@@ -7,28 +7,28 @@ use native.Mathlib.Omega.{arith}
 use borrow.Author.Needs.{needs}
 use lib.ListN.{length, take}
 use lib.Seq.{take-all}
-use Rattle.engine.specs.Inner.{Reached}
-use Rattle.engine.specs.DraftLaws.{reached-none, reached-next, draft-made, draft-refused}
-use Rattle.engine.proofs.drafts.apply_all.Statement.{statement}
-use Rattle.engine.proofs.drafts.apply_all.Tie as tie
+use Rattle.register.specs.Inner.{Reached}
+use Rattle.register.specs.DraftLaws.{reached-none, reached-next, draft-made, draft-refused}
+use Rattle.register.proofs.Register.apply_all.Statement.{statement}
+use Rattle.register.proofs.Register.apply_all.Tie as tie
 
 abbrev Inv-loop : tie.InvT-loop
-Inv-loop register calls reached₀ i₀ reached i = (i ≤ length calls) × Reached register (take i calls) reached
+Inv-loop self calls reached₀ i₀ reached i = (i ≤ length calls) × Reached self (take i calls) reached
 
 abbrev μ-loop : tie.MeasureT-loop
-μ-loop register calls reached₀ i₀ reached i = length calls - i
+μ-loop self calls reached₀ i₀ reached i = length calls - i
 
 loop-holds : tie.Need-loop-holds Inv-loop μ-loop
 loop-holds c = (omega arith, reached-none _)
 
-mul-step : tie.Need-mul-step Inv-loop μ-loop
-mul-step c = omega arith
+mul-apply-word : tie.Need-mul-apply-word Inv-loop μ-loop
+mul-apply-word c = omega arith
 
-shared-slice-read-step : tie.Need-shared-slice-read-step Inv-loop μ-loop
-shared-slice-read-step c = omega arith
+shared-slice-read-apply-word : tie.Need-shared-slice-read-apply-word Inv-loop μ-loop
+shared-slice-read-apply-word c = omega arith
 
-step-requires : tie.Need-step-requires Inv-loop μ-loop
-step-requires c κs = search needs
+apply-word-requires : tie.Need-apply-word-requires Inv-loop μ-loop
+apply-word-requires c κs = search needs
 
 number-of-requires : tie.Need-number-of-requires Inv-loop μ-loop
 number-of-requires c κs = search needs
@@ -39,7 +39,7 @@ returns c =
     let start = in-loop .before .before .before in
     draft-refused (start .args .calls .now) (in-loop .before .loop .i)
     (c .before .number-of .result) (in-loop .before .loop .inv .1) (in-loop .loop-test .taken)
-    (c .before .before .step .ensures) (c .before .number-of .ensures) (c .if1 .taken)
+    (c .before .before .apply-word .ensures) (c .before .number-of .ensures) (c .if1 .taken)
 
 add-i : tie.Need-add-i Inv-loop μ-loop
 add-i c = omega (arith, c .before .before .before .before .before .loop-test .taken)
@@ -49,11 +49,12 @@ loop-less c = omega (arith, c .before .before .before .before .before .loop-test
 
 loop-again : tie.Need-loop-again Inv-loop μ-loop
 loop-again c =
-    let after-step = c .before .before .before in
-    let in-loop = after-step .before .before in
+    let after-apply-word = c .before .before .before in
+    let in-loop = after-apply-word .before .before in
     let start = in-loop .before .before .before in (
       omega (arith, in-loop .loop-test .taken),
-      reached-next (start .args .calls .now) (in-loop .before .loop .i) (in-loop .before .loop .inv .1) (in-loop .loop-test .taken) (after-step .step .ensures)
+      reached-next (start .args .calls .now) (in-loop .before .loop .i) (in-loop .before .loop .inv .1) (in-loop .loop-test .taken)
+          (after-apply-word .apply-word .ensures)
           (sym (c .before .before .number-of .ensures) ∙ c .before .if1 .left),
     )
 
@@ -61,7 +62,7 @@ returns-2 : tie.Need-returns-2 Inv-loop μ-loop
 returns-2 c =
     let start = c .before .before .before in
     let ws = start .args .calls .now in
-    let r = start .args .register in
+    let r = start .args .self in
     let k = c .before .loop in
     let a : take (k .i) ws ≡ ws = take-all (k .i) ws (omega arith) in
     draft-made (subst (λ (l : List ℕ). Reached r l (k .reached)) a (k .inv .1))
@@ -73,9 +74,9 @@ apply-all-spec =
     Inv-loop
     μ-loop
     loop-holds
-    mul-step
-    shared-slice-read-step
-    step-requires
+    mul-apply-word
+    shared-slice-read-apply-word
+    apply-word-requires
     number-of-requires
     returns
     add-i

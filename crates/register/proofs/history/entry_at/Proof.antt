@@ -1,9 +1,9 @@
--- `engine::drafts::entry_at` meets its contract: the kind and arguments of the word, by `draft-kind`. Assumes nothing.
+-- `register::history::entry_at` meets its contract: the kind and arguments of the word, by `draft-kind`. Assumes nothing.
 use mathlib.Core.Path.{sym, _∙_}
 use borrow.Author.Needs.{needs}
-use Rattle.engine.specs.DraftLaws.{draft-kind}
-use Rattle.engine.proofs.drafts.entry_at.Statement.{statement}
-use Rattle.engine.proofs.drafts.entry_at.Tie as tie
+use Rattle.register.specs.DraftLaws.{draft-kind}
+use Rattle.register.proofs.history.entry_at.Statement.{statement}
+use Rattle.register.proofs.history.entry_at.Tie as tie
 
 cast-from : tie.Need-cast-from
 cast-from c = search needs
