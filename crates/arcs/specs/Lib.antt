@@ -2,4 +2,5 @@ pub mod Arcs
 pub mod ArcLaws
 pub mod Index
 pub mod IndexLaws
+pub mod Lent
 pub mod SpanLaws

@@ -11,14 +11,14 @@
 use mathlib.Core.Path.{_≡_, refl, sym, ap, _∙_, subst}
 use mathlib.Core.Logic.{_⊎_, inl, inr}
 use mathlib.Core.List.{List, _++_}
-use mathlib.Core.Bool.{Bool, true}
+use mathlib.Core.Bool.{true}
 use Prim.Native.Nat.{ℕ, _*_, _≤_, _<_}
 use native.Mathlib.Omega.{arith}
 use lib.ListN.{length, take, drop, take-append-drop}
 use lib.Seq.{length-take-le}
 use borrow.Author.Tests.{le-leb, lt-leb, le-ltb, lt-ltb}
 use Rattle.book.specs.Causes.{no-record, short-work, short-list, number, Caused, firstNumber}
-use Rattle.book.specs.Book.{Book}
+use Rattle.book.specs.Book.{Book, isWithdrawn}
 use Rattle.book.specs.SetLaws.{or-true}
 use Rattle.answers.specs.Answers.{counted}
 use Rattle.answers.specs.AnswerLaws.{contained-refused, contained-count}
@@ -31,7 +31,6 @@ use Rattle.paths.specs.FirstChainLaws.{reply-only, length-step-words}
 use Rattle.paths.specs.Questions.{refused, replied, ReplyTo, chainWork, steps, chainCauses, chainAnswer, listAfter}
 use Rattle.register.specs.declared.Register.{Register}
 use Rattle.register.specs.Representation.{Represents}
-use Rattle.register.specs.Questions.{Withdrawal}
 use Rattle.search.specs.Steps.{Untouched, written, none as none-found, too-long, Answered, first, none, short}
 use Rattle.search.specs.declared.Found.{Found}
 use Rattle.search.specs.declared.Found.the-variants.{Steps, Nowhere, Short}
@@ -48,13 +47,12 @@ nowhere c = go c refl
     go (first-chain ss F) q = absurd (let z : _≡_ {A = ℕ} 0 1 = cc in omega arith)
 
 -- ---- withdrawn records
-module _ {self : Register} {b : Book} (R : Represents self b) where
-  module _ (e : Expr) (x y : ℕ) (list : List ℕ) where
-    pub withdrawn-from : {t : Bool} → Withdrawal self x t → t ≡ true → Answered (asked b) e x y list list Nowhere
-    withdrawn-from w f = nowhere (withdrawn-none b e x y (sym (w .withdrawn b R) ∙ f))
+module _ (b : Book) (e : Expr) (x y : ℕ) (list : List ℕ) where
+  pub withdrawn-from : isWithdrawn (b .sheet) x ≡ true → Answered (asked b) e x y list list Nowhere
+  withdrawn-from w = nowhere (withdrawn-none b e x y w)
 
-    pub withdrawn-to : {t : Bool} → Withdrawal self y t → t ≡ true → Answered (asked b) e x y list list Nowhere
-    withdrawn-to w f = nowhere (none-withdrawn b e x y (sym (w .withdrawn b R) ∙ f))
+  pub withdrawn-to : isWithdrawn (b .sheet) y ≡ true → Answered (asked b) e x y list list Nowhere
+  withdrawn-to w = nowhere (none-withdrawn b e x y w)
 
 -- ---- the book's answer, by the first cause
 module _ (b : Book) (x y : ℕ) (t : Reply) (work room : ℕ) where

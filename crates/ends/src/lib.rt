@@ -11,7 +11,7 @@ ghost use Rattle.paths.specs.Chains.{asked};
 ghost use Rattle.paths.specs.Verdicts.{InLimits};
 ghost use Rattle.reader.specs.Code.{code};
 ghost use Rattle.register.specs.Representation.{Represents};
-ghost use Rattle.arcs.specs.Arcs.{Spans};
+ghost use Rattle.arcs.specs.Lent.{Lent};
 ghost use Rattle.ends.specs.Ends.{places, joinedBy};
 ghost use Rattle.answers.specs.Listing.{Shown, Grown};
 ghost use Rattle.ends.specs.Asking.{AsksJoined, AsksEnds, AsksStarts};
@@ -47,40 +47,47 @@ fn list(seen: &[u64], states: u64, n: usize, out: &mut [u32]) -> usize
     t
 }
 
-// The ends of a record over the first `count` links, for the expression whose code is given; against the sense, its starts. A withdrawn record has none.
+// The ends of a record over the links, for the expression whose code is given; against the sense, its starts. A withdrawn record has none.
 fn sought(
-    register: Register,
+    marks: &[u32],
     links: &[u32],
-    count: usize,
     numbers: &[u64],
     against: bool,
-    n: usize,
     x: usize,
     out: &mut [u32],
 ) -> usize
-    requires { ⌜ (count ≤ length (now links)) × (count ≤ maxLinks) × (n ≤ maxRecords) × (x < n)
+    requires { ⌜ (length (now marks) ≤ maxRecords) × (length (now links) ≤ maxLinks) × (x < length (now marks))
         × ((text : List ℕ) × (e : Expr) × InLimits text e × (now numbers ≡ code e)) ⌝ }
     ensures { λ r. ⌜ ((l : List ℕ) × (r ≡ length l) × (r ≤ maxRecords) × Shown l (now (out .entry)) (now (out .exit))
-        × ((text : List ℕ) (e : Expr) → InLimits text e → now (numbers .entry) ≡ code e → (b : Book) → Represents register b → n ≡ b .n
-        → Spans (now (links .entry)) count (asked b) → l ≡ joinedBy against (asked b) e x)) ⌝ }
+        × ((text : List ℕ) (e : Expr) → InLimits text e → now (numbers .entry) ≡ code e → (self : Register) (b : Book) → Represents self b
+        → Lent self (now (marks .entry)) (now (links .entry)) → l ≡ joinedBy against (asked b) e x)) ⌝ }
 {
-    if register.is_withdrawn(x as u16) {
+    if marks[x] == register::WITHDRAWN_MARK {
         return 0;
     }
+    let n = marks.len();
     let tables = tables::tables_of(numbers, against);
     let follow = tables.follow;
     let enter = tables.enter;
-    let seen = search::reached(&links[0..count], &follow, &enter, n, x);
+    let seen = search::reached(links, &follow, &enter, n, x);
     list(&seen, tables.accepting, n, out)
 }
 
-// The records that a chain joins to the one, in either sense.
-fn list_joined(register: Register, to: u16, text: &[u8], against: bool, out: &mut [u32]) -> Counted
-    ensures { λ r. ⌜ AsksJoined against register to (now (text .entry)) (now (out .entry)) (now (out .exit)) r ⌝ }
+// The records that a chain joins to the one, in either sense, over the marks and links that are lent of a register.
+pub fn joined_over(
+    marks: &[u32],
+    links: &[u32],
+    to: u16,
+    text: &[u8],
+    against: bool,
+    out: &mut [u32],
+) -> Counted
+    requires { ⌜ (length (now marks) ≤ maxRecords) × (length (now links) ≤ maxLinks) ⌝ }
+    ensures { λ r. ⌜ ((self : Register) → Lent self (now (marks .entry)) (now (links .entry))
+        → AsksJoined against self to (now (text .entry)) (now (out .entry)) (now (out .exit)) r) ⌝ }
 {
-    let n = register.size();
     let x = to as usize;
-    if n <= x {
+    if marks.len() <= x {
         return Counted::Refused(book::NO_RECORD);
     }
     let reading = reader::read(text);
@@ -88,21 +95,20 @@ fn list_joined(register: Register, to: u16, text: &[u8], against: bool, out: &mu
     let answer = reading.answer;
     match answer {
         Answer::Refused(number) => Counted::Refused(number as u32),
-        Answer::Accepted(k) => {
-            let links = register.links();
-            let total = sought(
-                register,
-                &links.words,
-                links.count,
-                &code[0..k],
-                against,
-                n,
-                x,
-                out,
-            );
-            Counted::Count(total)
-        }
+        Answer::Accepted(k) => Counted::Count(sought(marks, links, &code[0..k], against, x, out)),
     }
+}
+
+// The same of a register.
+fn list_joined(register: Register, to: u16, text: &[u8], against: bool, out: &mut [u32]) -> Counted
+    ensures { λ r. ⌜ AsksJoined against register to (now (text .entry)) (now (out .entry)) (now (out .exit)) r ⌝ }
+{
+    let n = register.size();
+    let marks = register.marks();
+    let links = register.links();
+    let words = links.words;
+    let count = links.count;
+    joined_over(&marks[0..n], &words[0..count], to, text, against, out)
 }
 
 // Every record that a chain leads to from the one, spelling a word of the expression: ascending, as many as the list takes.
