@@ -66,8 +66,8 @@ fn put_word(
     ensures { λ _. ⌜ first n w (now (cells .exit)) (now (masks .exit))
         ≡ union (first n w (now (cells .entry)) (now (masks .entry))) (within n (crossedWords (word ∷ []) forward against)) ⌝ }
 {
-    let label = word / 1048576;
-    let p = (word % 1048576) as usize;
+    let label = links::label_of(word);
+    let p = links::pair_of(word) as usize;
     if rows::has_label(forward, label) {
         put_pair(cells, masks, n, w, p / 1024, p % 1024);
     }
@@ -77,7 +77,7 @@ fn put_word(
 }
 
 // The pairs of link words put into the first relation, if both records are below n: of links whose label is in `forward` as they are, of those whose
-// label is in `against` exchanged. A link's word is label * 1048576 + from * 1024 + to.
+// label is in `against` exchanged.
 pub fn put_letters(
     words: &[u32],
     forward: u32,

@@ -71,7 +71,8 @@ fn child_by_word(tree: &[u64], before: &[u32], p: usize) -> usize
 
 // From the ones before its block of four words:
 fn child_by_block(tree: &[u64], before: &[u32], p: usize) -> usize
-    requires { ⌜ (p / 64 < length (now tree)) × (length (now tree) ≤ mostTreeWords) × (length (now before) ≡ mostCounts) × BlocksCounted (now tree) (now before) ⌝ }
+    requires { ⌜ (p / 64 < length (now tree)) × (length (now tree) ≤ mostTreeWords)
+        × (length (now before) ≡ mostCounts) × BlocksCounted (now tree) (now before) ⌝ }
     ensures { λ r. ⌜ (r ≡ childPlace (bitAt (now (tree .entry))) p) × (r ≤ mostChildPlace) ⌝ }
 {
     let q = p / 64;
@@ -185,7 +186,8 @@ fn children(
     next: &mut [usize],
     m: usize,
 ) -> usize
-    requires { ⌜ (2 ≤ h) × (h ≤ 10) × (at .bit % 4 ≡ 0) × (at .bit ≤ mostChildPlace) × (at .row + 2 ^ h ≤ 1024) × (at .column + 2 ^ h ≤ 1024) × (at .column % 2 ≡ 0)
+    requires { ⌜ (2 ≤ h) × (h ≤ 10) × (at .bit % 4 ≡ 0) × (at .bit ≤ mostChildPlace)
+        × (at .row + 2 ^ h ≤ 1024) × (at .column + 2 ^ h ≤ 1024) × (at .column % 2 ≡ 0)
         × (sense ≤ 1)
         × (length (now tree) ≤ mostTreeWords) × (length (now before) ≡ mostCounts) × Counted (now tree) (now before)
         × (m + 4 ≤ length (now next)) × FitAll (h - 1) (now next) 0 m ⌝ }
@@ -286,7 +288,8 @@ fn descend(
     rows: &mut [u64],
 )
     requires { ⌜ (1 ≤ h) × (h ≤ 10) × (sense ≤ 1) × (length (now tree) ≤ mostTreeWords) × (length (now before) ≡ mostCounts) × Counted (now tree) (now before)
-        × (part .from + part .count ≤ length (now list)) × (part .count ≤ 16) × (length (now rows) ≡ rowsWords) × FitAll h (now list) (part .from) (part .count) ⌝ }
+        × (part .from + part .count ≤ length (now list)) × (part .count ≤ 16)
+        × (length (now rows) ≡ rowsWords) × FitAll h (now list) (part .from) (part .count) ⌝ }
     ensures { λ _. ⌜ ((a t : Cells) → bitAt (now (rows .entry)) ≡ flat a → ReadAll sense (now (tree .entry)) h (now (list .entry)) (part .from) (part .count) t
         → bitAt (now (rows .exit)) ≡ flat (union a (squaresTo (part .count) h (now (list .entry)) (part .from) t))) ⌝ }
 {

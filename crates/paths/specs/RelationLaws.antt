@@ -18,8 +18,8 @@ use borrow.Author.Tests.{eq-eqb, eqb-true}
 use Rattle.book.specs.Basics.{pick, bit}
 use Rattle.book.specs.Causes.{labels}
 use Rattle.k2.specs.PairSets.{Cells, IsSet, union, transpose, OneOrMore, once as once-more, more, closure, diagonal}
-use Rattle.k2.specs.PairSetLaws.{one-of, bit-small, bit-on, most-some, some-most, most-bit, most-same, union-set, product-set, transpose-set, closure-set, diagonal-set}
-use Rattle.k2.specs.PairSetLaws.{product-middle, middle-product, closure-leads, leads-closure}
+use Rattle.k2.specs.PairSetLaws.{one-of, bit-small, bit-on, most-some, some-most, most-bit, union-set, product-set, transpose-set, closure-set, diagonal-set}
+use Rattle.k2.specs.PairSetLaws.{most-same, product-middle, middle-product, closure-leads, leads-closure}
 use Rattle.paths.specs.Expressions.{Letter, standsFor, Expr, symbol, group, inverse, star, plus, optional, alternative, sequence}
 use Rattle.paths.specs.Chains.{Graph, crossing, Has}
 use Rattle.paths.specs.Relations.{Rel, link, inside, swapped, left, right, joined, once, again, star-none, star-some, optional-none, optional-once, joins}

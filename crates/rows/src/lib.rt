@@ -76,8 +76,8 @@ pub fn has_label(labels: u32, label: u32) -> bool
     (labels >> label) % 2 == 1
 }
 
-// The pairs of link words put in: of links whose label is in `forward` as they are, of those whose label is in `against` exchanged. A link's word is
-// label * 1048576 + pair word, and a pair word is the word of a link of label 0.
+// The pairs of link words put in: of links whose label is in `forward` as they are, of those whose label is in `against` exchanged. A pair
+// word is the word of a link of label 0.
 pub fn put_letters(words: &[u32], forward: u32, against: u32, rows: &mut [u64])
     requires { ⌜ length (now rows) ≡ rowsWords ⌝ }
     ensures { λ _. ⌜ ((x : Cells) → bitAt (now (rows .entry)) ≡ flat x
@@ -85,8 +85,9 @@ pub fn put_letters(words: &[u32], forward: u32, against: u32, rows: &mut [u64])
 {
     let mut i = 0;
     while i < words.len() {
-        let label = words[i] / 1048576;
-        let p = (words[i] % 1048576) as usize;
+        let word = words[i];
+        let label = links::label_of(word);
+        let p = links::pair_of(word) as usize;
         if has_label(forward, label) {
             bits::set_bit(rows, p);
         }

@@ -78,8 +78,9 @@ shared-slice-read-column c = omega (arith, inside (c .before .before))
 
 -- row j has a record in the square
 column-first : (c : tie.Then1 Inv-loop μ-loop Inv-search μ-search)
-    → trailingZeros 64 (getD (c .before .before .before .before .before .args .b .now)
-    (c .before .before .before .before .before .args .j * 16 + c .before .before .before .before .search .s) 0) < 64
+    → let after-search = c .before .before .before .before in
+    trailingZeros 64 (getD (after-search .before .args .b .now)
+    (after-search .before .args .j * 16 + after-search .search .s) 0) < 64
 column-first c =
     let S = c .before .before .before .before .search in
     let a = c .before .before .before .before .before .args in

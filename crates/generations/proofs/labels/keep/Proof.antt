@@ -2,11 +2,13 @@
 -- left. It rests on `keep-yes` and `keep-no`. Assumes nothing.
 use mathlib.Core.Path.{_≡_, refl, ap, _∙_}
 use mathlib.Core.Logic.{⊎-elim}
-use Prim.Native.Nat.{_≤_, _-_}
+use Prim.Native.Nat.{ℕ, _≤_, _-_}
 use native.Mathlib.Omega.{arith}
 use borrow.Author.Needs.{needs}
+use lib.Dec.{eqb}
 use lib.ListN.{length, take, length-set}
 use lib.Seq.{take-all}
+use Rattle.k2.specs.Bits.{digit}
 use Rattle.rows.specs.Rows.{labelled}
 use Rattle.generations.proofs.LabelLaws.{keep-yes, keep-no}
 use Rattle.generations.proofs.labels.keep.Statement.{statement}
@@ -29,15 +31,18 @@ mul-word c = omega arith
 shared-slice-read-word : tie.Need-shared-slice-read-word Inv-loop μ-loop
 shared-slice-read-word c = omega arith
 
-in-set-requires : tie.Need-in-set-requires Inv-loop μ-loop
-in-set-requires c κs = search needs
+label-of-requires : tie.Need-label-of-requires Inv-loop μ-loop
+label-of-requires c κs = search needs
+
+has-label-requires : tie.Need-has-label-requires Inv-loop μ-loop
+has-label-requires c κs = search needs
 
 mul-kept : tie.Need-mul-kept Inv-loop μ-loop
 mul-kept c = omega arith
 
 slice-write-kept : tie.Need-slice-write-kept Inv-loop μ-loop
 slice-write-kept c =
-    let at-loop = c .before .before .before .before in
+    let at-loop = c .before .before .before .before .before in
     let start = at-loop .before .before .before in
     omega (arith, at-loop .loop .inv .1, at-loop .loop .inv .2, start .pre)
 
@@ -52,12 +57,12 @@ loop-less c = omega arith
 
 loop-again : tie.Need-loop-again Inv-loop μ-loop
 loop-again c =
-    let in-loop = c .before .before .before in
+    let in-loop = c .before .before .before .before in
     let start = in-loop .before .before .before .before in
     let l = in-loop .before .loop in
     let a = start .args in
     let h = in-loop .loop-test .taken in
-    let e = c .before .in-set .ensures in
+    let e = c .before .has-label .ensures ∙ ap (λ (k : ℕ). eqb (digit (a .set) k) 1) (c .before .before .label-of .ensures) in
     ⊎-elim
     (λ w. (
       omega arith,
@@ -93,7 +98,8 @@ keep-spec =
     loop-holds
     mul-word
     shared-slice-read-word
-    in-set-requires
+    label-of-requires
+    has-label-requires
     mul-kept
     slice-write-kept
     add-count

@@ -19,8 +19,8 @@ abbrev μ-loop : tie.MeasureT-loop
 loop-holds : tie.Need-loop-holds Inv-loop μ-loop
 loop-holds c = (omega arith, refl, laid-none _ _)
 
-in-set-requires : tie.Need-in-set-requires Inv-loop μ-loop
-in-set-requires c κs = search needs
+has-label-requires : tie.Need-has-label-requires Inv-loop μ-loop
+has-label-requires c κs = search needs
 
 separator-requires : tie.Need-separator-requires Inv-loop μ-loop
 separator-requires c κs = search needs
@@ -59,7 +59,7 @@ loop-again c =
     let at-loop = c .before .before .before in
     let start = at-loop .before .before in
     let l = at-loop .loop in
-    let e = c .before .in-set .ensures in
+    let e = c .before .has-label .ensures in
     let h = c .before .before .loop-test .taken in
     let room = l .inv .1 in
     ⊎-elim
@@ -88,7 +88,7 @@ spell-labels-spec =
     Inv-loop
     μ-loop
     loop-holds
-    in-set-requires
+    has-label-requires
     separator-requires
     slice-write-text
     cast-text
