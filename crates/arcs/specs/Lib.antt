@@ -2,5 +2,4 @@ pub mod Arcs
 pub mod ArcLaws
 pub mod Index
 pub mod IndexLaws
-pub mod Lent
 pub mod SpanLaws

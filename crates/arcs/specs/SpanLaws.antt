@@ -1,5 +1,4 @@
 -- A register's links as words span the graph of the book that it represents.
---   lent-of     what its size, marks and links promise is what is lent
 --   inside      the book's graph is proper
 --   asked-size  the graph has as many records as there are marks
 --   spans       the words lent span it
@@ -27,27 +26,14 @@ use Rattle.links.specs.LinkLaws.{linkOf-word}
 use Rattle.register.specs.Marks.{withdrawnMark}
 use Rattle.register.specs.MarkLaws.{listed-withdrawn}
 use Rattle.register.specs.Representation.{Represents}
-use Rattle.register.specs.Questions.{Sized, Listing, MarkList}
+use Rattle.register.specs.Reads.{ReadOf}
 use Rattle.arcs.specs.Arcs.{Spans}
-use Rattle.arcs.specs.Lent.{Lent}
-
-pub lent-of : {self : Register} {n : ℕ} {ms : List ℕ} {ls : Links} → Sized self n → MarkList self ms → Listing self ls
-    → Lent self (take n ms) (take (ls .count) (ls .words))
-lent-of {n = n} {ms} Z M L =
-    let few = Z .small in
-    let k = M .long in
-    let long : length (take n ms) ≡ n = length-take-le n ms (omega arith) in
-    record {
-      size = λ b R. long ∙ Z .size b R;
-      linked = λ b R. L .linked b R;
-      marked = λ b R x h. ap (λ (m : ℕ). eqb m withdrawnMark) (getD-take n ms x 0 (omega arith)) ∙ listed-withdrawn M R x;
-    }
 
 module _ {self : Register} {b : Book} (R : Represents self b) where
   pub inside : Inside (asked b)
   inside = fit-inside b (R .sheet .fit)
 
-  module _ {marks links : List ℕ} (L : Lent self marks links) where
+  module _ {marks links : List ℕ} (L : ReadOf self marks links) where
     pub asked-size : asked b .n ≡ length marks
     unfolding asked
     asked-size = sym (L .size b R)

@@ -10,7 +10,7 @@ ghost use Rattle.paths.specs.Chains.{asked};
 ghost use Rattle.paths.specs.Verdicts.{InLimits};
 ghost use Rattle.reader.specs.Code.{code};
 ghost use Rattle.register.specs.Representation.{Represents};
-ghost use Rattle.arcs.specs.Lent.{Lent};
+ghost use Rattle.register.specs.Reads.{ReadOf};
 ghost use Rattle.search.specs.Steps.{Untouched, Answered};
 ghost use Rattle.chains.specs.Replies.{Replies};
 use reader::Answer;
@@ -39,7 +39,7 @@ fn sought(
         × ((text : List ℕ) × (e : Expr) × InLimits text e × (now numbers ≡ code e)) ⌝ }
     ensures { λ r. ⌜ Untouched (now (list .entry)) (now (list .exit)) r
         × ((text : List ℕ) (e : Expr) → InLimits text e → now (numbers .entry) ≡ code e → (self : Register) (b : Book) → Represents self b
-        → Lent self (now (marks .entry)) (now (links .entry))
+        → ReadOf self (now (marks .entry)) (now (links .entry))
         → Answered (asked b) e (ends .from) (ends .to) (now (list .entry)) (now (list .exit)) r) ⌝ }
 {
     let from = ends.from;
@@ -78,7 +78,7 @@ pub fn chain_over(
     list: &mut [u32],
 ) -> ChainAnswer
     requires { ⌜ (length (now marks) ≤ maxRecords) × (length (now links) ≤ maxLinks) ⌝ }
-    ensures { λ r. ⌜ ((self : Register) → Lent self (now (marks .entry)) (now (links .entry))
+    ensures { λ r. ⌜ ((self : Register) → ReadOf self (now (marks .entry)) (now (links .entry))
         → Replies self from to (now (text .entry)) (length (now (work .entry))) (now (list .entry)) (now (list .exit)) r) ⌝ }
 {
     let n = marks.len();

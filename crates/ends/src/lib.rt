@@ -11,7 +11,7 @@ ghost use Rattle.paths.specs.Chains.{asked};
 ghost use Rattle.paths.specs.Verdicts.{InLimits};
 ghost use Rattle.reader.specs.Code.{code};
 ghost use Rattle.register.specs.Representation.{Represents};
-ghost use Rattle.arcs.specs.Lent.{Lent};
+ghost use Rattle.register.specs.Reads.{ReadOf};
 ghost use Rattle.ends.specs.Ends.{places, joinedBy};
 ghost use Rattle.answers.specs.Listing.{Shown, Grown};
 ghost use Rattle.ends.specs.Asking.{AsksJoined, AsksEnds, AsksStarts};
@@ -60,7 +60,7 @@ fn sought(
         × ((text : List ℕ) × (e : Expr) × InLimits text e × (now numbers ≡ code e)) ⌝ }
     ensures { λ r. ⌜ ((l : List ℕ) × (r ≡ length l) × (r ≤ maxRecords) × Shown l (now (out .entry)) (now (out .exit))
         × ((text : List ℕ) (e : Expr) → InLimits text e → now (numbers .entry) ≡ code e → (self : Register) (b : Book) → Represents self b
-        → Lent self (now (marks .entry)) (now (links .entry)) → l ≡ joinedBy against (asked b) e x)) ⌝ }
+        → ReadOf self (now (marks .entry)) (now (links .entry)) → l ≡ joinedBy against (asked b) e x)) ⌝ }
 {
     if marks[x] == register::WITHDRAWN_MARK {
         return 0;
@@ -83,7 +83,7 @@ pub fn joined_over(
     out: &mut [u32],
 ) -> Counted
     requires { ⌜ (length (now marks) ≤ maxRecords) × (length (now links) ≤ maxLinks) ⌝ }
-    ensures { λ r. ⌜ ((self : Register) → Lent self (now (marks .entry)) (now (links .entry))
+    ensures { λ r. ⌜ ((self : Register) → ReadOf self (now (marks .entry)) (now (links .entry))
         → AsksJoined against self to (now (text .entry)) (now (out .entry)) (now (out .exit)) r) ⌝ }
 {
     let x = to as usize;

@@ -20,3 +20,4 @@ pub mod LaidLaws
 pub mod WordLaws
 pub mod PartingLaws
 pub mod DraftLaws
+pub mod Reads

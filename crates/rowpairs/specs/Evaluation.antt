@@ -24,7 +24,7 @@
 --                         the same of rows of 1,024 bits
 --   Runnable n marks c    the code c is an expression's, and there is a mark of each of n records
 --   Enough n work         so much work is enough for the value of a code: for the relations of more than 32 records, and for one relation of any
---   ReadOf r n links marks
+--   KnownOf r n links marks
 --                         what was read of the register r: for every book that it represents, its links and marks
 --   relationIn ws ms n    the relation of n records at the front of the words ws, with the masks ms
 --   Held n words          so many words hold a relation of n records, and there may be so many records
@@ -129,8 +129,8 @@ pub record Enough (n work : ℕ) : Type 0 where
   pub own : work < rowsWork n → n ≤ 32
   pub front : n * rowWidth n ≤ work
 
-abbrev pub ReadOf : Register → (n : ℕ) → (links marks : List ℕ) → Type 0
-ReadOf r n links marks = (b : Book) → Represents r b → Known b n links marks
+abbrev pub KnownOf : Register → (n : ℕ) → (links marks : List ℕ) → Type 0
+KnownOf r n links marks = (b : Book) → Represents r b → Known b n links marks
 
 abbrev pub relationIn : (ws ms : List ℕ) → ℕ → Cells
 relationIn ws ms n = first n (rowWidth n) ws ms

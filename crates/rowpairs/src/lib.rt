@@ -25,9 +25,10 @@ ghost use Rattle.query.specs.Asking.{AsksFor, AsksPairs, AsksRows, Leaves, Rela
 ghost use Rattle.query.specs.Evaluation.{most-waiting, Ready, Coded, usedBelow, Lettered};
 ghost use Rattle.rowpairs.specs.Labels.{everyIf, Alone, LetterListed};
 ghost use Rattle.register.specs.declared.Register.{Register};
+ghost use Rattle.register.specs.Reads.{ReadOf};
 ghost use Rattle.answers.specs.declared.Counted.the-variants.{Count};
 ghost use Rattle.rowpairs.specs.Evaluation.{Lent, LentFor, Runnable, Enough, Held, Operates, Goes, Reading, ValueFirst, ValueListed, ValueInRows};
-ghost use Rattle.rowpairs.specs.Evaluation.{relationIn, ReadOf, Relating};
+ghost use Rattle.rowpairs.specs.Evaluation.{relationIn, KnownOf, Relating};
 use answers::Counted;
 use reader::Item;
 use register::Register;
@@ -410,7 +411,7 @@ fn answer(
     list: &mut [u32],
 ) -> Counted
     requires { ⌜ (n ≤ maxRecords) × (n ≤ length (now marks)) × (length (now links) ≤ maxLinks) × ((d : Engine) × (need ≡ workFor d n)) ⌝ }
-    ensures { λ a. ⌜ ((d : Engine) → need ≡ workFor d n → (r : Register) → ReadOf r n (now (links .entry)) (now (marks .entry))
+    ensures { λ a. ⌜ ((d : Engine) → need ≡ workFor d n → (r : Register) → KnownOf r n (now (links .entry)) (now (marks .entry))
         → AsksFor d r (verdict (now (text .entry))) (length (now (work .entry))) (now (list .entry)) (now (list .exit)) a) ⌝ }
 {
     let reading = reader::read(text);
@@ -447,25 +448,19 @@ pub fn pairs_by_rows(register: Register, text: &[u8], work: &mut [u64], list: &m
     )
 }
 
-// The same of a register's links and marks, of as many records as there are marks. More than a register has are refused.
-pub fn pairs_in(
-    links: &[u32],
+// The same of what was read of a register: its marks and links.
+pub fn pairs_over(
     marks: &[u32],
+    links: &[u32],
     text: &[u8],
     work: &mut [u64],
     list: &mut [u32],
 ) -> Counted
-    ensures { λ a. ⌜ ((r : Register) → length (now (links .entry)) ≤ maxLinks
-        → ReadOf r (length (now (marks .entry))) (now (links .entry)) (now (marks .entry))
-        → AsksRows r (now (text .entry)) (length (now (work .entry))) (now (list .entry)) (now (list .exit)) a) ⌝ }
+    requires { ⌜ (length (now marks) ≤ maxRecords) × (length (now links) ≤ maxLinks) ⌝ }
+    ensures { λ a. ⌜ ((self : Register) → ReadOf self (now (marks .entry)) (now (links .entry))
+        → AsksRows self (now (text .entry)) (length (now (work .entry))) (now (list .entry)) (now (list .exit)) a) ⌝ }
 {
     let n = marks.len();
-    if book::MAX_RECORDS < n {
-        return Counted::Refused(book::SHORT_WORK);
-    }
-    if book::MAX_LINKS < links.len() {
-        return Counted::Refused(book::SHORT_WORK);
-    }
     answer(n, links, marks, text, query::rows_work(n), work, list)
 }
 
@@ -505,7 +500,7 @@ fn leave(
     left: &mut [u16],
 ) -> Counted
     requires { ⌜ (n ≤ maxRecords) × (n ≤ length (now marks)) × (n ≤ length (now left)) ⌝ }
-    ensures { λ a. ⌜ ((r : Register) → ReadOf r n (now (links .entry)) (now (marks .entry))
+    ensures { λ a. ⌜ ((r : Register) → KnownOf r n (now (links .entry)) (now (marks .entry))
         → Leaves r (verdict (now (text .entry))) (length (now (work .entry))) (relationIn (now (work .exit)) (now (left .exit))) a)
         × ((k : ℕ) → a ≡ Count k → Held k (length (now (work .entry)))) ⌝ }
 {

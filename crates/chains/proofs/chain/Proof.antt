@@ -1,9 +1,9 @@
--- `chain` hands on what the register's size, marks and links promise (`lent-of`). Assumes nothing.
+-- `chain` hands on what the register's size, marks and links promise (`read-of`). Assumes nothing.
 use mathlib.Core.Path.{_≡_}
 use Prim.Native.Nat.{_-_}
 use native.Mathlib.Omega.{arith}
 use borrow.Author.Needs.{needs}
-use Rattle.arcs.specs.SpanLaws.{lent-of}
+use Rattle.register.specs.Reads.{read-of}
 use Rattle.chains.proofs.chain.Statement.{statement}
 use Rattle.chains.proofs.chain.Tie as tie
 
@@ -51,7 +51,7 @@ returns c =
     let L = after-links .links in
     let n : Z .result - 0 ≡ Z .result = omega arith in
     let k : L .result .count - 0 ≡ L .result .count = omega arith in
-    after-chain-over .chain-over .ensures _ (rw (n, k) (lent-of (Z .ensures) (after-links .before .marks .ensures) (L .ensures)))
+    after-chain-over .chain-over .ensures _ (rw (n, k) (read-of (Z .ensures) (after-links .before .marks .ensures) (L .ensures)))
 
 pub chain-spec : {M : Type 1} → statement M
 chain-spec =

@@ -9,7 +9,7 @@ use Rattle.paths.specs.Expressions.{Expr}
 use Rattle.reader.specs.Reads.{ReadAs}
 use Rattle.reader.specs.ReadsLaws.{reads-accepted, reads-refused}
 use Rattle.register.specs.declared.Register.{Register}
-use Rattle.arcs.specs.Lent.{Lent}
+use Rattle.register.specs.Reads.{ReadOf}
 use Rattle.chains.specs.Replies.{Replies}
 use Rattle.chains.proofs.ReplyLaws.{refuses-record, refuses-text, refuses-work, foundAnswer, replies-as, replies}
 use Rattle.chains.proofs.chain_over.Statement.{statement}
@@ -95,7 +95,7 @@ replied : (c : tie.After-sought) (self : Register)
     → let earlier = c .before .before .before .before .before .before .before .before .before in
     let start = earlier .before .before .before .before .before .before .before .before .before in
     let s = start .args in
-    Lent self (s .marks .now) (s .links .now)
+    ReadOf self (s .marks .now) (s .links .now)
     → Replies self (s .from) (s .to) (s .text .now) (length (s .work .now)) (s .list .now) (c .sought .last .1 .1 .1 .1 .1 .0) (foundAnswer (c .sought .result))
 replied c self L =
     let else3 = c .before .before .before .before .before in

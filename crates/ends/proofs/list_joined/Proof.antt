@@ -1,9 +1,9 @@
--- `list_joined` hands on what the register's size, marks and links promise (`lent-of`). Assumes nothing.
+-- `list_joined` hands on what the register's size, marks and links promise (`read-of`). Assumes nothing.
 use mathlib.Core.Path.{_≡_}
 use Prim.Native.Nat.{_-_}
 use native.Mathlib.Omega.{arith}
 use borrow.Author.Needs.{needs}
-use Rattle.arcs.specs.SpanLaws.{lent-of}
+use Rattle.register.specs.Reads.{read-of}
 use Rattle.ends.proofs.list_joined.Statement.{statement}
 use Rattle.ends.proofs.list_joined.Tie as tie
 
@@ -47,7 +47,7 @@ returns c =
     let L = after-links .links in
     let n : Z .result - 0 ≡ Z .result = omega arith in
     let k : L .result .count - 0 ≡ L .result .count = omega arith in
-    c .before .before .joined-over .ensures _ (rw (n, k) (lent-of (Z .ensures) (after-links .before .marks .ensures) (L .ensures)))
+    c .before .before .joined-over .ensures _ (rw (n, k) (read-of (Z .ensures) (after-links .before .marks .ensures) (L .ensures)))
 
 pub list-joined-spec : {M : Type 1} → statement M
 list-joined-spec =

@@ -7,7 +7,7 @@ use Rattle.book.specs.Causes.{maxLinks}
 use lib.Seq.{length-take-le}
 use Rattle.paths.specs.Questions.{by-trees}
 use Rattle.query.specs.LetterLaws.{read-lettered}
-use Rattle.rowpairs.specs.Evaluation.{ReadOf}
+use Rattle.rowpairs.specs.Evaluation.{KnownOf}
 use borrow.Author.Needs.{needs}
 use Rattle.rowpairs.proofs.pairs.Statement.{statement}
 use Rattle.rowpairs.proofs.pairs.Tie as tie
@@ -22,7 +22,7 @@ few-words c = omega (arith, length-take-le (c .links .result .count) (c .links .
 lettered : (c : tie.After-marks)
     → let after-links = c .before .before in
     let start = after-links .before .before .before .before .before in
-    ReadOf (start .args .register) (after-links .before .size .result)
+    KnownOf (start .args .register) (after-links .before .size .result)
     (take (after-links .links .result .count) (after-links .links .result .words)) (c .marks .result)
 lettered c b R = read-lettered (c .marks .ensures) b R (c .before .before .before .size .ensures) (c .before .before .links .ensures)
 

@@ -5,7 +5,7 @@ use Prim.Native.Nat.{ℕ, _≤_}
 use lib.ListN.{length, take}
 use lib.Seq.{length-take-le}
 use Rattle.query.specs.LetterLaws.{read-lettered}
-use Rattle.rowpairs.specs.Evaluation.{Held, ReadOf}
+use Rattle.rowpairs.specs.Evaluation.{Held, KnownOf}
 use borrow.Author.Needs.{needs}
 use Rattle.rowpairs.proofs.relate.Statement.{statement}
 use Rattle.rowpairs.proofs.relate.Tie as tie
@@ -17,7 +17,7 @@ in-words c = let o = c .links .ensures in omega (arith, o .few, o .long)
 lettered : (c : tie.After-marks)
     → let after-links = c .before .before in
     let start = after-links .before .before .before .before in
-    ReadOf (start .args .register) (after-links .before .size .result)
+    KnownOf (start .args .register) (after-links .before .size .result)
     (take (after-links .links .result .count) (after-links .links .result .words)) (c .marks .result)
 lettered c b R = read-lettered (c .marks .ensures) b R (c .before .before .before .size .ensures) (c .before .before .links .ensures)
 
