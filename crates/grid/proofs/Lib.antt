@@ -2,6 +2,7 @@ pub mod ScanLaws
 pub mod RowLaws
 pub mod RelationLaws
 pub mod ColumnLaws
+pub mod SearchLaws
 pub mod ClosureLaws
 pub mod MarkLaws
 pub mod ProductLaws

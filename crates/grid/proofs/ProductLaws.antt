@@ -31,7 +31,7 @@ use Rattle.grid.proofs.RowLaws.{row-same, row-empty, merged-none, merge
 use Rattle.grid.specs.GridLaws.{row-bit}
 use Rattle.grid.specs.GridLaws.{within-in, within-row, within-column}
 use Rattle.grid.proofs.RelationLaws.{rows-apart, Through, through-row, second-row, through-more, through-keep}
-use Rattle.grid.proofs.ClosureLaws.{empty-row}
+use Rattle.grid.proofs.SearchLaws.{empty-row}
 
 -- ---- the largest of numbers
 most-far : (f : ℕ → ℕ) (p d : ℕ) → Gap f p (p + d) → most (p + d) f ≡ most p f

@@ -65,13 +65,13 @@ fn swap(w: u64, k: u32, m: u64) -> u64
     (w & !(m | (m << k))) | ((w & m) << k) | ((w >> k) & m)
 }
 
-// The bits of 8 x 8 cells, from row by row to the order of a tree's last level.
+// The bits of 8 x 8 cells, from row by row to the order of a tree's last level, which is Morton order: bits are exchanged by swaps under masks.
 fn shuffle(w: u64) -> u64
     ensures { λ r. ⌜ ((j : ℕ) → j < 64 → digit r j ≡ digit w (8 * rowAt 3 j + columnAt 3 j)) ⌝ }
 {
-    let a = swap(w, 12, 264913582878960);
-    let b = swap(a, 4, 67555025218437360);
-    swap(b, 2, 868082074056920076)
+    let a = swap(w, 12, 0x0000_F0F0_0000_F0F0);
+    let b = swap(a, 4, 0x00F0_00F0_00F0_00F0);
+    swap(b, 2, 0x0C0C_0C0C_0C0C_0C0C)
 }
 
 // The bits of v put in from p on, beside what is there.
@@ -140,16 +140,16 @@ fn fill(rows: &[u64], g: usize, base: usize, heap: &mut [u64])
     }
 }
 
-// The sixteen bits that tell which groups of four bits of a word are not all 0.
+// The sixteen bits that tell which groups of four bits of a word are not all 0: the lowest bit of each group, then spread bits pressed together.
 fn summary(w: u64) -> u64
     ensures { λ r. ⌜ ((j : ℕ) → digit r j ≡ anyFour (digit w) (4 * j)) ⌝ }
 {
     let a = w | w >> 1;
-    let b = (a | a >> 2) & 1229782938247303441;
-    let c = (b | b >> 3) & 217020518514230019;
-    let d = (c | c >> 6) & 4222189076152335;
-    let e = (d | d >> 12) & 1095216660735;
-    (e | e >> 24) & 65535
+    let b = (a | a >> 2) & 0x1111_1111_1111_1111;
+    let c = (b | b >> 3) & 0x0303_0303_0303_0303;
+    let d = (c | c >> 6) & 0x000F_000F_000F_000F;
+    let e = (d | d >> 12) & 0x0000_00FF_0000_00FF;
+    (e | e >> 24) & 0xFFFF
 }
 
 // Are there four words from word i on, all 0?

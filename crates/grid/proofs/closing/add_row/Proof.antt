@@ -5,7 +5,7 @@ use Prim.Native.Nat.{_+_, _-_, _<_}
 use native.Mathlib.Omega.{arith}
 use lib.ListN.{length, length-set}
 use Rattle.k2.specs.Bits.{digit}
-use Rattle.grid.proofs.ClosureLaws.{Adding, adding-none, adding-gap, adding-word}
+use Rattle.grid.proofs.SearchLaws.{Adding, adding-none, adding-gap, adding-word}
 use Rattle.grid.proofs.closing.add_row.Statement.{statement}
 use Rattle.grid.proofs.closing.add_row.Tie as tie
 

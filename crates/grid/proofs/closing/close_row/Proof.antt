@@ -14,7 +14,7 @@ use Rattle.bits.specs.BitSets.{put}
 use Rattle.grid.specs.Grid.{firstRows}
 use Rattle.grid.specs.Steps.{Fresh}
 use Rattle.grid.proofs.RelationLaws.{rows-apart, unit-fits}
-use Rattle.grid.proofs.ClosureLaws.{Searching, searching-none, searching-more, left-less, row-done, row-back}
+use Rattle.grid.proofs.SearchLaws.{Searching, searching-none, searching-more, left-less, row-done, row-back}
 use Rattle.grid.proofs.closing.close_row.Statement.{statement}
 use Rattle.grid.proofs.closing.close_row.Tie as tie
 

@@ -8,7 +8,7 @@ use Rattle.k2.specs.Bits.{digit, bitAt}
 use Rattle.k2.specs.DigitLaws.{digit-lt, digit-and}
 use Rattle.grid.specs.Grid.{rowOf}
 use Rattle.grid.proofs.RelationLaws.{rows-apart, unit-fits}
-use Rattle.grid.proofs.ClosureLaws.{LookedTo, lacks, looked-gap, looked-word}
+use Rattle.grid.proofs.SearchLaws.{LookedTo, lacks, looked-gap, looked-word}
 use Rattle.grid.proofs.closing.fresh.Statement.{statement}
 use Rattle.grid.proofs.closing.fresh.Tie as tie
 
