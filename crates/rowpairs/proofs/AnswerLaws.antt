@@ -33,7 +33,6 @@ use Rattle.query.specs.Asking.{maxPairs}
 use Rattle.query.specs.Evaluation.{Coded}
 use Rattle.query.specs.WorkLaws.{rows-fit}
 use Rattle.answers.specs.Written.{written, Wrote}
-use Rattle.k2.specs.Trees.{treeUnit}
 use Rattle.k2.specs.SizeLaws.{treeUnit-some}
 use Rattle.rowpairs.specs.Labels.{Alone, LetterListed}
 use Rattle.rowpairs.specs.Evaluation.{Known, Enough, ValueFirst, ValueListed, ValueInRows}

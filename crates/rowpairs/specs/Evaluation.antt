@@ -27,6 +27,7 @@
 --   KnownOf r n links marks
 --                         what was read of the register r: for every book that it represents, its links and marks
 --   relationIn ws ms n    the relation of n records at the front of the words ws, with the masks ms
+--   Column f y n r        r is the first place below n, from y on, at which f is 1; n if there is none
 --   Held n words          so many words hold a relation of n records, and there may be so many records
 --   Relating r v work ws q
 --                         the relation of a text of the verdict v, asked of the register r with so many words of work, left at the front of the words ws
@@ -51,6 +52,7 @@ use Rattle.reader.specs.Letters.{lettersIn}
 use Rattle.reader.specs.Code.{itemOf, does, run}
 use Rattle.reader.specs.Running.{operands}
 use Rattle.rows.specs.Rows.{flat}
+use Rattle.bits.specs.BitSets.{Gap}
 use Rattle.grid.specs.Grid.{first, second}
 use Rattle.query.specs.Asking.{maxPairs, Leaves}
 use Rattle.query.specs.Evaluation.{relations, most-waiting, Coded, Height, usedBelow, Lettered}
@@ -134,6 +136,12 @@ KnownOf r n links marks = (b : Book) → Represents r b → Known b n links mark
 
 abbrev pub relationIn : (ws ms : List ℕ) → ℕ → Cells
 relationIn ws ms n = first n (rowWidth n) ws ms
+
+pub record Column (f : ℕ → ℕ) (y n r : ℕ) : Type 0 where
+  pub high : r ≤ n
+  pub low : r < n → y ≤ r
+  pub gap : Gap f y r
+  pub hit : r < n → f r ≡ 1
 
 pub record Held (n words : ℕ) : Type 0 where
   pub small : n ≤ maxRecords

@@ -9,7 +9,9 @@ ghost use lib.ListN.{length, take, drop, getD};
 ghost use mathlib.Core.Bool.{true};
 ghost use Rattle.book.specs.Book.{Book};
 ghost use Rattle.book.specs.Causes.{maxRecords, maxLinks};
-ghost use Rattle.k2.specs.PairSets.{union, diagonal};
+ghost use Rattle.k2.specs.PairSets.{union, diagonal, listed};
+ghost use Rattle.bits.specs.BitSets.{Next as NextBit};
+ghost use Rattle.rows.specs.Rows.{flat};
 ghost use Rattle.paths.specs.Expressions.{Expr};
 ghost use Rattle.paths.specs.Chains.{asked};
 ghost use Rattle.paths.specs.Relations.{crossedBy};
@@ -21,14 +23,14 @@ ghost use Rattle.reader.specs.Letters.{lettersIn};
 ghost use Rattle.reader.specs.Running.{operands};
 ghost use Rattle.links.specs.Links.{linkPair};
 ghost use Rattle.grid.specs.Grid.{Space, within, first};
-ghost use Rattle.query.specs.Asking.{AsksFor, AsksPairs, AsksRows, Leaves, Relates};
+ghost use Rattle.query.specs.Asking.{maxPairs, AsksFor, AsksPairs, AsksRows, Leaves, Relates};
 ghost use Rattle.query.specs.Evaluation.{most-waiting, Ready, Coded, usedBelow, Lettered};
 ghost use Rattle.rowpairs.specs.Labels.{everyIf, Alone, LetterListed};
 ghost use Rattle.register.specs.declared.Register.{Register};
 ghost use Rattle.register.specs.Reads.{ReadOf};
 ghost use Rattle.answers.specs.declared.Counted.the-variants.{Count};
 ghost use Rattle.rowpairs.specs.Evaluation.{Lent, LentFor, Runnable, Enough, Held, Operates, Goes, Reading, ValueFirst, ValueListed, ValueInRows};
-ghost use Rattle.rowpairs.specs.Evaluation.{relationIn, KnownOf, Relating};
+ghost use Rattle.rowpairs.specs.Evaluation.{relationIn, Column, KnownOf, Relating};
 use answers::Counted;
 use reader::Item;
 use register::Register;
@@ -47,6 +49,12 @@ const MASKS: usize = 20481;
 
 // The masks of four relations of 1,024 rows, and one more: enough for a code of three numbers, or for few records.
 const FEW_MASKS: usize = 4097;
+
+// The bits of a word.
+const WORD_BITS: usize = 64;
+
+// The number after every pair word.
+const PAIR_WORDS: usize = book::MAX_RECORDS * book::MAX_RECORDS;
 
 // A link's word is label * LABEL_UNIT + its pair word.
 const LABEL_UNIT: u32 = 1048576;
@@ -546,7 +554,7 @@ pub fn joins(cells: &[u64], masks: &[u16], n: usize, x: usize, y: usize) -> bool
     if n <= y {
         return false;
     }
-    let c = y / 64;
+    let c = y / WORD_BITS;
     let at = x * query::row_width(n) + c;
     if masks.len() <= x {
         return false;
@@ -557,7 +565,62 @@ pub fn joins(cells: &[u64], masks: &[u16], n: usize, x: usize, y: usize) -> bool
     if (masks[x] >> c) % 2 != 1 {
         return false;
     }
-    (cells[at] >> (y % 64)) % 2 == 1
+    (cells[at] >> (y % WORD_BITS)) % 2 == 1
+}
+
+// The first column of row x from y on that a relation of n records has, by the row's mask; n if there is none.
+fn next_column(cells: &[u64], mask: u16, n: usize, x: usize, y: usize) -> usize
+    requires { ⌜ (n ≤ maxRecords) × (x < n) × (y < maxRecords) ⌝ }
+    ensures { λ r. ⌜ ((ms : List ℕ) → getD ms x 0 ≡ mask → Column (relationIn (now (cells .entry)) ms n x) y n r) ⌝ }
+{
+    if mask == 0 {
+        return n;
+    }
+    let row = x * query::row_width(n) * WORD_BITS;
+    let mut from = y;
+    while from < n {
+        let word = from / WORD_BITS;
+        let end = word * WORD_BITS + WORD_BITS;
+        if (mask >> word) % 2 == 1 {
+            let place = bits::next(cells, row + from, row + end);
+            if place < row + n {
+                if place < row + end {
+                    return place - row;
+                }
+            }
+        }
+        from = end;
+    }
+    n
+}
+
+// The first pair word from `from` on that a relation of n records has; the number after every pair word if there is none.
+pub fn next_pair(cells: &[u64], masks: &[u16], n: usize, from: usize) -> usize
+    requires { ⌜ (n ≤ maxRecords) × (n ≤ length (now masks)) × (from ≤ maxPairs) ⌝ }
+    ensures { λ r. ⌜ NextBit (flat (relationIn (now (cells .entry)) (now (masks .entry)) n)) from maxPairs r ⌝ }
+{
+    let mut p = from;
+    while p < PAIR_WORDS {
+        let x = p / book::MAX_RECORDS;
+        if n <= x {
+            return PAIR_WORDS;
+        }
+        let y = next_column(cells, masks[x], n, x, p % book::MAX_RECORDS);
+        if y < n {
+            return x * book::MAX_RECORDS + y;
+        }
+        p = x * book::MAX_RECORDS + book::MAX_RECORDS;
+    }
+    PAIR_WORDS
+}
+
+// How many pairs a relation of n records has: they are listed to no words.
+pub fn count_pairs(cells: &[u64], masks: &[u16], n: usize) -> usize
+    requires { ⌜ Held n (length (now cells)) × (n ≤ length (now masks)) ⌝ }
+    ensures { λ r. ⌜ r ≡ length (listed n (relationIn (now (cells .entry)) (now (masks .entry)) n)) ⌝ }
+{
+    let mut none: [u32; 1] = [0; 1];
+    grid::list(cells, masks, n, query::row_width(n), &mut none[..0])
 }
 
 // The code run, and its value spread to rows of 1,024 bits; how many pairs it has.

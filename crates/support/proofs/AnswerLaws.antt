@@ -34,11 +34,11 @@ use Rattle.paths.specs.Expressions.{Expr}
 use Rattle.paths.specs.Grammar.{Verdict, accepted, long, outside, large, verdictCause}
 use Rattle.paths.specs.Chains.{Graph, asked}
 use Rattle.paths.specs.Relations.{cells}
-use Rattle.answers.specs.Answers.{counted, answered, Whole}
+use Rattle.answers.specs.Answers.{counted, Whole}
 use Rattle.answers.specs.AnswerLaws.{contained-refused, whole-refused, whole-given}
 use Rattle.answers.specs.declared.Counted.{Counted}
 use Rattle.answers.specs.declared.Counted.the-variants.{Count, Refused}
-use Rattle.paths.specs.Questions.{Outcome, by-trees, refused, paired, replied, unless, pairsWork, chainWork, pairsCauses, over, listAfter, countOf, Tells}
+use Rattle.paths.specs.Questions.{by-trees, refused, paired, unless, pairsWork, chainWork, pairsCauses, over, listAfter, countOf, Tells}
 use Rattle.register.specs.Representation.{Represents}
 use Rattle.register.specs.Parting.{touches, withoutLinks, withoutRecord, Without}
 use Rattle.register.specs.PartingLaws.{present-without}
@@ -49,20 +49,11 @@ use Rattle.support.specs.Support.{without, some, chosen, reaches, falls,
 use Rattle.support.specs.Support.{supportOutcome, SupportsFor}
 use Rattle.support.specs.SupportLaws.{chosen-same}
 use Rattle.rowpairs.specs.Evaluation.{relationIn, Relating}
+use Rattle.rowpairs.specs.RelatingLaws.{relating-refused, relating-made}
 use Rattle.rowpairs.specs.declared.Related.{Related}
 use Rattle.support.specs.Inner.{lost, Marked, Compares}
 
 -- ---- the marks of a register's records
-answer-number : (j m : ℕ) {k : ℕ} {a : Counted} → a ≡ answered j m → a ≡ Refused k → k ≡ j
-unfolding answered
-answer-number zero m T e = absurd (let z : _≡_ {A = ℕ} 0 1 = cc in omega arith)
-answer-number (suc j) m T e = cc
-
-answer-none : (j m : ℕ) {k : ℕ} {a : Counted} → a ≡ answered j m → a ≡ Count k → 0 ≡ j
-unfolding answered
-answer-none zero m T e = refl
-answer-none (suc j) m T e = absurd (let z : _≡_ {A = ℕ} 0 1 = cc in omega arith)
-
 module _ {r : Register} {v : Verdict} {anchors : List ℕ} {work n : ℕ} {ws : List ℕ} {q : Related} (A : Relating r v work ws q) where
   pub marks-refused : {k : ℕ} → q .answer ≡ Refused k → (rs : List Bool) → length rs ≡ maxRecords
       → Marked r v anchors work n (record { records = rs; number = k })
@@ -71,7 +62,7 @@ module _ {r : Register} {v : Verdict} {anchors : List ℕ} {work n : ℕ} {ws : 
       record {
         long = l;
         caused = λ _. c;
-        number = λ b R. answer-number _ (b .n) (A .leaves .book b R .answer) e;
+        number = λ b R. relating-refused A b R e;
         records = λ b R f s z. absurd (omega (arith, caused-positive c, z));
       }
 
@@ -80,7 +71,7 @@ module _ {r : Register} {v : Verdict} {anchors : List ℕ} {work n : ℕ} {ws : 
   marks-made {k} e rs l joined = record {
     long = l;
     caused = λ z. absurd (z refl);
-    number = λ b R. answer-none _ (b .n) (A .leaves .book b R .answer) e;
+    number = λ b R. relating-made A b R e;
     records = λ b R f s z x h. joined x h ∙ ap (λ (g : Cells). reaches g anchors x) (A .leaves .book b R .value f s k e);
   }
 

@@ -3,7 +3,7 @@
 ghost use mathlib.Core.Path.{_≡_};
 ghost use mathlib.Core.Bool.{true, false, not, _&&_};
 ghost use Prim.Native.Nat.{ℕ, _<_, _≤_, min};
-ghost use lib.Dec.{leb, eqb};
+ghost use lib.Dec.{leb};
 ghost use lib.ListN.{length, take, getD};
 ghost use Rattle.book.specs.Causes.{maxRecords};
 ghost use Rattle.paths.specs.Questions.{chainWork, over};

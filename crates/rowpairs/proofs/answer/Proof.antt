@@ -8,7 +8,6 @@ use lib.Seq.{length-take-le}
 use Rattle.paths.specs.Expressions.{Expr}
 use Rattle.paths.specs.Grammar.{accepted}
 use Rattle.paths.specs.Verdicts.{verdict}
-use Rattle.paths.specs.Questions.{workFor}
 use Rattle.query.specs.Evaluation.{Coded}
 use Rattle.query.specs.EvaluationLaws.{read-coded}
 use Rattle.query.specs.AskingLaws.{asks-faulty, asks-short, asks-pairs}
