@@ -10,9 +10,7 @@ use mathlib.Core.List.{List}
 use mathlib.Core.Bool.{true}
 use Prim.Native.Nat.{ℕ, _≤_, _<_}
 use native.Mathlib.Omega.{arith}
-use lib.ListN.{length, getD, take}
-use lib.Dec.{eqb}
-use lib.Seq.{getD-take, length-take-le}
+use lib.ListN.{length, getD}
 use borrow.Author.Tests.{eq-eqb, ne-eqb}
 use Rattle.book.specs.Book.{Link, Book, present, isWithdrawn}
 use Rattle.book.specs.ListLaws.{in-at, at-in}
@@ -20,11 +18,9 @@ use Rattle.paths.specs.Chains.{asked}
 use Rattle.paths.specs.ChainLaws.{Inside}
 use Rattle.paths.specs.PairLaws.{in-use, fit-inside}
 use Rattle.register.specs.declared.Register.{Register}
-use Rattle.register.specs.declared.Links.{Links}
 use Rattle.links.specs.Links.{linkWord, linkOf}
 use Rattle.links.specs.LinkLaws.{linkOf-word}
 use Rattle.register.specs.Marks.{withdrawnMark}
-use Rattle.register.specs.MarkLaws.{listed-withdrawn}
 use Rattle.register.specs.Representation.{Represents}
 use Rattle.register.specs.Reads.{ReadOf}
 use Rattle.arcs.specs.Arcs.{Spans}

@@ -1,6 +1,6 @@
 -- Laws of `bitAt`, `onesBelow` and `wordsOf`.
 --   Bits f                f has no value but 0 and 1
---   bit-lt, bit-in, bit-out, bit-within, bit-zero, bit-replicate
+--   bit-lt, bit-in, bit-out, bit-within, bit-zero, zeros-at, bit-replicate
 --                         a bit of words: below 2, a digit of its word, 0 past the end and in a word of 0
 --   bit-set, bit-set-off  after a word is stored: its own bits, and every other as it was
 --   bit-take              the bits of a part of the words
@@ -67,13 +67,13 @@ pub bit-zero : (ws : List ℕ) (p : ℕ) → getD ws (p / 64) 0 ≡ 0 → bitAt 
 unfolding bitAt
 bit-zero ws p e = rw e (digit-none (p % 64))
 
+pub zeros-at : (n i : ℕ) → getD {A = ℕ} (replicate n 0) i 0 ≡ 0
+zeros-at zero i = refl
+zeros-at (suc n) zero = refl
+zeros-at (suc n) (suc i) = zeros-at n i
+
 pub bit-replicate : (n p : ℕ) → bitAt (replicate n 0) p ≡ 0
-bit-replicate n p = bit-zero (replicate n 0) p (zero-at n (p / 64))
-  where
-    zero-at : (n i : ℕ) → getD {A = ℕ} (replicate n 0) i 0 ≡ 0
-    zero-at zero i = refl
-    zero-at (suc n) zero = refl
-    zero-at (suc n) (suc i) = zero-at n i
+bit-replicate n p = bit-zero (replicate n 0) p (zeros-at n (p / 64))
 
 -- ---- a store of v at word q
 pub bit-set : (ws : List ℕ) (q v k : ℕ) → q < length ws → k / 64 ≡ q → bitAt (set ws q v) k ≡ digit v (k % 64)

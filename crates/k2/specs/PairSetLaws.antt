@@ -18,6 +18,7 @@
 --   listed-within, listed-rises, listed-below
 --                         the listed words ascend, each once, and are of records below n
 --   setOf-listed          the set of the listed words is the set
+--   head-same             the first of two equal lists of sets
 -- Assumes nothing.
 use mathlib.Core.Path.{_≡_, refl, sym, ap, ap₂, _∙_, fun-ext, subst}
 use mathlib.Core.Logic.{_⊎_, inl, inr, ⊎-elim}
@@ -413,3 +414,7 @@ setOf-listed n a nl A = fun-ext (λ x. fun-ext (λ y. go x y (decLt 0 (a x y)) (
         in-set (listed n a) x y (omega (arith, i .1)) (listed-in n a x y (i .0) (i .1) h) ∙ omega (arith, A .bit x y)
     go x y (no h) (yes d) = absurd (h (back x y d))
     go x y (no h) (no d) = omega arith
+
+-- the first of a list of sets
+pub head-same : {a b : Cells} {as bs : List Cells} → a ∷ as ≡ b ∷ bs → a ≡ b
+head-same e = cc

@@ -19,6 +19,7 @@ use Rattle.book.specs.ListLaws.{rest-whole}
 use Rattle.k2.specs.Bits.{bitAt}
 use Rattle.k2.specs.PairSets.{Cells}
 use Rattle.k2.specs.Trees.{treeUnit}
+use Rattle.k2.specs.PairSetLaws.{head-same}
 use Rattle.paths.specs.Expressions.{Expr}
 use Rattle.paths.specs.Chains.{asked}
 use Rattle.paths.specs.Relations.{cells}
@@ -85,9 +86,6 @@ module _ (n : ℕ) (ws used c : List ℕ) where
       l .value b L e (getD c (length c - 1) 0) (w .0) is (subst (λ (x : List ℕ). Waiting (asked b) e x ws work S (w .0)) z (w .1))
 
 -- ---- the last number's value
-head-same : {x y : Cells} {xs ys : List Cells} → x ∷ xs ≡ y ∷ ys → x ≡ y
-head-same e = cc
-
 module _ (n : ℕ) (y : Item) (ws used work before after : List ℕ) (r : Bool) (S : Stack)
     (small : n ≤ 1024) (wide : 32 * treeUnit n ≤ length work) (sixteen : length used ≡ 16)
     (rows : length before ≡ 16384) where

@@ -4,7 +4,6 @@
 --   cell-masked             where the mask has the word, the cell is the word's bit
 --   cell-unmasked, cell-unmarked, cell-past
 --                           where it has not, or where there is no mask or no word, there is nothing
---   gap-join                no bit up to a place, and none from there on
 --   column-empty, column-skip, column-gap, column-hit
 --                           a row with no mask has nothing; a word that its mask lacks has nothing; of one that it has, the cells are the word's bits
 --   pair-gap, pair-hit      the cells of a row as pair words
@@ -59,13 +58,6 @@ module _ (ws ms : List ℕ) (n x y : ℕ) where
         ap (λ (m : ℕ). digit m (y % 64)) (List·getD-eq-default ws 0 j) ∙ digit-none (y % 64) in omega (arith, cell, e)
 
 -- ---- the columns of a row
-pub gap-join : {f : ℕ → ℕ} {a b c : ℕ} → Gap f a b → Gap f b c → Gap f a c
-gap-join {f} {b = b} g h k l m = go (decLt k b)
-  where
-    go : Dec (k < b) → f k ≡ 0
-    go (yes q) = g k l q
-    go (no q) = h k (omega arith) m
-
 module _ (ws ms : List ℕ) (n x : ℕ) (h : x < n) where
   pub column-empty : getD ms x 0 ≡ 0 → (y : ℕ) → relationIn ws ms n x y ≡ 0
   column-empty e y = go (decLt y n)

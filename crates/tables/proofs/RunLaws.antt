@@ -6,7 +6,7 @@
 --   Opened               of a number of the code: its operands, what is left of the run, and the symbols left
 --   room-one, after-one, room-two, after-two, room-symbol, after-symbol
 --                        for an operator on one, on two, and a symbol: there is room, and the tables after it hold what is left
---   holds-none, next-none, zeros-at
+--   holds-none, next-none
 --                        at the start: empty tables hold nothing, and the whole code is left
 --   at-end               at the end one part waits
 --   alone-top            then one place of the stack is used
@@ -21,7 +21,7 @@ use native.Mathlib.Omega.{arith}
 use native.Mathlib.Decide.{decLt}
 use lib.Bits.{bitOr}
 use lib.Dec.{leb}
-use lib.ListN.{length, getD, set, replicate}
+use lib.ListN.{length, getD, set}
 use lib.Seq.{getD-set-same, getD-set-other}
 use borrow.Author.Tests.{ne-eqb, le-leb}
 use Rattle.book.specs.Basics.{bit}
@@ -208,11 +208,6 @@ next-none {e = e} L q H =
       room = (let z = symbols-code e in let l = L .few-letters in omega arith);
       holds = H;
     })
-
-pub zeros-at : (n i : ℕ) → getD {A = ℕ} (replicate n 0) i 0 ≡ 0
-zeros-at zero i = refl
-zeros-at (suc n) zero = refl
-zeros-at (suc n) (suc i) = zeros-at n i
 
 -- ---- an expression's part is its letters and its fragment
 abbrev part-of : Expr → Part

@@ -5,13 +5,13 @@ use mathlib.Core.List.{[]}
 use native.Mathlib.Omega.{arith}
 use borrow.Author.Needs.{needs}
 use lib.ListN.{length}
+use Rattle.rows.specs.RowLaws.{length-places}
 use Rattle.paths.specs.Chains.{asked}
 use Rattle.arcs.specs.SpanLaws.{inside, asked-size, spans, used, out-of-use}
 use Rattle.tables.specs.Builds.{inSense}
 use Rattle.ends.specs.Ends.{places}
 use Rattle.ends.specs.Listing.{meets}
 use Rattle.answers.specs.ListingLaws.{shown-none}
-use Rattle.ends.proofs.ListLaws.{places-short}
 use Rattle.ends.proofs.AskLaws.{ends-none, ends-seen}
 use Rattle.ends.proofs.sought.Statement.{statement}
 use Rattle.ends.proofs.sought.Tie as tie
@@ -72,7 +72,7 @@ returns-2 c =
     let long = wide after-tables-of in (
       places (meets (S .result) (T .result .accepting)) (length (a .marks .now)),
       f .0,
-      omega (arith, f .0, places-short (meets (S .result) (T .result .accepting)) (length (a .marks .now)), p .0),
+      omega (arith, f .0, length-places (meets (S .result) (T .result .accepting)) (length (a .marks .now)), p .0),
       f .1,
       λ text e L q self b R N.
           ends-seen (a .against) (asked b) (inside R) e (asked-size R N)

@@ -8,9 +8,10 @@ use native.Mathlib.Omega.{arith}
 use lib.ListN.{getD}
 use Rattle.k2.specs.Bits.{digit, bitAt}
 use Rattle.bits.specs.BitSets.{Gap}
+use Rattle.bits.specs.BitSetLaws.{gap-join}
 use Rattle.query.specs.WorkLaws.{width-le}
 use Rattle.rowpairs.specs.Evaluation.{relationIn}
-use Rattle.rowpairs.proofs.CellLaws.{gap-join, column-empty, column-skip, column-gap, column-hit}
+use Rattle.rowpairs.proofs.CellLaws.{column-empty, column-skip, column-gap, column-hit}
 use Rattle.rowpairs.proofs.next_column.Statement.{statement}
 use Rattle.rowpairs.proofs.next_column.Tie as tie
 
@@ -99,7 +100,7 @@ returns-2 c =
       high = omega (arith, below);
       low = λ h. omega (arith, low, l .inv .0);
       gap =
-          gap-join (l .inv .2 ms e) (column-gap (a .cells .now) ms (a .n) (a .x) (start .pre .1) (a .x * at-loop .before .row-width .result * 64)
+          gap-join _ _ _ _ (l .inv .2 ms e) (column-gap (a .cells .now) ms (a .n) (a .x) (start .pre .1) (a .x * at-loop .before .row-width .result * 64)
           (ap (λ (w : ℕ). start .args .x * w * 64) (at-loop .before .row-width .ensures))
           (l .from) (ap (λ (m : ℕ). digit m (l .from / 64)) e ∙ after-next .before .if2 .taken)
           k (omega arith) (λ k i j q. after-next .next .ensures .gap _ (omega arith) (omega (arith, s))));
@@ -122,7 +123,7 @@ loop-again c =
     let l = then2 .before .before .loop in (
       omega arith,
       omega (arith, start .pre .0, then2 .before .loop-test .taken),
-      λ ms e. gap-join (l .inv .2 ms e) (column-gap (a .cells .now) ms (a .n) (a .x) (start .pre .1) (a .x * after-row-width .row-width .result * 64)
+      λ ms e. gap-join _ _ _ _ (l .inv .2 ms e) (column-gap (a .cells .now) ms (a .n) (a .x) (start .pre .1) (a .x * after-row-width .row-width .result * 64)
           (ap (λ (w : ℕ). start .args .x * w * 64) (after-row-width .row-width .ensures))
           (l .from) (ap (λ (m : ℕ). digit m (l .from / 64)) e ∙ then2 .if2 .taken)
           _ (omega arith) (λ k i j q. c .before .before .next .ensures .gap _ (omega arith) (omega (arith, c .if4 .left)))),
@@ -141,7 +142,7 @@ loop-again-2 c =
     let l = in-loop .before .loop in (
       omega arith,
       omega (arith, start .pre .0, in-loop .loop-test .taken),
-      λ ms e. gap-join (l .inv .2 ms e) (column-gap (a .cells .now) ms (a .n) (a .x) (start .pre .1) (a .x * after-row-width .row-width .result * 64)
+      λ ms e. gap-join _ _ _ _ (l .inv .2 ms e) (column-gap (a .cells .now) ms (a .n) (a .x) (start .pre .1) (a .x * after-row-width .row-width .result * 64)
           (ap (λ (w : ℕ). start .args .x * w * 64) (after-row-width .row-width .ensures))
           (l .from) (ap (λ (m : ℕ). digit m (l .from / 64)) e ∙ c .before .before .if2 .taken)
           _ (omega arith) (λ k i j q. c .before .next .ensures .gap _ (omega arith) (omega (arith, c .if3 .left)))),
@@ -158,7 +159,7 @@ loop-again-3 c =
     let l = c .before .before .loop in (
       omega arith,
       omega (arith, start .pre .0, c .before .loop-test .taken),
-      λ ms e. gap-join (l .inv .2 ms e) (column-skip (a .cells .now) ms (a .n) (a .x) (start .pre .1) (l .from)
+      λ ms e. gap-join _ _ _ _ (l .inv .2 ms e) (column-skip (a .cells .now) ms (a .n) (a .x) (start .pre .1) (l .from)
           (ap (λ (m : ℕ). digit m (l .from / 64)) e ∙ omega (arith, c .if2 .left))),
     )
 

@@ -4,10 +4,11 @@ use mathlib.Core.Path.{refl}
 use Prim.Native.Nat.{_-_, _/_, _%_, _≤_, _<_}
 use native.Mathlib.Omega.{arith}
 use Rattle.bits.specs.BitSets.{Gap}
+use Rattle.bits.specs.BitSetLaws.{gap-join}
 use Rattle.rows.specs.Rows.{flat}
 use Rattle.query.specs.Asking.{maxPairs}
 use Rattle.rowpairs.specs.Evaluation.{relationIn}
-use Rattle.rowpairs.proofs.CellLaws.{gap-join, pair-gap, pair-hit, pair-past, pair-row}
+use Rattle.rowpairs.proofs.CellLaws.{pair-gap, pair-hit, pair-past, pair-row}
 use Rattle.rowpairs.proofs.next_pair.Statement.{statement}
 use Rattle.rowpairs.proofs.next_pair.Tie as tie
 
@@ -27,7 +28,7 @@ returns c =
     record {
       low = omega (arith, l .inv .0, l .inv .1);
       high = omega arith;
-      gap = gap-join (l .inv .2) (pair-past (start .args .cells .now) (start .args .masks .now) (start .args .n) (l .p) _ (omega (arith, c .if1 .taken)));
+      gap = gap-join _ _ _ _ (l .inv .2) (pair-past (start .args .cells .now) (start .args .masks .now) (start .args .n) (l .p) _ (omega (arith, c .if1 .taken)));
       hit = λ h. absurd (omega arith);
     }
 
@@ -63,7 +64,7 @@ returns-2 c =
       low = omega (arith, l .inv .0, low);
       high = omega (arith, below, inside);
       gap =
-          gap-join (l .inv .2) (pair-gap (relationIn (start .args .cells .now) (start .args .masks .now) (start .args .n))
+          gap-join _ _ _ _ (l .inv .2) (pair-gap (relationIn (start .args .cells .now) (start .args .masks .now) (start .args .n))
           (l .p / 1024) (l .p) y refl (omega (arith, below)) (C .gap));
       hit = λ h. pair-hit (relationIn (start .args .cells .now) (start .args .masks .now) (start .args .n)) (l .p / 1024) y below (C .hit (c .if2 .taken));
     }
@@ -86,7 +87,7 @@ loop-again c =
     let C = c .before .next-column .ensures (start .args .masks .now) refl in (
       omega (arith, l .inv .0),
       omega (arith, inside),
-      gap-join (l .inv .2) (pair-row (start .args .cells .now) (start .args .masks .now) (start .args .n) (l .p) C (omega (arith, c .if2 .left))),
+      gap-join _ _ _ _ (l .inv .2) (pair-row (start .args .cells .now) (start .args .masks .now) (start .args .n) (l .p) C (omega (arith, c .if2 .left))),
     )
 
 returns-3 : tie.Need-returns-3 Inv-loop μ-loop

@@ -3,7 +3,8 @@
 use Prim.Native.Nat.{ℕ}
 use borrow.Author.Needs.{needs}
 use lib.ListN.{length-replicate}
-use Rattle.tables.proofs.RunLaws.{zeros-at, masked, masked-sense}
+use Rattle.k2.specs.BitLaws.{zeros-at}
+use Rattle.tables.proofs.RunLaws.{masked, masked-sense}
 use Rattle.tables.proofs.tables_of.Statement.{statement}
 use Rattle.tables.proofs.tables_of.Tie as tie
 

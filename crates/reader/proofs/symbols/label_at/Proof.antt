@@ -3,8 +3,9 @@ use mathlib.Core.Path.{sym, ap, _∙_}
 use mathlib.Core.Logic.{inl, inr}
 use native.Mathlib.Omega.{arith}
 use borrow.Author.Needs.{needs}
+use Rattle.k2.specs.DigitLaws.{one-shl-32}
 use Rattle.reader.specs.Progress.{labelAt}
-use Rattle.reader.proofs.SymbolLaws.{one-shl-32, label-letter, label-other}
+use Rattle.reader.proofs.SymbolLaws.{label-letter, label-other}
 use Rattle.reader.proofs.symbols.label_at.Statement.{statement}
 use Rattle.reader.proofs.symbols.label_at.Tie as tie
 

@@ -13,12 +13,12 @@ use lib.ListN.{length, getD, set, take, replicate, length-set, length-replicate}
 use lib.Seq.{length-take-le}
 use Rattle.k2.specs.Bits.{bitAt, onesBelow}
 use Rattle.k2.specs.DigitLaws.{digit-zero}
+use Rattle.k2.specs.BitLaws.{zeros-at}
 use Rattle.paths.specs.Chains.{Graph}
 use Rattle.automaton.specs.Automata.{Automaton}
 use Rattle.search.specs.Levels.{Setting, Levelled, numberAt, nowhere}
 use Rattle.search.specs.Frontiers.{Levelling, Listed, Frontier, Zero}
-use Rattle.search.proofs.MaskLaws.{zero-at}
-use Rattle.search.proofs.LevelLaws.{Level, level-start, level-next, level-falls, level-empty, mask-here, mask-off, ones-most, sought}
+use Rattle.search.proofs.LevelLaws.{Level, level-start, level-next, level-falls, level-empty, mask-here, mask-off, bits-few, sought}
 use Rattle.search.proofs.FrontierLaws.{listed-none, listed-fits, listed-take, none-listed, frontier-start}
 use Rattle.search.proofs.LevellingLaws.{levelling-none, levelling-all}
 use Rattle.search.proofs.CommitLaws.{commit-zero}
@@ -73,7 +73,7 @@ loop-holds c =
       length-replicate {A = ℕ} 1024 (s .accepting),
       omega arith,
       omega arith,
-      zero-at 1024,
+      zeros-at 1024,
       cur,
       frontier-start 1024 (s .ends .to) (s .accepting) (omega arith) (omega arith),
       λ g M fs S. level-start S (c .before .before .stamp .ensures) cur
@@ -207,7 +207,7 @@ add-commit : tie.Need-add-commit Inv-loop2 μ-loop2 Inv-loop μ-loop
 add-commit c =
     let at-loop = c .before .before .before .before .before .before .before .before .before in
     let start = at-loop .before .before .before .before .before .before .before .before .before .before in
-    omega (arith, ones-most (at-loop .loop .seen) (start .args .ends .n * 64))
+    omega (arith, bits-few (at-loop .loop .seen) (start .args .ends .n * 64))
 
 slice-aggregate-commit-3 : tie.Need-slice-aggregate-commit-3 Inv-loop2 μ-loop2 Inv-loop μ-loop
 slice-aggregate-commit-3 c = sym (c .before .before .before .before .before .before .before .before .before .before .loop .inv .4)
@@ -250,14 +250,14 @@ add-level c =
     let start = at-loop .before .before .before .before .before .before .before .before .before .before in
     let h = start .pre .1 in
     let i = at-loop .loop .inv .7 in
-    omega (arith, ones-most (at-loop .loop .seen) (start .args .ends .n * 64))
+    omega (arith, bits-few (at-loop .loop .seen) (start .args .ends .n * 64))
 
 loop-less : tie.Need-loop-less Inv-loop2 μ-loop2 Inv-loop μ-loop
 loop-less c =
     let after-commit = c .before .before .before .before .before .before in
     let earlier = after-commit .before .before .before .before .before .before .before .before .before .before .before in
     let start = earlier .before .before .before .before .before .before .before .before .before .before .before in
-    omega (arith, grows after-commit, ones-most (after-commit .commit .last .1 .0) (start .args .ends .n * 64))
+    omega (arith, grows after-commit, bits-few (after-commit .commit .last .1 .0) (start .args .ends .n * 64))
 
 loop-again : tie.Need-loop-again Inv-loop2 μ-loop2 Inv-loop μ-loop
 loop-again c =

@@ -7,10 +7,10 @@ use native.Mathlib.Omega.{arith}
 use borrow.Author.Needs.{needs}
 use lib.ListN.{length, getD, set, replicate, length-set, length-replicate}
 use Rattle.k2.specs.Bits.{onesBelow}
+use Rattle.k2.specs.BitLaws.{zeros-at, ones-most}
 use Rattle.search.specs.Frontiers.{Listed}
 use Rattle.search.specs.Reaching.{Expanding, toDo}
-use Rattle.search.proofs.MaskLaws.{zero-at}
-use Rattle.search.proofs.LevelLaws.{ones-mono, mask-here, mask-off}
+use Rattle.search.proofs.LevelLaws.{mask-here, mask-off}
 use Rattle.search.proofs.FrontierLaws.{listed-none, listed-fits, none-listed}
 use Rattle.search.proofs.ReachLaws.{listed-less, expanding-pop, fewer-pop, expanding-start, expanding-all}
 use Rattle.search.proofs.reach.reach.Statement.{statement}
@@ -51,7 +51,7 @@ slice-aggregate-add-states-2 c = search needs
 add-states-requires : tie.Need-add-states-requires Inv-loop μ-loop
 add-states-requires c κs =
     let p = c .before .before .before .before .before .before .pre in
-    (p .3, length-replicate {A = ℕ} 1024 0, length-replicate {A = ℕ} 1024 0, omega arith, listed-none _ _ _ (zero-at 1024))
+    (p .3, length-replicate {A = ℕ} 1024 0, length-replicate {A = ℕ} 1024 0, omega arith, listed-none _ _ _ (zeros-at 1024))
 
 loop-holds : tie.Need-loop-holds Inv-loop μ-loop
 loop-holds c =
@@ -62,7 +62,7 @@ loop-holds c =
       A .kept .0 ∙ length-replicate {A = ℕ} 1024 0,
       A .kept .1 .0 ∙ length-replicate {A = ℕ} 1024 0,
       A .ensures .0,
-      expanding-start (start .pre .4) (zero-at 1024) (mask-here 1024 (s .from) 1 (omega arith)) (mask-off 1024 (s .from) 1) (A .ensures .1),
+      expanding-start (start .pre .4) (zeros-at 1024) (mask-here 1024 (s .from) 1 (omega arith)) (mask-off 1024 (s .from) 1) (A .ensures .1),
     )
 
 sub-last : tie.Need-sub-last Inv-loop μ-loop
@@ -135,7 +135,7 @@ loop-less c =
     let start = in-loop .before .before .before .before .before .before .before .before .before .before .before in
     let l = in-loop .before .loop in
     let a = fewer-pop (l .inv .3) (omega arith) (within in-loop) (l .seen) (l .inv .4 .waits) in
-    let b = ones-mono _ _ (start .args .n * 64) (after-out-of .out-of .ensures .1) in
+    let b = ones-most _ _ (start .args .n * 64) (after-out-of .out-of .ensures .1) in
     omega arith
 
 loop-again : tie.Need-loop-again Inv-loop μ-loop
