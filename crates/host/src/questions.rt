@@ -78,9 +78,7 @@ pub extern "C" fn dating_chain(
     }
     let marks = register::marks_in(state);
     let links = register::links_in(state);
-    told_chain(chains::chain_over(
-        marks, links, from, to, text, work, list,
-    ))
+    told_chain(chains::chain_over(marks, links, from, to, text, work, list))
 }
 
 // The ends of a record, ascending, as many as the list takes; how many they are in all.

@@ -416,5 +416,5 @@ setOf-listed n a nl A = fun-ext (λ x. fun-ext (λ y. go x y (decLt 0 (a x y)) (
     go x y (no h) (no d) = omega arith
 
 -- the first of a list of sets
-pub head-same : {a b : Cells} {as bs : List Cells} → a ∷ as ≡ b ∷ bs → a ≡ b
+pub head-same : {a b : Cells} {l j : List Cells} → a ∷ l ≡ b ∷ j → a ≡ b
 head-same e = cc

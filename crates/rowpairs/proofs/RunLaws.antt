@@ -122,7 +122,6 @@ module _ (n : ℕ) (links marks c : List ℕ) where
             λ b L s e q. alone k (ap (λ (x : List ℕ). run (relations (asked b)) x (lying n ws ms k)) (sym (drop-of-length-le c {i = i} h)) ∙ G .rest b L s e q);
       }
     where
-
       tail-same : {x y : Cells} {xs ys : List Cells} → x ∷ xs ≡ y ∷ ys → xs ≡ ys
       tail-same e = cc
 

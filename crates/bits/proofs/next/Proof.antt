@@ -21,27 +21,12 @@ returns c =
     let a = c .before .before .args in
     next-none _ (a .lo) (a .end) (a .end) (omega arith) (omega arith) (gap-past (a .words .now) (a .lo) (a .end) (c .if1 .taken))
 
-mul-rest : tie.Need-mul-rest Inv-loop μ-loop
-mul-rest c = omega arith
-
-shared-slice-read-rest : tie.Need-shared-slice-read-rest Inv-loop μ-loop
-shared-slice-read-rest c = omega arith
-
-shr-rest : tie.Need-shr-rest Inv-loop μ-loop
-shr-rest c = omega arith
-
-lowest-set-requires : tie.Need-lowest-set-requires Inv-loop μ-loop
-lowest-set-requires c κs = omega arith
-
 returns-2 : tie.Need-returns-2 Inv-loop μ-loop
 returns-2 c =
     let a = c .before .before .before .before .before .args in
     next-here (a .words .now) (a .lo / 64) (a .lo % 64) (c .before .before .shared-slice-known2 .given (a .lo / 64) .fits)
     (omega (arith, c .before .if2 .taken))
     (a .lo) (a .end) _ (omega arith) (omega arith) (c .lowest-set .ensures)
-
-add-q : tie.Need-add-q Inv-loop μ-loop
-add-q c = omega arith
 
 loop-holds : tie.Need-loop-holds Inv-loop μ-loop
 loop-holds c =
@@ -55,24 +40,6 @@ returns-3 c =
     next-none _ (a .lo) (a .end) (a .end) (omega arith) (omega arith)
     (gap-join _ (a .lo) (l .q * 64) (a .end) (l .inv .3) (gap-past (a .words .now) (l .q * 64) (a .end) (omega arith)))
 
-mul-if4 : tie.Need-mul-if4 Inv-loop μ-loop
-mul-if4 c = omega arith
-
-shared-slice-read-if4 : tie.Need-shared-slice-read-if4 Inv-loop μ-loop
-shared-slice-read-if4 c = omega arith
-
-mul-lowest-set : tie.Need-mul-lowest-set Inv-loop μ-loop
-mul-lowest-set c = omega arith
-
-mul-lowest-set-2 : tie.Need-mul-lowest-set-2 Inv-loop μ-loop
-mul-lowest-set-2 c = omega arith
-
-shared-slice-read-lowest-set : tie.Need-shared-slice-read-lowest-set Inv-loop μ-loop
-shared-slice-read-lowest-set c = omega arith
-
-lowest-set-requires-2 : tie.Need-lowest-set-requires-2 Inv-loop μ-loop
-lowest-set-requires-2 c κs = omega arith
-
 returns-4 : tie.Need-returns-4 Inv-loop μ-loop
 returns-4 c =
     let a = c .before .before .before .before .before .before .before .before .before .before .before .args in
@@ -80,12 +47,6 @@ returns-4 c =
     next-after _ (a .lo) (l .q * 64) (a .end) _ (l .inv .2) (l .inv .3)
     (next-word (a .words .now) (l .q) (a .end) _ (c .before .before .before .shared-slice-known3 .given (l .q) .fits)
     (omega (arith, c .before .before .if4 .taken)) (omega arith) (c .lowest-set2 .ensures))
-
-add-q-2 : tie.Need-add-q-2 Inv-loop μ-loop
-add-q-2 c = omega arith
-
-loop-less : tie.Need-loop-less Inv-loop μ-loop
-loop-less c = omega arith
 
 loop-again : tie.Need-loop-again Inv-loop μ-loop
 loop-again c =
@@ -106,22 +67,13 @@ next-spec =
     Inv-loop
     μ-loop
     returns
-    mul-rest
-    shared-slice-read-rest
-    shr-rest
-    lowest-set-requires
+    (λ c. omega arith) (λ c. omega arith) (λ c. omega arith) (λ c κs. omega arith)
     returns-2
-    add-q
+    (λ c. omega arith)
     loop-holds
     returns-3
-    mul-if4
-    shared-slice-read-if4
-    mul-lowest-set
-    mul-lowest-set-2
-    shared-slice-read-lowest-set
-    lowest-set-requires-2
+    (λ c. omega arith) (λ c. omega arith) (λ c. omega arith) (λ c. omega arith) (λ c. omega arith) (λ c κs. omega arith)
     returns-4
-    add-q-2
-    loop-less
+    (λ c. omega arith) (λ c. omega arith)
     loop-again
     returns-5)

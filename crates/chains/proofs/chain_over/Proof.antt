@@ -21,21 +21,6 @@ returns c = λ self L. refuses-record (L .size) (inl (c .if1 .taken))
 returns-2 : tie.Need-returns-2
 returns-2 c = λ self L. refuses-record (L .size) (inr (c .if2 .taken))
 
-read-requires : tie.Need-read-requires
-read-requires c κs = search needs
-
-enum-known-answer : tie.Need-enum-known-answer
-enum-known-answer c = search needs
-
-cast-t21 : tie.Need-cast-t21
-cast-t21 c = search needs
-
-enum-known-answer-2 : tie.Need-enum-known-answer-2
-enum-known-answer-2 c = search needs
-
-mul-if3 : tie.Need-mul-if3
-mul-if3 c = search needs
-
 -- the expression that the text is
 accepted : (c : tie.After-answer2)
     → let after-read = c .before .before .before in
@@ -47,12 +32,6 @@ returns-3 : tie.Need-returns-3
 returns-3 c =
     let a = accepted (c .before .before) in
     λ self L. refuses-work (L .size) (omega arith) (omega arith) (a .0) (a .1 .is) (c .if3 .taken)
-
-sub-sought : tie.Need-sub-sought
-sub-sought c = search needs
-
-part-sought-start : tie.Need-part-sought-start
-part-sought-start c = search needs
 
 part-sought-end : tie.Need-part-sought-end
 part-sought-end c =
@@ -70,25 +49,10 @@ sought-requires c κs =
     let p = start .pre in
     (p .0, p .1, refl, omega arith, omega arith, omega arith, (start .args .text .now, a .0, a .1 .limits, rw part (a .1 .front)))
 
-enum-known-found : tie.Need-enum-known-found
-enum-known-found c = search needs
-
-enum-told : tie.Need-enum-told
-enum-told c = search needs
-
-enum-told-2 : tie.Need-enum-told-2
-enum-told-2 c = search needs
-
 returns-4 : tie.Need-returns-4
 returns-4 c =
     let r = reads-refused (c .before .before .before .before .read .ensures) (c .before .answer .given .1) in
     λ self L. refuses-text (L .size) (omega arith) (omega arith) _ (r .0) (r .1 .0)
-
-same-length : tie.Need-same-length
-same-length c = search needs
-
-same-length-2 : tie.Need-same-length-2
-same-length-2 c = search needs
 
 -- what the search found, as the reply
 replied : (c : tie.After-sought) (self : Register)
@@ -111,20 +75,8 @@ replied c self L =
 returns-5 : tie.Need-returns-5
 returns-5 c = λ self L. replies-as (c .before .found .given .1) (replied (c .before .before .before .before .before .before .before) self L)
 
-same-length-3 : tie.Need-same-length-3
-same-length-3 c = search needs
-
-same-length-4 : tie.Need-same-length-4
-same-length-4 c = search needs
-
 returns-6 : tie.Need-returns-6
 returns-6 c = λ self L. replies-as (c .enum-told .given .1) (replied (c .before .before .before .before .before .before) self L)
-
-same-length-5 : tie.Need-same-length-5
-same-length-5 c = search needs
-
-same-length-6 : tie.Need-same-length-6
-same-length-6 c = search needs
 
 returns-7 : tie.Need-returns-7
 returns-7 c = λ self L. replies-as (c .enum-told2 .given .1) (replied (c .before .before .before .before .before .before) self L)
@@ -135,26 +87,16 @@ chain-over-spec =
     (tie.spec
     returns
     returns-2
-    read-requires
-    enum-known-answer
-    cast-t21
-    enum-known-answer-2
-    mul-if3
+    (λ c κs. search needs) (λ c. search needs) (λ c. search needs) (λ c. search needs) (λ c. search needs)
     returns-3
-    sub-sought
-    part-sought-start
+    (λ c. search needs) (λ c. search needs)
     part-sought-end
     sought-requires
-    enum-known-found
-    enum-told
-    enum-told-2
+    (λ c. search needs) (λ c. search needs) (λ c. search needs)
     returns-4
-    same-length
-    same-length-2
+    (λ c. search needs) (λ c. search needs)
     returns-5
-    same-length-3
-    same-length-4
+    (λ c. search needs) (λ c. search needs)
     returns-6
-    same-length-5
-    same-length-6
+    (λ c. search needs) (λ c. search needs)
     returns-7)

@@ -10,39 +10,15 @@ use Rattle.chains.proofs.ReplyLaws.{withdrawn-from, withdrawn-to}
 use Rattle.chains.proofs.sought.Statement.{statement}
 use Rattle.chains.proofs.sought.Tie as tie
 
-mul-if1 : tie.Need-mul-if1
-mul-if1 c = search needs
-
-shared-slice-read-if1 : tie.Need-shared-slice-read-if1
-shared-slice-read-if1 c = search needs
-
 returns : tie.Need-returns
 returns c =
     let a = c .before .before .before .before .before .before .before .args in
     (none refl, λ text e L q self b R T. withdrawn-from b e _ _ (a .list .now) (out-of-use R T (a .ends .from) (omega arith) (c .if1 .taken)))
 
-mul-if2 : tie.Need-mul-if2
-mul-if2 c = search needs
-
-shared-slice-read-if2 : tie.Need-shared-slice-read-if2
-shared-slice-read-if2 c = search needs
-
 returns-2 : tie.Need-returns-2
 returns-2 c =
     let a = c .before .before .before .before .before .before .before .before .before .args in
     (none refl, λ text e L q self b R T. withdrawn-to b e _ _ (a .list .now) (out-of-use R T (a .ends .to) (omega arith) (c .if2 .taken)))
-
-tables-of-requires : tie.Need-tables-of-requires
-tables-of-requires c κs = search needs
-
-slice-aggregate-first-chain : tie.Need-slice-aggregate-first-chain
-slice-aggregate-first-chain c = search needs
-
-slice-aggregate-first-chain-2 : tie.Need-slice-aggregate-first-chain-2
-slice-aggregate-first-chain-2 c = search needs
-
-slice-aggregate-first-chain-3 : tie.Need-slice-aggregate-first-chain-3
-slice-aggregate-first-chain-3 c = search needs
 
 first-chain-requires : tie.Need-first-chain-requires
 first-chain-requires c κs =
@@ -51,12 +27,6 @@ first-chain-requires c κs =
     let small = p .0 in
     let size = p .2 in
     (p .1, omega arith, search needs, search needs, search needs, p .3, p .4, p .5)
-
-same-length : tie.Need-same-length
-same-length c = search needs
-
-same-length-2 : tie.Need-same-length-2
-same-length-2 c = search needs
 
 returns-3 : tie.Need-returns-3
 returns-3 c =
@@ -78,17 +48,11 @@ pub sought-spec : {M : Type 1} → statement M
 sought-spec =
     tie.close
     (tie.spec
-    mul-if1
-    shared-slice-read-if1
+    (λ c. search needs) (λ c. search needs)
     returns
-    mul-if2
-    shared-slice-read-if2
+    (λ c. search needs) (λ c. search needs)
     returns-2
-    tables-of-requires
-    slice-aggregate-first-chain
-    slice-aggregate-first-chain-2
-    slice-aggregate-first-chain-3
+    (λ c κs. search needs) (λ c. search needs) (λ c. search needs) (λ c. search needs)
     first-chain-requires
-    same-length
-    same-length-2
+    (λ c. search needs) (λ c. search needs)
     returns-3)

@@ -14,24 +14,6 @@ use Rattle.ends.proofs.joined_over.Tie as tie
 returns : tie.Need-returns
 returns c = let a = c .before .before .before .before .before .args in λ self L. refuses-record (a .against) _ (a .text .now) (L .size) (c .if1 .taken)
 
-read-requires : tie.Need-read-requires
-read-requires c κs = search needs
-
-enum-known-answer : tie.Need-enum-known-answer
-enum-known-answer c = search needs
-
-cast-t16 : tie.Need-cast-t16
-cast-t16 c = search needs
-
-enum-known-answer-2 : tie.Need-enum-known-answer-2
-enum-known-answer-2 c = search needs
-
-sub-sought : tie.Need-sub-sought
-sub-sought c = search needs
-
-part-sought-start : tie.Need-part-sought-start
-part-sought-start c = search needs
-
 -- the expression that the text is
 accepted : (c : tie.After-answer2)
     → let after-read = c .before .before .before in
@@ -60,9 +42,6 @@ returns-2 c =
     let a = c .before .before .before .before .before .before .before .before .before .before .args in
     λ self L. refuses-text (a .against) _ (a .text .now) (L .size) (omega arith) _ (r .0) (r .1 .0)
 
-same-length : tie.Need-same-length
-same-length c = search needs
-
 returns-3 : tie.Need-returns-3
 returns-3 c =
     let else1 = c .before .before .before .before .before .before .before .before .before .before .before in
@@ -80,14 +59,9 @@ joined-over-spec =
     tie.close
     (tie.spec
     returns
-    read-requires
-    enum-known-answer
-    cast-t16
-    enum-known-answer-2
-    sub-sought
-    part-sought-start
+    (λ c κs. search needs) (λ c. search needs) (λ c. search needs) (λ c. search needs) (λ c. search needs) (λ c. search needs)
     part-sought-end
     sought-requires
     returns-2
-    same-length
+    (λ c. search needs)
     returns-3)

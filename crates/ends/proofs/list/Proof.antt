@@ -42,9 +42,6 @@ write-requires c κs =
 add-y : tie.Need-add-y Inv-loop μ-loop
 add-y c = omega (arith, c .before .before .before .before .before .before .before .before .before .pre .1)
 
-loop-less : tie.Need-loop-less Inv-loop μ-loop
-loop-less c = omega arith
-
 loop-again : tie.Need-loop-again Inv-loop μ-loop
 unfolding meets
 loop-again c =
@@ -75,7 +72,7 @@ list-spec =
     cast-write
     write-requires
     add-y
-    loop-less
+    (λ c. omega arith)
     loop-again
     same-length
     returns)

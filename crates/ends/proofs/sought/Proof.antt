@@ -16,12 +16,6 @@ use Rattle.ends.proofs.AskLaws.{ends-none, ends-seen}
 use Rattle.ends.proofs.sought.Statement.{statement}
 use Rattle.ends.proofs.sought.Tie as tie
 
-mul-if1 : tie.Need-mul-if1
-mul-if1 c = search needs
-
-shared-slice-read-if1 : tie.Need-shared-slice-read-if1
-shared-slice-read-if1 c = search needs
-
 returns : tie.Need-returns
 returns c =
     let start = c .before .before .before .before .before .before in
@@ -34,30 +28,9 @@ returns c =
       λ text e L q self b R T. ends-none (a .against) R e (a .x) (out-of-use R T (a .x) (p .2) (c .if1 .taken)),
     )
 
-tables-of-requires : tie.Need-tables-of-requires
-tables-of-requires c κs = search needs
-
 -- the automaton's tables have a row for each of 64 states
 wide : (c : tie.After-tables-of) → length (c .tables-of .result .pred) ≡ 64
 wide c = search needs
-
-slice-aggregate-reached : tie.Need-slice-aggregate-reached
-slice-aggregate-reached c = search needs
-
-slice-aggregate-reached-2 : tie.Need-slice-aggregate-reached-2
-slice-aggregate-reached-2 c = search needs
-
-reached-requires : tie.Need-reached-requires
-reached-requires c κs = search needs
-
-slice-aggregate-list : tie.Need-slice-aggregate-list
-slice-aggregate-list c = search needs
-
-list-requires : tie.Need-list-requires
-list-requires c κs = search needs
-
-same-length : tie.Need-same-length
-same-length c = search needs
 
 returns-2 : tie.Need-returns-2
 returns-2 c =
@@ -84,14 +57,8 @@ pub sought-spec : {M : Type 1} → statement M
 sought-spec =
     tie.close
     (tie.spec
-    mul-if1
-    shared-slice-read-if1
+    (λ c. search needs) (λ c. search needs)
     returns
-    tables-of-requires
-    slice-aggregate-reached
-    slice-aggregate-reached-2
-    reached-requires
-    slice-aggregate-list
-    list-requires
-    same-length
+    (λ c κs. search needs) (λ c. search needs) (λ c. search needs) (λ c κs. search needs) (λ c. search needs) (λ c κs. search needs)
+    (λ c. search needs)
     returns-2)

@@ -25,12 +25,6 @@ mul-k c = omega (arith, four-most (c .before .loop .i) (omega arith))
 add-s : tie.Need-add-s Inv-loop μ-loop
 add-s c = omega (arith, four-most (c .before .loop .i) (omega arith), fullSize-most (c .before .loop .i) (omega arith))
 
-add-i : tie.Need-add-i Inv-loop μ-loop
-add-i c = omega arith
-
-loop-less : tie.Need-loop-less Inv-loop μ-loop
-loop-less c = omega arith
-
 loop-again : tie.Need-loop-again Inv-loop μ-loop
 loop-again c = let l = c .before .loop in let t = size-turn (l .i) (l .s) (l .k) (l .inv .1) (l .inv .2) in (omega arith, t .0, t .1)
 
@@ -42,4 +36,4 @@ returns c =
 
 pub full-size-spec : {M : Type 1} → statement M
 full-size-spec =
-    tie.close (tie.spec Inv-loop μ-loop loop-holds mul-k add-s add-i loop-less loop-again returns)
+    tie.close (tie.spec Inv-loop μ-loop loop-holds mul-k add-s (λ c. omega arith) (λ c. omega arith) loop-again returns)

@@ -18,14 +18,8 @@ abbrev μ-loop : tie.MeasureT-loop
 loop-holds : tie.Need-loop-holds Inv-loop μ-loop
 loop-holds c = (omega arith, omega arith, refl, λ k p e. p)
 
-mul-s : tie.Need-mul-s Inv-loop μ-loop
-mul-s c = omega arith
-
 add-h : tie.Need-add-h Inv-loop μ-loop
 add-h c = omega (arith, low-small (c .before .loop .h) (c .before .before .args .n) (omega arith) (c .before .loop .inv .3))
-
-loop-less : tie.Need-loop-less Inv-loop μ-loop
-loop-less c = omega arith
 
 loop-again : tie.Need-loop-again Inv-loop μ-loop
 loop-again c =
@@ -43,4 +37,4 @@ returns c =
 
 pub height-spec : {M : Type 1} → statement M
 height-spec =
-    tie.close (tie.spec Inv-loop μ-loop loop-holds mul-s add-h loop-less loop-again returns)
+    tie.close (tie.spec Inv-loop μ-loop loop-holds (λ c. omega arith) add-h (λ c. omega arith) loop-again returns)

@@ -9,15 +9,6 @@ use Rattle.k2.proofs.MeasureLaws.{size-some}
 use Rattle.k2.proofs.tree_unit.Statement.{statement}
 use Rattle.k2.proofs.tree_unit.Tie as tie
 
-height-requires : tie.Need-height-requires
-height-requires c κs = search needs
-
-full-size-requires : tie.Need-full-size-requires
-full-size-requires c κs = search needs
-
-add-result : tie.Need-add-result
-add-result c = search needs
-
 returns : tie.Need-returns
 returns c =
     let n = c .before .before .args .n in
@@ -30,4 +21,4 @@ returns c =
     )
 
 pub tree-unit-spec : {M : Type 1} → statement M
-tree-unit-spec = tie.close (tie.spec height-requires full-size-requires add-result returns)
+tree-unit-spec = tie.close (tie.spec (λ c κs. search needs) (λ c κs. search needs) (λ c. search needs) returns)

@@ -9,9 +9,6 @@ use Rattle.offsets.proofs.PlanLaws.{hand-refused}
 use Rattle.offsets.proofs.tell_limits.Statement.{statement}
 use Rattle.offsets.proofs.tell_limits.Tie as tie
 
-told-refusal-requires : tie.Need-told-refusal-requires
-told-refusal-requires c κs = search needs
-
 returns : tie.Need-returns
 returns c =
     let a = c .before .before .args in
@@ -20,21 +17,9 @@ returns c =
 returns-2 : tie.Need-returns-2
 returns-2 c = (CannotHold, (cannot-hold (c .before .if1 .left) (c .if2 .taken) refl, refl))
 
-mul-if3 : tie.Need-mul-if3
-mul-if3 c = search needs
-
-told-refusal-requires-2 : tie.Need-told-refusal-requires-2
-told-refusal-requires-2 c κs = search needs
-
 returns-3 : tie.Need-returns-3
 unfolding number
 returns-3 c = (Refused (number short-work), (scant (c .before .before .before .if1 .left) (c .before .if3 .taken) refl, c .told-refusal2 .ensures))
-
-mul-if4 : tie.Need-mul-if4
-mul-if4 c = search needs
-
-told-refusal-requires-3 : tie.Need-told-refusal-requires-3
-told-refusal-requires-3 c κs = search needs
 
 returns-4 : tie.Need-returns-4
 unfolding number
@@ -43,18 +28,6 @@ returns-4 c =
       Refused (number short-list),
       (short (else2 .before .if1 .left) (else2 .if2 .left) (c .before .if4 .taken) refl, c .told-refusal3 .ensures),
     )
-
-tell-requires : tie.Need-tell-requires
-tell-requires c κs = search needs
-
-mul-result : tie.Need-mul-result
-mul-result c = search needs
-
-same-length : tie.Need-same-length
-same-length c = search needs
-
-same-length-2 : tie.Need-same-length-2
-same-length-2 c = search needs
 
 returns-5 : tie.Need-returns-5
 returns-5 c =
@@ -68,17 +41,12 @@ pub tell-limits-spec : {M : Type 1} → statement M
 tell-limits-spec =
     tie.close
     (tie.spec
-    told-refusal-requires
+    (λ c κs. search needs)
     returns
     returns-2
-    mul-if3
-    told-refusal-requires-2
+    (λ c. search needs) (λ c κs. search needs)
     returns-3
-    mul-if4
-    told-refusal-requires-3
+    (λ c. search needs) (λ c κs. search needs)
     returns-4
-    tell-requires
-    mul-result
-    same-length
-    same-length-2
+    (λ c κs. search needs) (λ c. search needs) (λ c. search needs) (λ c. search needs)
     returns-5)

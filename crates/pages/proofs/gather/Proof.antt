@@ -48,9 +48,6 @@ returns c = let s = c .before .before .before .before .before .before .before in
 cast-words : tie.Need-cast-words Inv-loop μ-loop
 cast-words c = omega (arith, c .before .next-pair .ensures .high)
 
-mul-words : tie.Need-mul-words Inv-loop μ-loop
-mul-words c = omega arith
-
 slice-write-words : tie.Need-slice-write-words Inv-loop μ-loop
 slice-write-words c =
     let at-loop = c .before .before .before in
@@ -98,7 +95,7 @@ gather-spec =
     same-length
     returns
     cast-words
-    mul-words
+    (λ c. omega arith)
     slice-write-words
     add-count
     add-place

@@ -13,9 +13,6 @@ use borrow.Author.Needs.{needs}
 use Rattle.pages.proofs.lay_out.Statement.{statement}
 use Rattle.pages.proofs.lay_out.Tie as tie
 
-count-pairs-requires : tie.Need-count-pairs-requires
-count-pairs-requires c κs = search needs
-
 counted : (c : tie.After-count-pairs)
     → let start = c .before .before .before .before .before in
     c .count-pairs .result ≡ length (pairsHeld (held (now (start .args .cells)) (now (start .args .masks)) (start .args .n)))
@@ -58,9 +55,6 @@ put-pages-requires c κs =
 mul-t7 : tie.Need-mul-t7
 mul-t7 c = let l = long (c .before .before .before .before .before) in omega (arith, l .0, l .1)
 
-same-length : tie.Need-same-length
-same-length c = search needs
-
 returns-2 : tie.Need-returns-2
 returns-2 c = let s = c .before .before .before .before .before .before .before .before .before .before .before in
     let l = long (c .before .before .before .before .before) in
@@ -72,11 +66,11 @@ pub lay-out-spec : {M : Type 1} → statement M
 lay-out-spec =
     tie.close
     (tie.spec
-    count-pairs-requires
+    (λ c κs. search needs)
     lines-of-requires
     mul-if1
     returns
     put-pages-requires
     mul-t7
-    same-length
+    (λ c. search needs)
     returns-2)

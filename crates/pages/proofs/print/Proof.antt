@@ -8,18 +8,6 @@ use borrow.Author.Needs.{needs}
 use Rattle.pages.proofs.print.Statement.{statement}
 use Rattle.pages.proofs.print.Tie as tie
 
-relate-requires : tie.Need-relate-requires
-relate-requires c κs = search needs
-
-enum-known-answer : tie.Need-enum-known-answer
-enum-known-answer c = search needs
-
-enum-known-answer-2 : tie.Need-enum-known-answer-2
-enum-known-answer-2 c = search needs
-
-slice-aggregate-lay-out : tie.Need-slice-aggregate-lay-out
-slice-aggregate-lay-out c = search needs
-
 lay-out-requires : tie.Need-lay-out-requires
 lay-out-requires c κs =
     let after-answer2 = c .before .before .before .before in
@@ -28,21 +16,12 @@ lay-out-requires c κs =
     let m : length (after-relate .relate .result .masks) ≡ 1024 = after-relate .relate .ensures .masks in
     (h, omega (arith, h .small, m))
 
-same-length : tie.Need-same-length
-same-length c = search needs
-
 returns : tie.Need-returns
 returns c =
     let after-relate = c .before .before .before .before .before .before in
     let start = after-relate .before .before .before .before .before in
     prints-refused (start .args .register) (now (start .args .text)) (length (now (start .args .work)))
     _ (now (start .args .pages)) (after-relate .relate .ensures) (c .before .answer .given .1)
-
-same-length-2 : tie.Need-same-length-2
-same-length-2 c = search needs
-
-same-length-3 : tie.Need-same-length-3
-same-length-3 c = search needs
 
 returns-2 : tie.Need-returns-2
 returns-2 c =
@@ -56,13 +35,9 @@ pub print-spec : {M : Type 1} → statement M
 print-spec =
     tie.close
     (tie.spec
-    relate-requires
-    enum-known-answer
-    enum-known-answer-2
-    slice-aggregate-lay-out
+    (λ c κs. search needs) (λ c. search needs) (λ c. search needs) (λ c. search needs)
     lay-out-requires
-    same-length
+    (λ c. search needs)
     returns
-    same-length-2
-    same-length-3
+    (λ c. search needs) (λ c. search needs)
     returns-2)

@@ -9,14 +9,8 @@ use borrow.Author.Needs.{needs}
 use Rattle.pages.proofs.put_line.Statement.{statement}
 use Rattle.pages.proofs.put_line.Tie as tie
 
-mul-put-head-line : tie.Need-mul-put-head-line
-mul-put-head-line c = search needs
-
 put-head-line-requires : tie.Need-put-head-line-requires
 put-head-line-requires c κs = let s = c .before .before .before .before .before .before in (omega (arith, s .pre .0), omega (arith, s .pre .2))
-
-same-length : tie.Need-same-length
-same-length c = search needs
 
 returns : tie.Need-returns
 returns c = let s = c .before .before .before .before .before .before .before .before .before in
@@ -32,17 +26,11 @@ gather-requires c κs = let s = c .before .before .before .before .before .befor
 slice-aggregate-put-pair-line : tie.Need-slice-aggregate-put-pair-line
 slice-aggregate-put-pair-line c = let g = c .before .before .gather in let k : length (g .last .1 .1 .1 .1 .0) ≡ 6 = g .kept .1 .1 .1 .1 .0 in sym k
 
-mul-put-pair-line : tie.Need-mul-put-pair-line
-mul-put-pair-line c = search needs
-
 put-pair-line-requires : tie.Need-put-pair-line-requires
 put-pair-line-requires c κs = let s = c .before .before .before .before .before .before .before .before .before .before in
     let g = c .before .before .before .gather in
     let k : length (g .last .1 .1 .1 .1 .0) ≡ 6 = g .kept .1 .1 .1 .1 .0 in
     (g .ensures .few, omega (arith, g .ensures .few), g .ensures .small, omega (arith, s .pre .2))
-
-same-length-2 : tie.Need-same-length-2
-same-length-2 c = search needs
 
 returns-2 : tie.Need-returns-2
 returns-2 c =
@@ -57,14 +45,14 @@ pub put-line-spec : {M : Type 1} → statement M
 put-line-spec =
     tie.close
     (tie.spec
-    mul-put-head-line
+    (λ c. search needs)
     put-head-line-requires
-    same-length
+    (λ c. search needs)
     returns
     slice-aggregate-gather
     gather-requires
     slice-aggregate-put-pair-line
-    mul-put-pair-line
+    (λ c. search needs)
     put-pair-line-requires
-    same-length-2
+    (λ c. search needs)
     returns-2)

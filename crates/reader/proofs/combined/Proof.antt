@@ -7,20 +7,8 @@ use Rattle.reader.proofs.JoinLaws.{joins, joins-no-first, joins-no-next
 use Rattle.reader.proofs.combined.Statement.{statement}
 use Rattle.reader.proofs.combined.Tie as tie
 
-enum-known-first : tie.Need-enum-known-first
-enum-known-first c = search needs
-
-enum-told : tie.Need-enum-told
-enum-told c = search needs
-
 returns : tie.Need-returns
 returns c = joins-no-first _ _ _ _ (c .enum-told .given .1)
-
-enum-known-next : tie.Need-enum-known-next
-enum-known-next c = search needs
-
-enum-told-2 : tie.Need-enum-told-2
-enum-told-2 c = search needs
 
 returns-2 : tie.Need-returns-2
 returns-2 c = joins-no-next _ _ _ (c .before .before .before .first .given .1) (c .enum-told2 .given .1)
@@ -39,12 +27,6 @@ push-requires c κs = room (c .before .before) .0
 add-t10 : tie.Need-add-t10
 add-t10 c = let h = room (c .before .before .before .before .before .before .before) in omega arith
 
-larger-requires : tie.Need-larger-requires
-larger-requires c κs = search needs
-
-same-length : tie.Need-same-length
-same-length c = search needs
-
 returns-3 : tie.Need-returns-3
 returns-3 c =
     let after-push = c .before .before .before .before .before in
@@ -54,4 +36,7 @@ returns-3 c =
 
 pub combined-spec : {M : Type 1} → statement M
 combined-spec =
-    tie.close (tie.spec enum-known-first enum-told returns enum-known-next enum-told-2 returns-2 push-requires add-t10 larger-requires same-length returns-3)
+    tie.close
+    (tie.spec
+    (λ c. search needs) (λ c. search needs) returns (λ c. search needs) (λ c. search needs) returns-2 push-requires add-t10 (λ c κs. search needs)
+    (λ c. search needs) returns-3)

@@ -35,18 +35,6 @@ enough : (c : tie.Else1) {k : ℕ}
     start .args .need ≡ k → k ≤ length (start .args .work .now)
 enough c e = omega (arith, c .if1 .left)
 
-read-requires : tie.Need-read-requires
-read-requires c κs = search needs
-
-enum-known-read : tie.Need-enum-known-read
-enum-known-read c = search needs
-
-cast-t14 : tie.Need-cast-t14
-cast-t14 c = search needs
-
-enum-known-read-2 : tie.Need-enum-known-read-2
-enum-known-read-2 c = search needs
-
 returns : tie.Need-returns
 returns c =
     let start = c .before .before .before .before .before .before .before .before .before .before .before in
@@ -74,12 +62,6 @@ list-value-requires c κs =
 returns-2 : tie.Need-returns-2
 returns-2 c = λ d e r R. asks-faulty d r _ _ _ _ (sym (c .before .before .before .before .read .ensures .answered) ∙ c .before .read2 .given .1)
 
-same-length : tie.Need-same-length
-same-length c = search needs
-
-same-length-2 : tie.Need-same-length-2
-same-length-2 c = search needs
-
 returns-3 : tie.Need-returns-3
 returns-3 c =
     let after-list-value = c .before .before .before .before in
@@ -95,15 +77,11 @@ pub answer-spec : {M : Type 1} → statement M
 answer-spec =
     tie.close
     (tie.spec
-    read-requires
-    enum-known-read
-    cast-t14
-    enum-known-read-2
+    (λ c κs. search needs) (λ c. search needs) (λ c. search needs) (λ c. search needs)
     returns
     array-share-prefix-code
     slice-aggregate-list-value
     list-value-requires
     returns-2
-    same-length
-    same-length-2
+    (λ c. search needs) (λ c. search needs)
     returns-3)

@@ -43,9 +43,6 @@ slice-write-to c = let l = c .before .before .loop .inv in omega (arith, c .befo
 add-i : tie.Need-add-i Inv-loop μ-loop
 add-i c = omega (arith, c .before .before .before .pre .0)
 
-loop-less : tie.Need-loop-less Inv-loop μ-loop
-loop-less c = omega arith
-
 loop-again : tie.Need-loop-again Inv-loop μ-loop
 loop-again c =
     let start = c .before .before .before in
@@ -72,7 +69,7 @@ copy-masks-spec =
     mul-to-2
     slice-write-to
     add-i
-    loop-less
+    (λ c. omega arith)
     loop-again
     same-length
     returns)

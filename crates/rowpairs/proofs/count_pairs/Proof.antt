@@ -9,15 +9,6 @@ use borrow.Author.Needs.{needs}
 use Rattle.rowpairs.proofs.count_pairs.Statement.{statement}
 use Rattle.rowpairs.proofs.count_pairs.Tie as tie
 
-row-width-requires : tie.Need-row-width-requires
-row-width-requires c κs = search needs
-
-array-borrow-prefix-none : tie.Need-array-borrow-prefix-none
-array-borrow-prefix-none c = search needs
-
-slice-aggregate-list : tie.Need-slice-aggregate-list
-slice-aggregate-list c = search needs
-
 list-requires : tie.Need-list-requires
 list-requires c κs =
     let start = c .before .before .before .before in
@@ -33,8 +24,6 @@ pub count-pairs-spec : {M : Type 1} → statement M
 count-pairs-spec =
     tie.close
     (tie.spec
-    row-width-requires
-    array-borrow-prefix-none
-    slice-aggregate-list
+    (λ c κs. search needs) (λ c. search needs) (λ c. search needs)
     list-requires
     returns)

@@ -33,9 +33,6 @@ returns-3 c =
     λ h. none-told (cell-column (start .args .cells .now) (start .args .masks .now)
     (start .args .n) (start .args .x) (start .args .y) (omega (arith, c .if3 .taken)))
 
-row-width-requires : tie.Need-row-width-requires
-row-width-requires c κs = search needs
-
 mul-at : tie.Need-mul-at
 mul-at c = omega (arith, product c)
 
@@ -56,18 +53,6 @@ returns-5 c =
     λ h. none-told (cell-past (start .args .cells .now) (start .args .masks .now) (start .args .n) (start .args .x) (start .args .y)
     (omega (arith, else3 .before .if2 .left)) (omega (arith, else3 .if3 .left)) _ (c .before .before .row-width .ensures) (c .if5 .taken))
 
-mul-if6 : tie.Need-mul-if6
-mul-if6 c = search needs
-
-shared-slice-read-if6 : tie.Need-shared-slice-read-if6
-shared-slice-read-if6 c = search needs
-
-cast-if6 : tie.Need-cast-if6
-cast-if6 c = search needs
-
-shr-if6 : tie.Need-shr-if6
-shr-if6 c = search needs
-
 returns-6 : tie.Need-returns-6
 unfolding digit
 returns-6 c =
@@ -75,15 +60,6 @@ returns-6 c =
     let start = else3 .before .before .before .before .before in
     λ h. none-told (cell-unmasked (start .args .cells .now) (start .args .masks .now) (start .args .n) (start .args .x)
     (start .args .y) (omega (arith, else3 .before .if2 .left)) (omega (arith, else3 .if3 .left)) (omega (arith, c .if6 .taken)))
-
-mul-result : tie.Need-mul-result
-mul-result c = search needs
-
-shared-slice-read-result : tie.Need-shared-slice-read-result
-shared-slice-read-result c = search needs
-
-shr-result : tie.Need-shr-result
-shr-result c = search needs
 
 returns-7 : tie.Need-returns-7
 unfolding digit
@@ -105,17 +81,12 @@ joins-spec =
     returns
     returns-2
     returns-3
-    row-width-requires
+    (λ c κs. search needs)
     mul-at
     add-at
     returns-4
     returns-5
-    mul-if6
-    shared-slice-read-if6
-    cast-if6
-    shr-if6
+    (λ c. search needs) (λ c. search needs) (λ c. search needs) (λ c. search needs)
     returns-6
-    mul-result
-    shared-slice-read-result
-    shr-result
+    (λ c. search needs) (λ c. search needs) (λ c. search needs)
     returns-7)

@@ -38,21 +38,6 @@ enough c =
     let start = c .before .before .before .before .before .before .before .before .before .before .before .before in
     subst (λ (i : ℕ). i ≤ length (start .args .work .now)) (c .before .pairs-work .ensures) (omega (arith, c .if1 .left))
 
-read-requires : tie.Need-read-requires
-read-requires c κs = search needs
-
-enum-known-read : tie.Need-enum-known-read
-enum-known-read c = search needs
-
-cast-t13 : tie.Need-cast-t13
-cast-t13 c = search needs
-
-enum-known-read-2 : tie.Need-enum-known-read-2
-enum-known-read-2 c = search needs
-
-pairs-work-requires : tie.Need-pairs-work-requires
-pairs-work-requires c κs = search needs
-
 returns : tie.Need-returns
 returns c =
     let after-read3 = c .before .before .before in
@@ -87,12 +72,6 @@ returns-2 c = (
   λ k e. absurd (let z : _≡_ {A = ℕ} 0 1 = cc in omega arith),
 )
 
-same-length : tie.Need-same-length
-same-length c = search needs
-
-same-length-2 : tie.Need-same-length-2
-same-length-2 c = search needs
-
 returns-3 : tie.Need-returns-3
 returns-3 c =
     let after-leave-value = c .before .before .before .before in
@@ -113,16 +92,11 @@ pub leave-spec : {M : Type 1} → statement M
 leave-spec =
     tie.close
     (tie.spec
-    read-requires
-    enum-known-read
-    cast-t13
-    enum-known-read-2
-    pairs-work-requires
+    (λ c κs. search needs) (λ c. search needs) (λ c. search needs) (λ c. search needs) (λ c κs. search needs)
     returns
     array-share-prefix-code
     slice-aggregate-leave-value
     leave-value-requires
     returns-2
-    same-length
-    same-length-2
+    (λ c. search needs) (λ c. search needs)
     returns-3)

@@ -7,9 +7,6 @@ use borrow.Author.Needs.{needs}
 use Rattle.rowpairs.proofs.leave_run.Statement.{statement}
 use Rattle.rowpairs.proofs.leave_run.Tie as tie
 
-run-requires : tie.Need-run-requires
-run-requires c κs = search needs
-
 copy-masks-requires : tie.Need-copy-masks-requires
 copy-masks-requires c κs =
     let after-run = c .before .before .before .before .before .before in
@@ -18,19 +15,10 @@ copy-masks-requires c κs =
     let L = start .pre .0 0 (omega arith) (omega arith) in
     (omega (arith, L .marks, j), start .pre .2)
 
-same-length : tie.Need-same-length
-same-length c = search needs
-
-same-length-2 : tie.Need-same-length-2
-same-length-2 c = search needs
-
-same-length-3 : tie.Need-same-length-3
-same-length-3 c = search needs
-
 returns : tie.Need-returns
 returns c = value-masks (c .before .before .before .before .before .before .before .before .before .run .ensures) _ (c .before .before .copy-masks .ensures)
 
 pub leave-run-spec : {M : Type 1} → statement M
 leave-run-spec =
     tie.close
-    (tie.spec run-requires copy-masks-requires same-length same-length-2 same-length-3 returns)
+    (tie.spec (λ c κs. search needs) copy-masks-requires (λ c. search needs) (λ c. search needs) (λ c. search needs) returns)

@@ -24,19 +24,10 @@ long c =
     let k : length (c .leave-within .last .1 .1 .1 .1 .0) ≡ 1024 = c .leave-within .kept .1 .1 .1 .1 .0 in
     omega (arith, few (c .before .before .before), k)
 
-rows-work-requires : tie.Need-rows-work-requires
-rows-work-requires c κs = search needs
-
-slice-aggregate-leave-within : tie.Need-slice-aggregate-leave-within
-slice-aggregate-leave-within c = search needs
-
 leave-within-requires : tie.Need-leave-within-requires
 leave-within-requires c κs =
     let start = c .before .before .before .before .before .before .before .before .before in
     (start .pre .0, rows-few _ (few (c .before .before)), start .pre .2)
-
-array-share-prefix-own : tie.Need-array-share-prefix-own
-array-share-prefix-own c = search needs
 
 slice-aggregate-copy-u64 : tie.Need-slice-aggregate-copy-u64
 slice-aggregate-copy-u64 c = sym (length-take-le _ _ (long (c .before .before .before .before)))
@@ -50,44 +41,21 @@ copy-u64-requires c κs =
     let k : length (take n own) ≡ n = length-take-le n own (long after-leave-within) in
     omega (arith, k, start .pre .1 .front, front-le n)
 
-same-length : tie.Need-same-length
-same-length c = search needs
-
-same-length-2 : tie.Need-same-length-2
-same-length-2 c = search needs
-
 returns : tie.Need-returns
 returns c =
     let after-leave-within = c .before .before .before .before .before .before .before .before in
     let then1 = after-leave-within .before .before .before in
     value-copied (after-leave-within .leave-within .ensures) (few then1) (long after-leave-within) (c .before .before .copy-u64 .ensures)
 
-leave-within-requires-2 : tie.Need-leave-within-requires-2
-leave-within-requires-2 c κs = search needs
-
-same-length-3 : tie.Need-same-length-3
-same-length-3 c = search needs
-
-same-length-4 : tie.Need-same-length-4
-same-length-4 c = search needs
-
-returns-2 : tie.Need-returns-2
-returns-2 c = search needs
-
 pub leave-value-spec : {M : Type 1} → statement M
 leave-value-spec =
     tie.close
     (tie.spec
-    rows-work-requires
-    slice-aggregate-leave-within
+    (λ c κs. search needs) (λ c. search needs)
     leave-within-requires
-    array-share-prefix-own
+    (λ c. search needs)
     slice-aggregate-copy-u64
     copy-u64-requires
-    same-length
-    same-length-2
+    (λ c. search needs) (λ c. search needs)
     returns
-    leave-within-requires-2
-    same-length-3
-    same-length-4
-    returns-2)
+    (λ c κs. search needs) (λ c. search needs) (λ c. search needs) (λ c. search needs))

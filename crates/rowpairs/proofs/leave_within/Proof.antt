@@ -6,12 +6,6 @@ use borrow.Author.Needs.{needs}
 use Rattle.rowpairs.proofs.leave_within.Statement.{statement}
 use Rattle.rowpairs.proofs.leave_within.Tie as tie
 
-few-masks-requires : tie.Need-few-masks-requires
-few-masks-requires c κs = search needs
-
-slice-aggregate-leave-run : tie.Need-slice-aggregate-leave-run
-slice-aggregate-leave-run c = search needs
-
 leave-run-requires : tie.Need-leave-run-requires
 leave-run-requires c κs =
     let P = c .before .before .before .before .before .before .before .before .before .before .pre in (
@@ -23,18 +17,6 @@ leave-run-requires c κs =
       P .0,
       P .2,
     )
-
-same-length : tie.Need-same-length
-same-length c = search needs
-
-same-length-2 : tie.Need-same-length-2
-same-length-2 c = search needs
-
-returns : tie.Need-returns
-returns c = search needs
-
-slice-aggregate-leave-run-2 : tie.Need-slice-aggregate-leave-run-2
-slice-aggregate-leave-run-2 c = search needs
 
 leave-run-requires-2 : tie.Need-leave-run-requires-2
 leave-run-requires-2 c κs =
@@ -49,27 +31,12 @@ leave-run-requires-2 c κs =
       P .2,
     )
 
-same-length-3 : tie.Need-same-length-3
-same-length-3 c = search needs
-
-same-length-4 : tie.Need-same-length-4
-same-length-4 c = search needs
-
-returns-2 : tie.Need-returns-2
-returns-2 c = search needs
-
 pub leave-within-spec : {M : Type 1} → statement M
 leave-within-spec =
     tie.close
     (tie.spec
-    few-masks-requires
-    slice-aggregate-leave-run
+    (λ c κs. search needs) (λ c. search needs)
     leave-run-requires
-    same-length
-    same-length-2
-    returns
-    slice-aggregate-leave-run-2
+    (λ c. search needs) (λ c. search needs) (λ c. search needs) (λ c. search needs)
     leave-run-requires-2
-    same-length-3
-    same-length-4
-    returns-2)
+    (λ c. search needs) (λ c. search needs) (λ c. search needs))

@@ -8,15 +8,6 @@ use borrow.Author.Needs.{needs}
 use Rattle.rowpairs.proofs.list_value.Statement.{statement}
 use Rattle.rowpairs.proofs.list_value.Tie as tie
 
-letter-alone-requires : tie.Need-letter-alone-requires
-letter-alone-requires c κs = search needs
-
-list-letter-requires : tie.Need-list-letter-requires
-list-letter-requires c κs = search needs
-
-same-length : tie.Need-same-length
-same-length c = search needs
-
 returns : tie.Need-returns
 returns c =
     let then1 = c .before .before .before .before in
@@ -24,18 +15,6 @@ returns c =
     let a = start .args in
     alone-listed (a .n) _ (a .links .now) (a .marks .now) (a .code .now) _ _ _
     (then1 .before .letter-alone .ensures (then1 .if1 .taken)) (start .pre .2) (c .before .before .list-letter .ensures)
-
-slice-aggregate-leave-value : tie.Need-slice-aggregate-leave-value
-slice-aggregate-leave-value c = search needs
-
-leave-value-requires : tie.Need-leave-value-requires
-leave-value-requires c κs = search needs
-
-slice-aggregate-list : tie.Need-slice-aggregate-list
-slice-aggregate-list c = search needs
-
-row-width-requires : tie.Need-row-width-requires
-row-width-requires c κs = search needs
 
 list-requires : tie.Need-list-requires
 list-requires c κs =
@@ -47,12 +26,6 @@ list-requires c κs =
     let P = start .pre in
     list-space (start .args .n) _ (length (v .last .1 .1 .1 .1 .0)) (length (v .last .1 .1 .1 .1 .1 .0)) (c .before .row-width .ensures)
     (record { small = P .0 .small; front = omega (arith, P .1 .front, k) }) (omega (arith, P .0 .small, j))
-
-same-length-2 : tie.Need-same-length-2
-same-length-2 c = search needs
-
-same-length-3 : tie.Need-same-length-3
-same-length-3 c = search needs
 
 returns-2 : tie.Need-returns-2
 returns-2 c =
@@ -69,15 +42,9 @@ pub list-value-spec : {M : Type 1} → statement M
 list-value-spec =
     tie.close
     (tie.spec
-    letter-alone-requires
-    list-letter-requires
-    same-length
+    (λ c κs. search needs) (λ c κs. search needs) (λ c. search needs)
     returns
-    slice-aggregate-leave-value
-    leave-value-requires
-    slice-aggregate-list
-    row-width-requires
+    (λ c. search needs) (λ c κs. search needs) (λ c. search needs) (λ c κs. search needs)
     list-requires
-    same-length-2
-    same-length-3
+    (λ c. search needs) (λ c. search needs)
     returns-2)

@@ -68,9 +68,6 @@ add-next c = omega (arith, product (c .before .before .before), c .before .befor
 add-next-2 : tie.Need-add-next-2 Inv-loop μ-loop
 add-next-2 c = omega (arith, product (c .before .before .before), c .before .before .loop .inv .1)
 
-next-requires : tie.Need-next-requires Inv-loop μ-loop
-next-requires c κs = omega arith
-
 add-if3 : tie.Need-add-if3 Inv-loop μ-loop
 add-if3 c = omega (arith, product (c .before .before .before .before), c .before .before .before .before .before .before .before .pre .0)
 
@@ -189,7 +186,7 @@ next-column-spec =
     shr-if2
     add-next
     add-next-2
-    next-requires
+    (λ c κs. omega arith)
     add-if3
     add-if4
     sub-result

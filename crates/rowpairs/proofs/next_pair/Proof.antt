@@ -28,7 +28,9 @@ returns c =
     record {
       low = omega (arith, l .inv .0, l .inv .1);
       high = omega arith;
-      gap = gap-join _ _ _ _ (l .inv .2) (pair-past (start .args .cells .now) (start .args .masks .now) (start .args .n) (l .p) _ (omega (arith, c .if1 .taken)));
+      gap =
+          gap-join _ _ _ _ (l .inv .2)
+          (pair-past (start .args .cells .now) (start .args .masks .now) (start .args .n) (l .p) _ (omega (arith, c .if1 .taken)));
       hit = λ h. absurd (omega arith);
     }
 

@@ -26,26 +26,8 @@ lettered : (c : tie.After-marks)
     (take (after-links .links .result .count) (after-links .links .result .words)) (c .marks .result)
 lettered c b R = read-lettered (c .marks .ensures) b R (c .before .before .before .size .ensures) (c .before .before .links .ensures)
 
-size-requires : tie.Need-size-requires
-size-requires c κs = search needs
-
-links-requires : tie.Need-links-requires
-links-requires c κs = search needs
-
-marks-requires : tie.Need-marks-requires
-marks-requires c κs = search needs
-
-array-share-prefix-array : tie.Need-array-share-prefix-array
-array-share-prefix-array c = search needs
-
 slice-aggregate-answer : tie.Need-slice-aggregate-answer
 slice-aggregate-answer c = sym (length-take-le _ _ (in-words (c .before .before .before)))
-
-slice-aggregate-answer-2 : tie.Need-slice-aggregate-answer-2
-slice-aggregate-answer-2 c = search needs
-
-pairs-work-requires : tie.Need-pairs-work-requires
-pairs-work-requires c κs = search needs
 
 answer-requires : tie.Need-answer-requires
 answer-requires c κs =
@@ -54,12 +36,6 @@ answer-requires c κs =
     let s = after-size .size .ensures in
     let k : length (after-marks .marks .result) ≡ 1024 = after-marks .marks .ensures .long in
     (s .small, omega (arith, s .small, k), few-words (after-marks .before .before), (by-trees, c .before .before .pairs-work .ensures))
-
-same-length : tie.Need-same-length
-same-length c = search needs
-
-same-length-2 : tie.Need-same-length-2
-same-length-2 c = search needs
 
 returns : tie.Need-returns
 returns c =
@@ -73,14 +49,9 @@ pub pairs-spec : {M : Type 1} → statement M
 pairs-spec =
     tie.close
     (tie.spec
-    size-requires
-    links-requires
-    marks-requires
-    array-share-prefix-array
+    (λ c κs. search needs) (λ c κs. search needs) (λ c κs. search needs) (λ c. search needs)
     slice-aggregate-answer
-    slice-aggregate-answer-2
-    pairs-work-requires
+    (λ c. search needs) (λ c κs. search needs)
     answer-requires
-    same-length
-    same-length-2
+    (λ c. search needs) (λ c. search needs)
     returns)

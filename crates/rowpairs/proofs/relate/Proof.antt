@@ -21,32 +21,8 @@ lettered : (c : tie.After-marks)
     (take (after-links .links .result .count) (after-links .links .result .words)) (c .marks .result)
 lettered c b R = read-lettered (c .marks .ensures) b R (c .before .before .before .size .ensures) (c .before .before .links .ensures)
 
-size-requires : tie.Need-size-requires
-size-requires c κs = search needs
-
-links-requires : tie.Need-links-requires
-links-requires c κs = search needs
-
-marks-requires : tie.Need-marks-requires
-marks-requires c κs = search needs
-
-array-share-prefix-array : tie.Need-array-share-prefix-array
-array-share-prefix-array c = search needs
-
 slice-aggregate-leave : tie.Need-slice-aggregate-leave
 slice-aggregate-leave c = sym (length-take-le _ _ (in-words (c .before .before .before)))
-
-slice-aggregate-leave-2 : tie.Need-slice-aggregate-leave-2
-slice-aggregate-leave-2 c = search needs
-
-slice-aggregate-leave-3 : tie.Need-slice-aggregate-leave-3
-slice-aggregate-leave-3 c = search needs
-
-leave-requires : tie.Need-leave-requires
-leave-requires c κs = search needs
-
-same-length : tie.Need-same-length
-same-length c = search needs
 
 returns : tie.Need-returns
 returns c =
@@ -65,13 +41,7 @@ pub relate-spec : {M : Type 1} → statement M
 relate-spec =
     tie.close
     (tie.spec
-    size-requires
-    links-requires
-    marks-requires
-    array-share-prefix-array
+    (λ c κs. search needs) (λ c κs. search needs) (λ c κs. search needs) (λ c. search needs)
     slice-aggregate-leave
-    slice-aggregate-leave-2
-    slice-aggregate-leave-3
-    leave-requires
-    same-length
+    (λ c. search needs) (λ c. search needs) (λ c κs. search needs) (λ c. search needs)
     returns)

@@ -31,20 +31,11 @@ abbrev μ-loop : tie.MeasureT-loop
 loop-holds : tie.Need-loop-holds Inv-loop μ-loop
 loop-holds c = (omega arith, refl, λ x e. e ∙ ap flat (sym (crossed-start x _ _)))
 
-mul-word : tie.Need-mul-word Inv-loop μ-loop
-mul-word c = omega arith
-
-shared-slice-read-word : tie.Need-shared-slice-read-word Inv-loop μ-loop
-shared-slice-read-word c = omega arith
-
 label-of-requires : tie.Need-label-of-requires Inv-loop μ-loop
 label-of-requires c κs = tt
 
 pair-of-requires : tie.Need-pair-of-requires Inv-loop μ-loop
 pair-of-requires c κs = tt
-
-cast-p : tie.Need-cast-p Inv-loop μ-loop
-cast-p c = omega arith
 
 has-label-requires : tie.Need-has-label-requires Inv-loop μ-loop
 has-label-requires c κs = tt
@@ -92,21 +83,9 @@ forward c =
 has-label-requires-2 : tie.Need-has-label-requires-2 Inv-loop μ-loop
 has-label-requires-2 c κs = tt
 
-mul-set-bit : tie.Need-mul-set-bit Inv-loop μ-loop
-mul-set-bit c = omega arith
-
-add-set-bit : tie.Need-add-set-bit Inv-loop μ-loop
-add-set-bit c = omega arith
-
 set-bit-requires-2 : tie.Need-set-bit-requires-2 Inv-loop μ-loop
 unfolding linkPair
 set-bit-requires-2 c κs = omega (arith, forward (c .before .before .before) .0)
-
-add-i : tie.Need-add-i Inv-loop μ-loop
-add-i c = omega arith
-
-loop-less : tie.Need-loop-less Inv-loop μ-loop
-loop-less c = omega arith
 
 loop-again : tie.Need-loop-again Inv-loop μ-loop
 unfolding linkPair
@@ -140,9 +119,6 @@ loop-again c =
     ))
     (c .if2 .came)
 
-same-length : tie.Need-same-length Inv-loop μ-loop
-same-length c = search needs
-
 returns : tie.Need-returns Inv-loop μ-loop
 returns c =
     let l = c .before .loop in
@@ -157,19 +133,16 @@ put-letters-spec =
     Inv-loop
     μ-loop
     loop-holds
-    mul-word
-    shared-slice-read-word
+    (λ c. omega arith) (λ c. omega arith)
     label-of-requires
     pair-of-requires
-    cast-p
+    (λ c. omega arith)
     has-label-requires
     set-bit-requires
     has-label-requires-2
-    mul-set-bit
-    add-set-bit
+    (λ c. omega arith) (λ c. omega arith)
     set-bit-requires-2
-    add-i
-    loop-less
+    (λ c. omega arith) (λ c. omega arith)
     loop-again
-    same-length
+    (λ c. search needs)
     returns)

@@ -16,8 +16,5 @@ whole t l h = take-all (length l) l (omega arith) ∙ sym (take-all t l (omega a
 returns : tie.Need-returns
 returns c = (omega arith, whole (c .before .args .total) (now (c .before .args .list)) (omega arith))
 
-returns-2 : tie.Need-returns-2
-returns-2 c = search needs
-
 pub pairs-shown-spec : {M : Type 1} → statement M
-pairs-shown-spec = tie.close (tie.spec returns returns-2)
+pairs-shown-spec = tie.close (tie.spec returns (λ c. search needs))

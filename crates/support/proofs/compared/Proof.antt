@@ -7,24 +7,9 @@ use borrow.Author.Needs.{needs}
 use Rattle.support.proofs.compared.Statement.{statement}
 use Rattle.support.proofs.compared.Tie as tie
 
-mark-records-requires : tie.Need-mark-records-requires
-mark-records-requires c κs = search needs
-
-same-length : tie.Need-same-length
-same-length c = search needs
-
 returns : tie.Need-returns
 returns c = let p = c .before .before .before .before .before .before .before .before .before .before .pre in
     first-refused _ _ _ _ _ _ _ (p .0) (p .1) (p .2) (p .3) (c .before .before .before .before .mark-records .ensures) (c .if1 .taken)
-
-without-requires : tie.Need-without-requires
-without-requires c κs = search needs
-
-mark-records-requires-2 : tie.Need-mark-records-requires-2
-mark-records-requires-2 c κs = search needs
-
-same-length-2 : tie.Need-same-length-2
-same-length-2 c = search needs
 
 returns-2 : tie.Need-returns-2
 returns-2 c =
@@ -45,12 +30,6 @@ list-fallen-requires c κs =
     let start = after-mark-records .before .before .before .before .before .before in
     (start .pre .0, after-mark-records .mark-records .ensures .long, after-mark-records2 .mark-records2 .ensures .long)
 
-same-length-3 : tie.Need-same-length-3
-same-length-3 c = search needs
-
-same-length-4 : tie.Need-same-length-4
-same-length-4 c = search needs
-
 returns-3 : tie.Need-returns-3
 returns-3 c =
     let after-mark-records2 = c .before .before .before .before .before .before .before .before .before .before in
@@ -67,14 +46,10 @@ pub compared-spec : {M : Type 1} → statement M
 compared-spec =
     tie.close
     (tie.spec
-    mark-records-requires
-    same-length
+    (λ c κs. search needs) (λ c. search needs)
     returns
-    without-requires
-    mark-records-requires-2
-    same-length-2
+    (λ c κs. search needs) (λ c κs. search needs) (λ c. search needs)
     returns-2
     list-fallen-requires
-    same-length-3
-    same-length-4
+    (λ c. search needs) (λ c. search needs)
     returns-3)

@@ -28,12 +28,6 @@ joined-to-some-requires c κs = c .before .before .before .before .before .pre .
 array-write-records : tie.Need-array-write-records Inv-loop μ-loop
 array-write-records c = omega (arith, c .before .before .loop .inv .1)
 
-add-x : tie.Need-add-x Inv-loop μ-loop
-add-x c = omega arith
-
-loop-less : tie.Need-loop-less Inv-loop μ-loop
-loop-less c = omega arith
-
 loop-again : tie.Need-loop-again Inv-loop μ-loop
 loop-again c = let l = c .before .before .loop in
     let a = c .before .before .before .before .before .before .args in
@@ -60,7 +54,6 @@ joined-records-spec =
     loop-holds
     joined-to-some-requires
     array-write-records
-    add-x
-    loop-less
+    (λ c. omega arith) (λ c. omega arith)
     loop-again
     returns)

@@ -23,17 +23,8 @@ loop-holds : tie.Need-loop-holds Inv-loop μ-loop
 unfolding reaches
 loop-holds c = (omega arith, refl)
 
-mul-joins : tie.Need-mul-joins Inv-loop μ-loop
-mul-joins c = omega arith
-
-shared-slice-read-joins : tie.Need-shared-slice-read-joins Inv-loop μ-loop
-shared-slice-read-joins c = omega arith
-
 cast-joins : tie.Need-cast-joins Inv-loop μ-loop
 cast-joins c = omega (arith, c .shared-slice-known4 .given (c .before .before .loop .i) .fits)
-
-joins-requires : tie.Need-joins-requires Inv-loop μ-loop
-joins-requires c κs = search needs
 
 returns : tie.Need-returns Inv-loop μ-loop
 returns c =
@@ -44,12 +35,6 @@ returns c =
     sym (l .inv .1 ∙ some-found (λ x. eqb (relationIn (a .cells .now) (a .masks .now) (a .m) (a .«record») x) 1)
     (a .anchors .now) (l .i) (omega (arith, in-loop .loop-test .taken))
     (sym (c .before .joins .ensures (start .pre)) ∙ c .if1 .taken))
-
-add-i : tie.Need-add-i Inv-loop μ-loop
-add-i c = omega arith
-
-loop-less : tie.Need-loop-less Inv-loop μ-loop
-loop-less c = omega arith
 
 loop-again : tie.Need-loop-again Inv-loop μ-loop
 loop-again c =
@@ -77,12 +62,10 @@ joined-to-some-spec =
     Inv-loop
     μ-loop
     loop-holds
-    mul-joins
-    shared-slice-read-joins
+    (λ c. omega arith) (λ c. omega arith)
     cast-joins
-    joins-requires
+    (λ c κs. search needs)
     returns
-    add-i
-    loop-less
+    (λ c. omega arith) (λ c. omega arith)
     loop-again
     returns-2)

@@ -7,15 +7,9 @@ use borrow.Author.Needs.{needs}
 use Rattle.support.proofs.list_fallen.Statement.{statement}
 use Rattle.support.proofs.list_fallen.Tie as tie
 
-fallen-requires : tie.Need-fallen-requires
-fallen-requires c κs = search needs
-
 returns : tie.Need-returns
 returns c = let f = c .before .before .fallen in
     handed-short (f .result .words) (f .result .count) (omega (arith, f .ensures .0, f .ensures .1)) (f .ensures .2) (c .if1 .taken)
-
-array-share-prefix-words : tie.Need-array-share-prefix-words
-array-share-prefix-words c = search needs
 
 slice-aggregate-write : tie.Need-slice-aggregate-write
 slice-aggregate-write c =
@@ -27,9 +21,6 @@ write-requires c κs = let f = c .before .before .before .before .fallen in
     let e = length-take-le (f .result .count) (f .result .words) (omega (arith, f .ensures .0, f .ensures .1)) in
     omega (arith, e, c .before .before .if1 .left)
 
-same-length : tie.Need-same-length
-same-length c = search needs
-
 returns-2 : tie.Need-returns-2
 returns-2 c = let f = c .before .before .before .before .before .before .before .fallen in
     handed-whole (f .result .words) (f .result .count) (omega (arith, f .ensures .0, f .ensures .1))
@@ -39,10 +30,10 @@ pub list-fallen-spec : {M : Type 1} → statement M
 list-fallen-spec =
     tie.close
     (tie.spec
-    fallen-requires
+    (λ c κs. search needs)
     returns
-    array-share-prefix-words
+    (λ c. search needs)
     slice-aggregate-write
     write-requires
-    same-length
+    (λ c. search needs)
     returns-2)

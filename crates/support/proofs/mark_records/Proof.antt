@@ -5,18 +5,6 @@ use borrow.Author.Needs.{needs}
 use Rattle.support.proofs.mark_records.Statement.{statement}
 use Rattle.support.proofs.mark_records.Tie as tie
 
-relate-requires : tie.Need-relate-requires
-relate-requires c κs = search needs
-
-enum-known-answer : tie.Need-enum-known-answer
-enum-known-answer c = search needs
-
-enum-known-answer-2 : tie.Need-enum-known-answer-2
-enum-known-answer-2 c = search needs
-
-slice-aggregate-joined-records : tie.Need-slice-aggregate-joined-records
-slice-aggregate-joined-records c = search needs
-
 joined-records-requires : tie.Need-joined-records-requires
 joined-records-requires c κs =
     let after-answer2 = c .before .before .before in
@@ -24,14 +12,8 @@ joined-records-requires c κs =
     let start = after-relate .before .before .before .before .before in
     (after-relate .relate .ensures .held _ (after-answer2 .answer2 .given .1) .small, start .pre)
 
-same-length : tie.Need-same-length
-same-length c = search needs
-
 returns : tie.Need-returns
 returns c = marks-refused (c .before .before .before .before .before .before .relate .ensures) (c .before .answer .given .1) _ refl
-
-same-length-2 : tie.Need-same-length-2
-same-length-2 c = search needs
 
 returns-2 : tie.Need-returns-2
 returns-2 c =
@@ -44,12 +26,9 @@ pub mark-records-spec : {M : Type 1} → statement M
 mark-records-spec =
     tie.close
     (tie.spec
-    relate-requires
-    enum-known-answer
-    enum-known-answer-2
-    slice-aggregate-joined-records
+    (λ c κs. search needs) (λ c. search needs) (λ c. search needs) (λ c. search needs)
     joined-records-requires
-    same-length
+    (λ c. search needs)
     returns
-    same-length-2
+    (λ c. search needs)
     returns-2)

@@ -29,12 +29,6 @@ loop-holds c =
     let p = c .before .before .before .before .pre in
     (omega arith, p .0, p .1, p .2, λ text e L q. next-none L q (holds-none _ _ _ (p .3) (p .4) (p .5) _ _ _ _))
 
-mul-step : tie.Need-mul-step Inv-loop μ-loop
-mul-step c = omega arith
-
-shared-slice-read-step : tie.Need-shared-slice-read-step Inv-loop μ-loop
-shared-slice-read-step c = omega arith
-
 step-requires : tie.Need-step-requires Inv-loop μ-loop
 step-requires c κs =
     let start = c .before .before .before .before .before .before .before .before .before .before in
@@ -46,12 +40,6 @@ step-requires c κs =
       l .inv .3,
       (drop (suc (l .i)) s, value parts (p .6 .1), rw (drop-cons s (l .i) 0 (omega arith)) at (l .inv .4 (p .6 .0) (p .6 .1) (p .6 .2) (p .6 .3))),
     )
-
-add-i : tie.Need-add-i Inv-loop μ-loop
-add-i c = omega arith
-
-loop-less : tie.Need-loop-less Inv-loop μ-loop
-loop-less c = omega arith
 
 loop-again : tie.Need-loop-again Inv-loop μ-loop
 loop-again c =
@@ -85,30 +73,12 @@ inverted-requires c κs =
     let z = alone-top (alone (c .before .before .before .before) (p .6 .0) (p .6 .1) (p .6 .2) (p .6 .3)) in
     (l .inv .1, l .inv .2, l .inv .3, z .0, z .1)
 
-same-length : tie.Need-same-length Inv-loop μ-loop
-same-length c = search needs
-
-same-length-2 : tie.Need-same-length-2 Inv-loop μ-loop
-same-length-2 c = search needs
-
-same-length-3 : tie.Need-same-length-3 Inv-loop μ-loop
-same-length-3 c = search needs
-
 returns : tie.Need-returns Inv-loop μ-loop
 returns c =
     let after-inverted = c .before .before .before .before .before .before in
     let then1 = after-inverted .before .before .before .before in
     λ text e L q. let A = alone (then1 .before) text e L q in
     rw (then1 .if1 .taken) (unfold value in (A .0, after-inverted .inverted .ensures _ _ _ (A .1)))
-
-same-length-4 : tie.Need-same-length-4 Inv-loop μ-loop
-same-length-4 c = search needs
-
-same-length-5 : tie.Need-same-length-5 Inv-loop μ-loop
-same-length-5 c = search needs
-
-same-length-6 : tie.Need-same-length-6 Inv-loop μ-loop
-same-length-6 c = search needs
 
 returns-2 : tie.Need-returns-2 Inv-loop μ-loop
 returns-2 c = λ text e L q. rw (c .if1 .left) (alone (c .before) text e L q)
@@ -120,18 +90,12 @@ built-spec =
     Inv-loop
     μ-loop
     loop-holds
-    mul-step
-    shared-slice-read-step
+    (λ c. omega arith) (λ c. omega arith)
     step-requires
-    add-i
-    loop-less
+    (λ c. omega arith) (λ c. omega arith)
     loop-again
     inverted-requires
-    same-length
-    same-length-2
-    same-length-3
+    (λ c. search needs) (λ c. search needs) (λ c. search needs)
     returns
-    same-length-4
-    same-length-5
-    same-length-6
+    (λ c. search needs) (λ c. search needs) (λ c. search needs)
     returns-2)

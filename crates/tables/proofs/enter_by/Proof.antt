@@ -45,17 +45,11 @@ mul-enter-2 c = omega (arith, turn (c .before) .small, entering-lt (c .before .b
 slice-write-enter : tie.Need-slice-write-enter Inv-loop μ-loop
 slice-write-enter c = omega (arith, turn (c .before) .small, entering-lt (c .before .before .loop .inv) (turn (c .before)), c .before .before .loop .inv .long)
 
-sub-left : tie.Need-sub-left Inv-loop μ-loop
-sub-left c = omega arith
-
 loop-less : tie.Need-loop-less Inv-loop μ-loop
 loop-less c = turn (c .before) .falls
 
 loop-again : tie.Need-loop-again Inv-loop μ-loop
 loop-again c = entering-more (c .before .before .loop .inv) (turn (c .before)) (c .before .before .before .pre .1)
-
-same-length : tie.Need-same-length Inv-loop μ-loop
-same-length c = search needs
 
 returns : tie.Need-returns Inv-loop μ-loop
 returns c =
@@ -76,8 +70,8 @@ enter-by-spec =
     slice-read-enter
     mul-enter-2
     slice-write-enter
-    sub-left
+    (λ c. omega arith)
     loop-less
     loop-again
-    same-length
+    (λ c. search needs)
     returns)

@@ -61,20 +61,11 @@ slice-write-b c =
     let at-loop = c .before .before .before in
     omega (arith, turn (c .before .before) .small, at-loop .loop .inv .long, at-loop .loop .inv .long₂)
 
-sub-left : tie.Need-sub-left Inv-loop μ-loop
-sub-left c = omega arith
-
 loop-less : tie.Need-loop-less Inv-loop μ-loop
 loop-less c = turn (c .before .before) .falls
 
 loop-again : tie.Need-loop-again Inv-loop μ-loop
 loop-again c = exchanging-more (c .before .before .before .loop .inv) (turn (c .before .before))
-
-same-length : tie.Need-same-length Inv-loop μ-loop
-same-length c = search needs
-
-same-length-2 : tie.Need-same-length-2 Inv-loop μ-loop
-same-length-2 c = search needs
 
 returns : tie.Need-returns Inv-loop μ-loop
 returns c =
@@ -97,9 +88,8 @@ exchange-spec =
     slice-write-a
     mul-b
     slice-write-b
-    sub-left
+    (λ c. omega arith)
     loop-less
     loop-again
-    same-length
-    same-length-2
+    (λ c. search needs) (λ c. search needs)
     returns)

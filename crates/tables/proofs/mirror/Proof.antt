@@ -66,16 +66,10 @@ add-c c =
     let at-loop = c .before .before .before in
     omega (arith, at-loop .loop .inv .1, at-loop .loop .inv .2)
 
-loop-less : tie.Need-loop-less Inv-loop μ-loop
-loop-less c = omega arith
-
 loop-again : tie.Need-loop-again Inv-loop μ-loop
 loop-again c =
     let l = c .before .before .before .loop in
     (omega arith, omega arith, simp (length-set, length-set) (l .inv .2), mirrored-pair (l .inv .3) (omega arith) (l .inv .1) (omega arith))
-
-same-length : tie.Need-same-length Inv-loop μ-loop
-same-length c = search needs
 
 returns : tie.Need-returns Inv-loop μ-loop
 returns c = let e : c .before .loop .c ≡ 64 = omega arith in rw e at (c .before .loop .inv .3)
@@ -98,7 +92,7 @@ mirror-spec =
     mul-enter-2
     slice-write-enter-2
     add-c
-    loop-less
+    (λ c. omega arith)
     loop-again
-    same-length
+    (λ c. search needs)
     returns)

@@ -8,12 +8,6 @@ use Rattle.tables.proofs.RunLaws.{after-two}
 use Rattle.tables.proofs.step.Statement.{statement}
 use Rattle.tables.proofs.step.Tie as tie
 
-item-of-requires : tie.Need-item-of-requires
-item-of-requires c κs = search needs
-
-enum-known-item : tie.Need-enum-known-item
-enum-known-item c = search needs
-
 -- the number is a symbol's
 is-symbol : (c : tie.After-known-told)
     → let start = c .before .before .before .before .before .before .before in
@@ -25,9 +19,6 @@ symbol-requires c κs =
     let start = c .before .before .before .before .before .before .before .before in
     let p = start .pre in let z = room-symbol (p .3 .2) (is-symbol (c .before)) in (p .2, z .0, z .1)
 
-enum-told : tie.Need-enum-told
-enum-told c = search needs
-
 is-inverse : (c : tie.After-enum-told) → itemOf (c .before .before .before .before .before .before .args .i) ≡ Inverse
 is-inverse c = sym (c .before .before .item-of .ensures) ∙ c .enum-told .given .1
 
@@ -36,9 +27,6 @@ inverted-requires c κs =
     let after-enum-told = c .before .before .before in
     let start = after-enum-told .before .before .before .before .before .before in
     let p = start .pre in let z = room-one (p .3 .2) (is-inverse after-enum-told) inverts in (p .0, p .1, p .2, z .0, z .1)
-
-enum-told-2 : tie.Need-enum-told-2
-enum-told-2 c = search needs
 
 is-star : (c : tie.After-enum-told2) → itemOf (c .before .before .before .before .before .before .args .i) ≡ Star
 is-star c = sym (c .before .before .item-of .ensures) ∙ c .enum-told2 .given .1
@@ -54,9 +42,6 @@ maybe-requires c κs =
     let start = after-enum-told2 .before .before .before .before .before .before in
     room-one (start .pre .3 .2) (is-star after-enum-told2) stars
 
-enum-told-3 : tie.Need-enum-told-3
-enum-told-3 c = search needs
-
 is-plus : (c : tie.After-enum-told3) → itemOf (c .before .before .before .before .before .before .args .i) ≡ Plus
 is-plus c = sym (c .before .before .item-of .ensures) ∙ c .enum-told3 .given .1
 
@@ -65,26 +50,17 @@ repeated-requires-2 c κs =
     let start = c .before .before .before .before .before .before .before .before in
     let p = start .pre in let z = room-one (p .3 .2) (is-plus (c .before .before)) repeats in (p .0, p .1, z .0, z .1)
 
-enum-told-4 : tie.Need-enum-told-4
-enum-told-4 c = search needs
-
 is-optional : (c : tie.After-enum-told4) → itemOf (c .before .before .before .before .before .before .args .i) ≡ Optional
 is-optional c = sym (c .before .before .item-of .ensures) ∙ c .enum-told4 .given .1
 
 maybe-requires-2 : tie.Need-maybe-requires-2
 maybe-requires-2 c κs = room-one (c .before .before .before .before .before .before .pre .3 .2) (is-optional c) allows-none
 
-enum-told-5 : tie.Need-enum-told-5
-enum-told-5 c = search needs
-
 is-alternative : (c : tie.After-enum-told5) → itemOf (c .before .before .before .before .before .before .args .i) ≡ Alternative
 is-alternative c = sym (c .before .before .item-of .ensures) ∙ c .enum-told5 .given .1
 
 either-requires : tie.Need-either-requires
 either-requires c κs = room-two (c .before .before .before .before .before .before .pre .3 .2) (is-alternative c) unites
-
-enum-told-6 : tie.Need-enum-told-6
-enum-told-6 c = search needs
 
 is-sequence : (c : tie.After-enum-told6) → itemOf (c .before .before .before .before .before .before .args .i) ≡ Sequence
 is-sequence c = sym (c .before .before .item-of .ensures) ∙ c .enum-told6 .given .1
@@ -94,20 +70,8 @@ followed-requires c κs =
     let start = c .before .before .before .before .before .before .before .before in
     let p = start .pre in let z = room-two (p .3 .2) (is-sequence (c .before .before)) follows in (p .0, p .1, z .0, z .1)
 
-same-length : tie.Need-same-length
-same-length c = search needs
-
 returns : tie.Need-returns
 returns c = λ k v N. after-symbol N (is-symbol (c .before .before .before .before)) (λ m st H. c .before .before .symbol .ensures _ _ m st H)
-
-same-length-2 : tie.Need-same-length-2
-same-length-2 c = search needs
-
-same-length-3 : tie.Need-same-length-3
-same-length-3 c = search needs
-
-same-length-4 : tie.Need-same-length-4
-same-length-4 c = search needs
 
 returns-2 : tie.Need-returns-2
 returns-2 c =
@@ -115,22 +79,10 @@ returns-2 c =
     let after-enum-told = after-inverted .before .before .before .before in
     λ k v N. after-one N (is-inverse after-enum-told) inverts (after-inverted .inverted .ensures)
 
-same-length-5 : tie.Need-same-length-5
-same-length-5 c = search needs
-
-same-length-6 : tie.Need-same-length-6
-same-length-6 c = search needs
-
 returns-3 : tie.Need-returns-3
 returns-3 c =
     λ k v N. after-one N (is-star (c .before .before .before .before .before .before .before .before)) stars
     (λ m x st H. c .maybe .ensures _ _ _ m _ st (c .before .before .before .before .before .repeated .ensures _ m x st H))
-
-same-length-7 : tie.Need-same-length-7
-same-length-7 c = search needs
-
-same-length-8 : tie.Need-same-length-8
-same-length-8 c = search needs
 
 returns-4 : tie.Need-returns-4
 returns-4 c =
@@ -144,12 +96,6 @@ returns-5 c = λ k v N. after-one N (is-optional (c .before)) allows-none (λ m 
 returns-6 : tie.Need-returns-6
 returns-6 c = λ k v N. after-two N (is-alternative (c .before)) unites (λ m x y st H. c .either .ensures _ _ _ m x y st H)
 
-same-length-9 : tie.Need-same-length-9
-same-length-9 c = search needs
-
-same-length-10 : tie.Need-same-length-10
-same-length-10 c = search needs
-
 returns-7 : tie.Need-returns-7
 returns-7 c =
     let after-followed = c .before .before .before .before in
@@ -160,36 +106,30 @@ pub step-spec : {M : Type 1} → statement M
 step-spec =
     tie.close
     (tie.spec
-    item-of-requires
-    enum-known-item
+    (λ c κs. search needs) (λ c. search needs)
     symbol-requires
-    enum-told
+    (λ c. search needs)
     inverted-requires
-    enum-told-2
+    (λ c. search needs)
     repeated-requires
     maybe-requires
-    enum-told-3
+    (λ c. search needs)
     repeated-requires-2
-    enum-told-4
+    (λ c. search needs)
     maybe-requires-2
-    enum-told-5
+    (λ c. search needs)
     either-requires
-    enum-told-6
+    (λ c. search needs)
     followed-requires
-    same-length
+    (λ c. search needs)
     returns
-    same-length-2
-    same-length-3
-    same-length-4
+    (λ c. search needs) (λ c. search needs) (λ c. search needs)
     returns-2
-    same-length-5
-    same-length-6
+    (λ c. search needs) (λ c. search needs)
     returns-3
-    same-length-7
-    same-length-8
+    (λ c. search needs) (λ c. search needs)
     returns-4
     returns-5
     returns-6
-    same-length-9
-    same-length-10
+    (λ c. search needs) (λ c. search needs)
     returns-7)

@@ -39,17 +39,11 @@ mul-rows-2 c = omega (arith, turn (c .before) .small, c .before .before .loop .i
 slice-write-rows : tie.Need-slice-write-rows Inv-loop μ-loop
 slice-write-rows c = omega (arith, turn (c .before) .small, c .before .before .loop .inv .long)
 
-sub-left : tie.Need-sub-left Inv-loop μ-loop
-sub-left c = omega arith
-
 loop-less : tie.Need-loop-less Inv-loop μ-loop
 loop-less c = turn (c .before) .falls
 
 loop-again : tie.Need-loop-again Inv-loop μ-loop
 loop-again c = joining-more (c .before .before .loop .inv) (turn (c .before))
-
-same-length : tie.Need-same-length Inv-loop μ-loop
-same-length c = search needs
 
 returns : tie.Need-returns Inv-loop μ-loop
 returns c =
@@ -68,8 +62,8 @@ with-edges-spec =
     slice-read-rows
     mul-rows-2
     slice-write-rows
-    sub-left
+    (λ c. omega arith)
     loop-less
     loop-again
-    same-length
+    (λ c. search needs)
     returns)

@@ -10,9 +10,6 @@ use Rattle.generations.proofs.LabelLaws.{two-more}
 use Rattle.generations.proofs.labels.put_text.Statement.{statement}
 use Rattle.generations.proofs.labels.put_text.Tie as tie
 
-spell-labels-requires : tie.Need-spell-labels-requires
-spell-labels-requires c κs = search needs
-
 slice-write-text : tie.Need-slice-write-text
 slice-write-text c =
     let start = c .before .before .before .before .before in
@@ -51,7 +48,7 @@ pub put-text-spec : {M : Type 1} → statement M
 put-text-spec =
     tie.close
     (tie.spec
-    spell-labels-requires
+    (λ c κs. search needs)
     slice-write-text
     add-text
     slice-write-text-2

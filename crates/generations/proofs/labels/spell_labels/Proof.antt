@@ -19,22 +19,10 @@ abbrev μ-loop : tie.MeasureT-loop
 loop-holds : tie.Need-loop-holds Inv-loop μ-loop
 loop-holds c = (omega arith, refl, laid-none _ _)
 
-has-label-requires : tie.Need-has-label-requires Inv-loop μ-loop
-has-label-requires c κs = search needs
-
-separator-requires : tie.Need-separator-requires Inv-loop μ-loop
-separator-requires c κs = search needs
-
 slice-write-text : tie.Need-slice-write-text Inv-loop μ-loop
 slice-write-text c =
     let at-loop = c .before .before .before .before in
     omega (arith, at-loop .loop .inv .1, at-loop .loop .inv .2 .few, at-loop .before .before .pre)
-
-cast-text : tie.Need-cast-text Inv-loop μ-loop
-cast-text c = omega arith
-
-add-text : tie.Need-add-text Inv-loop μ-loop
-add-text c = omega arith
 
 add-text-2 : tie.Need-add-text-2 Inv-loop μ-loop
 add-text-2 c = omega (arith, c .before .before .before .before .loop .inv .2 .few)
@@ -47,12 +35,6 @@ slice-write-text-2 c =
 
 add-count : tie.Need-add-count Inv-loop μ-loop
 add-count c = omega (arith, c .before .before .before .before .loop .inv .2 .few)
-
-add-label : tie.Need-add-label Inv-loop μ-loop
-add-label c = omega arith
-
-loop-less : tie.Need-loop-less Inv-loop μ-loop
-loop-less c = omega arith
 
 loop-again : tie.Need-loop-again Inv-loop μ-loop
 loop-again c =
@@ -88,16 +70,13 @@ spell-labels-spec =
     Inv-loop
     μ-loop
     loop-holds
-    has-label-requires
-    separator-requires
+    (λ c κs. search needs) (λ c κs. search needs)
     slice-write-text
-    cast-text
-    add-text
+    (λ c. omega arith) (λ c. omega arith)
     add-text-2
     slice-write-text-2
     add-count
-    add-label
-    loop-less
+    (λ c. omega arith) (λ c. omega arith)
     loop-again
     same-length
     returns)

@@ -23,21 +23,6 @@ Inv-loop cells₀ masks₀ n w filled marks₀ stack₀ x₀ cells masks marks s
 abbrev μ-loop : tie.MeasureT-loop
 μ-loop cells₀ masks₀ n w filled marks₀ stack₀ x₀ cells masks marks stack x = n - x
 
-occupied-requires : tie.Need-occupied-requires Inv-loop μ-loop
-occupied-requires c κs = search needs
-
-slice-aggregate-start-marks : tie.Need-slice-aggregate-start-marks Inv-loop μ-loop
-slice-aggregate-start-marks c = search needs
-
-start-marks-requires : tie.Need-start-marks-requires Inv-loop μ-loop
-start-marks-requires c κs = search needs
-
-slice-aggregate-next : tie.Need-slice-aggregate-next Inv-loop μ-loop
-slice-aggregate-next c = search needs
-
-next-requires : tie.Need-next-requires Inv-loop μ-loop
-next-requires c κs = search needs
-
 loop-holds : tie.Need-loop-holds Inv-loop μ-loop
 loop-holds c =
     let start = c .before .before .before .before .before .before .before .before in
@@ -53,12 +38,6 @@ loop-holds c =
           (N .gap) (λ u h. absurd (omega arith)),
     )
 
-slice-aggregate-close-record : tie.Need-slice-aggregate-close-record Inv-loop μ-loop
-slice-aggregate-close-record c = omega arith
-
-slice-aggregate-close-record-2 : tie.Need-slice-aggregate-close-record-2 Inv-loop μ-loop
-slice-aggregate-close-record-2 c = omega arith
-
 close-record-requires : tie.Need-close-record-requires Inv-loop μ-loop
 close-record-requires c κs =
     let at-loop = c .before .before .before .before .before in
@@ -66,15 +45,6 @@ close-record-requires c κs =
     let l = at-loop .loop .inv in
     let t : at-loop .loop .x < start .args .n = omega arith in
     omega (arith, start .pre, l .1, l .2, l .3, l .4, t)
-
-slice-aggregate-next-2 : tie.Need-slice-aggregate-next-2 Inv-loop μ-loop
-slice-aggregate-next-2 c = search needs
-
-add-next : tie.Need-add-next Inv-loop μ-loop
-add-next c = omega arith
-
-next-requires-2 : tie.Need-next-requires-2 Inv-loop μ-loop
-next-requires-2 c κs = omega arith
 
 -- each row is closed, or as it was
 half : (c : tie.At-loop Inv-loop μ-loop) → let a = c .before .before .before .before .before .before .before .before .before .args in
@@ -131,18 +101,11 @@ close-all-spec =
     (tie.spec
     Inv-loop
     μ-loop
-    occupied-requires
-    slice-aggregate-start-marks
-    start-marks-requires
-    slice-aggregate-next
-    next-requires
+    (λ c κs. search needs) (λ c. search needs) (λ c κs. search needs) (λ c. search needs) (λ c κs. search needs)
     loop-holds
-    slice-aggregate-close-record
-    slice-aggregate-close-record-2
+    (λ c. omega arith) (λ c. omega arith)
     close-record-requires
-    slice-aggregate-next-2
-    add-next
-    next-requires-2
+    (λ c. search needs) (λ c. omega arith) (λ c κs. omega arith)
     loop-less
     loop-again
     same-length

@@ -13,29 +13,8 @@ use Rattle.grid.proofs.closing.close_once.Tie as tie
 returns : tie.Need-returns
 returns c = (onward-same _ _ _ _ _, λ h. absurd (omega arith))
 
-bit-requires : tie.Need-bit-requires
-bit-requires c κs = search needs
-
-same-length : tie.Need-same-length
-same-length c = search needs
-
 returns-2 : tie.Need-returns-2
 returns-2 c = (onward-same _ _ _ _ _, λ h. sym (c .before .bit .ensures) ∙ c .if2 .taken)
-
-close-row-requires : tie.Need-close-row-requires
-close-row-requires c κs = search needs
-
-set-bit-requires : tie.Need-set-bit-requires
-set-bit-requires c κs = search needs
-
-same-length-2 : tie.Need-same-length-2
-same-length-2 c = search needs
-
-same-length-3 : tie.Need-same-length-3
-same-length-3 c = search needs
-
-same-length-4 : tie.Need-same-length-4
-same-length-4 c = search needs
 
 returns-3 : tie.Need-returns-3
 returns-3 c =
@@ -54,12 +33,7 @@ close-once-spec =
     tie.close
     (tie.spec
     returns
-    bit-requires
-    same-length
+    (λ c κs. search needs) (λ c. search needs)
     returns-2
-    close-row-requires
-    set-bit-requires
-    same-length-2
-    same-length-3
-    same-length-4
+    (λ c κs. search needs) (λ c κs. search needs) (λ c. search needs) (λ c. search needs) (λ c. search needs)
     returns-3)

@@ -5,24 +5,6 @@ use Rattle.grid.proofs.ClosureLaws.{onward-next}
 use Rattle.grid.proofs.closing.close_record.Statement.{statement}
 use Rattle.grid.proofs.closing.close_record.Tie as tie
 
-close-from-requires : tie.Need-close-from-requires
-close-from-requires c κs = search needs
-
-close-once-requires : tie.Need-close-once-requires
-close-once-requires c κs = search needs
-
-same-length : tie.Need-same-length
-same-length c = search needs
-
-same-length-2 : tie.Need-same-length-2
-same-length-2 c = search needs
-
-same-length-3 : tie.Need-same-length-3
-same-length-3 c = search needs
-
-same-length-4 : tie.Need-same-length-4
-same-length-4 c = search needs
-
 returns : tie.Need-returns
 returns c =
     let after-close-once = c .before .before .before .before .before .before in
@@ -34,10 +16,5 @@ pub close-record-spec : {M : Type 1} → statement M
 close-record-spec =
     tie.close
     (tie.spec
-    close-from-requires
-    close-once-requires
-    same-length
-    same-length-2
-    same-length-3
-    same-length-4
+    (λ c κs. search needs) (λ c κs. search needs) (λ c. search needs) (λ c. search needs) (λ c. search needs) (λ c. search needs)
     returns)

@@ -26,21 +26,6 @@ Inv-loop cells₀ masks₀ n w x marks seen₀ z₀ cells masks seen z =
 abbrev μ-loop : tie.MeasureT-loop
 μ-loop cells₀ masks₀ n w x marks seen₀ z₀ cells masks seen z = onesBelow (λ y. 1 - bitAt seen y) n
 
-empty-records-requires : tie.Need-empty-records-requires Inv-loop μ-loop
-empty-records-requires c κs = search needs
-
-mul-fresh : tie.Need-mul-fresh Inv-loop μ-loop
-mul-fresh c = omega arith
-
-slice-read-fresh : tie.Need-slice-read-fresh Inv-loop μ-loop
-slice-read-fresh c = omega arith
-
-slice-aggregate-fresh : tie.Need-slice-aggregate-fresh Inv-loop μ-loop
-slice-aggregate-fresh c = omega arith
-
-fresh-requires : tie.Need-fresh-requires Inv-loop μ-loop
-fresh-requires c κs = search needs
-
 loop-holds : tie.Need-loop-holds Inv-loop μ-loop
 loop-holds c =
     let E = c .before .before .before .before .empty-records in
@@ -72,9 +57,6 @@ after c =
     let o = c .lead-on in
     (o .kept .0 ∙ l .inv .0, o .kept .1 .0 ∙ l .inv .1, unit-fits (a .n) (a .w) (omega arith) (omega arith), rows-apart (l .z) (a .n) (a .w) (omega arith))
 
-mul-leads-back : tie.Need-mul-leads-back Inv-loop μ-loop
-mul-leads-back c = omega arith
-
 slice-read-leads-back : tie.Need-slice-read-leads-back Inv-loop μ-loop
 slice-read-leads-back c = omega (arith, after (c .before .before .before .before .before .before) .1)
 
@@ -102,9 +84,6 @@ returns c =
     row-back (a .n) (a .w) (a .x) (l .z) (bitAt (a .marks .now)) (bitAt (l .seen)) (a .cells .now) (a .masks .now) (l .cells) (l .masks) _ _
     (start .pre .0 .wide) (start .pre .1) zl (after-lead-on .lead-on .ensures) (l .inv .3 .found zl .0) (l .inv .4)
     (sym (after-bit .bit .ensures) ∙ back .0) (unfold firstRows in (back .1))
-
-mul-mark : tie.Need-mul-mark Inv-loop μ-loop
-mul-mark c = omega arith
 
 slice-read-mark : tie.Need-slice-read-mark Inv-loop μ-loop
 slice-read-mark c = omega (arith, after (c .before .before .before .before .before .before .before .before .before .before) .1)
@@ -226,22 +205,18 @@ close-row-spec =
     (tie.spec
     Inv-loop
     μ-loop
-    empty-records-requires
-    mul-fresh
-    slice-read-fresh
-    slice-aggregate-fresh
-    fresh-requires
+    (λ c κs. search needs) (λ c. omega arith) (λ c. omega arith) (λ c. omega arith) (λ c κs. search needs)
     loop-holds
     bit-requires
     lead-on-requires
-    mul-leads-back
+    (λ c. omega arith)
     slice-read-leads-back
     mul-leads-back-2
     leads-back-requires
     same-length
     same-length-2
     returns
-    mul-mark
+    (λ c. omega arith)
     slice-read-mark
     slice-aggregate-mark
     mark-requires

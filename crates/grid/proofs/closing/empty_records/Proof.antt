@@ -17,30 +17,6 @@ abbrev μ-loop : tie.MeasureT-loop
 loop-holds : tie.Need-loop-holds Inv-loop μ-loop
 loop-holds c = (omega arith, refl, λ u h. absurd (omega arith))
 
-mul-records : tie.Need-mul-records Inv-loop μ-loop
-mul-records c = omega arith
-
-add-records : tie.Need-add-records Inv-loop μ-loop
-add-records c = omega arith
-
-mul-records-2 : tie.Need-mul-records-2 Inv-loop μ-loop
-mul-records-2 c = omega arith
-
-shared-slice-read-records : tie.Need-shared-slice-read-records Inv-loop μ-loop
-shared-slice-read-records c = omega arith
-
-mul-records-3 : tie.Need-mul-records-3 Inv-loop μ-loop
-mul-records-3 c = omega arith
-
-array-write-records : tie.Need-array-write-records Inv-loop μ-loop
-array-write-records c = omega arith
-
-add-c : tie.Need-add-c Inv-loop μ-loop
-add-c c = omega arith
-
-loop-less : tie.Need-loop-less Inv-loop μ-loop
-loop-less c = omega arith
-
 loop-again : tie.Need-loop-again Inv-loop μ-loop
 loop-again c =
     let at-loop = c .before .before in
@@ -58,13 +34,7 @@ empty-records-spec =
     Inv-loop
     μ-loop
     loop-holds
-    mul-records
-    add-records
-    mul-records-2
-    shared-slice-read-records
-    mul-records-3
-    array-write-records
-    add-c
-    loop-less
+    (λ c. omega arith) (λ c. omega arith) (λ c. omega arith) (λ c. omega arith) (λ c. omega arith) (λ c. omega arith) (λ c. omega arith)
+    (λ c. omega arith)
     loop-again
     returns)

@@ -53,30 +53,12 @@ mul-left c = omega (arith, row-ends c .0, row-ends c .1)
 shared-slice-read-left : tie.Need-shared-slice-read-left Inv-loop μ-loop
 shared-slice-read-left c = let r = row-ends (c .before) in omega (arith, r .0, r .1)
 
-mul-left-2 : tie.Need-mul-left-2 Inv-loop μ-loop
-mul-left-2 c = omega arith
-
-shared-slice-read-left-2 : tie.Need-shared-slice-read-left-2 Inv-loop μ-loop
-shared-slice-read-left-2 c = omega arith
-
-mul-best : tie.Need-mul-best Inv-loop μ-loop
-mul-best c = omega arith
-
-shared-slice-read-best : tie.Need-shared-slice-read-best Inv-loop μ-loop
-shared-slice-read-best c = omega arith
-
 -- a bit of a part of a word is one of the word
 part : (v u k : ℕ) → digit (bitAnd v u) k ≡ 1 → digit v k ≡ 1
 part v u k e = omega (arith, e, digit-and v u k, digit-lt v k)
 
 found-or-requires : tie.Need-found-or-requires Inv-loop μ-loop
 found-or-requires c κs = (omega arith, λ k e. part _ _ k e)
-
-mul-if3 : tie.Need-mul-if3 Inv-loop μ-loop
-mul-if3 c = omega arith
-
-add-if3 : tie.Need-add-if3 Inv-loop μ-loop
-add-if3 c = omega arith
 
 -- what is found once word c was looked at
 looked : (c : tie.After-found-or Inv-loop μ-loop)
@@ -94,9 +76,6 @@ looked c =
 
 returns : tie.Need-returns Inv-loop μ-loop
 returns c = record { found = looked (c .before .before .before) .found; all = λ p h. absurd (omega arith) }
-
-above-requires : tie.Need-above-requires Inv-loop μ-loop
-above-requires c κs = omega arith
 
 loop-less : tie.Need-loop-less Inv-loop μ-loop
 loop-less c = omega (arith, c .above .ensures .low)
@@ -128,15 +107,11 @@ fresh-spec =
     add-left
     mul-left
     shared-slice-read-left
-    mul-left-2
-    shared-slice-read-left-2
-    mul-best
-    shared-slice-read-best
+    (λ c. omega arith) (λ c. omega arith) (λ c. omega arith) (λ c. omega arith)
     found-or-requires
-    mul-if3
-    add-if3
+    (λ c. omega arith) (λ c. omega arith)
     returns
-    above-requires
+    (λ c κs. omega arith)
     loop-less
     loop-again
     returns-2)

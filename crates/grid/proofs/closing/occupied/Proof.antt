@@ -21,23 +21,11 @@ abbrev μ-loop : tie.MeasureT-loop
 loop-holds : tie.Need-loop-holds Inv-loop μ-loop
 loop-holds c = (omega arith, refl, filled-none (c .before .args .masks .now) _ (bit-replicate 16))
 
-mul-if1 : tie.Need-mul-if1 Inv-loop μ-loop
-mul-if1 c = omega arith
-
-shared-slice-read-if1 : tie.Need-shared-slice-read-if1 Inv-loop μ-loop
-shared-slice-read-if1 c = omega arith
-
 slice-aggregate-set-bit : tie.Need-slice-aggregate-set-bit Inv-loop μ-loop
 slice-aggregate-set-bit c = sym (c .before .before .before .before .loop .inv .1)
 
 set-bit-requires : tie.Need-set-bit-requires Inv-loop μ-loop
 set-bit-requires c κs = let l = c .before .before .before .before .loop in omega (arith, l .inv .1)
-
-add-x : tie.Need-add-x Inv-loop μ-loop
-add-x c = omega arith
-
-loop-less : tie.Need-loop-less Inv-loop μ-loop
-loop-less c = omega arith
 
 loop-again : tie.Need-loop-again Inv-loop μ-loop
 loop-again c =
@@ -70,11 +58,9 @@ occupied-spec =
     Inv-loop
     μ-loop
     loop-holds
-    mul-if1
-    shared-slice-read-if1
+    (λ c. omega arith) (λ c. omega arith)
     slice-aggregate-set-bit
     set-bit-requires
-    add-x
-    loop-less
+    (λ c. omega arith) (λ c. omega arith)
     loop-again
     returns)

@@ -26,30 +26,6 @@ inside c =
 lowest-requires : tie.Need-lowest-requires Inv-loop μ-loop
 lowest-requires c κs = tt
 
-loop-holds : tie.Need-loop-holds Inv-loop μ-loop
-loop-holds c = omega arith
-
-add-left : tie.Need-add-left Inv-loop μ-loop
-add-left c = omega arith
-
-mul-left : tie.Need-mul-left Inv-loop μ-loop
-mul-left c = omega arith
-
-shared-slice-read-left : tie.Need-shared-slice-read-left Inv-loop μ-loop
-shared-slice-read-left c = omega arith
-
-add-left-2 : tie.Need-add-left-2 Inv-loop μ-loop
-add-left-2 c = omega arith
-
-mul-left-2 : tie.Need-mul-left-2 Inv-loop μ-loop
-mul-left-2 c = omega arith
-
-shared-slice-read-left-2 : tie.Need-shared-slice-read-left-2 Inv-loop μ-loop
-shared-slice-read-left-2 c = omega arith
-
-mul-result : tie.Need-mul-result Inv-loop μ-loop
-mul-result c = omega arith
-
 lowest-requires-2 : tie.Need-lowest-requires-2 Inv-loop μ-loop
 lowest-requires-2 c κs = tt
 
@@ -59,17 +35,8 @@ add-result c = omega (arith, inside c)
 returns : tie.Need-returns Inv-loop μ-loop
 returns c = omega (arith, inside c)
 
-above-requires : tie.Need-above-requires Inv-loop μ-loop
-above-requires c κs = omega arith
-
 loop-less : tie.Need-loop-less Inv-loop μ-loop
 loop-less c = omega (arith, c .above .ensures .low)
-
-loop-again : tie.Need-loop-again Inv-loop μ-loop
-loop-again c = omega arith
-
-returns-2 : tie.Need-returns-2 Inv-loop μ-loop
-returns-2 c = omega arith
 
 pub unseen-spec : {M : Type 1} → statement M
 unseen-spec =
@@ -78,18 +45,11 @@ unseen-spec =
     Inv-loop
     μ-loop
     lowest-requires
-    loop-holds
-    add-left
-    mul-left
-    shared-slice-read-left
-    add-left-2
-    mul-left-2
-    shared-slice-read-left-2
-    mul-result
+    (λ c. omega arith) (λ c. omega arith) (λ c. omega arith) (λ c. omega arith) (λ c. omega arith) (λ c. omega arith) (λ c. omega arith)
+    (λ c. omega arith)
     lowest-requires-2
     add-result
     returns
-    above-requires
+    (λ c κs. omega arith)
     loop-less
-    loop-again
-    returns-2)
+    (λ c. omega arith) (λ c. omega arith))

@@ -16,24 +16,6 @@ use Rattle.grid.proofs.PairLaws.{letter, letter-in, letter-out, one-tur
 use Rattle.grid.proofs.putting.put_word.Statement.{statement}
 use Rattle.grid.proofs.putting.put_word.Tie as tie
 
-label-of-requires : tie.Need-label-of-requires
-label-of-requires c κs = search needs
-
-pair-of-requires : tie.Need-pair-of-requires
-pair-of-requires c κs = search needs
-
-cast-p : tie.Need-cast-p
-cast-p c = search needs
-
-has-label-requires : tie.Need-has-label-requires
-has-label-requires c κs = search needs
-
-put-pair-requires : tie.Need-put-pair-requires
-put-pair-requires c κs = search needs
-
-has-label-requires-2 : tie.Need-has-label-requires-2
-has-label-requires-2 c κs = search needs
-
 -- the link is in forward
 forward : (c : tie.Joined1) → let a = c .before .before .before .before .before .before .args in
     (length (c .if1 .cells) ≡ length (a .cells .now)) × (length (c .if1 .masks) ≡ length (a .masks .now))
@@ -113,12 +95,7 @@ pub put-word-spec : {M : Type 1} → statement M
 put-word-spec =
     tie.close
     (tie.spec
-    label-of-requires
-    pair-of-requires
-    cast-p
-    has-label-requires
-    put-pair-requires
-    has-label-requires-2
+    (λ c κs. search needs) (λ c κs. search needs) (λ c. search needs) (λ c κs. search needs) (λ c κs. search needs) (λ c κs. search needs)
     put-pair-requires-2
     same-length
     same-length-2

@@ -22,27 +22,12 @@ abbrev μ-loop : tie.MeasureT-loop
 loop-holds : tie.Need-loop-holds Inv-loop μ-loop
 loop-holds c = refl
 
-shared-slice-read-is-blank : tie.Need-shared-slice-read-is-blank Inv-loop μ-loop
-shared-slice-read-is-blank c = omega arith
-
-is-blank-requires : tie.Need-is-blank-requires Inv-loop μ-loop
-is-blank-requires c κs = search needs
-
 returns : tie.Need-returns Inv-loop μ-loop
 returns c =
     let at-loop = c .before .before .before .before in
     let t = now (at-loop .loop .t) in
     let b : blank (getD t 0 0) ≡ false = sym (c .before .is-blank .ensures) ∙ not-true _ (c .if1 .taken) in
     sym (skip-at t b) ∙ at-loop .loop .inv
-
-sub-t : tie.Need-sub-t Inv-loop μ-loop
-sub-t c = omega arith
-
-part-t-start : tie.Need-part-t-start Inv-loop μ-loop
-part-t-start c = search needs
-
-part-t-end : tie.Need-part-t-end Inv-loop μ-loop
-part-t-end c = search needs
 
 loop-less : tie.Need-loop-less Inv-loop μ-loop
 loop-less c =
@@ -66,12 +51,9 @@ skip-spec =
     Inv-loop
     μ-loop
     loop-holds
-    shared-slice-read-is-blank
-    is-blank-requires
+    (λ c. omega arith) (λ c κs. search needs)
     returns
-    sub-t
-    part-t-start
-    part-t-end
+    (λ c. omega arith) (λ c. search needs) (λ c. search needs)
     loop-less
     loop-again
     returns-2)

@@ -11,30 +11,6 @@ use borrow.Author.Needs.{needs}
 use Rattle.links.proofs.lookups.label_part.Statement.{statement}
 use Rattle.links.proofs.lookups.label_part.Tie as tie
 
-mul-first : tie.Need-mul-first
-mul-first c = search needs
-
-lower-bound-requires : tie.Need-lower-bound-requires
-lower-bound-requires c κs = search needs
-
-mul-rest : tie.Need-mul-rest
-mul-rest c = search needs
-
-sub-rest : tie.Need-sub-rest
-sub-rest c = search needs
-
-part-rest-start : tie.Need-part-rest-start
-part-rest-start c = search needs
-
-part-rest-end : tie.Need-part-rest-end
-part-rest-end c = search needs
-
-add-lower-bound : tie.Need-add-lower-bound
-add-lower-bound c = search needs
-
-lower-bound-requires-2 : tie.Need-lower-bound-requires-2
-lower-bound-requires-2 c κs = search needs
-
 -- the rest of the words, from the place of the label's first
 rest : (c : tie.After-lower-bound) → take (length (c .before .before .args .words .now) - c .lower-bound .result)
     (drop (c .lower-bound .result) (c .before .before .args .words .now)) ≡ drop (c .lower-bound .result) (c .before .before .args .words .now)
@@ -69,13 +45,7 @@ pub label-part-spec : {M : Type 1} → statement M
 label-part-spec =
     tie.close
     (tie.spec
-    mul-first
-    lower-bound-requires
-    mul-rest
-    sub-rest
-    part-rest-start
-    part-rest-end
-    add-lower-bound
-    lower-bound-requires-2
+    (λ c. search needs) (λ c κs. search needs) (λ c. search needs) (λ c. search needs) (λ c. search needs) (λ c. search needs) (λ c. search needs)
+    (λ c κs. search needs)
     slice-aggregate-result
     returns)

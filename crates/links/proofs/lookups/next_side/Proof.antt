@@ -19,15 +19,6 @@ abbrev μ-loop : tie.MeasureT-loop
 loop-holds : tie.Need-loop-holds Inv-loop μ-loop
 loop-holds c = refl
 
-mul-if1 : tie.Need-mul-if1 Inv-loop μ-loop
-mul-if1 c = omega arith
-
-shared-slice-read-if1 : tie.Need-shared-slice-read-if1 Inv-loop μ-loop
-shared-slice-read-if1 c = omega arith
-
-div-if1 : tie.Need-div-if1 Inv-loop μ-loop
-div-if1 c = omega arith
-
 returns : tie.Need-returns Inv-loop μ-loop
 unfolding hasAt
 returns c =
@@ -35,12 +26,6 @@ returns c =
     let ws = s .words .now in
     let k = c .before .before .before .loop in
     sym (next-here (hasAt (s .unit) (s .«record»)) ws (k .i) (c .before .before .loop-test .taken) (eq-eqb _ _ (c .if1 .taken))) ∙ k .inv
-
-add-i : tie.Need-add-i Inv-loop μ-loop
-add-i c = omega arith
-
-loop-less : tie.Need-loop-less Inv-loop μ-loop
-loop-less c = omega arith
 
 loop-again : tie.Need-loop-again Inv-loop μ-loop
 unfolding hasAt
@@ -63,11 +48,8 @@ next-side-spec =
     Inv-loop
     μ-loop
     loop-holds
-    mul-if1
-    shared-slice-read-if1
-    div-if1
+    (λ c. omega arith) (λ c. omega arith) (λ c. omega arith)
     returns
-    add-i
-    loop-less
+    (λ c. omega arith) (λ c. omega arith)
     loop-again
     returns-2)

@@ -10,16 +10,10 @@ use Rattle.links.proofs.lookups.touched.Tie as tie
 slice-aggregate-part : tie.Need-slice-aggregate-part
 slice-aggregate-part c = sym (length-take-le (c .before .before .args .count) (c .before .before .args .words .now) (c .before .before .pre))
 
-next-side-requires : tie.Need-next-side-requires
-next-side-requires c κs = search needs
-
 returns : tie.Need-returns
 returns c =
     let s = c .before .before .before .before .args in
     sym (touched-from (take (s .count) (s .words .now)) (s .«record») (rw (c .before .next-side .ensures) at (c .if1 .taken)))
-
-next-side-requires-2 : tie.Need-next-side-requires-2
-next-side-requires-2 c κs = search needs
 
 returns-2 : tie.Need-returns-2
 returns-2 c =
@@ -30,4 +24,4 @@ returns-2 c =
 pub touched-spec : {M : Type 1} → statement M
 touched-spec =
     tie.close
-    (tie.spec slice-aggregate-part next-side-requires returns next-side-requires-2 returns-2)
+    (tie.spec slice-aggregate-part (λ c κs. search needs) returns (λ c κs. search needs) returns-2)

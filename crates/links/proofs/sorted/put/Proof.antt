@@ -18,24 +18,6 @@ abbrev μ-loop : tie.MeasureT-loop
 loop-holds : tie.Need-loop-holds Inv-loop μ-loop
 loop-holds c = (omega arith, c .pre .2, refl)
 
-mul-t : tie.Need-mul-t Inv-loop μ-loop
-mul-t c = omega arith
-
-element-copy-out-t : tie.Need-element-copy-out-t Inv-loop μ-loop
-element-copy-out-t c = omega arith
-
-mul-a : tie.Need-mul-a Inv-loop μ-loop
-mul-a c = omega arith
-
-element-write-a : tie.Need-element-write-a Inv-loop μ-loop
-element-write-a c = omega arith
-
-add-j : tie.Need-add-j Inv-loop μ-loop
-add-j c = omega arith
-
-loop-less : tie.Need-loop-less Inv-loop μ-loop
-loop-less c = omega arith
-
 loop-again : tie.Need-loop-again Inv-loop μ-loop
 loop-again c = (
   omega arith,
@@ -43,12 +25,6 @@ loop-again c = (
   put-turn (c .before .before .loop .a) (c .before .before .before .args .count) (c .before .before .loop .j)
       (c .before .before .loop .carried) (omega arith) (omega arith) ∙ c .before .before .loop .inv .2,
 )
-
-mul-a-2 : tie.Need-mul-a-2 Inv-loop μ-loop
-mul-a-2 c = omega arith
-
-element-write-a-2 : tie.Need-element-write-a-2 Inv-loop μ-loop
-element-write-a-2 c = omega arith
 
 returns : tie.Need-returns Inv-loop μ-loop
 returns c =
@@ -62,13 +38,7 @@ put-spec =
     Inv-loop
     μ-loop
     loop-holds
-    mul-t
-    element-copy-out-t
-    mul-a
-    element-write-a
-    add-j
-    loop-less
+    (λ c. omega arith) (λ c. omega arith) (λ c. omega arith) (λ c. omega arith) (λ c. omega arith) (λ c. omega arith)
     loop-again
-    mul-a-2
-    element-write-a-2
+    (λ c. omega arith) (λ c. omega arith)
     returns)

@@ -9,15 +9,9 @@ returns : tie.Need-returns
 unfolding standsAt
 returns c = rw (le-ltb _ _ (c .if1 .taken))
 
-mul-result : tie.Need-mul-result
-mul-result c = search needs
-
-shared-slice-read-result : tie.Need-shared-slice-read-result
-shared-slice-read-result c = search needs
-
 returns-2 : tie.Need-returns-2
 unfolding standsAt
 returns-2 c = rw (lt-ltb _ _ (c .before .if1 .left))
 
 pub stands-spec : {M : Type 1} → statement M
-stands-spec = tie.close (tie.spec returns mul-result shared-slice-read-result returns-2)
+stands-spec = tie.close (tie.spec returns (λ c. search needs) (λ c. search needs) returns-2)

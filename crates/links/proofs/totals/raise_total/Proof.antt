@@ -9,20 +9,8 @@ use Rattle.links.specs.TotalLaws.{raised, raised-set}
 use Rattle.links.proofs.totals.raise_total.Statement.{statement}
 use Rattle.links.proofs.totals.raise_total.Tie as tie
 
-label-of-requires : tie.Need-label-of-requires
-label-of-requires c κs = search needs
-
-cast-label : tie.Need-cast-label
-cast-label c = search needs
-
 returns : tie.Need-returns
 returns c = raised (λ h _. absurd (omega (arith, c .if1 .taken, c .before .label-of .ensures))) (λ j _. refl)
-
-mul-if2 : tie.Need-mul-if2
-mul-if2 c = search needs
-
-element-copy-out-if2 : tie.Need-element-copy-out-if2
-element-copy-out-if2 c = search needs
 
 returns-2 : tie.Need-returns-2
 returns-2 c =
@@ -30,21 +18,6 @@ returns-2 c =
     let ts = after-label-of .before .args .totals .now in
     let same = ap (λ (l : ℕ). getD ts l 0) (after-label-of .label-of .ensures) in
     raised (λ _ h. absurd (omega (arith, c .if2 .taken, same, h))) (λ j _. refl)
-
-mul-totals : tie.Need-mul-totals
-mul-totals c = search needs
-
-element-copy-out-totals : tie.Need-element-copy-out-totals
-element-copy-out-totals c = search needs
-
-add-totals : tie.Need-add-totals
-add-totals c = search needs
-
-mul-totals-2 : tie.Need-mul-totals-2
-mul-totals-2 c = search needs
-
-element-write-totals : tie.Need-element-write-totals
-element-write-totals c = search needs
 
 returns-3 : tie.Need-returns-3
 returns-3 c =
@@ -58,15 +31,9 @@ pub raise-total-spec : {M : Type 1} → statement M
 raise-total-spec =
     tie.close
     (tie.spec
-    label-of-requires
-    cast-label
+    (λ c κs. search needs) (λ c. search needs)
     returns
-    mul-if2
-    element-copy-out-if2
+    (λ c. search needs) (λ c. search needs)
     returns-2
-    mul-totals
-    element-copy-out-totals
-    add-totals
-    mul-totals-2
-    element-write-totals
+    (λ c. search needs) (λ c. search needs) (λ c. search needs) (λ c. search needs) (λ c. search needs)
     returns-3)

@@ -61,9 +61,6 @@ loop-holds c =
 turn-requires : tie.Need-turn-requires Inv-loop μ-loop
 turn-requires c κs = (c .loop-test .taken, c .before .before .before .before .before .before .before .before .pre .7)
 
-add-child : tie.Need-add-child Inv-loop μ-loop
-add-child c = omega arith
-
 child-requires : tie.Need-child-requires Inv-loop μ-loop
 child-requires c κs =
     let after-square = c .before .before .before .before .before in
@@ -110,23 +107,8 @@ square-number-requires c κs =
     let e = c .before .before .before .before .before .half .ensures .0 in
     (c .child .ensures .1, omega (arith, f .0), omega (arith, f .1))
 
-mul-next : tie.Need-mul-next Inv-loop μ-loop
-mul-next c = omega arith
-
-slice-write-next : tie.Need-slice-write-next Inv-loop μ-loop
-slice-write-next c = omega arith
-
-add-k : tie.Need-add-k Inv-loop μ-loop
-add-k c = omega arith
-
-add-next-one : tie.Need-add-next-one Inv-loop μ-loop
-add-next-one c = omega arith
-
 next-one-requires-2 : tie.Need-next-one-requires-2 Inv-loop μ-loop
 next-one-requires-2 c κs = (c .before .before .before .before .before .before .before .square .ensures .0, omega arith)
-
-loop-less : tie.Need-loop-less Inv-loop μ-loop
-loop-less c = omega arith
 
 loop-again : tie.Need-loop-again Inv-loop μ-loop
 loop-again c =
@@ -203,19 +185,16 @@ children-spec =
     next-one-requires
     loop-holds
     turn-requires
-    add-child
+    (λ c. omega arith)
     child-requires
     mul-square-number
     add-square-number
     mul-square-number-2
     add-square-number-2
     square-number-requires
-    mul-next
-    slice-write-next
-    add-k
-    add-next-one
+    (λ c. omega arith) (λ c. omega arith) (λ c. omega arith) (λ c. omega arith)
     next-one-requires-2
-    loop-less
+    (λ c. omega arith)
     loop-again
     same-length
     returns)

@@ -12,21 +12,6 @@ use Rattle.packing.proofs.SquareLaws.{root-fits, root-reads, root-squar
 use Rattle.packing.proofs.loading.load_by.Statement.{statement}
 use Rattle.packing.proofs.loading.load_by.Tie as tie
 
-slice-aggregate-count : tie.Need-slice-aggregate-count
-slice-aggregate-count c = search needs
-
-count-requires : tie.Need-count-requires
-count-requires c κs = search needs
-
-slice-aggregate-descend : tie.Need-slice-aggregate-descend
-slice-aggregate-descend c = search needs
-
-height-requires : tie.Need-height-requires
-height-requires c κs = search needs
-
-slice-aggregate-descend-2 : tie.Need-slice-aggregate-descend-2
-slice-aggregate-descend-2 c = search needs
-
 descend-requires : tie.Need-descend-requires
 descend-requires c κs =
     let h = c .before .before .height .ensures in
@@ -43,9 +28,6 @@ descend-requires c κs =
       root-fits (c .before .before .height .result) (pow-mono {j = 10} (h .2)),
     )
 
-same-length : tie.Need-same-length
-same-length c = search needs
-
 returns : tie.Need-returns
 returns c =
     let h = c .before .before .before .before .before .height in
@@ -60,11 +42,7 @@ pub load-by-spec : {M : Type 1} → statement M
 load-by-spec =
     tie.close
     (tie.spec
-    slice-aggregate-count
-    count-requires
-    slice-aggregate-descend
-    height-requires
-    slice-aggregate-descend-2
+    (λ c. search needs) (λ c κs. search needs) (λ c. search needs) (λ c κs. search needs) (λ c. search needs)
     descend-requires
-    same-length
+    (λ c. search needs)
     returns)

@@ -11,9 +11,6 @@ use Rattle.packing.proofs.making.all_zero.Tie as tie
 returns : tie.Need-returns
 returns c = λ e. false-absurd e
 
-sub-if2 : tie.Need-sub-if2
-sub-if2 c = search needs
-
 returns-2 : tie.Need-returns-2
 returns-2 c = λ e. false-absurd e
 
@@ -31,4 +28,4 @@ returns-3 c =
     )
 
 pub all-zero-spec : {M : Type 1} → statement M
-all-zero-spec = tie.close (tie.spec returns sub-if2 returns-2 together-requires returns-3)
+all-zero-spec = tie.close (tie.spec returns (λ c. search needs) returns-2 together-requires returns-3)

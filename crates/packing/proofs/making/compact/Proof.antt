@@ -20,9 +20,6 @@ abbrev μ-loop : tie.MeasureT-loop
 loop-holds : tie.Need-loop-holds Inv-loop μ-loop
 loop-holds c = (omega arith, omega arith, refl, compact-start (c .before .args .heap .now))
 
-all-zero-requires : tie.Need-all-zero-requires Inv-loop μ-loop
-all-zero-requires c κs = omega arith
-
 add-i : tie.Need-add-i Inv-loop μ-loop
 add-i c = let q = c .before .all-zero .ensures (c .if1 .taken) in omega arith
 
@@ -43,9 +40,6 @@ loop-again c =
 compact-word-requires : tie.Need-compact-word-requires Inv-loop μ-loop
 compact-word-requires c κs = (omega arith, omega arith)
 
-add-i-2 : tie.Need-add-i-2 Inv-loop μ-loop
-add-i-2 c = omega arith
-
 loop-less-2 : tie.Need-loop-less-2 Inv-loop μ-loop
 loop-less-2 c = omega (arith, c .before .before .before .before .before .before .before .before .loop .inv .2)
 
@@ -61,9 +55,6 @@ trim-requires c κs = omega (arith, c .before .before .loop .inv .2)
 
 add-result : tie.Need-add-result Inv-loop μ-loop
 add-result c = omega (arith, c .before .before .before .before .before .loop .inv .2)
-
-same-length : tie.Need-same-length Inv-loop μ-loop
-same-length c = search needs
 
 returns : tie.Need-returns Inv-loop μ-loop
 returns c =
@@ -83,15 +74,15 @@ compact-spec =
     Inv-loop
     μ-loop
     loop-holds
-    all-zero-requires
+    (λ c κs. omega arith)
     add-i
     loop-less
     loop-again
     compact-word-requires
-    add-i-2
+    (λ c. omega arith)
     loop-less-2
     loop-again-2
     trim-requires
     add-result
-    same-length
+    (λ c. search needs)
     returns)

@@ -31,12 +31,6 @@ fits c = lt-of-lt-of-le (c .before .loop .inv .2) (pow-mono {j = 64} (omega arit
 low : (c : tie.In-loop Inv-loop μ-loop) → trailingZeros 64 (c .before .loop .w) < 64
 low c = trailing-lt 64 (c .before .loop .w) (omega arith) (fits c)
 
-mul-w : tie.Need-mul-w Inv-loop μ-loop
-mul-w c = omega arith
-
-slice-read-w : tie.Need-slice-read-w Inv-loop μ-loop
-slice-read-w c = omega arith
-
 loop-holds : tie.Need-loop-holds Inv-loop μ-loop
 loop-holds c =
     let a = c .before .before .args in
@@ -62,9 +56,6 @@ cast-w c = omega (arith, low (c .before .before .before .before))
 shr-w : tie.Need-shr-w Inv-loop μ-loop
 shr-w c = omega (arith, low (c .before .before .before .before))
 
-add-r : tie.Need-add-r Inv-loop μ-loop
-add-r c = omega arith
-
 loop-less : tie.Need-loop-less Inv-loop μ-loop
 loop-less c = let w = c .before .before .before .before .before .loop .w in omega (arith, shr-le w (trailingZeros 64 w / 4 * 4))
 
@@ -85,9 +76,6 @@ loop-again c =
           left-more f (a .i) (l .r) (l .w) (l .heap) (fits in-loop) (omega arith) (l .inv .4 f s) _ (after-set-four .set-four .ensures),
     )
 
-same-length : tie.Need-same-length Inv-loop μ-loop
-same-length c = search needs
-
 returns : tie.Need-returns Inv-loop μ-loop
 returns c =
     let a = c .before .before .before .before .args in
@@ -100,8 +88,7 @@ compact-word-spec =
     (tie.spec
     Inv-loop
     μ-loop
-    mul-w
-    slice-read-w
+    (λ c. omega arith) (λ c. omega arith)
     loop-holds
     mul-k
     cast-set-four
@@ -109,8 +96,8 @@ compact-word-spec =
     set-four-requires
     cast-w
     shr-w
-    add-r
+    (λ c. omega arith)
     loop-less
     loop-again
-    same-length
+    (λ c. search needs)
     returns)

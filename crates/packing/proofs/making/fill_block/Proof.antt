@@ -17,12 +17,6 @@ few c = omega (arith, pow-mono {j = 7} (c .pre .0))
 small : (c : tie.Start) → 4 ^ (c .args .g) ≤ 1048576
 small c = four-most (c .args .g) (omega arith)
 
-mul-if1 : tie.Need-mul-if1
-mul-if1 c = omega arith
-
-shr-if1 : tie.Need-shr-if1
-shr-if1 c = omega arith
-
 returns : tie.Need-returns
 returns c =
     let start = c .before .before .before in
@@ -41,9 +35,6 @@ add-block c = omega (arith, few (c .before .before .before))
 block-requires : tie.Need-block-requires
 block-requires c κs = (omega (arith, few (c .before .before .before)), omega arith)
 
-morton-place-requires : tie.Need-morton-place-requires
-morton-place-requires c κs = omega arith
-
 mul-or-word : tie.Need-mul-or-word
 mul-or-word c = let z = c .before .morton-place .ensures .1 in omega (arith, small (c .before .before .before .before .before .before .before))
 
@@ -55,9 +46,6 @@ shuffle-requires c κs = tt
 
 or-word-requires : tie.Need-or-word-requires
 or-word-requires c κs = let z = c .before .before .morton-place .ensures .1 in omega arith
-
-same-length : tie.Need-same-length
-same-length c = search needs
 
 returns-2 : tie.Need-returns-2
 returns-2 c =
@@ -87,17 +75,16 @@ pub fill-block-spec : {M : Type 1} → statement M
 fill-block-spec =
     tie.close
     (tie.spec
-    mul-if1
-    shr-if1
+    (λ c. omega arith) (λ c. omega arith)
     returns
     mul-block
     add-block
     block-requires
-    morton-place-requires
+    (λ c κs. omega arith)
     mul-or-word
     add-or-word
     shuffle-requires
     or-word-requires
-    same-length
+    (λ c. search needs)
     returns-2
     returns-3)

@@ -20,30 +20,6 @@ abbrev μ-loop : tie.MeasureT-loop
 loop-holds : tie.Need-loop-holds Inv-loop μ-loop
 loop-holds c = (omega arith, omega arith, omega arith)
 
-sub-k : tie.Need-sub-k Inv-loop μ-loop
-sub-k c = omega arith
-
-mul-z : tie.Need-mul-z Inv-loop μ-loop
-mul-z c = omega arith
-
-shr-z : tie.Need-shr-z Inv-loop μ-loop
-shr-z c = omega arith
-
-mul-z-2 : tie.Need-mul-z-2 Inv-loop μ-loop
-mul-z-2 c = omega arith
-
-add-z : tie.Need-add-z Inv-loop μ-loop
-add-z c = omega arith
-
-shr-z-2 : tie.Need-shr-z-2 Inv-loop μ-loop
-shr-z-2 c = omega arith
-
-add-z-2 : tie.Need-add-z-2 Inv-loop μ-loop
-add-z-2 c = omega arith
-
-loop-less : tie.Need-loop-less Inv-loop μ-loop
-loop-less c = omega arith
-
 loop-again : tie.Need-loop-again Inv-loop μ-loop
 loop-again c =
     let l = c .before .loop in
@@ -68,13 +44,7 @@ morton-place-spec =
     Inv-loop
     μ-loop
     loop-holds
-    sub-k
-    mul-z
-    shr-z
-    mul-z-2
-    add-z
-    shr-z-2
-    add-z-2
-    loop-less
+    (λ c. omega arith) (λ c. omega arith) (λ c. omega arith) (λ c. omega arith) (λ c. omega arith) (λ c. omega arith) (λ c. omega arith)
+    (λ c. omega arith)
     loop-again
     returns)

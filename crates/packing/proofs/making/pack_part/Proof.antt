@@ -14,18 +14,6 @@ use Rattle.packing.proofs.PackLaws.{full-groups, block-set, part-cells,
 use Rattle.packing.proofs.making.pack_part.Statement.{statement}
 use Rattle.packing.proofs.making.pack_part.Tie as tie
 
-clear-requires : tie.Need-clear-requires
-clear-requires c κs = search needs
-
-block-levels-requires : tie.Need-block-levels-requires
-block-levels-requires c κs = search needs
-
-sub-full-size : tie.Need-sub-full-size
-sub-full-size c = search needs
-
-full-size-requires : tie.Need-full-size-requires
-full-size-requires c κs = search needs
-
 fill-requires : tie.Need-fill-requires
 fill-requires c κs =
     let after-clear = c .before .before .before .before .before in
@@ -57,9 +45,6 @@ compact-requires c κs =
     let l : length (after-fill .fill .last .1 .1 .1 .0) ≡ length (after-clear .clear .last .0) = after-fill .fill .kept .1 .1 .1 .0 in
     let m : length (after-lift .lift .last .0) ≡ length (after-fill .fill .last .1 .1 .1 .0) = after-lift .lift .kept .0 in
     omega (arith, start .pre .3, fullSize-most (start .args .h) (start .pre .2))
-
-same-length : tie.Need-same-length
-same-length c = search needs
 
 returns : tie.Need-returns
 returns c =
@@ -95,12 +80,9 @@ pub pack-part-spec : {M : Type 1} → statement M
 pack-part-spec =
     tie.close
     (tie.spec
-    clear-requires
-    block-levels-requires
-    sub-full-size
-    full-size-requires
+    (λ c κs. search needs) (λ c κs. search needs) (λ c. search needs) (λ c κs. search needs)
     fill-requires
     lift-requires
     compact-requires
-    same-length
+    (λ c. search needs)
     returns)

@@ -4,12 +4,9 @@ use Rattle.register.specs.Calls.{callOf}
 use Rattle.register.proofs.Register.add.Statement.{statement}
 use Rattle.register.proofs.Register.add.Tie as tie
 
-apply-requires : tie.Need-apply-requires
-apply-requires c κs = search needs
-
 returns : tie.Need-returns
 unfolding callOf
 returns c = c .apply .ensures
 
 pub add-spec : {M : Type 1} → statement M
-add-spec = tie.close (tie.spec apply-requires returns)
+add-spec = tie.close (tie.spec (λ c κs. search needs) returns)

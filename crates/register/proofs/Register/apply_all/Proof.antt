@@ -21,18 +21,6 @@ abbrev μ-loop : tie.MeasureT-loop
 loop-holds : tie.Need-loop-holds Inv-loop μ-loop
 loop-holds c = (omega arith, reached-none _)
 
-mul-apply-word : tie.Need-mul-apply-word Inv-loop μ-loop
-mul-apply-word c = omega arith
-
-shared-slice-read-apply-word : tie.Need-shared-slice-read-apply-word Inv-loop μ-loop
-shared-slice-read-apply-word c = omega arith
-
-apply-word-requires : tie.Need-apply-word-requires Inv-loop μ-loop
-apply-word-requires c κs = search needs
-
-number-of-requires : tie.Need-number-of-requires Inv-loop μ-loop
-number-of-requires c κs = search needs
-
 returns : tie.Need-returns Inv-loop μ-loop
 returns c =
     let in-loop = c .before .before .before .before in
@@ -74,10 +62,7 @@ apply-all-spec =
     Inv-loop
     μ-loop
     loop-holds
-    mul-apply-word
-    shared-slice-read-apply-word
-    apply-word-requires
-    number-of-requires
+    (λ c. omega arith) (λ c. omega arith) (λ c κs. search needs) (λ c κs. search needs)
     returns
     add-i
     loop-less

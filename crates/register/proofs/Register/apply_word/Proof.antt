@@ -6,18 +6,6 @@ use Rattle.register.specs.DraftLaws.{called, uncalled}
 use Rattle.register.proofs.Register.apply_word.Statement.{statement}
 use Rattle.register.proofs.Register.apply_word.Tie as tie
 
-entry-at-requires : tie.Need-entry-at-requires
-entry-at-requires c κs = search needs
-
-enum-known-entry : tie.Need-enum-known-entry
-enum-known-entry c = search needs
-
-apply-requires : tie.Need-apply-requires
-apply-requires c κs = search needs
-
-enum-told : tie.Need-enum-told
-enum-told c = search needs
-
 returns : tie.Need-returns
 returns c = called _ (entry-call (c .before .before .before .before .entry-at .ensures) (c .before .before .entry .given .1)) (c .apply .ensures)
 
@@ -28,4 +16,4 @@ returns-2 c = uncalled (entry-none (c .before .before .entry-at .ensures) (c .en
 pub apply-word-spec : {M : Type 1} → statement M
 apply-word-spec =
     tie.close
-    (tie.spec entry-at-requires enum-known-entry apply-requires enum-told returns returns-2)
+    (tie.spec (λ c κs. search needs) (λ c. search needs) (λ c κs. search needs) (λ c. search needs) returns returns-2)

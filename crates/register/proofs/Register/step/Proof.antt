@@ -13,21 +13,12 @@ use Rattle.register.proofs.ReplayLaws.{entry-closes, called, uncalled}
 use Rattle.register.proofs.Register.step.Statement.{statement}
 use Rattle.register.proofs.Register.step.Tie as tie
 
-room-for-requires : tie.Need-room-for-requires
-room-for-requires c κs = search needs
-
 slice-relend-prefix-close-up : tie.Need-slice-relend-prefix-close-up
 slice-relend-prefix-close-up c = c .room-for .ensures .within
 
 slice-aggregate-close-up : tie.Need-slice-aggregate-close-up
 slice-aggregate-close-up c =
     sym (length-take-le (c .before .room-for .result) (c .before .before .before .before .args .numbers .now) (c .before .room-for .ensures .within))
-
-close-up-requires : tie.Need-close-up-requires
-close-up-requires c κs = search needs
-
-same-length : tie.Need-same-length
-same-length c = search needs
 
 returns : tie.Need-returns
 unfolding wordCall
@@ -39,18 +30,6 @@ returns c =
     rw (eq-eqb _ _ (c .before .before .before .before .before .if1 .taken))
     (entry-closes (a .self) (a .word % 1099511627776) (m .result) (a .numbers .now) (o .last .1 .0) (o .result) (m .ensures)
     (k ∙ length-take-le (m .result) (a .numbers .now) (m .ensures .within)) (o .ensures))
-
-entry-at-requires : tie.Need-entry-at-requires
-entry-at-requires c κs = search needs
-
-enum-known-entry : tie.Need-enum-known-entry
-enum-known-entry c = search needs
-
-apply-requires : tie.Need-apply-requires
-apply-requires c κs = search needs
-
-enum-told : tie.Need-enum-told
-enum-told c = search needs
 
 returns-2 : tie.Need-returns-2
 unfolding wordCall
@@ -68,15 +47,11 @@ pub step-spec : {M : Type 1} → statement M
 step-spec =
     tie.close
     (tie.spec
-    room-for-requires
+    (λ c κs. search needs)
     slice-relend-prefix-close-up
     slice-aggregate-close-up
-    close-up-requires
-    same-length
+    (λ c κs. search needs) (λ c. search needs)
     returns
-    entry-at-requires
-    enum-known-entry
-    apply-requires
-    enum-told
+    (λ c κs. search needs) (λ c. search needs) (λ c κs. search needs) (λ c. search needs)
     returns-2
     returns-3)

@@ -4,12 +4,9 @@ use Rattle.register.specs.Calls.{callOf}
 use Rattle.register.proofs.Register.withdraw.Statement.{statement}
 use Rattle.register.proofs.Register.withdraw.Tie as tie
 
-apply-requires : tie.Need-apply-requires
-apply-requires c κs = search needs
-
 returns : tie.Need-returns
 unfolding callOf
 returns c = c .apply .ensures
 
 pub withdraw-spec : {M : Type 1} → statement M
-withdraw-spec = tie.close (tie.spec apply-requires returns)
+withdraw-spec = tie.close (tie.spec (λ c κs. search needs) returns)

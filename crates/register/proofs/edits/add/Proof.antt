@@ -20,12 +20,6 @@ use Rattle.register.proofs.StepLaws.{refuse, refused-as, kept-room, acc
 use Rattle.register.proofs.edits.add.Statement.{statement}
 use Rattle.register.proofs.edits.add.Tie as tie
 
-link-cause-requires : tie.Need-link-cause-requires
-link-cause-requires c κs = search needs
-
-refused-requires : tie.Need-refused-requires
-refused-requires c κs = search needs
-
 abbrev link : (c : tie.Start) → Link
 link c = record { from = c .args .link .from; label = c .args .link .label; to = c .args .link .to }
 
@@ -52,12 +46,6 @@ link-word-requires c κs =
     let h = start .pre .0 .ranged in
     (omega (arith, p .from, h .size), p .label, omega (arith, p .to, h .size))
 
-lower-bound-requires : tie.Need-lower-bound-requires
-lower-bound-requires c κs = search needs
-
-stands-requires : tie.Need-stands-requires
-stands-requires c κs = search needs
-
 -- the causes left, by what stands at the place of the link's word
 causes-left : (c : tie.After-stands)
     → let start = c .before .before .before .before .before .before .before .before .before .before in
@@ -71,18 +59,12 @@ causes-left c b h =
     add-cause (self start) (link start) (after-link-word .link-word .result) (after-lower-bound .lower-bound .result) (after-link-word .link-word .ensures)
     (free (after-link-word .before)) (c .stands .result) (c .stands .ensures) (after-lower-bound .lower-bound .ensures) few (h .sheet .links .ascending)
 
-refused-requires-2 : tie.Need-refused-requires-2
-refused-requires-2 c κs = search needs
-
 returns-2 : tie.Need-returns-2
 unfolding firstNumber number
 returns-2 c =
     let start = c .before .before .before .before .before .before .before .before .before .before .before .before in
     refused-as (c .refused2 .ensures) (refuse (self start) (start .pre .0 .ranged) (add (link start)) _ (already, refl)
     (λ b h. causes-left (c .before .before) b h ∙ rw (c .before .if2 .taken)))
-
-refused-requires-3 : tie.Need-refused-requires-3
-refused-requires-3 c κs = search needs
 
 returns-3 : tie.Need-returns-3
 unfolding firstNumber number
@@ -95,9 +77,6 @@ returns-3 c =
     omega (arith, length-take-le (s .count) (s .links) (omega (arith, p .ranged .count, p .links)), c .before .if3 .taken) in
     refused-as (c .refused3 .ensures) (refuse s (p .ranged) (add (link start)) _ (full, refl)
     (λ b h. causes-left after-stands b h ∙ rw (c .before .before .if2 .left, le-leb 4096 _ long)))
-
-put-in-requires : tie.Need-put-in-requires
-put-in-requires c κs = search needs
 
 hold-requires : tie.Need-hold-requires
 hold-requires c κs =
@@ -127,16 +106,13 @@ pub add-spec : {M : Type 1} → statement M
 add-spec =
     tie.close
     (tie.spec
-    link-cause-requires
-    refused-requires
+    (λ c κs. search needs) (λ c κs. search needs)
     returns
     link-word-requires
-    lower-bound-requires
-    stands-requires
-    refused-requires-2
+    (λ c κs. search needs) (λ c κs. search needs) (λ c κs. search needs)
     returns-2
-    refused-requires-3
+    (λ c κs. search needs)
     returns-3
-    put-in-requires
+    (λ c κs. search needs)
     hold-requires
     returns-4)

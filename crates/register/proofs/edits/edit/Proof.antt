@@ -9,12 +9,6 @@ use Rattle.register.proofs.StepLaws.{outside, refuse-foreign, refused-a
 use Rattle.register.proofs.edits.edit.Statement.{statement}
 use Rattle.register.proofs.edits.edit.Tie as tie
 
-ranged-requires : tie.Need-ranged-requires
-ranged-requires c κs = search needs
-
-refused-requires : tie.Need-refused-requires
-refused-requires c κs = search needs
-
 returns : tie.Need-returns
 returns c =
     let a = c .before .before .before .args in
@@ -26,48 +20,27 @@ whole c =
     let p = c .before .before .pre in
     record { ranged = c .before .ranged .ensures .sure (not-false _ (c .if1 .left)); links = p .0; marks = p .1; ring = p .2 }
 
-enum-known-call : tie.Need-enum-known-call
-enum-known-call c = search needs
-
 add-requires : tie.Need-add-requires
 add-requires c κs =
     let else1 = c .before .before .before .before .before .before .before .before in
     (whole else1, else1 .before .before .pre .3)
-
-enum-known-call-2 : tie.Need-enum-known-call-2
-enum-known-call-2 c = search needs
 
 remove-requires : tie.Need-remove-requires
 remove-requires c κs =
     let else1 = c .before .before .before .before .before .before .before .before in
     (whole else1, else1 .before .before .pre .3)
 
-enum-known-call-3 : tie.Need-enum-known-call-3
-enum-known-call-3 c = search needs
-
 remark-requires : tie.Need-remark-requires
 remark-requires c κs = (whole (c .before .before .before .before .before .before .before), omega arith)
-
-enum-known-call-4 : tie.Need-enum-known-call-4
-enum-known-call-4 c = search needs
 
 remark-requires-2 : tie.Need-remark-requires-2
 remark-requires-2 c κs = (whole (c .before .before .before .before .before .before .before), omega arith)
 
-enum-known-call-5 : tie.Need-enum-known-call-5
-enum-known-call-5 c = search needs
-
 remark-requires-3 : tie.Need-remark-requires-3
 remark-requires-3 c κs = (whole (c .before .before .before .before .before .before .before), omega arith)
 
-enum-known-call-6 : tie.Need-enum-known-call-6
-enum-known-call-6 c = search needs
-
 remark-requires-4 : tie.Need-remark-requires-4
 remark-requires-4 c κs = (whole (c .before .before .before .before .before .before .before), omega arith)
-
-enum-told : tie.Need-enum-told
-enum-told c = search needs
 
 undo-requires : tie.Need-undo-requires
 undo-requires c κs =
@@ -118,22 +91,21 @@ pub edit-spec : {M : Type 1} → statement M
 edit-spec =
     tie.close
     (tie.spec
-    ranged-requires
-    refused-requires
+    (λ c κs. search needs) (λ c κs. search needs)
     returns
-    enum-known-call
+    (λ c. search needs)
     add-requires
-    enum-known-call-2
+    (λ c. search needs)
     remove-requires
-    enum-known-call-3
+    (λ c. search needs)
     remark-requires
-    enum-known-call-4
+    (λ c. search needs)
     remark-requires-2
-    enum-known-call-5
+    (λ c. search needs)
     remark-requires-3
-    enum-known-call-6
+    (λ c. search needs)
     remark-requires-4
-    enum-told
+    (λ c. search needs)
     undo-requires
     returns-2
     returns-3

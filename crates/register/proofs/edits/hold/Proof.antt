@@ -9,18 +9,6 @@ use Rattle.register.proofs.RingLaws.{previous-next, hold-more, hold-ful
 use Rattle.register.proofs.edits.hold.Statement.{statement}
 use Rattle.register.proofs.edits.hold.Tie as tie
 
-add-next : tie.Need-add-next
-add-next c = search needs
-
-mul-ring : tie.Need-mul-ring
-mul-ring c = search needs
-
-element-write-ring : tie.Need-element-write-ring
-element-write-ring c = search needs
-
-add-held : tie.Need-add-held
-add-held c = search needs
-
 -- the next place is in the ring, and the one before it is where the word went
 stepped : (c : tie.Joined1) → (previous (c .if1 .next) ≡ c .before .args .counters .top) × (c .if1 .next < 256)
 stepped c =
@@ -58,4 +46,4 @@ returns-2 c =
     }
 
 pub hold-spec : {M : Type 1} → statement M
-hold-spec = tie.close (tie.spec add-next mul-ring element-write-ring add-held returns returns-2)
+hold-spec = tie.close (tie.spec (λ c. search needs) (λ c. search needs) (λ c. search needs) (λ c. search needs) returns returns-2)

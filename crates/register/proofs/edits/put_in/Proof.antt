@@ -11,15 +11,6 @@ use Rattle.links.specs.TotalLaws.{raised-counted}
 use Rattle.register.proofs.edits.put_in.Statement.{statement}
 use Rattle.register.proofs.edits.put_in.Tie as tie
 
-put-requires : tie.Need-put-requires
-put-requires c κs = search needs
-
-raise-total-requires : tie.Need-raise-total-requires
-raise-total-requires c κs = search needs
-
-add-t10 : tie.Need-add-t10
-add-t10 c = search needs
-
 returns : tie.Need-returns
 returns c =
     let after-put = c .before .before in
@@ -38,4 +29,4 @@ returns c =
     }
 
 pub put-in-spec : {M : Type 1} → statement M
-put-in-spec = tie.close (tie.spec put-requires raise-total-requires add-t10 returns)
+put-in-spec = tie.close (tie.spec (λ c κs. search needs) (λ c κs. search needs) (λ c. search needs) returns)

@@ -31,24 +31,12 @@ row : (c : tie.Start) (e : Edit) (ts : List ℕ) → Remarks e (c .args .x) (c .
     ≡ remarkNumber (c .args .counters .n) (packedOf (self c ts)) (c .args .x) (c .args .marking)
 row c e ts t b h = remark-cause t (c .args .counters .n) (packedOf (self c ts)) _ refl (represents-marked h (c .args .x))
 
-refused-requires : tie.Need-refused-requires
-refused-requires c κs = search needs
-
 returns : tie.Need-returns
 unfolding remarkNumber number
 returns c =
     let start = c .before .before .before .before in
     λ e ts t. refused-as (c .refused .ensures) (refuse (self start ts) (start .pre .0 .ranged) e _ (no-record, refl)
     (λ b h. row start e ts t b h ∙ rw (le-leb _ _ (c .before .if1 .taken))))
-
-mul-mark : tie.Need-mul-mark
-mul-mark c = search needs
-
-element-copy-out-mark : tie.Need-element-copy-out-mark
-element-copy-out-mark c = search needs
-
-refused-requires-2 : tie.Need-refused-requires-2
-refused-requires-2 c κs = search needs
 
 returns-2 : tie.Need-returns-2
 unfolding remarkNumber number
@@ -58,9 +46,6 @@ returns-2 c =
     λ e ts t. refused-as (c .refused2 .ensures) (refuse (self start ts) (start .pre .0 .ranged) e _ (remark-caused t .0)
     (λ b h. row start e ts t b h ∙ rw (lt-leb _ _ (else1 .if1 .left), eq-eqb _ _ (c .before .if2 .taken))))
 
-refused-requires-3 : tie.Need-refused-requires-3
-refused-requires-3 c κs = search needs
-
 returns-3 : tie.Need-returns-3
 unfolding remarkNumber number
 returns-3 c =
@@ -69,12 +54,6 @@ returns-3 c =
     let start = else1 .before .before .before in
     λ e ts t. refused-as (c .refused3 .ensures) (refuse (self start ts) (start .pre .0 .ranged) e _ (remark-caused t .1)
     (λ b h. row start e ts t b h ∙ rw (lt-leb _ _ (else1 .if1 .left), ne-eqb _ _ (else2 .if2 .left), ne-eqb _ _ (c .before .if3 .taken))))
-
-touched-requires : tie.Need-touched-requires
-touched-requires c κs = search needs
-
-refused-requires-4 : tie.Need-refused-requires-4
-refused-requires-4 c κs = search needs
 
 returns-4 : tie.Need-returns-4
 unfolding remarkNumber number
@@ -99,12 +78,6 @@ untouched : (c : tie.Joined4)
     _≡_ {A = ℕ} (pick (eqb (a .marking .to) withdrawnMark) (pick (touched (a .x) (map linkOf (take (a .counters .count) (a .links .now)))) 17 0) 0) 0
 untouched c =
     ⊎-elim (λ w. rw (eq-eqb _ _ (w .0 .taken), sym (w .1 .ensures), w .2 .left)) (λ w. rw (ne-eqb _ _ (w .left))) (c .if4 .came)
-
-set-mark-requires : tie.Need-set-mark-requires
-set-mark-requires c κs = search needs
-
-add-hold : tie.Need-add-hold
-add-hold c = search needs
 
 hold-requires : tie.Need-hold-requires
 hold-requires c κs =
@@ -137,18 +110,14 @@ pub remark-spec : {M : Type 1} → statement M
 remark-spec =
     tie.close
     (tie.spec
-    refused-requires
+    (λ c κs. search needs)
     returns
-    mul-mark
-    element-copy-out-mark
-    refused-requires-2
+    (λ c. search needs) (λ c. search needs) (λ c κs. search needs)
     returns-2
-    refused-requires-3
+    (λ c κs. search needs)
     returns-3
-    touched-requires
-    refused-requires-4
+    (λ c κs. search needs) (λ c κs. search needs)
     returns-4
-    set-mark-requires
-    add-hold
+    (λ c κs. search needs) (λ c. search needs)
     hold-requires
     returns-5)

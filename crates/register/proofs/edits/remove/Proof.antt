@@ -19,12 +19,6 @@ use Rattle.register.proofs.StepLaws.{refuse, refused-as, kept-room, acc
 use Rattle.register.proofs.edits.remove.Statement.{statement}
 use Rattle.register.proofs.edits.remove.Tie as tie
 
-link-cause-requires : tie.Need-link-cause-requires
-link-cause-requires c κs = search needs
-
-refused-requires : tie.Need-refused-requires
-refused-requires c κs = search needs
-
 abbrev link : (c : tie.Start) → Link
 link c = record { from = c .args .link .from; label = c .args .link .label; to = c .args .link .to }
 
@@ -51,12 +45,6 @@ link-word-requires c κs =
     let h = start .pre .0 .ranged in
     (omega (arith, p .from, h .size), p .label, omega (arith, p .to, h .size))
 
-lower-bound-requires : tie.Need-lower-bound-requires
-lower-bound-requires c κs = search needs
-
-stands-requires : tie.Need-stands-requires
-stands-requires c κs = search needs
-
 -- the causes left, by what stands at the place of the link's word
 causes-left : (c : tie.After-stands)
     → let start = c .before .before .before .before .before .before .before .before .before .before in
@@ -69,9 +57,6 @@ causes-left c b h =
     let few : start .args .counters .count ≤ length (start .args .links .now) = omega (arith, start .pre .0 .ranged .count, start .pre .0 .links) in
     remove-cause (self start) (link start) (after-link-word .link-word .result) (after-lower-bound .lower-bound .result) (after-link-word .link-word .ensures)
     (free (after-link-word .before)) (c .stands .result) (c .stands .ensures) (after-lower-bound .lower-bound .ensures) few (h .sheet .links .ascending)
-
-refused-requires-2 : tie.Need-refused-requires-2
-refused-requires-2 c κs = search needs
 
 returns-2 : tie.Need-returns-2
 unfolding firstNumber number
@@ -124,13 +109,10 @@ pub remove-spec : {M : Type 1} → statement M
 remove-spec =
     tie.close
     (tie.spec
-    link-cause-requires
-    refused-requires
+    (λ c κs. search needs) (λ c κs. search needs)
     returns
     link-word-requires
-    lower-bound-requires
-    stands-requires
-    refused-requires-2
+    (λ c κs. search needs) (λ c κs. search needs) (λ c κs. search needs)
     returns-2
     take-out-requires
     add-hold

@@ -9,12 +9,6 @@ use lib.Seq.{set-out}
 use Rattle.register.proofs.edits.set_mark.Statement.{statement}
 use Rattle.register.proofs.edits.set_mark.Tie as tie
 
-mul-marks : tie.Need-mul-marks
-mul-marks c = search needs
-
-element-write-marks : tie.Need-element-write-marks
-element-write-marks c = search needs
-
 returns : tie.Need-returns
 returns c =
     λ links ring totals.
@@ -31,4 +25,4 @@ returns-2 c =
     }
 
 pub set-mark-spec : {M : Type 1} → statement M
-set-mark-spec = tie.close (tie.spec mul-marks element-write-marks returns returns-2)
+set-mark-spec = tie.close (tie.spec (λ c. search needs) (λ c. search needs) returns returns-2)

@@ -19,9 +19,6 @@ below-count c = stands-below (c .args .links .now) (c .args .counters .count) (c
 cut-requires : tie.Need-cut-requires
 cut-requires c κs = (below-count (c .before), c .before .pre .0, c .before .pre .1)
 
-lower-total-requires : tie.Need-lower-total-requires
-lower-total-requires c κs = search needs
-
 sub-t10 : tie.Need-sub-t10
 sub-t10 c = omega (arith, below-count (c .before .before .before .before))
 
@@ -46,4 +43,4 @@ returns c =
     }
 
 pub take-out-spec : {M : Type 1} → statement M
-take-out-spec = tie.close (tie.spec cut-requires lower-total-requires sub-t10 returns)
+take-out-spec = tie.close (tie.spec cut-requires (λ c κs. search needs) sub-t10 returns)

@@ -14,12 +14,6 @@ use Rattle.register.proofs.StepLaws.{back-rest, back-marks}
 use Rattle.register.proofs.edits.taken_back.Statement.{statement}
 use Rattle.register.proofs.edits.taken_back.Tie as tie
 
-lower-bound-requires : tie.Need-lower-bound-requires
-lower-bound-requires c κs = search needs
-
-stands-requires : tie.Need-stands-requires
-stands-requires c κs = search needs
-
 -- it is not there
 returns : tie.Need-returns
 unfolding takeBackKind
@@ -57,24 +51,6 @@ returns-2 c =
       sheet = rw (c .before .match .keys2) (λ _ f. absurd (omega (arith, length-insert (s .x) (take n ls), h, f, c .if2 .taken)));
       counted = λ _ t. t;
     }
-
-lower-bound-requires-2 : tie.Need-lower-bound-requires-2
-lower-bound-requires-2 c κs = search needs
-
-put-in-requires : tie.Need-put-in-requires
-put-in-requires c κs = search needs
-
-set-mark-requires : tie.Need-set-mark-requires
-set-mark-requires c κs = search needs
-
-set-mark-requires-2 : tie.Need-set-mark-requires-2
-set-mark-requires-2 c κs = search needs
-
-set-mark-requires-3 : tie.Need-set-mark-requires-3
-set-mark-requires-3 c κs = search needs
-
-set-mark-requires-4 : tie.Need-set-mark-requires-4
-set-mark-requires-4 c κs = search needs
 
 returns-3 : tie.Need-returns-3
 unfolding takeBackKind
@@ -128,17 +104,11 @@ pub taken-back-spec : {M : Type 1} → statement M
 taken-back-spec =
     tie.close
     (tie.spec
-    lower-bound-requires
-    stands-requires
+    (λ c κs. search needs) (λ c κs. search needs)
     returns
     take-out-requires
     returns-2
-    lower-bound-requires-2
-    put-in-requires
-    set-mark-requires
-    set-mark-requires-2
-    set-mark-requires-3
-    set-mark-requires-4
+    (λ c κs. search needs) (λ c κs. search needs) (λ c κs. search needs) (λ c κs. search needs) (λ c κs. search needs) (λ c κs. search needs)
     returns-3
     returns-4
     returns-5

@@ -16,17 +16,11 @@ use Rattle.register.proofs.edits.undo.Tie as tie
 abbrev self : (c : tie.Start) → Register
 self c = registerOf (c .args .counters) (c .args .links .now) (c .args .marks .now) (c .args .ring .now) (c .args .totals .now)
 
-refused-requires : tie.Need-refused-requires
-refused-requires c κs = search needs
-
 returns : tie.Need-returns
 returns c =
     let start = c .before .before .before in
     let s = self start in
     refused-as (c .refused .ensures) (refuse-undo s (start .pre .0 .ranged) (latest-none (s .ring) (s .top) (s .held) (c .before .if1 .taken)))
-
-sub-at : tie.Need-sub-at
-sub-at c = search needs
 
 -- the place of the latest word
 latest-place : (c : tie.Joined2) → (c .if2 .at ≡ previous (c .before .before .before .args .counters .top)) × (c .if2 .at < 256)
@@ -43,12 +37,6 @@ mul-word c = omega (arith, latest-place (c .before) .1)
 
 shared-slice-read-word : tie.Need-shared-slice-read-word
 shared-slice-read-word c = omega (arith, latest-place (c .before .before) .1, c .before .before .before .before .before .pre .0 .ring)
-
-sub-t12 : tie.Need-sub-t12
-sub-t12 c = search needs
-
-taken-back-requires : tie.Need-taken-back-requires
-taken-back-requires c κs = search needs
 
 returns-2 : tie.Need-returns-2
 returns-2 c =
@@ -71,11 +59,10 @@ pub undo-spec : {M : Type 1} → statement M
 undo-spec =
     tie.close
     (tie.spec
-    refused-requires
+    (λ c κs. search needs)
     returns
-    sub-at
+    (λ c. search needs)
     mul-word
     shared-slice-read-word
-    sub-t12
-    taken-back-requires
+    (λ c. search needs) (λ c κs. search needs)
     returns-2)

@@ -45,21 +45,6 @@ abbrev μ-loop : tie.MeasureT-loop
 μ-loop arcs predecessors enter accepting work₀ n start end index seen₀ next₀ list₀ records₀ masks₀ count₀ level₀ work seen next list records masks count level =
     n * 64 - onesBelow (bitAt seen) (n * 64)
 
-index-by-reached-requires : tie.Need-index-by-reached-requires Inv-loop2 μ-loop2 Inv-loop μ-loop
-index-by-reached-requires c κs = search needs
-
-stamp-requires : tie.Need-stamp-requires Inv-loop2 μ-loop2 Inv-loop μ-loop
-stamp-requires c κs = omega arith
-
-mul-seen : tie.Need-mul-seen Inv-loop2 μ-loop2 Inv-loop μ-loop
-mul-seen c = omega arith
-
-array-write-seen : tie.Need-array-write-seen Inv-loop2 μ-loop2 Inv-loop μ-loop
-array-write-seen c = omega arith
-
-cast-records : tie.Need-cast-records Inv-loop2 μ-loop2 Inv-loop μ-loop
-cast-records c = omega arith
-
 loop-holds : tie.Need-loop-holds Inv-loop2 μ-loop2 Inv-loop μ-loop
 loop-holds c =
     let s = c .before .before .before .before .before .before .before .before .before .args in
@@ -80,12 +65,6 @@ loop-holds c =
           (mask-here 1024 (s .ends .to) (s .accepting) (omega arith)) (mask-off 1024 (s .ends .to) (s .accepting)),
     )
 
-mul-loop : tie.Need-mul-loop Inv-loop2 μ-loop2 Inv-loop μ-loop
-mul-loop c = omega arith
-
-array-read-loop : tie.Need-array-read-loop Inv-loop2 μ-loop2 Inv-loop μ-loop
-array-read-loop c = omega arith
-
 loop2-holds : tie.Need-loop2-holds Inv-loop2 μ-loop2 Inv-loop μ-loop
 loop2-holds c = let i = c .before .loop .inv in (omega arith, i .2, i .3, listed-none _ _ _ (i .8), λ cur F. levelling-none _ _ _ _ _ _ _ _ _ (i .8))
 
@@ -93,23 +72,8 @@ loop2-holds c = let i = c .before .loop .inv in (omega arith, i .2, i .3, listed
 inside : (c : tie.In-loop2 Inv-loop2 μ-loop2 Inv-loop μ-loop) → getD (c .before .before .before .loop .records) (c .before .loop2 .i) 0 < 1024
 inside c = c .before .before .before .loop .inv .10 .small (c .before .loop2 .i) (omega arith)
 
-mul-at : tie.Need-mul-at Inv-loop2 μ-loop2 Inv-loop μ-loop
-mul-at c = omega arith
-
-array-read-at : tie.Need-array-read-at Inv-loop2 μ-loop2 Inv-loop μ-loop
-array-read-at c = omega arith
-
 cast-at : tie.Need-cast-at Inv-loop2 μ-loop2 Inv-loop μ-loop
 cast-at c = omega (arith, inside (c))
-
-mul-states : tie.Need-mul-states Inv-loop2 μ-loop2 Inv-loop μ-loop
-mul-states c = omega arith
-
-array-read-states : tie.Need-array-read-states Inv-loop2 μ-loop2 Inv-loop μ-loop
-array-read-states c = omega arith
-
-slice-aggregate-into : tie.Need-slice-aggregate-into Inv-loop2 μ-loop2 Inv-loop μ-loop
-slice-aggregate-into c = search needs
 
 slice-aggregate-into-2 : tie.Need-slice-aggregate-into-2 Inv-loop2 μ-loop2 Inv-loop μ-loop
 slice-aggregate-into-2 c = sym (c .before .before .before .before .before .loop .inv .1)
@@ -131,12 +95,6 @@ into-requires c κs =
     let X = after-index-by-reached .index-by-reached in
     let long : length (X .result) ≡ 9216 = search needs in
     (p .0, long, p .2, p .3, inside in-loop2, at-loop .loop .inv .1, p .1, l .1, l .2, X .ensures, l .3)
-
-add-i : tie.Need-add-i Inv-loop2 μ-loop2 Inv-loop μ-loop
-add-i c = omega arith
-
-loop2-less : tie.Need-loop2-less Inv-loop2 μ-loop2 Inv-loop μ-loop
-loop2-less c = omega arith
 
 loop2-again : tie.Need-loop2-again Inv-loop2 μ-loop2 Inv-loop μ-loop
 loop2-again c =
@@ -191,12 +149,6 @@ slice-aggregate-commit c = sym (c .before .before .before .before .before .befor
 
 slice-aggregate-commit-2 : tie.Need-slice-aggregate-commit-2 Inv-loop2 μ-loop2 Inv-loop μ-loop
 slice-aggregate-commit-2 c = sym (c .before .before .before .before .before .loop2 .inv .1)
-
-sub-commit : tie.Need-sub-commit Inv-loop2 μ-loop2 Inv-loop μ-loop
-sub-commit c = omega arith
-
-part-commit-start : tie.Need-part-commit-start Inv-loop2 μ-loop2 Inv-loop μ-loop
-part-commit-start c = omega arith
 
 part-commit-end : tie.Need-part-commit-end Inv-loop2 μ-loop2 Inv-loop μ-loop
 part-commit-end c =
@@ -284,12 +236,6 @@ loop-again c =
           (level-next S (l .inv .11 g M fs S) (made after-loop2 (l .inv .9) (l .inv .10)) (rw two at (done .ensures .2 _ (listed-part after-loop2)))),
     )
 
-mul-t27 : tie.Need-mul-t27 Inv-loop2 μ-loop2 Inv-loop μ-loop
-mul-t27 c = omega arith
-
-mul-t70 : tie.Need-mul-t70 Inv-loop2 μ-loop2 Inv-loop μ-loop
-mul-t70 c = omega arith
-
 slice-read-t72 : tie.Need-slice-read-t72 Inv-loop2 μ-loop2 Inv-loop μ-loop
 slice-read-t72 c =
     let after-stamp = c .before .before .before .before .before in
@@ -319,34 +265,24 @@ backward-spec =
     μ-loop2
     Inv-loop
     μ-loop
-    index-by-reached-requires
-    stamp-requires
-    mul-seen
-    array-write-seen
-    cast-records
+    (λ c κs. search needs) (λ c κs. omega arith) (λ c. omega arith) (λ c. omega arith) (λ c. omega arith)
     loop-holds
-    mul-loop
-    array-read-loop
+    (λ c. omega arith) (λ c. omega arith)
     loop2-holds
-    mul-at
-    array-read-at
+    (λ c. omega arith) (λ c. omega arith)
     cast-at
-    mul-states
-    array-read-states
-    slice-aggregate-into
+    (λ c. omega arith) (λ c. omega arith) (λ c. search needs)
     slice-aggregate-into-2
     slice-aggregate-into-3
     slice-aggregate-into-4
     into-requires
-    add-i
-    loop2-less
+    (λ c. omega arith) (λ c. omega arith)
     loop2-again
     same-length
     returns
     slice-aggregate-commit
     slice-aggregate-commit-2
-    sub-commit
-    part-commit-start
+    (λ c. omega arith) (λ c. omega arith)
     part-commit-end
     add-commit
     slice-aggregate-commit-3
@@ -355,8 +291,7 @@ backward-spec =
     add-level
     loop-less
     loop-again
-    mul-t27
-    mul-t70
+    (λ c. omega arith) (λ c. omega arith)
     slice-read-t72
     same-length-2
     returns-2)

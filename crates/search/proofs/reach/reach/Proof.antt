@@ -33,21 +33,6 @@ inside c = c .before .loop .inv .3 .small (c .before .loop .count - 1) (omega ar
 within : (c : tie.In-loop Inv-loop μ-loop) → getD (c .before .loop .list) (c .before .loop .count - 1) 0 < length (c .before .loop .pending)
 within c = omega (arith, inside c, c .before .loop .inv .1)
 
-index-by-left-requires : tie.Need-index-by-left-requires Inv-loop μ-loop
-index-by-left-requires c κs = search needs
-
-mul-seen : tie.Need-mul-seen Inv-loop μ-loop
-mul-seen c = omega arith
-
-array-write-seen : tie.Need-array-write-seen Inv-loop μ-loop
-array-write-seen c = omega arith
-
-slice-aggregate-add-states : tie.Need-slice-aggregate-add-states Inv-loop μ-loop
-slice-aggregate-add-states c = search needs
-
-slice-aggregate-add-states-2 : tie.Need-slice-aggregate-add-states-2 Inv-loop μ-loop
-slice-aggregate-add-states-2 c = search needs
-
 add-states-requires : tie.Need-add-states-requires Inv-loop μ-loop
 add-states-requires c κs =
     let p = c .before .before .before .before .before .before .pre in
@@ -65,9 +50,6 @@ loop-holds c =
       expanding-start (start .pre .4) (zeros-at 1024) (mask-here 1024 (s .from) 1 (omega arith)) (mask-off 1024 (s .from) 1) (A .ensures .1),
     )
 
-sub-last : tie.Need-sub-last Inv-loop μ-loop
-sub-last c = omega arith
-
 mul-at : tie.Need-mul-at Inv-loop μ-loop
 mul-at c = let h = listed-fits (c .before .loop .inv .3) in omega arith
 
@@ -83,17 +65,11 @@ mul-spread c = omega (arith, inside (c))
 array-read-spread : tie.Need-array-read-spread Inv-loop μ-loop
 array-read-spread c = omega (arith, inside (c), c .before .loop .inv .1)
 
-spread-requires : tie.Need-spread-requires Inv-loop μ-loop
-spread-requires c κs = search needs
-
 mul-pending : tie.Need-mul-pending Inv-loop μ-loop
 mul-pending c = omega (arith, inside (c .before))
 
 array-write-pending : tie.Need-array-write-pending Inv-loop μ-loop
 array-write-pending c = omega (arith, inside (c .before), c .before .before .loop .inv .1)
-
-slice-aggregate-out-of : tie.Need-slice-aggregate-out-of Inv-loop μ-loop
-slice-aggregate-out-of c = search needs
 
 slice-aggregate-out-of-2 : tie.Need-slice-aggregate-out-of-2 Inv-loop μ-loop
 slice-aggregate-out-of-2 c = sym (c .before .before .before .before .loop .inv .0)
@@ -160,23 +136,19 @@ reach-spec =
     (tie.spec
     Inv-loop
     μ-loop
-    index-by-left-requires
-    mul-seen
-    array-write-seen
-    slice-aggregate-add-states
-    slice-aggregate-add-states-2
+    (λ c κs. search needs) (λ c. omega arith) (λ c. omega arith) (λ c. search needs) (λ c. search needs)
     add-states-requires
     loop-holds
-    sub-last
+    (λ c. omega arith)
     mul-at
     array-read-at
     cast-at
     mul-spread
     array-read-spread
-    spread-requires
+    (λ c κs. search needs)
     mul-pending
     array-write-pending
-    slice-aggregate-out-of
+    (λ c. search needs)
     slice-aggregate-out-of-2
     slice-aggregate-out-of-3
     slice-aggregate-out-of-4
