@@ -230,7 +230,7 @@ fn lay_out(text: &[u8], cells: &[u64], masks: &[u16], n: usize, out: &mut [u8]) 
 pub fn print(register: Register, text: &[u8], work: &mut [u64], pages: &mut [u8]) -> Counted
     ensures { λ a. ⌜ Prints register (now (text .entry)) (length (now (work .entry))) (now (pages .entry)) (now (pages .exit)) a ⌝ }
 {
-    let related = engine::relate(register, text, work);
+    let related = rowpairs::relate(register, text, work);
     let answer = related.answer;
     let masks = related.masks;
     match answer {

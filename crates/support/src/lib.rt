@@ -1,5 +1,6 @@
-// Sole support: which records would lose every chain to the anchors if one core did. A product above the engine: it calls the
-// engine alone, whose question it asks of the register and of what is left of it without the core's links, and its proofs rest on what is promised there.
+// Sole support: which records would lose every chain to the anchors if one core did. A product above the engine: it
+// calls the engine, and the relation behind its questions, which it asks of the register and of what is left of it without the core's links; its proofs rest
+// on what is promised there.
 ghost use mathlib.Core.Path.{_≡_};
 ghost use mathlib.Core.Bool.{true, false, not, _&&_};
 ghost use Prim.Native.Nat.{ℕ, _<_, _≤_, min};
@@ -68,7 +69,7 @@ fn joined_to_some(cells: &[u64], masks: &[u16], m: usize, record: usize, anchors
 {
     let mut i = 0;
     while i < anchors.len() {
-        if engine::joins(cells, masks, m, record, anchors[i] as usize) {
+        if rowpairs::joins(cells, masks, m, record, anchors[i] as usize) {
             return true;
         }
         i += 1;
@@ -108,7 +109,7 @@ fn mark_records(
     requires { ⌜ n ≤ maxRecords ⌝ }
     ensures { λ r. ⌜ Marked register (verdict (now (text .entry))) (now (anchors .entry)) (length (now (work .entry))) n r ⌝ }
 {
-    let related = engine::relate(register, text, work);
+    let related = rowpairs::relate(register, text, work);
     let answer = related.answer;
     let masks = related.masks;
     match answer {
