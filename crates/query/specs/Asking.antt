@@ -17,11 +17,6 @@
 --                   asked of the register r: over any contents as above, the words past the rows being as they were; for every book that it represents, so
 --   Relates r text work before after a
 --                   the same of a text
---   LeftBy b v work left a
---                   asked of the book b with a text of the verdict v and so many words of work: the answer a is the first cause against the pair question by
---                   trees, or the number of records n, and then `left n` is the relation
---   Leaves r v work left a
---                   asked of the register r: over any contents a refusal has the number of a cause; for every book that it represents, so
 -- Assumes nothing: these are definitions.
 use mathlib.Core.Path.{_≡_}
 use mathlib.Core.List.{List, [], _∷_, _++_}
@@ -29,19 +24,18 @@ use mathlib.Core.Bool.{Bool, _||_}
 use Prim.Native.Nat.{ℕ, _*_}
 use lib.Dec.{ltb}
 use lib.ListN.{length, take}
-use Rattle.book.specs.Causes.{Cause, short-work, Caused, firstNumber, maxRecords}
+use Rattle.book.specs.Causes.{Cause, short-work, firstNumber, maxRecords}
 use Rattle.book.specs.Book.{Book}
-use Rattle.answers.specs.Answers.{counted, answered, Contained}
+use Rattle.answers.specs.Answers.{counted, Contained}
 use Rattle.answers.specs.declared.Counted.{Counted}
-use Rattle.answers.specs.declared.Counted.the-variants.{Count, Refused}
+use Rattle.answers.specs.declared.Counted.the-variants.{Count}
 use Rattle.k2.specs.Bits.{bitAt}
-use Rattle.k2.specs.PairSets.{Cells}
 use Rattle.paths.specs.Expressions.{Expr}
 use Rattle.paths.specs.Grammar.{Verdict, accepted, verdictCause}
 use Rattle.paths.specs.Verdicts.{verdict}
 use Rattle.paths.specs.Chains.{asked}
 use Rattle.paths.specs.Relations.{cells}
-use Rattle.paths.specs.Questions.{Outcome, Engine, by-trees, by-rows, paired, unless, pairsWork, pairsOf, pairsCauses, pairsAnswer, countOf, Tells}
+use Rattle.paths.specs.Questions.{Outcome, Engine, by-trees, by-rows, paired, unless, pairsWork, pairsOf, pairsAnswer, countOf, Tells}
 use Rattle.rows.specs.Rows.{flat}
 use Rattle.register.specs.Representation.{Represents}
 use Rattle.register.specs.declared.Register.{Register}
@@ -83,12 +77,3 @@ pub record RelatesFor (r : Register) (v : Verdict) (work : ℕ) (before after : 
 
 abbrev pub Relates : Register → List ℕ → ℕ → List ℕ → List ℕ → Counted → Type 0
 Relates r text work before after a = RelatesFor r (verdict text) work before after a
-
--- ---- the relation left where it was made
-pub record LeftBy (b : Book) (v : Verdict) (work : ℕ) (left : ℕ → Cells) (a : Counted) : Type 0 where
-  pub answer : a ≡ answered (firstNumber (pairsCauses by-trees b v work)) (b .n)
-  pub value : (e : Expr) → v ≡ accepted e → (n : ℕ) → a ≡ Count n → left n ≡ cells (asked b) e
-
-pub record Leaves (r : Register) (v : Verdict) (work : ℕ) (left : ℕ → Cells) (a : Counted) : Type 0 where
-  pub caused : (k : ℕ) → a ≡ Refused k → Caused k
-  pub book : (b : Book) → Represents r b → LeftBy b v work left a

@@ -50,7 +50,8 @@ use Rattle.reader.specs.declared.Answer.the-variants.{Refused as Faulty}
 use Rattle.register.specs.Representation.{Represents}
 use Rattle.register.specs.declared.Register.{Register}
 use Rattle.rows.specs.Rows.{flat}
-use Rattle.query.specs.Asking.{Asks, AsksFor, maxPairs, rowWords, relationCauses, relationAnswer, RelatesFor, Leaves}
+use Rattle.query.specs.Asking.{Asks, AsksFor, maxPairs, rowWords, relationCauses, relationAnswer, RelatesFor}
+use Rattle.query.specs.Leaving.{Leaves}
 
 -- ---- any question that counts
 module _ (most : ℕ) (r : Register) (o : Book → Outcome) (before : List ℕ) where

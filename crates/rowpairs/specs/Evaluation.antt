@@ -54,7 +54,8 @@ use Rattle.reader.specs.Running.{operands}
 use Rattle.rows.specs.Rows.{flat}
 use Rattle.bits.specs.BitSets.{Gap}
 use Rattle.grid.specs.Grid.{first, second}
-use Rattle.query.specs.Asking.{maxPairs, Leaves}
+use Rattle.query.specs.Asking.{maxPairs}
+use Rattle.query.specs.Leaving.{Leaves}
 use Rattle.query.specs.Evaluation.{relations, most-waiting, Coded, Height, usedBelow, Lettered}
 use Rattle.register.specs.Representation.{Represents}
 use Rattle.register.specs.declared.Register.{Register}
