@@ -72,7 +72,7 @@ fn first_joined(rows: &[u64], n: usize) -> usize
 {
     let mut x = 0;
     while x < n {
-        if bits::bit(rows, x * 1024 + x) == 1 {
+        if bits::bit(rows, x * book::MAX_RECORDS + x) == 1 {
             return x;
         }
         x += 1;

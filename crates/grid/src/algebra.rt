@@ -5,6 +5,7 @@ use crate::row::put;
 ghost use mathlib.Core.Path.{_≡_};
 ghost use Prim.Native.Nat.{ℕ, _+_, _*_, _≤_, _<_};
 ghost use lib.ListN.{length, getD};
+ghost use Rattle.book.specs.Causes.{maxRecords};
 ghost use Rattle.k2.specs.PairSets.{union, transpose, product, most};
 ghost use Rattle.grid.specs.Grid.{Space, firstRows, secondRows, first, second};
 ghost use Rattle.grid.specs.Steps.{linked, onlyRow, Merged, Replaced, Turned};
@@ -78,7 +79,7 @@ pub fn compose(cells: &mut [u64], masks: &mut [u16], n: usize, w: usize)
 
 // The second relation made empty.
 fn start_second(masks: &mut [u16], n: usize)
-    requires { ⌜ (n ≤ 1024) × (n + n ≤ length (now masks)) ⌝ }
+    requires { ⌜ (n ≤ maxRecords) × (n + n ≤ length (now masks)) ⌝ }
     ensures { λ _. ⌜ ((k : ℕ) → k < n → getD (now (masks .exit)) k 0 ≡ getD (now (masks .entry)) k 0)
         × ((k : ℕ) → k < n → getD (now (masks .exit)) (n + k) 0 ≡ 0) ⌝ }
 {

@@ -21,7 +21,7 @@ ghost use Rattle.bits.specs.BitSets.{put};
 ghost use Rattle.rows.specs.Rows.{flat};
 ghost use Rattle.rows.specs.Steps.{Masked};
 ghost use Rattle.grid.specs.Grid.{Space, rowOf, firstRows, first};
-ghost use Rattle.grid.specs.Steps.{Clean, Merged, Fresh, emptyMarks, Filled, Started, RowClosed, Onward};
+ghost use Rattle.grid.specs.Steps.{mostSteps, stackPlaces, Clean, Merged, Fresh, emptyMarks, Filled, Started, RowClosed, Onward};
 
 // So many words a row has at most, and a part of the marks.
 const ROW: usize = 16;
@@ -101,7 +101,7 @@ fn add_row(cells: &[u64], mask: u16, w: usize, b: usize, set: &mut [u64])
 
 // Record z is seen, and, if its row, with the mask, is whole, all that it leads to.
 fn mark(cells: &[u64], mask: u16, w: usize, z: usize, whole: u64, seen: &mut [u64])
-    requires { ⌜ (w ≤ 16) × (z < 1024) × (z * w + w ≤ length (now cells)) × (16 ≤ length (now seen)) ⌝ }
+    requires { ⌜ (w ≤ 16) × (z < maxRecords) × (z * w + w ≤ length (now cells)) × (16 ≤ length (now seen)) ⌝ }
     ensures { λ _. ⌜ ((y : ℕ) → y < w * 64 → bitAt (now (seen .exit)) y
         ≡ max (put z 1 (bitAt (now (seen .entry))) y) (pick (eqb whole 1) (rowOf (now (cells .entry)) (z * w) mask y) 0)) ⌝ }
 {
@@ -114,7 +114,7 @@ fn mark(cells: &[u64], mask: u16, w: usize, z: usize, whole: u64, seen: &mut [u6
 
 // Is the row at place b, with the mask, whole, and does it lead to x?
 fn leads_back(cells: &[u64], mask: u16, b: usize, x: usize, whole: u64) -> bool
-    requires { ⌜ (x < 1024) × (b + x / 64 < length (now cells)) ⌝ }
+    requires { ⌜ (x < maxRecords) × (b + x / 64 < length (now cells)) ⌝ }
     ensures { λ r. ⌜ (r ≡ true → (whole ≡ 1) × (rowOf (now (cells .entry)) b mask x ≡ 1)) ⌝ }
 {
     if whole != 1 {
@@ -190,8 +190,8 @@ fn close_once(cells: &mut [u64], masks: &mut [u16], n: usize, w: usize, x: usize
 
 // A column of row x, at place b with the mask, whose record is not marked as seen; n or more if there is none.
 fn unseen(cells: &[u64], mask: u16, n: usize, w: usize, b: usize, marks: &[u64]) -> usize
-    requires { ⌜ (n ≤ 1024) × (w ≤ 16) × (b + w ≤ length (now cells)) × (length (now marks) ≡ 48) ⌝ }
-    ensures { λ r. ⌜ r < 2048 ⌝ }
+    requires { ⌜ (n ≤ maxRecords) × (w ≤ 16) × (b + w ≤ length (now cells)) × (length (now marks) ≡ 48) ⌝ }
+    ensures { λ r. ⌜ r < mostSteps ⌝ }
 {
     let words = mask as u64;
     let mut c = lowest(words);
@@ -232,7 +232,7 @@ fn deeper(
 
 // The depth after a step that found z, or, at n, found none.
 fn depth_after(z: usize, n: usize, depth: usize) -> usize
-    requires { ⌜ depth < 2050 ⌝ }
+    requires { ⌜ depth < stackPlaces ⌝ }
     ensures { λ r. ⌜ r ≤ depth + 1 ⌝ }
 {
     if z < n {
@@ -255,7 +255,7 @@ fn advance(
     depth: usize,
 ) -> usize
     requires { ⌜ Space n w n (length (now cells)) (length (now masks)) × (length (now marks) ≡ 48)
-        × (length (now stack) ≡ 2050) × (0 < depth) × (depth < 2050) ⌝ }
+        × (length (now stack) ≡ stackPlaces) × (0 < depth) × (depth < stackPlaces) ⌝ }
     ensures { λ r. ⌜ (r ≤ depth + 1) × Onward n w (now (marks .entry)) (now (cells .entry))
         (now (masks .entry)) (now (marks .exit)) (now (cells .exit)) (now (masks .exit)) ⌝ }
 {
@@ -275,7 +275,7 @@ fn search_on(
     stack: &mut [u16],
 )
     requires { ⌜ Space n w n (length (now cells)) (length (now masks)) × (length (now marks) ≡ 48)
-        × (length (now stack) ≡ 2050) ⌝ }
+        × (length (now stack) ≡ stackPlaces) ⌝ }
     ensures { λ _. ⌜ Onward n w (now (marks .entry)) (now (cells .entry)) (now (masks .entry)) (now (marks .exit)) (now (cells .exit)) (now (masks .exit)) ⌝ }
 {
     let mut depth = 1;
@@ -301,7 +301,7 @@ fn close_from(
     stack: &mut [u16],
 )
     requires { ⌜ Space n w n (length (now cells)) (length (now masks)) × (length (now marks) ≡ 48)
-        × (length (now stack) ≡ 2050) × (x < n) ⌝ }
+        × (length (now stack) ≡ stackPlaces) × (x < n) ⌝ }
     ensures { λ _. ⌜ Onward n w (now (marks .entry)) (now (cells .entry)) (now (masks .entry)) (now (marks .exit)) (now (cells .exit)) (now (masks .exit)) ⌝ }
 {
     if bits::bit(marks, SEEN + x) == 1 {
@@ -323,7 +323,7 @@ fn close_record(
     stack: &mut [u16],
 )
     requires { ⌜ Space n w n (length (now cells)) (length (now masks)) × (length (now marks) ≡ 48)
-        × (length (now stack) ≡ 2050) × (x < n) ⌝ }
+        × (length (now stack) ≡ stackPlaces) × (x < n) ⌝ }
     ensures { λ _. ⌜ Onward n w (now (marks .entry)) (now (cells .entry)) (now (masks .entry)) (now (marks .exit)) (now (cells .exit)) (now (masks .exit))
         × (bitAt (now (marks .exit)) x ≡ 1) ⌝ }
 {
@@ -389,7 +389,7 @@ pub fn close(cells: &mut [u64], masks: &mut [u16], n: usize, w: usize)
 
 // The masks of rows of 1,024 bits.
 fn mask_rows(rows: &[u64], n: usize, masks: &mut [u16])
-    requires { ⌜ (n ≤ 1024) × (length (now rows) ≡ rowsWords) × (n ≤ length (now masks)) ⌝ }
+    requires { ⌜ (n ≤ maxRecords) × (length (now rows) ≡ rowsWords) × (n ≤ length (now masks)) ⌝ }
     ensures { λ _. ⌜ ((x : ℕ) → x < n → Masked (bitAt (now (rows .entry))) x (getD (now (masks .exit)) x 0)) ⌝ }
 {
     let mut row = 0;
@@ -401,10 +401,10 @@ fn mask_rows(rows: &[u64], n: usize, masks: &mut [u16])
 
 // One or more steps of rows of 1,024 bits, in place.
 pub fn close_rows(rows: &mut [u64], n: usize)
-    requires { ⌜ (n ≤ 1024) × (length (now rows) ≡ rowsWords) ⌝ }
+    requires { ⌜ (n ≤ maxRecords) × (length (now rows) ≡ rowsWords) ⌝ }
     ensures { λ _. ⌜ ((x : Cells) → IsSet n x → bitAt (now (rows .entry)) ≡ flat x → bitAt (now (rows .exit)) ≡ flat (closure n x)) ⌝ }
 {
-    let mut masks: [u16; 1024] = [0; 1024];
+    let mut masks: [u16; book::MAX_RECORDS] = [0; book::MAX_RECORDS];
     mask_rows(rows, n, &mut masks);
     close_all(rows, &mut masks, n, 16);
 }

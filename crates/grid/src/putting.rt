@@ -1,4 +1,5 @@
 // Pairs put into the first relation of a part: those of links by their labels, and each record in use joined to itself.
+use crate::PAIR_UNIT;
 use crate::row::put;
 ghost use mathlib.Core.Path.{_≡_};
 ghost use mathlib.Core.List.{List, [], _∷_};
@@ -69,10 +70,10 @@ fn put_word(
     let label = links::label_of(word);
     let p = links::pair_of(word) as usize;
     if rows::has_label(forward, label) {
-        put_pair(cells, masks, n, w, p / 1024, p % 1024);
+        put_pair(cells, masks, n, w, p / PAIR_UNIT, p % PAIR_UNIT);
     }
     if rows::has_label(against, label) {
-        put_pair(cells, masks, n, w, p % 1024, p / 1024);
+        put_pair(cells, masks, n, w, p % PAIR_UNIT, p / PAIR_UNIT);
     }
 }
 

@@ -15,6 +15,11 @@ ghost use Rattle.packing.specs.Senses.{sensed};
 ghost use Rattle.packing.specs.Reading.{turnedBy, turned, inside, WordsCounted, BlocksCounted, Counted, Reads, squareBit, squareRow, squareColumn};
 ghost use Rattle.packing.specs.Reading.{squaresTo, FitAll, ReadAll};
 
+// The most rows and columns. A square waits as one word: its bit, its row and its column, each times its unit.
+const SIDE: usize = book::MAX_RECORDS;
+
+const BIT_UNIT: usize = SIDE * SIDE;
+
 // So many counts of ones there are at most: one for each word of a tree, or of a long one for each block of four.
 const COUNTS: usize = 5462;
 
@@ -130,12 +135,12 @@ fn or_two(words: &mut [u64], p: usize, v: u64)
 
 // The four cells of a square of side 2 at row x and column y put into rows.
 fn put_cells(rows: &mut [u64], x: usize, y: usize, v: u64)
-    requires { ⌜ (x + 2 ≤ 1024) × (y + 2 ≤ 1024) × (y % 2 ≡ 0) × (v < 16) × (length (now rows) ≡ rowsWords) ⌝ }
+    requires { ⌜ (x + 2 ≤ maxRecords) × (y + 2 ≤ maxRecords) × (y % 2 ≡ 0) × (v < 16) × (length (now rows) ≡ rowsWords) ⌝ }
     ensures { λ _. ⌜ ((a t : Cells) → bitAt (now (rows .entry)) ≡ flat a → ((q : ℕ) → q < 4 → digit v q ≡ t (x + q / 2) (y + q % 2))
         → bitAt (now (rows .exit)) ≡ flat (union a (inside 1 x y t))) ⌝ }
 {
-    or_two(rows, x * 1024 + y, v % 4);
-    or_two(rows, (x + 1) * 1024 + y, v / 4);
+    or_two(rows, x * SIDE + y, v % 4);
+    or_two(rows, (x + 1) * SIDE + y, v / 4);
 }
 
 // Half the side of a square.
@@ -156,10 +161,10 @@ fn next_one(v: u64, q: usize) -> usize
 
 // The square whose four bits begin at bit b, at row x and column y, as a number.
 fn square_number(b: usize, x: usize, y: usize) -> usize
-    requires { ⌜ (b ≤ mostChildPlace) × (x < 1024) × (y < 1024) ⌝ }
+    requires { ⌜ (b ≤ mostChildPlace) × (x < maxRecords) × (y < maxRecords) ⌝ }
     ensures { λ w. ⌜ (squareBit w ≡ b) × (squareRow w ≡ x) × (squareColumn w ≡ y) ⌝ }
 {
-    b * 1048576 + x * 1024 + y
+    b * BIT_UNIT + x * SIDE + y
 }
 
 // A square as a node of the tree: the bit at which its four bits begin, its row and its column.
@@ -187,7 +192,7 @@ fn children(
     m: usize,
 ) -> usize
     requires { ⌜ (2 ≤ h) × (h ≤ 10) × (at .bit % 4 ≡ 0) × (at .bit ≤ mostChildPlace)
-        × (at .row + 2 ^ h ≤ 1024) × (at .column + 2 ^ h ≤ 1024) × (at .column % 2 ≡ 0)
+        × (at .row + 2 ^ h ≤ maxRecords) × (at .column + 2 ^ h ≤ maxRecords) × (at .column % 2 ≡ 0)
         × (sense ≤ 1)
         × (length (now tree) ≤ mostTreeWords) × (length (now before) ≡ mostCounts) × Counted (now tree) (now before)
         × (m + 4 ≤ length (now next)) × FitAll (h - 1) (now next) 0 m ⌝ }
@@ -237,9 +242,9 @@ fn spread(
     while i < count {
         let w = list[from + i];
         let at = Node {
-            bit: w / 1048576,
-            row: w / 1024 % 1024,
-            column: w % 1024,
+            bit: w / BIT_UNIT,
+            row: w / SIDE % SIDE,
+            column: w % SIDE,
         };
         m = children(tree, before, h, at, sense, next, m);
         i += 1;
@@ -259,8 +264,8 @@ fn leaves(tree: &[u64], list: &[usize], part: Part, sense: usize, rows: &mut [u6
     let mut i = 0;
     while i < count {
         let w = list[from + i];
-        let v = square(tree, w / 1048576, sense);
-        put_cells(rows, w / 1024 % 1024, w % 1024, v);
+        let v = square(tree, w / BIT_UNIT, sense);
+        put_cells(rows, w / SIDE % SIDE, w % SIDE, v);
         i += 1;
     }
 }

@@ -83,7 +83,7 @@ fn put_right(width: usize, k: u64, out: &mut [u8], at: usize) -> usize
 
 // A record's number and a blank.
 fn put_record(x: u32, out: &mut [u8], at: usize) -> usize
-    requires { ⌜ (x < 1024) × (at + 6 ≤ length (now out)) ⌝ }
+    requires { ⌜ (x < maxRecords) × (at + 6 ≤ length (now out)) ⌝ }
     ensures { λ r. ⌜ Wrote at (recordCell x) (now (out .entry)) (now (out .exit)) r ⌝ }
 {
     let next = put_right(RECORD_WIDTH, x as u64, out, at);

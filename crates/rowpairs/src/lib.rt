@@ -7,6 +7,7 @@ ghost use Prim.Native.Nat.{ℕ, suc, _+_, _-_, _*_, _^_, _<_, _≤_};
 ghost use lib.Dec.{eqb};
 ghost use lib.ListN.{length, take, drop, getD};
 ghost use mathlib.Core.Bool.{true};
+ghost use Rattle.k2.specs.Sizes.{rowsWords};
 ghost use Rattle.book.specs.Book.{Book};
 ghost use Rattle.book.specs.Causes.{maxRecords, maxLinks};
 ghost use Rattle.k2.specs.PairSets.{union, diagonal, listed};
@@ -633,7 +634,7 @@ fn spread_within(
     work: &mut [u64],
     rows: &mut [u64],
 ) -> usize
-    requires { ⌜ (n ≤ maxRecords) × (rowsWork n ≤ length (now work)) × (n ≤ length (now marks)) × (length (now rows) ≡ 16384)
+    requires { ⌜ (n ≤ maxRecords) × (rowsWork n ≤ length (now work)) × (n ≤ length (now marks)) × (length (now rows) ≡ rowsWords)
         × ((s : List ℕ) × (e : Expr) × Coded s e (now code)) ⌝ }
     ensures { λ r. ⌜ ValueInRows n (now (links .entry)) (now (marks .entry)) (now (code .entry)) (now (rows .exit)) r ⌝ }
 {
@@ -651,7 +652,7 @@ fn spread_value(
     work: &mut [u64],
     rows: &mut [u64],
 ) -> usize
-    requires { ⌜ (n ≤ maxRecords) × (length (now work) < rowsWork n → n ≤ 32) × (n ≤ length (now marks)) × (length (now rows) ≡ 16384)
+    requires { ⌜ (n ≤ maxRecords) × (length (now work) < rowsWork n → n ≤ 32) × (n ≤ length (now marks)) × (length (now rows) ≡ rowsWords)
         × ((s : List ℕ) × (e : Expr) × Coded s e (now code)) ⌝ }
     ensures { λ r. ⌜ ValueInRows n (now (links .entry)) (now (marks .entry)) (now (code .entry)) (now (rows .exit)) r ⌝ }
 {
