@@ -243,7 +243,8 @@ fn product_row(
     m: usize,
     row: &mut [u64],
 )
-    requires { ⌜ (length (now a) ≡ rowsWords) × (i < maxRecords) × (mask < 65536) × (length (now columns) ≡ rowsWords) × (length (now list) ≡ maxRecords) × (m ≤ maxRecords)
+    requires { ⌜ (length (now a) ≡ rowsWords) × (i < maxRecords) × (mask < 65536) × (length (now columns) ≡ rowsWords)
+        × (length (now list) ≡ maxRecords) × (m ≤ maxRecords)
         × (length (now row) ≡ 16) ⌝ }
     ensures { λ _. ⌜ ((n : ℕ) → Masked (bitAt (now (a .entry))) i mask → Occupied (bitAt (now (columns .entry))) n (rowAt n m (now (list .entry))) m
         → Masks (bitAt (now (columns .entry))) m (now (list .entry)) → bitAt (now (row .entry)) ≡ none
