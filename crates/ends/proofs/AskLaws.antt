@@ -37,7 +37,8 @@ use Rattle.register.specs.Representation.{Represents}
 use Rattle.tables.specs.Builds.{inSense}
 use Rattle.arcs.specs.SpanLaws.{inside}
 use Rattle.search.specs.Reaching.{Ended}
-use Rattle.ends.specs.Ends.{places, ends, joinedBy, endsCauses, endsAnswer}
+use Rattle.rows.specs.Rows.{places}
+use Rattle.ends.specs.Ends.{ends, joinedBy, endsCauses, endsAnswer}
 use Rattle.ends.specs.EndsLaws.{places-same, ends-only, joined-as}
 use Rattle.ends.specs.MadeLaws.{answer-ends}
 use Rattle.ends.specs.Asking.{AsksJoined}

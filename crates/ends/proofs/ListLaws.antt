@@ -9,7 +9,7 @@ use Prim.Native.Nat.{ℕ, zero, suc, _+_, _<_}
 use native.Mathlib.Numerals.{add-one}
 use native.Mathlib.Omega.{arith}
 use Rattle.k2.specs.PairSets.{ifSet}
-use Rattle.ends.specs.Ends.{places}
+use Rattle.rows.specs.Rows.{places}
 
 -- ---- places
 pub set-none : (v y : ℕ) → v ≡ 0 → ifSet v y ≡ []

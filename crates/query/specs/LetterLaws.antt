@@ -34,6 +34,8 @@ use Rattle.reader.specs.Letters.{lettersIn}
 use Rattle.register.specs.MarkLaws.{listed-withdrawn}
 use Rattle.register.specs.Questions.{Sized, Listing, MarkList}
 use Rattle.register.specs.Representation.{Represents}
+use Rattle.register.specs.Marks.{withdrawnMark, hasMark}
+use Rattle.register.specs.Reads.{ReadOf}
 use Rattle.register.specs.declared.Register.{Register}
 use Rattle.register.specs.declared.Links.{Links}
 use Rattle.rows.specs.Rows.{labelled, crossedWords}

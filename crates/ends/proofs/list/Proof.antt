@@ -5,7 +5,7 @@ use Prim.Native.Nat.{_-_, _≤_}
 use native.Mathlib.Omega.{arith}
 use lib.ListN.{length}
 use Rattle.rows.specs.RowLaws.{length-places}
-use Rattle.ends.specs.Ends.{places}
+use Rattle.rows.specs.Rows.{places}
 use Rattle.answers.specs.Listing.{Shown}
 use Rattle.answers.specs.ListingLaws.{shown-none}
 use Rattle.ends.specs.Listing.{meets}

@@ -9,7 +9,7 @@ use Rattle.rows.specs.RowLaws.{length-places}
 use Rattle.paths.specs.Chains.{asked}
 use Rattle.arcs.specs.SpanLaws.{inside, asked-size, spans, used, out-of-use}
 use Rattle.tables.specs.Builds.{inSense}
-use Rattle.ends.specs.Ends.{places}
+use Rattle.rows.specs.Rows.{places}
 use Rattle.ends.specs.Listing.{meets}
 use Rattle.answers.specs.ListingLaws.{shown-none}
 use Rattle.ends.proofs.AskLaws.{ends-none, ends-seen}

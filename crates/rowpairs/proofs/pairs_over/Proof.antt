@@ -8,7 +8,7 @@ use Rattle.rowpairs.proofs.pairs_over.Tie as tie
 
 answer-requires : tie.Need-answer-requires
 answer-requires c κs =
-    let start = c .before .before .before .before in
+    let start = c .before .before .before .before .before .before .before .before in
     (start .pre .0, omega arith, start .pre .1, (by-rows, c .before .before .rows-work .ensures))
 
 returns : tie.Need-returns
