@@ -9,20 +9,14 @@ use native.Mathlib.Omega.{arith}
 use lib.ListN.{length, take}
 use lib.Seq.{length-take-le}
 use Rattle.book.specs.Causes.{maxRecords, maxLinks}
-use Rattle.register.specs.Inner.{KeepsOne, Shown}
+use Rattle.register.specs.Inner.{Shown}
 use Rattle.register.specs.Reads.{ReadOf, read-of}
 use Rattle.register.specs.Words.{Keeps}
 use Rattle.register.specs.WordLaws.{keeps-sized, keeps-listing, keeps-mark-list}
 use Rattle.register.specs.declared.Register.{Register}
 
-module _ {ws marks links : List ℕ} (one : KeepsOne ws) (M : Shown ws (λ r. take (r .n) (r .marks)) marks)
+module _ {ws marks links : List ℕ} {r : Register} (k : Keeps ws r) (M : Shown ws (λ r. take (r .n) (r .marks)) marks)
     (L : Shown ws (λ r. take (r .count) (r .links)) links) where
-  r : Register
-  r = one .0
-
-  k : Keeps ws r
-  k = one .1
-
   pub read-few : (length marks ≤ maxRecords) × (length links ≤ maxLinks)
   read-few =
       let m : length marks ≡ r .n = ap length (M r k) ∙ length-take-le (r .n) (r .marks) (omega (arith, k .ranged .size, k .marks)) in
